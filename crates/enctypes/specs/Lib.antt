@@ -1,0 +1,2 @@
+pub mod Etype
+pub mod Key

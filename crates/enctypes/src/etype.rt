@@ -1,0 +1,54 @@
+//! The four encryption types, by the numbers that IANA assigned to them.
+ghost use Rattle.std.specs.Prelude.{◌≡◌, ◌≢◌, IfSome, IfNone};
+ghost use Rattle.enctypes.specs.Etype.{number, key_len};
+
+/// An encryption type of RFC 3962 or RFC 8009.
+#[derive(Debug, Clone, Copy, PartialEq, Eq)]
+pub enum Etype {
+    /// aes128-cts-hmac-sha1-96 (RFC 3962 section 7).
+    Aes128CtsHmacSha1_96,
+    /// aes256-cts-hmac-sha1-96 (RFC 3962 section 7).
+    Aes256CtsHmacSha1_96,
+    /// aes128-cts-hmac-sha256-128 (RFC 8009 section 5).
+    Aes128CtsHmacSha256_128,
+    /// aes256-cts-hmac-sha384-192 (RFC 8009 section 5).
+    Aes256CtsHmacSha384_192,
+}
+
+impl Etype {
+    /// The number that messages name the type by.
+    pub fn number(self) -> i32
+        ensures { result ≡ number self }
+    {
+        match self {
+            Etype::Aes128CtsHmacSha1_96 => 17,
+            Etype::Aes256CtsHmacSha1_96 => 18,
+            Etype::Aes128CtsHmacSha256_128 => 19,
+            Etype::Aes256CtsHmacSha384_192 => 20,
+        }
+    }
+
+    /// The type that a message names, if it is one of the four.
+    pub fn from_number(etype: i32) -> Option<Etype>
+        ensures named { IfSome result (λ e. number e ≡ etype) }
+        ensures none { IfNone result ((e : Etype) → number e ≢ etype) }
+    {
+        match etype {
+            17 => Some(Etype::Aes128CtsHmacSha1_96),
+            18 => Some(Etype::Aes256CtsHmacSha1_96),
+            19 => Some(Etype::Aes128CtsHmacSha256_128),
+            20 => Some(Etype::Aes256CtsHmacSha384_192),
+            _ => None,
+        }
+    }
+
+    /// How many octets a key of the type has: 16 or 32.
+    pub fn key_len(self) -> usize
+        ensures { result ≡ key_len self }
+    {
+        match self {
+            Etype::Aes128CtsHmacSha1_96 | Etype::Aes128CtsHmacSha256_128 => 16,
+            Etype::Aes256CtsHmacSha1_96 | Etype::Aes256CtsHmacSha384_192 => 32,
+        }
+    }
+}

@@ -1,0 +1,62 @@
+-- What a key distribution centre answers, made from its view of the state alone.
+use Rattle.std.specs.Prelude.{ℕ, pos, List, Option, Some, None}
+use Rattle.std.specs.Option.{unwrap_or}
+use Rattle.std.specs.FinMap as map
+use Rattle.krb_fields.specs.declared.code.Code.{Code}
+use Rattle.krb_fields.specs.declared.moment.Moment.{Moment}
+use Rattle.krb_fields.specs.declared.name.Name.{Name}
+use Rattle.krb_fields.specs.Code.{number_of}
+use Rattle.krb_fields.specs.Name.{Components}
+use Rattle.krb_types.specs.declared.kdc_req.KdcReq.{KdcReq}
+use Rattle.krb_types.specs.declared.krb_error.KrbError.{KrbError}
+use Rattle.krb_types.specs.KrbError.{written_krb_error}
+use Rattle.principals.specs.Database.{ticket_granter}
+use Rattle.kdc_state.specs.declared.memory.Memory.{Memory}
+use Rattle.kdc_state.specs.declared.state.State.{State}
+use Rattle.kdc_state.specs.View.{View, request_of, view, named}
+use Rattle.kdc_core.specs.Rules.{refusal}
+
+-- the ticket-granting service, of name-type NT-SRV-INST (RFC 4120, section 7.3)
+abbrev pub granter_name : List ℕ → Name
+granter_name realm = record { name_type = pos 2; components = ticket_granter realm }
+
+-- KRB-ERROR (RFC 4120, section 5.9.1): the moment, the code, our realm, and the service asked for, else the ticket-granting service
+abbrev pub krb_error : List ℕ → Moment → Code → Option Name → KrbError
+krb_error realm at code sname = record {
+  ctime = None;
+  cusec = None;
+  stime = at.sec;
+  susec = at.usec;
+  error_code = number_of code;
+  crealm = None;
+  cname = None;
+  realm = realm;
+  sname = unwrap_or sname (granter_name realm);
+  e_text = None;
+  e_data = None;
+}
+
+-- the octets of the reply, or none, and the named client's memory afterwards: none, it stays as it was
+pub record Answer : Type 0 where
+  pub reply : Option (List ℕ)
+  pub kept : Option Memory
+
+-- random octets and room take no part as long as no ticket is issued
+abbrev pub answer_to : View → Moment → List ℕ → ℕ → Option KdcReq → Answer
+answer_to v at words room (Some request) = record {
+  reply = Some (written_krb_error (krb_error v.realm at (refusal v request) request.body.sname));
+  kept = None;
+}
+answer_to v at words room None = record { reply = None; kept = None }
+
+abbrev pub answer : View → Moment → List ℕ → ℕ → List ℕ → Answer
+answer v at words room bytes = answer_to v at words room (request_of bytes)
+
+-- the state with a memory kept for a client
+abbrev pub keep : State → Option Components → Option Memory → State
+keep state (Some name) (Some memory) = record state { memories = map.insert state.memories name memory }
+keep state (Some name) None = state
+keep state None kept = state
+
+abbrev pub next : State → Moment → List ℕ → ℕ → List ℕ → State
+next state at words room bytes = keep state (named state bytes).client (answer (view state bytes) at words room bytes).kept

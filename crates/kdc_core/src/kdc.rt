@@ -1,0 +1,102 @@
+//! The key distribution centre.
+ghost use Rattle.std.specs.Prelude.{◌≡◌, ◌≢◌, ℕ, List, Some, IfOk, IfSome, IfNone, OnOk, OnErr, IsOkUnless, option_map};
+ghost use Rattle.std.specs.FinMap as map;
+ghost use Rattle.std.specs.Option.{option_copied};
+ghost use Rattle.krb_fields.specs.Name.{Components};
+ghost use Rattle.kdc_core.specs.Answer.{answer, next};
+ghost use Rattle.kdc_state.specs.State.{opened, memory_of};
+ghost use Rattle.kdc_state.specs.View.{Agrees, named, view};
+ghost use Rattle.kdc_state.specs.declared.state.State as states;
+ghost use Rattle.principals.specs.Change.{refusal, changed};
+
+use crate::answering::reply;
+use kdc_state::{Opening, State};
+use krb_fields::{Moment, Name};
+use principal_rows::{Limits, Row};
+use principals::{Change, ChangeFault, Database};
+use std::alloc::{AllocError, Global};
+use std::marker::Model;
+
+/// A key distribution centre: a state that requests and changes go through.
+#[derive(Debug, Drop)]
+pub struct Kdc {
+    state: State,
+}
+
+impl Model for Kdc {
+    ghost use Rattle.kdc_state.specs.declared.state.State.{State};
+    ghost use Rattle.kdc_state.specs.contracts.state.State.{the_row};
+
+    ghost Value = { State };
+
+    ghost coded = { the_row.coded };
+
+    ghost view = { λ kdc. kdc.state };
+}
+
+impl Kdc {
+    /// Opens with a database. It answers want of memory alone.
+    pub fn open(
+        alloc: Global,
+        database: Database,
+        limits: Limits,
+        opening: Opening,
+    ) -> Result<Kdc, AllocError>
+        ensures { IfOk result (λ kdc. kdc ≡ opened database limits opening) }
+    {
+        Ok(Kdc {
+            state: State::open(alloc, database, limits, opening),
+        })
+    }
+
+    /// Answers a request, whatever its octets are: the octets of the reply, or none.
+    ///
+    /// `at` is the moment of the request, `words` are 64 random octets, and `room` is the most octets of a
+    /// reply with a ticket. Octets that spell neither an AS-REQ nor a TGS-REQ get no reply (RFC 4120,
+    /// section 5.4.1). A call that is refused memory changes nothing.
+    pub fn handle(
+        &mut self,
+        alloc: Global,
+        at: Moment,
+        words: &[u8; 64],
+        room: u32,
+        request: &[u8],
+    ) -> Result<Option<Vec<u8>>, AllocError>
+        // The reply is the one that the rules say.
+        ensures reply { IfOk result (λ reply. option_map (λ octets. octets.items) reply ≡ (answer (view self.old request.now) at words.now room request.now).reply) }
+        // The state afterwards is the one that the rules say.
+        ensures state { OnOk result (self.new ≡ next self.old at words.now room request.now) }
+        // A second state that agrees at what the request names is answered alike.
+        ensures agreement { (other : states.State) → Agrees self.old other request.now
+            → answer (view other request.now) at words.now room request.now ≡ answer (view self.old request.now) at words.now room request.now }
+        // No request changes a row, the realm or the limits, nor a memory but the named client's.
+        ensures database { self.new.database ≡ self.old.database }
+        ensures limits { self.new.limits ≡ self.old.limits }
+        ensures memories { (name : Components) → (named self.old request.now).client ≢ Some name → memory_of self.new name ≡ memory_of self.old name }
+        ensures err { OnErr result (self.new ≡ self.old) }
+    {
+        reply(alloc, &self.state, at, words, room, request)
+    }
+
+    /// Makes a change of the database. A change that is refused leaves everything as it was.
+    pub fn apply(&mut self, alloc: Global, change: &Change) -> Result<(), ChangeFault>
+        ensures changed { OnOk result (self.new ≡ record self.old { database = changed self.old.database change.now }) }
+        ensures refused { IfSome (refusal self.old.database change.now) (λ fault. result ≡ Err fault) }
+        ensures otherwise { IfNone (refusal self.old.database change.now) (IsOkUnless result ChangeFault.Memory) }
+        ensures err { OnErr result (self.new ≡ self.old) }
+    {
+        self.state.database.apply(alloc, change)
+    }
+
+    pub fn get(&self, name: &Name) -> Option<&Row>
+        ensures { option_copied result ≡ map.get self.now.database.rows name.now.components }
+    {
+        self.state.database.get(name)
+    }
+
+    pub fn realm(&self) -> &[u8]
+        ensures { result.now ≡ self.now.database.realm }
+    {
+        self.state.database.realm()
+    }
+}

@@ -1,0 +1,4 @@
+pub mod Memory
+pub mod State
+pub mod View
+pub mod Agreement

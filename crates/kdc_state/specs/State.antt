@@ -1,0 +1,18 @@
+-- The state that opens, and the memory of each client in it.
+use Rattle.std.specs.Prelude.{Option, Some, None, List, ℕ}
+use Rattle.std.specs.Option.{unwrap_or}
+use Rattle.std.specs.FinMap as map
+use Rattle.krb_fields.specs.Name.{Components, name_cmp}
+use Rattle.principal_rows.specs.declared.limits.Limits.{Limits}
+use Rattle.principals.specs.Database.{Principals}
+use Rattle.kdc_state.specs.declared.memory.Memory.{Memory}
+use Rattle.kdc_state.specs.declared.opening.Opening.{Opening}
+use Rattle.kdc_state.specs.declared.state.State.{State}
+use Rattle.kdc_state.specs.Memory.{opened_memory}
+
+abbrev pub opened : Principals → Limits → Opening → State
+opened database limits opening = record { database = database; limits = limits; opening = opening; memories = map.empty }
+
+-- a name that has no memory stored has that of the opening
+abbrev pub memory_of : State → Components → Memory
+memory_of state name = unwrap_or (map.get state.memories name) (opened_memory state.opening)

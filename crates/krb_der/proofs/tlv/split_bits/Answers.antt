@@ -1,0 +1,11 @@
+use Rattle.std.proofs.Common.{arith}
+use Rattle.krb_der.specs.Spelling.{Leaf}
+use Rattle.krb_der.specs.Laws.{is_found, is_only}
+use Rattle.krb_der.specs.Leaves.{bits_ok}
+use Rattle.krb_der.proofs.tlv.split_bits.Goals as goal
+
+pub returns-clause-found : goal.returns-clause-found
+returns-clause-found c = is_found _ _ bits_ok (λ x. (x.0, x.1.now)) c.bits_parts.result c.args.bytes.now (λ i. omega (arith, c.type_inv.bytes i)) c.bits_parts.ensures
+
+pub returns-clause-only : goal.returns-clause-only
+returns-clause-only c = is_only _ _ bits_ok (λ x. (x.0, x.1.now)) c.bits_parts.result c.args.bytes.now c.bits_parts.ensures

@@ -1,0 +1,14 @@
+pub mod Spelling
+pub mod Int
+pub mod Bits
+pub mod Civil
+pub mod Digits
+pub mod Time
+pub mod Reading
+pub mod Items
+pub mod Steps
+pub mod Laws
+pub mod Ints
+pub mod BitLaws
+pub mod Leaves
+pub mod Elements

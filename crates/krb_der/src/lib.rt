@@ -1,0 +1,26 @@
+//! DER (X.690) as Kerberos uses it (RFC 4120, section 5.1): a reader over borrowed octets, and a writer.
+//!
+//! A value is its tag, its length and its contents. Tags are single octets, lengths are definite and in
+//! their shortest form, in at most four octets after the first.
+#![tactic(auto)]
+
+mod bits;
+mod civil;
+mod digits;
+mod fault;
+mod int;
+mod items;
+mod length;
+mod reader;
+mod time;
+mod tlv;
+mod writer;
+
+pub use fault::DerFault;
+pub use items::Items;
+pub use reader::Reader;
+pub use time::KTime;
+pub use writer::Writer;
+
+#[cfg(test)]
+mod tests;

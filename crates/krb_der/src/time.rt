@@ -1,0 +1,149 @@
+//! KerberosTime (RFC 4120, section 5.2.3).
+ghost use Rattle.std.specs.Prelude.{◌≡◌, ℤ, if◌then◌else◌, Some, None, IfSome, IsTrue};
+ghost use Rattle.std.specs.Option.{SomeIff};
+ghost use Rattle.krb_der.specs.Civil.{IsCivilSecond};
+ghost use Rattle.krb_der.specs.Time.{is_time, time_octets, time_value};
+
+use crate::civil::CivilTime;
+use crate::digits::{is_spelled, spelled, spelling};
+use std::marker::Model;
+
+// 0000-01-01T00:00:00Z
+const FIRST_SECOND: i64 = -62_167_219_200;
+
+// 9999-12-31T23:59:59Z
+const LAST_SECOND: i64 = 253_402_300_799;
+
+/// A KerberosTime: whole seconds since 1970-01-01T00:00:00Z, in the years 0000 to 9999.
+#[derive(Clone, Copy, Debug, PartialEq, Eq, PartialOrd, Ord)]
+pub struct KTime {
+    seconds: i64,
+}
+
+impl Model for KTime {
+    ghost Value = { ℤ };
+
+    ghost view = { λ t. t.seconds };
+
+    ghost invariant = { λ t. IsCivilSecond t.seconds };
+
+    ghost inverse = { λ z. record { seconds = z } };
+}
+
+impl KTime {
+    /// The time that many seconds after 1970-01-01T00:00:00Z, if it lies in the years 0000 to 9999.
+    pub fn new(seconds: i64) -> Option<KTime>
+        ensures { SomeIff result (IsCivilSecond seconds) seconds }
+    {
+        if seconds < FIRST_SECOND || seconds > LAST_SECOND {
+            return None;
+        }
+        Some(KTime { seconds })
+    }
+
+    /// Its seconds since 1970-01-01T00:00:00Z.
+    pub fn seconds(self) -> i64
+        ensures value { result ≡ self }
+        ensures range { IsCivilSecond result }
+    {
+        self.seconds
+    }
+
+    /// The time that the octets spell. They are fifteen, YYYYMMDDHHMMSSZ, with a date of the calendar
+    /// and a time of day up to 23:59:59: no fraction, no leap second and no other zone.
+    #[tactic(auto, unfolding(crate::specs::Time::is_time, crate::specs::Time::time_value))]
+    pub fn from_octets(octets: &[u8]) -> Option<KTime>
+        ensures value { result ≡ (if is_time octets.now then Some (time_value octets.now) else None) }
+        ensures one_spelling { IfSome result (λ t. octets.now ≡ time_octets t) }
+    {
+        if !is_spelled(octets) {
+            return None;
+        }
+        let seconds = spelled(octets).to_second()?;
+        Some(KTime { seconds })
+    }
+
+    /// Its fifteen octets, YYYYMMDDHHMMSSZ.
+    #[tactic(auto, using(crate::proofs::TimeLaws::time_again), unfolding(crate::specs::Time::time_octets))]
+    pub fn to_octets(self) -> [u8; 15]
+        ensures octets { result ≡ time_octets self }
+        // What is written is read again.
+        ensures is_time { IsTrue (is_time result) }
+        ensures value { time_value result ≡ self }
+    {
+        spelling(CivilTime::at(self.seconds))
+    }
+}
+
+#[cfg(test)]
+mod tests {
+    use super::*;
+
+    // By Python's datetime, whose first year is 0001: the year 0000 has 366 days before that.
+    const TIMES: [(&[u8; 15], i64); 14] = [
+        (b"00000101000000Z", -62_167_219_200),
+        (b"00000229120000Z", -62_162_078_400),
+        (b"00010101000000Z", -62_135_596_800),
+        (b"19000228235959Z", -2_203_891_201),
+        (b"19000301000000Z", -2_203_891_200),
+        (b"19691231235959Z", -1),
+        (b"19700101000000Z", 0),
+        (b"20000229120000Z", 951_825_600),
+        (b"20240101000000Z", 1_704_067_200),
+        (b"20240229235959Z", 1_709_251_199),
+        (b"20380119031408Z", 2_147_483_648),
+        (b"21060207062816Z", 4_294_967_296),
+        (b"29991231010203Z", 32_503_597_323),
+        (b"99991231235959Z", 253_402_300_799),
+    ];
+
+    #[test]
+    fn reads_and_writes(rt: HostRuntime) {
+        for (octets, seconds) in TIMES {
+            let time = KTime::new(seconds);
+            assert_eq!(rt; KTime::from_octets(octets), time, "at {seconds}");
+            assert_eq!(rt; time.map(|t| t.to_octets()), Some(*octets), "at {seconds}");
+            assert_eq!(rt; time.map(|t| t.seconds()), Some(seconds));
+        }
+    }
+
+    #[test]
+    fn refuses_what_is_no_time(rt: HostRuntime) {
+        let refused: [&[u8]; 22] = [
+            b"",
+            b"2024010100000Z",
+            b"202401010000000Z",
+            b"20240101000000",
+            b"202401010000000",
+            b"20240101000000z",
+            b"20240101000000+",
+            b"20240101000000+0000",
+            b"202401010000+00",
+            b"20240101000000.5Z",
+            b"202401010000.5Z",
+            b"2024010100000 Z",
+            b"-0240101000000Z",
+            b"20240101000:00Z",
+            b"20240101/00000Z",
+            b"20240001000000Z",
+            b"20241301000000Z",
+            b"20240100000000Z",
+            b"19000229000000Z",
+            b"20240101240000Z",
+            b"20240101006000Z",
+            b"20161231235960Z",
+        ];
+        for octets in refused {
+            assert_eq!(rt; KTime::from_octets(octets), None, "{octets:?}");
+        }
+        assert_eq!(rt; KTime::from_octets(b"20240230000000Z"), None);
+        assert_eq!(rt; KTime::from_octets(b"20230229000000Z"), None);
+    }
+
+    #[test]
+    fn new_refuses_other_years(rt: HostRuntime) {
+        for seconds in [i64::MIN, -62_167_219_201, 253_402_300_800, i64::MAX] {
+            assert_eq!(rt; KTime::new(seconds), None);
+        }
+    }
+}

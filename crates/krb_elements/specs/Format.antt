@@ -1,0 +1,123 @@
+-- How the parts of a message are read: each word is one way to put readings together.
+use Rattle.std.specs.Prelude.{◌≡◌, ℕ, ℤ, suc, zero, Bool, true, false, List, [], ◌∷◌, length, Option, Some, None, Result, Ok, Err, ◌==◌, if◌then◌else◌}
+use Rattle.krb_der.specs.declared.fault.DerFault.{DerFault}
+use Rattle.krb_der.specs.declared.fault.DerFault.TheVariants.{Trailing}
+use Rattle.krb_der.specs.Reading.{◌>>=◌, tlv_at}
+use Rattle.krb_elements.specs.declared.fault.Fault.{Fault}
+use Rattle.krb_elements.specs.declared.fault.Fault.TheVariants as faults
+
+-- ---- what a function returned, and what reading gives
+
+abbrev pub Fails : {Y : Type 0} → Fault → Result Y DerFault → Type 0
+Fails faults.Memory read = Unit {0}
+Fails (faults.Der f) read = read ≡ Err f
+
+-- It is what reading gives, unless memory ran out.
+abbrev pub Decodes : {X : Type 0} → Result X Fault → Result X DerFault → Type 0
+Decodes (Ok x) read = read ≡ Ok x
+Decodes (Err e) read = Fails e read
+
+-- The same at a reader, which has these octets left.
+abbrev pub Parses : {X : Type 0} → Result X Fault → List ℕ → Result (X × List ℕ) DerFault → Type 0
+Parses (Ok x) left read = read ≡ Ok (x, left)
+Parses (Err e) left read = Fails e read
+
+-- It is what reading gives.
+abbrev pub Sees : {X : Type 0} → Result X DerFault → Result X DerFault → Type 0
+Sees (Ok x) read = read ≡ Ok x
+Sees (Err e) read = read ≡ Err e
+
+abbrev pub Looks : {X : Type 0} → Result X DerFault → List ℕ → Result (X × List ℕ) DerFault → Type 0
+Looks (Ok x) left read = read ≡ Ok (x, left)
+Looks (Err e) left read = read ≡ Err e
+
+-- The same, where what was returned is seen by view.
+abbrev pub SeesBy : {X Y : Type 0} → (X → Y) → Result X DerFault → Result Y DerFault → Type 0
+SeesBy view (Ok x) read = read ≡ Ok (view x)
+SeesBy view (Err e) read = read ≡ Err e
+
+abbrev pub LooksBy : {X Y : Type 0} → (X → Y) → Result X DerFault → List ℕ → Result (Y × List ℕ) DerFault → Type 0
+LooksBy view (Ok x) left read = read ≡ Ok (view x, left)
+LooksBy view (Err e) left read = read ≡ Err e
+
+-- The value was read, unless memory ran out.
+abbrev pub IsReadUnlessMemory : {X : Type 0} → Result X Fault → X → Type 0
+IsReadUnlessMemory (Ok y) x = y ≡ x
+IsReadUnlessMemory (Err faults.Memory) x = Unit {0}
+IsReadUnlessMemory (Err (faults.Der f)) x = ⊥
+
+-- ---- values
+
+-- all of the octets
+abbrev pub whole : {A : Type 0} → (List ℕ → Result (A × List ℕ) DerFault) → List ℕ → Result A DerFault
+whole f bytes = f bytes >>= λ x. if length x.1 == 0 then Ok x.0 else Err Trailing
+
+-- the contents of the value with this tag
+abbrev pub inside : {A : Type 0} → ℕ → (List ℕ → Result A DerFault) → List ℕ → Result (A × List ℕ) DerFault
+inside tag f bytes = tlv_at tag bytes >>= λ c. f c.0 >>= λ x. Ok (x, c.1)
+
+-- a value that passes a test
+abbrev pub such : {A : Type 0} → (A → Bool) → DerFault → (List ℕ → Result (A × List ℕ) DerFault) → List ℕ → Result (A × List ℕ) DerFault
+such test fault f bytes = f bytes >>= λ x. if test x.0 then Ok x else Err fault
+
+-- what is kept of a value
+abbrev pub seen_as : {A B : Type 0} → (A → B) → (List ℕ → Result (A × List ℕ) DerFault) → List ℕ → Result (B × List ℕ) DerFault
+seen_as to f bytes = f bytes >>= λ x. Ok (to x.0, x.1)
+
+-- ---- fields, one after another, of which nothing is left
+
+-- whether the next value has this tag
+abbrev pub starts : ℕ → List ℕ → Bool
+starts tag [] = false
+starts tag (b ∷ rest) = b == tag
+
+abbrev pub end : List ℕ → Result (Unit {0}) DerFault
+end bytes = if length bytes == 0 then Ok tt else Err Trailing
+
+-- a field with contents that are read as a whole, and all later ones
+abbrev pub field_of : {A B : Type 0} → ℕ → (List ℕ → Result A DerFault) → (List ℕ → Result B DerFault) → List ℕ → Result (A × B) DerFault
+field_of tag w g bytes = inside tag w bytes >>= λ x. g x.1 >>= λ y. Ok (x.0, y)
+
+-- a field, and all later ones
+abbrev pub field : {A B : Type 0} → ℕ → (List ℕ → Result (A × List ℕ) DerFault) → (List ℕ → Result B DerFault) → List ℕ → Result (A × B) DerFault
+field tag f = field_of tag (whole f)
+
+-- a value and its octets as they were sent
+abbrev pub sent : {A : Type 0} → (List ℕ → Result A DerFault) → List ℕ → Result (A × List ℕ) DerFault
+sent w bytes = w bytes >>= λ x. Ok (x, bytes)
+
+-- a field that may be absent
+abbrev pub maybe : {A : Type 0} → ℕ → (List ℕ → Result (A × List ℕ) DerFault) → List ℕ → Result (Option A × List ℕ) DerFault
+maybe tag f bytes = if starts tag bytes then (inside tag (whole f) bytes >>= λ x. Ok (Some x.0, x.1)) else Ok (None, bytes)
+
+abbrev pub optional : {A B : Type 0} → ℕ → (List ℕ → Result (A × List ℕ) DerFault) → (List ℕ → Result B DerFault) → List ℕ → Result (Option A × B) DerFault
+optional tag f g bytes = maybe tag f bytes >>= λ x. g x.1 >>= λ y. Ok (x.0, y)
+
+-- the value that is made of the fields
+abbrev pub made : {A B : Type 0} → (A → B) → (List ℕ → Result A DerFault) → List ℕ → Result B DerFault
+made to f bytes = f bytes >>= λ x. Ok (to x)
+
+-- ---- lists
+
+-- values one after another, at most so many, of which nothing is left
+unfoldable pub items : {A : Type 0} → (List ℕ → Result (A × List ℕ) DerFault) → ℕ → List ℕ → Result (List A) DerFault
+items f n [] = Ok []
+items f zero (b ∷ bytes) = Err Trailing
+items f (suc n) (b ∷ bytes) = f (b ∷ bytes) >>= λ x. items f n x.1 >>= λ xs. Ok (x.0 ∷ xs)
+
+-- each takes an octet at least
+abbrev pub items_of : {A : Type 0} → (List ℕ → Result (A × List ℕ) DerFault) → List ℕ → Result (List A) DerFault
+items_of f bytes = items f (length bytes) bytes
+
+abbrev pub list_at : {A : Type 0} → (List ℕ → Result (A × List ℕ) DerFault) → List ℕ → Result (List A × List ℕ) DerFault
+list_at f = inside 48 (items_of f)
+
+-- one more value, if it was read
+abbrev pub and_then : {A : Type 0} → Result A DerFault → List A → List A
+and_then (Ok x) xs = x ∷ xs
+and_then (Err e) xs = xs
+
+-- what the elements of a list are, each of which is read on its own
+abbrev pub values : {A : Type 0} → (List ℕ → Result (A × List ℕ) DerFault) → List (List ℕ) → List A
+values f [] = []
+values f (e ∷ es) = and_then (whole f e) (values f es)

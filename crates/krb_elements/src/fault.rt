@@ -1,0 +1,37 @@
+//! Why octets are no message.
+ghost use Rattle.std.specs.Prelude.{◌≡◌};
+ghost use Rattle.krb_elements.specs.declared.fault.Fault.TheVariants.{Der, Memory};
+
+use krb_der::DerFault;
+use std::alloc::{AllocError, AllocFailed};
+
+/// The octets spell no such message, or memory ran out before it was read.
+#[derive(Clone, Copy, Debug, PartialEq, Eq)]
+pub enum Fault {
+    Der(DerFault),
+    Memory,
+}
+
+impl From<DerFault> for Fault {
+    ghost from_gives = { λ fault e. e ≡ Der fault };
+
+    fn from(fault: DerFault) -> Fault {
+        Fault::Der(fault)
+    }
+}
+
+impl From<AllocError> for Fault {
+    ghost from_gives = { λ _ e. e ≡ Memory };
+
+    fn from(_error: AllocError) -> Fault {
+        Fault::Memory
+    }
+}
+
+impl<T: Drop> From<AllocFailed<T>> for Fault {
+    ghost from_gives = { λ _ e. e ≡ Memory };
+
+    fn from(_error: AllocFailed<T>) -> Fault {
+        Fault::Memory
+    }
+}

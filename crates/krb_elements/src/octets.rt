@@ -1,0 +1,86 @@
+//! Octets that a value owns.
+ghost use Rattle.std.specs.Prelude.{◌≡◌, IfOk};
+
+use std::alloc::{AllocError, Global};
+use std::marker::Model;
+
+/// An OCTET STRING, as of a key or a cipher, which clauses see as the list of its octets.
+#[derive(Debug, Drop)]
+pub struct Octets {
+    bytes: Vec<u8>,
+}
+
+impl Model for Octets {
+    ghost use Rattle.std.specs.Prelude.{List, ℕ};
+
+    ghost Value = { List ℕ };
+
+    ghost view = { λ o. o.bytes.items };
+}
+
+impl Octets {
+    pub fn new(bytes: Vec<u8>) -> Octets
+        ensures { result ≡ bytes.items }
+    {
+        Octets { bytes }
+    }
+
+    pub fn from_slice(alloc: Global, bytes: &[u8]) -> Result<Octets, AllocError>
+        ensures { IfOk result (λ octets. octets ≡ bytes.now) }
+    {
+        let bytes = Vec::from_slice(alloc, bytes)?;
+        Ok(Octets { bytes })
+    }
+
+    pub fn as_slice(&self) -> &[u8]
+        ensures { result.now ≡ self.now }
+    {
+        self.bytes.as_slice()
+    }
+
+    pub fn copy(&self, alloc: Global) -> Result<Octets, AllocError>
+        ensures { IfOk result (λ octets. octets ≡ self.now) }
+    {
+        Octets::from_slice(alloc, self.as_slice())
+    }
+
+    pub fn into_vec(self) -> Vec<u8>
+        ensures { result.items ≡ self }
+    {
+        self.bytes
+    }
+}
+
+/// An OCTET STRING where it stands.
+#[derive(Debug, Drop)]
+pub struct OctetsRef<'a> {
+    bytes: &'a [u8],
+}
+
+impl<'a> Model for OctetsRef<'a> {
+    ghost use Rattle.std.specs.Prelude.{List, ℕ};
+
+    ghost Value = { List ℕ };
+
+    ghost view = { λ o. o.bytes.now };
+}
+
+impl<'a> OctetsRef<'a> {
+    pub fn new(bytes: &'a [u8]) -> OctetsRef<'a>
+        ensures { result ≡ bytes.now }
+    {
+        OctetsRef { bytes }
+    }
+
+    pub fn as_slice(&self) -> &'a [u8]
+        ensures { result.now ≡ self.now }
+    {
+        self.bytes
+    }
+
+    pub fn copy(&self, alloc: Global) -> Result<Octets, AllocError>
+        ensures { IfOk result (λ octets. octets ≡ self.now) }
+    {
+        Octets::from_slice(alloc, self.bytes)
+    }
+}

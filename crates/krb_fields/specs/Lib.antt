@@ -1,0 +1,14 @@
+pub mod ApOption
+pub mod Code
+pub mod Flags
+pub mod KdcOption
+pub mod Moment
+pub mod Name
+pub mod NameLimits
+pub mod NameText
+pub mod Salt
+pub mod TicketFlag
+pub mod PrincipalName
+pub mod EncryptedData
+pub mod PaData
+pub mod HostAddress

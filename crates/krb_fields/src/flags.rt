@@ -1,0 +1,76 @@
+//! Flags: the flags of a ticket, and the options of a request.
+ghost use Rattle.std.specs.Prelude.{◌≡◌, ◌==◌, ◌||◌, ◌&&◌, not, ℕ, ◌<◌};
+ghost use Rattle.krb_fields.specs.Flags.{has_bit, with_bit, without_bit};
+
+use std::marker::Model;
+
+/// Thirty-two bits: the type `KerberosFlags` of RFC 4120 section 5.2.8. Those without a name are kept too.
+///
+/// Bits are numbered from the most significant. Clauses see the number that the bits make, and speak
+/// of a bit by its number.
+#[derive(Clone, Copy, Debug, PartialEq, Eq)]
+pub struct Flags {
+    bits: u32,
+}
+
+impl Model for Flags {
+    ghost Value = { ℕ };
+
+    ghost view = { λ f. f.bits };
+
+    ghost inverse = { λ n. record { bits = n } };
+}
+
+/// The name of a bit of [`Flags`].
+pub trait NamedBit: Copy {
+    ghost bit_number: { Self → ℕ };
+
+    /// The number of the bit, 0 to 31, counted from the most significant.
+    fn number(self) -> u32
+        ensures value { result ≡ bit_number self }
+        ensures within { result < 32 };
+}
+
+impl Flags {
+    /// The flags whose bits these are: bit 0 is the most significant.
+    pub fn from_bits(bits: u32) -> Flags
+        ensures { result ≡ bits }
+    {
+        Flags { bits }
+    }
+
+    pub fn bits(self) -> u32
+        ensures { result ≡ self }
+    {
+        self.bits
+    }
+
+    /// Whether the bit is set.
+    pub fn has<B: NamedBit>(self, bit: B) -> bool
+        ensures { result ≡ has_bit self (B.bit_number bit) }
+    {
+        (self.bits >> (31 - bit.number())) & 1 == 1
+    }
+
+    /// These flags with the bit set.
+    pub fn with<B: NamedBit>(self, bit: B) -> Flags
+        ensures value { result ≡ with_bit self (B.bit_number bit) }
+        ensures bits { (n : ℕ) → n < 32
+            → has_bit result n ≡ (n == B.bit_number bit || has_bit self n) }
+    {
+        Flags {
+            bits: self.bits | 1 << (31 - bit.number()),
+        }
+    }
+
+    /// These flags with the bit clear.
+    pub fn without<B: NamedBit>(self, bit: B) -> Flags
+        ensures value { result ≡ without_bit self (B.bit_number bit) }
+        ensures bits { (n : ℕ) → n < 32
+            → has_bit result n ≡ (not (n == B.bit_number bit) && has_bit self n) }
+    {
+        Flags {
+            bits: self.bits & !(1 << (31 - bit.number())),
+        }
+    }
+}

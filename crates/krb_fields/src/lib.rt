@@ -1,0 +1,37 @@
+//! The values inside Kerberos messages: names, times, flags, error codes, and the types that several messages
+//! share (RFC 4120, sections 5.2 and 7.5).
+#![tactic(auto)]
+
+mod ap_option;
+mod code;
+mod encrypted_data;
+mod flags;
+mod flags_element;
+mod host_address;
+mod kdc_option;
+mod moment;
+mod name;
+mod name_element;
+mod name_limits;
+mod name_ref;
+mod name_text;
+mod pa_data;
+mod salt;
+mod ticket_flag;
+
+pub use ap_option::ApOption;
+pub use code::Code;
+pub use encrypted_data::{EncryptedData, EncryptedDataRef};
+pub use flags::{Flags, NamedBit};
+pub use host_address::{HostAddress, HostAddressRef};
+pub use kdc_option::KdcOption;
+pub use moment::Moment;
+pub use name::Name;
+pub use name_limits::{MAX_COMPONENTS, MAX_OCTETS, is_component};
+pub use name_ref::NameRef;
+pub use name_text::{NT_PRINCIPAL, NameFault, component_from_text, component_to_text};
+pub use pa_data::{PaData, PaDataRef};
+pub use ticket_flag::TicketFlag;
+
+#[cfg(test)]
+mod tests;

@@ -1,0 +1,31 @@
+//! The moment at which something happens.
+ghost use Rattle.std.specs.Prelude.{◌≡◌, ◌↔◌, IsSome, IfSome};
+ghost use Rattle.krb_fields.specs.Moment.{IsSecond, IsMicrosecond};
+
+/// A moment in UTC, as a KerberosTime with its Microseconds gives it (RFC 4120 sections 5.2.3 and 5.2.4).
+#[derive(Clone, Copy, Debug, PartialEq, Eq)]
+pub struct Moment {
+    /// Whole seconds since the start of 1970, 0 to 253402300799 (the end of the year 9999).
+    pub sec: i64,
+    /// Microseconds, 0 to 999999.
+    pub usec: u32,
+    pub ghost sec_in_range: { IsSecond sec },
+    pub ghost usec_in_range: { IsMicrosecond usec },
+}
+
+impl Moment {
+    /// The last second of a moment: 9999-12-31 23:59:59.
+    pub const LAST_SECOND: i64 = 253_402_300_799;
+
+    /// The moment, where both numbers are in range.
+    pub fn new(sec: i64, usec: u32) -> Option<Moment>
+        ensures found { IsSome result ↔ (IsSecond sec × IsMicrosecond usec) }
+        ensures value { IfSome result (λ at. (at.sec ≡ sec) × (at.usec ≡ usec)) }
+    {
+        if (0..=Moment::LAST_SECOND).contains(&sec) && usec < 1_000_000 {
+            Some(Moment { sec, usec })
+        } else {
+            None
+        }
+    }
+}

@@ -1,0 +1,46 @@
+//! Names of principals.
+ghost use Rattle.std.specs.Prelude.{◌≡◌, IfOk, IsTrue, ◌↔◌};
+ghost use Rattle.krb_fields.specs.Name.{name_cmp};
+
+use krb_elements::{KerberosString, Seq};
+use std::alloc::{AllocError, Global};
+use std::cmp::Ordering;
+
+/// A principal's name within its realm: the type `PrincipalName` of RFC 4120 section 5.2.2.
+///
+/// The name-type is a hint: names of the same components are the same principal, whatever their
+/// name-types (RFC 4120 section 6.2). So comparisons read the components alone.
+#[derive(Debug, Drop)]
+pub struct Name {
+    pub name_type: i32,
+    pub components: Seq<KerberosString>,
+}
+
+impl Name {
+    /// Orders names by their components, as Rust orders a `Vec<Vec<u8>>`.
+    pub fn order(&self, other: &Name) -> Ordering
+        ensures { result ≡ name_cmp self.now.components other.now.components }
+    {
+        self.components.as_slice().cmp(other.components.as_slice())
+    }
+
+    /// Whether both name the same principal of one realm.
+    pub fn is_same(&self, other: &Name) -> bool
+        ensures { IsTrue result ↔ (self.now.components ≡ other.now.components) }
+    {
+        self.order(other).is_eq()
+    }
+
+    pub fn copy(&self, alloc: Global) -> Result<Name, AllocError>
+        ensures { IfOk result (λ name. name ≡ self.now) }
+    {
+        let mut components = Seq::new(alloc);
+        for component in self.components.as_slice() {
+            components.push(component.copy(alloc)?)?;
+        }
+        Ok(Name {
+            name_type: self.name_type,
+            components,
+        })
+    }
+}

@@ -1,0 +1,208 @@
+//! The text of names, as commands and files have them: `krbtgt/A.B`.
+//!
+//! The components are joined by `/`. The octets 21 to 7E (hexadecimal) are written as they are, except
+//! `/`, `\` and `@`; those three and every other octet are written as `\` and two lower case
+//! hexadecimal digits. Nothing else is read, so a name has one text alone.
+ghost use Rattle.std.specs.Prelude.{◌≡◌, ◌≢◌, ◌<◌, ◌++◌, ℕ, List, false, IfOk, IfSome, IfNone, OnOk, MatchResult, string_bytes};
+ghost use Rattle.krb_fields.specs.Name.{Components};
+ghost use Rattle.krb_fields.specs.NameLimits.{IsWithinLimits};
+ghost use Rattle.krb_fields.specs.NameText.{is_plain, hex_digit, digits_of, octet_text, component_text, text_of, IsComponentText, IsNameText};
+ghost use Rattle.krb_fields.specs.declared.name_text.NameFault.TheVariants.{Memory};
+
+use crate::Name;
+use crate::name_limits::{MAX_COMPONENTS, MAX_OCTETS};
+use krb_elements::{KerberosString, Seq};
+use std::alloc::{AllocError, AllocFailed, Global};
+
+/// The name-type NT-PRINCIPAL (RFC 4120 section 6.2), which a name that is read from text has.
+pub const NT_PRINCIPAL: i32 = 1;
+
+/// Why a text is read as no name.
+#[derive(Clone, Copy, Debug, PartialEq, Eq)]
+pub enum NameFault {
+    /// The text of no name, or of one beyond the limits.
+    BadName,
+    Memory,
+}
+
+impl From<AllocError> for NameFault {
+    ghost from_gives = { λ _ fault. fault ≡ Memory };
+
+    fn from(_error: AllocError) -> NameFault {
+        NameFault::Memory
+    }
+}
+
+impl<T: Drop> From<AllocFailed<T>> for NameFault {
+    ghost from_gives = { λ _ fault. fault ≡ Memory };
+
+    fn from(_error: AllocFailed<T>) -> NameFault {
+        NameFault::Memory
+    }
+}
+
+impl Name {
+    /// Reads a name within the limits, which gets name-type 1.
+    ///
+    /// `BadName` is for a text that is the text of no such name.
+    pub fn from_text(alloc: Global, text: &str) -> Result<Name, NameFault>
+        ensures ok { IfOk result (λ name. IsNameText name.components text.now) }
+        ensures name_type { IfOk result (λ name. name.name_type ≡ NT_PRINCIPAL) }
+        ensures read { (n : Components) → IsNameText n text.now
+            → MatchResult result (λ name. name.components ≡ n) (λ fault. fault ≡ Memory) }
+    {
+        let components = components_from_text(alloc, text)?;
+        Ok(Name {
+            name_type: NT_PRINCIPAL,
+            components,
+        })
+    }
+
+    /// The text of the name's components.
+    pub fn to_text(&self, alloc: Global) -> Result<String, AllocError>
+        ensures text { IfOk result (λ text. string_bytes text ≡ text_of self.now.components) }
+
+        // No other name within the limits has this text.
+        ensures own { IfOk result (λ text. IsWithinLimits self.now.components → (n : Components)
+            → IsNameText n (string_bytes text) → n ≡ self.now.components) }
+    {
+        let mut text = String::new(alloc);
+        for (i, component) in self.components.as_slice().iter().enumerate() {
+            if i > 0 {
+                text.push('/')?;
+            }
+            push_component(&mut text, component.as_slice())?;
+        }
+        Ok(text)
+    }
+}
+
+/// Reads a component within the limits, or a realm: a realm's text is that of one component.
+pub fn component_from_text(alloc: Global, text: &str) -> Result<KerberosString, NameFault>
+    ensures ok { IfOk result (λ octets. IsComponentText octets text.now) }
+    ensures read { (c : List ℕ) → IsComponentText c text.now
+        → MatchResult result (λ octets. octets ≡ c) (λ fault. fault ≡ Memory) }
+{
+    let mut octets = Vec::new(alloc);
+    let mut rest = text.as_bytes();
+    while !rest.is_empty() {
+        let Some((octet, after)) = split_octet(rest) else {
+            return Err(NameFault::BadName);
+        };
+        if octets.len() == MAX_OCTETS {
+            return Err(NameFault::BadName);
+        }
+        octets.push(octet)?;
+        rest = after;
+    }
+    if octets.is_empty() {
+        return Err(NameFault::BadName);
+    }
+    Ok(KerberosString::new(octets))
+}
+
+/// The text of a component, or of a realm.
+pub fn component_to_text(alloc: Global, octets: &[u8]) -> Result<String, AllocError>
+    ensures { IfOk result (λ text. string_bytes text ≡ component_text octets.now) }
+{
+    let mut text = String::new(alloc);
+    push_component(&mut text, octets)?;
+    Ok(text)
+}
+
+fn components_from_text(alloc: Global, text: &str) -> Result<Seq<KerberosString>, NameFault>
+    ensures ok { IfOk result (λ components. IsNameText components text.now) }
+    ensures read { (n : Components) → IsNameText n text.now
+        → MatchResult result (λ components. components ≡ n) (λ fault. fault ≡ Memory) }
+{
+    let mut components = Seq::new(alloc);
+    for part in text.split('/') {
+        if components.len() == MAX_COMPONENTS {
+            return Err(NameFault::BadName);
+        }
+        components.push(component_from_text(alloc, part)?)?;
+    }
+    Ok(components)
+}
+
+/// The octet that a text begins with, and the text after it.
+fn split_octet(text: &[u8]) -> Option<(u8, &[u8])>
+    ensures found { IfSome result (λ split. octet_text split.0 ++ split.1.now ≡ text.now) }
+    ensures none { IfNone result ((o : ℕ) (rest : List ℕ) → o < 256
+        → octet_text o ++ rest ≢ text.now) }
+{
+    let (first, rest) = text.split_first()?;
+    if *first == b'\\' {
+        split_digits(rest)
+    } else if is_plain(*first) {
+        Some((*first, rest))
+    } else {
+        None
+    }
+}
+
+/// The octet that is not plain whose two digits a text begins with, and the text after them.
+fn split_digits(text: &[u8]) -> Option<(u8, &[u8])>
+    ensures found { IfSome result (λ split.
+        (is_plain split.0 ≡ false) × (digits_of split.0 ++ split.1.now ≡ text.now)) }
+    ensures none { IfNone result ((o : ℕ) (rest : List ℕ) → o < 256 → is_plain o ≡ false
+        → digits_of o ++ rest ≢ text.now) }
+{
+    let [high, low, rest @ ..] = text else {
+        return None;
+    };
+    let octet = digit_value(*high)? * 16 + digit_value(*low)?;
+    (!is_plain(octet)).then_some((octet, rest))
+}
+
+fn digit_value(digit: u8) -> Option<u8>
+    ensures found { IfSome result (λ value. (value < 16) × (hex_digit value ≡ digit)) }
+    ensures none { IfNone result ((v : ℕ) → v < 16 → hex_digit v ≢ digit) }
+{
+    match digit {
+        b'0'..=b'9' => Some(digit - b'0'),
+        b'a'..=b'f' => Some(digit - b'a' + 10),
+        _ => None,
+    }
+}
+
+/// Adds the text of a component at the end.
+fn push_component(text: &mut String, octets: &[u8]) -> Result<(), AllocError>
+    ensures { OnOk result (string_bytes text.new ≡ string_bytes text.old ++ component_text octets.now) }
+{
+    for octet in octets {
+        push_octet(text, *octet)?;
+    }
+    Ok(())
+}
+
+fn push_octet(text: &mut String, octet: u8) -> Result<(), AllocError>
+    ensures { OnOk result (string_bytes text.new ≡ string_bytes text.old ++ octet_text octet) }
+{
+    if is_plain(octet) {
+        text.push(char::from(octet))
+    } else {
+        text.push('\\')?;
+        text.push(digit_of(octet / 16))?;
+        text.push(digit_of(octet % 16))
+    }
+}
+
+/// The lower case hexadecimal digit of a value.
+fn digit_of(value: u8) -> char
+    requires { value < 16 }
+    ensures { result ≡ hex_digit value }
+{
+    char::from(if value < 10 {
+        b'0' + value
+    } else {
+        b'a' + (value - 10)
+    })
+}
+
+/// Whether an octet is written as it is.
+fn is_plain(octet: u8) -> bool
+    ensures { result ≡ is_plain octet }
+{
+    octet.is_ascii_graphic() && octet != b'/' && octet != b'\\' && octet != b'@'
+}

@@ -1,0 +1,5 @@
+pub mod Ticket
+pub mod ReqBody
+pub mod KdcReq
+pub mod KrbError
+pub mod ShortName

@@ -1,0 +1,13 @@
+pub mod KeyBlocks
+pub mod Iterates
+pub mod Blocks
+pub mod Lengths
+pub mod Numbers
+pub mod Sums
+pub mod Turns
+pub mod Copies
+pub mod Multiples
+pub mod FactsOfFold
+pub mod FactsOfSha1
+pub mod FactsOfSha256
+pub mod FactsOfSha384

@@ -1,0 +1,144 @@
+//! HMAC (RFC 2104) over SHA-1, SHA-256 and SHA-384.
+
+ghost use Rattle.std.specs.Prelude.{◌≡◌, ◌<◌, ◌≤◌, ◌-◌, ℕ, List, ◌++◌, length, take, replicate, map, bit_xor};
+ghost use Rattle.std.specs.List.{flat_map};
+ghost use Rattle.prf_kdf.specs.Hasher.{HoldsKeyBlock};
+ghost use Rattle.prf_kdf.specs.Hmac.{block_of, key_block, masked_bytes, hmac_of_block, hmac, hmac_sha1, hmac_sha256, hmac_sha384};
+
+use crate::hasher::Hasher;
+use sha1::Sha1;
+use sha2::{Sha256, Sha384};
+
+// The longest block of the three hash functions, in bytes.
+pub const LONGEST_BLOCK: usize = 128;
+
+// The bytes that each byte of the key is masked with (RFC 2104 section 2).
+const INNER_MASK: u8 = 0x36;
+
+const OUTER_MASK: u8 = 0x5c;
+
+/// HMAC under one key: hashers that have taken in the key's block under the two masks. Each MAC goes
+/// on from copies of them, so that many MACs under one key hash the key once.
+#[derive(Drop)]
+pub struct HmacKey<H> {
+    pub inner: H,
+    pub outer: H,
+}
+
+impl<H: Hasher> HmacKey<H> {
+    /// Takes the key in.
+    pub fn new(key: &[u8]) -> Self
+        ensures { HoldsKeyBlock H.Holds result.inner result.outer (key_block H.hash H.BLOCK_LEN key.now) }
+    {
+        let block = key_block::<H>(key);
+        let block = &block[..H::BLOCK_LEN];
+        HmacKey {
+            inner: masked_hasher(block, INNER_MASK),
+            outer: masked_hasher(block, OUTER_MASK),
+        }
+    }
+
+    /// Writes the MAC of the parts, taken one after the other as one text.
+    pub fn write_mac(&self, parts: &[&[u8]], out: &mut [u8])
+        requires { length out.old ≡ H.SIZE }
+        ensures len { length out.new ≡ H.SIZE }
+        ensures mac { (block : List ℕ) → HoldsKeyBlock H.Holds self.now.inner self.now.outer block
+            → out.new ≡ hmac_of_block H.hash block (flat_map (λ part. part.now) parts.now) }
+    {
+        let mut inner = self.inner.duplicate();
+        absorb(&mut inner, parts);
+        inner.finish(out);
+        let mut outer = self.outer.duplicate();
+        outer.update(out);
+        outer.finish(out);
+    }
+}
+
+/// The HMAC-SHA-1 of the parts, taken one after the other as one text, under the key
+/// (RFC 2104): 20 bytes. An empty part adds nothing.
+pub fn hmac_sha1(key: &[u8], parts: &[&[u8]]) -> [u8; 20]
+    ensures { result ≡ hmac_sha1 key.now (flat_map (λ part. part.now) parts.now) }
+{
+    let mut mac = [0; 20];
+    write_hmac::<Sha1>(key, parts, &mut mac);
+    mac
+}
+
+/// The HMAC-SHA-256 of the parts, taken one after the other as one text, under the key
+/// (RFC 2104, RFC 4231): 32 bytes. An empty part adds nothing.
+pub fn hmac_sha256(key: &[u8], parts: &[&[u8]]) -> [u8; 32]
+    ensures { result ≡ hmac_sha256 key.now (flat_map (λ part. part.now) parts.now) }
+{
+    let mut mac = [0; 32];
+    write_hmac::<Sha256>(key, parts, &mut mac);
+    mac
+}
+
+/// The HMAC-SHA-384 of the parts, taken one after the other as one text, under the key
+/// (RFC 2104, RFC 4231): 48 bytes. An empty part adds nothing.
+pub fn hmac_sha384(key: &[u8], parts: &[&[u8]]) -> [u8; 48]
+    ensures { result ≡ hmac_sha384 key.now (flat_map (λ part. part.now) parts.now) }
+{
+    let mut mac = [0; 48];
+    write_hmac::<Sha384>(key, parts, &mut mac);
+    mac
+}
+
+// Writes the HMAC of the parts under the key.
+#[tactic(auto, unfolding(crate::specs::Hmac::hmac))]
+pub fn write_hmac<H: Hasher>(key: &[u8], parts: &[&[u8]], out: &mut [u8])
+    requires { length out.old ≡ H.SIZE }
+    ensures len { length out.new ≡ H.SIZE }
+    ensures mac { out.new ≡ hmac H.hash H.BLOCK_LEN key.now (flat_map (λ part. part.now) parts.now) }
+{
+    HmacKey::<H>::new(key).write_mac(parts, out);
+}
+
+// Adds the parts to the hasher's message.
+fn absorb<H: Hasher>(hasher: &mut H, parts: &[&[u8]])
+    ensures { (m : List ℕ) → H.Holds hasher.old m
+        → H.Holds hasher.new (m ++ flat_map (λ part. part.now) parts.now) }
+{
+    for part in parts {
+        hasher.update(part);
+    }
+}
+
+// The key as one block: what lies behind the block's length is zero.
+fn key_block<H: Hasher>(key: &[u8]) -> [u8; LONGEST_BLOCK]
+    ensures { take H.BLOCK_LEN result ≡ key_block H.hash H.BLOCK_LEN key.now }
+{
+    if key.len() <= H::BLOCK_LEN {
+        return block_of(key);
+    }
+    let mut hasher = H::new();
+    hasher.update(key);
+    let mut digest = [0; LONGEST_BLOCK];
+    let digest = &mut digest[..H::SIZE];
+    hasher.finish(digest);
+    block_of(digest)
+}
+
+// The bytes, with zeros behind them.
+pub fn block_of(bytes: &[u8]) -> [u8; LONGEST_BLOCK]
+    requires { length bytes.now ≤ LONGEST_BLOCK }
+    ensures { result ≡ block_of LONGEST_BLOCK bytes.now }
+{
+    let mut block = [0; LONGEST_BLOCK];
+    block[..bytes.len()].copy_from_slice(bytes);
+    block
+}
+
+// A hasher that has taken in the masked block.
+fn masked_hasher<H: Hasher>(block: &[u8], mask: u8) -> H
+    requires { length block.now ≤ LONGEST_BLOCK }
+    ensures { H.Holds result (masked_bytes mask block.now) }
+{
+    let mut masked = [0; LONGEST_BLOCK];
+    for i in 0..block.len() {
+        masked[i] = block[i] ^ mask;
+    }
+    let mut hasher = H::new();
+    hasher.update(&masked[..block.len()]);
+    hasher
+}

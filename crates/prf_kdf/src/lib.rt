@@ -1,0 +1,25 @@
+//! The derivations under Kerberos's encryption types: HMAC over three hashes, PBKDF2, n-fold and
+//! the key derivation of RFC 8009. None takes memory, and each gives exactly what its definition in
+//! `specs/` does, over the definitions of the hashes in the crates `sha1` and `sha2`.
+//!
+//! | call | standard | fills or returns |
+//! |---|---|---|
+//! | [`hmac_sha1`], [`hmac_sha256`], [`hmac_sha384`] | RFC 2104, RFC 4231 | 20, 32, 48 bytes |
+//! | [`pbkdf2_sha1`], [`pbkdf2_sha256`], [`pbkdf2_sha384`] | RFC 8018 section 5.2 | a slice of any length up to 4,294,967,295 blocks |
+//! | [`n_fold`] | RFC 3961 section 5.1 | a slice of any length but none |
+//! | [`kdf_sha256`], [`kdf_sha384`] | RFC 8009 section 3 | a slice of at most 32, 48 bytes |
+#![tactic(auto)]
+
+mod fold;
+mod hasher;
+mod hmac;
+mod kdf;
+mod pbkdf2;
+
+pub use fold::n_fold;
+pub use hmac::{hmac_sha1, hmac_sha256, hmac_sha384};
+pub use kdf::{kdf_sha256, kdf_sha384};
+pub use pbkdf2::{pbkdf2_sha1, pbkdf2_sha256, pbkdf2_sha384};
+
+#[cfg(test)]
+mod tests;

@@ -1,0 +1,4 @@
+pub mod KeyList
+pub mod NameMap
+pub mod Row
+pub mod Versions

@@ -1,0 +1,15 @@
+//! What a database knows of a principal: its keys by version; and maps from names.
+#![tactic(auto)]
+
+mod key_list;
+mod limits;
+mod name_map;
+mod row;
+
+pub use key_list::{KeyList, KeyListFault};
+pub use limits::Limits;
+pub use name_map::{NameKey, NameMap};
+pub use row::{KeyVersion, Row, Versions};
+
+#[cfg(test)]
+mod tests;

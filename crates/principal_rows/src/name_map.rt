@@ -1,0 +1,149 @@
+//! Maps from names.
+//!
+//! Names are compared by their components alone (RFC 4120 section 6.2), so a map has at most one value for all the names
+//! that differ in their name-type.
+ghost use Rattle.std.specs.Prelude.{◌≡◌, T, false, IfOk, IfErr, IsOk, OnOk, OnErr, IsTrue, option_copied, option_map, slice_get};
+ghost use Rattle.std.specs.FinMap as map;
+ghost use Rattle.krb_fields.specs.Name.{Components, name_cmp};
+ghost use Rattle.principal_rows.specs.NameMap.{IsAt, IsGap, pairs};
+
+use krb_fields::{Name, NameRef};
+use std::alloc::{AllocError, Global};
+use std::cmp::Ordering;
+use std::marker::Model;
+
+/// A name by which a map is searched: one that is owned, or one that is borrowed from a message.
+pub trait NameKey {
+    ghost components: { Self → Components };
+
+    /// How `name` stands to this key in the order of the maps, which is that of `Name::order`.
+    fn compare(&self, name: &Name) -> Ordering
+        ensures { result ≡ name_cmp name.now.components (components self.now) };
+}
+
+impl NameKey for Name {
+    ghost components = { λ name. name.components };
+
+    fn compare(&self, name: &Name) -> Ordering {
+        name.order(self)
+    }
+}
+
+impl<'a> NameKey for NameRef<'a> {
+    ghost components = { λ name. name.components };
+
+    fn compare(&self, name: &Name) -> Ordering {
+        self.order(name).reverse()
+    }
+}
+
+#[derive(Debug, Drop)]
+struct Entry<V> {
+    name: Name,
+    value: V,
+}
+
+/// A map from names to values, kept in the order of the names and searched by halving.
+#[derive(Debug, Drop)]
+pub struct NameMap<V> {
+    entries: Vec<Entry<V>>,
+}
+
+impl<V> Model for NameMap<V> {
+    ghost use Rattle.std.specs.Prelude.{T};
+    ghost use Rattle.std.specs.FinMap as map;
+    ghost use Rattle.krb_fields.specs.Name.{name_cmp, coded_name};
+    ghost use Rattle.principal_rows.specs.NameMap.{pairs};
+
+    ghost Value = { map.FinMap name_cmp V };
+
+    ghost coded = { map.code coded_name V.code };
+
+    ghost view = { λ a. map.from_sorted (pairs a.entries.items) };
+
+    ghost invariant = { λ a. T (map.is_sorted name_cmp (pairs a.entries.items)) };
+}
+
+impl<V: Drop> NameMap<V> {
+    pub fn new(alloc: Global) -> NameMap<V>
+        ensures { result ≡ map.empty }
+    {
+        NameMap {
+            entries: Vec::new(alloc),
+        }
+    }
+
+    pub fn len(&self) -> usize
+        ensures { result ≡ map.len self.now }
+    {
+        self.entries.len()
+    }
+
+    /// The name and value at a place, for each place below `len`; names rise from place to place.
+    pub fn at(&self, place: usize) -> Option<(&Name, &V)>
+        ensures { option_map (λ e. (e.0.now.components, e.1.now)) result ≡ slice_get (map.entries self.now) place }
+    {
+        if place < self.entries.len() {
+            let entry = &self.entries[place];
+            Some((&entry.name, &entry.value))
+        } else {
+            None
+        }
+    }
+
+    pub fn get<K: NameKey>(&self, key: &K) -> Option<&V>
+        ensures { option_copied result ≡ map.get self.now (K.components key.now) }
+    {
+        match place(&self.entries, key) {
+            Ok(at) => Some(&self.entries[at].value),
+            Err(_) => None,
+        }
+    }
+
+    /// Sets the value of a name. It takes memory only where the name has none yet.
+    pub fn put(&mut self, name: Name, value: V) -> Result<(), AllocError>
+        ensures ok { OnOk result (self.new ≡ map.insert self.old name.components value) }
+        ensures err { OnErr result (self.new ≡ self.old) }
+        ensures there { IsTrue (map.contains_key self.old name.components) → IsOk result }
+    {
+        match place(&self.entries, &name) {
+            Ok(at) => {
+                self.entries[at].value = value;
+                Ok(())
+            }
+            Err(at) => Ok(self.entries.insert(at, Entry { name, value })?),
+        }
+    }
+
+    /// Exchanges `value` with the value of a name, and says whether the name has one.
+    pub fn exchange<K: NameKey>(&mut self, key: &K, value: &mut V) -> bool
+        ensures there { result ≡ map.contains_key self.old (K.components key.now) }
+        ensures taken { IsTrue result → map.get self.old (K.components key.now) ≡ Some value.new }
+        ensures given { IsTrue result → self.new ≡ map.insert self.old (K.components key.now) value.old }
+        ensures absent { result ≡ false → (self.new ≡ self.old) × (value.new ≡ value.old) }
+    {
+        match place(&self.entries, key) {
+            Ok(at) => {
+                std::mem::swap(&mut self.entries[at].value, value);
+                true
+            }
+            Err(_) => false,
+        }
+    }
+
+    /// Forgets all names.
+    pub fn clear(&mut self)
+        ensures { self.new ≡ map.empty }
+    {
+        self.entries.clear();
+    }
+}
+
+/// Where the key stands among the entries, or else where it would go.
+fn place<K: NameKey, V>(entries: &[Entry<V>], key: &K) -> Result<usize, usize>
+    requires { T (map.is_sorted name_cmp (pairs entries.now)) }
+    ensures found { IfOk result (IsAt (K.components key.now) entries.now) }
+    ensures absent { IfErr result (IsGap (K.components key.now) entries.now) }
+{
+    entries.binary_search_by(|entry| key.compare(&entry.name))
+}

@@ -1,0 +1,139 @@
+use crate::{Change, ChangeFault, Database, FirstFault};
+use enctypes::{Etype, Key};
+use krb_elements::{KerberosString, Seq};
+use krb_fields::Name;
+use principal_rows::KeyList;
+use std::alloc::{AllocError, Global};
+
+const LONG: [u8; 256] = [b'x'; 256];
+
+fn keys(alloc: Global) -> Result<KeyList, AllocError> {
+    let key = Key::new(Etype::Aes256CtsHmacSha1_96, &LONG[..32]).unwrap();
+    KeyList::new(alloc, &[key]).map_err(|_| AllocError)
+}
+
+fn name(alloc: Global, components: &[&[u8]]) -> Result<Name, AllocError> {
+    let mut owned = Seq::new(alloc);
+    for component in components {
+        owned.push(KerberosString::from_slice(alloc, component)?)?;
+    }
+    Ok(Name {
+        name_type: 1,
+        components: owned,
+    })
+}
+
+fn adding(alloc: Global, components: &[&[u8]]) -> Result<Change, AllocError> {
+    Ok(Change::Add {
+        name: name(alloc, components)?,
+        keys: keys(alloc)?,
+    })
+}
+
+fn realm(alloc: Global, realm: &[u8]) -> Result<Database, FirstFault> {
+    Database::first(alloc, realm, keys(alloc)?)
+}
+
+fn is(name: &Name, components: &[&[u8]]) -> bool {
+    let held = name.components.as_slice();
+    held.len() == components.len()
+        && held
+            .iter()
+            .zip(components)
+            .all(|(held, component)| held.as_slice() == *component)
+}
+
+#[test]
+fn a_first_database_grants_tickets(rt: HostRuntime) -> Result<(), FirstFault> {
+    let alloc = rt.alloc();
+    let database = realm(alloc, b"A.B")?;
+    assert!(rt; database.realm() == b"A.B".as_slice());
+    assert!(rt; database.len() == 1);
+    let granter = name(alloc, &[b"krbtgt", b"A.B"])?;
+    assert!(rt;
+        database
+            .get(&granter)
+            .is_some_and(|row| row.versions.current().number == 1)
+    );
+    assert!(rt; realm(alloc, &LONG[..255]).is_ok());
+    for octets in [&LONG[..0], &LONG] {
+        assert!(rt; realm(alloc, octets).is_err_and(|fault| fault == FirstFault::BadName));
+    }
+    Ok(())
+}
+
+#[test]
+fn principals_stand_in_the_order_of_their_components(rt: HostRuntime) -> Result<(), ChangeFault> {
+    let alloc = rt.alloc();
+    let mut database = realm(alloc, b"A.B").expect(&rt, "a realm");
+    for component in [b"u", b"h", b"b", b"a"] {
+        database.apply(alloc, &adding(alloc, &[component])?)?;
+    }
+    let rising: [&[&[u8]]; 5] = [&[b"a"], &[b"b"], &[b"h"], &[b"krbtgt", b"A.B"], &[b"u"]];
+    assert!(rt; database.len() == 5);
+    for (place, components) in rising.iter().enumerate() {
+        assert!(rt;
+            database
+                .at(place)
+                .is_some_and(|(name, _)| is(name, components)),
+            "at {place}"
+        );
+        assert!(rt;
+            database.get(&name(alloc, components)?).is_some(),
+            "at {place}"
+        );
+    }
+    assert!(rt; database.at(5).is_none());
+    assert!(rt; database.get(&name(alloc, &[b"krbtgt"])?).is_none());
+    Ok(())
+}
+
+#[test]
+fn a_name_is_added_once(rt: HostRuntime) -> Result<(), ChangeFault> {
+    let alloc = rt.alloc();
+    let mut database = realm(alloc, b"A.B").expect(&rt, "a realm");
+    let user = adding(alloc, &[b"u"])?;
+    database.apply(alloc, &user)?;
+    let granter = adding(alloc, &[b"krbtgt", b"A.B"])?;
+    for change in [user, granter] {
+        assert!(rt; database.apply(alloc, &change) == Err(ChangeFault::Exists));
+    }
+    assert!(rt; database.len() == 2);
+    Ok(())
+}
+
+#[test]
+fn a_name_has_1_to_16_components_of_1_to_255_octets(rt: HostRuntime) -> Result<(), ChangeFault> {
+    let alloc = rt.alloc();
+    let mut database = realm(alloc, b"A.B").expect(&rt, "a realm");
+    let longest: &[u8] = &LONG[..255];
+    let bad: [&[&[u8]]; 5] = [&[], &[b""], &[b"u", b""], &[&LONG], &[b"u".as_slice(); 17]];
+    for components in bad {
+        assert!(rt;
+            database.apply(alloc, &adding(alloc, components)?) == Err(ChangeFault::BadName)
+        );
+    }
+    assert!(rt; database.len() == 1);
+    for components in [[longest; 1].as_slice(), &[longest; 16]] {
+        database.apply(alloc, &adding(alloc, components)?)?;
+    }
+    assert!(rt; database.len() == 3);
+    Ok(())
+}
+
+// Passes whichever allocation is refused.
+#[test]
+fn a_change_without_memory_leaves_the_database(rt: HostRuntime) {
+    let alloc = rt.alloc();
+    let (Ok(mut database), Ok(user), Ok(change)) = (
+        realm(alloc, b"A.B"),
+        name(alloc, &[b"u"]),
+        adding(alloc, &[b"u"]),
+    ) else {
+        return;
+    };
+    let made = database.apply(alloc, &change);
+    assert!(rt; made.is_ok() || made == Err(ChangeFault::Memory));
+    assert!(rt; database.len() == if made.is_ok() { 2 } else { 1 });
+    assert!(rt; database.get(&user).is_some() == made.is_ok());
+}
