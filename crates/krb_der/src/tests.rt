@@ -76,7 +76,8 @@ fn tells_the_first_fault(rt: HostRuntime) {
 fn goes_over_the_elements(rt: HostRuntime) -> Result<(), Fail> {
     let two: [u8; 7] = [0x1b, 1, 0x75, 4, 2, 1, 2];
     let mut items = Items::new(&two);
-    assert_eq!(rt; items.iter().count(), 2);
+    let again = items.iter().next().ok_or("a first element")?;
+    assert_eq!(rt; again, [0x1b, 1, 0x75].as_slice());
     let first = items.next().ok_or("a first element")?;
     assert_eq!(rt; first, [0x1b, 1, 0x75].as_slice());
     let second = items.next().ok_or("a second element")?;

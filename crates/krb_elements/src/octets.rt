@@ -47,7 +47,8 @@ impl Octets {
     pub fn into_vec(self) -> Vec<u8>
         ensures { result.items ≡ self }
     {
-        self.bytes
+        let Octets { bytes } = self;
+        bytes
     }
 }
 
@@ -75,7 +76,8 @@ impl<'a> OctetsRef<'a> {
     pub fn as_slice(&self) -> &'a [u8]
         ensures { result.now ≡ self.now }
     {
-        self.bytes
+        let OctetsRef { bytes } = self;
+        *bytes
     }
 
     pub fn copy(&self, alloc: Global) -> Result<Octets, AllocError>

@@ -53,7 +53,8 @@ impl KerberosString {
     pub fn into_vec(self) -> Vec<u8>
         ensures { result.items ≡ self }
     {
-        self.bytes
+        let KerberosString { bytes } = self;
+        bytes
     }
 }
 
@@ -81,7 +82,8 @@ impl<'a> KerberosStringRef<'a> {
     pub fn as_slice(&self) -> &'a [u8]
         ensures { result.now ≡ self.now }
     {
-        self.bytes
+        let KerberosStringRef { bytes } = self;
+        *bytes
     }
 
     pub fn copy(&self, alloc: Global) -> Result<KerberosString, AllocError>

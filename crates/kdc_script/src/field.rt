@@ -1,0 +1,144 @@
+//! The fields of a line.
+ghost use Rattle.std.specs.Prelude.{◌≡◌, ◌↔◌, ◌^◌, ◌<◌, ℕ, List, pos, IsSome, IfSome, IfOk, IfErr, IfNone};
+ghost use Rattle.std.specs.Str.Parse.{IsNumeral, digits_value};
+ghost use Rattle.std.specs.Result.{result_ok};
+ghost use Rattle.hex.specs.Hex.{decode_sized};
+ghost use Rattle.krb_fields.specs.Name.{Components};
+ghost use Rattle.krb_fields.specs.NameText.{IsNameText, IsComponentText};
+ghost use Rattle.kdc_script.specs.Field.{IsOctetsText, IsKeyText, IsKeysText};
+
+use crate::line::LineFault;
+use enctypes::{Etype, Key};
+use hex::FromHexError;
+use krb_elements::KerberosString;
+use krb_fields::{Moment, Name, NameFault, component_from_text};
+use principal_rows::{KeyList, KeyListFault, Limits};
+use std::alloc::Global;
+
+/// The most octets that a key has.
+const LONGEST_KEY: usize = 32;
+
+/// A decimal number: digits alone, of which the first may be zeros.
+pub(crate) fn number(text: &str) -> Option<u64>
+    ensures read { IsSome result ↔ (IsNumeral 10 text.now × (digits_value 10 text.now < 2 ^ 64)) }
+    ensures value { IfSome result (λ n. n ≡ digits_value 10 text.now) }
+{
+    // `parse` would take a plus in front
+    if let [b'+', ..] = text.as_bytes() {
+        return None;
+    }
+    text.parse::<u64>().ok()
+}
+
+pub(crate) fn number_u32(text: &str) -> Option<u32>
+    ensures read { IsSome result ↔ (IsNumeral 10 text.now × (digits_value 10 text.now < 2 ^ 32)) }
+    ensures value { IfSome result (λ n. n ≡ digits_value 10 text.now) }
+{
+    u32::try_from(number(text)?).ok()
+}
+
+/// A moment by its whole seconds since the start of 1970 and its microseconds.
+pub(crate) fn moment(sec: &str, usec: &str) -> Option<Moment>
+    ensures sec { IfSome result (λ at. IsNumeral 10 sec.now × (at.sec ≡ pos (digits_value 10 sec.now))) }
+    ensures usec { IfSome result (λ at. IsNumeral 10 usec.now × (at.usec ≡ digits_value 10 usec.now)) }
+{
+    let sec = i64::try_from(number(sec)?).ok()?;
+    Moment::new(sec, number_u32(usec)?)
+}
+
+/// The limits of a KDC, by five numbers.
+pub(crate) fn limits(numbers: &[&str]) -> Option<Limits> {
+    let [remembered, lock_after, lock_seconds, life, renewable] = numbers else {
+        return None;
+    };
+    Limits::new(
+        number_u32(remembered)?,
+        number_u32(lock_after)?,
+        number_u32(lock_seconds)?,
+        number_u32(life)?,
+        number_u32(renewable)?,
+    )
+}
+
+/// The KDC's 64 random octets for a request, as 128 hexadecimal digits.
+pub(crate) fn words(text: &str) -> Option<[u8; 64]>
+    ensures { result ≡ result_ok (decode_sized text.now 64) }
+{
+    let mut words = [0; 64];
+    hex::decode_to_slice(text, &mut words).ok()?;
+    Some(words)
+}
+
+/// Octets in hexadecimal, where `-` stands for none.
+pub(crate) fn octets(alloc: Global, text: &str) -> Result<Vec<u8>, LineFault>
+    ensures ok { IfOk result (λ octets. IsOctetsText octets.items text.now) }
+    ensures form { result ≡ Err LineFault.Form → (octets : List ℕ) → ¬ IsOctetsText octets text.now }
+{
+    if text == "-" {
+        return Ok(Vec::new(alloc));
+    }
+    if text.is_empty() {
+        return Err(LineFault::Form);
+    }
+    hex::decode(alloc, text).map_err(|error| match error {
+        FromHexError::OutOfMemory => LineFault::Memory,
+        _ => LineFault::Form,
+    })
+}
+
+/// The text of a realm is that of a name's one component.
+pub(crate) fn realm(alloc: Global, text: &str) -> Result<KerberosString, LineFault>
+    ensures ok { IfOk result (λ octets. IsComponentText octets text.now) }
+    ensures form { result ≡ Err LineFault.Form → (octets : List ℕ) → ¬ IsComponentText octets text.now }
+{
+    component_from_text(alloc, text).map_err(|fault| match fault {
+        NameFault::BadName => LineFault::Form,
+        NameFault::Memory => LineFault::Memory,
+    })
+}
+
+/// A principal's name; `None` for a text that is read as no name.
+pub(crate) fn name(alloc: Global, text: &str) -> Result<Option<Name>, LineFault>
+    ensures name { IfOk result (λ name. IfSome name (λ n. IsNameText n.components text.now)) }
+    ensures none { IfOk result (λ name. IfNone name ((n : Components) → ¬ IsNameText n text.now)) }
+    ensures memory { IfErr result (λ fault. fault ≡ LineFault.Memory) }
+{
+    match Name::from_text(alloc, text) {
+        Ok(name) => Ok(Some(name)),
+        Err(NameFault::BadName) => Ok(None),
+        Err(NameFault::Memory) => Err(LineFault::Memory),
+    }
+}
+
+/// Keys in the order of preference, joined by commas.
+pub(crate) fn keys(alloc: Global, text: &str) -> Result<KeyList, LineFault>
+    ensures { IfOk result (λ keys. IsKeysText keys text.now) }
+{
+    let mut keys = Vec::new(alloc);
+    for part in text.split(',') {
+        keys.push(key(part).ok_or(LineFault::Form)?)?;
+    }
+    key_list(alloc, &keys)
+}
+
+fn key_list(alloc: Global, keys: &[Key]) -> Result<KeyList, LineFault>
+    ensures { IfOk result (λ list. list ≡ keys.now) }
+{
+    match KeyList::new(alloc, keys) {
+        Ok(list) => Ok(list),
+        Err(KeyListFault::Empty | KeyListFault::Doubled) => Err(LineFault::Form),
+        Err(KeyListFault::Memory) => Err(LineFault::Memory),
+    }
+}
+
+/// A key: the number of its encryption type, a colon, and its octets in hexadecimal.
+fn key(text: &str) -> Option<Key>
+    ensures { IfSome result (λ key. IsKeyText key text.now) }
+{
+    let (etype, digits) = text.split_once(':')?;
+    let etype = Etype::from_number(i32::try_from(number(etype)?).ok()?)?;
+    let mut octets = [0; LONGEST_KEY];
+    let octets = octets.get_mut(..etype.key_len())?;
+    hex::decode_to_slice(digits, octets).ok()?;
+    Key::new(etype, octets)
+}

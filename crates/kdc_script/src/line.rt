@@ -1,0 +1,118 @@
+//! The lines of a script.
+ghost use Rattle.std.specs.Prelude.{◌≡◌};
+ghost use Rattle.kdc_script.specs.declared.line.LineFault.TheVariants.{Memory};
+
+use crate::field::{keys, limits, moment, name, number_u32, octets, realm, words};
+use krb_elements::KerberosString;
+use krb_fields::{Moment, Name};
+use principal_rows::{KeyList, Limits};
+use std::alloc::{AllocError, AllocFailed, Global};
+
+/// A line of a script.
+#[derive(Debug, Drop)]
+pub(crate) enum Line {
+    /// A new KDC, whose database has the ticket-granting service alone.
+    Open {
+        realm: KerberosString,
+        limits: Limits,
+        krbtgt_keys: KeyList,
+    },
+    /// A new principal; its name is `None` where the text is read as no name.
+    Add {
+        name: Option<Name>,
+        keys: KeyList,
+    },
+    Request(Request),
+}
+
+/// A request for the KDC.
+#[derive(Debug, Drop)]
+pub(crate) struct Request {
+    /// When it comes.
+    pub(crate) at: Moment,
+    /// The random octets for its answer.
+    pub(crate) words: [u8; 64],
+    /// The most octets of a reply with a ticket.
+    pub(crate) room: u32,
+    pub(crate) octets: Vec<u8>,
+}
+
+/// Why octets are read as no line.
+#[derive(Clone, Copy, Debug, PartialEq, Eq)]
+pub(crate) enum LineFault {
+    /// The line has another form, or a value is beyond its limit.
+    Form,
+    Memory,
+}
+
+impl From<AllocError> for LineFault {
+    ghost from_gives = { λ _ fault. fault ≡ Memory };
+
+    fn from(_: AllocError) -> LineFault {
+        LineFault::Memory
+    }
+}
+
+impl<T: Drop> From<AllocFailed<T>> for LineFault {
+    ghost from_gives = { λ _ fault. fault ≡ Memory };
+
+    fn from(_: AllocFailed<T>) -> LineFault {
+        LineFault::Memory
+    }
+}
+
+impl Line {
+    /// Reads a line, which comes without its line feed: fields of ASCII text, which single spaces separate.
+    pub(crate) fn parse(alloc: Global, octets: &[u8]) -> Result<Line, LineFault> {
+        let text = ascii_text(octets).ok_or(LineFault::Form)?;
+        let fields: Vec<&str> = text.split(' ').collect(alloc)?;
+        match fields.as_slice() {
+            ["open", fields @ ..] => parse_open(alloc, fields),
+            ["add", fields @ ..] => parse_add(alloc, fields),
+            ["request", fields @ ..] => parse_request(alloc, fields),
+            _ => Err(LineFault::Form),
+        }
+    }
+}
+
+fn ascii_text(octets: &[u8]) -> Option<&str> {
+    if octets.is_ascii() {
+        str::from_utf8(octets).ok()
+    } else {
+        None
+    }
+}
+
+fn parse_open(alloc: Global, fields: &[&str]) -> Result<Line, LineFault> {
+    let [realm_text, numbers @ .., keys_text] = fields else {
+        return Err(LineFault::Form);
+    };
+    let limits = limits(numbers).ok_or(LineFault::Form)?;
+    Ok(Line::Open {
+        realm: realm(alloc, realm_text)?,
+        limits,
+        krbtgt_keys: keys(alloc, keys_text)?,
+    })
+}
+
+fn parse_add(alloc: Global, fields: &[&str]) -> Result<Line, LineFault> {
+    let [name_text, keys_text] = fields else {
+        return Err(LineFault::Form);
+    };
+    Ok(Line::Add {
+        name: name(alloc, name_text)?,
+        keys: keys(alloc, keys_text)?,
+    })
+}
+
+fn parse_request(alloc: Global, fields: &[&str]) -> Result<Line, LineFault> {
+    let [sec, usec, words_text, room, octets_text] = fields else {
+        return Err(LineFault::Form);
+    };
+    Ok(Line::Request(Request {
+        at: moment(sec, usec).ok_or(LineFault::Form)?,
+        words: words(words_text).ok_or(LineFault::Form)?,
+        room: number_u32(room).ok_or(LineFault::Form)?,
+        octets: octets(alloc, octets_text)?,
+    }))
+}

@@ -1,0 +1,162 @@
+//! Runs of a script.
+ghost use Rattle.std.specs.Prelude.{◌≡◌, ◌⊎◌};
+ghost use Rattle.kdc_script.specs.declared.run.Stop.TheVariants.{Failed};
+
+use crate::answer::Answer;
+use crate::input::Input;
+use crate::line::{Line, LineFault, Request};
+use kdc_core::{Kdc, Opening};
+use krb_elements::KerberosString;
+use krb_fields::Name;
+use principal_rows::{KeyList, Limits};
+use principals::{Change, ChangeFault, Database, FirstFault};
+use std::alloc::{AllocError, Global};
+use std::io;
+use std::io::{Read, Write};
+
+/// The status of a run that came to the end of its input.
+pub const DONE: u8 = 0;
+
+/// The status of a run that a line of another form ended.
+pub const FAULT: u8 = 1;
+
+/// The status of a run that a failed read or write, or want of memory, ended.
+pub const FAILED: u8 = 3;
+
+/// Why a run ends before its input does.
+#[derive(Clone, Copy, Debug, PartialEq, Eq)]
+pub(crate) enum Stop {
+    /// The line that was read last has another form, or is beyond a limit.
+    Fault,
+    /// A failed read or write, or want of memory.
+    Failed,
+}
+
+impl From<io::Error> for Stop {
+    ghost from_gives = { λ _ stop. stop ≡ Failed };
+
+    fn from(_: io::Error) -> Stop {
+        Stop::Failed
+    }
+}
+
+impl From<AllocError> for Stop {
+    ghost from_gives = { λ _ stop. stop ≡ Failed };
+
+    fn from(_: AllocError) -> Stop {
+        Stop::Failed
+    }
+}
+
+impl From<LineFault> for Stop {
+    fn from(fault: LineFault) -> Stop {
+        match fault {
+            LineFault::Form => Stop::Fault,
+            LineFault::Memory => Stop::Failed,
+        }
+    }
+}
+
+/// Runs the script that a reader gives and prints its answers: `DONE`, `FAULT` or `FAILED`.
+pub fn run_script<R: Read + Drop, W: Write + Drop>(alloc: Global, reader: R, mut writer: W) -> u8
+    ensures { (result ≡ DONE) ⊎ ((result ≡ FAULT) ⊎ (result ≡ FAILED)) }
+{
+    let Ok(mut input) = Input::new(alloc, reader) else {
+        return FAILED;
+    };
+    match run_lines(alloc, &mut input, &mut writer) {
+        Ok(()) => DONE,
+        Err(Stop::Fault) => match print_fault(&mut writer, input.number()) {
+            Ok(()) => FAULT,
+            Err(_) => FAILED,
+        },
+        Err(Stop::Failed) => FAILED,
+    }
+}
+
+fn print_fault<W: Write>(writer: &mut W, number: usize) -> io::Result<()> {
+    writeln!(writer, "fault {number}")?;
+    writer.flush()
+}
+
+fn run_lines<R: Read + Drop, W: Write>(
+    alloc: Global,
+    input: &mut Input<R>,
+    writer: &mut W,
+) -> Result<(), Stop> {
+    let mut kdc = None;
+    let mut line = Vec::new(alloc);
+    while input.next_line(&mut line)? {
+        if !line.is_empty() {
+            let answer = run_line(alloc, &mut kdc, Line::parse(alloc, &line)?)?;
+            answer.print(alloc, writer)?;
+        }
+    }
+    writer.flush()?;
+    Ok(())
+}
+
+/// Runs one line on the KDC, which is there once a line has opened it.
+fn run_line(alloc: Global, kdc: &mut Option<Kdc>, line: Line) -> Result<Answer, Stop> {
+    match line {
+        Line::Open {
+            realm,
+            limits,
+            krbtgt_keys,
+        } => {
+            *kdc = Some(open(alloc, &realm, limits, krbtgt_keys)?);
+            Ok(Answer::Done)
+        }
+        Line::Add { name, keys } => add(alloc, kdc, name, keys),
+        Line::Request(request) => handle(alloc, kdc, &request),
+    }
+}
+
+fn open(
+    alloc: Global,
+    realm: &KerberosString,
+    limits: Limits,
+    krbtgt_keys: KeyList,
+) -> Result<Kdc, Stop> {
+    let database = match Database::first(alloc, realm.as_slice(), krbtgt_keys) {
+        Ok(database) => database,
+        Err(FirstFault::BadName) => return Err(Stop::Fault),
+        Err(FirstFault::Memory) => return Err(Stop::Failed),
+    };
+    Ok(Kdc::open(alloc, database, limits, Opening::First)?)
+}
+
+fn add(
+    alloc: Global,
+    kdc: &mut Option<Kdc>,
+    name: Option<Name>,
+    keys: KeyList,
+) -> Result<Answer, Stop> {
+    let Some(kdc) = kdc else {
+        return Err(Stop::Fault);
+    };
+    let Some(name) = name else {
+        return Ok(Answer::Refused(ChangeFault::BadName));
+    };
+    match kdc.apply(alloc, &Change::Add { name, keys }) {
+        Ok(()) => Ok(Answer::Done),
+        Err(ChangeFault::Memory) => Err(Stop::Failed),
+        Err(fault) => Ok(Answer::Refused(fault)),
+    }
+}
+
+fn handle(alloc: Global, kdc: &mut Option<Kdc>, request: &Request) -> Result<Answer, Stop> {
+    let Some(kdc) = kdc else {
+        return Err(Stop::Fault);
+    };
+    match kdc.handle(
+        alloc,
+        request.at,
+        &request.words,
+        request.room,
+        &request.octets,
+    )? {
+        Some(reply) => Ok(Answer::Reply(reply)),
+        None => Ok(Answer::NoReply),
+    }
+}

@@ -1,0 +1,43 @@
+//! The program of the KDC: `kdcd script` runs a script from standard input to standard output.
+#![tactic(auto)]
+
+use clap::error::{Error, ErrorKind};
+use clap::{ArgMatches, Command};
+use kdc_script::{FAILED, run_script};
+use std::alloc::Global;
+use std::process::ExitCode;
+use std::{env, io};
+
+/// The status of a fault of the command line.
+const USAGE: u8 = 2;
+
+fn main(rt: HostRuntime) -> ExitCode {
+    ExitCode::from(run(&rt).unwrap_or(FAILED))
+}
+
+/// The status of the program; an error is a failed write, or want of memory.
+fn run(rt: &HostRuntime) -> io::Result<u8> {
+    let alloc = rt.alloc();
+    let words: Vec<String> = env::args(rt)?.collect(alloc)?;
+    match parse(alloc, &words) {
+        Ok(matches) if matches.subcommand_name() == Some("script") => {
+            Ok(run_script(alloc, rt.stdin(), rt.stdout()))
+        }
+        Ok(_) => Ok(USAGE),
+        Err(error) if error.kind() == ErrorKind::OutOfMemory => Ok(FAILED),
+        Err(error) => {
+            error.print(rt)?;
+            Ok(if error.exit_code() == 0 { 0 } else { USAGE })
+        }
+    }
+}
+
+/// Reads the command line, the program's name in front.
+fn parse<'a>(alloc: Global, words: &'a [String]) -> Result<ArgMatches<'a>, Error> {
+    let script = Command::new(alloc, "script").about("Runs a script from standard input");
+    let kdcd = Command::new(alloc, "kdcd")
+        .about("A Kerberos KDC")
+        .subcommand_required(true)
+        .subcommand(script)?;
+    kdcd.try_get_matches_from(words)
+}
