@@ -1,2 +1,1 @@
 pub mod KeyTexts
-pub mod Numerals

@@ -1,6 +1,7 @@
-use Rattle.std.proofs.Common.{◌≡◌, ◌+◌, ◌∷◌, [], ◌++◌, length, length-append, take, lit<, sym, ap, subst, ◌∙◌, arith, IfSome}
+use Rattle.std.proofs.Common.{List, ◌≡◌, ◌+◌, ◌∷◌, [], ◌++◌, length, length-append, take, lit<, sym, subst, IfSome}
 use Rattle.std.proofs.lemmas.Iterator.Splits.{YieldsList-from_str_split}
 use Rattle.std.proofs.lemmas.Iterator.Consumers.{YieldsList-turn, YieldsList-end, YieldsList-at}
+use Rattle.enctypes.specs.declared.key.Key.{Key}
 use Rattle.kdc_script.specs.Field.{IsKeyText, AreKeyTexts, IsKeysText}
 use Rattle.kdc_script.proofs.KeyTexts.{parts_of, one_more_key, all_keys, same_list}
 use Rattle.kdc_script.proofs.field.keys.Goals as goal
@@ -12,7 +13,7 @@ loop-part-preserved c =
     let is : IsKeyText c.in_ok-ok_or.field-0 c.in-Some.part.now = subst (λ o. IfSome o (λ key. IsKeyText key c.in-Some.part.now)) c.in_ok-ok_or.ensures.ok_part c.key.ensures in
     let counted : length (c.loop-part.yielded ++ c.in-Some.part ∷ []) ≡ length c.loop-part.yielded + 1 = length-append _ _ in
     let more = one_more_key c.loop-part.keys.items c.in_ok-ok_or.field-0 c.args.text.now c.in-Some.part.now (length c.loop-part.yielded) c.loop-part.invariant turn.0 turn.1 is in
-    subst (λ ks. AreKeyTexts ks (take (length (c.loop-part.yielded ++ c.in-Some.part ∷ [])) (parts_of c.args.text.now))) (sym c.in_ok-push.ensures.items)
+    subst (λ ks. AreKeyTexts ks (take (length (c.loop-part.yielded ++ c.in-Some.part ∷ [])) (parts_of c.args.text.now))) (sym {A = List Key} c.in_ok-push.ensures.items)
     (subst (λ n. AreKeyTexts (c.loop-part.keys.items ++ c.in_ok-ok_or.field-0 ∷ []) (take n (parts_of c.args.text.now))) (sym counted) more)
 
 pub returns : goal.returns

@@ -1,0 +1,97 @@
+//! Measures the cryptography: `bench WORD` prints how many nanoseconds a call takes.
+#![tactic(auto)]
+
+ghost use Rattle.std.specs.Prelude.{◌<◌};
+
+use aes_cts::AesKey;
+use prf_kdf::{pbkdf2_sha1, pbkdf2_sha384};
+use std::process::ExitCode;
+use std::time::Instant;
+use std::{env, io};
+
+const USAGE: &str = "usage: bench block | cts | pbkdf2-sha1 | pbkdf2-sha384";
+
+/// The status of a fault of the command line.
+const FAULT: u8 = 2;
+
+/// What is measured.
+#[derive(Clone, Copy)]
+enum Work {
+    /// One block under a key of 32 octets.
+    Block,
+    /// A text of 512 octets with ciphertext stealing, under a key of 32 octets.
+    Cts,
+    /// A key of 32 octets by PBKDF2-HMAC-SHA-1 with 4,096 rounds.
+    Pbkdf2Sha1,
+    /// A key of 32 octets by PBKDF2-HMAC-SHA-384 with 32,768 rounds.
+    Pbkdf2Sha384,
+}
+
+impl Work {
+    fn named(word: &str) -> Option<Work> {
+        match word {
+            "block" => Some(Work::Block),
+            "cts" => Some(Work::Cts),
+            "pbkdf2-sha1" => Some(Work::Pbkdf2Sha1),
+            "pbkdf2-sha384" => Some(Work::Pbkdf2Sha384),
+            _ => None,
+        }
+    }
+
+    /// How many calls are measured together.
+    fn calls(self) -> u32
+        ensures { 0 < result }
+    {
+        match self {
+            Work::Block => 100_000,
+            Work::Cts => 5_000,
+            Work::Pbkdf2Sha1 => 50,
+            Work::Pbkdf2Sha384 => 5,
+        }
+    }
+
+    /// Works so often, each call on what the one before left.
+    fn run(self, key: &AesKey, text: &mut [u8; 512]) {
+        for _ in 0..self.calls() {
+            match self {
+                Work::Block => encrypt_front(key, text),
+                Work::Cts => key.cts_encrypt(&[0; 16], text),
+                Work::Pbkdf2Sha1 => pbkdf2_sha1(b"password", b"salt", 4_096, &mut text[..32]),
+                Work::Pbkdf2Sha384 => pbkdf2_sha384(b"password", b"salt", 32_768, &mut text[..32]),
+            }
+        }
+    }
+}
+
+/// Enciphers the first block of a text.
+fn encrypt_front(key: &AesKey, text: &mut [u8; 512]) {
+    let mut block = [0; 16];
+    block.copy_from_slice(&text[..16]);
+    text[..16].copy_from_slice(&key.encrypt_block(&block));
+}
+
+fn main(rt: HostRuntime) -> io::Result<ExitCode> {
+    let words: Vec<String> = env::args(&rt)?.collect(rt.alloc())?;
+    let work = match words.as_slice() {
+        [_, word] => Work::named(word.as_str()),
+        _ => None,
+    };
+    let Some(work) = work else {
+        println!(rt; "{USAGE}")?;
+        return Ok(if words.len() < 2 {
+            ExitCode::SUCCESS
+        } else {
+            ExitCode::from(FAULT)
+        });
+    };
+    let Some(key) = AesKey::new(&[7; 32]) else {
+        return Ok(ExitCode::from(FAULT));
+    };
+    let mut text = [0; 512];
+    let start = Instant::now(&rt)?;
+    work.run(&key, &mut text);
+    let nanoseconds = start.elapsed(&rt)?.as_nanos() / u128::from(work.calls());
+    let last = text[0];
+    println!(rt; "{nanoseconds} ns a call (the last octet is {last})")?;
+    Ok(ExitCode::SUCCESS)
+}
