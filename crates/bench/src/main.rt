@@ -4,12 +4,15 @@
 ghost use Rattle.std.specs.Prelude.{◌<◌};
 
 use aes_cts::AesKey;
+use enctypes::{Etype, Key, KeyUsage, open, seal, string_to_key};
 use prf_kdf::{pbkdf2_sha1, pbkdf2_sha384};
+use std::alloc::{AllocError, Global};
 use std::process::ExitCode;
 use std::time::Instant;
 use std::{env, io};
 
-const USAGE: &str = "usage: bench block | cts | pbkdf2-sha1 | pbkdf2-sha384";
+const USAGE: &str =
+    "usage: bench block | cts | pbkdf2-sha1 | pbkdf2-sha384 | seal-TYPE | string-TYPE, for TYPE 17 to 20";
 
 /// The status of a fault of the command line.
 const FAULT: u8 = 2;
@@ -25,6 +28,10 @@ enum Work {
     Pbkdf2Sha1,
     /// A key of 32 octets by PBKDF2-HMAC-SHA-384 with 32,768 rounds.
     Pbkdf2Sha384,
+    /// A text of 256 octets sealed under a key of the type, and opened.
+    Seal(Etype),
+    /// A password's key of the type, with the type's count of iterations.
+    StringToKey(Etype),
 }
 
 impl Work {
@@ -34,6 +41,14 @@ impl Work {
             "cts" => Some(Work::Cts),
             "pbkdf2-sha1" => Some(Work::Pbkdf2Sha1),
             "pbkdf2-sha384" => Some(Work::Pbkdf2Sha384),
+            "seal-17" => Some(Work::Seal(Etype::Aes128CtsHmacSha1_96)),
+            "seal-18" => Some(Work::Seal(Etype::Aes256CtsHmacSha1_96)),
+            "seal-19" => Some(Work::Seal(Etype::Aes128CtsHmacSha256_128)),
+            "seal-20" => Some(Work::Seal(Etype::Aes256CtsHmacSha384_192)),
+            "string-17" => Some(Work::StringToKey(Etype::Aes128CtsHmacSha1_96)),
+            "string-18" => Some(Work::StringToKey(Etype::Aes256CtsHmacSha1_96)),
+            "string-19" => Some(Work::StringToKey(Etype::Aes128CtsHmacSha256_128)),
+            "string-20" => Some(Work::StringToKey(Etype::Aes256CtsHmacSha384_192)),
             _ => None,
         }
     }
@@ -44,22 +59,25 @@ impl Work {
     {
         match self {
             Work::Block => 100_000,
-            Work::Cts => 5_000,
+            Work::Cts | Work::Seal(_) => 5_000,
             Work::Pbkdf2Sha1 => 50,
-            Work::Pbkdf2Sha384 => 5,
+            Work::Pbkdf2Sha384 | Work::StringToKey(_) => 5,
         }
     }
 
     /// Works so often, each call on what the one before left.
-    fn run(self, key: &AesKey, text: &mut [u8; 512]) {
+    fn run(self, alloc: Global, key: &AesKey, text: &mut [u8; 512]) -> Result<(), AllocError> {
         for _ in 0..self.calls() {
             match self {
                 Work::Block => encrypt_front(key, text),
                 Work::Cts => key.cts_encrypt(&[0; 16], text),
                 Work::Pbkdf2Sha1 => pbkdf2_sha1(b"password", b"salt", 4_096, &mut text[..32]),
                 Work::Pbkdf2Sha384 => pbkdf2_sha384(b"password", b"salt", 32_768, &mut text[..32]),
+                Work::Seal(etype) => seal_and_open(alloc, etype, text)?,
+                Work::StringToKey(etype) => derive_key(alloc, etype, text)?,
             }
         }
+        Ok(())
     }
 }
 
@@ -68,6 +86,27 @@ fn encrypt_front(key: &AesKey, text: &mut [u8; 512]) {
     let mut block = [0; 16];
     block.copy_from_slice(&text[..16]);
     text[..16].copy_from_slice(&key.encrypt_block(&block));
+}
+
+/// Seals the front of a text, opens it, and changes the text's first octet by what came out.
+fn seal_and_open(alloc: Global, etype: Etype, text: &mut [u8; 512]) -> Result<(), AllocError> {
+    let key = Key::from_random(etype, &[7; 32]);
+    let sealed = seal(alloc, &key, KeyUsage::Ticket, &[7; 16], &text[..256])?;
+    let opened = open(alloc, &key, KeyUsage::Ticket, &sealed)?;
+    text[0] ^= last_of(&sealed) ^ opened.map_or(0, |opened| last_of(&opened));
+    Ok(())
+}
+
+/// Derives a key, with the text's first octet as the password, and puts the key's last one in its place.
+fn derive_key(alloc: Global, etype: Etype, text: &mut [u8; 512]) -> Result<(), AllocError> {
+    let count = etype.default_count();
+    let key = string_to_key(alloc, etype, &[text[0]], b"ATHENA.MIT.EDUraeburn", count)?;
+    text[0] = last_of(key.bytes());
+    Ok(())
+}
+
+fn last_of(octets: &[u8]) -> u8 {
+    octets.last().copied().unwrap_or(0)
 }
 
 fn main(rt: HostRuntime) -> io::Result<ExitCode> {
@@ -89,7 +128,7 @@ fn main(rt: HostRuntime) -> io::Result<ExitCode> {
     };
     let mut text = [0; 512];
     let start = Instant::now(&rt)?;
-    work.run(&key, &mut text);
+    work.run(rt.alloc(), &key, &mut text)?;
     let nanoseconds = start.elapsed(&rt)?.as_nanos() / u128::from(work.calls());
     let last = text[0];
     println!(rt; "{nanoseconds} ns a call (the last octet is {last})")?;

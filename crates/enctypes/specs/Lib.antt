@@ -1,2 +1,7 @@
 pub mod Etype
 pub mod Key
+pub mod KeyUsage
+pub mod Mac
+pub mod Derivation
+pub mod Sealing
+pub mod Suite

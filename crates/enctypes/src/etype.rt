@@ -1,6 +1,10 @@
 //! The four encryption types, by the numbers that IANA assigned to them.
-ghost use Rattle.std.specs.Prelude.{◌≡◌, ◌≢◌, IfSome, IfNone};
-ghost use Rattle.enctypes.specs.Etype.{number, key_len};
+ghost use Rattle.std.specs.Prelude.{◌≡◌, ◌≢◌, ◌≤◌, IfSome, IfNone};
+ghost use Rattle.enctypes.specs.Etype.{number, key_len, mac_len, checksum_type, default_count};
+
+use crate::sha2_profile::{Aes128Sha2, Aes256Sha2};
+use crate::simplified::{Aes128Sha1, Aes256Sha1};
+use crate::suite::Suite;
 
 /// An encryption type of RFC 3962 or RFC 8009.
 #[derive(Debug, Clone, Copy, PartialEq, Eq)]
@@ -49,6 +53,46 @@ impl Etype {
         match self {
             Etype::Aes128CtsHmacSha1_96 | Etype::Aes128CtsHmacSha256_128 => 16,
             Etype::Aes256CtsHmacSha1_96 | Etype::Aes256CtsHmacSha384_192 => 32,
+        }
+    }
+
+    /// How many octets of HMAC end a text sealed under the type, and a checksum of the type has.
+    pub fn mac_len(self) -> usize
+        ensures value { result ≡ mac_len self }
+        ensures most { result ≤ 24 }
+    {
+        match self {
+            Etype::Aes128CtsHmacSha1_96 => Aes128Sha1::MAC_LEN,
+            Etype::Aes256CtsHmacSha1_96 => Aes256Sha1::MAC_LEN,
+            Etype::Aes128CtsHmacSha256_128 => Aes128Sha2::MAC_LEN,
+            Etype::Aes256CtsHmacSha384_192 => Aes256Sha2::MAC_LEN,
+        }
+    }
+
+    /// The number of the checksum type that goes with the type (RFC 3962 section 7, RFC 8009
+    /// section 6).
+    pub fn checksum_type(self) -> i32
+        ensures { result ≡ checksum_type self }
+    {
+        match self {
+            Etype::Aes128CtsHmacSha1_96 => Aes128Sha1::CHECKSUM_TYPE,
+            Etype::Aes256CtsHmacSha1_96 => Aes256Sha1::CHECKSUM_TYPE,
+            Etype::Aes128CtsHmacSha256_128 => Aes128Sha2::CHECKSUM_TYPE,
+            Etype::Aes256CtsHmacSha384_192 => Aes256Sha2::CHECKSUM_TYPE,
+        }
+    }
+
+    /// The count of iterations of string-to-key where parameters name none (RFC 3962 section 4, RFC
+    /// 8009 section 4).
+    pub fn default_count(self) -> u32
+        ensures value { result ≡ default_count self }
+        ensures some { 1 ≤ result }
+    {
+        match self {
+            Etype::Aes128CtsHmacSha1_96 => Aes128Sha1::DEFAULT_COUNT,
+            Etype::Aes256CtsHmacSha1_96 => Aes256Sha1::DEFAULT_COUNT,
+            Etype::Aes128CtsHmacSha256_128 => Aes128Sha2::DEFAULT_COUNT,
+            Etype::Aes256CtsHmacSha384_192 => Aes256Sha2::DEFAULT_COUNT,
         }
     }
 }

@@ -1,13 +1,13 @@
 //! Protocol keys (RFC 3961 section 3; RFC 4120 section 5.2.9, EncryptionKey).
-ghost use Rattle.std.specs.Prelude.{◌≡◌, ◌↔◌, length, IsSome, IfSome};
+ghost use Rattle.std.specs.Prelude.{◌≡◌, ◌↔◌, length, take, IsSome, IfSome};
 ghost use Rattle.enctypes.specs.Etype.{key_len};
 
 use crate::Etype;
 use std::fmt;
 use std::marker::Model;
 
-/// The most octets that a key has.
-const LONGEST: usize = 32;
+/// The most octets that a protocol key or a derived key has.
+pub const LONGEST: usize = 32;
 
 /// A key of one encryption type, with as many octets as the type's keys have.
 ///
@@ -45,12 +45,25 @@ impl Key {
         if bytes.len() != etype.key_len() {
             return None;
         }
-        let mut padded = [0; LONGEST];
-        padded[..bytes.len()].copy_from_slice(bytes);
-        Some(Key {
-            etype,
-            bytes: padded,
-        })
+        Some(Key::with_octets(etype, bytes))
+    }
+
+    /// The key of random octets: the first ones, as many as the type's keys have (RFC 3962 section
+    /// 6, RFC 8009 section 5: random bits are a key as they are).
+    pub fn from_random(etype: Etype, octets: &[u8; 32]) -> Key
+        ensures { result ≡ record { etype = etype; bytes = take (key_len etype) octets.now } }
+    {
+        Key::with_octets(etype, &octets[..etype.key_len()])
+    }
+
+    // The key with these octets, as many as the type's keys have.
+    pub(crate) fn with_octets(etype: Etype, octets: &[u8]) -> Key
+        requires { length octets.now ≡ key_len etype }
+        ensures { result ≡ record { etype = etype; bytes = octets.now } }
+    {
+        let mut bytes = [0; LONGEST];
+        bytes[..octets.len()].copy_from_slice(octets);
+        Key { etype, bytes }
     }
 
     pub fn etype(&self) -> Etype

@@ -1,40 +1,60 @@
+//! The standards' vectors, and values of an independent implementation over Python's hashlib and
+//! cryptography.
+
+ghost use Rattle.std.specs.Prelude.{◌≡◌};
+
+mod keys;
+mod passwords;
+mod sealing;
+mod types;
+
 use crate::{Etype, Key};
 
-#[test]
-fn numbers_are_those_that_iana_assigned(rt: HostRuntime) {
-    for (etype, number, key_len) in [
-        (Etype::Aes128CtsHmacSha1_96, 17, 16),
-        (Etype::Aes256CtsHmacSha1_96, 18, 32),
-        (Etype::Aes128CtsHmacSha256_128, 19, 16),
-        (Etype::Aes256CtsHmacSha384_192, 20, 32),
-    ] {
-        assert!(rt; etype.number() == number);
-        assert!(rt; Etype::from_number(number) == Some(etype));
-        assert!(rt; etype.key_len() == key_len);
-    }
-    for number in [i32::MIN, -17, 0, 16, 21, 23, i32::MAX] {
-        assert!(rt; Etype::from_number(number).is_none());
+/// A usage of many of the rows: number 2.
+pub const USAGE: crate::KeyUsage = crate::KeyUsage::Ticket;
+
+/// The octets that RFC 8009 appendix A seals parts of.
+pub const TEXT: [u8; 21] = [
+    0, 1, 2, 3, 4, 5, 6, 7, 8, 9, 10, 11, 12, 13, 14, 15, 16, 17, 18, 19, 20,
+];
+
+/// The base keys of RFC 8009 appendix A; the shorter one is followed by octets that no key of 16
+/// octets has.
+const BASE_128: [u8; 32] = [
+    0x37, 0x05, 0xd9, 0x60, 0x80, 0xc1, 0x77, 0x28, 0xa0, 0xe8, 0x00, 0xea, 0xb6, 0xe0, 0xd2, 0x3c,
+    0xff, 0xff, 0xff, 0xff, 0xff, 0xff, 0xff, 0xff, 0xff, 0xff, 0xff, 0xff, 0xff, 0xff, 0xff, 0xff,
+];
+
+const BASE_256: [u8; 32] = [
+    0x6d, 0x40, 0x4d, 0x37, 0xfa, 0xf7, 0x9f, 0x9d, 0xf0, 0xd3, 0x35, 0x68, 0xd3, 0x20, 0x66, 0x98,
+    0x00, 0xeb, 0x48, 0x36, 0x47, 0x2e, 0xa8, 0xa0, 0x26, 0xd1, 0x6b, 0x71, 0x82, 0x46, 0x0c, 0x52,
+];
+
+/// The base key with as many octets as the type's keys have.
+pub fn base_key(etype: Etype) -> Key
+    ensures { result.etype ≡ etype }
+{
+    match etype {
+        Etype::Aes128CtsHmacSha1_96 | Etype::Aes128CtsHmacSha256_128 => {
+            Key::from_random(etype, &BASE_128)
+        }
+        Etype::Aes256CtsHmacSha1_96 | Etype::Aes256CtsHmacSha384_192 => {
+            Key::from_random(etype, &BASE_256)
+        }
     }
 }
 
-#[test]
-fn a_key_has_its_types_length(rt: HostRuntime) {
-    let octets = [7; 33];
-    for etype in [Etype::Aes128CtsHmacSha1_96, Etype::Aes256CtsHmacSha384_192] {
-        let len = etype.key_len();
-        let key = Key::new(etype, &octets[..len]);
-        assert!(rt; key.is_some_and(|key| key.etype() == etype && key.bytes() == &octets[..len]));
-        assert!(rt; Key::new(etype, &octets[..len - 1]).is_none());
-        assert!(rt; Key::new(etype, &octets[..len + 1]).is_none());
+/// Whether the hexadecimal text spells the octets.
+pub fn in_hex(octets: &[u8], hex: &[u8]) -> bool {
+    const DIGITS: &[u8; 16] = b"0123456789abcdef";
+    if hex.len() != 2 * octets.len() {
+        return false;
     }
-}
-
-#[test]
-fn a_printed_key_shows_no_octets(rt: HostRuntime) {
-    let key = Key::new(Etype::Aes128CtsHmacSha1_96, &[7; 16]);
-    let printed = format!(in rt.alloc(); "{key:?}").expect(&rt, "memory");
-    assert_eq!(rt;
-        printed.as_str(),
-        "Some(Key { etype: Aes128CtsHmacSha1_96, .. })"
-    );
+    for i in 0..octets.len() {
+        let octet = octets[i] as usize;
+        if hex[2 * i] != DIGITS[octet / 16] || hex[2 * i + 1] != DIGITS[octet % 16] {
+            return false;
+        }
+    }
+    true
 }

@@ -1,5 +1,5 @@
 -- What a key distribution centre answers, made from its view of the state alone.
-use Rattle.std.specs.Prelude.{ℕ, pos, List, Option, Some, None}
+use Rattle.std.specs.Prelude.{ℕ, List, Option, Some, None}
 use Rattle.std.specs.Option.{unwrap_or}
 use Rattle.std.specs.FinMap as map
 use Rattle.krb_fields.specs.declared.code.Code.{Code}
@@ -10,15 +10,11 @@ use Rattle.krb_fields.specs.Name.{Components}
 use Rattle.krb_types.specs.declared.kdc_req.KdcReq.{KdcReq}
 use Rattle.krb_types.specs.declared.krb_error.KrbError.{KrbError}
 use Rattle.krb_types.specs.KrbError.{written_krb_error}
-use Rattle.principals.specs.Database.{ticket_granter}
+use Rattle.principals.specs.Database.{granter_name}
 use Rattle.kdc_state.specs.declared.memory.Memory.{Memory}
 use Rattle.kdc_state.specs.declared.state.State.{State}
 use Rattle.kdc_state.specs.View.{View, request_of, view, named}
 use Rattle.kdc_core.specs.Rules.{refusal}
-
--- the ticket-granting service, of name-type NT-SRV-INST (RFC 4120, section 7.3)
-abbrev pub granter_name : List ℕ → Name
-granter_name realm = record { name_type = pos 2; components = ticket_granter realm }
 
 -- KRB-ERROR (RFC 4120, section 5.9.1): the moment, the code, our realm, and the service asked for, else the ticket-granting service
 abbrev pub krb_error : List ℕ → Moment → Code → Option Name → KrbError

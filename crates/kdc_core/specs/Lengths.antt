@@ -17,7 +17,8 @@ use Rattle.krb_fields.specs.declared.name.Name.{Name}
 use Rattle.krb_fields.specs.Code.{number_of}
 use Rattle.krb_fields.specs.PrincipalName.{name_text}
 use Rattle.krb_types.specs.KrbError.{krb_error_text, krb_error_fields, later_text}
-use Rattle.kdc_core.specs.Answer.{krb_error, granter_name}
+use Rattle.principals.specs.Database.{granter_name}
+use Rattle.kdc_core.specs.Answer.{krb_error}
 
 -- a length takes five octets at most
 length_octets_short : (n : ℕ) → length (length_octets n) ≤ 5

@@ -3,16 +3,14 @@ ghost use Rattle.std.specs.Prelude.{◌≡◌, ◌<◌, ◌≤◌, length, pos, 
 ghost use Rattle.std.specs.Option.{option_copied};
 ghost use Rattle.krb_fields.specs.PrincipalName.{name_text};
 ghost use Rattle.krb_types.specs.KrbError.{written_krb_error};
-ghost use Rattle.kdc_core.specs.Answer.{granter_name, krb_error};
+ghost use Rattle.kdc_core.specs.Answer.{krb_error};
 
 use krb_der::KTime;
-use krb_elements::{KerberosString, Microseconds, Seq};
-use krb_fields::{Code, Moment, Name, NameRef};
+use krb_elements::{KerberosString, Microseconds};
+use krb_fields::{Code, Moment, NameRef};
 use krb_types::{KrbError, encode_krb_error};
+use principals::granter_name;
 use std::alloc::{AllocError, Global};
-
-/// NT-SRV-INST: a service and its instance (RFC 4120, section 6.2).
-const NT_SRV_INST: i32 = 2;
 
 /// The octets of the error with this code for who asked for this service.
 #[tactic(auto, using(crate::specs::Lengths::error_short))]
@@ -67,17 +65,4 @@ fn time_of(at: Moment) -> KTime
         unreachable!()
     };
     time
-}
-
-/// The name of the ticket-granting service.
-fn granter_name(alloc: Global, realm: &[u8]) -> Result<Name, AllocError>
-    ensures { IfOk result (λ name. name ≡ granter_name realm.now) }
-{
-    let mut components = Seq::new(alloc);
-    components.push(KerberosString::from_slice(alloc, b"krbtgt")?)?;
-    components.push(KerberosString::from_slice(alloc, realm)?)?;
-    Ok(Name {
-        name_type: NT_SRV_INST,
-        components,
-    })
 }

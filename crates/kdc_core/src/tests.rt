@@ -153,3 +153,39 @@ fn adds_a_row_once(rt: HostRuntime) -> Result<(), Fail> {
     assert_eq!(rt; kdc.apply(alloc, &add), Err(ChangeFault::Exists));
     Ok(())
 }
+
+// Passes whichever allocation of the call is refused.
+#[test]
+fn a_request_without_memory_is_answered_when_it_comes_again(rt: HostRuntime) -> Result<(), Fail> {
+    let alloc = rt.alloc();
+    let mut kdc = kdc(alloc)?;
+    let request = octets(alloc, BASIC)?;
+    let error = octets(alloc, CLIENT_UNKNOWN)?;
+    let at = Moment::new(MIDNIGHT, 0).ok_or("a moment")?;
+    let mut reply = kdc.handle(alloc, at, &[0; 64], 1400, &request);
+    if reply.is_err() {
+        reply = kdc.handle(alloc, at, &[0; 64], 1400, &request);
+    }
+    assert!(rt; reply.is_ok_and(|reply| reply == Some(error)));
+    Ok(())
+}
+
+// Passes whichever allocation of the first change is refused.
+#[test]
+fn a_change_without_memory_leaves_the_kdc(rt: HostRuntime) -> Result<(), Fail> {
+    let alloc = rt.alloc();
+    let mut kdc = kdc(alloc)?;
+    let add = Change::Add {
+        name: name(alloc, &[b"u"])?,
+        keys: keys(alloc)?,
+    };
+    let again = match kdc.apply(alloc, &add) {
+        Ok(()) => Err(ChangeFault::Exists),
+        Err(fault) => {
+            assert_eq!(rt; fault, ChangeFault::Memory);
+            Ok(())
+        }
+    };
+    assert_eq!(rt; kdc.apply(alloc, &add), again);
+    Ok(())
+}

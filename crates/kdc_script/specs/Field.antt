@@ -1,20 +1,50 @@
 -- The fields of a script's line, each with the texts that spell it.
-use Rattle.std.specs.Prelude.{◌≡◌, ◌==◌, ℕ, ◌<◌, pos, List, [], ◌∷◌, length, Ok, ◌⊎◌, codes}
-use Rattle.std.specs.List.{before_first, after_first, slice_split}
+use Rattle.std.specs.Prelude.{◌≡◌, ◌==◌, ℕ, ◌<◌, ◌≤◌, ◌^◌, pos, false, List, [], ◌∷◌, length, Ok, ◌⊎◌, codes}
+use Rattle.std.specs.List.{before_first, after_first, slice_split, position_or_len}
 use Rattle.std.specs.Str.Parse.{IsNumeral, digits_value}
-use Rattle.hex.specs.Hex.{decode_of}
+use Rattle.hex.specs.Hex.{decode_of, decode_sized}
 use Rattle.enctypes.specs.declared.key.Key.{Key}
-use Rattle.enctypes.specs.Etype.{number}
+use Rattle.enctypes.specs.Etype.{number, key_len}
+use Rattle.krb_fields.specs.declared.moment.Moment.{Moment}
+use Rattle.krb_fields.specs.Moment.{IsSecond, IsMicrosecond}
+use Rattle.principal_rows.specs.KeyList.{has_type_twice}
+use Rattle.principal_rows.specs.declared.limits.Limits.{Limits}
+
+-- a number is its decimal digits, perhaps with zeros in front
+abbrev pub IsNumberText : ℕ → List ℕ → Type 0
+IsNumberText n text = IsNumeral 10 text × (digits_value 10 text ≡ n)
+
+-- a moment is its whole seconds since 1970 and its microseconds
+pub record IsMomentText (at : Moment) (sec_text usec_text : List ℕ) : Type 0 where
+  pub sec_numeral : IsNumeral 10 sec_text
+  pub sec : at.sec ≡ pos (digits_value 10 sec_text)
+  pub sec_fits : IsSecond at.sec
+  pub usec : IsNumberText at.usec usec_text
+  pub usec_fits : IsMicrosecond at.usec
+
+-- a number of 32 bits
+abbrev pub IsU32Text : ℕ → List ℕ → Type 0
+IsU32Text n text = IsNumberText n text × (n < 2 ^ 32)
+
+-- the limits are five numbers; from 1 to 65536 authenticators are remembered
+abbrev pub AreLimitsTexts : Limits → List (List ℕ) → Type 0
+AreLimitsTexts limits (remembered ∷ lock_after ∷ lock_seconds ∷ life ∷ renewable ∷ []) =
+    IsU32Text limits.remembered remembered × IsU32Text limits.lock_after lock_after × IsU32Text limits.lock_seconds lock_seconds
+    × IsU32Text limits.greatest_life life × IsU32Text limits.greatest_renewable renewable
+    × (1 ≤ limits.remembered) × (limits.remembered ≤ 65536)
+AreLimitsTexts limits texts = ⊥
 
 -- no octets are `-`, and others their hexadecimal, in either case
 abbrev pub IsOctetsText : List ℕ → List ℕ → Type 0
 IsOctetsText octets text = ((text ≡ codes "-") × (octets ≡ [])) ⊎ ((0 < length text) × (decode_of text ≡ Ok octets))
 
--- a key is the number of its encryption type, a colon (3A), and its octets in hexadecimal, in either case
+-- a key is the number of its encryption type, a colon (3A), and its octets in hexadecimal, in either case: as many as
+-- the type's keys have
 pub record IsKeyText (key : Key) (text : List ℕ) : Type 0 where
+  pub colon : position_or_len (λ b. b == 0x3A) text < length text
   pub numeral : IsNumeral 10 (before_first (λ b. b == 0x3A) text)
   pub etype : number key.etype ≡ pos (digits_value 10 (before_first (λ b. b == 0x3A) text))
-  pub octets : decode_of (after_first (λ b. b == 0x3A) text) ≡ Ok key.bytes
+  pub octets : decode_sized (after_first (λ b. b == 0x3A) text) (key_len key.etype) ≡ Ok key.bytes
 
 -- each key is that of the text in its place
 abbrev pub AreKeyTexts : List Key → List (List ℕ) → Type 0
@@ -23,6 +53,7 @@ AreKeyTexts (k ∷ ks) (t ∷ ts) = IsKeyText k t × AreKeyTexts ks ts
 AreKeyTexts [] (t ∷ ts) = ⊥
 AreKeyTexts (k ∷ ks) [] = ⊥
 
--- keys are joined by commas (2C), in their order
-abbrev pub IsKeysText : List Key → List ℕ → Type 0
-IsKeysText keys text = AreKeyTexts keys (slice_split (λ b. b == 0x2C) text)
+-- keys are joined by commas (2C), in their order, and no encryption type stands twice
+pub record IsKeysText (keys : List Key) (text : List ℕ) : Type 0 where
+  pub parts : AreKeyTexts keys (slice_split (λ b. b == 0x2C) text)
+  pub distinct : has_type_twice keys ≡ false

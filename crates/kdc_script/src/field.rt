@@ -1,11 +1,15 @@
 //! The fields of a line.
-ghost use Rattle.std.specs.Prelude.{◌≡◌, ◌↔◌, ◌^◌, ◌<◌, ℕ, List, pos, IsSome, IfSome, IfOk, IfErr, IfNone};
+ghost use Rattle.std.specs.Prelude.{◌≡◌, ◌↔◌, ◌⊎◌, ◌^◌, ◌<◌, ℕ, true, false, List, [], map, IsSome, IfSome, IfOk, IfErr, IfNone};
 ghost use Rattle.std.specs.Str.Parse.{IsNumeral, digits_value};
 ghost use Rattle.std.specs.Result.{result_ok};
 ghost use Rattle.hex.specs.Hex.{decode_sized};
 ghost use Rattle.krb_fields.specs.Name.{Components};
 ghost use Rattle.krb_fields.specs.NameText.{IsNameText, IsComponentText};
-ghost use Rattle.kdc_script.specs.Field.{IsOctetsText, IsKeyText, IsKeysText};
+ghost use Rattle.enctypes.specs.declared.key.Key as typed;
+ghost use Rattle.krb_fields.specs.declared.moment.Moment as moments;
+ghost use Rattle.principal_rows.specs.KeyList.{has_type_twice};
+ghost use Rattle.principal_rows.specs.declared.limits.Limits as ranges;
+ghost use Rattle.kdc_script.specs.Field.{IsMomentText, AreLimitsTexts, IsOctetsText, IsKeyText, IsKeysText};
 
 use crate::line::LineFault;
 use enctypes::{Etype, Key};
@@ -39,18 +43,19 @@ pub(crate) fn number_u32(text: &str) -> Option<u32>
 
 /// A moment by its whole seconds since the start of 1970 and its microseconds.
 pub(crate) fn moment(sec: &str, usec: &str) -> Option<Moment>
-    ensures sec { IfSome result (λ at. IsNumeral 10 sec.now × (at.sec ≡ pos (digits_value 10 sec.now))) }
-    ensures usec { IfSome result (λ at. IsNumeral 10 usec.now × (at.usec ≡ digits_value 10 usec.now)) }
+    ensures read { IfSome result (λ at. IsMomentText at sec.now usec.now) }
+    ensures none { IfNone result ((at : moments.Moment) → ¬ IsMomentText at sec.now usec.now) }
 {
     let sec = i64::try_from(number(sec)?).ok()?;
     Moment::new(sec, number_u32(usec)?)
 }
 
 /// The limits of a KDC, by five numbers.
-pub(crate) fn limits(numbers: &[&str]) -> Option<Limits> {
-    let [remembered, lock_after, lock_seconds, life, renewable] = numbers else {
-        return None;
-    };
+pub(crate) fn limits(texts: [&str; 5]) -> Option<Limits>
+    ensures read { IfSome result (λ limits. AreLimitsTexts limits (map (λ text. text.now) texts.entry)) }
+    ensures none { IfNone result ((limits : ranges.Limits) → ¬ AreLimitsTexts limits (map (λ text. text.now) texts.entry)) }
+{
+    let [remembered, lock_after, lock_seconds, life, renewable] = texts;
     Limits::new(
         number_u32(remembered)?,
         number_u32(lock_after)?,
@@ -112,17 +117,23 @@ pub(crate) fn name(alloc: Global, text: &str) -> Result<Option<Name>, LineFault>
 
 /// Keys in the order of preference, joined by commas.
 pub(crate) fn keys(alloc: Global, text: &str) -> Result<KeyList, LineFault>
-    ensures { IfOk result (λ keys. IsKeysText keys text.now) }
+    ensures ok { IfOk result (λ keys. IsKeysText keys text.now) }
+    ensures form { result ≡ Err LineFault.Form → (list : List typed.Key) → ¬ IsKeysText list text.now }
 {
     let mut keys = Vec::new(alloc);
     for part in text.split(',') {
-        keys.push(key(part).ok_or(LineFault::Form)?)?;
+        let Some(key) = key(part) else {
+            return Err(LineFault::Form);
+        };
+        keys.push(key)?;
     }
     key_list(alloc, &keys)
 }
 
 fn key_list(alloc: Global, keys: &[Key]) -> Result<KeyList, LineFault>
-    ensures { IfOk result (λ list. list ≡ keys.now) }
+    ensures list { IfOk result (λ list. list ≡ keys.now) }
+    ensures distinct { IfOk result (λ _. has_type_twice keys.now ≡ false) }
+    ensures form { result ≡ Err LineFault.Form → (keys.now ≡ []) ⊎ (has_type_twice keys.now ≡ true) }
 {
     match KeyList::new(alloc, keys) {
         Ok(list) => Ok(list),
@@ -133,7 +144,8 @@ fn key_list(alloc: Global, keys: &[Key]) -> Result<KeyList, LineFault>
 
 /// A key: the number of its encryption type, a colon, and its octets in hexadecimal.
 fn key(text: &str) -> Option<Key>
-    ensures { IfSome result (λ key. IsKeyText key text.now) }
+    ensures read { IfSome result (λ key. IsKeyText key text.now) }
+    ensures none { IfNone result ((key : typed.Key) → ¬ IsKeyText key text.now) }
 {
     let (etype, digits) = text.split_once(':')?;
     let etype = Etype::from_number(i32::try_from(number(etype)?).ok()?)?;

@@ -1,5 +1,7 @@
 //! The lines of a script.
-ghost use Rattle.std.specs.Prelude.{◌≡◌};
+ghost use Rattle.std.specs.Prelude.{◌≡◌, ◌==◌, ◌<◌, ◌∷◌, All, IfOk, IfSome, codes, map};
+ghost use Rattle.std.specs.List.{slice_split};
+ghost use Rattle.kdc_script.specs.Line.{IsLineText, AreLineFields};
 ghost use Rattle.kdc_script.specs.declared.line.LineFault.TheVariants.{Memory};
 
 use crate::field::{keys, limits, moment, name, number_u32, octets, realm, words};
@@ -63,19 +65,36 @@ impl<T: Drop> From<AllocFailed<T>> for LineFault {
 
 impl Line {
     /// Reads a line, which comes without its line feed: fields of ASCII text, which single spaces separate.
-    pub(crate) fn parse(alloc: Global, octets: &[u8]) -> Result<Line, LineFault> {
+    pub(crate) fn parse(alloc: Global, octets: &[u8]) -> Result<Line, LineFault>
+        ensures { IfOk result (λ line. IsLineText line octets.now) }
+    {
         let text = ascii_text(octets).ok_or(LineFault::Form)?;
-        let fields: Vec<&str> = text.split(' ').collect(alloc)?;
-        match fields.as_slice() {
-            ["open", fields @ ..] => parse_open(alloc, fields),
-            ["add", fields @ ..] => parse_add(alloc, fields),
-            ["request", fields @ ..] => parse_request(alloc, fields),
-            _ => Err(LineFault::Form),
-        }
+        parse_fields(alloc, &fields_of(alloc, text)?)
     }
 }
 
-fn ascii_text(octets: &[u8]) -> Option<&str> {
+/// What stands between the spaces of a text.
+fn fields_of<'a>(alloc: Global, text: &'a str) -> Result<Vec<&'a str>, AllocError>
+    ensures { IfOk result (λ fields. map (λ field. field.now) fields.items ≡ slice_split (λ o. o == 0x20) text.now) }
+{
+    text.split(' ').collect(alloc)
+}
+
+/// Reads the fields of a line: the word in front says what it does.
+fn parse_fields(alloc: Global, fields: &[&str]) -> Result<Line, LineFault>
+    ensures { IfOk result (λ line. AreLineFields line (map (λ field. field.now) fields.now)) }
+{
+    match fields {
+        ["open", fields @ ..] => parse_open(alloc, fields),
+        ["add", fields @ ..] => parse_add(alloc, fields),
+        ["request", fields @ ..] => parse_request(alloc, fields),
+        _ => Err(LineFault::Form),
+    }
+}
+
+fn ascii_text(octets: &[u8]) -> Option<&str>
+    ensures { IfSome result (λ text. (text.now ≡ octets.now) × All (λ o. o < 128) octets.now) }
+{
     if octets.is_ascii() {
         str::from_utf8(octets).ok()
     } else {
@@ -83,11 +102,24 @@ fn ascii_text(octets: &[u8]) -> Option<&str> {
     }
 }
 
-fn parse_open(alloc: Global, fields: &[&str]) -> Result<Line, LineFault> {
-    let [realm_text, numbers @ .., keys_text] = fields else {
+fn parse_open(alloc: Global, fields: &[&str]) -> Result<Line, LineFault>
+    ensures { IfOk result (λ line. AreLineFields line (codes "open" ∷ map (λ field. field.now) fields.now)) }
+{
+    let [
+        realm_text,
+        remembered,
+        lock_after,
+        lock_seconds,
+        life,
+        renewable,
+        keys_text,
+    ] = fields
+    else {
         return Err(LineFault::Form);
     };
-    let limits = limits(numbers).ok_or(LineFault::Form)?;
+    let limits = limits([remembered, lock_after, lock_seconds, life, renewable]).ok_or(
+        LineFault::Form,
+    )?;
     Ok(Line::Open {
         realm: realm(alloc, realm_text)?,
         limits,
@@ -95,7 +127,9 @@ fn parse_open(alloc: Global, fields: &[&str]) -> Result<Line, LineFault> {
     })
 }
 
-fn parse_add(alloc: Global, fields: &[&str]) -> Result<Line, LineFault> {
+fn parse_add(alloc: Global, fields: &[&str]) -> Result<Line, LineFault>
+    ensures { IfOk result (λ line. AreLineFields line (codes "add" ∷ map (λ field. field.now) fields.now)) }
+{
     let [name_text, keys_text] = fields else {
         return Err(LineFault::Form);
     };
@@ -105,7 +139,9 @@ fn parse_add(alloc: Global, fields: &[&str]) -> Result<Line, LineFault> {
     })
 }
 
-fn parse_request(alloc: Global, fields: &[&str]) -> Result<Line, LineFault> {
+fn parse_request(alloc: Global, fields: &[&str]) -> Result<Line, LineFault>
+    ensures { IfOk result (λ line. AreLineFields line (codes "request" ∷ map (λ field. field.now) fields.now)) }
+{
     let [sec, usec, words_text, room, octets_text] = fields else {
         return Err(LineFault::Form);
     };

@@ -1,6 +1,11 @@
 //! Runs of a script.
-ghost use Rattle.std.specs.Prelude.{◌≡◌, ◌⊎◌};
+ghost use Rattle.std.specs.Prelude.{◌≡◌, ◌⊎◌, IfOk};
+ghost use Rattle.kdc_script.specs.Run.{Runs};
+ghost use Rattle.kdc_script.specs.declared.line.Line.TheVariants as lines;
 ghost use Rattle.kdc_script.specs.declared.run.Stop.TheVariants.{Failed};
+ghost use Rattle.kdc_state.specs.State.{opened};
+ghost use Rattle.kdc_state.specs.declared.opening.Opening.TheVariants.{First};
+ghost use Rattle.principals.specs.Database.{first_database};
 
 use crate::answer::Answer;
 use crate::input::Input;
@@ -97,7 +102,9 @@ fn run_lines<R: Read + Drop, W: Write>(
 }
 
 /// Runs one line on the KDC, which is there once a line has opened it.
-fn run_line(alloc: Global, kdc: &mut Option<Kdc>, line: Line) -> Result<Answer, Stop> {
+fn run_line(alloc: Global, kdc: &mut Option<Kdc>, line: Line) -> Result<Answer, Stop>
+    ensures { IfOk result (λ answer. Runs kdc.old line kdc.new answer) }
+{
     match line {
         Line::Open {
             realm,
@@ -117,7 +124,9 @@ fn open(
     realm: &KerberosString,
     limits: Limits,
     krbtgt_keys: KeyList,
-) -> Result<Kdc, Stop> {
+) -> Result<Kdc, Stop>
+    ensures { IfOk result (λ kdc. kdc ≡ opened (first_database realm.now krbtgt_keys) limits First) }
+{
     let database = match Database::first(alloc, realm.as_slice(), krbtgt_keys) {
         Ok(database) => database,
         Err(FirstFault::BadName) => return Err(Stop::Fault),
@@ -131,7 +140,9 @@ fn add(
     kdc: &mut Option<Kdc>,
     name: Option<Name>,
     keys: KeyList,
-) -> Result<Answer, Stop> {
+) -> Result<Answer, Stop>
+    ensures { IfOk result (λ answer. Runs kdc.old (lines.Add name keys) kdc.new answer) }
+{
     let Some(kdc) = kdc else {
         return Err(Stop::Fault);
     };
@@ -145,7 +156,9 @@ fn add(
     }
 }
 
-fn handle(alloc: Global, kdc: &mut Option<Kdc>, request: &Request) -> Result<Answer, Stop> {
+fn handle(alloc: Global, kdc: &mut Option<Kdc>, request: &Request) -> Result<Answer, Stop>
+    ensures { IfOk result (λ answer. Runs kdc.old (lines.Request request.now) kdc.new answer) }
+{
     let Some(kdc) = kdc else {
         return Err(Stop::Fault);
     };

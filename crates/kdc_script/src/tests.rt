@@ -327,3 +327,17 @@ fn a_failed_write_ends_the_run(rt: HostRuntime) {
     // each line's write and the flush at the end
     assert!(rt; (4..63).contains(&failures), "{failures} calls failed");
 }
+
+// Passes whichever allocation is refused.
+#[test]
+fn a_run_without_memory_fails_and_another_does_not(rt: HostRuntime) {
+    let mut written = Vec::new(rt.alloc());
+    let status = run_script(rt.alloc(), MIXED, &mut written);
+    assert!(rt; status == FAULT || status == FAILED);
+    assert!(rt; MIXED_PRINTED.starts_with(&written));
+    let mut again = Vec::new(rt.alloc());
+    if status == FAILED {
+        assert_eq!(rt; run_script(rt.alloc(), MIXED, &mut again), FAULT);
+        assert_eq!(rt; again.as_slice(), MIXED_PRINTED);
+    }
+}

@@ -1,36 +1,14 @@
 -- How long the text of a value can be: what the tests ask before they write one.
-use Rattle.std.specs.Prelude.{nat_lt}
-use Rattle.std.proofs.Common.{ℕ, ℤ, pos, ◌+◌, ◌*◌, ◌^◌, ◌≤◌, List, [], ◌∷◌, length, Option, Some, None, inl, inr, arith}
-use Rattle.std.proofs.lemmas.Bool.{cases_Bool}
+use Rattle.std.proofs.Common.{ℕ, ℤ, pos, ◌+◌, ◌*◌, ◌≤◌, List, [], ◌∷◌, length, Option, Some, None, arith}
 use Rattle.std.proofs.lemmas.List.{length-append}
-use Rattle.krb_der.specs.Spelling.{tlv, length_octets}
+use Rattle.krb_der.specs.Spelling.{tlv}
 use Rattle.krb_der.specs.Int.{int_octets}
 use Rattle.krb_der.specs.Ints.{int_short}
 use Rattle.krb_der.specs.Time.{time_octets}
 use Rattle.krb_der.proofs.TimeLaws.{length-time_octets}
 use Rattle.krb_elements.specs.Simple.{microseconds_text}
+use Rattle.krb_elements.specs.ShortText.{tlv_short}
 use Rattle.krb_elements.specs.Written.{field_text, maybe_text, items_text}
-
-length_short : (n : ℕ) → length (length_octets n) ≤ 5
-unfolding length_octets
-length_short n =
-    elim (cases_Bool (nat_lt n (2 ^ 7))) [
-      | inl p ↦ rw p (omega arith)
-      | inr p ↦ elim (cases_Bool (nat_lt n (2 ^ 8))) [
-        | inl q ↦ rw (p, q) (omega arith)
-        | inr q ↦ elim (cases_Bool (nat_lt n (2 ^ 16))) [
-          | inl r ↦ rw (p, q, r) (omega arith)
-          | inr r ↦ elim (cases_Bool (nat_lt n (2 ^ 24))) [
-            | inl s ↦ rw (p, q, r, s) (omega arith)
-            | inr s ↦ rw (p, q, r, s) (omega arith)
-          ]
-        ]
-      ]
-    ]
-
-pub tlv_short : (tag : ℕ) (contents : List ℕ) → length (tlv tag contents) ≤ length contents + 6
-unfolding tlv
-tlv_short tag contents = omega (arith, length-append (length_octets (length contents)) contents, length_short (length contents))
 
 pub microseconds_short : (n : ℕ) → length (microseconds_text n) ≤ 8
 microseconds_short n = int_short (pos n)

@@ -1,5 +1,5 @@
 -- How the parts of a message are read: each word is one way to put readings together.
-use Rattle.std.specs.Prelude.{◌≡◌, ℕ, ℤ, suc, zero, Bool, true, false, List, [], ◌∷◌, length, Option, Some, None, Result, Ok, Err, ◌==◌, if◌then◌else◌}
+use Rattle.std.specs.Prelude.{◌≡◌, ℕ, suc, zero, Bool, false, List, [], ◌∷◌, length, Option, Some, None, Result, Ok, Err, ◌==◌, if◌then◌else◌}
 use Rattle.krb_der.specs.declared.fault.DerFault.{DerFault}
 use Rattle.krb_der.specs.declared.fault.DerFault.TheVariants.{Trailing}
 use Rattle.krb_der.specs.Reading.{◌>>=◌, tlv_at}

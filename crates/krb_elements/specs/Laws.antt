@@ -1,19 +1,19 @@
 -- What is read is spelled so, and what is spelled so is read: kept by each way to put the two together.
-use Rattle.std.proofs.Common.{◌≡◌, ℕ, zero, suc, ◌+◌, ◌^◌, ◌<◌, ◌≤◌, Bool, true, false, cond, eqb, List, [], ◌∷◌, ◌++◌, length, take, drop, Option, Some, None, Result, Ok, Err, refl, sym, ap, subst, ◌∙◌, append_assoc, arith, inl, inr, ◌⊎◌}
-use Rattle.std.specs.Prelude.{IfOk, IsOk, IsOkAnd, IsTrue}
-use Rattle.std.proofs.lemmas.Bool.{eqb-true, eqb-false, eq-eqb, ne_eqb}
+use Rattle.std.proofs.Common.{◌≡◌, ℕ, zero, suc, ◌^◌, ◌<◌, ◌≤◌, Bool, true, false, cond, eqb, List, [], ◌∷◌, ◌++◌, length, Option, Some, None, Result, Ok, Err, refl, sym, ap, subst, ◌∙◌, arith}
+use Rattle.std.specs.Prelude.{IfOk, IsOk, IsOkAnd}
+use Rattle.std.proofs.lemmas.Bool.{eqb-true, eq-eqb, ne_eqb}
 use Rattle.std.proofs.lemmas.List.{append-nil, nil_from_length, length-append}
 use Rattle.krb_der.specs.declared.fault.DerFault.{DerFault}
 use Rattle.krb_der.specs.declared.fault.DerFault.TheVariants.{Trailing}
 use Rattle.krb_der.specs.Spelling.{tlv, Leaf}
 use Rattle.krb_der.specs.Reading.{◌>>=◌, tlv_at, leaf_at}
 use Rattle.krb_der.specs.Items.{elements, elements_from}
-use Rattle.krb_der.specs.Steps.{IsBytes, IsBytes-back, IsBytes-front, bind_ok, guard_ok, ok_is}
+use Rattle.krb_der.specs.Steps.{IsBytes, IsBytes-back, bind_ok, ok_is}
 use Rattle.krb_der.specs.Laws.{IsReading, leaf_ok, tlv_takes, tlv_again, tlv_shorter, tlv_some, contents_fit}
 use Rattle.krb_der.specs.Elements.{elements_tlv}
 use Rattle.krb_elements.specs.declared.fault.Fault.{Fault}
 use Rattle.krb_elements.specs.declared.fault.Fault.TheVariants as faults
-use Rattle.krb_elements.specs.Format.{Decodes, Sees, IsReadUnlessMemory, whole, inside, such, seen_as, starts, end, field_of, field, sent, maybe, optional, made, items, items_of, list_at, and_then, values}
+use Rattle.krb_elements.specs.Format.{Decodes, Sees, IsReadUnlessMemory, whole, inside, such, seen_as, starts, end, field_of, field, sent, optional, made, items, items_of, list_at, and_then, values}
 use Rattle.krb_elements.specs.Spells.{Inside, Such, SeenAs, End, Field, Sent, OptionalOf, Optional, Items, ListOf}
 
 -- the octets are one value, whatever its tag

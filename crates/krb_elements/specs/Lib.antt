@@ -6,3 +6,4 @@ pub mod Laws
 pub mod WrittenLaws
 pub mod SimpleLaws
 pub mod OneSpelling
+pub mod ShortText

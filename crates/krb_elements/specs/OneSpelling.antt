@@ -1,15 +1,17 @@
 -- What holds no bits has one spelling: the one that is written.
-use Rattle.std.proofs.Common.{◌≡◌, ℕ, ◌+◌, ◌^◌, ◌<◌, List, [], ◌∷◌, ◌++◌, length, Option, Some, None, refl, sym, ap, subst, ◌∙◌, arith}
-use Rattle.std.proofs.lemmas.List.{append-nil}
+use Rattle.std.proofs.Common.{◌≡◌, ℕ, ℤ, pos, true, List, [], ◌∷◌, ◌++◌, Option, Some, None, sym, ap, subst, ◌∙◌, arith}
+use Rattle.std.proofs.lemmas.Int.{ints}
 use Rattle.krb_der.specs.Spelling.{tlv}
-use Rattle.krb_der.specs.Int.{Int, int_octets}
+use Rattle.krb_der.specs.Int.{int_octets}
 use Rattle.krb_der.specs.Ints.{int_unique}
 use Rattle.krb_der.specs.Steps.{IsBytes, IsBytes-back, IsBytes-front}
-use Rattle.krb_der.specs.Laws.{contents_fit}
+use Rattle.krb_der.specs.Time.{Time, time_octets}
+use Rattle.krb_der.proofs.TimeSpellings.{time_unique}
 use Rattle.krb_elements.specs.Spells.{Inside, End, Field, OptionalOf, Optional, Items, ListOf}
 use Rattle.krb_elements.specs.Written.{field_text, maybe_text, field_then, optional_then, no_more, items_text}
 use Rattle.krb_elements.specs.WrittenLaws.{inside_fits}
-use Rattle.krb_elements.specs.Simple.{Int32, KerberosString, as_they_are}
+use Rattle.krb_elements.specs.Simple.{is_within, Int32, UInt32, Microseconds, microseconds_text, Fixed, fixed_text, Octets, KerberosString, as_they_are}
+use Rattle.krb_elements.specs.SimpleLaws.{within_million}
 
 -- a value with its own tag
 pub record HasOneSpelling {A : Type 0} (S : A → List ℕ → Type 0) (tag : ℕ) (text : A → List ℕ) : Type 0 where
@@ -21,6 +23,28 @@ pub record HaveOneText {A : Type 0} (G : A → List ℕ → Type 0) (text : A �
 
 pub int32_one : HasOneSpelling Int32 2 int_octets
 int32_one = record { is = λ z bytes fits s. int_unique z bytes fits s.1 }
+
+pub uint32_one : HasOneSpelling UInt32 2 int_octets
+uint32_one = record { is = λ z bytes fits s. int_unique z bytes fits s.1 }
+
+pub microseconds_one : HasOneSpelling Microseconds 2 microseconds_text
+microseconds_one = record {
+  is = λ n bytes fits s.
+      let same : s.0 ≡ pos n = sym (within_million s.0 s.1.0).1 ∙ ap (λ (m : ℕ). pos m) s.2 in
+      int_unique s.0 bytes fits s.1.1 ∙ ap (λ (z : ℤ). tlv 2 (int_octets z)) same;
+}
+
+within_one : (n z : ℤ) → is_within n n z ≡ true → z ≡ n
+within_one n z e = grind (arith, ints)
+
+pub fixed_one : (n : ℤ) → HasOneSpelling (Fixed n) 2 (fixed_text n)
+fixed_one n = record { is = λ x bytes fits s. int_unique s.0 bytes fits s.1.1 ∙ ap (λ (z : ℤ). tlv 2 (int_octets z)) (within_one n s.0 s.1.0) }
+
+pub time_one : HasOneSpelling Time 24 time_octets
+time_one = record { is = λ z bytes fits s. time_unique z bytes s }
+
+pub octets_one : HasOneSpelling Octets 4 as_they_are
+octets_one = record { is = λ x bytes fits s. s.1 }
 
 pub string_one : HasOneSpelling KerberosString 27 as_they_are
 string_one = record { is = λ x bytes fits s. s.1 }
@@ -42,11 +66,24 @@ pub field_one : {A B : Type 0} (outer tag : ℕ) (S : A → List ℕ → Type 0)
     → HasOneSpelling S tag text → HaveOneText G others → HaveOneText (Field outer S G) (field_then outer tag text others)
 field_one outer tag S text G others one all = record { are = λ x bytes fits s. field_same outer tag S text G others one all x.0 x.1 bytes fits s }
 
+optional_same : {A B : Type 0} (outer tag : ℕ) (S : A → List ℕ → Type 0) (text : A → List ℕ) (G : B → List ℕ → Type 0) (others : B → List ℕ)
+    → HasOneSpelling S tag text → HaveOneText G others → (o : Option A) (y : B) (bytes : List ℕ) → IsBytes bytes → OptionalOf outer S G o y bytes → bytes ≡ maybe_text outer tag text o ++ others y
+optional_same outer tag S text G others one all None y bytes fits s = all.are y bytes fits s
+optional_same outer tag S text G others one all (Some x) y bytes fits s = field_same outer tag S text G others one all x y bytes fits s
+
+pub optional_one : {A B : Type 0} (outer tag : ℕ) (S : A → List ℕ → Type 0) (text : A → List ℕ) (G : B → List ℕ → Type 0) (others : B → List ℕ)
+    → HasOneSpelling S tag text → HaveOneText G others → HaveOneText (Optional outer S G) (optional_then outer tag text others)
+optional_one outer tag S text G others one all = record { are = λ x bytes fits s. optional_same outer tag S text G others one all x.0 x.1 bytes fits s }
+
 items_same : {A : Type 0} (S : A → List ℕ → Type 0) (tag : ℕ) (text : A → List ℕ) → HasOneSpelling S tag text → (xs : List A) (bytes : List ℕ) → IsBytes bytes → Items S xs bytes → bytes ≡ items_text tag text xs
 items_same S tag text one [] bytes fits s = s
 items_same S tag text one (x ∷ xs) bytes fits s =
     let both : IsBytes (s.0 ++ s.1) = subst IsBytes s.4 fits in
     s.4 ∙ ap (λ (l : List ℕ). l ++ s.1) (one.is x s.0 (IsBytes-front s.0 s.1 both) s.2) ∙ ap (λ (l : List ℕ). tlv tag (text x) ++ l) (items_same S tag text one xs s.1 (IsBytes-back s.0 s.1 both) s.3)
+
+-- a value round a value
+pub round_one : {A : Type 0} (outer tag : ℕ) (S : A → List ℕ → Type 0) (text : A → List ℕ) → HasOneSpelling S tag text → HasOneSpelling (Inside outer S) outer (λ x. tlv tag (text x))
+round_one outer tag S text one = record { is = λ x bytes fits s. s.3 ∙ ap (tlv outer) (one.is x s.0 (inside_fits outer bytes s.0 fits s.3) s.2) }
 
 pub list_one : {A : Type 0} (S : A → List ℕ → Type 0) (tag : ℕ) (text : A → List ℕ) → HasOneSpelling S tag text → HasOneSpelling (ListOf S) 48 (items_text tag text)
 list_one S tag text one = record { is = λ xs bytes fits s. s.3 ∙ ap (tlv 48) (items_same S tag text one xs s.0 (inside_fits 48 bytes s.0 fits s.3) s.2) }

@@ -1,14 +1,13 @@
 -- The simple types are read where they are spelled, and written as they are spelled.
-use Rattle.std.proofs.Common.{◌≡◌, ℕ, ℤ, pos, negsuc, ◌^◌, ◌<◌, ◌≤◌, ◌*◌, List, [], ◌∷◌, ◌++◌, length, refl, sym, ap, subst, ◌∙◌, arith, true, false, w64, FitsSigned}
-use Rattle.std.specs.Int.{w32, to_be_bytes, from_be_bytes}
-use Rattle.std.specs.Prelude.{IsTrue, int_lt, ◌||◌, not, unsigned_abs}
+use Rattle.std.proofs.Common.{◌≡◌, ℕ, ℤ, pos, negsuc, ◌^◌, ◌<◌, List, [], ◌∷◌, refl, sym, ap, subst, ◌∙◌, arith, true, w64, FitsSigned}
+use Rattle.std.specs.Prelude.{unsigned_abs}
 use Rattle.std.proofs.lemmas.List.{append-nil}
 use Rattle.krb_der.specs.declared.fault.DerFault.TheVariants.{BadInteger, BadBits, BadTime}
 use Rattle.krb_der.specs.Steps.{IsBytes, IsBytes-rest}
 use Rattle.krb_der.specs.Spelling.{tlv}
 use Rattle.krb_der.specs.Int.{is_int, int_value, Int, int_octets, int_spelling}
 use Rattle.krb_der.specs.Bits.{is_bits, bits_value, first_bits, Bits}
-use Rattle.krb_der.specs.Reading.{leaf_at, int_at, bits_at, time_at}
+use Rattle.krb_der.specs.Reading.{int_at, bits_at, time_at}
 use Rattle.krb_der.specs.Civil.{IsCivilSecond}
 use Rattle.krb_der.specs.Time.{is_time, time_value, time_octets, Time}
 use Rattle.krb_der.proofs.TimeLaws.{time_value_range}
@@ -88,7 +87,7 @@ time_written = record {
   spells = λ z bytes fits s lt. time_spelled z (subst IsCivilSecond s.2.stands (time_value_range s.0 s.2.passes));
 }
 
-within_million : (z : ℤ) → is_within (pos 0) (pos 999999) z ≡ true → (FitsSigned w64 z) × (pos (unsigned_abs z) ≡ z)
+pub within_million : (z : ℤ) → is_within (pos 0) (pos 999999) z ≡ true → (FitsSigned w64 z) × (pos (unsigned_abs z) ≡ z)
 within_million (pos n) e = (grind (arith, ints), refl)
 within_million (negsuc n) e = absurd (grind (arith, ints))
 

@@ -9,6 +9,7 @@ use Rattle.krb_elements.specs.Written.{field_then, optional_then, no_more}
 use Rattle.krb_elements.specs.Simple.{Int32, int32_at, UInt32, uint32_at, Octets, octets_at, as_they_are}
 use Rattle.krb_elements.specs.Laws.{IsElement, inside_ok, made_ok, field_ok, optional_ok, end_ok}
 use Rattle.krb_elements.specs.WrittenLaws.{IsWriting, inside_written, field_written, optional_written, end_written}
+use Rattle.krb_elements.specs.OneSpelling.{HasOneSpelling, inside_one, field_one, optional_one, end_one, int32_one, uint32_one, octets_one}
 use Rattle.krb_elements.specs.SimpleLaws.{int32_ok, uint32_ok, octets_ok, int32_written, uint32_written, octets_written}
 
 abbrev pub fields_of : EncryptedData → ℤ × (Option ℤ × (List ℕ × Unit {0}))
@@ -42,3 +43,12 @@ encrypted_data_written =
     (optional_written 161 2 _ _ _ _ uint32_written
     (field_written 162 4 _ _ _ _ octets_written
     end_written)))
+
+pub encrypted_data_one : HasOneSpelling SpellsEncryptedData 48 encrypted_data_text
+unfolding encrypted_data_text
+encrypted_data_one =
+    inside_one 48 _ _ fields_of
+    (field_one 160 2 _ _ _ _ int32_one
+    (optional_one 161 2 _ _ _ _ uint32_one
+    (field_one 162 4 _ _ _ _ octets_one
+    end_one)))

@@ -9,6 +9,7 @@ use Rattle.krb_elements.specs.Written.{field_then, no_more}
 use Rattle.krb_elements.specs.Simple.{Int32, int32_at, Octets, octets_at, as_they_are}
 use Rattle.krb_elements.specs.Laws.{IsElement, inside_ok, made_ok, field_ok, end_ok}
 use Rattle.krb_elements.specs.WrittenLaws.{IsWriting, inside_written, field_written, end_written}
+use Rattle.krb_elements.specs.OneSpelling.{HasOneSpelling, inside_one, field_one, end_one, int32_one, octets_one}
 use Rattle.krb_elements.specs.SimpleLaws.{int32_ok, octets_ok, int32_written, octets_written}
 
 abbrev pub fields_of : PaData → ℤ × (List ℕ × Unit {0})
@@ -40,3 +41,11 @@ pa_data_written =
     (field_written 161 2 _ _ _ _ int32_written
     (field_written 162 4 _ _ _ _ octets_written
     end_written))
+
+pub pa_data_one : HasOneSpelling SpellsPaData 48 pa_data_text
+unfolding pa_data_text
+pa_data_one =
+    inside_one 48 _ _ fields_of
+    (field_one 161 2 _ _ _ _ int32_one
+    (field_one 162 4 _ _ _ _ octets_one
+    end_one))

@@ -1,9 +1,11 @@
 -- KRB-ERROR (RFC 4120, section 5.9.1).
-use Rattle.std.proofs.Common.{◌≡◌, ℕ, ℤ, pos, ◌≤◌, ◌<◌, List, Option, Result, lit<, lit≤, refl}
+use Rattle.std.proofs.Common.{◌≡◌, ℕ, ℤ, pos, ◌≤◌, ◌<◌, List, Option, Result, Ok, Err, lit<, lit≤, refl}
+use Rattle.std.specs.Prelude.{IfOk}
 use Rattle.krb_der.specs.declared.fault.DerFault.{DerFault}
 use Rattle.krb_der.specs.Int.{int_octets}
 use Rattle.krb_der.specs.Reading.{time_at}
 use Rattle.krb_der.specs.Spelling.{tlv}
+use Rattle.krb_der.specs.Steps.{IsBytes}
 use Rattle.krb_der.specs.Time.{Time, time_octets}
 use Rattle.krb_elements.specs.Format.{whole, inside, field, optional, end, made}
 use Rattle.krb_elements.specs.Spells.{Inside, Field, Optional, End}
@@ -11,9 +13,10 @@ use Rattle.krb_elements.specs.Written.{field_then, optional_then, no_more}
 use Rattle.krb_elements.specs.Simple.{Int32, int32_at, Microseconds, microseconds_at, microseconds_text, Fixed, fixed_at, fixed_text, Octets, octets_at, KerberosString, string_at, as_they_are}
 use Rattle.krb_elements.specs.Laws.{IsElement, inside_ok, whole_ok, made_ok, field_ok, optional_ok, end_ok}
 use Rattle.krb_elements.specs.WrittenLaws.{IsWriting, inside_written, round_written, field_written, optional_written, end_written}
+use Rattle.krb_elements.specs.OneSpelling.{HasOneSpelling, inside_one, round_one, field_one, optional_one, end_one, int32_one, microseconds_one, fixed_one, octets_one, string_one, time_one}
 use Rattle.krb_elements.specs.SimpleLaws.{int32_ok, microseconds_ok, fixed_ok, octets_ok, string_ok, time_element, int32_written, microseconds_written, fixed_written, octets_written, string_written, time_written}
 use Rattle.krb_fields.specs.declared.name.Name.{Name}
-use Rattle.krb_fields.specs.PrincipalName.{SpellsName, name_at, name_text, name_ok, name_written}
+use Rattle.krb_fields.specs.PrincipalName.{SpellsName, name_at, name_text, name_ok, name_written, name_one}
 use Rattle.krb_types.specs.declared.krb_error.KrbError.{KrbError}
 
 -- pvno and msg-type are fixed, so no value holds them
@@ -106,3 +109,27 @@ krb_error_written =
     (optional_written 171 27 _ _ _ _ string_written
     (optional_written 172 4 _ _ _ _ octets_written
     end_written))))))))))))))
+
+krb_error_one : HasOneSpelling SpellsKrbError 126 krb_error_text
+unfolding krb_error_fields later_text
+krb_error_one =
+    round_one 126 48 _ _ (inside_one 48 _ _ fields_of
+    (field_one 160 2 _ _ _ _ (fixed_one (pos 5))
+    (field_one 161 2 _ _ _ _ (fixed_one (pos 30))
+    (optional_one 162 24 _ _ _ _ time_one
+    (optional_one 163 2 _ _ _ _ microseconds_one
+    (field_one 164 24 _ _ _ _ time_one
+    (field_one 165 2 _ _ _ _ microseconds_one
+    (field_one 166 2 _ _ _ _ int32_one
+    (optional_one 167 27 _ _ _ _ string_one
+    (optional_one 168 48 _ _ _ _ name_one
+    (field_one 169 27 _ _ _ _ string_one
+    (field_one 170 48 _ _ _ _ name_one
+    (optional_one 171 27 _ _ _ _ string_one
+    (optional_one 172 4 _ _ _ _ octets_one
+    end_one))))))))))))))
+
+-- what is read is what is written
+pub one_if_read : {E : Type 0} (r : Result KrbError E) (bytes : List ℕ) → IsBytes bytes → IfOk r (λ x. SpellsKrbError x bytes) → IfOk r (λ x. bytes ≡ written_krb_error x)
+one_if_read (Ok x) bytes fits h = krb_error_one.is x bytes fits h
+one_if_read (Err e) bytes fits h = tt

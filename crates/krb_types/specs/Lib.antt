@@ -1,5 +1,6 @@
 pub mod Ticket
 pub mod ReqBody
 pub mod KdcReq
+pub mod KdcReqWritten
 pub mod KrbError
 pub mod ShortName

@@ -10,16 +10,18 @@ use Rattle.krb_elements.specs.Written.{field_then, optional_then, no_more, items
 use Rattle.krb_elements.specs.Simple.{Int32, int32_at, UInt32, uint32_at, KerberosString, string_at, as_they_are, KerberosFlags, flags_at, flags_text}
 use Rattle.krb_elements.specs.Laws.{IsElement, inside_ok, made_ok, field_ok, optional_ok, end_ok, list_ok}
 use Rattle.krb_elements.specs.WrittenLaws.{IsWriting, inside_written, field_written, optional_written, end_written, list_written}
+use Rattle.krb_elements.specs.OneSpelling.{int32_one, uint32_one, string_one, time_one, list_one}
+use Rattle.krb_elements.specs.ShortText.{IsShort, one_short, flags_short, inside_short, field_short, optional_short, end_short}
 use Rattle.krb_elements.specs.SimpleLaws.{int32_ok, uint32_ok, string_ok, flags_ok, time_element, int32_written, uint32_written, string_written, flags_written, time_written}
 use Rattle.krb_fields.specs.declared.name.Name.{Name}
 use Rattle.krb_fields.specs.declared.encrypted_data.EncryptedData.{EncryptedData}
 use Rattle.krb_fields.specs.declared.host_address.HostAddress.{HostAddress}
-use Rattle.krb_fields.specs.PrincipalName.{SpellsName, name_at, name_text, name_ok, name_written}
-use Rattle.krb_fields.specs.EncryptedData.{SpellsEncryptedData, encrypted_data_at, encrypted_data_text, encrypted_data_ok, encrypted_data_written}
-use Rattle.krb_fields.specs.HostAddress.{SpellsHostAddress, host_address_at, host_address_text, host_address_ok, host_address_written}
+use Rattle.krb_fields.specs.PrincipalName.{SpellsName, name_at, name_text, name_ok, name_written, name_one}
+use Rattle.krb_fields.specs.EncryptedData.{SpellsEncryptedData, encrypted_data_at, encrypted_data_text, encrypted_data_ok, encrypted_data_written, encrypted_data_one}
+use Rattle.krb_fields.specs.HostAddress.{SpellsHostAddress, host_address_at, host_address_text, host_address_ok, host_address_written, host_address_one}
 use Rattle.krb_types.specs.declared.ticket.Ticket.{Ticket}
 use Rattle.krb_types.specs.declared.req_body.ReqBody.{ReqBody}
-use Rattle.krb_types.specs.Ticket.{SpellsTicket, ticket_at, ticket_text, ticket_ok, ticket_written}
+use Rattle.krb_types.specs.Ticket.{SpellsTicket, ticket_at, ticket_text, ticket_ok, ticket_written, ticket_one}
 
 abbrev pub Fields : Type 0
 Fields = ℕ × (Option Name × (List ℕ × (Option Name × (Option ℤ × (ℤ × (Option ℤ × (ℤ × (List ℤ × ((Option (List HostAddress)) × (Option EncryptedData × ((Option (List Ticket)) × Unit {0})))))))))))
@@ -97,3 +99,21 @@ req_body_written =
     (optional_written 170 48 _ _ _ _ encrypted_data_written
     (optional_written 171 48 _ _ _ _ (list_written _ 97 _ ticket_written)
     end_written))))))))))))
+
+pub req_body_short : IsShort SpellsReqBody 48 req_body_text
+unfolding req_body_text later_text
+req_body_short =
+    inside_short 48 _ _ fields_of
+    (field_short 160 3 _ _ _ _ flags_short
+    (optional_short 161 48 _ _ _ _ (one_short _ 48 _ name_one)
+    (field_short 162 27 _ _ _ _ (one_short _ 27 _ string_one)
+    (optional_short 163 48 _ _ _ _ (one_short _ 48 _ name_one)
+    (optional_short 164 24 _ _ _ _ (one_short _ 24 _ time_one)
+    (field_short 165 24 _ _ _ _ (one_short _ 24 _ time_one)
+    (optional_short 166 24 _ _ _ _ (one_short _ 24 _ time_one)
+    (field_short 167 2 _ _ _ _ (one_short _ 2 _ uint32_one)
+    (field_short 168 48 _ _ _ _ (one_short _ 48 _ (list_one _ 2 _ int32_one))
+    (optional_short 169 48 _ _ _ _ (one_short _ 48 _ (list_one _ 48 _ host_address_one))
+    (optional_short 170 48 _ _ _ _ (one_short _ 48 _ encrypted_data_one)
+    (optional_short 171 48 _ _ _ _ (one_short _ 48 _ (list_one _ 97 _ ticket_one))
+    end_short))))))))))))

@@ -9,11 +9,12 @@ use Rattle.krb_elements.specs.Written.{field_then, no_more}
 use Rattle.krb_elements.specs.Simple.{Int32, int32_at, KerberosString, string_at, as_they_are}
 use Rattle.krb_elements.specs.Laws.{IsElement, inside_ok, whole_ok, made_ok, field_ok, end_ok}
 use Rattle.krb_elements.specs.WrittenLaws.{IsWriting, inside_written, round_written, field_written, end_written}
+use Rattle.krb_elements.specs.OneSpelling.{HasOneSpelling, inside_one, round_one, field_one, end_one, int32_one, string_one}
 use Rattle.krb_elements.specs.SimpleLaws.{int32_ok, string_ok, int32_written, string_written}
 use Rattle.krb_fields.specs.declared.name.Name.{Name}
 use Rattle.krb_fields.specs.declared.encrypted_data.EncryptedData.{EncryptedData}
-use Rattle.krb_fields.specs.PrincipalName.{SpellsName, name_at, name_text, name_ok, name_written}
-use Rattle.krb_fields.specs.EncryptedData.{SpellsEncryptedData, encrypted_data_at, encrypted_data_text, encrypted_data_ok, encrypted_data_written}
+use Rattle.krb_fields.specs.PrincipalName.{SpellsName, name_at, name_text, name_ok, name_written, name_one}
+use Rattle.krb_fields.specs.EncryptedData.{SpellsEncryptedData, encrypted_data_at, encrypted_data_text, encrypted_data_ok, encrypted_data_written, encrypted_data_one}
 use Rattle.krb_types.specs.declared.ticket.Ticket.{Ticket}
 
 abbrev pub fields_of : Ticket → ℤ × (List ℕ × (Name × (EncryptedData × Unit {0})))
@@ -55,3 +56,13 @@ ticket_written =
     (field_written 162 48 _ _ _ _ name_written
     (field_written 163 48 _ _ _ _ encrypted_data_written
     end_written)))))
+
+pub ticket_one : HasOneSpelling SpellsTicket 97 ticket_text
+unfolding ticket_fields
+ticket_one =
+    round_one 97 48 _ _ (inside_one 48 _ _ fields_of
+    (field_one 160 2 _ _ _ _ int32_one
+    (field_one 161 27 _ _ _ _ string_one
+    (field_one 162 48 _ _ _ _ name_one
+    (field_one 163 48 _ _ _ _ encrypted_data_one
+    end_one)))))

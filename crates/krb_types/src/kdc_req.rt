@@ -1,9 +1,11 @@
 //! KDC-REQ (RFC 4120, section 5.4.1): AS-REQ and TGS-REQ.
-ghost use Rattle.std.specs.Prelude.{◌≡◌, ◌<◌, ◌^◌, ◌++◌, length, IfOk, OnOk};
+ghost use Rattle.std.specs.Prelude.{◌≡◌, ◌<◌, ◌^◌, ◌*◌, ◌++◌, List, ℕ, length, IfOk, OnOk};
+ghost use Rattle.krb_der.specs.Steps.{IsBytes};
 ghost use Rattle.krb_elements.specs.Format.{Decodes, IsReadUnlessMemory, whole};
 ghost use Rattle.krb_elements.specs.Written.{field_text};
 ghost use Rattle.krb_types.specs.ReqBody.{req_body_text};
 ghost use Rattle.krb_types.specs.KdcReq.{SpellsKdcReq, message_tag, kdc_req_at, kdc_req_fields, kdc_req_text, written_kdc_req};
+ghost use Rattle.krb_types.specs.KdcReqWritten.{with_body_octets, as_written};
 ghost use Rattle.krb_types.specs.declared.kdc_req.KdcReq as trees;
 
 use crate::application::put_application;
@@ -82,6 +84,8 @@ pub fn decode_kdc_req(alloc: Global, bytes: &[u8]) -> Result<KdcReq, Fault>
     ensures found { IfOk result (λ request. SpellsKdcReq request bytes.now) }
     ensures only { (request : trees.KdcReq) → SpellsKdcReq request bytes.now → IsReadUnlessMemory result request }
     ensures exact { Decodes result (whole kdc_req_at bytes.now) }
+    // What was read can be written.
+    ensures short { IfOk result (λ request. length (kdc_req_text request) < 3 * length bytes.now) }
 {
     decode_all(alloc, bytes)
 }
@@ -90,7 +94,9 @@ pub fn decode_kdc_req(alloc: Global, bytes: &[u8]) -> Result<KdcReq, Fault>
 #[tactic(auto, using(krb_elements::specs::WrittenLaws::tlv_longer))]
 pub fn encode_kdc_req(alloc: Global, request: &KdcReq) -> Result<Vec<u8>, AllocError>
     requires { length (kdc_req_text request.now) < 2 ^ 32 }
-    ensures { IfOk result (λ octets. octets.items ≡ written_kdc_req request.now) }
+    ensures written { IfOk result (λ octets. octets.items ≡ written_kdc_req request.now) }
+    // What has a spelling, whatever the octets of its body were, is spelled by these.
+    ensures spelled { (sent bytes : List ℕ) → IsBytes bytes → SpellsKdcReq (with_body_octets sent request.now) bytes → SpellsKdcReq (as_written request.now) (written_kdc_req request.now) }
 {
     let mut fields = Writer::new(alloc);
     request.put_fields(alloc, &mut fields)?;

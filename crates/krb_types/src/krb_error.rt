@@ -130,6 +130,8 @@ pub fn decode_krb_error(alloc: Global, bytes: &[u8]) -> Result<KrbError, Fault>
     ensures found { IfOk result (λ error. SpellsKrbError error bytes.now) }
     ensures only { (error : trees.KrbError) → SpellsKrbError error bytes.now → IsReadUnlessMemory result error }
     ensures exact { Decodes result (whole krb_error_at bytes.now) }
+    // It has no other spelling.
+    ensures one { IfOk result (λ error. bytes.now ≡ written_krb_error error) }
 {
     decode(alloc, bytes)
 }

@@ -15,3 +15,6 @@ pub use krb_error::{KrbError, decode_krb_error, encode_krb_error};
 pub use req_body::ReqBody;
 pub use req_body_ref::ReqBodyRef;
 pub use ticket::{Ticket, TicketRef};
+
+#[cfg(test)]
+mod tests;

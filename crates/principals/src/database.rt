@@ -1,8 +1,8 @@
 //! Databases.
-ghost use Rattle.std.specs.Prelude.{◌≡◌, ◌↔◌, pos, IfOk, IfSome, IfNone, OnOk, OnErr, IsOkUnless, option_copied, option_map, slice_get};
+ghost use Rattle.std.specs.Prelude.{◌≡◌, ◌↔◌, IfOk, IfSome, IfNone, OnOk, OnErr, IsOkUnless, option_copied, option_map, slice_get};
 ghost use Rattle.std.specs.FinMap as map;
 ghost use Rattle.krb_fields.specs.NameLimits.{IsComponent};
-ghost use Rattle.principals.specs.Database.{IsDatabase, first_database, ticket_granter};
+ghost use Rattle.principals.specs.Database.{IsDatabase, first_database, granter_name};
 ghost use Rattle.principals.specs.Change.{refusal, add_refusal, changed};
 
 use crate::{Change, ChangeFault};
@@ -62,7 +62,7 @@ impl Database {
         if !is_component(realm) {
             return Err(FirstFault::BadName);
         }
-        let granter = ticket_granter(alloc, realm)?;
+        let granter = granter_name(alloc, realm)?;
         let mut rows = NameMap::new(alloc);
         rows.put(granter, Row::first(alloc, krbtgt_keys)?)?;
         Ok(Database {
@@ -137,9 +137,9 @@ impl Database {
     }
 }
 
-/// The name of a realm's ticket-granting service, `krbtgt/REALM` (RFC 4120 section 7.3).
-fn ticket_granter(alloc: Global, realm: &[u8]) -> Result<Name, AllocError>
-    ensures { IfOk result (λ name. name ≡ record { name_type = pos 2; components = ticket_granter realm.now }) }
+/// The name of a realm's ticket-granting service, `krbtgt/REALM`, of name-type NT-SRV-INST (RFC 4120 section 7.3).
+pub fn granter_name(alloc: Global, realm: &[u8]) -> Result<Name, AllocError>
+    ensures { IfOk result (λ name. name ≡ granter_name realm.now) }
 {
     let mut components = Seq::new(alloc);
     components.push(KerberosString::from_slice(alloc, b"krbtgt")?)?;

@@ -5,7 +5,7 @@ mod change;
 mod database;
 
 pub use change::{Change, ChangeFault};
-pub use database::{Database, FirstFault};
+pub use database::{Database, FirstFault, granter_name};
 
 #[cfg(test)]
 mod tests;

@@ -1,4 +1,4 @@
-use crate::{Change, ChangeFault, Database, FirstFault};
+use crate::{Change, ChangeFault, Database, FirstFault, granter_name};
 use enctypes::{Etype, Key};
 use krb_elements::{KerberosString, Seq};
 use krb_fields::Name;
@@ -136,4 +136,27 @@ fn a_change_without_memory_leaves_the_database(rt: HostRuntime) {
     assert!(rt; made.is_ok() || made == Err(ChangeFault::Memory));
     assert!(rt; database.len() == if made.is_ok() { 2 } else { 1 });
     assert!(rt; database.get(&user).is_some() == made.is_ok());
+}
+
+// Passes whichever allocation is refused.
+#[test]
+fn a_first_database_without_memory_is_made_when_asked_again(rt: HostRuntime) {
+    let alloc = rt.alloc();
+    let made = realm(alloc, b"A.B");
+    assert!(rt;
+        match &made {
+            Ok(database) => database.len() == 1,
+            Err(fault) => *fault == FirstFault::Memory,
+        }
+    );
+    assert!(rt; made.is_ok() || realm(alloc, b"A.B").is_ok());
+}
+
+#[test]
+fn the_ticket_granting_service_is_named_by_its_realm(rt: HostRuntime) -> Result<(), AllocError> {
+    let alloc = rt.alloc();
+    let granter = granter_name(alloc, b"A.B")?;
+    assert!(rt; granter.name_type == 2);
+    assert!(rt; is(&granter, &[b"krbtgt", b"A.B"]));
+    Ok(())
 }

@@ -1,6 +1,6 @@
-use Rattle.std.proofs.Common.{◌<◌, ◌≡◌, length, arith, sym, ◌∙◌}
+use Rattle.std.proofs.Common.{sym, ◌∙◌}
 use Rattle.std.proofs.lemmas.Result.{err_from_is_err_and}
-use Rattle.std.proofs.lemmas.Bool.{eqb-true, eqb-false}
+use Rattle.std.proofs.lemmas.Bool.{eqb-true}
 use Rattle.krb_elements.specs.Format.{items_of}
 use Rattle.krb_elements.proofs.Loop.{goes_on, fails, is_done, is_some}
 use Rattle.krb_elements.proofs.lists.read_items.Goals as goal

@@ -1,0 +1,49 @@
+//! Checksums under a key (RFC 3961 section 5.4, RFC 8009 section 6).
+ghost use Rattle.std.specs.Prelude.{◌≡◌, ◌≤◌, ◌↔◌, IsTrue, length};
+ghost use Rattle.enctypes.specs.Etype.{key_len, mac_len};
+ghost use Rattle.enctypes.specs.KeyUsage.{usage_number};
+ghost use Rattle.enctypes.specs.Sealing.{mac};
+
+use crate::derived_key::DerivedKey;
+use crate::octets::are_same;
+use crate::purpose::Purpose;
+use crate::sha2_profile::{Aes128Sha2, Aes256Sha2};
+use crate::simplified::{Aes128Sha1, Aes256Sha1};
+use crate::suite::Suite;
+use crate::{Etype, Key, KeyUsage, Mac};
+
+/// The checksum of a text, of the checksum type that goes with the key's type. It takes no memory.
+pub fn checksum(key: &Key, usage: KeyUsage, text: &[u8]) -> Mac
+    ensures value { result ≡ mac key.now.etype key.now.bytes (usage_number usage) text.now }
+    ensures len { length result ≡ mac_len key.now.etype }
+    ensures most { length result ≤ 24 }
+{
+    let (octets, number) = (key.bytes(), usage.number());
+    match key.etype() {
+        Etype::Aes128CtsHmacSha1_96 => checksum_as::<Aes128Sha1>(octets, number, text),
+        Etype::Aes256CtsHmacSha1_96 => checksum_as::<Aes256Sha1>(octets, number, text),
+        Etype::Aes128CtsHmacSha256_128 => checksum_as::<Aes128Sha2>(octets, number, text),
+        Etype::Aes256CtsHmacSha384_192 => checksum_as::<Aes256Sha2>(octets, number, text),
+    }
+}
+
+/// Whether the octets are the checksum of the text. All of them are compared before it answers.
+pub fn verify(key: &Key, usage: KeyUsage, text: &[u8], octets: &[u8]) -> bool
+    ensures { IsTrue result
+        ↔ (octets.now ≡ mac key.now.etype key.now.bytes (usage_number usage) text.now) }
+{
+    are_same(octets, checksum(key, usage, text).bytes())
+}
+
+#[tactic(auto, unfolding(crate::specs::Sealing::mac))]
+fn checksum_as<S: Suite>(key: &[u8], usage: u32, text: &[u8]) -> Mac
+    requires { length key.now ≡ key_len S.ETYPE }
+    ensures value { result ≡ mac S.ETYPE key.now usage text.now }
+    ensures len { length result ≡ mac_len S.ETYPE }
+    ensures most { length result ≤ 24 }
+{
+    S::hmac(
+        DerivedKey::of::<S>(key, usage, Purpose::Checksum).bytes(),
+        &[text],
+    )
+}

@@ -1,0 +1,49 @@
+//! What a key is used for: RFC 4120 section 7.5.1.
+ghost use Rattle.std.specs.Prelude.{◌≡◌};
+ghost use Rattle.enctypes.specs.KeyUsage.{usage_number};
+
+/// A use of a key, as this KDC, its clients and its services make of keys. Under each usage a key
+/// has other derived keys, so that what is sealed for one use is not opened in another.
+#[derive(Debug, Clone, Copy, PartialEq, Eq)]
+pub enum KeyUsage {
+    /// The PA-ENC-TIMESTAMP of an AS-REQ, under the client's key.
+    PaEncTimestamp,
+    /// The part of a ticket that its service reads, under the service's key.
+    Ticket,
+    /// The part of an AS-REP that the client reads, under the client's key.
+    AsRepEncPart,
+    /// The checksum in the authenticator of a TGS-REQ, under the ticket's session key.
+    TgsReqAuthenticatorChecksum,
+    /// The authenticator of a TGS-REQ, under the ticket's session key.
+    TgsReqAuthenticator,
+    /// The part of a TGS-REP that the client reads, under the ticket's session key.
+    TgsRepEncPartSessionKey,
+    /// The same part under the subkey of the request's authenticator.
+    TgsRepEncPartSubkey,
+    /// The checksum in the authenticator of an AP-REQ, under the ticket's session key.
+    ApReqAuthenticatorChecksum,
+    /// The authenticator of an AP-REQ, under the ticket's session key.
+    ApReqAuthenticator,
+    /// The part of an AP-REP that the client reads, under the ticket's session key.
+    ApRepEncPart,
+}
+
+impl KeyUsage {
+    /// The usage number, which keys are derived for.
+    pub fn number(self) -> u32
+        ensures { result ≡ usage_number self }
+    {
+        match self {
+            KeyUsage::PaEncTimestamp => 1,
+            KeyUsage::Ticket => 2,
+            KeyUsage::AsRepEncPart => 3,
+            KeyUsage::TgsReqAuthenticatorChecksum => 6,
+            KeyUsage::TgsReqAuthenticator => 7,
+            KeyUsage::TgsRepEncPartSessionKey => 8,
+            KeyUsage::TgsRepEncPartSubkey => 9,
+            KeyUsage::ApReqAuthenticatorChecksum => 10,
+            KeyUsage::ApReqAuthenticator => 11,
+            KeyUsage::ApRepEncPart => 12,
+        }
+    }
+}

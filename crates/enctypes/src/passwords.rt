@@ -1,0 +1,57 @@
+//! Keys of passwords: string-to-key (RFC 3962 section 4, RFC 8009 section 4).
+ghost use Rattle.std.specs.Prelude.{◌≡◌, ◌≤◌, IfOk};
+ghost use Rattle.enctypes.specs.Derivation.{string_key};
+
+use crate::key::LONGEST;
+use crate::sha2_profile::{Aes128Sha2, Aes256Sha2};
+use crate::simplified::{Aes128Sha1, Aes256Sha1};
+use crate::suite::Suite;
+use crate::{Etype, Key};
+use std::alloc::{AllocError, Global};
+
+/// The constant that a password's key is derived for.
+const KERBEROS: &[u8; 8] = b"kerberos";
+
+/// The key of a password, with a salt and a count of iterations. For types 19 and 20 it takes
+/// memory once, for the salt with the type's name.
+pub fn string_to_key(
+    alloc: Global,
+    etype: Etype,
+    pass: &[u8],
+    salt: &[u8],
+    count: u32,
+) -> Result<Key, AllocError>
+    requires { 1 ≤ count }
+    ensures { IfOk result (λ key. key
+        ≡ record { etype = etype; bytes = string_key etype pass.now salt.now count }) }
+{
+    match etype {
+        Etype::Aes128CtsHmacSha1_96 => string_to_key_as::<Aes128Sha1>(alloc, pass, salt, count),
+        Etype::Aes256CtsHmacSha1_96 => string_to_key_as::<Aes256Sha1>(alloc, pass, salt, count),
+        Etype::Aes128CtsHmacSha256_128 => {
+            string_to_key_as::<Aes128Sha2>(alloc, pass, salt, count)
+        }
+        Etype::Aes256CtsHmacSha384_192 => {
+            string_to_key_as::<Aes256Sha2>(alloc, pass, salt, count)
+        }
+    }
+}
+
+fn string_to_key_as<S: Suite>(
+    alloc: Global,
+    pass: &[u8],
+    salt: &[u8],
+    count: u32,
+) -> Result<Key, AllocError>
+    requires { 1 ≤ count }
+    ensures { IfOk result (λ key. key
+        ≡ record { etype = S.ETYPE; bytes = string_key S.ETYPE pass.now salt.now count }) }
+{
+    let mut stretched = [0; LONGEST];
+    let stretched = &mut stretched[..S::KEY_LEN];
+    S::stretch(alloc, pass, salt, count, stretched)?;
+    let mut octets = [0; LONGEST];
+    let octets = &mut octets[..S::KEY_LEN];
+    S::derive(stretched, KERBEROS, octets);
+    Ok(Key::with_octets(S::ETYPE, octets))
+}

@@ -1,0 +1,151 @@
+//! Types 17 and 18: the simplified profile of RFC 3961 section 5 with AES and HMAC-SHA-1, as
+//! RFC 3962 has it. They differ in the key's length alone.
+ghost use Rattle.std.specs.Prelude.{◌≡◌, ◌≤◌, ◌<◌, ◌⊎◌, length, take};
+ghost use Rattle.std.specs.List.{flat_map};
+ghost use Rattle.prf_kdf.specs.Hmac.{hmac_sha1};
+ghost use Rattle.enctypes.specs.Derivation.{dr};
+
+use crate::aes_key::aes_key;
+use crate::suite::Suite;
+use crate::{Etype, Mac};
+use prf_kdf::{hmac_sha1, n_fold, pbkdf2_sha1};
+use std::alloc::{AllocError, Global};
+
+/// The octets of a block of AES.
+const BLOCK_LEN: usize = 16;
+
+/// aes128-cts-hmac-sha1-96.
+pub struct Aes128Sha1;
+
+#[tactic(auto, unfolding(crate::specs::Derivation::derived, crate::specs::Derivation::stretched, crate::specs::Sealing::hmac_of))]
+impl Suite for Aes128Sha1 {
+    ghost use Rattle.std.specs.Prelude.{false};
+    ghost use Rattle.enctypes.specs.declared.etype.Etype.TheVariants.{Aes128CtsHmacSha1_96};
+    ghost use Rattle.enctypes.specs.Suite.{sizes_of};
+
+    ghost ETYPE = { Aes128CtsHmacSha1_96 };
+
+    ghost KEY_LEN = { 16 };
+
+    ghost MAC_KEY_LEN = { 16 };
+
+    ghost MAC_LEN = { 12 };
+
+    ghost MACS_CIPHER = { false };
+
+    ghost sizes = { sizes_of Aes128CtsHmacSha1_96 };
+
+    const ETYPE: Etype = Etype::Aes128CtsHmacSha1_96;
+
+    const KEY_LEN: usize = 16;
+
+    const MAC_KEY_LEN: usize = 16;
+
+    const MAC_LEN: usize = 12;
+
+    const MACS_CIPHER: bool = false;
+
+    const CHECKSUM_TYPE: i32 = 15;
+
+    const DEFAULT_COUNT: u32 = 4_096;
+
+    fn derive(key: &[u8], constant: &[u8], out: &mut [u8]) {
+        derive_random(key, constant, out);
+    }
+
+    fn hmac(key: &[u8], parts: &[&[u8]]) -> Mac {
+        hmac_sha1_96(key, parts)
+    }
+
+    fn stretch(
+        _alloc: Global,
+        pass: &[u8],
+        salt: &[u8],
+        count: u32,
+        out: &mut [u8],
+    ) -> Result<(), AllocError> {
+        pbkdf2_sha1(pass, salt, count, out);
+        Ok(())
+    }
+}
+
+/// aes256-cts-hmac-sha1-96.
+pub struct Aes256Sha1;
+
+#[tactic(auto, unfolding(crate::specs::Derivation::derived, crate::specs::Derivation::stretched, crate::specs::Sealing::hmac_of))]
+impl Suite for Aes256Sha1 {
+    ghost use Rattle.std.specs.Prelude.{false};
+    ghost use Rattle.enctypes.specs.declared.etype.Etype.TheVariants.{Aes256CtsHmacSha1_96};
+    ghost use Rattle.enctypes.specs.Suite.{sizes_of};
+
+    ghost ETYPE = { Aes256CtsHmacSha1_96 };
+
+    ghost KEY_LEN = { 32 };
+
+    ghost MAC_KEY_LEN = { 32 };
+
+    ghost MAC_LEN = { 12 };
+
+    ghost MACS_CIPHER = { false };
+
+    ghost sizes = { sizes_of Aes256CtsHmacSha1_96 };
+
+    const ETYPE: Etype = Etype::Aes256CtsHmacSha1_96;
+
+    const KEY_LEN: usize = 32;
+
+    const MAC_KEY_LEN: usize = 32;
+
+    const MAC_LEN: usize = 12;
+
+    const MACS_CIPHER: bool = false;
+
+    const CHECKSUM_TYPE: i32 = 16;
+
+    const DEFAULT_COUNT: u32 = 4_096;
+
+    fn derive(key: &[u8], constant: &[u8], out: &mut [u8]) {
+        derive_random(key, constant, out);
+    }
+
+    fn hmac(key: &[u8], parts: &[&[u8]]) -> Mac {
+        hmac_sha1_96(key, parts)
+    }
+
+    fn stretch(
+        _alloc: Global,
+        pass: &[u8],
+        salt: &[u8],
+        count: u32,
+        out: &mut [u8],
+    ) -> Result<(), AllocError> {
+        pbkdf2_sha1(pass, salt, count, out);
+        Ok(())
+    }
+}
+
+/// Fills `out` with DR of the key and the constant (RFC 3961 section 5.1): the constant folded to a
+/// block, enciphered again and again, the blocks in order.
+fn derive_random(key: &[u8], constant: &[u8], out: &mut [u8])
+    requires key { (length key.now ≡ 16) ⊎ (length key.now ≡ 32) }
+    requires constant { 0 < length constant.now }
+    ensures { out.new ≡ dr key.now constant.now (length out.old) }
+{
+    let cipher = aes_key(key);
+    let mut block = [0; BLOCK_LEN];
+    n_fold(constant, &mut block);
+    let len = out.len();
+    for i in 0..len.div_ceil(BLOCK_LEN) {
+        block = cipher.encrypt_block(&block);
+        let start = BLOCK_LEN * i;
+        let end = len.min(start + BLOCK_LEN);
+        out[start..end].copy_from_slice(&block[..end - start]);
+    }
+}
+
+/// The first 12 octets of the HMAC-SHA-1 of the parts.
+fn hmac_sha1_96(key: &[u8], parts: &[&[u8]]) -> Mac
+    ensures { result ≡ take 12 (hmac_sha1 key.now (flat_map (λ part. part.now) parts.now)) }
+{
+    Mac::new(&hmac_sha1(key, parts)[..12])
+}

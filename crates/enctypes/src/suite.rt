@@ -1,0 +1,74 @@
+//! What the encryption types differ in.
+ghost use Rattle.std.specs.Prelude.{◌≡◌, ◌≤◌, ◌<◌, ℕ, Bool, length, OnOk};
+ghost use Rattle.std.specs.List.{flat_map};
+ghost use Rattle.enctypes.specs.declared.etype.Etype.{Etype};
+ghost use Rattle.enctypes.specs.Etype.{key_len};
+ghost use Rattle.enctypes.specs.Derivation.{derived, stretched};
+ghost use Rattle.enctypes.specs.Sealing.{cut_hmac};
+ghost use Rattle.enctypes.specs.Suite.{HasSizes};
+
+use crate::{Etype, Mac};
+use std::alloc::{AllocError, Global};
+
+/// An encryption type: its sizes, and the functions that its keys, checksums and sealed texts are
+/// made by.
+pub trait Suite {
+    ghost ETYPE: { Etype };
+
+    ghost KEY_LEN: { ℕ };
+
+    ghost MAC_KEY_LEN: { ℕ };
+
+    ghost MAC_LEN: { ℕ };
+
+    ghost MACS_CIPHER: { Bool };
+
+    const ETYPE: Etype;
+
+    /// The octets of a protocol key, and of Ke.
+    const KEY_LEN: usize;
+
+    /// The octets of Kc and of Ki.
+    const MAC_KEY_LEN: usize;
+
+    /// The octets of a checksum, and of the HMAC that ends a sealed text.
+    const MAC_LEN: usize;
+
+    /// Whether the HMAC of a sealed text is that of the cipher, with the vector before it, or that
+    /// of the plain text.
+    const MACS_CIPHER: bool;
+
+    /// The number of the checksum type that goes with the type.
+    const CHECKSUM_TYPE: i32;
+
+    /// The count of iterations where string-to-key parameters name none.
+    const DEFAULT_COUNT: u32;
+
+    /// Fills `out` with the octets that a protocol key gives for a constant.
+    fn derive(key: &[u8], constant: &[u8], out: &mut [u8])
+        requires key { length key.now ≡ key_len ETYPE }
+        requires constant { 0 < length constant.now }
+        requires out { length out.old ≤ 32 }
+        ensures value { out.new ≡ derived ETYPE key.now constant.now (length out.old) }
+        ensures len { length out.new ≡ length out.old };
+
+    /// The HMAC of the parts, taken one after the other as one text, cut to the type's length.
+    fn hmac(key: &[u8], parts: &[&[u8]]) -> Mac
+        ensures { result ≡ cut_hmac ETYPE key.now (flat_map (λ part. part.now) parts.now) };
+
+    /// Fills `out` with the key that PBKDF2 makes of a password, from which string-to-key derives
+    /// the protocol key.
+    fn stretch(
+        alloc: Global,
+        pass: &[u8],
+        salt: &[u8],
+        count: u32,
+        out: &mut [u8],
+    ) -> Result<(), AllocError>
+        requires count { 1 ≤ count }
+        requires out { length out.old ≡ key_len ETYPE }
+        ensures value { OnOk result (out.new ≡ stretched ETYPE pass.now salt.now count) }
+        ensures len { length out.new ≡ length out.old };
+
+    ghost sizes: { HasSizes ETYPE KEY_LEN MAC_KEY_LEN MAC_LEN MACS_CIPHER };
+}

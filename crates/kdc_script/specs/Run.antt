@@ -1,0 +1,40 @@
+-- What a line of a script does.
+use Rattle.std.specs.Prelude.{◌≡◌, ℕ, List, Option, Some, None}
+use Rattle.principals.specs.declared.change.Change.{Change}
+use Rattle.principals.specs.declared.change.Change.TheVariants as changes
+use Rattle.principals.specs.declared.change.ChangeFault.{ChangeFault}
+use Rattle.principals.specs.declared.change.ChangeFault.TheVariants.{BadName}
+use Rattle.principals.specs.Change.{refusal, changed}
+use Rattle.principals.specs.Database.{first_database}
+use Rattle.kdc_state.specs.declared.opening.Opening.TheVariants.{First}
+use Rattle.kdc_state.specs.declared.state.State.{State}
+use Rattle.kdc_state.specs.State.{opened}
+use Rattle.kdc_state.specs.View.{view}
+use Rattle.kdc_core.specs.Answer.{answer, next}
+use Rattle.kdc_script.specs.declared.answer.Answer.{Answer}
+use Rattle.kdc_script.specs.declared.answer.Answer.TheVariants.{Done, Refused, Reply, NoReply}
+use Rattle.kdc_script.specs.declared.line.Line.{Line}
+use Rattle.kdc_script.specs.declared.line.Line.TheVariants.{Open, Add, Request}
+
+-- a reply, or none, is printed so
+abbrev pub IsReply : Answer → Option (List ℕ) → Type 0
+IsReply (Reply octets) (Some reply) = octets.items ≡ reply
+IsReply NoReply None = Unit {0}
+IsReply printed reply = ⊥
+
+-- a change is done, or refused for this reason, and then the KDC is as before
+abbrev pub Changes : State → Change → Option ChangeFault → Option State → Answer → Type 0
+Changes kdc change None after printed = (after ≡ Some (record kdc { database = changed kdc.database change })) × (printed ≡ Done)
+Changes kdc change (Some fault) after printed = (after ≡ Some kdc) × (printed ≡ Refused fault)
+
+-- the KDC before a line, if one was opened, and after it, and what the line prints
+abbrev pub Runs : Option State → Line → Option State → Answer → Type 0
+Runs before (Open realm limits keys) after printed =
+    (after ≡ Some (opened (first_database realm keys) limits First)) × (printed ≡ Done)
+Runs (Some kdc) (Add (Some name) keys) after printed =
+    Changes kdc (changes.Add name keys) (refusal kdc.database (changes.Add name keys)) after printed
+Runs (Some kdc) (Add None keys) after printed = (after ≡ Some kdc) × (printed ≡ Refused BadName)
+Runs (Some kdc) (Request request) after printed =
+    (after ≡ Some (next kdc request.at request.words request.room request.octets.items))
+    × IsReply printed (answer (view kdc request.octets.items) request.at request.words request.room request.octets.items).reply
+Runs None line after printed = ⊥

@@ -1,0 +1,275 @@
+ghost use Rattle.std.specs.Prelude.{◌<◌, length};
+
+use super::*;
+use krb_der::{DerFault, Items};
+use krb_elements::{Fault, look_whole};
+use krb_fields::NameRef;
+use std::alloc::Global;
+use std::test::Fail;
+
+// pyasn1 gives these octets of the types of RFC 4120, sections 5.3, 5.4.1 and 5.9.1.
+
+/// The AS-REQ of `u` for `krbtgt/A.B`.
+const AS_REQ: &[u8; 107] = b"\x6a\x69\x30\x67\
+    \xa1\x03\x02\x01\x05\
+    \xa2\x03\x02\x01\x0a\
+    \xa4\x5b\x30\x59\
+    \xa0\x07\x03\x05\x00\x00\x00\x00\x00\
+    \xa1\x0e\x30\x0c\xa0\x03\x02\x01\x01\xa1\x05\x30\x03\x1b\x01u\
+    \xa2\x05\x1b\x03A.B\
+    \xa3\x18\x30\x16\xa0\x03\x02\x01\x02\xa1\x0f\x30\x0d\x1b\x06krbtgt\x1b\x03A.B\
+    \xa5\x11\x18\x0f19700101000000Z\
+    \xa7\x03\x02\x01\x01\
+    \xa8\x05\x30\x03\x02\x01\x12";
+
+/// A TGS-REQ with each field but the client's name.
+const TGS_REQ: &[u8; 252] = b"\x6c\x81\xf9\x30\x81\xf6\
+    \xa1\x03\x02\x01\x05\
+    \xa2\x03\x02\x01\x0c\
+    \xa3\x0f\x30\x0d\x30\x0b\xa1\x03\x02\x01\x01\xa2\x04\x04\x02\x01\x02\
+    \xa4\x81\xd8\x30\x81\xd5\
+    \xa0\x07\x03\x05\x00\x40\x81\x00\x10\
+    \xa2\x05\x1b\x03A.B\
+    \xa3\x14\x30\x12\xa0\x03\x02\x01\x03\xa1\x0b\x30\x09\x1b\x04host\x1b\x01b\
+    \xa4\x11\x18\x0f20240101000000Z\
+    \xa5\x11\x18\x0f20240102000000Z\
+    \xa6\x11\x18\x0f20240103000000Z\
+    \xa7\x07\x02\x05\x00\x80\x00\x00\x00\
+    \xa8\x08\x30\x06\x02\x01\x12\x02\x01\x11\
+    \xa9\x11\x30\x0f\x30\x0d\xa0\x03\x02\x01\x02\xa1\x06\x04\x04\x0a\x00\x00\x01\
+    \xaa\x0d\x30\x0b\xa0\x03\x02\x01\x12\xa2\x04\x04\x02\x03\x04\
+    \xab\x3f\x30\x3d\x61\x3b\x30\x39\xa0\x03\x02\x01\x05\xa1\x05\x1b\x03A.B\
+    \xa2\x18\x30\x16\xa0\x03\x02\x01\x02\xa1\x0f\x30\x0d\x1b\x06krbtgt\x1b\x03A.B\
+    \xa3\x11\x30\x0f\xa0\x03\x02\x01\x11\xa1\x03\x02\x01\x07\xa2\x03\x04\x01\x05";
+
+/// An error with no field that may be absent.
+const SHORT_ERROR: &[u8; 76] = b"\x7e\x4a\x30\x48\
+    \xa0\x03\x02\x01\x05\
+    \xa1\x03\x02\x01\x1e\
+    \xa4\x11\x18\x0f20240101000000Z\
+    \xa5\x03\x02\x01\x00\
+    \xa6\x03\x02\x01\x06\
+    \xa9\x05\x1b\x03A.B\
+    \xaa\x18\x30\x16\xa0\x03\x02\x01\x02\xa1\x0f\x30\x0d\x1b\x06krbtgt\x1b\x03A.B";
+
+/// An error with each field.
+const LONG_ERROR: &[u8; 137] = b"\x7e\x81\x86\x30\x81\x83\
+    \xa0\x03\x02\x01\x05\
+    \xa1\x03\x02\x01\x1e\
+    \xa2\x11\x18\x0f20231231235959Z\
+    \xa3\x05\x02\x03\x0f\x42\x3f\
+    \xa4\x11\x18\x0f20240101000000Z\
+    \xa5\x03\x02\x01\x01\
+    \xa6\x03\x02\x01\x19\
+    \xa7\x03\x1b\x01C\
+    \xa8\x0e\x30\x0c\xa0\x03\x02\x01\x01\xa1\x05\x30\x03\x1b\x01u\
+    \xa9\x05\x1b\x03A.B\
+    \xaa\x18\x30\x16\xa0\x03\x02\x01\x02\xa1\x0f\x30\x0d\x1b\x06krbtgt\x1b\x03A.B\
+    \xab\x04\x1b\x02no\
+    \xac\x04\x04\x02\x30\x00";
+
+/// Whether these are the elements' octets.
+fn are(items: Items<'_>, octets: &[&[u8]]) -> bool {
+    let mut items = items;
+    for element in octets {
+        if items.next() != Some(*element) {
+            return false;
+        }
+    }
+    items.next().is_none()
+}
+
+/// Whether the name has this name type and these components.
+fn is_name(name: Option<&NameRef<'_>>, name_type: i32, components: &[&[u8]]) -> bool {
+    let Some(name) = name else {
+        return false;
+    };
+    name.name_type() == name_type && are(name.components(), components)
+}
+
+/// Reading takes no allocator, so no test has to refuse it memory.
+#[test]
+fn requests_are_read(rt: HostRuntime) -> Result<(), Fail> {
+    let octets = AS_REQ.as_slice();
+    let request = read_kdc_req(octets)?;
+    assert_eq!(rt; request.exchange(), Exchange::As);
+    assert_eq!(rt; (request.pvno(), request.msg_type()), (5, 10));
+    assert!(rt; request.padata().is_none());
+    assert_eq!(rt; request.body_octets(), &octets[16..]);
+    let body = request.body();
+    assert_eq!(rt; body.kdc_options().bits(), 0);
+    assert!(rt; is_name(body.cname(), 1, &[b"\x1b\x01u"]));
+    assert_eq!(rt; body.realm(), b"A.B".as_slice());
+    assert!(rt; is_name(body.sname(), 2, &[b"\x1b\x06krbtgt", b"\x1b\x03A.B"]));
+    assert_eq!(rt; (body.till().seconds(), body.nonce().get()), (0, 1));
+    assert!(rt; are(body.etype(), &[b"\x02\x01\x12"]));
+    assert!(rt; body.from().is_none() && body.rtime().is_none() && body.addresses().is_none());
+    assert!(rt; body.enc_authorization_data().is_none() && body.additional_tickets().is_none());
+    Ok(())
+}
+
+/// The seconds are those of Python's datetime.
+#[test]
+fn requests_with_more_fields_are_read(rt: HostRuntime) -> Result<(), Fail> {
+    let request = read_kdc_req(TGS_REQ)?;
+    assert_eq!(rt; request.exchange(), Exchange::Tgs);
+    assert_eq!(rt; (request.pvno(), request.msg_type()), (5, 12));
+    let padata = request.padata().ok_or("data")?;
+    assert!(rt;
+        are(
+            padata,
+            &[b"\x30\x0b\xa1\x03\x02\x01\x01\xa2\x04\x04\x02\x01\x02"]
+        )
+    );
+    let body = request.body();
+    assert_eq!(rt; body.kdc_options().bits(), 0x4081_0010);
+    assert!(rt; body.cname().is_none());
+    assert_eq!(rt; body.from().map(|time| time.seconds()), Some(1_704_067_200));
+    assert_eq!(rt; body.till().seconds(), 1_704_153_600);
+    assert_eq!(rt;
+        body.rtime().map(|time| time.seconds()),
+        Some(1_704_240_000)
+    );
+    assert_eq!(rt; body.nonce().get(), 2_147_483_648);
+    assert!(rt; are(body.etype(), &[b"\x02\x01\x12", b"\x02\x01\x11"]));
+    let addresses = body.addresses().ok_or("addresses")?;
+    assert!(rt;
+        are(
+            addresses,
+            &[b"\x30\x0d\xa0\x03\x02\x01\x02\xa1\x06\x04\x04\x0a\x00\x00\x01"]
+        )
+    );
+    let sealed = body.enc_authorization_data().ok_or("sealed data")?;
+    assert_eq!(rt; sealed.cipher(), [3, 4].as_slice());
+    let mut tickets = body.additional_tickets().ok_or("tickets")?;
+    let ticket: TicketRef<'_> = look_whole(tickets.next().ok_or("a ticket")?)?;
+    assert_eq!(rt; (ticket.tkt_vno(), ticket.realm()), (5, b"A.B".as_slice()));
+    assert!(rt;
+        is_name(
+            Some(ticket.sname()),
+            2,
+            &[b"\x1b\x06krbtgt", b"\x1b\x03A.B"]
+        )
+    );
+    assert_eq!(rt; ticket.enc_part().cipher(), [5].as_slice());
+    assert!(rt; tickets.next().is_none());
+    Ok(())
+}
+
+/// The order of faults: no octet, tag, length, contents cut, contents, what follows.
+#[test]
+fn faults_are_told_apart(rt: HostRuntime) {
+    let octets = AS_REQ.as_slice();
+    let mut followed = [0; 108];
+    followed[..107].copy_from_slice(octets);
+    let mut long_length = [0x81; 108];
+    long_length[0] = 0x6a;
+    long_length[2..].copy_from_slice(&octets[1..]);
+    let faults: [(&[u8], DerFault); 6] = [
+        (&[], DerFault::Truncated),
+        (&[0x6a], DerFault::Truncated),
+        (&[0x6b], DerFault::BadTag),
+        (&octets[..106], DerFault::Truncated),
+        (&followed, DerFault::Trailing),
+        (&long_length, DerFault::BadLength),
+    ];
+    for (faulty, fault) in faults {
+        assert_eq!(rt; read_kdc_req(faulty).err(), Some(fault));
+    }
+    for len in 0..107 {
+        let read = read_kdc_req(&octets[..len]);
+        assert_eq!(rt; read.err(), Some(DerFault::Truncated), "at {len}");
+    }
+}
+
+/// What is written of the request that the octets spell.
+fn request_again(alloc: Global, octets: &[u8]) -> Result<Vec<u8>, Fault>
+    requires { length octets.now < 1000 }
+{
+    let request = decode_kdc_req(alloc, octets)?;
+    Ok(encode_kdc_req(alloc, &request)?)
+}
+
+/// What is written of the error that the octets spell.
+#[tactic(auto, using(krb_elements::specs::WrittenLaws::tlv_longer))]
+fn error_again(alloc: Global, octets: &[u8]) -> Result<Vec<u8>, Fault>
+    requires { length octets.now < 1000 }
+{
+    let error = decode_krb_error(alloc, octets)?;
+    Ok(encode_krb_error(alloc, &error)?)
+}
+
+#[test]
+fn requests_are_written(rt: HostRuntime) -> Result<(), Fail> {
+    let alloc = rt.alloc();
+    let mut tgs = *AS_REQ;
+    tgs[0] = 0x6c;
+    tgs[13] = 12;
+    let requests: [&[u8]; 3] = [AS_REQ, TGS_REQ, &tgs];
+    for octets in requests {
+        assert!(rt; octets.len() < 1000);
+        assert_eq!(rt; request_again(alloc, octets)?.as_slice(), octets);
+    }
+    assert_eq!(rt;
+        read_kdc_req(&tgs).map(|request| request.exchange()),
+        Ok(Exchange::Tgs)
+    );
+    Ok(())
+}
+
+#[test]
+fn errors_are_read_and_written(rt: HostRuntime) -> Result<(), Fail> {
+    let alloc = rt.alloc();
+    let error = decode_krb_error(alloc, LONG_ERROR)?;
+    assert_eq!(rt; error.ctime.map(|time| time.seconds()), Some(1_704_067_199));
+    assert_eq!(rt; error.cusec.map(|n| n.get()), Some(999_999));
+    assert_eq!(rt;
+        (error.stime.seconds(), error.susec.get()),
+        (1_704_067_200, 1)
+    );
+    assert_eq!(rt; error.error_code, 25);
+    assert_eq!(rt;
+        error.e_text.as_ref().map(|text| text.as_slice()),
+        Some(b"no".as_slice())
+    );
+    assert_eq!(rt;
+        error.e_data.as_ref().map(|data| data.as_slice()),
+        Some([0x30, 0].as_slice())
+    );
+    let errors: [&[u8]; 2] = [SHORT_ERROR, LONG_ERROR];
+    for octets in errors {
+        assert!(rt; octets.len() < 1000);
+        assert_eq!(rt; error_again(alloc, octets)?.as_slice(), octets);
+    }
+    let mut version_4 = *SHORT_ERROR;
+    version_4[8] = 4;
+    assert_eq!(rt;
+        decode_krb_error(alloc, &version_4).err(),
+        Some(Fault::Der(DerFault::BadInteger))
+    );
+    Ok(())
+}
+
+/// One allocation may be refused, by `rt try --test --fail-alloc N`: the answer is then want of
+/// memory and nothing else, and the next call succeeds.
+#[test]
+fn want_of_memory_is_answered(rt: HostRuntime) -> Result<(), Fail> {
+    let alloc = rt.alloc();
+    let written = match request_again(alloc, AS_REQ) {
+        Ok(written) => written,
+        Err(fault) => {
+            assert_eq!(rt; fault, Fault::Memory);
+            request_again(alloc, AS_REQ)?
+        }
+    };
+    assert_eq!(rt; written.as_slice(), AS_REQ.as_slice());
+    let written = match error_again(alloc, LONG_ERROR) {
+        Ok(written) => written,
+        Err(fault) => {
+            assert_eq!(rt; fault, Fault::Memory);
+            error_again(alloc, LONG_ERROR)?
+        }
+    };
+    assert_eq!(rt; written.as_slice(), LONG_ERROR.as_slice());
+    Ok(())
+}
