@@ -2,15 +2,15 @@
 use Rattle.std.proofs.Common.{◌≡◌, ℕ, ◌+◌, ◌^◌, ◌<◌, ◌≤◌, ℤ, pos, List, [], ◌∷◌, ◌++◌, length, Option, Some, None, refl, sym, ap, subst, ◌∙◌, arith, inl, inr}
 use Rattle.std.specs.Prelude.{IfSome, codes}
 use Rattle.std.specs.Option.{unwrap_or}
-use Rattle.std.proofs.lemmas.Bool.{cases_lt, lt-ltb, le-ltb}
 use Rattle.std.proofs.lemmas.List.{length-append, length-drop}
-use Rattle.krb_der.specs.Spelling.{tlv, length_octets}
+use Rattle.krb_der.specs.Spelling.{tlv}
 use Rattle.krb_der.specs.Int.{int_octets}
 use Rattle.krb_der.specs.Ints.{int_short}
 use Rattle.krb_der.specs.Time.{time_octets}
 use Rattle.krb_der.proofs.TimeLaws.{length-time_octets}
 use Rattle.krb_elements.specs.Written.{field_text, items_text}
 use Rattle.krb_elements.specs.Simple.{as_they_are}
+use Rattle.krb_elements.specs.ShortText.{tlv_short}
 use Rattle.krb_fields.specs.declared.code.Code.{Code}
 use Rattle.krb_fields.specs.declared.moment.Moment.{Moment}
 use Rattle.krb_fields.specs.declared.name.Name.{Name}
@@ -19,28 +19,6 @@ use Rattle.krb_fields.specs.PrincipalName.{name_text}
 use Rattle.krb_types.specs.KrbError.{krb_error_text, krb_error_fields, later_text}
 use Rattle.principals.specs.Database.{granter_name}
 use Rattle.kdc_core.specs.Answer.{krb_error}
-
--- a length takes five octets at most
-length_octets_short : (n : ℕ) → length (length_octets n) ≤ 5
-unfolding length_octets
-length_octets_short n =
-    elim (cases_lt n (2 ^ 7)) [
-      | inl h ↦ rw (lt-ltb n (2 ^ 7) h) (omega arith)
-      | inr h7 ↦ elim (cases_lt n (2 ^ 8)) [
-        | inl h ↦ rw (le-ltb n (2 ^ 7) h7, lt-ltb n (2 ^ 8) h) (omega arith)
-        | inr h8 ↦ elim (cases_lt n (2 ^ 16)) [
-          | inl h ↦ rw (le-ltb n (2 ^ 7) h7, le-ltb n (2 ^ 8) h8, lt-ltb n (2 ^ 16) h) (omega arith)
-          | inr h16 ↦ elim (cases_lt n (2 ^ 24)) [
-            | inl h ↦ rw (le-ltb n (2 ^ 7) h7, le-ltb n (2 ^ 8) h8, le-ltb n (2 ^ 16) h16, lt-ltb n (2 ^ 24) h) (omega arith)
-            | inr h24 ↦ rw (le-ltb n (2 ^ 7) h7, le-ltb n (2 ^ 8) h8, le-ltb n (2 ^ 16) h16, le-ltb n (2 ^ 24) h24) (omega arith)
-          ]
-        ]
-      ]
-    ]
-
-tlv_short : (tag : ℕ) (contents : List ℕ) → length (tlv tag contents) ≤ length contents + 6
-unfolding tlv
-tlv_short tag contents = omega (arith, length-append (length_octets (length contents)) contents, length_octets_short (length contents))
 
 field_short : (outer tag : ℕ) (contents : List ℕ) → length (field_text outer tag contents) ≤ length contents + 12
 field_short outer tag contents = omega (arith, tlv_short outer (tlv tag contents), tlv_short tag contents)
