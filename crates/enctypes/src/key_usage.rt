@@ -3,7 +3,7 @@ ghost use Rattle.std.specs.Prelude.{◌≡◌};
 ghost use Rattle.enctypes.specs.KeyUsage.{usage_number};
 
 /// A use of a key, as this KDC, its clients and its services make of keys. Under each usage a key
-/// has other derived keys, so that what is sealed for one use is not opened in another.
+/// has other derived keys, so that the uses are kept apart.
 #[derive(Debug, Clone, Copy, PartialEq, Eq)]
 pub enum KeyUsage {
     /// The PA-ENC-TIMESTAMP of an AS-REQ, under the client's key.

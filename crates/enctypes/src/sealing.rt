@@ -24,7 +24,7 @@ const CONFOUNDER_LEN: usize = 16;
 /// The initial cipher state.
 const ZERO_VECTOR: [u8; 16] = [0; 16];
 
-/// Seals a text: a text so sealed can be read only with the key, and can't be changed without it.
+/// Seals a text: enciphers it behind the confounder, and adds the HMAC.
 ///
 /// The confounder has to be random octets of which nobody else knows. The result is longer than the
 /// text by 16 octets and those of the type's HMAC. It takes memory once, of the result's size.
@@ -60,8 +60,8 @@ pub fn seal(
     }
 }
 
-/// Opens a sealed text: `None` where the key never sealed it under this usage, or it was changed
-/// since.
+/// Opens a sealed text: `None` where no confounder and text are sealed to this cipher under this key
+/// and usage.
 ///
 /// It takes memory once, for the confounder and the text. No octet of the text is given out before
 /// all octets of the HMAC have been compared.

@@ -32,6 +32,10 @@ krb_error realm at code sname = record {
   e_data = None;
 }
 
+-- the error that answers a request
+abbrev pub error_to : View → Moment → KdcReq → KrbError
+error_to v at request = krb_error v.realm at (refusal v request) request.body.sname
+
 -- the octets of the reply, or none, and the named client's memory afterwards: none, it stays as it was
 pub record Answer : Type 0 where
   pub reply : Option (List ℕ)
@@ -40,7 +44,7 @@ pub record Answer : Type 0 where
 -- random octets and room take no part as long as no ticket is issued
 abbrev pub answer_to : View → Moment → List ℕ → ℕ → Option KdcReq → Answer
 answer_to v at words room (Some request) = record {
-  reply = Some (written_krb_error (krb_error v.realm at (refusal v request) request.body.sname));
+  reply = Some (written_krb_error (error_to v at request));
   kept = None;
 }
 answer_to v at words room None = record { reply = None; kept = None }

@@ -1,5 +1,5 @@
 //! From a request's octets to a reply's.
-ghost use Rattle.std.specs.Prelude.{◌≡◌, IfOk, Some, option_map};
+ghost use Rattle.std.specs.Prelude.{◌≡◌, ◌≤◌, length, IfOk, Some, option_map};
 ghost use Rattle.kdc_core.specs.Answer.{answer, answer_to};
 ghost use Rattle.kdc_core.specs.Rules.{refusal};
 ghost use Rattle.kdc_state.specs.View.{named_in, view, view_of};
@@ -23,8 +23,11 @@ pub fn reply(
     room: u32,
     request: &[u8],
 ) -> Result<Option<Vec<u8>>, AllocError>
-    ensures { IfOk result (λ reply. option_map (λ octets. octets.items) reply ≡ (answer (view state.now request.now) at words.now room request.now).reply) }
+    ensures reply { IfOk result (λ reply. option_map (λ octets. octets.items) reply ≡ (answer (view state.now request.now) at words.now room request.now).reply) }
+    // The realm is short enough for an error.
+    ensures realm { length state.now.database.realm ≤ 255 }
 {
+    let realm = state.database.realm();
     if request.len() > GREATEST_REQUEST {
         return Ok(None);
     }
@@ -32,13 +35,7 @@ pub fn reply(
         return Ok(None);
     };
     let code = refusal(state, &found);
-    let octets = error_reply(
-        alloc,
-        state.database.realm(),
-        at,
-        code,
-        found.body().sname(),
-    )?;
+    let octets = error_reply(alloc, realm, at, code, found.body().sname())?;
     Ok(Some(octets))
 }
 

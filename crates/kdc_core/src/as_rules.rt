@@ -68,5 +68,5 @@ fn is_service_unknown(state: &State, request: &KdcReqRef<'_>) -> bool
 fn row_of<'s>(state: &'s State, name: Option<&NameRef<'_>>) -> Option<&'s Row>
     ensures { option_copied result ≡ row_of state.now (components_of (option_copied name.entry)) }
 {
-    state.database.get(name?)
+    state.database.get_ref(name?)
 }

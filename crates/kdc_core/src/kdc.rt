@@ -1,12 +1,15 @@
 //! The key distribution centre.
-ghost use Rattle.std.specs.Prelude.{◌≡◌, ◌≢◌, ℕ, List, Some, IfOk, IfSome, IfNone, OnOk, OnErr, IsOkUnless, option_map};
+ghost use Rattle.std.specs.Prelude.{◌≡◌, ◌≢◌, ◌≤◌, ◌↔◌, ℕ, List, length, Some, IfOk, IfSome, IfNone, OnOk, OnErr, IsOkUnless, option_map};
 ghost use Rattle.std.specs.FinMap as map;
 ghost use Rattle.std.specs.Option.{option_copied};
 ghost use Rattle.krb_fields.specs.Name.{Components};
-ghost use Rattle.kdc_core.specs.Answer.{answer, next};
+ghost use Rattle.kdc_core.specs.Answer.{answer, error_to, next};
 ghost use Rattle.kdc_state.specs.State.{opened, memory_of};
-ghost use Rattle.kdc_state.specs.View.{Agrees, named, view};
+ghost use Rattle.kdc_state.specs.View.{Agrees, named, request_of, view};
 ghost use Rattle.kdc_state.specs.declared.state.State as states;
+ghost use Rattle.krb_types.specs.KdcReq.{SpellsKdcReq};
+ghost use Rattle.krb_types.specs.KrbError.{SpellsKrbError, written_krb_error};
+ghost use Rattle.krb_types.specs.declared.kdc_req.KdcReq as requests;
 ghost use Rattle.principals.specs.Change.{refusal, changed};
 
 use crate::answering::reply;
@@ -35,7 +38,7 @@ impl Model for Kdc {
 }
 
 impl Kdc {
-    /// Opens with a database. It answers want of memory alone.
+    /// Opens with a database. It answers want of memory alone; today it takes none.
     pub fn open(
         alloc: Global,
         database: Database,
@@ -52,8 +55,8 @@ impl Kdc {
     /// Answers a request, whatever its octets are: the octets of the reply, or none.
     ///
     /// `at` is the moment of the request, `words` are 64 random octets, and `room` is the most octets of a
-    /// reply with a ticket. Octets that spell neither an AS-REQ nor a TGS-REQ get no reply (RFC 4120,
-    /// section 5.4.1). A call that is refused memory changes nothing.
+    /// reply with a ticket. Octets that spell neither an AS-REQ nor a TGS-REQ (RFC 4120, section 5.4.1) get no
+    /// reply, nor do more than 2147483647. A call that is refused memory changes nothing.
     pub fn handle(
         &mut self,
         alloc: Global,
@@ -62,8 +65,12 @@ impl Kdc {
         room: u32,
         request: &[u8],
     ) -> Result<Option<Vec<u8>>, AllocError>
+        // The request is the one that the octets spell, if they spell one and are no more than 2147483647.
+        ensures request { (r : requests.KdcReq) → (request_of request.now ≡ Some r) ↔ (SpellsKdcReq r request.now × (length request.now ≤ 2147483647)) }
         // The reply is the one that the rules say.
         ensures reply { IfOk result (λ reply. option_map (λ octets. octets.items) reply ≡ (answer (view self.old request.now) at words.now room request.now).reply) }
+        // What the rules answer a request is a KRB-ERROR, which its octets spell.
+        ensures spelled { IfSome (request_of request.now) (λ r. SpellsKrbError (error_to (view self.old request.now) at r) (written_krb_error (error_to (view self.old request.now) at r))) }
         // The state afterwards is the one that the rules say.
         ensures state { OnOk result (self.new ≡ next self.old at words.now room request.now) }
         // A second state that agrees at what the request names is answered alike.
@@ -88,12 +95,14 @@ impl Kdc {
         self.state.database.apply(alloc, change)
     }
 
+    /// The row of a principal, whose name is compared by its components alone.
     pub fn get(&self, name: &Name) -> Option<&Row>
         ensures { option_copied result ≡ map.get self.now.database.rows name.now.components }
     {
         self.state.database.get(name)
     }
 
+    /// The realm's octets, 1 to 255.
     pub fn realm(&self) -> &[u8]
         ensures { result.now ≡ self.now.database.realm }
     {

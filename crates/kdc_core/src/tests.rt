@@ -19,6 +19,26 @@ const LONG_FORM: &[u8] =
 const CLIENT_UNKNOWN: &[u8] =
     b"7e4a3048a003020105a10302011ea411180f32303234303130313030303030305aa503020100a603020106a9051b03412e42aa183016a003020102a10f300d1b066b72627467741b03412e42";
 
+/// The basic request without its cname.
+const NO_CLIENT: &[u8] =
+    b"6a593057a103020105a20302010aa44b3049a00703050000000000a2051b03412e42a3183016a003020102a10f300d1b066b72627467741b03412e42a511180f31393730303130313030303030305aa703020101a8053003020112";
+
+/// The basic request without its sname.
+const NO_SERVICE: &[u8] =
+    b"6a4f304da103020105a20302010aa441303fa00703050000000000a10e300ca003020101a10530031b0175a2051b03412e42a511180f31393730303130313030303030305aa703020101a8053003020112";
+
+/// KRB-ERROR of 2024-01-01 00:00:00 with code 7, realm `A.B` and service `krbtgt/A.B`.
+const SERVICE_UNKNOWN: &[u8] =
+    b"7e4a3048a003020105a10302011ea411180f32303234303130313030303030305aa503020100a603020107a9051b03412e42aa183016a003020102a10f300d1b066b72627467741b03412e42";
+
+/// The basic request for a service of name-type -3 without components.
+const STRANGE_SERVICE: &[u8] =
+    b"6a5c305aa103020105a20302010aa44e304ca00703050000000000a10e300ca003020101a10530031b0175a2051b03412e42a30b3009a0030201fda1023000a511180f31393730303130313030303030305aa703020101a8053003020112";
+
+/// KRB-ERROR of 2024-01-01 00:00:00 and 999999 microseconds with code 7, realm `A.B` and that service.
+const STRANGE_SERVICE_UNKNOWN: &[u8] =
+    b"7e3f303da003020105a10302011ea411180f32303234303130313030303030305aa50502030f423fa603020107a9051b03412e42aa0b3009a0030201fda1023000";
+
 const MIDNIGHT: i64 = 1_704_067_200;
 
 fn octets(alloc: Global, digits: &[u8]) -> Result<Vec<u8>, Fail> {
@@ -66,6 +86,40 @@ fn refuses_an_unknown_client(rt: HostRuntime) -> Result<(), Fail> {
     let mut kdc = kdc(alloc)?;
     let reply = asked(alloc, &mut kdc, &octets(alloc, BASIC)?)?.ok_or("a reply")?;
     assert_eq!(rt; reply, octets(alloc, CLIENT_UNKNOWN)?);
+    Ok(())
+}
+
+fn add_user(alloc: Global, kdc: &mut Kdc) -> Result<(), Fail> {
+    let add = Change::Add {
+        name: name(alloc, &[b"u"])?,
+        keys: keys(alloc)?,
+    };
+    Ok(kdc.apply(alloc, &add)?)
+}
+
+#[test]
+fn refuses_where_no_client_or_no_service_is_named(rt: HostRuntime) -> Result<(), Fail> {
+    let alloc = rt.alloc();
+    let mut kdc = kdc(alloc)?;
+    add_user(alloc, &mut kdc)?;
+    for (request, error) in [(NO_CLIENT, CLIENT_UNKNOWN), (NO_SERVICE, SERVICE_UNKNOWN)] {
+        let reply = asked(alloc, &mut kdc, &octets(alloc, request)?)?.ok_or("a reply")?;
+        assert_eq!(rt; reply, octets(alloc, error)?);
+    }
+    Ok(())
+}
+
+#[test]
+fn names_the_service_and_the_moment_as_they_are(rt: HostRuntime) -> Result<(), Fail> {
+    let alloc = rt.alloc();
+    let mut kdc = kdc(alloc)?;
+    add_user(alloc, &mut kdc)?;
+    let at = Moment::new(MIDNIGHT, 999_999).ok_or("a moment")?;
+    let request = octets(alloc, STRANGE_SERVICE)?;
+    let reply = kdc
+        .handle(alloc, at, &[0; 64], 1400, &request)?
+        .ok_or("a reply")?;
+    assert_eq!(rt; reply, octets(alloc, STRANGE_SERVICE_UNKNOWN)?);
     Ok(())
 }
 
@@ -119,11 +173,7 @@ fn refuses_by_version_type_and_exchange(rt: HostRuntime) -> Result<(), Fail> {
 fn refuses_what_the_database_lacks(rt: HostRuntime) -> Result<(), Fail> {
     let alloc = rt.alloc();
     let mut kdc = kdc(alloc)?;
-    let add = Change::Add {
-        name: name(alloc, &[b"u"])?,
-        keys: keys(alloc)?,
-    };
-    kdc.apply(alloc, &add)?;
+    add_user(alloc, &mut kdc)?;
     // Another realm; another instance of the service; nothing changed, so that no rule refuses.
     for (place, octet, code) in [(49, b'C', 6), (75, b'C', 7), (0, 0x6a, 14)] {
         assert_eq!(rt; code_for(alloc, &mut kdc, place, octet)?, Some(code));

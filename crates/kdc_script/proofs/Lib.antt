@@ -1,1 +1,2 @@
 pub mod KeyTexts
+mod LineTexts

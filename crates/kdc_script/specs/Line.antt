@@ -1,5 +1,5 @@
 -- The lines of a script, each with the texts that spell it.
-use Rattle.std.specs.Prelude.{◌≡◌, ◌==◌, ℕ, ◌<◌, All, List, [], ◌∷◌, Option, Some, None, Ok, codes}
+use Rattle.std.specs.Prelude.{◌≡◌, ◌==◌, ℕ, pos, ◌<◌, All, List, [], ◌∷◌, Option, Some, None, Ok, codes}
 use Rattle.std.specs.List.{slice_split}
 use Rattle.hex.specs.Hex.{decode_sized}
 use Rattle.krb_fields.specs.declared.name.Name.{Name}
@@ -9,9 +9,9 @@ use Rattle.kdc_script.specs.declared.line.Line.{Line}
 use Rattle.kdc_script.specs.declared.line.Line.TheVariants.{Open, Add, Request}
 use Rattle.kdc_script.specs.Field.{IsMomentText, IsU32Text, AreLimitsTexts, IsOctetsText, IsKeysText}
 
--- a name, or none where the text is that of no name
+-- a name of name-type 1 (NT-PRINCIPAL), or none where the text is that of no name
 abbrev pub IsNameTextOrNone : Option Name → List ℕ → Type 0
-IsNameTextOrNone (Some name) text = IsNameText name.components text
+IsNameTextOrNone (Some name) text = IsNameText name.components text × (name.name_type ≡ pos 1)
 IsNameTextOrNone None text = (name : Components) → ¬ IsNameText name text
 
 -- a line's fields: its first is the word that says what it does

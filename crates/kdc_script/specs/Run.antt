@@ -1,5 +1,6 @@
 -- What a line of a script does.
 use Rattle.std.specs.Prelude.{◌≡◌, ℕ, List, Option, Some, None}
+use Rattle.krb_fields.specs.NameLimits.{IsComponent}
 use Rattle.principals.specs.declared.change.Change.{Change}
 use Rattle.principals.specs.declared.change.Change.TheVariants as changes
 use Rattle.principals.specs.declared.change.ChangeFault.{ChangeFault}
@@ -13,8 +14,17 @@ use Rattle.kdc_state.specs.View.{view}
 use Rattle.kdc_core.specs.Answer.{answer, next}
 use Rattle.kdc_script.specs.declared.answer.Answer.{Answer}
 use Rattle.kdc_script.specs.declared.answer.Answer.TheVariants.{Done, Refused, Reply, NoReply}
+use Rattle.kdc_script.specs.declared.line.LineFault.{LineFault}
+use Rattle.kdc_script.specs.declared.line.LineFault.TheVariants.{Form, Memory}
+use Rattle.kdc_script.specs.declared.run.Stop.{Stop}
+use Rattle.kdc_script.specs.declared.run.Stop.TheVariants.{Fault, Failed}
 use Rattle.kdc_script.specs.declared.line.Line.{Line}
 use Rattle.kdc_script.specs.declared.line.Line.TheVariants.{Open, Add, Request}
+
+-- a line of another form is a fault
+abbrev pub stop_of : LineFault → Stop
+stop_of Form = Fault
+stop_of Memory = Failed
 
 -- a reply, or none, is printed so
 abbrev pub IsReply : Answer → Option (List ℕ) → Type 0
@@ -38,3 +48,9 @@ Runs (Some kdc) (Request request) after printed =
     (after ≡ Some (next kdc request.at request.words request.room request.octets.items))
     × IsReply printed (answer (view kdc request.octets.items) request.at request.words request.room request.octets.items).reply
 Runs None line after printed = ⊥
+
+-- a line that does nothing: no KDC is open, or its realm is none
+abbrev pub CannotRun : Option State → Line → Type 0
+CannotRun before (Open realm limits keys) = ¬ IsComponent realm
+CannotRun None line = Unit {0}
+CannotRun (Some kdc) line = ⊥

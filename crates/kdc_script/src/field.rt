@@ -1,5 +1,5 @@
 //! The fields of a line.
-ghost use Rattle.std.specs.Prelude.{◌≡◌, ◌↔◌, ◌⊎◌, ◌^◌, ◌<◌, ℕ, true, false, List, [], map, IsSome, IfSome, IfOk, IfErr, IfNone};
+ghost use Rattle.std.specs.Prelude.{◌≡◌, ◌↔◌, ◌⊎◌, ◌^◌, ◌<◌, ℕ, pos, true, false, List, [], map, IsSome, IfSome, IfOk, IfErr, IfNone};
 ghost use Rattle.std.specs.Str.Parse.{IsNumeral, digits_value};
 ghost use Rattle.std.specs.Result.{result_ok};
 ghost use Rattle.hex.specs.Hex.{decode_sized};
@@ -104,7 +104,7 @@ pub(crate) fn realm(alloc: Global, text: &str) -> Result<KerberosString, LineFau
 
 /// A principal's name; `None` for a text that is read as no name.
 pub(crate) fn name(alloc: Global, text: &str) -> Result<Option<Name>, LineFault>
-    ensures name { IfOk result (λ name. IfSome name (λ n. IsNameText n.components text.now)) }
+    ensures name { IfOk result (λ name. IfSome name (λ n. IsNameText n.components text.now × (n.name_type ≡ pos 1))) }
     ensures none { IfOk result (λ name. IfNone name ((n : Components) → ¬ IsNameText n text.now)) }
     ensures memory { IfErr result (λ fault. fault ≡ LineFault.Memory) }
 {

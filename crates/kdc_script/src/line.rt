@@ -1,8 +1,9 @@
 //! The lines of a script.
-ghost use Rattle.std.specs.Prelude.{◌≡◌, ◌==◌, ◌<◌, ◌∷◌, All, IfOk, IfSome, codes, map};
+ghost use Rattle.std.specs.Prelude.{◌≡◌, ◌==◌, ◌<◌, ◌∷◌, All, IfOk, IfNone, IfSome, codes, map};
 ghost use Rattle.std.specs.List.{slice_split};
 ghost use Rattle.kdc_script.specs.Line.{IsLineText, AreLineFields};
-ghost use Rattle.kdc_script.specs.declared.line.LineFault.TheVariants.{Memory};
+ghost use Rattle.kdc_script.specs.declared.line.Line as lines;
+ghost use Rattle.kdc_script.specs.declared.line.LineFault.TheVariants.{Form, Memory};
 
 use crate::field::{keys, limits, moment, name, number_u32, octets, realm, words};
 use krb_elements::KerberosString;
@@ -66,9 +67,12 @@ impl<T: Drop> From<AllocFailed<T>> for LineFault {
 impl Line {
     /// Reads a line, which comes without its line feed: fields of ASCII text, which single spaces separate.
     pub(crate) fn parse(alloc: Global, octets: &[u8]) -> Result<Line, LineFault>
-        ensures { IfOk result (λ line. IsLineText line octets.now) }
+        ensures ok { IfOk result (λ line. IsLineText line octets.now) }
+        ensures form { result ≡ Err Form → (line : lines.Line) → ¬ IsLineText line octets.now }
     {
-        let text = ascii_text(octets).ok_or(LineFault::Form)?;
+        let Some(text) = ascii_text(octets) else {
+            return Err(LineFault::Form);
+        };
         parse_fields(alloc, &fields_of(alloc, text)?)
     }
 }
@@ -82,18 +86,23 @@ fn fields_of<'a>(alloc: Global, text: &'a str) -> Result<Vec<&'a str>, AllocErro
 
 /// Reads the fields of a line: the word in front says what it does.
 fn parse_fields(alloc: Global, fields: &[&str]) -> Result<Line, LineFault>
-    ensures { IfOk result (λ line. AreLineFields line (map (λ field. field.now) fields.now)) }
+    ensures ok { IfOk result (λ line. AreLineFields line (map (λ field. field.now) fields.now)) }
+    ensures form { result ≡ Err Form → (line : lines.Line) → ¬ AreLineFields line (map (λ field. field.now) fields.now) }
 {
-    match fields {
-        ["open", fields @ ..] => parse_open(alloc, fields),
-        ["add", fields @ ..] => parse_add(alloc, fields),
-        ["request", fields @ ..] => parse_request(alloc, fields),
+    let Some((word, fields)) = fields.split_first() else {
+        return Err(LineFault::Form);
+    };
+    match *word {
+        "open" => parse_open(alloc, fields),
+        "add" => parse_add(alloc, fields),
+        "request" => parse_request(alloc, fields),
         _ => Err(LineFault::Form),
     }
 }
 
 fn ascii_text(octets: &[u8]) -> Option<&str>
-    ensures { IfSome result (λ text. (text.now ≡ octets.now) × All (λ o. o < 128) octets.now) }
+    ensures some { IfSome result (λ text. (text.now ≡ octets.now) × All (λ o. o < 128) octets.now) }
+    ensures none { IfNone result (¬ All (λ o. o < 128) octets.now) }
 {
     if octets.is_ascii() {
         str::from_utf8(octets).ok()
@@ -103,7 +112,8 @@ fn ascii_text(octets: &[u8]) -> Option<&str>
 }
 
 fn parse_open(alloc: Global, fields: &[&str]) -> Result<Line, LineFault>
-    ensures { IfOk result (λ line. AreLineFields line (codes "open" ∷ map (λ field. field.now) fields.now)) }
+    ensures ok { IfOk result (λ line. AreLineFields line (codes "open" ∷ map (λ field. field.now) fields.now)) }
+    ensures form { result ≡ Err Form → (line : lines.Line) → ¬ AreLineFields line (codes "open" ∷ map (λ field. field.now) fields.now) }
 {
     let [
         realm_text,
@@ -117,9 +127,9 @@ fn parse_open(alloc: Global, fields: &[&str]) -> Result<Line, LineFault>
     else {
         return Err(LineFault::Form);
     };
-    let limits = limits([remembered, lock_after, lock_seconds, life, renewable]).ok_or(
-        LineFault::Form,
-    )?;
+    let Some(limits) = limits([remembered, lock_after, lock_seconds, life, renewable]) else {
+        return Err(LineFault::Form);
+    };
     Ok(Line::Open {
         realm: realm(alloc, realm_text)?,
         limits,
@@ -128,7 +138,8 @@ fn parse_open(alloc: Global, fields: &[&str]) -> Result<Line, LineFault>
 }
 
 fn parse_add(alloc: Global, fields: &[&str]) -> Result<Line, LineFault>
-    ensures { IfOk result (λ line. AreLineFields line (codes "add" ∷ map (λ field. field.now) fields.now)) }
+    ensures ok { IfOk result (λ line. AreLineFields line (codes "add" ∷ map (λ field. field.now) fields.now)) }
+    ensures form { result ≡ Err Form → (line : lines.Line) → ¬ AreLineFields line (codes "add" ∷ map (λ field. field.now) fields.now) }
 {
     let [name_text, keys_text] = fields else {
         return Err(LineFault::Form);
@@ -140,15 +151,25 @@ fn parse_add(alloc: Global, fields: &[&str]) -> Result<Line, LineFault>
 }
 
 fn parse_request(alloc: Global, fields: &[&str]) -> Result<Line, LineFault>
-    ensures { IfOk result (λ line. AreLineFields line (codes "request" ∷ map (λ field. field.now) fields.now)) }
+    ensures ok { IfOk result (λ line. AreLineFields line (codes "request" ∷ map (λ field. field.now) fields.now)) }
+    ensures form { result ≡ Err Form → (line : lines.Line) → ¬ AreLineFields line (codes "request" ∷ map (λ field. field.now) fields.now) }
 {
     let [sec, usec, words_text, room, octets_text] = fields else {
         return Err(LineFault::Form);
     };
+    let Some(at) = moment(sec, usec) else {
+        return Err(LineFault::Form);
+    };
+    let Some(words) = words(words_text) else {
+        return Err(LineFault::Form);
+    };
+    let Some(room) = number_u32(room) else {
+        return Err(LineFault::Form);
+    };
     Ok(Line::Request(Request {
-        at: moment(sec, usec).ok_or(LineFault::Form)?,
-        words: words(words_text).ok_or(LineFault::Form)?,
-        room: number_u32(room).ok_or(LineFault::Form)?,
+        at,
+        words,
+        room,
         octets: octets(alloc, octets_text)?,
     }))
 }

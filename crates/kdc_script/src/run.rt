@@ -1,8 +1,9 @@
 //! Runs of a script.
 ghost use Rattle.std.specs.Prelude.{◌≡◌, ◌⊎◌, IfOk};
-ghost use Rattle.kdc_script.specs.Run.{Runs};
+ghost use Rattle.kdc_script.specs.Run.{CannotRun, Runs, stop_of};
 ghost use Rattle.kdc_script.specs.declared.line.Line.TheVariants as lines;
-ghost use Rattle.kdc_script.specs.declared.run.Stop.TheVariants.{Failed};
+ghost use Rattle.kdc_script.specs.declared.run.Stop.TheVariants.{Failed, Fault};
+ghost use Rattle.krb_fields.specs.NameLimits.{IsComponent};
 ghost use Rattle.kdc_state.specs.State.{opened};
 ghost use Rattle.kdc_state.specs.declared.opening.Opening.TheVariants.{First};
 ghost use Rattle.principals.specs.Database.{first_database};
@@ -54,6 +55,8 @@ impl From<AllocError> for Stop {
 }
 
 impl From<LineFault> for Stop {
+    ghost from_gives = { λ fault stop. stop ≡ stop_of fault };
+
     fn from(fault: LineFault) -> Stop {
         match fault {
             LineFault::Form => Stop::Fault,
@@ -103,7 +106,8 @@ fn run_lines<R: Read + Drop, W: Write>(
 
 /// Runs one line on the KDC, which is there once a line has opened it.
 fn run_line(alloc: Global, kdc: &mut Option<Kdc>, line: Line) -> Result<Answer, Stop>
-    ensures { IfOk result (λ answer. Runs kdc.old line kdc.new answer) }
+    ensures ok { IfOk result (λ answer. Runs kdc.old line kdc.new answer) }
+    ensures fault { result ≡ Err Fault → CannotRun kdc.old line }
 {
     match line {
         Line::Open {
@@ -125,7 +129,8 @@ fn open(
     limits: Limits,
     krbtgt_keys: KeyList,
 ) -> Result<Kdc, Stop>
-    ensures { IfOk result (λ kdc. kdc ≡ opened (first_database realm.now krbtgt_keys) limits First) }
+    ensures ok { IfOk result (λ kdc. kdc ≡ opened (first_database realm.now krbtgt_keys) limits First) }
+    ensures fault { result ≡ Err Fault → ¬ IsComponent realm.now }
 {
     let database = match Database::first(alloc, realm.as_slice(), krbtgt_keys) {
         Ok(database) => database,
@@ -141,7 +146,8 @@ fn add(
     name: Option<Name>,
     keys: KeyList,
 ) -> Result<Answer, Stop>
-    ensures { IfOk result (λ answer. Runs kdc.old (lines.Add name keys) kdc.new answer) }
+    ensures ok { IfOk result (λ answer. Runs kdc.old (lines.Add name keys) kdc.new answer) }
+    ensures fault { result ≡ Err Fault → CannotRun kdc.old (lines.Add name keys) }
 {
     let Some(kdc) = kdc else {
         return Err(Stop::Fault);
@@ -157,7 +163,8 @@ fn add(
 }
 
 fn handle(alloc: Global, kdc: &mut Option<Kdc>, request: &Request) -> Result<Answer, Stop>
-    ensures { IfOk result (λ answer. Runs kdc.old (lines.Request request.now) kdc.new answer) }
+    ensures ok { IfOk result (λ answer. Runs kdc.old (lines.Request request.now) kdc.new answer) }
+    ensures fault { result ≡ Err Fault → CannotRun kdc.old (lines.Request request.now) }
 {
     let Some(kdc) = kdc else {
         return Err(Stop::Fault);

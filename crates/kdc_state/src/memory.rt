@@ -4,7 +4,7 @@ ghost use Rattle.kdc_state.specs.Memory.{opened_memory};
 
 use crate::opening::Opening;
 
-/// The floor of a memory that opens for the first time: the skew before 1970.
+/// The floor of a memory that opens, for the first time or again: 300 seconds, the skew, before 1970.
 const FIRST_FLOOR: i64 = -300;
 
 /// What is remembered of one client. Nothing that comes in changes it yet.

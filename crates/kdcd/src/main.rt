@@ -26,7 +26,7 @@ fn run(rt: &HostRuntime) -> io::Result<u8> {
         Ok(_) => Ok(USAGE),
         Err(error) if error.kind() == ErrorKind::OutOfMemory => Ok(FAILED),
         Err(error) => {
-            error.print(rt)?;
+            print!(rt; "{error}")?;
             Ok(if error.exit_code() == 0 { 0 } else { USAGE })
         }
     }

@@ -1,5 +1,5 @@
 -- What a read of a value says of its one spelling.
-use Rattle.std.proofs.Common.{◌≡◌, ℕ, ◌^◌, ◌<◌, List, [], ◌∷◌, ◌++◌, length, Result, Ok, Err, refl, sym, ap, subst, ◌∙◌, arith}
+use Rattle.std.proofs.Common.{◌≡◌, ℕ, ◌^◌, ◌<◌, List, ◌++◌, length, Result, Ok, Err, sym, ap, ◌∙◌}
 use Rattle.std.specs.Prelude.{IfOk, IsOkAnd}
 use Rattle.krb_der.specs.declared.fault.DerFault.{DerFault}
 use Rattle.krb_der.specs.Spelling.{tlv}

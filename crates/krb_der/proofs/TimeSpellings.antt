@@ -1,8 +1,8 @@
 -- A time that is read is the time that was written, and it has one spelling.
-use Rattle.std.proofs.Common.{◌≡◌, ℤ, ◌^◌, ◌<◌, List, ℕ, length, refl, sym, ap, subst, ◌∙◌, arith}
-use Rattle.krb_der.specs.Spelling.{tlv, IsContents}
+use Rattle.std.proofs.Common.{◌≡◌, ℤ, List, ℕ, refl, sym, ap, subst, ◌∙◌, arith}
+use Rattle.krb_der.specs.Spelling.{tlv}
 use Rattle.krb_der.specs.Civil.{IsCivilSecond}
-use Rattle.krb_der.specs.Time.{is_time, time_value, time_octets, Time, time_spelling}
+use Rattle.krb_der.specs.Time.{time_octets, Time, time_spelling}
 use Rattle.krb_der.proofs.TimeLaws.{time_again, time_value_range, time_one_spelling, length-time_octets}
 
 pub time_spelled : (z : ℤ) → IsCivilSecond z → Time z (time_spelling z)

@@ -1,8 +1,7 @@
 -- The bits that are written are the bits that are read.
-use Rattle.std.proofs.Common.{◌≡◌, ℕ, ◌^◌, ◌%◌, ◌<◌, [], ◌∷◌, true, eqb, refl, arith, eq-eqb}
-use Rattle.std.specs.Int.{w32, to_be_bytes, from_be_bytes}
+use Rattle.std.proofs.Common.{◌≡◌, ℕ, ◌^◌, ◌%◌, ◌<◌, ◌∷◌, true, eqb, refl, arith, eq-eqb}
+use Rattle.std.specs.Int.{w32, to_be_bytes}
 use Rattle.std.proofs.lemmas.Nat.{from_be_bytes-to_be_bytes_4}
-use Rattle.krb_der.specs.Spelling.{IsContents}
 use Rattle.krb_der.specs.Bits.{is_bits, is_padded, first_bits, bits_value, Bits, bits_spelling}
 
 pub bits_spelled : (bits : ℕ) → bits < 2 ^ 32 → Bits (bits, 32) (bits_spelling bits)

@@ -1,6 +1,5 @@
 -- A number that is read is the number that was written, and it has one spelling.
-use Rattle.std.proofs.Common.{◌≡◌, ℕ, ℤ, pos, negsuc, zero, suc, ◌+◌, ◌-◌, ◌^◌, ◌<◌, ◌≤◌, Bool, true, false, cond, ltb, leb, eqb, slice_index, List, [], ◌∷◌, ◌++◌, length, get_or, replicate, refl, sym, ap, subst, ◌∙◌, append_assoc, arith, inl, inr, ◌⊎◌, w64, FitsSigned}
-use Rattle.std.specs.Prelude.{IsTrue, not}
+use Rattle.std.proofs.Common.{◌≡◌, ℕ, ℤ, pos, negsuc, zero, suc, ◌-◌, ◌^◌, ◌<◌, ◌≤◌, true, leb, slice_index, List, [], ◌∷◌, ◌++◌, length, replicate, refl, sym, ap, ◌∙◌, arith, inl, inr, w64, FitsSigned}
 use Rattle.std.specs.Int.{to_be_bytes, from_be_bytes, cast_signed, cast_unsigned}
 use Rattle.std.proofs.lemmas.Int.{to_z-of_z, of_z-to_z}
 use Rattle.std.proofs.lemmas.Bool.{and_from, le-leb, not-true, cases_lt, cases_Bool, or_cases, and_parts, eqb-true, ltb-true, leb-true, lt-ltb, le-ltb}
@@ -9,7 +8,7 @@ use Rattle.std.proofs.lemmas.Nat.{from_be_bytes-to_be_bytes_8, be_bytes_8}
 use Rattle.krb_der.specs.Spelling.{IsContents, tlv}
 use Rattle.krb_der.specs.Laws.{contents_fit}
 use Rattle.krb_der.specs.Int.{is_shortest, is_redundant, sign_octet, shortest, int_octets, int_spelling, int_value, is_int, Int}
-use Rattle.krb_der.specs.Steps.{IsBytes, IsBytes-append, IsBytes-replicate, chosen}
+use Rattle.krb_der.specs.Steps.{IsBytes, IsBytes-append, IsBytes-replicate}
 
 -- as long as eight octets
 abbrev extended : List ℕ → List ℕ

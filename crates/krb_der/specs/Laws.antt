@@ -1,14 +1,14 @@
 -- A value that is read is the value that stands there, and a value that stands there is read.
-use Rattle.std.proofs.Common.{◌≡◌, ℕ, zero, suc, ◌+◌, ◌*◌, ◌^◌, ◌<◌, ◌≤◌, Bool, true, false, cond, ltb, eqb, List, [], ◌∷◌, ◌++◌, length, get_or, take, drop, Result, Ok, Err, refl, sym, ap, subst, ◌∙◌, append_assoc, arith, inl, inr, ◌⊎◌}
+use Rattle.std.proofs.Common.{◌≡◌, ℕ, zero, suc, ◌^◌, ◌<◌, ◌≤◌, Bool, true, false, cond, ltb, eqb, List, [], ◌∷◌, ◌++◌, length, get_or, take, drop, Result, Ok, Err, refl, sym, ap, subst, ◌∙◌, append_assoc, arith, inl, inr}
 use Rattle.std.specs.Int.{w32, from_be_bytes, to_be_bytes}
 use Rattle.std.proofs.lemmas.Bool.{cases_lt, ltb-false, ltb-true, eqb-true, eqb-false, le-ltb, lt-ltb, ne_eqb, eq-eqb}
 use Rattle.std.proofs.lemmas.List.{take_at, drop_at, take-append-drop, length-append, length-take, length-drop}
-use Rattle.std.proofs.lemmas.Nat.{be_bytes_4, from_be_bytes-to_be_bytes_4}
+use Rattle.std.proofs.lemmas.Nat.{be_bytes_4}
 use Rattle.krb_der.specs.declared.fault.DerFault.{DerFault}
-use Rattle.krb_der.specs.declared.fault.DerFault.TheVariants.{Truncated, BadTag, BadLength}
+use Rattle.krb_der.specs.declared.fault.DerFault.TheVariants.{Truncated, BadLength}
 use Rattle.std.specs.Prelude.{IfOk, IsOkAnd}
-use Rattle.krb_der.specs.Spelling.{length_octets, tlv, Leaf, IsContents, Stands}
-use Rattle.krb_der.specs.Reading.{◌>>=◌, length_1, length_2, length_3, length_4, length_at, tlv_at, leaf_at, Gives}
+use Rattle.krb_der.specs.Spelling.{length_octets, tlv, Leaf, Stands}
+use Rattle.krb_der.specs.Reading.{length_1, length_2, length_3, length_4, length_at, tlv_at, leaf_at, Gives}
 use Rattle.krb_der.specs.Steps.{IsBytes, IsBytes-rest, IsBytes-back, IsBytes-front, bind_ok, guard_ok, chosen, ok_is}
 
 -- what was taken from the front is this text

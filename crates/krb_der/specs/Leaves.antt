@@ -3,7 +3,7 @@ use Rattle.krb_der.specs.declared.fault.DerFault.TheVariants.{BadInteger, BadBit
 use Rattle.krb_der.specs.Int.{is_int, int_value, Int}
 use Rattle.krb_der.specs.Bits.{is_bits, bits_value, Bits}
 use Rattle.krb_der.specs.Time.{is_time, time_value, Time}
-use Rattle.krb_der.specs.Reading.{leaf_at, int_at, bits_at, time_at}
+use Rattle.krb_der.specs.Reading.{int_at, bits_at, time_at}
 use Rattle.krb_der.specs.Laws.{IsReading, leaf_ok}
 
 pub int_ok : IsReading Int int_at

@@ -5,7 +5,7 @@ use Rattle.krb_der.specs.Int.{is_int, int_value}
 use Rattle.krb_der.specs.Bits.{is_bits, bits_value}
 use Rattle.krb_der.specs.Time.{is_time, time_value}
 use Rattle.krb_der.specs.declared.fault.DerFault.{DerFault}
-use Rattle.krb_der.specs.declared.fault.DerFault.TheVariants.{Truncated, BadTag, BadLength, BadInteger, BadBits, BadTime, Trailing}
+use Rattle.krb_der.specs.declared.fault.DerFault.TheVariants.{Truncated, BadTag, BadLength, BadInteger, BadBits, BadTime}
 
 infixl 10 ◌>>=◌
 abbrev pub ◌>>=◌ : {A B : Type 0} → Result A DerFault → (A → Result B DerFault) → Result B DerFault

@@ -24,7 +24,7 @@ impl Model for Writer {
     ghost view = { λ w. w.bytes.items };
 }
 
-/// The octets of a length, and how many of the five they are.
+/// Appends the octets of a length. An `Err` changes nothing.
 #[tactic(auto, unfolding(crate::specs::Spelling::length_octets))]
 fn push_length(out: &mut Vec<u8>, len: u32) -> Result<(), AllocError>
     ensures ok { OnOk result (out.new.items ≡ out.old.items ++ length_octets len) }
@@ -59,6 +59,7 @@ fn push_tlv(out: &mut Vec<u8>, tag: u8, contents: &[u8]) -> Result<(), AllocErro
 }
 
 impl Writer {
+    /// A writer that has written nothing. It takes no memory yet.
     pub fn new(alloc: Global) -> Writer
         ensures { result ≡ [] }
     {
@@ -127,6 +128,7 @@ impl Writer {
         self.bytes.extend_from_slice(bytes)
     }
 
+    /// The octets that were written.
     pub fn finish(self) -> Vec<u8>
         ensures { result.items ≡ self }
     {

@@ -4,6 +4,7 @@ pub mod Written
 pub mod Simple
 pub mod Laws
 pub mod WrittenLaws
+pub mod WritableLaws
 pub mod SimpleLaws
 pub mod OneSpelling
 pub mod ShortText

@@ -85,7 +85,7 @@ pub fn look_optional_list<'a, T: ElementRef<'a>>(
     }
 }
 
-/// The values of a list's elements.
+/// The values of a list's elements. Elements that spell no `T` are left out.
 pub fn copy_items<T: Element>(alloc: Global, items: &Items<'_>) -> Result<Seq<T>, AllocError>
     ensures { IfOk result (λ copies. copies ≡ values T.at items.now) }
 {

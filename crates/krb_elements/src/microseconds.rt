@@ -3,7 +3,9 @@ ghost use Rattle.std.specs.Prelude.{◌≡◌};
 
 use std::marker::Model;
 
-/// The microseconds of a moment, from 0 to 999999.
+/// The microseconds of a moment.
+///
+/// What is read is from 0 to 999999. `new` takes any number; one above has no spelling.
 #[derive(Clone, Copy, Debug, PartialEq, Eq)]
 pub struct Microseconds {
     value: u32,

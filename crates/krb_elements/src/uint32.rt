@@ -6,7 +6,7 @@ use std::marker::Model;
 /// The number of a UInt32 field.
 ///
 /// It is read as any INTEGER from -2147483648 to 4294967295 and kept as it came, since some peers send
-/// numbers of this type as signed ones.
+/// numbers of this type as signed ones. `new` takes any number; one outside has no spelling.
 #[derive(Clone, Copy, Debug, PartialEq, Eq)]
 pub struct UInt32 {
     value: i64,

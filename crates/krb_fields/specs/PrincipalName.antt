@@ -9,6 +9,7 @@ use Rattle.krb_elements.specs.Written.{field_then, no_more, items_text}
 use Rattle.krb_elements.specs.Simple.{Int32, int32_at, KerberosString, string_at, as_they_are}
 use Rattle.krb_elements.specs.Laws.{IsElement, inside_ok, made_ok, field_ok, end_ok, list_ok}
 use Rattle.krb_elements.specs.WrittenLaws.{IsWriting, inside_written, field_written, end_written, list_written}
+use Rattle.krb_elements.specs.WritableLaws.{IsWritable, IsInt32, int32_writable, string_writable, inside_writable, field_writable, list_writable, end_writable}
 use Rattle.krb_elements.specs.OneSpelling.{HasOneSpelling, inside_one, field_one, end_one, list_one, int32_one, string_one}
 use Rattle.krb_elements.specs.SimpleLaws.{int32_ok, string_ok, int32_written, string_written}
 
@@ -49,3 +50,18 @@ name_one =
     (field_one 160 2 _ _ _ _ int32_one
     (field_one 161 48 _ _ _ _ (list_one _ 27 _ string_one)
     end_one))
+
+-- a name whose name-type is an Int32 has the spelling that is written
+abbrev pub FitsName : Name → Type 0
+FitsName name = IsInt32 name.name_type
+
+pub name_writable : IsWritable FitsName SpellsName 48 name_text
+unfolding name_text
+name_writable = record { spells = λ x fits lt. written.spells x (fits, (tt, tt)) lt }
+  where
+    written : IsWritable (λ (x : Name). FitsName x × (Unit {0} × Unit {0})) SpellsName 48 name_text
+    written =
+        inside_writable 48 _ _ _ fields_of
+        (field_writable 160 2 _ _ _ _ _ _ int32_writable
+        (field_writable 161 48 _ _ _ _ _ _ (list_writable _ 27 _ string_writable)
+        end_writable))

@@ -3,4 +3,6 @@ pub mod ReqBody
 pub mod KdcReq
 pub mod KdcReqWritten
 pub mod KrbError
+pub mod NameInRequest
 pub mod ShortName
+pub mod KrbErrorFits

@@ -1,4 +1,4 @@
-//! KDC-REQ (RFC 4120, section 5.4.1) where it stands: reading takes no memory that a stranger chooses.
+//! KDC-REQ (RFC 4120, section 5.4.1) where it stands: reading it takes no memory.
 ghost use Rattle.std.specs.Prelude.{◌≡◌, option_map, IfOk, IsOkAnd};
 ghost use Rattle.krb_elements.specs.Format.{Looks, Sees, seen_as, values, whole, inside};
 ghost use Rattle.krb_fields.specs.PaData.{pa_data_at};
@@ -45,12 +45,14 @@ impl<'a> KdcReqRef<'a> {
         self.exchange
     }
 
+    /// The version, any Int32: reading doesn't judge it.
     pub fn pvno(&self) -> i32
         ensures { result ≡ self.now.pvno }
     {
         self.pvno
     }
 
+    /// The message type, any Int32: reading doesn't judge it.
     pub fn msg_type(&self) -> i32
         ensures { result ≡ self.now.msg_type }
     {

@@ -3,6 +3,7 @@ ghost use Rattle.std.specs.Prelude.{◌≡◌, ◌<◌, ◌^◌, ◌++◌, List,
 ghost use Rattle.krb_der.specs.Steps.{IsBytes};
 ghost use Rattle.krb_elements.specs.Format.{Decodes, IsReadUnlessMemory, whole};
 ghost use Rattle.krb_types.specs.KrbError.{SpellsKrbError, fields_at, krb_error_at, krb_error_fields, later_text, later_of, krb_error_text, written_krb_error, krb_error_ok, krb_error_written};
+ghost use Rattle.krb_types.specs.KrbErrorFits.{FitsKrbError};
 ghost use Rattle.krb_types.specs.declared.krb_error.KrbError as trees;
 
 use crate::application::put_application;
@@ -142,6 +143,8 @@ pub fn encode_krb_error(alloc: Global, error: &KrbError) -> Result<Vec<u8>, Allo
     ensures written { IfOk result (λ octets. octets.items ≡ written_krb_error error.now) }
     // What has a spelling has this one.
     ensures spelled { (bytes : List ℕ) → IsBytes bytes → SpellsKrbError error.now bytes → SpellsKrbError error.now (written_krb_error error.now) }
+    // An error whose numbers are in their ranges is spelled so.
+    ensures fits { FitsKrbError error.now → SpellsKrbError error.now (written_krb_error error.now) }
 {
     encode(alloc, error)
 }

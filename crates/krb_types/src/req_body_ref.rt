@@ -73,36 +73,42 @@ impl<'a> ReqBodyRef<'a> {
         self.sname.as_ref()
     }
 
+    /// When the ticket is to start.
     pub fn from(&self) -> Option<KTime>
         ensures { result ≡ self.now.from }
     {
         self.from
     }
 
+    /// When the ticket is to end.
     pub fn till(&self) -> KTime
         ensures { result ≡ self.now.till }
     {
         self.till
     }
 
+    /// Until when the ticket is to be renewable.
     pub fn rtime(&self) -> Option<KTime>
         ensures { result ≡ self.now.rtime }
     {
         self.rtime
     }
 
+    /// The number that the reply repeats.
     pub fn nonce(&self) -> UInt32
         ensures { result ≡ self.now.nonce }
     {
         self.nonce
     }
 
+    /// The encryption types that the client takes, in the order of its preference, each an INTEGER.
     pub fn etype(&self) -> Items<'a>
         ensures { values int32_at result ≡ self.now.etype }
     {
         self.etype.iter()
     }
 
+    /// The addresses for the ticket, each a HostAddress.
     pub fn addresses(&self) -> Option<Items<'a>>
         ensures { option_map (values host_address_at) result ≡ self.now.addresses }
     {
@@ -118,6 +124,7 @@ impl<'a> ReqBodyRef<'a> {
         self.enc_authorization_data.as_ref()
     }
 
+    /// Further tickets, each a Ticket.
     pub fn additional_tickets(&self) -> Option<Items<'a>>
         ensures { option_map (values ticket_at) result ≡ self.now.additional_tickets }
     {

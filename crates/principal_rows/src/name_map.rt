@@ -91,6 +91,7 @@ impl<V: Drop> NameMap<V> {
         }
     }
 
+    /// The value of a name, if it has one.
     pub fn get<K: NameKey>(&self, key: &K) -> Option<&V>
         ensures { option_copied result ≡ map.get self.now (K.components key.now) }
     {

@@ -44,6 +44,7 @@ impl Versions {
         Ok(Versions { versions })
     }
 
+    /// The versions, the current one first.
     pub fn as_slice(&self) -> &[KeyVersion]
         ensures versions { result.now ≡ self.now }
         ensures valid { IsVersions self.now }

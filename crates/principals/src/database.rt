@@ -7,8 +7,8 @@ ghost use Rattle.principals.specs.Change.{refusal, add_refusal, changed};
 
 use crate::{Change, ChangeFault};
 use krb_elements::{KerberosString, Seq};
-use krb_fields::{Name, is_component};
-use principal_rows::{KeyList, NameKey, NameMap, Row};
+use krb_fields::{Name, NameRef, is_component};
+use principal_rows::{KeyList, NameMap, Row};
 use std::alloc::{AllocError, Global};
 use std::marker::Model;
 
@@ -71,6 +71,7 @@ impl Database {
         })
     }
 
+    /// The realm's octets, 1 to 255.
     pub fn realm(&self) -> &[u8]
         ensures realm { result.now ≡ self.now.realm }
         ensures valid { IsDatabase self.now }
@@ -78,10 +79,18 @@ impl Database {
         self.realm.as_slice()
     }
 
-    pub fn get<K: NameKey>(&self, name: &K) -> Option<&Row>
-        ensures { option_copied result ≡ map.get self.now.rows (K.components name.now) }
+    /// The row of a principal, whose name is compared by its components alone.
+    pub fn get(&self, name: &Name) -> Option<&Row>
+        ensures { option_copied result ≡ map.get self.now.rows name.now.components }
     {
         self.rows.get(name)
+    }
+
+    /// The row of a principal that is named where it stands, as in a request. It takes no memory.
+    pub fn get_ref(&self, name_ref: &NameRef<'_>) -> Option<&Row>
+        ensures { option_copied result ≡ map.get self.now.rows name_ref.now.components }
+    {
+        self.rows.get(name_ref)
     }
 
     /// How many principals there are.

@@ -1,7 +1,8 @@
 use crate::{Change, ChangeFault, Database, FirstFault, granter_name};
 use enctypes::{Etype, Key};
-use krb_elements::{KerberosString, Seq};
-use krb_fields::Name;
+use krb_der::DerFault;
+use krb_elements::{KerberosString, Seq, look_whole};
+use krb_fields::{Name, NameRef};
 use principal_rows::KeyList;
 use std::alloc::{AllocError, Global};
 
@@ -85,6 +86,28 @@ fn principals_stand_in_the_order_of_their_components(rt: HostRuntime) -> Result<
     }
     assert!(rt; database.at(5).is_none());
     assert!(rt; database.get(&name(alloc, &[b"krbtgt"])?).is_none());
+    Ok(())
+}
+
+#[test]
+fn a_name_is_looked_up_where_it_stands(rt: HostRuntime) -> Result<(), ChangeFault> {
+    let alloc = rt.alloc();
+    let mut database = realm(alloc, b"A.B").expect(&rt, "a realm");
+    database.apply(alloc, &adding(alloc, &[b"u"])?)?;
+    // the PrincipalNames `u` and `v`, of name-type 1
+    for (octets, is_there) in [
+        (
+            b"\x30\x0c\xa0\x03\x02\x01\x01\xa1\x05\x30\x03\x1b\x01u",
+            true,
+        ),
+        (
+            b"\x30\x0c\xa0\x03\x02\x01\x01\xa1\x05\x30\x03\x1b\x01v",
+            false,
+        ),
+    ] {
+        let found: Result<NameRef<'_>, DerFault> = look_whole(octets);
+        assert!(rt; found.is_ok_and(|name| database.get_ref(&name).is_some() == is_there));
+    }
     Ok(())
 }
 

@@ -1,5 +1,4 @@
 use Rattle.std.proofs.Common.{arith}
-use Rattle.krb_der.specs.Spelling.{Leaf}
 use Rattle.krb_der.specs.Laws.{is_found, is_only}
 use Rattle.krb_der.specs.Leaves.{time_ok}
 use Rattle.krb_der.proofs.tlv.split_time.Goals as goal

@@ -1,4 +1,4 @@
-use Rattle.std.proofs.Common.{◌≡◌, [], ◌∷◌, length, arith, rules, sym, ap, ◌∙◌}
+use Rattle.std.proofs.Common.{◌≡◌, [], ◌∷◌, length, arith, sym, ap, ◌∙◌}
 use Rattle.krb_der.specs.Items.{elements}
 use Rattle.krb_der.specs.Elements.{elements_none, elements_first}
 use Rattle.krb_der.proofs.items.ItemsIterator.next.Goals as goal

@@ -1,4 +1,4 @@
-use Rattle.std.proofs.Common.{◌∙◌, ◌≡◌, ℤ, rules}
+use Rattle.std.proofs.Common.{◌∙◌, ◌≡◌, rules}
 use Rattle.krb_der.proofs.reader.Reader.read_int.Goals as goal
 
 pub returns-in_err-value-clause-only : goal.returns-in_err-value-clause-only
