@@ -11,7 +11,7 @@ use Rattle.krb_fields.specs.declared.moment.Moment.{Moment}
 use Rattle.krb_fields.specs.declared.name.Name.{Name}
 use Rattle.krb_fields.specs.Code.{number_of}
 use Rattle.krb_fields.specs.Moment.{IsSecond}
-use Rattle.krb_elements.specs.WritableLaws.{IsInt32}
+use Rattle.krb_elements.specs.Simple.{IsInt32}
 use Rattle.krb_fields.specs.PrincipalName.{FitsName, name_text}
 use Rattle.krb_types.specs.declared.kdc_req.KdcReq.{KdcReq}
 use Rattle.krb_types.specs.KrbError.{SpellsKrbError, written_krb_error}

@@ -46,7 +46,7 @@ fn krb_error(
         ctime: None,
         cusec: None,
         stime: time_of(at),
-        susec: Microseconds::new(at.usec),
+        susec: microseconds_of(at),
         error_code: code.number(),
         crealm: None,
         cname: None,
@@ -55,6 +55,15 @@ fn krb_error(
         e_text: None,
         e_data: None,
     })
+}
+
+fn microseconds_of(at: Moment) -> Microseconds
+    ensures { result ≡ at.usec }
+{
+    let Some(microseconds) = Microseconds::new(at.usec) else {
+        unreachable!()
+    };
+    microseconds
 }
 
 /// The moment in whole seconds.

@@ -1,5 +1,5 @@
 -- The simple types of Kerberos (RFC 4120, section 5.2): which octets spell them, and how they are read.
-use Rattle.std.specs.Prelude.{◌≡◌, ℕ, ℤ, pos, negsuc, ◌<◌, ◌^◌, int_lt, ◌||◌, not, Bool, List, ◌∷◌, length, Result, unsigned_abs}
+use Rattle.std.specs.Prelude.{◌≡◌, ℕ, ℤ, pos, negsuc, ◌<◌, ◌^◌, int_lt, ◌||◌, not, Bool, IsTrue, List, ◌∷◌, length, Result, unsigned_abs}
 use Rattle.std.specs.Int.{w32, to_be_bytes}
 use Rattle.krb_der.specs.declared.fault.DerFault.{DerFault}
 use Rattle.krb_der.specs.declared.fault.DerFault.TheVariants.{BadInteger}
@@ -15,6 +15,9 @@ is_within low high z = not (int_lt z low || int_lt high z)
 
 -- ---- Int32 (section 5.2.4): an INTEGER from -2147483648 to 2147483647
 
+abbrev pub IsInt32 : ℤ → Type 0
+IsInt32 z = IsTrue (is_within (negsuc 2147483647) (pos 2147483647) z)
+
 abbrev pub Int32 : ℤ → List ℕ → Type 0
 Int32 = Such (is_within (negsuc 2147483647) (pos 2147483647)) Int
 
@@ -23,6 +26,9 @@ int32_at = such (is_within (negsuc 2147483647) (pos 2147483647)) BadInteger int_
 
 -- ---- UInt32 (section 5.2.4), taken as it comes: an INTEGER from -2147483648 to 4294967295
 
+abbrev pub IsUInt32 : ℤ → Type 0
+IsUInt32 z = IsTrue (is_within (negsuc 2147483647) (pos 4294967295) z)
+
 abbrev pub UInt32 : ℤ → List ℕ → Type 0
 UInt32 = Such (is_within (negsuc 2147483647) (pos 4294967295)) Int
 
@@ -30,6 +36,9 @@ unfoldable pub uint32_at : List ℕ → Result (ℤ × List ℕ) DerFault
 uint32_at = such (is_within (negsuc 2147483647) (pos 4294967295)) BadInteger int_at
 
 -- ---- Microseconds (section 5.2.4): an INTEGER from 0 to 999999
+
+abbrev pub IsBelowMillion : ℕ → Type 0
+IsBelowMillion n = n < 1000000
 
 abbrev pub Microseconds : ℕ → List ℕ → Type 0
 Microseconds = SeenAs unsigned_abs (Such (is_within (pos 0) (pos 999999)) Int)

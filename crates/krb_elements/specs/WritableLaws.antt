@@ -12,7 +12,7 @@ use Rattle.krb_der.proofs.TimeSpellings.{time_spelled}
 use Rattle.krb_elements.specs.Spells.{Inside, End, Field, OptionalOf, Optional, Items, ListOf}
 use Rattle.krb_elements.specs.Written.{field_text, maybe_text, field_then, optional_then, no_more, items_text}
 use Rattle.krb_elements.specs.WrittenLaws.{tlv_longer}
-use Rattle.krb_elements.specs.Simple.{is_within, Int32, Microseconds, microseconds_text, Fixed, fixed_text, Octets, KerberosString, as_they_are}
+use Rattle.krb_elements.specs.Simple.{is_within, IsInt32, Int32, IsBelowMillion, Microseconds, microseconds_text, Fixed, fixed_text, Octets, KerberosString, as_they_are}
 
 -- a value with its own tag
 pub record IsWritable {A : Type 0} (Fits : A → Type 0) (S : A → List ℕ → Type 0) (tag : ℕ) (text : A → List ℕ) : Type 0 where
@@ -27,14 +27,6 @@ abbrev pub Any : {A : Type 0} → A → Type 0
 Any x = Unit {0}
 
 -- ---- the simple types
-
--- a number from -2147483648 to 2147483647
-abbrev pub IsInt32 : ℤ → Type 0
-IsInt32 z = IsTrue (is_within (negsuc 2147483647) (pos 2147483647) z)
-
--- a number of microseconds below a second
-abbrev pub IsBelowMillion : ℕ → Type 0
-IsBelowMillion n = n < 1000000
 
 int_fits : (z : ℤ) → IsInt32 z → FitsSigned w64 z
 int_fits z e = grind (arith, ints)

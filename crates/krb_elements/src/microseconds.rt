@@ -1,11 +1,11 @@
 //! Microseconds (RFC 4120, section 5.2.4).
 ghost use Rattle.std.specs.Prelude.{◌≡◌};
+ghost use Rattle.std.specs.Option.{SomeIff};
+ghost use Rattle.krb_elements.specs.Simple.{IsBelowMillion};
 
 use std::marker::Model;
 
-/// The microseconds of a moment.
-///
-/// What is read is from 0 to 999999. `new` takes any number; one above has no spelling.
+/// The microseconds of a moment, from 0 to 999999.
 #[derive(Clone, Copy, Debug, PartialEq, Eq)]
 pub struct Microseconds {
     value: u32,
@@ -13,23 +13,31 @@ pub struct Microseconds {
 
 impl Model for Microseconds {
     ghost use Rattle.std.specs.Prelude.{ℕ};
+    ghost use Rattle.krb_elements.specs.Simple.{IsBelowMillion};
 
     ghost Value = { ℕ };
 
     ghost view = { λ n. n.value };
 
+    ghost invariant = { λ n. IsBelowMillion n.value };
+
     ghost inverse = { λ n. record { value = n } };
 }
 
 impl Microseconds {
-    pub fn new(value: u32) -> Microseconds
-        ensures { result ≡ value }
+    /// That many microseconds, where they are less than a second.
+    pub fn new(value: u32) -> Option<Microseconds>
+        ensures { SomeIff result (IsBelowMillion value) value }
     {
-        Microseconds { value }
+        if value > 999_999 {
+            return None;
+        }
+        Some(Microseconds { value })
     }
 
     pub fn get(self) -> u32
-        ensures { result ≡ self }
+        ensures value { result ≡ self }
+        ensures range { IsBelowMillion result }
     {
         self.value
     }

@@ -66,11 +66,7 @@ impl<'a> ElementRef<'a> for UInt32 {
 
     #[tactic(auto, unfolding(crate::specs::Simple::uint32_at))]
     fn look(reader: &mut Reader<'a>) -> Result<UInt32, DerFault> {
-        let value = reader.read_int()?;
-        if value < -2147483648 || 4294967295 < value {
-            return Err(DerFault::BadInteger);
-        }
-        Ok(UInt32::new(value))
+        UInt32::new(reader.read_int()?).ok_or(DerFault::BadInteger)
     }
 }
 
@@ -106,11 +102,10 @@ impl<'a> ElementRef<'a> for Microseconds {
 
     #[tactic(auto, unfolding(crate::specs::Simple::microseconds_at))]
     fn look(reader: &mut Reader<'a>) -> Result<Microseconds, DerFault> {
-        let value = reader.read_int()?;
-        if value < 0 || 999999 < value {
+        let Ok(value) = u32::try_from(reader.read_int()?) else {
             return Err(DerFault::BadInteger);
-        }
-        Ok(Microseconds::new(value as u32))
+        };
+        Microseconds::new(value).ok_or(DerFault::BadInteger)
     }
 }
 

@@ -33,7 +33,10 @@ fn numbers_have_their_bounds(rt: HostRuntime) -> Result<(), Fail> {
         );
     }
     let greatest = [2, 5, 0, 0xff, 0xff, 0xff, 0xff];
-    assert_eq!(rt; decode(alloc, &greatest), Ok(UInt32::new(4294967295)));
+    assert_eq!(rt;
+        decode::<UInt32>(alloc, &greatest).map(|n| n.get()),
+        Ok(4294967295)
+    );
     let beyond: [&[u8]; 3] = [
         &[2, 5, 0xff, 0x7f, 0xff, 0xff, 0xff],
         &[2, 5, 0, 0x80, 0, 0, 0],
@@ -64,14 +67,13 @@ fn numbers_are_written(rt: HostRuntime) -> Result<(), Fail> {
         (4294967295, &[2, 5, 0, 0xff, 0xff, 0xff, 0xff]),
     ];
     for (number, octets) in numbers {
-        assert_eq!(rt; encode(alloc, &UInt32::new(number))?.as_slice(), octets);
+        let number = UInt32::new(number).ok_or("a number of the range")?;
+        assert_eq!(rt; encode(alloc, &number)?.as_slice(), octets);
     }
     let numbers: [(u32, &[u8]); 2] = [(0, &[2, 1, 0]), (999999, &[2, 3, 0x0f, 0x42, 0x3f])];
     for (number, octets) in numbers {
-        assert_eq!(rt;
-            encode(alloc, &Microseconds::new(number))?.as_slice(),
-            octets
-        );
+        let number = Microseconds::new(number).ok_or("less than a second")?;
+        assert_eq!(rt; encode(alloc, &number)?.as_slice(), octets);
     }
     Ok(())
 }
@@ -232,4 +234,18 @@ fn lists_keep_their_items(rt: HostRuntime) -> Result<(), Fail> {
 fn faults_are_told_apart(rt: HostRuntime) {
     assert_eq!(rt; Fault::from(DerFault::BadTag), Fault::Der(DerFault::BadTag));
     assert_eq!(rt; Fault::from(AllocError), Fault::Memory);
+}
+
+#[test]
+fn numbers_are_made_within_their_range(rt: HostRuntime) {
+    assert!(rt; Microseconds::new(999999).is_some());
+    assert!(rt; Microseconds::new(1000000).is_none());
+    for (number, is_made) in [
+        (-2147483649, false),
+        (-2147483648, true),
+        (4294967295, true),
+        (4294967296, false),
+    ] {
+        assert!(rt; UInt32::new(number).is_some() == is_made, "{number}");
+    }
 }

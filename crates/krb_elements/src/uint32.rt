@@ -1,12 +1,14 @@
 //! UInt32 (RFC 4120, section 5.2.4), as it was sent.
 ghost use Rattle.std.specs.Prelude.{◌≡◌};
+ghost use Rattle.std.specs.Option.{SomeIff};
+ghost use Rattle.krb_elements.specs.Simple.{IsUInt32};
 
 use std::marker::Model;
 
-/// The number of a UInt32 field.
+/// The number of a UInt32 field, from -2147483648 to 4294967295.
 ///
-/// It is read as any INTEGER from -2147483648 to 4294967295 and kept as it came, since some peers send
-/// numbers of this type as signed ones. `new` takes any number; one outside has no spelling.
+/// It is read as any INTEGER of that range and kept as it came, since some peers send numbers of this
+/// type as signed ones.
 #[derive(Clone, Copy, Debug, PartialEq, Eq)]
 pub struct UInt32 {
     value: i64,
@@ -14,23 +16,31 @@ pub struct UInt32 {
 
 impl Model for UInt32 {
     ghost use Rattle.std.specs.Prelude.{ℤ};
+    ghost use Rattle.krb_elements.specs.Simple.{IsUInt32};
 
     ghost Value = { ℤ };
 
     ghost view = { λ n. n.value };
 
+    ghost invariant = { λ n. IsUInt32 n.value };
+
     ghost inverse = { λ z. record { value = z } };
 }
 
 impl UInt32 {
-    pub fn new(value: i64) -> UInt32
-        ensures { result ≡ value }
+    /// The number, where it is in the range.
+    pub fn new(value: i64) -> Option<UInt32>
+        ensures { SomeIff result (IsUInt32 value) value }
     {
-        UInt32 { value }
+        if value < -2147483648 || 4294967295 < value {
+            return None;
+        }
+        Some(UInt32 { value })
     }
 
     pub fn get(self) -> i64
-        ensures { result ≡ self }
+        ensures value { result ≡ self }
+        ensures range { IsUInt32 result }
     {
         self.value
     }

@@ -6,10 +6,10 @@ use Rattle.krb_fields.specs.declared.name.Name.{Name}
 use Rattle.krb_elements.specs.Format.{inside, field, end, made, list_at}
 use Rattle.krb_elements.specs.Spells.{Inside, Field, End, ListOf}
 use Rattle.krb_elements.specs.Written.{field_then, no_more, items_text}
-use Rattle.krb_elements.specs.Simple.{Int32, int32_at, KerberosString, string_at, as_they_are}
+use Rattle.krb_elements.specs.Simple.{IsInt32, Int32, int32_at, KerberosString, string_at, as_they_are}
 use Rattle.krb_elements.specs.Laws.{IsElement, inside_ok, made_ok, field_ok, end_ok, list_ok}
 use Rattle.krb_elements.specs.WrittenLaws.{IsWriting, inside_written, field_written, end_written, list_written}
-use Rattle.krb_elements.specs.WritableLaws.{IsWritable, IsInt32, int32_writable, string_writable, inside_writable, field_writable, list_writable, end_writable}
+use Rattle.krb_elements.specs.WritableLaws.{IsWritable, int32_writable, string_writable, inside_writable, field_writable, list_writable, end_writable}
 use Rattle.krb_elements.specs.OneSpelling.{HasOneSpelling, inside_one, field_one, end_one, list_one, int32_one, string_one}
 use Rattle.krb_elements.specs.SimpleLaws.{int32_ok, string_ok, int32_written, string_written}
 

@@ -4,7 +4,8 @@ use Rattle.std.proofs.Common.{ℕ, pos, ◌^◌, ◌<◌, List, length, Option, 
 use Rattle.std.specs.Prelude.{IfSome}
 use Rattle.krb_der.specs.Civil.{IsCivilSecond}
 use Rattle.krb_der.specs.Steps.{IsBytes}
-use Rattle.krb_elements.specs.WritableLaws.{IsWritable, Any, IsInt32, int32_writable, microseconds_writable, fixed_writable, time_writable, octets_writable, string_writable, inside_writable, round_writable, field_writable, optional_writable, end_writable}
+use Rattle.krb_elements.specs.Simple.{IsInt32}
+use Rattle.krb_elements.specs.WritableLaws.{IsWritable, Any, int32_writable, microseconds_writable, fixed_writable, time_writable, octets_writable, string_writable, inside_writable, round_writable, field_writable, optional_writable, end_writable}
 use Rattle.krb_fields.specs.Moment.{IsMicrosecond}
 use Rattle.krb_fields.specs.PrincipalName.{FitsName, name_writable}
 use Rattle.krb_types.specs.declared.kdc_req.KdcReq.{KdcReq}
