@@ -57,6 +57,7 @@ fn krb_error(
     })
 }
 
+/// The microseconds of the moment.
 fn microseconds_of(at: Moment) -> Microseconds
     ensures { result ≡ at.usec }
 {
