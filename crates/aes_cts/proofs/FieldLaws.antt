@@ -1,17 +1,17 @@
--- Products in the field: they are linear, and those with the constants of the code.
+-- Products in the field: they are linear.
 use Rattle.std.proofs.Common.{◌≡◌, ℕ, zero, suc, ◌*◌, ◌/◌, ◌%◌, ◌<◌, ◌==◌, true, refl, arith, bit_xor}
 use Rattle.std.proofs.Math.Nat.{zero-mul, one-mul}
 use Rattle.std.proofs.lemmas.Bool.{eqb-true}
 use Rattle.std.proofs.lemmas.Nat.{xor_comm, xor_of_8}
 use Rattle.std.specs.Int.Bits.{xor_assoc, xor_zero_r, xor_self}
 use Rattle.aes_cts.specs.Field.{times_low, times, times_x}
-use Rattle.aes_cts.specs.State.{row_times}
-use Rattle.aes_cts.proofs.Octets.{passes_below, passes_at, same_at}
+use Rattle.aes_cts.proofs.Octets.{passes_below, passes_at}
 
 -- (a + b) + (c + d) = (a + c) + (b + d)
 pub xor_swap : (a b c d : ℕ) → bit_xor (bit_xor a b) (bit_xor c d) ≡ bit_xor (bit_xor a c) (bit_xor b d)
 xor_swap a b c d =
-    rw (xor_assoc a b (bit_xor c d), ← xor_assoc b c d, xor_comm b c, xor_assoc c b d, ← xor_assoc a c (bit_xor b d)) refl
+    rw (xor_assoc a b (bit_xor c d), ← xor_assoc b c d, xor_comm b c, xor_assoc c b d, ← xor_assoc a c (bit_xor b d))
+    refl
 
 -- a term added twice is gone
 pub xor_twice : (a b : ℕ) → bit_xor (bit_xor a b) b ≡ a
@@ -23,7 +23,10 @@ pairs = refl
 
 pub times_x-xor : (a b : ℕ) → a < 256 → b < 256 → times_x (bit_xor a b) ≡ bit_xor (times_x a) (times_x b)
 times_x-xor a b ha hb =
-    eqb-true _ _ (passes_at (λ b. times_x (bit_xor a b) == bit_xor (times_x a) (times_x b)) 256 b (passes_at (λ a. passes_below (λ b. times_x (bit_xor a b) == bit_xor (times_x a) (times_x b)) 256) 256 a pairs ha) hb)
+    eqb-true _ _
+    (passes_at (λ b. times_x (bit_xor a b) == bit_xor (times_x a) (times_x b)) 256 b
+    (passes_at (λ a. passes_below (λ b. times_x (bit_xor a b) == bit_xor (times_x a) (times_x b)) 256) 256 a pairs ha)
+    hb)
 
 pub times_x-lt : (a : ℕ) → a < 256 → times_x a < 256
 times_x-lt a h = xor_of_8 (a * 2 % 256) (a / 128 * 27) (omega arith) (omega arith)
@@ -34,7 +37,8 @@ bit-xor zero a b h = rw (zero-mul (bit_xor a b), zero-mul a, zero-mul b) refl
 bit-xor (suc zero) a b h = rw (one-mul (bit_xor a b), one-mul a, one-mul b) refl
 bit-xor (suc (suc c)) a b h = absurd (omega arith)
 
-times_low-xor : (n a b c : ℕ) → a < 256 → b < 256 → times_low n (bit_xor a b) c ≡ bit_xor (times_low n a c) (times_low n b c)
+times_low-xor : (n a b c : ℕ) → a < 256 → b < 256
+    → times_low n (bit_xor a b) c ≡ bit_xor (times_low n a c) (times_low n b c)
 unfolding times_low
 times_low-xor zero a b c ha hb = refl
 times_low-xor (suc n) a b c ha hb =
@@ -53,7 +57,9 @@ bit-lt (suc (suc c)) a h ha = absurd (omega arith)
 times_low-lt : (n a b : ℕ) → a < 256 → times_low n a b < 256
 unfolding times_low
 times_low-lt zero a b h = omega arith
-times_low-lt (suc n) a b h = xor_of_8 (b % 2 * a) (times_low n (times_x a) (b / 2)) (bit-lt (b % 2) a (omega arith) h) (times_low-lt n (times_x a) (b / 2) (times_x-lt a h))
+times_low-lt (suc n) a b h =
+    xor_of_8 (b % 2 * a) (times_low n (times_x a) (b / 2)) (bit-lt (b % 2) a (omega arith) h)
+    (times_low-lt n (times_x a) (b / 2) (times_x-lt a h))
 
 pub times-lt : (a b : ℕ) → a < 256 → times a b < 256
 unfolding times
@@ -61,53 +67,11 @@ times-lt a b h = times_low-lt 8 a b h
 
 -- a product with a sum of four
 pub times-sum : (p q r s c : ℕ) → p < 256 → q < 256 → r < 256 → s < 256
-    → times (bit_xor (bit_xor p q) (bit_xor r s)) c ≡ bit_xor (bit_xor (times p c) (times q c)) (bit_xor (times r c) (times s c))
+    → times (bit_xor (bit_xor p q) (bit_xor r s)) c ≡ bit_xor (bit_xor (times p c) (times q c))
+    (bit_xor (times r c) (times s c))
 times-sum p q r s c hp hq hr hs =
-    rw (times-xor (bit_xor p q) (bit_xor r s) c (xor_of_8 p q hp hq) (xor_of_8 r s hr hs), times-xor p q c hp hq, times-xor r s c hr hs) refl
-
--- ---- the products that the code takes
-
-by_one : passes_below (λ a. times a 1 == a) 256 ≡ true
-unfolding passes_below times_low times
-by_one = refl
-
-by_two : passes_below (λ a. times a 2 == times_x a) 256 ≡ true
-unfolding passes_below times_low times
-by_two = refl
-
-by_three : passes_below (λ a. times a 3 == bit_xor (times_x a) a) 256 ≡ true
-unfolding passes_below times_low times
-by_three = refl
-
-by_nine : passes_below (λ a. bit_xor (times_x (times_x (times_x a))) a == times a 9) 256 ≡ true
-unfolding passes_below times_low times
-by_nine = refl
-
-by_eleven : passes_below (λ a. bit_xor (times_x (bit_xor (times_x (times_x a)) a)) a == times a 11) 256 ≡ true
-unfolding passes_below times_low times
-by_eleven = refl
-
-by_thirteen : passes_below (λ a. bit_xor (times_x (times_x (bit_xor (times_x a) a))) a == times a 13) 256 ≡ true
-unfolding passes_below times_low times
-by_thirteen = refl
-
-by_fourteen : passes_below (λ a. times_x (bit_xor (times_x (bit_xor (times_x a) a)) a) == times a 14) 256 ≡ true
-unfolding passes_below times_low times
-by_fourteen = refl
-
-pub row_forward : (a b c d : ℕ) → a < 256 → b < 256 → c < 256 → d < 256
-    → bit_xor (bit_xor (times_x a) (bit_xor (times_x b) b)) (bit_xor c d) ≡ row_times 2 3 1 1 a b c d
-row_forward a b c d ha hb hc hd =
-    rw (same_at (λ a. times a 2) times_x by_two a ha, same_at (λ a. times a 3) (λ a. bit_xor (times_x a) a) by_three b hb, same_at (λ a. times a 1) (λ a. a) by_one c hc, same_at (λ a. times a 1) (λ a. a) by_one d hd) refl
-
-pub nine_at : (a : ℕ) → a < 256 → bit_xor (times_x (times_x (times_x a))) a ≡ times a 9
-nine_at = same_at (λ a. bit_xor (times_x (times_x (times_x a))) a) (λ a. times a 9) by_nine
-
-pub eleven_at : (a : ℕ) → a < 256 → bit_xor (times_x (bit_xor (times_x (times_x a)) a)) a ≡ times a 11
-eleven_at = same_at (λ a. bit_xor (times_x (bit_xor (times_x (times_x a)) a)) a) (λ a. times a 11) by_eleven
-
-pub thirteen_at : (a : ℕ) → a < 256 → bit_xor (times_x (times_x (bit_xor (times_x a) a))) a ≡ times a 13
-thirteen_at = same_at (λ a. bit_xor (times_x (times_x (bit_xor (times_x a) a))) a) (λ a. times a 13) by_thirteen
-
-pub fourteen_at : (a : ℕ) → a < 256 → times_x (bit_xor (times_x (bit_xor (times_x a) a)) a) ≡ times a 14
-fourteen_at = same_at (λ a. times_x (bit_xor (times_x (bit_xor (times_x a) a)) a)) (λ a. times a 14) by_fourteen
+    rw (
+      times-xor (bit_xor p q) (bit_xor r s) c (xor_of_8 p q hp hq) (xor_of_8 r s hr hs),
+      times-xor p q c hp hq,
+      times-xor r s c hr hs,
+    ) refl

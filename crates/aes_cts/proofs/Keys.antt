@@ -1,9 +1,11 @@
 -- The schedule of a key of octets has octets alone, so the cipher under it permutes the blocks.
-use Rattle.std.proofs.Common.{◌≡◌, ℕ, zero, suc, ◌+◌, ◌-◌, ◌*◌, ◌/◌, ◌%◌, ◌≤◌, ◌<◌, ◌==◌, ◌&&◌, true, false, List, [], ◌∷◌, All, take, length, sym, ap, subst, ◌∙◌, arith, get_or, nat_lt, if◌then◌else◌}
+use Rattle.std.proofs.Common.{◌≡◌, ℕ, zero, suc, ◌+◌, ◌-◌, ◌*◌, ◌/◌, ◌%◌, ◌≤◌, ◌<◌, ◌==◌, ◌&&◌, true, false, List, []}
+use Rattle.std.proofs.Common.{◌∷◌, All, take, length, sym, ap, subst, ◌∙◌, arith, get_or, nat_lt, if◌then◌else◌}
 use Rattle.std.proofs.lemmas.Nat.{xor_of_8}
 use Rattle.std.proofs.lemmas.List.{length-take-le, take-take}
 use Rattle.aes_cts.specs.Field.{power_of_x}
-use Rattle.aes_cts.specs.KeyExpansion.{word_at, xor_words, rot_word, sub_word, round_constant, passed_on, expanded, nk_of, nr_of, key_expansion, IsSchedule}
+use Rattle.aes_cts.specs.KeyExpansion.{word_at, xor_words, rot_word, sub_word, round_constant, passed_on}
+use Rattle.aes_cts.specs.KeyExpansion.{expanded, nk_of, nr_of, key_expansion, IsSchedule}
 use Rattle.aes_cts.specs.Cipher.{cipher, inverse_cipher, aes, aes_inverse, IsBlock, PermutesBlocks}
 use Rattle.aes_cts.proofs.FieldLaws.{times_x-lt}
 use Rattle.aes_cts.proofs.Expansion.{take-key_expansion}
@@ -28,7 +30,8 @@ pub octets-none : AreOctets []
 octets-none = record { at = λ i. omega arith }
 
 octets-four : (a b c d : ℕ) → a < 256 → b < 256 → c < 256 → d < 256 → AreOctets (a ∷ b ∷ c ∷ d ∷ [])
-octets-four a b c d ha hb hc hd = octets-cons a _ ha (octets-cons b _ hb (octets-cons c _ hc (octets-cons d _ hd octets-none)))
+octets-four a b c d ha hb hc hd =
+    octets-cons a _ ha (octets-cons b _ hb (octets-cons c _ hc (octets-cons d _ hd octets-none)))
 
 octets-word_at : (w : List ℕ) (i : ℕ) → AreOctets w → AreOctets (word_at w i)
 octets-word_at w i h = octets-four _ _ _ _ (h.at (4 * i)) (h.at (4 * i + 1)) (h.at (4 * i + 2)) (h.at (4 * i + 3))
@@ -37,12 +40,16 @@ octets-xor_words : (xs ys : List ℕ) → AreOctets xs → AreOctets ys → AreO
 octets-xor_words [] ys hx hy = octets-none
 octets-xor_words (x ∷ xs) [] hx hy = octets-none
 octets-xor_words (x ∷ xs) (y ∷ ys) hx hy =
-    octets-cons _ _ (xor_of_8 x y (hx.at 0) (hy.at 0)) (octets-xor_words xs ys (record { at = λ i. hx.at (suc i) }) (record { at = λ i. hy.at (suc i) }))
+    octets-cons _ _ (xor_of_8 x y (hx.at 0) (hy.at 0))
+    (octets-xor_words xs ys (record { at = λ i. hx.at (suc i) }) (record { at = λ i. hy.at (suc i) }))
 
-octets-passed_on : (nk i a b c d : ℕ) → a < 256 → b < 256 → c < 256 → d < 256 → AreOctets (passed_on nk i (a ∷ b ∷ c ∷ d ∷ []))
+octets-passed_on : (nk i a b c d : ℕ) → a < 256 → b < 256 → c < 256 → d < 256
+    → AreOctets (passed_on nk i (a ∷ b ∷ c ∷ d ∷ []))
 octets-passed_on nk i a b c d ha hb hc hd =
     let word : List ℕ = a ∷ b ∷ c ∷ d ∷ [] in
-    elim (i % nk == 0) as (λ v. AreOctets (if v then xor_words (sub_word (rot_word word)) (round_constant (i / nk)) else if nat_lt 6 nk && i % nk == 4 then sub_word word else word)) [
+    elim (i % nk == 0) as
+    (λ v. AreOctets (if v then xor_words (sub_word (rot_word word)) (round_constant (i / nk))
+    else if nat_lt 6 nk && i % nk == 4 then sub_word word else word)) [
       | true ↦ octets-xor_words _ _
           (octets-four _ _ _ _ (s_box-lt b hb) (s_box-lt c hc) (s_box-lt d hd) (s_box-lt a ha))
           (octets-four _ _ _ _ (power_of_x-lt (i / nk - 1)) (omega arith) (omega arith) (omega arith))
@@ -59,9 +66,10 @@ octets-expanded nk key (suc n) h =
     let old : AreOctets (expanded nk key n) = octets-expanded nk key n h in
     octets-append (expanded nk key n) _ old
     (octets-xor_words (word_at (expanded nk key n) n) _ (octets-word_at (expanded nk key n) n old)
-    (octets-passed_on nk (nk + n) _ _ _ _ (old.at (4 * (nk + n - 1))) (old.at (4 * (nk + n - 1) + 1)) (old.at (4 * (nk + n - 1) + 2)) (old.at (4 * (nk + n - 1) + 3))))
+    (octets-passed_on nk (nk + n) _ _ _ _ (old.at (4 * (nk + n - 1))) (old.at (4 * (nk + n - 1) + 1))
+    (old.at (4 * (nk + n - 1) + 2)) (old.at (4 * (nk + n - 1) + 3))))
 
-schedule_octets : (key : List ℕ) → AreOctets key → AreOctets (key_expansion key)
+pub schedule_octets : (key : List ℕ) → AreOctets key → AreOctets (key_expansion key)
 unfolding key_expansion
 schedule_octets key h = octets-expanded (nk_of key) key _ h
 
@@ -102,10 +110,12 @@ aes_inverse_is w key nk len h is block =
     ap (λ (n : ℕ). inverse_cipher n (take (16 * (nk + 6 + 1)) w) block) (sym (key_words w key nk len h is))
     ∙ ap (λ (l : List ℕ). inverse_cipher (nr_of key) l block) (h.expands ∙ ap key_expansion is)
 
-pub view_is : (w key : List ℕ) → 16 ≤ length key → length key % 4 ≡ 0 → take (16 * (nr_of key + 1)) w ≡ key_expansion key → take (4 * (length key / 4)) w ≡ key
+pub view_is : (w key : List ℕ) → 16 ≤ length key → length key % 4 ≡ 0
+    → take (16 * (nr_of key + 1)) w ≡ key_expansion key → take (4 * (length key / 4)) w ≡ key
 view_is w key least whole h =
     let size : 4 * (length key / 4) ≡ length key = omega arith in
-    ap (λ (n : ℕ). take n w) size ∙ sym (take-take (length key) (16 * (nr_of key + 1)) w (omega arith)) ∙ ap (take (length key)) h ∙ take-key_expansion key
+    ap (λ (n : ℕ). take n w) size ∙ sym (take-take (length key) (16 * (nr_of key + 1)) w (omega arith))
+    ∙ ap (take (length key)) h ∙ take-key_expansion key
 
 pub is_schedule : (w key : List ℕ) → 16 ≤ length key → length key ≤ 32 → length key % 16 ≡ 0 → AreOctets key
     → take (16 * (nr_of key + 1)) w ≡ key_expansion key → IsSchedule w (length key / 4)

@@ -1,6 +1,7 @@
 -- CIPHER and INVCIPHER of FIPS 197 (5.1, 5.3).
-use Rattle.std.specs.Prelude.{◌≡◌, ℕ, zero, suc, ◌-◌, ◌<◌, List, length, All}
-use Rattle.aes_cts.specs.State.{sub_bytes, shift_rows, mix_columns, add_round_key, inverse_sub_bytes, inverse_shift_rows, inverse_mix_columns}
+use Rattle.std.specs.Prelude.{◌≡◌, ℕ, zero, suc, ◌-◌, ◌<◌, ◌≤◌, List, length, All}
+use Rattle.aes_cts.specs.State.{sub_bytes, shift_rows, mix_columns, add_round_key}
+use Rattle.aes_cts.specs.State.{inverse_sub_bytes, inverse_shift_rows, inverse_mix_columns}
 use Rattle.aes_cts.specs.KeyExpansion.{nr_of, key_expansion, round_key}
 
 -- the state after round n of a block s under the schedule w; round 0 is the first AddRoundKey
@@ -16,11 +17,13 @@ cipher nr w s = add_round_key (shift_rows (sub_bytes (rounds w s (nr - 1)))) (ro
 unfoldable pub inverse_rounds : ℕ → List ℕ → List ℕ → ℕ → List ℕ
 inverse_rounds nr w s zero = add_round_key s (round_key w nr)
 inverse_rounds nr w s (suc n) =
-    inverse_mix_columns (add_round_key (inverse_sub_bytes (inverse_shift_rows (inverse_rounds nr w s n))) (round_key w (nr - suc n)))
+    inverse_mix_columns
+    (add_round_key (inverse_sub_bytes (inverse_shift_rows (inverse_rounds nr w s n))) (round_key w (nr - suc n)))
 
 -- INVCIPHER with nr rounds (5.3)
 unfoldable pub inverse_cipher : ℕ → List ℕ → List ℕ → List ℕ
-inverse_cipher nr w s = add_round_key (inverse_sub_bytes (inverse_shift_rows (inverse_rounds nr w s (nr - 1)))) (round_key w 0)
+inverse_cipher nr w s =
+    add_round_key (inverse_sub_bytes (inverse_shift_rows (inverse_rounds nr w s (nr - 1)))) (round_key w 0)
 
 -- the block enciphered under the key
 unfoldable pub aes : List ℕ → List ℕ → List ℕ
@@ -42,3 +45,22 @@ pub record PermutesBlocks (key : List ℕ) : Type 0 where
   pub deciphered : (block : List ℕ) → IsBlock block → IsBlock (aes_inverse key block)
   pub taken_back : (block : List ℕ) → IsBlock block → aes_inverse key (aes key block) ≡ block
   pub given_back : (block : List ℕ) → IsBlock block → aes key (aes_inverse key block) ≡ block
+
+-- ---- EQINVCIPHER (5.3.5), which gives what INVCIPHER does, each step of a round in the order of CIPHER
+
+-- dw is the schedule w with the round keys 1 to nr - 1 gone through INVMIXCOLUMNS
+pub record IsInverseSchedule (w dw : List ℕ) (nr : ℕ) : Type 0 where
+  pub first : round_key dw 0 ≡ round_key w 0
+  pub last : round_key dw nr ≡ round_key w nr
+  pub middle : (r : ℕ) → 1 ≤ r → r < nr → round_key dw r ≡ inverse_mix_columns (round_key w r)
+
+-- the state after its first n rounds, from round nr - 1 downwards
+unfoldable pub equivalent_rounds : ℕ → List ℕ → List ℕ → ℕ → List ℕ
+equivalent_rounds nr dw s zero = add_round_key s (round_key dw nr)
+equivalent_rounds nr dw s (suc n) =
+    add_round_key (inverse_mix_columns (inverse_sub_bytes (inverse_shift_rows (equivalent_rounds nr dw s n))))
+    (round_key dw (nr - suc n))
+
+unfoldable pub equivalent_inverse_cipher : ℕ → List ℕ → List ℕ → List ℕ
+equivalent_inverse_cipher nr dw s =
+    add_round_key (inverse_sub_bytes (inverse_shift_rows (equivalent_rounds nr dw s (nr - 1)))) (round_key dw 0)

@@ -1,51 +1,45 @@
-//! The rounds of FIPS 197, sections 5.1 and 5.3, under a schedule of round keys of 16 octets each.
+//! The rounds of FIPS 197, sections 5.1 and 5.3.5, under a schedule of round keys of four words each.
 
 ghost use Rattle.std.specs.Prelude.{◌≡◌, ◌≤◌, ◌<◌, ◌+◌, ◌*◌, length};
-ghost use Rattle.aes_cts.specs.Cipher.{cipher, inverse_cipher};
+ghost use Rattle.aes_cts.specs.Cipher.{cipher, equivalent_inverse_cipher};
+ghost use Rattle.aes_cts.specs.Words.{octets};
 
-use crate::state::{
-    add_round_key, inverse_mix_columns, inverse_shift_rows, inverse_sub_bytes, mix_columns,
-    shift_rows, sub_bytes,
-};
+use crate::words::{add_round_key, inverse_round, last_inverse_round, last_round, round};
 
 /// Cipher, in place.
-pub fn cipher(state: &mut [u8; 16], schedule: &[u8], round_count: usize)
-    requires some { 1 ≤ round_count }
+// The first round stands before the loop: where the sum with the first round key comes straight before
+// it, LLVM keeps the four words in one vector register, and each round then takes a third longer.
+pub fn cipher(state: &mut [u32; 4], schedule: &[u32], round_count: usize)
+    requires some { 2 ≤ round_count }
     requires few { round_count < 15 }
-    requires keys { length schedule.now ≡ 16 * (round_count + 1) }
-    ensures { state.new ≡ cipher round_count schedule.now state.old }
+    requires keys { length schedule.now ≡ 4 * (round_count + 1) }
+    ensures { octets state.new ≡ cipher round_count (octets schedule.now) (octets state.old) }
 {
-    add_round_key(state, &schedule[..16]);
-    for i in 0..round_count - 1 {
-        let at = 16 * (i + 1);
-        sub_bytes(state);
-        shift_rows(state);
-        mix_columns(state);
-        add_round_key(state, &schedule[at..at + 16]);
+    add_round_key(state, &schedule[..4]);
+    round(state, &schedule[4..8]);
+    for i in 1..round_count - 1 {
+        let at = 4 * (i + 1);
+        round(state, &schedule[at..at + 4]);
     }
-    sub_bytes(state);
-    shift_rows(state);
-    let last = 16 * round_count;
-    add_round_key(state, &schedule[last..last + 16]);
+    let last = 4 * round_count;
+    last_round(state, &schedule[last..last + 4]);
 }
 
-/// InvCipher, in place.
-pub fn inverse_cipher(state: &mut [u8; 16], schedule: &[u8], round_count: usize)
-    requires some { 1 ≤ round_count }
+/// EqInvCipher, in place, under a schedule for deciphering. The first round stands before the loop as in
+/// `cipher`.
+pub fn inverse_cipher(state: &mut [u32; 4], schedule: &[u32], round_count: usize)
+    requires some { 2 ≤ round_count }
     requires few { round_count < 15 }
-    requires keys { length schedule.now ≡ 16 * (round_count + 1) }
-    ensures { state.new ≡ inverse_cipher round_count schedule.now state.old }
+    requires keys { length schedule.now ≡ 4 * (round_count + 1) }
+    ensures { octets state.new
+        ≡ equivalent_inverse_cipher round_count (octets schedule.now) (octets state.old) }
 {
-    let last = 16 * round_count;
-    add_round_key(state, &schedule[last..last + 16]);
-    for i in 0..round_count - 1 {
-        let at = 16 * (round_count - (i + 1));
-        inverse_shift_rows(state);
-        inverse_sub_bytes(state);
-        add_round_key(state, &schedule[at..at + 16]);
-        inverse_mix_columns(state);
+    let last = 4 * round_count;
+    add_round_key(state, &schedule[last..last + 4]);
+    inverse_round(state, &schedule[last - 4..last]);
+    for i in 1..round_count - 1 {
+        let at = 4 * (round_count - (i + 1));
+        inverse_round(state, &schedule[at..at + 4]);
     }
-    inverse_shift_rows(state);
-    inverse_sub_bytes(state);
-    add_round_key(state, &schedule[..16]);
+    last_inverse_round(state, &schedule[..4]);
 }

@@ -1,10 +1,14 @@
 //! The key expansion of FIPS 197, section 5.2.
 
-ghost use Rattle.std.specs.Prelude.{◌≡◌, ◌≤◌, ◌<◌, ◌+◌, ◌-◌, ◌*◌, ◌%◌, length, take};
+ghost use Rattle.std.specs.Prelude.{◌≡◌, ◌≤◌, ◌<◌, ◌+◌, ◌-◌, ◌*◌, ◌%◌, length, take, drop};
+ghost use Rattle.aes_cts.specs.Cipher.{IsInverseSchedule};
 ghost use Rattle.aes_cts.specs.Field.{power_of_x};
 ghost use Rattle.aes_cts.specs.KeyExpansion.{key_expansion, nr_of, passed_on, word_at, xor_words};
+ghost use Rattle.aes_cts.specs.Words.{octets};
+ghost use Rattle.std.specs.Int.{w32, to_be_bytes};
 
 use crate::s_box::substitute;
+use crate::words::unmixed;
 
 // The powers of x in the field, from x^0 on: the first octets of the round constants.
 const POWERS_OF_X: [u8; 14] = [
@@ -46,7 +50,8 @@ fn next_word(words: &[u8], key_words: usize, i: usize) -> [u8; 4]
     requires after { key_words ≤ i }
     requires few { i < 60 }
     requires there { 4 * i ≤ length words.now }
-    ensures { result ≡ xor_words (word_at words.now (i - key_words)) (passed_on key_words i (word_at words.now (i - 1))) }
+    ensures { result
+        ≡ xor_words (word_at words.now (i - key_words)) (passed_on key_words i (word_at words.now (i - 1))) }
 {
     let at = 4 * (i - 1);
     let [a, b, c, d] = passed_on(
@@ -77,4 +82,37 @@ pub fn expand(key: &[u8], words: &mut [u8])
         let word = next_word(words, key_words, i);
         words[4 * i..4 * i + 4].copy_from_slice(&word);
     }
+}
+
+/// The words of the longest schedule, from its octets.
+pub fn schedule_words(schedule: &[u8; 240]) -> [u32; 60]
+    ensures { octets result ≡ schedule.now }
+{
+    let mut words = [0; 60];
+    for i in 0..60 {
+        words[i] = word_at(schedule, 4 * i);
+    }
+    words
+}
+
+// The word of the four octets from a place on.
+fn word_at(octets: &[u8], at: usize) -> u32
+    requires { at + 4 ≤ length octets.now }
+    ensures { to_be_bytes w32 result ≡ take 4 (drop at octets.now) }
+{
+    u32::from_be_bytes([octets[at], octets[at + 1], octets[at + 2], octets[at + 3]])
+}
+
+/// The schedule for deciphering: each round key but the first and the last goes through InvMixColumns
+/// (FIPS 197, section 5.3.5).
+pub fn inverse_schedule(schedule: &[u32; 60], round_count: usize) -> [u32; 60]
+    requires some { 2 ≤ round_count }
+    requires few { round_count < 15 }
+    ensures { IsInverseSchedule (octets schedule.now) (octets result) round_count }
+{
+    let mut inverse = *schedule;
+    for i in 4..4 * round_count {
+        inverse[i] = unmixed(schedule[i]);
+    }
+    inverse
 }

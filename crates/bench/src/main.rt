@@ -1,8 +1,11 @@
-//! Measures the cryptography: `bench WORD` prints how many nanoseconds a call takes.
+//! Measures the cryptography and the reading of a request: `bench WORD` prints how many nanoseconds a call takes.
 #![tactic(auto)]
 
 ghost use Rattle.std.specs.Prelude.{◌<◌};
 
+mod messages;
+
+use crate::messages::read_request;
 use aes_cts::AesKey;
 use enctypes::{Etype, Key, KeyUsage, open, seal, string_to_key};
 use prf_kdf::{pbkdf2_sha1, pbkdf2_sha384};
@@ -12,7 +15,7 @@ use std::time::Instant;
 use std::{env, io};
 
 const USAGE: &str =
-    "usage: bench block | cts | pbkdf2-sha1 | pbkdf2-sha384 | seal-TYPE | string-TYPE, for TYPE 17 to 20";
+    "usage: bench block | cts | pbkdf2-sha1 | pbkdf2-sha384 | seal-TYPE | string-TYPE | read-request, for TYPE 17 to 20";
 
 /// The status of a fault of the command line.
 const FAULT: u8 = 2;
@@ -32,6 +35,8 @@ enum Work {
     Seal(Etype),
     /// A password's key of the type, with the type's count of iterations.
     StringToKey(Etype),
+    /// An AS-REQ of 107 octets read where it stands.
+    ReadRequest,
 }
 
 impl Work {
@@ -49,6 +54,7 @@ impl Work {
             "string-18" => Some(Work::StringToKey(Etype::Aes256CtsHmacSha1_96)),
             "string-19" => Some(Work::StringToKey(Etype::Aes128CtsHmacSha256_128)),
             "string-20" => Some(Work::StringToKey(Etype::Aes256CtsHmacSha384_192)),
+            "read-request" => Some(Work::ReadRequest),
             _ => None,
         }
     }
@@ -58,7 +64,7 @@ impl Work {
         ensures { 0 < result }
     {
         match self {
-            Work::Block => 100_000,
+            Work::Block | Work::ReadRequest => 100_000,
             Work::Cts | Work::Seal(_) => 5_000,
             Work::Pbkdf2Sha1 => 50,
             Work::Pbkdf2Sha384 | Work::StringToKey(_) => 5,
@@ -75,6 +81,7 @@ impl Work {
                 Work::Pbkdf2Sha384 => pbkdf2_sha384(b"password", b"salt", 32_768, &mut text[..32]),
                 Work::Seal(etype) => seal_and_open(alloc, etype, text)?,
                 Work::StringToKey(etype) => derive_key(alloc, etype, text)?,
+                Work::ReadRequest => text[0] ^= read_request(),
             }
         }
         Ok(())
@@ -105,7 +112,7 @@ fn derive_key(alloc: Global, etype: Etype, text: &mut [u8; 512]) -> Result<(), A
     Ok(())
 }
 
-fn last_of(octets: &[u8]) -> u8 {
+pub(crate) fn last_of(octets: &[u8]) -> u8 {
     octets.last().copied().unwrap_or(0)
 }
 

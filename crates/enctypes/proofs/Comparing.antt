@@ -10,4 +10,5 @@ pub or-zero_right : (a b : ℕ) → bit_or a b ≡ 0 → b ≡ 0
 or-zero_right a b h = omega (arith, le_or_r a b)
 
 pub xor-zero : (a b : ℕ) → bit_xor a b ≡ 0 → a ≡ b
-xor-zero a b h = sym (xor_zero_r a) ∙ ap (bit_xor a) (sym (xor_self b)) ∙ sym (xor_assoc a b b) ∙ ap (λ (n : ℕ). bit_xor n b) h ∙ xor_zero_l b
+xor-zero a b h = sym (xor_zero_r a) ∙ ap (bit_xor a) (sym (xor_self b)) ∙ sym (xor_assoc a b b)
+    ∙ ap (λ (n : ℕ). bit_xor n b) h ∙ xor_zero_l b

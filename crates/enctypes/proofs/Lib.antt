@@ -1,6 +1,9 @@
 pub mod RandomBlocks
 pub mod Sizes
 pub mod Comparing
-pub mod Opening
+pub mod Sealed
+pub mod SealingSteps
+pub mod DerivedOctets
+pub mod OpenedLaws
 pub mod FactsOfSha1Types
 pub mod FactsOfSha2Types

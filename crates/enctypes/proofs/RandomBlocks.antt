@@ -1,5 +1,6 @@
 -- The blocks of DR, one after the other in the output.
-use Rattle.std.proofs.Common.{◌≡◌, ℕ, zero, suc, ◌+◌, ◌*◌, ◌≤◌, List, [], ◌++◌, take, length, refl, sym, ap, ◌∙◌, arith, add-one, length-append}
+use Rattle.std.proofs.Common.{◌≡◌, ℕ, zero, suc, ◌+◌, ◌*◌, ◌≤◌, List, [], ◌++◌}
+use Rattle.std.proofs.Common.{take, length, refl, sym, ap, ◌∙◌, arith, add-one, length-append}
 use Rattle.std.proofs.lemmas.List.{take_all, length-take-le}
 use Rattle.std.proofs.lemmas.Grind.{div_ceil_times}
 use Rattle.std.specs.Int.{div_ceil}
@@ -24,7 +25,8 @@ pub dr_blocks_none : (key constant : List ℕ) → dr_blocks key constant 0 ≡ 
 unfolding dr_blocks
 dr_blocks_none key constant = refl
 
-pub dr_blocks_more : (key constant : List ℕ) (n : ℕ) → dr_blocks key constant (n + 1) ≡ dr_blocks key constant n ++ dr_block key constant n
+pub dr_blocks_more : (key constant : List ℕ) (n : ℕ)
+    → dr_blocks key constant (n + 1) ≡ dr_blocks key constant n ++ dr_block key constant n
 unfolding dr_blocks
 dr_blocks_more key constant n = rw add-one refl
 
@@ -37,17 +39,24 @@ pub length-dr_blocks : (key constant : List ℕ) (n : ℕ) → length (dr_blocks
 unfolding dr_blocks
 length-dr_blocks key constant zero = refl
 length-dr_blocks key constant (suc n) =
-    omega (arith, length-append (dr_blocks key constant n) (dr_block key constant n), length-dr_blocks key constant n, length-dr_block key constant n)
+    omega (
+      arith,
+      length-append (dr_blocks key constant n) (dr_block key constant n),
+      length-dr_blocks key constant n,
+      length-dr_block key constant n,
+    )
 
 pub length-dr : (key constant : List ℕ) (len : ℕ) → length (dr key constant len) ≡ len
 unfolding dr
 length-dr key constant len =
-    length-take-le len (dr_blocks key constant (div_ceil len 16)) (omega (arith, div_ceil_times len 16 (omega arith), length-dr_blocks key constant (div_ceil len 16)))
+    length-take-le len (dr_blocks key constant (div_ceil len 16))
+    (omega (arith, div_ceil_times len 16 (omega arith), length-dr_blocks key constant (div_ceil len 16)))
 
 -- an output that as many blocks fill as it needs
 pub dr_is : (key constant out : List ℕ) (n : ℕ) → n ≡ div_ceil (length out) 16
     → take (16 * n) out ≡ take (length out) (dr_blocks key constant n) → out ≡ dr key constant (length out)
 unfolding dr
 dr_is key constant out n enough written =
-    let all : length out ≤ 16 * n = omega (arith, div_ceil_times (length out) 16 (omega arith), ap (λ (k : ℕ). 16 * k) enough) in
+    let all : length out ≤ 16 * n =
+    omega (arith, div_ceil_times (length out) 16 (omega arith), ap (λ (k : ℕ). 16 * k) enough) in
     sym (take_all (16 * n) out all) ∙ written ∙ ap (λ (k : ℕ). take (length out) (dr_blocks key constant k)) enough

@@ -1,5 +1,5 @@
--- Derived keys (RFC 3961 sections 5.1 and 5.3, RFC 8009 section 3), and keys of passwords (RFC 3962
--- section 4, RFC 8009 section 4).
+-- Derived keys (RFC 3961, sections 5.1 and 5.3; RFC 8009, section 3), and keys of passwords (RFC 3962,
+-- section 4; RFC 8009, section 4).
 use Rattle.std.specs.Prelude.{ℕ, zero, suc, List, [], ◌∷◌, ◌++◌, take, codes}
 use Rattle.std.specs.Int.{w32, to_be_bytes, div_ceil}
 use Rattle.aes_cts.specs.Cipher.{aes}
@@ -7,12 +7,13 @@ use Rattle.prf_kdf.specs.Fold.{n_fold}
 use Rattle.prf_kdf.specs.Kdf.{kdf_sha256, kdf_sha384}
 use Rattle.prf_kdf.specs.Pbkdf2.{pbkdf2_sha1, pbkdf2_sha256, pbkdf2_sha384}
 use Rattle.enctypes.specs.declared.etype.Etype.{Etype}
-use Rattle.enctypes.specs.declared.etype.Etype.TheVariants.{Aes128CtsHmacSha1_96, Aes256CtsHmacSha1_96, Aes128CtsHmacSha256_128, Aes256CtsHmacSha384_192}
+use Rattle.enctypes.specs.declared.etype.Etype.TheVariants.{Aes128CtsHmacSha1_96, Aes256CtsHmacSha1_96}
+use Rattle.enctypes.specs.declared.etype.Etype.TheVariants.{Aes128CtsHmacSha256_128, Aes256CtsHmacSha384_192}
 use Rattle.enctypes.specs.declared.purpose.Purpose.{Purpose}
 use Rattle.enctypes.specs.declared.purpose.Purpose.TheVariants.{Checksum, Encryption, Integrity}
 use Rattle.enctypes.specs.Etype.{key_len, mac_key_len}
 
--- K(n + 1) of DR (RFC 3961 section 5.1): K1 is the constant folded to a block and enciphered, and each
+-- K(n + 1) of DR (RFC 3961, section 5.1): K1 is the constant folded to a block and enciphered, and each
 -- further block is the one before enciphered. A single block, in the initial cipher state of zeros, is
 -- enciphered by AES alone.
 unfoldable pub dr_block : List ℕ → List ℕ → ℕ → List ℕ
@@ -24,7 +25,7 @@ unfoldable pub dr_blocks : List ℕ → List ℕ → ℕ → List ℕ
 dr_blocks key constant zero = []
 dr_blocks key constant (suc n) = dr_blocks key constant n ++ dr_block key constant n
 
--- DR: the blocks, cut to the octets that are wanted. AES's random-to-key changes nothing (RFC 3962
+-- DR: the blocks, cut to the octets that are wanted. AES's random-to-key changes nothing (RFC 3962,
 -- section 6), so this is DK too.
 unfoldable pub dr : List ℕ → List ℕ → ℕ → List ℕ
 dr key constant len = take len (dr_blocks key constant (div_ceil len 16))
@@ -36,7 +37,7 @@ derived Aes256CtsHmacSha1_96 key constant len = dr key constant len
 derived Aes128CtsHmacSha256_128 key constant len = kdf_sha256 key constant len
 derived Aes256CtsHmacSha384_192 key constant len = kdf_sha384 key constant len
 
--- the octet that stands for what a derived key is for (RFC 3961 section 5.3, RFC 8009 section 3)
+-- the octet that stands for what a derived key is for (RFC 3961, section 5.3; RFC 8009, section 3)
 abbrev pub purpose_octet : Purpose → ℕ
 purpose_octet Checksum = 0x99
 purpose_octet Encryption = 0xAA
@@ -65,13 +66,15 @@ ke etype key usage = derived_key etype key usage Encryption
 abbrev pub ki : Etype → List ℕ → ℕ → List ℕ
 ki etype key usage = derived_key etype key usage Integrity
 
--- the key that PBKDF2 makes of a password: tkey of RFC 3962 section 4 and RFC 8009 section 4. In the
+-- the key that PBKDF2 makes of a password: tkey of RFC 3962, section 4, and RFC 8009, section 4. In the
 -- latter the salt has the name of the type and an octet of zero before it
 unfoldable pub stretched : Etype → List ℕ → List ℕ → ℕ → List ℕ
 stretched Aes128CtsHmacSha1_96 pass salt count = pbkdf2_sha1 pass salt count 16
 stretched Aes256CtsHmacSha1_96 pass salt count = pbkdf2_sha1 pass salt count 32
-stretched Aes128CtsHmacSha256_128 pass salt count = pbkdf2_sha256 pass (codes "aes128-cts-hmac-sha256-128" ++ 0 ∷ salt) count 16
-stretched Aes256CtsHmacSha384_192 pass salt count = pbkdf2_sha384 pass (codes "aes256-cts-hmac-sha384-192" ++ 0 ∷ salt) count 32
+stretched Aes128CtsHmacSha256_128 pass salt count =
+    pbkdf2_sha256 pass (codes "aes128-cts-hmac-sha256-128" ++ 0 ∷ salt) count 16
+stretched Aes256CtsHmacSha384_192 pass salt count =
+    pbkdf2_sha384 pass (codes "aes256-cts-hmac-sha384-192" ++ 0 ∷ salt) count 32
 
 -- string-to-key
 unfoldable pub string_key : Etype → List ℕ → List ℕ → ℕ → List ℕ

@@ -1,7 +1,11 @@
--- Key usage numbers: RFC 4120 section 7.5.1.
+-- Key usage numbers: RFC 4120, section 7.5.1.
 use Rattle.std.specs.Prelude.{ℕ}
 use Rattle.enctypes.specs.declared.key_usage.KeyUsage.{KeyUsage}
-use Rattle.enctypes.specs.declared.key_usage.KeyUsage.TheVariants.{PaEncTimestamp, Ticket, AsRepEncPart, TgsReqAuthenticatorChecksum, TgsReqAuthenticator, TgsRepEncPartSessionKey, TgsRepEncPartSubkey, ApReqAuthenticatorChecksum, ApReqAuthenticator, ApRepEncPart}
+use Rattle.enctypes.specs.declared.key_usage.KeyUsage.TheVariants.{PaEncTimestamp, Ticket}
+use Rattle.enctypes.specs.declared.key_usage.KeyUsage.TheVariants.{AsRepEncPart, TgsReqAuthenticatorChecksum}
+use Rattle.enctypes.specs.declared.key_usage.KeyUsage.TheVariants.{TgsReqAuthenticator, TgsRepEncPartSessionKey}
+use Rattle.enctypes.specs.declared.key_usage.KeyUsage.TheVariants.{TgsRepEncPartSubkey, ApReqAuthenticatorChecksum}
+use Rattle.enctypes.specs.declared.key_usage.KeyUsage.TheVariants.{ApReqAuthenticator, ApRepEncPart}
 
 abbrev pub usage_number : KeyUsage → ℕ
 usage_number PaEncTimestamp = 1

@@ -1,7 +1,7 @@
 pub mod Etype
 pub mod Key
 pub mod KeyUsage
-pub mod Mac
+pub mod ShortOctets
 pub mod Derivation
 pub mod Sealing
 pub mod Suite

@@ -1,11 +1,14 @@
--- Checksums and sealed texts: RFC 3961 sections 5.3 and 5.4 and RFC 3962 section 6 for types 17 and 18,
--- RFC 8009 sections 5 and 6 for types 19 and 20.
-use Rattle.std.specs.Prelude.{◌≡◌, ◌<◌, All, ℕ, Bool, true, false, if◌then◌else◌, List, ◌++◌, take, replicate}
+-- Checksums and sealed texts: RFC 3961, sections 5.3 and 5.4, and RFC 3962, section 6, for types 17 and 18;
+-- RFC 8009, sections 5 and 6, for types 19 and 20.
+use Rattle.std.specs.Prelude.{◌≡◌, ◌↔◌, ◌<◌, ◌+◌, ◌-◌, All, ℕ, Bool, true, false, ◌&&◌}
+use Rattle.std.specs.Prelude.{nat_le, if◌then◌else◌, List, ◌++◌, take, drop, length, replicate, Option, Some, None}
+use Rattle.std.specs.Str.{bytes_eq}
 use Rattle.aes_cts.specs.Cipher.{IsBlock}
-use Rattle.aes_cts.specs.Cts.{cts}
+use Rattle.aes_cts.specs.Cts.{cts, cts_inverse}
 use Rattle.prf_kdf.specs.Hmac.{hmac_sha1, hmac_sha256, hmac_sha384}
 use Rattle.enctypes.specs.declared.etype.Etype.{Etype}
-use Rattle.enctypes.specs.declared.etype.Etype.TheVariants.{Aes128CtsHmacSha1_96, Aes256CtsHmacSha1_96, Aes128CtsHmacSha256_128, Aes256CtsHmacSha384_192}
+use Rattle.enctypes.specs.declared.etype.Etype.TheVariants.{Aes128CtsHmacSha1_96, Aes256CtsHmacSha1_96}
+use Rattle.enctypes.specs.declared.etype.Etype.TheVariants.{Aes128CtsHmacSha256_128, Aes256CtsHmacSha384_192}
 use Rattle.enctypes.specs.Etype.{mac_len}
 use Rattle.enctypes.specs.Derivation.{kc, ke, ki}
 
@@ -57,10 +60,50 @@ pub record Opens (etype : Etype) (key : List ℕ) (usage : ℕ) (cipher text : L
   pub sealed : seal etype key usage confounder text ≡ cipher
 
 -- the cipher is that of no text
-abbrev pub OpensNothing : Etype → List ℕ → ℕ → List ℕ → Type 0
+unfoldable pub OpensNothing : Etype → List ℕ → ℕ → List ℕ → Type 0
 OpensNothing etype key usage cipher = (text : List ℕ) → Opens etype key usage cipher text → ⊥
 
 -- the cipher is that of at most one text
-abbrev pub OpensAtMostOne : Etype → List ℕ → ℕ → List ℕ → Type 0
+unfoldable pub OpensAtMostOne : Etype → List ℕ → ℕ → List ℕ → Type 0
 OpensAtMostOne etype key usage cipher =
     (text other : List ℕ) → Opens etype key usage cipher text → Opens etype key usage cipher other → text ≡ other
+
+-- ---- opening as a function, for definitions that go on with what was sealed
+
+-- what stands before the HMAC that ends a cipher, and the HMAC
+abbrev pub enciphered : Etype → List ℕ → List ℕ
+enciphered etype cipher = take (length cipher - mac_len etype) cipher
+
+abbrev pub ending : Etype → List ℕ → List ℕ
+ending etype cipher = drop (length cipher - mac_len etype) cipher
+
+-- confounder and text, deciphered
+abbrev pub deciphered : Etype → List ℕ → ℕ → List ℕ → List ℕ
+deciphered etype key usage cipher = cts_inverse (ke etype key usage) zero_vector (enciphered etype cipher)
+
+-- the HMAC that has to end the cipher
+abbrev pub expected_ending : Etype → List ℕ → ℕ → List ℕ → List ℕ
+expected_ending etype key usage cipher =
+    cut_hmac etype (ki etype key usage)
+    (authenticated (macs_cipher etype) (deciphered etype key usage cipher) (enciphered etype cipher))
+
+-- the cipher has room for a confounder and an HMAC, and ends with the right one
+unfoldable pub is_sealed : Etype → List ℕ → ℕ → List ℕ → Bool
+is_sealed etype key usage cipher =
+    nat_le (16 + mac_len etype) (length cipher) && bytes_eq (ending etype cipher)
+    (expected_ending etype key usage cipher)
+
+-- the text of which this is the cipher, or none
+unfoldable pub opened : Etype → List ℕ → ℕ → List ℕ → Option (List ℕ)
+opened etype key usage cipher =
+    if is_sealed etype key usage cipher then Some (drop 16 (deciphered etype key usage cipher)) else None
+
+-- under this key and usage a cipher is opened to the text that was sealed to it, and to nothing else
+pub record OpensWhatWasSealed (etype : Etype) (key : List ℕ) (usage : ℕ) : Type 0 where
+  pub sealed : (confounder text : List ℕ) → IsBlock confounder → All (λ b. b < 256) text
+      → opened etype key usage (seal etype key usage confounder text) ≡ Some text
+  pub found : (cipher text : List ℕ) → Opens etype key usage cipher text → opened etype key usage cipher ≡ Some text
+  pub some : (cipher text : List ℕ) → All (λ b. b < 256) cipher
+      → (opened etype key usage cipher ≡ Some text) ↔ Opens etype key usage cipher text
+  pub none : (cipher : List ℕ) → All (λ b. b < 256) cipher
+      → (opened etype key usage cipher ≡ None) ↔ OpensNothing etype key usage cipher

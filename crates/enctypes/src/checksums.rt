@@ -1,16 +1,14 @@
-//! Checksums under a key (RFC 3961 section 5.4, RFC 8009 section 6).
+//! Checksums under a key (RFC 3961, section 5.4; RFC 8009, section 6).
 ghost use Rattle.std.specs.Prelude.{◌≡◌, ◌≤◌, ◌↔◌, IsTrue, length};
 ghost use Rattle.enctypes.specs.Etype.{key_len, mac_len};
 ghost use Rattle.enctypes.specs.KeyUsage.{usage_number};
 ghost use Rattle.enctypes.specs.Sealing.{mac};
 
-use crate::derived_key::DerivedKey;
+use crate::derived_key::derived_key;
 use crate::octets::are_same;
 use crate::purpose::Purpose;
-use crate::sha2_profile::{Aes128Sha2, Aes256Sha2};
-use crate::simplified::{Aes128Sha1, Aes256Sha1};
-use crate::suite::Suite;
-use crate::{Etype, Key, KeyUsage, Mac};
+use crate::suite::{Suite, with_suite};
+use crate::{Key, KeyUsage, Mac};
 
 /// The checksum of a text, of the checksum type that goes with the key's type. It takes no memory.
 pub fn checksum(key: &Key, usage: KeyUsage, text: &[u8]) -> Mac
@@ -19,12 +17,7 @@ pub fn checksum(key: &Key, usage: KeyUsage, text: &[u8]) -> Mac
     ensures most { length result ≤ 24 }
 {
     let (octets, number) = (key.bytes(), usage.number());
-    match key.etype() {
-        Etype::Aes128CtsHmacSha1_96 => checksum_as::<Aes128Sha1>(octets, number, text),
-        Etype::Aes256CtsHmacSha1_96 => checksum_as::<Aes256Sha1>(octets, number, text),
-        Etype::Aes128CtsHmacSha256_128 => checksum_as::<Aes128Sha2>(octets, number, text),
-        Etype::Aes256CtsHmacSha384_192 => checksum_as::<Aes256Sha2>(octets, number, text),
-    }
+    with_suite!(key.etype(), checksum_as(octets, number, text))
 }
 
 /// Whether the octets are the checksum of the text. All of them are compared before it answers.
@@ -43,7 +36,7 @@ fn checksum_as<S: Suite>(key: &[u8], usage: u32, text: &[u8]) -> Mac
     ensures most { length result ≤ 24 }
 {
     S::hmac(
-        DerivedKey::of::<S>(key, usage, Purpose::Checksum).bytes(),
+        derived_key::<S>(key, usage, Purpose::Checksum).bytes(),
         &[text],
     )
 }

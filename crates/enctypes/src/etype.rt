@@ -2,20 +2,18 @@
 ghost use Rattle.std.specs.Prelude.{◌≡◌, ◌≢◌, ◌≤◌, IfSome, IfNone};
 ghost use Rattle.enctypes.specs.Etype.{number, key_len, mac_len, checksum_type, default_count};
 
-use crate::sha2_profile::{Aes128Sha2, Aes256Sha2};
-use crate::simplified::{Aes128Sha1, Aes256Sha1};
-use crate::suite::Suite;
+use crate::suite::with_suite;
 
 /// An encryption type of RFC 3962 or RFC 8009.
 #[derive(Debug, Clone, Copy, PartialEq, Eq)]
 pub enum Etype {
-    /// aes128-cts-hmac-sha1-96 (RFC 3962 section 7).
+    /// aes128-cts-hmac-sha1-96 (RFC 3962, section 7).
     Aes128CtsHmacSha1_96,
-    /// aes256-cts-hmac-sha1-96 (RFC 3962 section 7).
+    /// aes256-cts-hmac-sha1-96 (RFC 3962, section 7).
     Aes256CtsHmacSha1_96,
-    /// aes128-cts-hmac-sha256-128 (RFC 8009 section 5).
+    /// aes128-cts-hmac-sha256-128 (RFC 8009, section 5).
     Aes128CtsHmacSha256_128,
-    /// aes256-cts-hmac-sha384-192 (RFC 8009 section 5).
+    /// aes256-cts-hmac-sha384-192 (RFC 8009, section 5).
     Aes256CtsHmacSha384_192,
 }
 
@@ -50,10 +48,7 @@ impl Etype {
     pub fn key_len(self) -> usize
         ensures { result ≡ key_len self }
     {
-        match self {
-            Etype::Aes128CtsHmacSha1_96 | Etype::Aes128CtsHmacSha256_128 => 16,
-            Etype::Aes256CtsHmacSha1_96 | Etype::Aes256CtsHmacSha384_192 => 32,
-        }
+        with_suite!(self, KEY_LEN)
     }
 
     /// How many octets of HMAC end a text sealed under the type, and a checksum of the type has.
@@ -61,38 +56,23 @@ impl Etype {
         ensures value { result ≡ mac_len self }
         ensures most { result ≤ 24 }
     {
-        match self {
-            Etype::Aes128CtsHmacSha1_96 => Aes128Sha1::MAC_LEN,
-            Etype::Aes256CtsHmacSha1_96 => Aes256Sha1::MAC_LEN,
-            Etype::Aes128CtsHmacSha256_128 => Aes128Sha2::MAC_LEN,
-            Etype::Aes256CtsHmacSha384_192 => Aes256Sha2::MAC_LEN,
-        }
+        with_suite!(self, MAC_LEN)
     }
 
-    /// The number of the checksum type that goes with the type (RFC 3962 section 7, RFC 8009
+    /// The number of the checksum type that goes with the type (RFC 3962, section 7; RFC 8009,
     /// section 6).
     pub fn checksum_type(self) -> i32
         ensures { result ≡ checksum_type self }
     {
-        match self {
-            Etype::Aes128CtsHmacSha1_96 => Aes128Sha1::CHECKSUM_TYPE,
-            Etype::Aes256CtsHmacSha1_96 => Aes256Sha1::CHECKSUM_TYPE,
-            Etype::Aes128CtsHmacSha256_128 => Aes128Sha2::CHECKSUM_TYPE,
-            Etype::Aes256CtsHmacSha384_192 => Aes256Sha2::CHECKSUM_TYPE,
-        }
+        with_suite!(self, CHECKSUM_TYPE)
     }
 
-    /// The count of iterations of string-to-key where parameters name none (RFC 3962 section 4, RFC
-    /// 8009 section 4).
+    /// The count of iterations of string-to-key where parameters name none (RFC 3962, section 4;
+    /// RFC 8009, section 4).
     pub fn default_count(self) -> u32
         ensures value { result ≡ default_count self }
         ensures some { 1 ≤ result }
     {
-        match self {
-            Etype::Aes128CtsHmacSha1_96 => Aes128Sha1::DEFAULT_COUNT,
-            Etype::Aes256CtsHmacSha1_96 => Aes256Sha1::DEFAULT_COUNT,
-            Etype::Aes128CtsHmacSha256_128 => Aes128Sha2::DEFAULT_COUNT,
-            Etype::Aes256CtsHmacSha384_192 => Aes256Sha2::DEFAULT_COUNT,
-        }
+        with_suite!(self, DEFAULT_COUNT)
     }
 }

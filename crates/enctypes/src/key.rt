@@ -1,8 +1,9 @@
-//! Protocol keys (RFC 3961 section 3; RFC 4120 section 5.2.9, EncryptionKey).
-ghost use Rattle.std.specs.Prelude.{◌≡◌, ◌↔◌, length, take, IsSome, IfSome};
+//! Protocol keys (RFC 3961, section 3; RFC 4120, section 5.2.9, EncryptionKey).
+ghost use Rattle.std.specs.Prelude.{◌≡◌, ◌↔◌, ◌<◌, All, length, take, IsSome, IfSome};
 ghost use Rattle.enctypes.specs.Etype.{key_len};
 
 use crate::Etype;
+use crate::short_octets::ShortOctets;
 use std::fmt;
 use std::marker::Model;
 
@@ -15,41 +16,40 @@ pub const LONGEST: usize = 32;
 #[derive(Clone, Copy)]
 pub struct Key {
     etype: Etype,
-    // followed by zeros where the type's keys have 16 octets
-    bytes: [u8; LONGEST],
+    octets: ShortOctets<LONGEST>,
 }
 
 impl Model for Key {
-    ghost use Rattle.std.specs.Prelude.{◌≡◌, take};
-    ghost use Rattle.std.proofs.Common.{ap, sym};
+    ghost use Rattle.std.specs.Prelude.{◌≡◌, length};
+    ghost use Rattle.std.proofs.Common.{refl};
     ghost use Rattle.enctypes.specs.Etype.{key_len};
-    ghost use Rattle.enctypes.specs.Key.{ProtocolKey, padded};
+    ghost use Rattle.enctypes.specs.Key.{ProtocolKey};
 
     ghost Value = { ProtocolKey };
 
-    ghost view = { λ a. record { etype = a.etype; bytes = take (key_len a.etype) a.bytes } };
+    ghost view = { λ k. record { etype = k.etype; bytes = k.octets } };
 
-    ghost invariant = { λ a. padded a.etype (take (key_len a.etype) a.bytes) ≡ a.bytes };
+    ghost invariant = { λ k. length k.octets ≡ key_len k.etype };
 
-    ghost inverse = { λ k. record { etype = k.etype; bytes = padded k.etype k.bytes } };
+    ghost inverse = { λ v. record { etype = v.etype; octets = v.bytes } };
 
-    ghost inverse_ok = { λ a h. ap (λ b. record { etype = a.etype; bytes = b }) h };
+    ghost inverse_ok = { λ k h. refl };
 }
 
 impl Key {
     /// The key with these octets; `None` where their number is not the type's.
-    pub fn new(etype: Etype, bytes: &[u8]) -> Option<Key>
-        ensures some { IsSome result ↔ (length bytes.now ≡ key_len etype) }
-        ensures key { IfSome result (λ key. key ≡ record { etype = etype; bytes = bytes.now }) }
+    pub fn new(etype: Etype, octets: &[u8]) -> Option<Key>
+        ensures some { IsSome result ↔ (length octets.now ≡ key_len etype) }
+        ensures key { IfSome result (λ key. key ≡ record { etype = etype; bytes = octets.now }) }
     {
-        if bytes.len() != etype.key_len() {
+        if octets.len() != etype.key_len() {
             return None;
         }
-        Some(Key::with_octets(etype, bytes))
+        Some(Key::with_octets(etype, octets))
     }
 
-    /// The key of random octets: the first ones, as many as the type's keys have (RFC 3962 section
-    /// 6, RFC 8009 section 5: random bits are a key as they are).
+    /// The key of random octets: the first ones, as many as the type's keys have. Random bits are a
+    /// key as they are (RFC 3962, section 6; RFC 8009, section 5).
     pub fn from_random(etype: Etype, octets: &[u8; 32]) -> Key
         ensures { result ≡ record { etype = etype; bytes = take (key_len etype) octets.now } }
     {
@@ -61,9 +61,10 @@ impl Key {
         requires { length octets.now ≡ key_len etype }
         ensures { result ≡ record { etype = etype; bytes = octets.now } }
     {
-        let mut bytes = [0; LONGEST];
-        bytes[..octets.len()].copy_from_slice(octets);
-        Key { etype, bytes }
+        Key {
+            etype,
+            octets: ShortOctets::new(octets),
+        }
     }
 
     pub fn etype(&self) -> Etype
@@ -76,8 +77,9 @@ impl Key {
     pub fn bytes(&self) -> &[u8]
         ensures bytes { result.now ≡ self.now.bytes }
         ensures len { length result.now ≡ key_len self.now.etype }
+        ensures octets { All (λ b. b < 256) self.now.bytes }
     {
-        &self.bytes[..self.etype.key_len()]
+        self.octets.bytes()
     }
 }
 

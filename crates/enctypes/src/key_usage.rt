@@ -1,4 +1,4 @@
-//! What a key is used for: RFC 4120 section 7.5.1.
+//! What a key is used for: RFC 4120, section 7.5.1.
 ghost use Rattle.std.specs.Prelude.{◌≡◌};
 ghost use Rattle.enctypes.specs.KeyUsage.{usage_number};
 

@@ -4,11 +4,11 @@
 //!
 //! | call | standard | gives |
 //! |---|---|---|
-//! | [`Key::new`], [`Key::from_random`] | RFC 3961 section 3 | a key of 16 or 32 octets |
-//! | [`string_to_key`] | RFC 3962 section 4, RFC 8009 section 4 | the key of a password |
-//! | [`seal`] | RFC 3961 section 5.3, RFC 8009 section 5 | a text enciphered, with its HMAC |
+//! | [`Key::new`], [`Key::from_random`] | RFC 3961, section 3 | a key of 16 or 32 octets |
+//! | [`string_to_key`] | RFC 3962, section 4; RFC 8009, section 4 | the key of a password |
+//! | [`seal`] | RFC 3961, section 5.3; RFC 8009, section 5 | a text enciphered, with its HMAC |
 //! | [`open`] | the same | the text again, where the HMAC agrees |
-//! | [`checksum`], [`verify`] | RFC 3961 section 5.4, RFC 8009 section 6 | the HMAC of a text |
+//! | [`checksum`], [`verify`] | RFC 3961, section 5.4; RFC 8009, section 6 | the HMAC of a text |
 //!
 //! `open` gives the text where some confounder seals it to this cipher, and no key opens two texts
 //! from one cipher. What `seal` gives is opened by the same key and usage. The calls go by the key's
@@ -21,12 +21,12 @@ mod derived_key;
 mod etype;
 mod key;
 mod key_usage;
-mod mac;
 mod octets;
 mod passwords;
 mod purpose;
 mod sealing;
 mod sha2_profile;
+mod short_octets;
 mod simplified;
 mod suite;
 
@@ -34,10 +34,10 @@ pub use checksums::{checksum, verify};
 pub use etype::Etype;
 pub use key::Key;
 pub use key_usage::KeyUsage;
-pub use mac::Mac;
 pub use passwords::string_to_key;
 pub use sealing::{open, seal};
 pub use sha2_profile::{Aes128Sha2, Aes256Sha2};
+pub use short_octets::Mac;
 pub use simplified::{Aes128Sha1, Aes256Sha1};
 pub use suite::Suite;
 

@@ -1,11 +1,9 @@
-//! Keys of passwords: string-to-key (RFC 3962 section 4, RFC 8009 section 4).
+//! Keys of passwords: string-to-key (RFC 3962, section 4; RFC 8009, section 4).
 ghost use Rattle.std.specs.Prelude.{◌≡◌, ◌≤◌, IfOk};
 ghost use Rattle.enctypes.specs.Derivation.{string_key};
 
 use crate::key::LONGEST;
-use crate::sha2_profile::{Aes128Sha2, Aes256Sha2};
-use crate::simplified::{Aes128Sha1, Aes256Sha1};
-use crate::suite::Suite;
+use crate::suite::{Suite, with_suite};
 use crate::{Etype, Key};
 use std::alloc::{AllocError, Global};
 
@@ -25,16 +23,7 @@ pub fn string_to_key(
     ensures { IfOk result (λ key. key
         ≡ record { etype = etype; bytes = string_key etype pass.now salt.now count }) }
 {
-    match etype {
-        Etype::Aes128CtsHmacSha1_96 => string_to_key_as::<Aes128Sha1>(alloc, pass, salt, count),
-        Etype::Aes256CtsHmacSha1_96 => string_to_key_as::<Aes256Sha1>(alloc, pass, salt, count),
-        Etype::Aes128CtsHmacSha256_128 => {
-            string_to_key_as::<Aes128Sha2>(alloc, pass, salt, count)
-        }
-        Etype::Aes256CtsHmacSha384_192 => {
-            string_to_key_as::<Aes256Sha2>(alloc, pass, salt, count)
-        }
-    }
+    with_suite!(etype, string_to_key_as(alloc, pass, salt, count))
 }
 
 fn string_to_key_as<S: Suite>(

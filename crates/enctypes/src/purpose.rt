@@ -2,7 +2,7 @@
 ghost use Rattle.std.specs.Prelude.{◌≡◌};
 ghost use Rattle.enctypes.specs.Derivation.{purpose_octet, usage_constant};
 
-/// What a derived key is for (RFC 3961 section 5.3, RFC 8009 section 3).
+/// What a derived key is for (RFC 3961, section 5.3; RFC 8009, section 3).
 #[derive(Clone, Copy)]
 pub enum Purpose {
     /// Kc, for checksums.

@@ -1,20 +1,18 @@
-//! Sealing and opening: encryption with integrity (RFC 3961 section 5.3, RFC 8009 section 5).
-ghost use Rattle.std.specs.Prelude.{◌≡◌, ◌≤◌, ◌<◌, ◌+◌, ◌++◌, length, IfOk, IfSome, IfNone};
-ghost use Rattle.aes_cts.specs.Cts.{cts, cts_inverse, PermutesTexts};
+//! Sealing and opening: encryption with integrity (RFC 3961, section 5.3; RFC 8009, section 5).
+ghost use Rattle.std.specs.Prelude.{◌≡◌, ◌≤◌, ◌<◌, ◌+◌, ◌++◌, length, option_map, Some, IfOk, IfSome, IfNone};
+ghost use Rattle.aes_cts.specs.Cts.{cts, cts_inverse};
 ghost use Rattle.enctypes.specs.Etype.{key_len, mac_len};
 ghost use Rattle.enctypes.specs.KeyUsage.{usage_number};
-ghost use Rattle.enctypes.specs.Derivation.{ke};
-ghost use Rattle.enctypes.specs.Sealing.{cut_hmac, zero_vector, authenticated, seal};
-ghost use Rattle.enctypes.specs.Sealing.{Opens, OpensNothing, OpensAtMostOne};
+ghost use Rattle.enctypes.specs.Derivation.{ke, ki};
+ghost use Rattle.enctypes.specs.Sealing.{cut_hmac, zero_vector, macs_cipher, authenticated, seal};
+ghost use Rattle.enctypes.specs.Sealing.{Opens, OpensNothing, OpensAtMostOne, opened, OpensWhatWasSealed};
 
 use crate::aes_key::aes_key;
-use crate::derived_key::DerivedKey;
+use crate::derived_key::{DerivedKey, derived_key};
 use crate::octets::are_same;
 use crate::purpose::Purpose;
-use crate::sha2_profile::{Aes128Sha2, Aes256Sha2};
-use crate::simplified::{Aes128Sha1, Aes256Sha1};
-use crate::suite::Suite;
-use crate::{Etype, Key, KeyUsage, Mac};
+use crate::suite::{Suite, with_suite};
+use crate::{Key, KeyUsage, Mac};
 use aes_cts::AesKey;
 use std::alloc::{AllocError, Global};
 
@@ -42,22 +40,14 @@ pub fn seal(
     ensures most { IfOk result (λ sealed. length sealed.items ≤ 40 + length text.now) }
     ensures opens { IfOk result (λ sealed.
         Opens key.now.etype key.now.bytes (usage_number usage) sealed.items text.now) }
+    ensures opened { IfOk result (λ sealed.
+        opened key.now.etype key.now.bytes (usage_number usage) sealed.items ≡ Some text.now) }
 {
     let (octets, number) = (key.bytes(), usage.number());
-    match key.etype() {
-        Etype::Aes128CtsHmacSha1_96 => {
-            seal_as::<Aes128Sha1>(alloc, octets, number, confounder, text)
-        }
-        Etype::Aes256CtsHmacSha1_96 => {
-            seal_as::<Aes256Sha1>(alloc, octets, number, confounder, text)
-        }
-        Etype::Aes128CtsHmacSha256_128 => {
-            seal_as::<Aes128Sha2>(alloc, octets, number, confounder, text)
-        }
-        Etype::Aes256CtsHmacSha384_192 => {
-            seal_as::<Aes256Sha2>(alloc, octets, number, confounder, text)
-        }
-    }
+    with_suite!(
+        key.etype(),
+        seal_as(alloc, octets, number, confounder, text)
+    )
 }
 
 /// Opens a sealed text: `None` where no confounder and text are sealed to this cipher under this key
@@ -65,29 +55,27 @@ pub fn seal(
 ///
 /// It takes memory once, for the confounder and the text. No octet of the text is given out before
 /// all octets of the HMAC have been compared.
+#[tactic(auto, using(crate::proofs::OpenedLaws::opens_what_was_sealed, crate::proofs::OpenedLaws::opens_at_most_one))]
 pub fn open(
     alloc: Global,
     key: &Key,
     usage: KeyUsage,
     cipher: &[u8],
 ) -> Result<Option<Vec<u8>>, AllocError>
+    ensures value { IfOk result (λ found. option_map (λ text. text.items) found
+        ≡ opened key.now.etype key.now.bytes (usage_number usage) cipher.now) }
     ensures opened { IfOk result (λ found. IfSome found (λ text.
         Opens key.now.etype key.now.bytes (usage_number usage) cipher.now text.items)) }
     ensures none { IfOk result (λ found. IfNone found
         (OpensNothing key.now.etype key.now.bytes (usage_number usage) cipher.now)) }
-    ensures one { IfOk result (λ _.
-        OpensAtMostOne key.now.etype key.now.bytes (usage_number usage) cipher.now) }
+    ensures one { OpensAtMostOne key.now.etype key.now.bytes (usage_number usage) cipher.now }
     ensures len { IfOk result (λ found. IfSome found (λ text.
         length cipher.now ≡ 16 + mac_len key.now.etype + length text.items)) }
     ensures short { length cipher.now < 16 + mac_len key.now.etype → result ≡ Ok None }
+    ensures law { OpensWhatWasSealed key.now.etype key.now.bytes (usage_number usage) }
 {
     let (octets, number) = (key.bytes(), usage.number());
-    match key.etype() {
-        Etype::Aes128CtsHmacSha1_96 => open_as::<Aes128Sha1>(alloc, octets, number, cipher),
-        Etype::Aes256CtsHmacSha1_96 => open_as::<Aes256Sha1>(alloc, octets, number, cipher),
-        Etype::Aes128CtsHmacSha256_128 => open_as::<Aes128Sha2>(alloc, octets, number, cipher),
-        Etype::Aes256CtsHmacSha384_192 => open_as::<Aes256Sha2>(alloc, octets, number, cipher),
-    }
+    with_suite!(key.etype(), open_as(alloc, octets, number, cipher))
 }
 
 fn seal_as<S: Suite>(
@@ -104,12 +92,13 @@ fn seal_as<S: Suite>(
         length sealed.items ≡ 16 + mac_len S.ETYPE + length text.now) }
     ensures most { IfOk result (λ sealed. length sealed.items ≤ 40 + length text.now) }
     ensures opens { IfOk result (λ sealed. Opens S.ETYPE key.now usage sealed.items text.now) }
+    ensures opened { IfOk result (λ sealed.
+        opened S.ETYPE key.now usage sealed.items ≡ Some text.now) }
 {
     let mut sealed = Vec::with_capacity(alloc, CONFOUNDER_LEN + text.len() + S::MAC_LEN)?;
     sealed.extend_from_slice(confounder)?;
     sealed.extend_from_slice(text)?;
-    let integrity = DerivedKey::of::<S>(key, usage, Purpose::Integrity);
-    let mac = encipher::<S>(&encryption_key::<S>(key, usage), &integrity, &mut sealed);
+    let mac = encipher::<S>(key, usage, &mut sealed);
     sealed.extend_from_slice(mac.bytes())?;
     Ok(sealed)
 }
@@ -121,11 +110,12 @@ fn open_as<S: Suite>(
     cipher: &[u8],
 ) -> Result<Option<Vec<u8>>, AllocError>
     requires { length key.now ≡ key_len S.ETYPE }
+    ensures value { IfOk result (λ found. option_map (λ text. text.items) found
+        ≡ opened S.ETYPE key.now usage cipher.now) }
     ensures opened { IfOk result (λ found. IfSome found (λ text.
         Opens S.ETYPE key.now usage cipher.now text.items)) }
     ensures none { IfOk result (λ found. IfNone found
         (OpensNothing S.ETYPE key.now usage cipher.now)) }
-    ensures one { IfOk result (λ _. OpensAtMostOne S.ETYPE key.now usage cipher.now) }
     ensures len { IfOk result (λ found. IfSome found (λ text.
         length cipher.now ≡ 16 + mac_len S.ETYPE + length text.items)) }
     ensures short { length cipher.now < 16 + mac_len S.ETYPE → result ≡ Ok None }
@@ -136,8 +126,7 @@ fn open_as<S: Suite>(
     let (enciphered, mac) = cipher.split_at(cipher.len() - S::MAC_LEN);
     let mut text = Vec::with_capacity(alloc, enciphered.len())?;
     text.extend_from_slice(enciphered)?;
-    let integrity = DerivedKey::of::<S>(key, usage, Purpose::Integrity);
-    let expected = decipher::<S>(&encryption_key::<S>(key, usage), &integrity, &mut text);
+    let expected = decipher::<S>(key, usage, &mut text);
     if !are_same(expected.bytes(), mac) {
         return Ok(None);
     }
@@ -146,58 +135,62 @@ fn open_as<S: Suite>(
     Ok(Some(text))
 }
 
-/// Ke, as a key of AES.
+// Enciphers confounder and text in place, and gives the HMAC that ends the sealed text.
+fn encipher<S: Suite>(key: &[u8], usage: u32, text: &mut [u8]) -> Mac
+    requires key { length key.now ≡ key_len S.ETYPE }
+    requires text { 16 ≤ length text.old }
+    ensures value { text.new ≡ cts (ke S.ETYPE key.now usage) zero_vector text.old }
+    ensures mac { result ≡ cut_hmac S.ETYPE (ki S.ETYPE key.now usage)
+        (authenticated (macs_cipher S.ETYPE) text.old text.new) }
+{
+    let cipher = encryption_key::<S>(key, usage);
+    let integrity = derived_key::<S>(key, usage, Purpose::Integrity);
+    if S::MACS_CIPHER {
+        cipher.cts_encrypt(&ZERO_VECTOR, text);
+        mac_of_cipher::<S>(&integrity, text)
+    } else {
+        let mac = mac_of_plain::<S>(&integrity, text);
+        cipher.cts_encrypt(&ZERO_VECTOR, text);
+        mac
+    }
+}
+
+// Deciphers confounder and text in place, and gives the HMAC that has to end the sealed text.
+fn decipher<S: Suite>(key: &[u8], usage: u32, text: &mut [u8]) -> Mac
+    requires key { length key.now ≡ key_len S.ETYPE }
+    requires text { 16 ≤ length text.old }
+    ensures value { text.new ≡ cts_inverse (ke S.ETYPE key.now usage) zero_vector text.old }
+    ensures mac { result ≡ cut_hmac S.ETYPE (ki S.ETYPE key.now usage)
+        (authenticated (macs_cipher S.ETYPE) text.new text.old) }
+{
+    let cipher = encryption_key::<S>(key, usage);
+    let integrity = derived_key::<S>(key, usage, Purpose::Integrity);
+    if S::MACS_CIPHER {
+        let mac = mac_of_cipher::<S>(&integrity, text);
+        cipher.cts_decrypt(&ZERO_VECTOR, text);
+        mac
+    } else {
+        cipher.cts_decrypt(&ZERO_VECTOR, text);
+        mac_of_plain::<S>(&integrity, text)
+    }
+}
+
+// Ke, as a key of AES.
 fn encryption_key<S: Suite>(key: &[u8], usage: u32) -> AesKey
     requires { length key.now ≡ key_len S.ETYPE }
     ensures { result ≡ ke S.ETYPE key.now usage }
 {
-    aes_key(DerivedKey::of::<S>(key, usage, Purpose::Encryption).bytes())
+    aes_key(derived_key::<S>(key, usage, Purpose::Encryption).bytes())
 }
 
-/// Enciphers confounder and text in place, and gives the HMAC that ends the sealed text.
-fn encipher<S: Suite>(cipher: &AesKey, integrity: &DerivedKey, text: &mut [u8]) -> Mac
-    requires { 16 ≤ length text.old }
-    ensures value { text.new ≡ cts cipher.now zero_vector text.old }
-    ensures mac { result
-        ≡ cut_hmac S.ETYPE integrity.now (authenticated S.MACS_CIPHER text.old text.new) }
-    ensures permutes { PermutesTexts cipher.now }
-{
-    if S::MACS_CIPHER {
-        cipher.cts_encrypt(&ZERO_VECTOR, text);
-        mac_of_cipher::<S>(integrity, text)
-    } else {
-        let mac = mac_of_plain::<S>(integrity, text);
-        cipher.cts_encrypt(&ZERO_VECTOR, text);
-        mac
-    }
-}
-
-/// Deciphers confounder and text in place, and gives the HMAC that has to end the sealed text.
-fn decipher<S: Suite>(cipher: &AesKey, integrity: &DerivedKey, text: &mut [u8]) -> Mac
-    requires { 16 ≤ length text.old }
-    ensures value { text.new ≡ cts_inverse cipher.now zero_vector text.old }
-    ensures mac { result
-        ≡ cut_hmac S.ETYPE integrity.now (authenticated S.MACS_CIPHER text.new text.old) }
-    ensures permutes { PermutesTexts cipher.now }
-{
-    if S::MACS_CIPHER {
-        let mac = mac_of_cipher::<S>(integrity, text);
-        cipher.cts_decrypt(&ZERO_VECTOR, text);
-        mac
-    } else {
-        cipher.cts_decrypt(&ZERO_VECTOR, text);
-        mac_of_plain::<S>(integrity, text)
-    }
-}
-
-/// The HMAC of confounder and text (RFC 3961 section 5.3).
+// The HMAC of confounder and text (RFC 3961, section 5.3).
 fn mac_of_plain<S: Suite>(integrity: &DerivedKey, text: &[u8]) -> Mac
     ensures { result ≡ cut_hmac S.ETYPE integrity.now text.now }
 {
     S::hmac(integrity.bytes(), &[text])
 }
 
-/// The HMAC of the cipher with the initial cipher state before it (RFC 8009 section 5).
+// The HMAC of the cipher with the initial cipher state before it (RFC 8009, section 5).
 fn mac_of_cipher<S: Suite>(integrity: &DerivedKey, text: &[u8]) -> Mac
     ensures { result ≡ cut_hmac S.ETYPE integrity.now (zero_vector ++ text.now) }
 {

@@ -11,9 +11,9 @@ pub struct Aes128Sha2;
 
 #[tactic(auto, unfolding(crate::specs::Derivation::derived, crate::specs::Derivation::stretched, crate::specs::Sealing::hmac_of))]
 impl Suite for Aes128Sha2 {
-    ghost use Rattle.std.specs.Prelude.{true};
+    ghost use Rattle.std.specs.Prelude.{pos, true};
     ghost use Rattle.enctypes.specs.declared.etype.Etype.TheVariants.{Aes128CtsHmacSha256_128};
-    ghost use Rattle.enctypes.specs.Suite.{sizes_of};
+    ghost use Rattle.enctypes.specs.Suite.{constants_of};
 
     ghost ETYPE = { Aes128CtsHmacSha256_128 };
 
@@ -25,7 +25,11 @@ impl Suite for Aes128Sha2 {
 
     ghost MACS_CIPHER = { true };
 
-    ghost sizes = { sizes_of Aes128CtsHmacSha256_128 };
+    ghost CHECKSUM_TYPE = { pos 19 };
+
+    ghost DEFAULT_COUNT = { 32768 };
+
+    ghost constants = { constants_of Aes128CtsHmacSha256_128 };
 
     const ETYPE: Etype = Etype::Aes128CtsHmacSha256_128;
 
@@ -67,9 +71,9 @@ pub struct Aes256Sha2;
 
 #[tactic(auto, unfolding(crate::specs::Derivation::derived, crate::specs::Derivation::stretched, crate::specs::Sealing::hmac_of))]
 impl Suite for Aes256Sha2 {
-    ghost use Rattle.std.specs.Prelude.{true};
+    ghost use Rattle.std.specs.Prelude.{pos, true};
     ghost use Rattle.enctypes.specs.declared.etype.Etype.TheVariants.{Aes256CtsHmacSha384_192};
-    ghost use Rattle.enctypes.specs.Suite.{sizes_of};
+    ghost use Rattle.enctypes.specs.Suite.{constants_of};
 
     ghost ETYPE = { Aes256CtsHmacSha384_192 };
 
@@ -81,7 +85,11 @@ impl Suite for Aes256Sha2 {
 
     ghost MACS_CIPHER = { true };
 
-    ghost sizes = { sizes_of Aes256CtsHmacSha384_192 };
+    ghost CHECKSUM_TYPE = { pos 20 };
+
+    ghost DEFAULT_COUNT = { 32768 };
+
+    ghost constants = { constants_of Aes256CtsHmacSha384_192 };
 
     const ETYPE: Etype = Etype::Aes256CtsHmacSha384_192;
 
@@ -118,7 +126,7 @@ impl Suite for Aes256Sha2 {
     }
 }
 
-/// The salt that PBKDF2 takes (RFC 8009 section 4): the type's name, an octet of zero and the salt.
+/// The salt that PBKDF2 takes (RFC 8009, section 4): the type's name, an octet of zero and the salt.
 fn salt_with_name(alloc: Global, name: &[u8], salt: &[u8]) -> Result<Vec<u8>, AllocError>
     requires { length name.now ≤ 64 }
     ensures { IfOk result (λ whole. whole.items ≡ name.now ++ 0 ∷ salt.now) }

@@ -1,4 +1,4 @@
-//! Types 17 and 18: the simplified profile of RFC 3961 section 5 with AES and HMAC-SHA-1, as
+//! Types 17 and 18: the simplified profile of RFC 3961, section 5, with AES and HMAC-SHA-1, as
 //! RFC 3962 has it. They differ in the key's length alone.
 ghost use Rattle.std.specs.Prelude.{◌≡◌, ◌≤◌, ◌<◌, ◌⊎◌, length, take};
 ghost use Rattle.std.specs.List.{flat_map};
@@ -19,9 +19,9 @@ pub struct Aes128Sha1;
 
 #[tactic(auto, unfolding(crate::specs::Derivation::derived, crate::specs::Derivation::stretched, crate::specs::Sealing::hmac_of))]
 impl Suite for Aes128Sha1 {
-    ghost use Rattle.std.specs.Prelude.{false};
+    ghost use Rattle.std.specs.Prelude.{pos, false};
     ghost use Rattle.enctypes.specs.declared.etype.Etype.TheVariants.{Aes128CtsHmacSha1_96};
-    ghost use Rattle.enctypes.specs.Suite.{sizes_of};
+    ghost use Rattle.enctypes.specs.Suite.{constants_of};
 
     ghost ETYPE = { Aes128CtsHmacSha1_96 };
 
@@ -33,7 +33,11 @@ impl Suite for Aes128Sha1 {
 
     ghost MACS_CIPHER = { false };
 
-    ghost sizes = { sizes_of Aes128CtsHmacSha1_96 };
+    ghost CHECKSUM_TYPE = { pos 15 };
+
+    ghost DEFAULT_COUNT = { 4096 };
+
+    ghost constants = { constants_of Aes128CtsHmacSha1_96 };
 
     const ETYPE: Etype = Etype::Aes128CtsHmacSha1_96;
 
@@ -74,9 +78,9 @@ pub struct Aes256Sha1;
 
 #[tactic(auto, unfolding(crate::specs::Derivation::derived, crate::specs::Derivation::stretched, crate::specs::Sealing::hmac_of))]
 impl Suite for Aes256Sha1 {
-    ghost use Rattle.std.specs.Prelude.{false};
+    ghost use Rattle.std.specs.Prelude.{pos, false};
     ghost use Rattle.enctypes.specs.declared.etype.Etype.TheVariants.{Aes256CtsHmacSha1_96};
-    ghost use Rattle.enctypes.specs.Suite.{sizes_of};
+    ghost use Rattle.enctypes.specs.Suite.{constants_of};
 
     ghost ETYPE = { Aes256CtsHmacSha1_96 };
 
@@ -88,7 +92,11 @@ impl Suite for Aes256Sha1 {
 
     ghost MACS_CIPHER = { false };
 
-    ghost sizes = { sizes_of Aes256CtsHmacSha1_96 };
+    ghost CHECKSUM_TYPE = { pos 16 };
+
+    ghost DEFAULT_COUNT = { 4096 };
+
+    ghost constants = { constants_of Aes256CtsHmacSha1_96 };
 
     const ETYPE: Etype = Etype::Aes256CtsHmacSha1_96;
 
@@ -124,7 +132,7 @@ impl Suite for Aes256Sha1 {
     }
 }
 
-/// Fills `out` with DR of the key and the constant (RFC 3961 section 5.1): the constant folded to a
+/// Fills `out` with DR of the key and the constant (RFC 3961, section 5.1): the constant folded to a
 /// block, enciphered again and again, the blocks in order.
 fn derive_random(key: &[u8], constant: &[u8], out: &mut [u8])
     requires key { (length key.now ≡ 16) ⊎ (length key.now ≡ 32) }

@@ -1,11 +1,11 @@
 //! What the encryption types differ in.
-ghost use Rattle.std.specs.Prelude.{◌≡◌, ◌≤◌, ◌<◌, ℕ, Bool, length, OnOk};
+ghost use Rattle.std.specs.Prelude.{◌≡◌, ◌≤◌, ◌<◌, ℕ, ℤ, Bool, length, OnOk};
 ghost use Rattle.std.specs.List.{flat_map};
 ghost use Rattle.enctypes.specs.declared.etype.Etype.{Etype};
 ghost use Rattle.enctypes.specs.Etype.{key_len};
 ghost use Rattle.enctypes.specs.Derivation.{derived, stretched};
 ghost use Rattle.enctypes.specs.Sealing.{cut_hmac};
-ghost use Rattle.enctypes.specs.Suite.{HasSizes};
+ghost use Rattle.enctypes.specs.Suite.{HasConstants};
 
 use crate::{Etype, Mac};
 use std::alloc::{AllocError, Global};
@@ -22,6 +22,10 @@ pub trait Suite {
     ghost MAC_LEN: { ℕ };
 
     ghost MACS_CIPHER: { Bool };
+
+    ghost CHECKSUM_TYPE: { ℤ };
+
+    ghost DEFAULT_COUNT: { ℕ };
 
     const ETYPE: Etype;
 
@@ -70,5 +74,28 @@ pub trait Suite {
         ensures value { OnOk result (out.new ≡ stretched ETYPE pass.now salt.now count) }
         ensures len { length out.new ≡ length out.old };
 
-    ghost sizes: { HasSizes ETYPE KEY_LEN MAC_KEY_LEN MAC_LEN MACS_CIPHER };
+    ghost constants: { HasConstants ETYPE KEY_LEN MAC_KEY_LEN MAC_LEN MACS_CIPHER CHECKSUM_TYPE
+        DEFAULT_COUNT };
 }
+
+/// Calls a function for the suite of an encryption type, or takes a constant of that suite.
+macro_rules! with_suite {
+    ($etype:expr, $function:ident($($argument:expr),*)) => {
+        match $etype {
+            $crate::Etype::Aes128CtsHmacSha1_96 => $function::<$crate::Aes128Sha1>($($argument),*),
+            $crate::Etype::Aes256CtsHmacSha1_96 => $function::<$crate::Aes256Sha1>($($argument),*),
+            $crate::Etype::Aes128CtsHmacSha256_128 => $function::<$crate::Aes128Sha2>($($argument),*),
+            $crate::Etype::Aes256CtsHmacSha384_192 => $function::<$crate::Aes256Sha2>($($argument),*),
+        }
+    };
+    ($etype:expr, $constant:ident) => {
+        match $etype {
+            $crate::Etype::Aes128CtsHmacSha1_96 => <$crate::Aes128Sha1 as $crate::Suite>::$constant,
+            $crate::Etype::Aes256CtsHmacSha1_96 => <$crate::Aes256Sha1 as $crate::Suite>::$constant,
+            $crate::Etype::Aes128CtsHmacSha256_128 => <$crate::Aes128Sha2 as $crate::Suite>::$constant,
+            $crate::Etype::Aes256CtsHmacSha384_192 => <$crate::Aes256Sha2 as $crate::Suite>::$constant,
+        }
+    };
+}
+
+pub(crate) use with_suite;

@@ -13,12 +13,12 @@ use crate::{Etype, Key};
 /// A usage of many of the rows: number 2.
 pub const USAGE: crate::KeyUsage = crate::KeyUsage::Ticket;
 
-/// The octets that RFC 8009 appendix A seals parts of.
+/// The octets that RFC 8009, appendix A, seals parts of.
 pub const TEXT: [u8; 21] = [
     0, 1, 2, 3, 4, 5, 6, 7, 8, 9, 10, 11, 12, 13, 14, 15, 16, 17, 18, 19, 20,
 ];
 
-/// The base keys of RFC 8009 appendix A; the shorter one is followed by octets that no key of 16
+/// The base keys of RFC 8009, appendix A; the shorter one is followed by octets that no key of 16
 /// octets has.
 const BASE_128: [u8; 32] = [
     0x37, 0x05, 0xd9, 0x60, 0x80, 0xc1, 0x77, 0x28, 0xa0, 0xe8, 0x00, 0xea, 0xb6, 0xe0, 0xd2, 0x3c,

@@ -1,5 +1,7 @@
+pub mod Request
+pub mod View
+pub mod Agreement
 pub mod Rules
 pub mod Answer
 pub mod Lengths
-pub mod Request
-pub mod Spelled
+pub mod RequestLaws

@@ -1,32 +1,19 @@
--- The request that octets are is the one that they spell.
-use Rattle.std.proofs.Common.{◌≡◌, ◌↔◌, ℕ, ◌≤◌, Bool, true, false, cond, List, length, Some, None, Result, Ok, Err, refl}
-use Rattle.std.specs.Prelude.{nat_lt}
-use Rattle.std.proofs.lemmas.Bool.{ltb-false, le-ltb}
+-- The request that octets spell.
+use Rattle.std.specs.Prelude.{ℕ, List, length, nat_lt, Option, Some, None, Result, Ok, Err, if◌then◌else◌}
 use Rattle.krb_der.specs.declared.fault.DerFault.{DerFault}
-use Rattle.krb_der.specs.Steps.{IsBytes}
 use Rattle.krb_elements.specs.Format.{whole}
-use Rattle.krb_elements.specs.Laws.{IsWhole, whole_ok}
-use Rattle.krb_types.specs.declared.kdc_req.KdcReq.{KdcReq}
-use Rattle.krb_types.specs.KdcReq.{SpellsKdcReq, kdc_req_at, kdc_req_ok}
-use Rattle.kdc_state.specs.View.{if_read, request_of}
+use Rattle.krb_types.specs.declared.kdc_req.Exchange.{Exchange}
+use Rattle.krb_types.specs.KdcReq.{Received, received_at}
 
--- a request that was read was short enough
-was_read : (too_long : Bool) (read : Result KdcReq DerFault) (r : KdcReq) → cond too_long None (if_read read) ≡ Some r → (too_long ≡ false) × (read ≡ Ok r)
-was_read true read r e = absurd cc
-was_read false (Ok x) r e = (refl, cc)
-was_read false (Err fault) r e = absurd cc
+-- an AS-REQ or a TGS-REQ, with the octets of its body
+pub record Request : Type 0 where
+  pub exchange : Exchange
+  pub message : Received
 
-all_read : IsWhole SpellsKdcReq (whole kdc_req_at)
-all_read = whole_ok SpellsKdcReq kdc_req_at kdc_req_ok.reading
+abbrev pub if_read : Result (Exchange × Received) DerFault → Option Request
+if_read (Ok found) = Some (record { exchange = found.0; message = found.1 })
+if_read (Err fault) = None
 
--- a request is spelled by octets, and they are no more than 2147483647
-pub request_spelled : (bytes : List ℕ) (r : KdcReq) → IsBytes bytes → request_of bytes ≡ Some r → SpellsKdcReq r bytes × (length bytes ≤ 2147483647)
-request_spelled bytes r fits e =
-    let read = was_read (nat_lt 2147483647 (length bytes)) (whole kdc_req_at bytes) r e in
-    (all_read.takes bytes r fits read.1, ltb-false 2147483647 (length bytes) read.0)
-
-spelled_request : (bytes : List ℕ) (r : KdcReq) → SpellsKdcReq r bytes × (length bytes ≤ 2147483647) → request_of bytes ≡ Some r
-spelled_request bytes r s = rw (le-ltb 2147483647 (length bytes) s.1, all_read.again r bytes s.0) refl
-
-pub request_is : (bytes : List ℕ) (r : KdcReq) → IsBytes bytes → (request_of bytes ≡ Some r) ↔ (SpellsKdcReq r bytes × (length bytes ≤ 2147483647))
-request_is bytes r fits = (request_spelled bytes r fits, spelled_request bytes r)
+-- the request that all of the octets spell; more than 2147483647 octets are no request
+abbrev pub request_of : List ℕ → Option Request
+request_of bytes = if nat_lt 2147483647 (length bytes) then None else if_read (whole received_at bytes)

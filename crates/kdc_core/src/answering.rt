@@ -1,8 +1,9 @@
 //! From a request's octets to a reply's.
-ghost use Rattle.std.specs.Prelude.{◌≡◌, ◌≤◌, length, IfOk, Some, option_map};
-ghost use Rattle.kdc_core.specs.Answer.{answer, answer_to};
-ghost use Rattle.kdc_core.specs.Rules.{refusal};
-ghost use Rattle.kdc_state.specs.View.{named_in, view, view_of};
+ghost use Rattle.std.specs.Prelude.{◌≡◌, IfOk, option_map};
+ghost use Rattle.kdc_core.specs.Answer.{answer, IsReply};
+ghost use Rattle.kdc_core.specs.Request.{request_of};
+ghost use Rattle.kdc_core.specs.Rules.{code_in};
+ghost use Rattle.kdc_core.specs.View.{named_in, view, view_of};
 
 use crate::as_rules::as_refusal;
 use crate::error_reply::error_reply;
@@ -11,7 +12,7 @@ use krb_fields::{Code, Moment};
 use krb_types::{Exchange, KdcReqRef, read_kdc_req};
 use std::alloc::{AllocError, Global};
 
-/// The most octets that are read as a request.
+/// The most octets that are read as a request: the lengths of frames over TCP stop there (RFC 4120, section 7.2.2).
 const GREATEST_REQUEST: usize = 2_147_483_647;
 
 /// The octets of the reply, or none.
@@ -24,27 +25,29 @@ pub fn reply(
     request: &[u8],
 ) -> Result<Option<Vec<u8>>, AllocError>
     ensures reply { IfOk result (λ reply. option_map (λ octets. octets.items) reply ≡ (answer (view state.now request.now) at words.now room request.now).reply) }
-    // The realm is short enough for an error.
-    ensures realm { length state.now.database.realm ≤ 255 }
+    ensures spelled { IfOk result (λ reply. IsReply (view state.now request.now) at (request_of request.now) (option_map (λ octets. octets.items) reply)) }
 {
-    let realm = state.database.realm();
     if request.len() > GREATEST_REQUEST {
         return Ok(None);
     }
-    let Ok(found) = read_kdc_req(request) else {
+    let Ok((exchange, message)) = read_kdc_req(request) else {
         return Ok(None);
     };
-    let code = refusal(state, &found);
-    let octets = error_reply(alloc, realm, at, code, found.body().sname())?;
+    let code = refusal(state, exchange, &message);
+    let sname = message.body.value.sname.as_ref();
+    let octets = error_reply(alloc, state.database.realm(), at, code, sname)?;
     Ok(Some(octets))
 }
 
 /// Why the request is refused.
-fn refusal(state: &State, request: &KdcReqRef<'_>) -> Code
-    ensures { result ≡ refusal (view_of state.now (named_in state.now request.now)) request.now }
+fn refusal(state: &State, exchange: Exchange, request: &KdcReqRef<'_>) -> Code
+    ensures { result ≡ code_in (view_of state.now (named_in state.now (record { exchange = exchange; message = request.now }))) exchange request.now }
 {
-    match request.exchange() {
-        Exchange::As => as_refusal(state, request).unwrap_or(Code::KdcErrEtypeNosupp),
+    match exchange {
+        Exchange::As => match as_refusal(state, request) {
+            Some(refusal) => refusal.code(),
+            None => Code::KdcErrEtypeNosupp,
+        },
         Exchange::Tgs => Code::KrbErrGeneric,
     }
 }

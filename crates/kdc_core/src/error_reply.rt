@@ -1,12 +1,12 @@
 //! Replies that refuse: KRB-ERROR (RFC 4120, section 5.9.1).
-ghost use Rattle.std.specs.Prelude.{◌≡◌, ◌<◌, ◌≤◌, length, pos, IfOk, IfSome};
+ghost use Rattle.std.specs.Prelude.{◌≡◌, ◌<◌, ◌≤◌, length, IfOk, IfSome};
 ghost use Rattle.std.specs.Option.{option_copied};
-ghost use Rattle.krb_fields.specs.PrincipalName.{name_text};
-ghost use Rattle.krb_types.specs.KrbError.{written_krb_error};
-ghost use Rattle.kdc_core.specs.Answer.{krb_error};
+ghost use Rattle.krb_elements.specs.Codec.{written};
+ghost use Rattle.krb_fields.specs.PrincipalName.{name};
+ghost use Rattle.krb_types.specs.KrbError.{krb_error};
+ghost use Rattle.kdc_core.specs.Answer.{error_reply};
 
-use krb_der::KTime;
-use krb_elements::{KerberosString, Microseconds};
+use krb_elements::KerberosString;
 use krb_fields::{Code, Moment, NameRef};
 use krb_types::{KrbError, encode_krb_error};
 use principals::granter_name;
@@ -22,31 +22,32 @@ pub fn error_reply(
     sname: Option<&NameRef<'_>>,
 ) -> Result<Vec<u8>, AllocError>
     requires realm { length realm.now ≤ 255 }
-    requires sname { IfSome (option_copied sname) (λ name. length (name_text name) < 2147483648) }
-    ensures { IfOk result (λ octets. octets.items ≡ written_krb_error (krb_error realm.now at code (option_copied sname.entry))) }
+    requires sname { IfSome (option_copied sname) (λ n. length (name.text n) < 2147483648) }
+    ensures written { IfOk result (λ octets. octets.items ≡ written krb_error (error_reply realm.now at code (option_copied sname.entry))) }
+    ensures spelled { IfOk result (λ octets. krb_error.Spells (error_reply realm.now at code (option_copied sname.entry)) octets.items) }
 {
-    let error = krb_error(alloc, realm, at, code, sname)?;
+    let error = error_of(alloc, realm, at, code, sname)?;
     encode_krb_error(alloc, &error)
 }
 
-fn krb_error(
+fn error_of(
     alloc: Global,
     realm: &[u8],
     at: Moment,
     code: Code,
     sname: Option<&NameRef<'_>>,
 ) -> Result<KrbError, AllocError>
-    ensures { IfOk result (λ error. error ≡ krb_error realm.now at code (option_copied sname.entry)) }
+    ensures { IfOk result (λ error. error ≡ error_reply realm.now at code (option_copied sname.entry)) }
 {
     let sname = match sname {
-        Some(name) => name.copy(alloc)?,
+        Some(name) => name.to_name(alloc)?,
         None => granter_name(alloc, realm)?,
     };
     Ok(KrbError {
         ctime: None,
         cusec: None,
-        stime: time_of(at),
-        susec: microseconds_of(at),
+        stime: at.time(),
+        susec: at.microseconds(),
         error_code: code.number(),
         crealm: None,
         cname: None,
@@ -55,24 +56,4 @@ fn krb_error(
         e_text: None,
         e_data: None,
     })
-}
-
-/// The microseconds of the moment.
-fn microseconds_of(at: Moment) -> Microseconds
-    ensures { result ≡ at.usec }
-{
-    let Some(microseconds) = Microseconds::new(at.usec) else {
-        unreachable!()
-    };
-    microseconds
-}
-
-/// The moment in whole seconds.
-fn time_of(at: Moment) -> KTime
-    ensures { result ≡ at.sec }
-{
-    let Some(time) = KTime::new(at.sec) else {
-        unreachable!()
-    };
-    time
 }

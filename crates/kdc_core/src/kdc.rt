@@ -3,18 +3,18 @@ ghost use Rattle.std.specs.Prelude.{◌≡◌, ◌≢◌, ◌≤◌, ◌↔◌, 
 ghost use Rattle.std.specs.FinMap as map;
 ghost use Rattle.std.specs.Option.{option_copied};
 ghost use Rattle.krb_fields.specs.Name.{Components};
-ghost use Rattle.kdc_core.specs.Answer.{answer, error_to, next};
+ghost use Rattle.kdc_core.specs.Answer.{answer, next, error_octets, IsReply};
+ghost use Rattle.kdc_core.specs.Request.{Request, request_of};
+ghost use Rattle.kdc_core.specs.RequestLaws.{SpellsRequest};
+ghost use Rattle.kdc_core.specs.View.{Agrees, named, view};
 ghost use Rattle.kdc_state.specs.State.{opened, memory_of};
-ghost use Rattle.kdc_state.specs.View.{Agrees, named, request_of, view};
 ghost use Rattle.kdc_state.specs.declared.state.State as states;
-ghost use Rattle.krb_types.specs.KdcReq.{SpellsKdcReq};
-ghost use Rattle.krb_types.specs.KrbError.{SpellsKrbError, written_krb_error};
-ghost use Rattle.krb_types.specs.declared.kdc_req.KdcReq as requests;
 ghost use Rattle.principals.specs.Change.{refusal, changed};
 
 use crate::answering::reply;
+use crate::error_reply::error_reply;
 use kdc_state::{Opening, State};
-use krb_fields::{Moment, Name};
+use krb_fields::{Code, Moment, Name};
 use principal_rows::{Limits, Row};
 use principals::{Change, ChangeFault, Database};
 use std::alloc::{AllocError, Global};
@@ -66,11 +66,11 @@ impl Kdc {
         request: &[u8],
     ) -> Result<Option<Vec<u8>>, AllocError>
         // The request is the one that the octets spell, if they spell one and are no more than 2147483647.
-        ensures request { (r : requests.KdcReq) → (request_of request.now ≡ Some r) ↔ (SpellsKdcReq r request.now × (length request.now ≤ 2147483647)) }
+        ensures request { (r : Request) → (request_of request.now ≡ Some r) ↔ (SpellsRequest r request.now × (length request.now ≤ 2147483647)) }
         // The reply is the one that the rules say.
         ensures reply { IfOk result (λ reply. option_map (λ octets. octets.items) reply ≡ (answer (view self.old request.now) at words.now room request.now).reply) }
-        // What the rules answer a request is a KRB-ERROR, which its octets spell.
-        ensures spelled { IfSome (request_of request.now) (λ r. SpellsKrbError (error_to (view self.old request.now) at r) (written_krb_error (error_to (view self.old request.now) at r))) }
+        // The octets of a reply spell the KRB-ERROR that the rules say.
+        ensures spelled { IfOk result (λ reply. IsReply (view self.old request.now) at (request_of request.now) (option_map (λ octets. octets.items) reply)) }
         // The state afterwards is the one that the rules say.
         ensures state { OnOk result (self.new ≡ next self.old at words.now room request.now) }
         // A second state that agrees at what the request names is answered alike.
@@ -100,6 +100,14 @@ impl Kdc {
         ensures { option_copied result ≡ map.get self.now.database.rows name.now.components }
     {
         self.state.database.get(name)
+    }
+
+    /// The octets of a KRB-ERROR that answers no request that was read, as one for a length that is too large
+    /// (RFC 4120, section 7.2.2).
+    pub fn error(&self, alloc: Global, at: Moment, code: Code) -> Result<Vec<u8>, AllocError>
+        ensures { IfOk result (λ octets. octets.items ≡ error_octets self.now at code) }
+    {
+        error_reply(alloc, self.state.database.realm(), at, code, None)
     }
 
     /// The realm's octets, 1 to 255.

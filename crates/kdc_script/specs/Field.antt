@@ -6,7 +6,8 @@ use Rattle.hex.specs.Hex.{decode_of, decode_sized}
 use Rattle.enctypes.specs.declared.key.Key.{Key}
 use Rattle.enctypes.specs.Etype.{number, key_len}
 use Rattle.krb_fields.specs.declared.moment.Moment.{Moment}
-use Rattle.krb_fields.specs.Moment.{IsSecond, IsMicrosecond}
+use Rattle.krb_elements.specs.Simple.{IsMicrosecond}
+use Rattle.krb_fields.specs.Moment.{IsSecond}
 use Rattle.principal_rows.specs.KeyList.{has_type_twice}
 use Rattle.principal_rows.specs.declared.limits.Limits.{Limits}
 

@@ -2,11 +2,16 @@
 use Rattle.std.specs.Prelude.{◌≡◌, ◌==◌, ℕ, pos, ◌<◌, All, List, [], ◌∷◌, Option, Some, None, Ok, codes}
 use Rattle.std.specs.List.{slice_split}
 use Rattle.hex.specs.Hex.{decode_sized}
-use Rattle.krb_fields.specs.declared.name.Name.{Name}
+use Rattle.krb_fields.specs.PrincipalName.{Name}
 use Rattle.krb_fields.specs.Name.{Components}
 use Rattle.krb_fields.specs.NameText.{IsNameText, IsComponentText}
+use Rattle.enctypes.specs.declared.key.Key.{Key}
+use Rattle.principal_rows.specs.declared.limits.Limits.{Limits}
 use Rattle.kdc_script.specs.declared.line.Line.{Line}
-use Rattle.kdc_script.specs.declared.line.Line.TheVariants.{Open, Add, Request}
+use Rattle.kdc_script.specs.declared.line.Request as requests
+use Rattle.kdc_script.specs.declared.line.Line.TheVariants.{Open, Add, NewKeys, DropKeys, Remove, SetPolicy, Request}
+use Rattle.kdc_script.specs.declared.setting.Setting.{Setting}
+use Rattle.kdc_script.specs.Setting.{IsSettingText}
 use Rattle.kdc_script.specs.Field.{IsMomentText, IsU32Text, AreLimitsTexts, IsOctetsText, IsKeysText}
 
 -- a name of name-type 1 (NT-PRINCIPAL), or none where the text is that of no name
@@ -14,17 +19,58 @@ abbrev pub IsNameTextOrNone : Option Name → List ℕ → Type 0
 IsNameTextOrNone (Some name) text = IsNameText name.components text × (name.name_type ≡ pos 1)
 IsNameTextOrNone None text = (name : Components) → ¬ IsNameText name text
 
--- a line's fields: its first is the word that says what it does
+-- the word that says what a line does
+abbrev pub word_of : Line → List ℕ
+word_of (Open realm limits keys) = codes "open"
+word_of (Add name keys) = codes "add"
+word_of (NewKeys name keys) = codes "keys"
+word_of (DropKeys name version) = codes "drop"
+word_of (Remove name) = codes "remove"
+word_of (SetPolicy name setting) = codes "policy"
+word_of (Request request) = codes "request"
+
+-- the fields behind it
+abbrev pub AreOpenFields : List ℕ → Limits → List Key → List (List ℕ) → Type 0
+AreOpenFields realm limits keys (realm_text ∷ remembered ∷ lock_after ∷ lock_seconds ∷ life ∷ renewable ∷ keys_text ∷ []) =
+    IsComponentText realm realm_text × AreLimitsTexts limits (remembered ∷ lock_after ∷ lock_seconds ∷ life ∷ renewable ∷ [])
+    × IsKeysText keys keys_text
+AreOpenFields realm limits keys texts = ⊥
+
+abbrev pub AreKeysFields : Option Name → List Key → List (List ℕ) → Type 0
+AreKeysFields name keys (name_text ∷ keys_text ∷ []) = IsNameTextOrNone name name_text × IsKeysText keys keys_text
+AreKeysFields name keys texts = ⊥
+
+abbrev pub AreDropFields : Option Name → ℕ → List (List ℕ) → Type 0
+AreDropFields name version (name_text ∷ version_text ∷ []) = IsNameTextOrNone name name_text × IsU32Text version version_text
+AreDropFields name version texts = ⊥
+
+abbrev pub AreRemoveFields : Option Name → List (List ℕ) → Type 0
+AreRemoveFields name (name_text ∷ []) = IsNameTextOrNone name name_text
+AreRemoveFields name texts = ⊥
+
+abbrev pub ArePolicyFields : Option Name → Setting → List (List ℕ) → Type 0
+ArePolicyFields name setting (name_text ∷ setting_text ∷ []) = IsNameTextOrNone name name_text × IsSettingText setting setting_text
+ArePolicyFields name setting texts = ⊥
+
+abbrev pub AreRequestFields : requests.Request → List (List ℕ) → Type 0
+AreRequestFields request (sec ∷ usec ∷ words ∷ room ∷ octets ∷ []) =
+    IsMomentText request.at sec usec × (decode_sized words 64 ≡ Ok request.words) × IsU32Text request.room room
+    × IsOctetsText request.octets.items octets
+AreRequestFields request texts = ⊥
+
+abbrev pub AreFields : Line → List (List ℕ) → Type 0
+AreFields (Open realm limits keys) texts = AreOpenFields realm limits keys texts
+AreFields (Add name keys) texts = AreKeysFields name keys texts
+AreFields (NewKeys name keys) texts = AreKeysFields name keys texts
+AreFields (DropKeys name version) texts = AreDropFields name version texts
+AreFields (Remove name) texts = AreRemoveFields name texts
+AreFields (SetPolicy name setting) texts = ArePolicyFields name setting texts
+AreFields (Request request) texts = AreRequestFields request texts
+
+-- a line's fields: its word, and those behind it
 abbrev pub AreLineFields : Line → List (List ℕ) → Type 0
-AreLineFields (Open realm limits keys) (word ∷ realm_text ∷ remembered ∷ lock_after ∷ lock_seconds ∷ life ∷ renewable ∷ keys_text ∷ []) =
-    (word ≡ codes "open") × IsComponentText realm realm_text
-    × AreLimitsTexts limits (remembered ∷ lock_after ∷ lock_seconds ∷ life ∷ renewable ∷ []) × IsKeysText keys keys_text
-AreLineFields (Add name keys) (word ∷ name_text ∷ keys_text ∷ []) =
-    (word ≡ codes "add") × IsNameTextOrNone name name_text × IsKeysText keys keys_text
-AreLineFields (Request request) (word ∷ sec ∷ usec ∷ words ∷ room ∷ octets ∷ []) =
-    (word ≡ codes "request") × IsMomentText request.at sec usec × (decode_sized words 64 ≡ Ok request.words)
-    × IsU32Text request.room room × IsOctetsText request.octets.items octets
-AreLineFields line fields = ⊥
+AreLineFields line [] = ⊥
+AreLineFields line (word ∷ texts) = (word ≡ word_of line) × AreFields line texts
 
 -- a line is ASCII text, and its fields are what stands between its spaces (20)
 pub record IsLineText (line : Line) (text : List ℕ) : Type 0 where

@@ -1,5 +1,7 @@
 -- What a line of a script does.
 use Rattle.std.specs.Prelude.{◌≡◌, ℕ, List, Option, Some, None}
+use Rattle.std.specs.FinMap.{get}
+use Rattle.krb_fields.specs.PrincipalName.{Name}
 use Rattle.krb_fields.specs.NameLimits.{IsComponent}
 use Rattle.principals.specs.declared.change.Change.{Change}
 use Rattle.principals.specs.declared.change.Change.TheVariants as changes
@@ -10,8 +12,10 @@ use Rattle.principals.specs.Database.{first_database}
 use Rattle.kdc_state.specs.declared.opening.Opening.TheVariants.{First}
 use Rattle.kdc_state.specs.declared.state.State.{State}
 use Rattle.kdc_state.specs.State.{opened}
-use Rattle.kdc_state.specs.View.{view}
+use Rattle.kdc_core.specs.View.{view}
 use Rattle.kdc_core.specs.Answer.{answer, next}
+use Rattle.kdc_script.specs.Setting.{with_setting, policy_of}
+use Rattle.kdc_script.specs.declared.setting.Setting.{Setting}
 use Rattle.kdc_script.specs.declared.answer.Answer.{Answer}
 use Rattle.kdc_script.specs.declared.answer.Answer.TheVariants.{Done, Refused, Reply, NoReply}
 use Rattle.kdc_script.specs.declared.line.LineFault.{LineFault}
@@ -19,7 +23,7 @@ use Rattle.kdc_script.specs.declared.line.LineFault.TheVariants.{Form, Memory}
 use Rattle.kdc_script.specs.declared.run.Stop.{Stop}
 use Rattle.kdc_script.specs.declared.run.Stop.TheVariants.{Fault, Failed}
 use Rattle.kdc_script.specs.declared.line.Line.{Line}
-use Rattle.kdc_script.specs.declared.line.Line.TheVariants.{Open, Add, Request}
+use Rattle.kdc_script.specs.declared.line.Line.TheVariants.{Open, Add, NewKeys, DropKeys, Remove, SetPolicy, Request}
 
 -- a line of another form is a fault
 abbrev pub stop_of : LineFault → Stop
@@ -37,13 +41,33 @@ abbrev pub Changes : State → Change → Option ChangeFault → Option State �
 Changes kdc change None after printed = (after ≡ Some (record kdc { database = changed kdc.database change })) × (printed ≡ Done)
 Changes kdc change (Some fault) after printed = (after ≡ Some kdc) × (printed ≡ Refused fault)
 
+-- a change of what has no name is refused
+abbrev pub IsNotNamed : State → Option State → Answer → Type 0
+IsNotNamed kdc after printed = (after ≡ Some kdc) × (printed ≡ Refused BadName)
+
+-- a name's policy, with a field set
+abbrev pub policy_change : State → Name → Setting → Change
+policy_change kdc name setting = changes.SetPolicy name (with_setting setting (policy_of (get kdc.database.rows name.components)))
+
 -- the KDC before a line, if one was opened, and after it, and what the line prints
 abbrev pub Runs : Option State → Line → Option State → Answer → Type 0
 Runs before (Open realm limits keys) after printed =
     (after ≡ Some (opened (first_database realm keys) limits First)) × (printed ≡ Done)
 Runs (Some kdc) (Add (Some name) keys) after printed =
     Changes kdc (changes.Add name keys) (refusal kdc.database (changes.Add name keys)) after printed
-Runs (Some kdc) (Add None keys) after printed = (after ≡ Some kdc) × (printed ≡ Refused BadName)
+Runs (Some kdc) (Add None keys) after printed = IsNotNamed kdc after printed
+Runs (Some kdc) (NewKeys (Some name) keys) after printed =
+    Changes kdc (changes.NewKeys name keys) (refusal kdc.database (changes.NewKeys name keys)) after printed
+Runs (Some kdc) (NewKeys None keys) after printed = IsNotNamed kdc after printed
+Runs (Some kdc) (DropKeys (Some name) version) after printed =
+    Changes kdc (changes.DropKeys name version) (refusal kdc.database (changes.DropKeys name version)) after printed
+Runs (Some kdc) (DropKeys None version) after printed = IsNotNamed kdc after printed
+Runs (Some kdc) (Remove (Some name)) after printed =
+    Changes kdc (changes.Remove name) (refusal kdc.database (changes.Remove name)) after printed
+Runs (Some kdc) (Remove None) after printed = IsNotNamed kdc after printed
+Runs (Some kdc) (SetPolicy (Some name) setting) after printed =
+    Changes kdc (policy_change kdc name setting) (refusal kdc.database (policy_change kdc name setting)) after printed
+Runs (Some kdc) (SetPolicy None setting) after printed = IsNotNamed kdc after printed
 Runs (Some kdc) (Request request) after printed =
     (after ≡ Some (next kdc request.at request.words request.room request.octets.items))
     × IsReply printed (answer (view kdc request.octets.items) request.at request.words request.room request.octets.items).reply

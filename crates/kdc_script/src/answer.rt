@@ -18,7 +18,7 @@ impl Answer {
     pub(crate) fn print<W: Write>(&self, alloc: Global, writer: &mut W) -> io::Result<()> {
         match self {
             Answer::Done => writeln!(writer, "ok"),
-            Answer::Refused(fault) => writeln!(writer, "refused {fault:?}"),
+            Answer::Refused(fault) => writeln!(writer, "refused {}", fault.name()),
             Answer::Reply(reply) => {
                 let digits = hex::encode(alloc, reply.as_slice())?;
                 writeln!(writer, "reply {digits}")

@@ -5,6 +5,10 @@
 //! ```text
 //! open REALM REMEMBERED LOCK_AFTER LOCK_SECONDS LIFE RENEWABLE KEYS
 //! add NAME KEYS
+//! keys NAME KEYS
+//! drop NAME VERSION
+//! remove NAME
+//! policy NAME FIELD=VALUE
 //! request SEC USEC WORDS ROOM HEX
 //! ```
 //!
@@ -17,6 +21,7 @@ mod field;
 mod input;
 mod line;
 mod run;
+mod setting;
 
 pub use run::{DONE, FAILED, FAULT, run_script};
 

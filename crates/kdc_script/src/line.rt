@@ -6,6 +6,7 @@ ghost use Rattle.kdc_script.specs.declared.line.Line as lines;
 ghost use Rattle.kdc_script.specs.declared.line.LineFault.TheVariants.{Form, Memory};
 
 use crate::field::{keys, limits, moment, name, number_u32, octets, realm, words};
+use crate::setting::Setting;
 use krb_elements::KerberosString;
 use krb_fields::{Moment, Name};
 use principal_rows::{KeyList, Limits};
@@ -24,6 +25,25 @@ pub(crate) enum Line {
     Add {
         name: Option<Name>,
         keys: KeyList,
+    },
+    /// New current keys of a principal.
+    NewKeys {
+        name: Option<Name>,
+        keys: KeyList,
+    },
+    /// The keys of a version go.
+    DropKeys {
+        name: Option<Name>,
+        version: u32,
+    },
+    /// A principal goes.
+    Remove {
+        name: Option<Name>,
+    },
+    /// A field of a principal's policy is set.
+    SetPolicy {
+        name: Option<Name>,
+        setting: Setting,
     },
     Request(Request),
 }
@@ -95,6 +115,10 @@ fn parse_fields(alloc: Global, fields: &[&str]) -> Result<Line, LineFault>
     match *word {
         "open" => parse_open(alloc, fields),
         "add" => parse_add(alloc, fields),
+        "keys" => parse_new_keys(alloc, fields),
+        "drop" => parse_drop_keys(alloc, fields),
+        "remove" => parse_remove(alloc, fields),
+        "policy" => parse_policy(alloc, fields),
         "request" => parse_request(alloc, fields),
         _ => Err(LineFault::Form),
     }
@@ -147,6 +171,63 @@ fn parse_add(alloc: Global, fields: &[&str]) -> Result<Line, LineFault>
     Ok(Line::Add {
         name: name(alloc, name_text)?,
         keys: keys(alloc, keys_text)?,
+    })
+}
+
+fn parse_new_keys(alloc: Global, fields: &[&str]) -> Result<Line, LineFault>
+    ensures ok { IfOk result (λ line. AreLineFields line (codes "keys" ∷ map (λ field. field.now) fields.now)) }
+    ensures form { result ≡ Err Form → (line : lines.Line) → ¬ AreLineFields line (codes "keys" ∷ map (λ field. field.now) fields.now) }
+{
+    let [name_text, keys_text] = fields else {
+        return Err(LineFault::Form);
+    };
+    Ok(Line::NewKeys {
+        name: name(alloc, name_text)?,
+        keys: keys(alloc, keys_text)?,
+    })
+}
+
+fn parse_drop_keys(alloc: Global, fields: &[&str]) -> Result<Line, LineFault>
+    ensures ok { IfOk result (λ line. AreLineFields line (codes "drop" ∷ map (λ field. field.now) fields.now)) }
+    ensures form { result ≡ Err Form → (line : lines.Line) → ¬ AreLineFields line (codes "drop" ∷ map (λ field. field.now) fields.now) }
+{
+    let [name_text, version_text] = fields else {
+        return Err(LineFault::Form);
+    };
+    let Some(version) = number_u32(version_text) else {
+        return Err(LineFault::Form);
+    };
+    Ok(Line::DropKeys {
+        name: name(alloc, name_text)?,
+        version,
+    })
+}
+
+fn parse_remove(alloc: Global, fields: &[&str]) -> Result<Line, LineFault>
+    ensures ok { IfOk result (λ line. AreLineFields line (codes "remove" ∷ map (λ field. field.now) fields.now)) }
+    ensures form { result ≡ Err Form → (line : lines.Line) → ¬ AreLineFields line (codes "remove" ∷ map (λ field. field.now) fields.now) }
+{
+    let [name_text] = fields else {
+        return Err(LineFault::Form);
+    };
+    Ok(Line::Remove {
+        name: name(alloc, name_text)?,
+    })
+}
+
+fn parse_policy(alloc: Global, fields: &[&str]) -> Result<Line, LineFault>
+    ensures ok { IfOk result (λ line. AreLineFields line (codes "policy" ∷ map (λ field. field.now) fields.now)) }
+    ensures form { result ≡ Err Form → (line : lines.Line) → ¬ AreLineFields line (codes "policy" ∷ map (λ field. field.now) fields.now) }
+{
+    let [name_text, setting_text] = fields else {
+        return Err(LineFault::Form);
+    };
+    let Some(setting) = Setting::parse(setting_text) else {
+        return Err(LineFault::Form);
+    };
+    Ok(Line::SetPolicy {
+        name: name(alloc, name_text)?,
+        setting,
     })
 }
 

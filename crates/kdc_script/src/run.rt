@@ -1,20 +1,24 @@
 //! Runs of a script.
-ghost use Rattle.std.specs.Prelude.{◌≡◌, ◌⊎◌, IfOk};
-ghost use Rattle.kdc_script.specs.Run.{CannotRun, Runs, stop_of};
+ghost use Rattle.std.specs.Prelude.{◌≡◌, ◌≢◌, ◌⊎◌, IfOk, Some};
+ghost use Rattle.std.specs.FinMap as map;
+ghost use Rattle.kdc_script.specs.Setting.{policy_of};
+ghost use Rattle.kdc_script.specs.Run.{CannotRun, Changes, Runs, stop_of};
 ghost use Rattle.kdc_script.specs.declared.line.Line.TheVariants as lines;
 ghost use Rattle.kdc_script.specs.declared.run.Stop.TheVariants.{Failed, Fault};
 ghost use Rattle.krb_fields.specs.NameLimits.{IsComponent};
 ghost use Rattle.kdc_state.specs.State.{opened};
 ghost use Rattle.kdc_state.specs.declared.opening.Opening.TheVariants.{First};
+ghost use Rattle.principals.specs.Change.{refusal};
 ghost use Rattle.principals.specs.Database.{first_database};
 
 use crate::answer::Answer;
 use crate::input::Input;
 use crate::line::{Line, LineFault, Request};
+use crate::setting::Setting;
 use kdc_core::{Kdc, Opening};
 use krb_elements::KerberosString;
 use krb_fields::Name;
-use principal_rows::{KeyList, Limits};
+use principal_rows::{KeyList, Limits, Policy};
 use principals::{Change, ChangeFault, Database, FirstFault};
 use std::alloc::{AllocError, Global};
 use std::io;
@@ -67,7 +71,7 @@ impl From<LineFault> for Stop {
 
 /// Runs the script that a reader gives and prints its answers: `DONE`, `FAULT` or `FAILED`.
 pub fn run_script<R: Read + Drop, W: Write + Drop>(alloc: Global, reader: R, mut writer: W) -> u8
-    ensures { (result ≡ DONE) ⊎ ((result ≡ FAULT) ⊎ (result ≡ FAILED)) }
+    ensures { (result ≡ 0) ⊎ ((result ≡ 1) ⊎ (result ≡ 3)) }
 {
     let Ok(mut input) = Input::new(alloc, reader) else {
         return FAILED;
@@ -119,6 +123,10 @@ fn run_line(alloc: Global, kdc: &mut Option<Kdc>, line: Line) -> Result<Answer, 
             Ok(Answer::Done)
         }
         Line::Add { name, keys } => add(alloc, kdc, name, keys),
+        Line::NewKeys { name, keys } => new_keys(alloc, kdc, name, keys),
+        Line::DropKeys { name, version } => drop_keys(alloc, kdc, name, version),
+        Line::Remove { name } => remove(alloc, kdc, name),
+        Line::SetPolicy { name, setting } => set_policy(alloc, kdc, name, setting),
         Line::Request(request) => handle(alloc, kdc, &request),
     }
 }
@@ -155,7 +163,93 @@ fn add(
     let Some(name) = name else {
         return Ok(Answer::Refused(ChangeFault::BadName));
     };
-    match kdc.apply(alloc, &Change::Add { name, keys }) {
+    apply(alloc, kdc, &Change::Add { name, keys })
+}
+
+fn new_keys(
+    alloc: Global,
+    kdc: &mut Option<Kdc>,
+    name: Option<Name>,
+    keys: KeyList,
+) -> Result<Answer, Stop>
+    ensures ok { IfOk result (λ answer. Runs kdc.old (lines.NewKeys name keys) kdc.new answer) }
+    ensures fault { result ≡ Err Fault → CannotRun kdc.old (lines.NewKeys name keys) }
+{
+    let Some(kdc) = kdc else {
+        return Err(Stop::Fault);
+    };
+    let Some(name) = name else {
+        return Ok(Answer::Refused(ChangeFault::BadName));
+    };
+    apply(alloc, kdc, &Change::NewKeys { name, keys })
+}
+
+fn drop_keys(
+    alloc: Global,
+    kdc: &mut Option<Kdc>,
+    name: Option<Name>,
+    version: u32,
+) -> Result<Answer, Stop>
+    ensures ok { IfOk result (λ answer. Runs kdc.old (lines.DropKeys name version) kdc.new answer) }
+    ensures fault { result ≡ Err Fault → CannotRun kdc.old (lines.DropKeys name version) }
+{
+    let Some(kdc) = kdc else {
+        return Err(Stop::Fault);
+    };
+    let Some(name) = name else {
+        return Ok(Answer::Refused(ChangeFault::BadName));
+    };
+    apply(alloc, kdc, &Change::DropKeys { name, version })
+}
+
+fn remove(alloc: Global, kdc: &mut Option<Kdc>, name: Option<Name>) -> Result<Answer, Stop>
+    ensures ok { IfOk result (λ answer. Runs kdc.old (lines.Remove name) kdc.new answer) }
+    ensures fault { result ≡ Err Fault → CannotRun kdc.old (lines.Remove name) }
+{
+    let Some(kdc) = kdc else {
+        return Err(Stop::Fault);
+    };
+    let Some(name) = name else {
+        return Ok(Answer::Refused(ChangeFault::BadName));
+    };
+    apply(alloc, kdc, &Change::Remove { name })
+}
+
+fn set_policy(
+    alloc: Global,
+    kdc: &mut Option<Kdc>,
+    name: Option<Name>,
+    setting: Setting,
+) -> Result<Answer, Stop>
+    ensures ok { IfOk result (λ answer. Runs kdc.old (lines.SetPolicy name setting) kdc.new answer) }
+    ensures fault { result ≡ Err Fault → CannotRun kdc.old (lines.SetPolicy name setting) }
+{
+    let Some(kdc) = kdc else {
+        return Err(Stop::Fault);
+    };
+    let Some(name) = name else {
+        return Ok(Answer::Refused(ChangeFault::BadName));
+    };
+    let policy = setting.on(policy_of(kdc, &name));
+    apply(alloc, kdc, &Change::SetPolicy { name, policy })
+}
+
+/// The policy of a principal; where the name has no row, that of a new one, which no change takes.
+fn policy_of(kdc: &Kdc, name: &Name) -> Policy
+    ensures { result ≡ policy_of (map.get kdc.now.database.rows name.now.components) }
+{
+    match kdc.get(name) {
+        Some(row) => row.policy,
+        None => Policy::default(),
+    }
+}
+
+/// Makes a change, which may be refused.
+fn apply(alloc: Global, kdc: &mut Kdc, change: &Change) -> Result<Answer, Stop>
+    ensures ok { IfOk result (λ answer. Changes kdc.old change.now (refusal kdc.old.database change.now) (Some kdc.new) answer) }
+    ensures fault { result ≢ Err Fault }
+{
+    match kdc.apply(alloc, change) {
         Ok(()) => Ok(Answer::Done),
         Err(ChangeFault::Memory) => Err(Stop::Failed),
         Err(fault) => Ok(Answer::Refused(fault)),

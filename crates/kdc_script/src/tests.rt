@@ -108,7 +108,20 @@ fn an_add_or_request_of_another_form_is_a_fault(rt: HostRuntime) {
         "request -1 0 00000000000000000000000000000000000000000000000000000000000000000000000000000000000000000000000000000000000000000000000000000000 0 -",
         "request 0 0 00000000000000000000000000000000000000000000000000000000000000000000000000000000000000000000000000000000000000000000000000000000 4294967296 -",
         "restart 0",
-        "drop u 1",
+        "keys u",
+        "keys u 17:0",
+        "drop u",
+        "drop u 4294967296",
+        "drop u -1",
+        "remove",
+        "remove u v",
+        "policy u",
+        "policy u disabled",
+        "policy u disabled=",
+        "policy u disabled=never",
+        "policy u greatest_life=4294967296",
+        "policy u expires=253402300800",
+        "policy u versions=1",
         "\r",
         " ",
     ] {
@@ -186,6 +199,21 @@ fn each_line_is_answered_in_turn(rt: HostRuntime) {
         (
             "add u 17:00000000000000000000000000000000\nopen A.B 64 0 0 36000 0 17:00000000000000000000000000000000\nadd u 17:00000000000000000000000000000000\n",
             "ok\nok\nok\n",
+            DONE,
+        ),
+        (
+            "add u 17:00000000000000000000000000000000\nkeys u 18:0000000000000000000000000000000000000000000000000000000000000000\ndrop u 2\ndrop u 1\ndrop u 1\nremove u\nremove u\n",
+            "ok\nok\nrefused CurrentKeys\nok\nrefused Absent\nok\nrefused Absent\n",
+            DONE,
+        ),
+        (
+            "remove krbtgt/A.B\nkeys u 17:00000000000000000000000000000000\ndrop / 1\nremove /\nkeys / 17:00000000000000000000000000000000\n",
+            "refused Protected\nrefused Absent\nrefused BadName\nrefused BadName\nrefused BadName\n",
+            DONE,
+        ),
+        (
+            "policy krbtgt/A.B disabled=true\npolicy krbtgt/A.B expires=never\npolicy krbtgt/A.B revoked_before=0253402300799\npolicy u preauth=false\npolicy / greatest_renewable=0\n",
+            "ok\nok\nok\nrefused Absent\nrefused BadName\n",
             DONE,
         ),
         (

@@ -1,4 +1,2 @@
 pub mod Memory
 pub mod State
-pub mod View
-pub mod Agreement

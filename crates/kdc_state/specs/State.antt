@@ -1,11 +1,11 @@
 -- The state that opens, and the memory of each client in it.
-use Rattle.std.specs.Prelude.{Option, Some, None, List, ℕ}
 use Rattle.std.specs.Option.{unwrap_or}
 use Rattle.std.specs.FinMap as map
-use Rattle.krb_fields.specs.Name.{Components, name_cmp}
+use Rattle.krb_fields.specs.Name.{Components}
 use Rattle.principal_rows.specs.declared.limits.Limits.{Limits}
 use Rattle.principals.specs.Database.{Principals}
-use Rattle.kdc_state.specs.declared.memory.Memory.{Memory}
+use Rattle.replay.specs.declared.keep.Kept.{Kept}
+use Rattle.replay.specs.declared.memory.Memory.{Memory}
 use Rattle.kdc_state.specs.declared.opening.Opening.{Opening}
 use Rattle.kdc_state.specs.declared.state.State.{State}
 use Rattle.kdc_state.specs.Memory.{opened_memory}
@@ -14,5 +14,9 @@ abbrev pub opened : Principals → Limits → Opening → State
 opened database limits opening = record { database = database; limits = limits; opening = opening; memories = map.empty }
 
 -- a name that has no memory stored has that of the opening
-abbrev pub memory_of : State → Components → Memory
+abbrev pub memory_of : State → Components → Memory Kept
 memory_of state name = unwrap_or (map.get state.memories name) (opened_memory state.opening)
+
+-- the state with this memory stored for a name
+abbrev pub with_memory : State → Components → Memory Kept → State
+with_memory state name memory = record state { memories = map.insert state.memories name memory }

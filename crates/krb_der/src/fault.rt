@@ -1,4 +1,6 @@
 //! Why octets are not read.
+use std::error::Error;
+use std::fmt;
 
 /// What is wrong with the octets: the first fault from left to right.
 #[derive(Clone, Copy, Debug, PartialEq, Eq)]
@@ -18,3 +20,19 @@ pub enum DerFault {
     /// Octets follow the value.
     Trailing,
 }
+
+impl fmt::Display for DerFault {
+    fn fmt<W: fmt::Write>(&self, f: &mut fmt::Formatter<W>) -> fmt::Result {
+        f.write_str(match self {
+            DerFault::Truncated => "the octets end too early",
+            DerFault::BadTag => "another tag stands there",
+            DerFault::BadLength => "not a length in its shortest form",
+            DerFault::BadInteger => "not an INTEGER in its range and its shortest form",
+            DerFault::BadTime => "not a time of the form YYYYMMDDHHMMSSZ",
+            DerFault::BadBits => "not a BIT STRING whose unused bits are zero",
+            DerFault::Trailing => "octets follow the value",
+        })
+    }
+}
+
+impl Error for DerFault {}

@@ -41,6 +41,14 @@ impl KTime {
         Some(KTime { seconds })
     }
 
+    /// The time of these seconds since 1970-01-01T00:00:00Z, which are in range.
+    pub fn of(seconds: i64) -> KTime
+        requires { IsCivilSecond seconds }
+        ensures { result ≡ seconds }
+    {
+        KTime { seconds }
+    }
+
     /// Its seconds since 1970-01-01T00:00:00Z.
     pub fn seconds(self) -> i64
         ensures value { result ≡ self }

@@ -3,6 +3,7 @@ use Rattle.std.specs.Prelude.{◌≡◌, ℕ, suc, zero, Bool, false, List, [], 
 use Rattle.krb_der.specs.declared.fault.DerFault.{DerFault}
 use Rattle.krb_der.specs.declared.fault.DerFault.TheVariants.{Trailing}
 use Rattle.krb_der.specs.Reading.{◌>>=◌, tlv_at}
+use Rattle.krb_elements.specs.Sent.{WithOctets}
 use Rattle.krb_elements.specs.declared.fault.Fault.{Fault}
 use Rattle.krb_elements.specs.declared.fault.Fault.TheVariants as faults
 
@@ -17,11 +18,6 @@ abbrev pub Decodes : {X : Type 0} → Result X Fault → Result X DerFault → T
 Decodes (Ok x) read = read ≡ Ok x
 Decodes (Err e) read = Fails e read
 
--- The same at a reader, which has these octets left.
-abbrev pub Parses : {X : Type 0} → Result X Fault → List ℕ → Result (X × List ℕ) DerFault → Type 0
-Parses (Ok x) left read = read ≡ Ok (x, left)
-Parses (Err e) left read = Fails e read
-
 -- It is what reading gives.
 abbrev pub Sees : {X : Type 0} → Result X DerFault → Result X DerFault → Type 0
 Sees (Ok x) read = read ≡ Ok x
@@ -30,15 +26,6 @@ Sees (Err e) read = read ≡ Err e
 abbrev pub Looks : {X : Type 0} → Result X DerFault → List ℕ → Result (X × List ℕ) DerFault → Type 0
 Looks (Ok x) left read = read ≡ Ok (x, left)
 Looks (Err e) left read = read ≡ Err e
-
--- The same, where what was returned is seen by view.
-abbrev pub SeesBy : {X Y : Type 0} → (X → Y) → Result X DerFault → Result Y DerFault → Type 0
-SeesBy view (Ok x) read = read ≡ Ok (view x)
-SeesBy view (Err e) read = read ≡ Err e
-
-abbrev pub LooksBy : {X Y : Type 0} → (X → Y) → Result X DerFault → List ℕ → Result (Y × List ℕ) DerFault → Type 0
-LooksBy view (Ok x) left read = read ≡ Ok (view x, left)
-LooksBy view (Err e) left read = read ≡ Err e
 
 -- The value was read, unless memory ran out.
 abbrev pub IsReadUnlessMemory : {X : Type 0} → Result X Fault → X → Type 0
@@ -83,8 +70,11 @@ abbrev pub field : {A B : Type 0} → ℕ → (List ℕ → Result (A × List �
 field tag f = field_of tag (whole f)
 
 -- a value and its octets as they were sent
-abbrev pub sent : {A : Type 0} → (List ℕ → Result A DerFault) → List ℕ → Result (A × List ℕ) DerFault
-sent w bytes = w bytes >>= λ x. Ok (x, bytes)
+abbrev pub with_octets : {A : Type 0} → List ℕ → A → WithOctets A
+with_octets bytes x = record { value = x; octets = bytes }
+
+abbrev pub sent : {A : Type 0} → (List ℕ → Result A DerFault) → List ℕ → Result (WithOctets A) DerFault
+sent w bytes = w bytes >>= λ x. Ok (with_octets bytes x)
 
 -- a field that may be absent
 abbrev pub maybe : {A : Type 0} → ℕ → (List ℕ → Result (A × List ℕ) DerFault) → List ℕ → Result (Option A × List ℕ) DerFault

@@ -13,7 +13,8 @@ use Rattle.krb_der.specs.Laws.{IsReading, leaf_ok, tlv_takes, tlv_again, tlv_sho
 use Rattle.krb_der.specs.Elements.{elements_tlv}
 use Rattle.krb_elements.specs.declared.fault.Fault.{Fault}
 use Rattle.krb_elements.specs.declared.fault.Fault.TheVariants as faults
-use Rattle.krb_elements.specs.Format.{Decodes, Sees, IsReadUnlessMemory, whole, inside, such, seen_as, starts, end, field_of, field, sent, optional, made, items, items_of, list_at, and_then, values}
+use Rattle.krb_elements.specs.Format.{Decodes, Sees, IsReadUnlessMemory, whole, inside, such, seen_as, starts, end, field_of, field, with_octets, sent, optional, made, items, items_of, list_at, and_then, values}
+use Rattle.krb_elements.specs.Sent.{WithOctets}
 use Rattle.krb_elements.specs.Spells.{Inside, Such, SeenAs, End, Field, Sent, OptionalOf, Optional, Items, ListOf}
 
 -- the octets are one value, whatever its tag
@@ -177,9 +178,9 @@ field_ok low tag next S f G g le is are = field_of_ok low tag next S (whole f) G
 pub sent_ok : {A : Type 0} (S : A → List ℕ → Type 0) (w : List ℕ → Result A DerFault) → IsWhole S w → IsWhole (Sent S) (sent w)
 sent_ok {A} S w is = record {
   takes = λ bytes x fits e.
-      let b = bind_ok (w bytes) (λ y. Ok (y, bytes)) x e in
-      subst (λ (y : A × List ℕ). Sent S y bytes) (ok_is (b.0, bytes) x b.2) (is.takes bytes b.0 fits b.1, refl);
-  again = λ x bytes s. rw (is.again x.0 bytes s.0) (ap (λ (l : List ℕ). Ok (x.0, l)) (sym s.1));
+      let b = bind_ok (w bytes) (λ y. Ok (with_octets bytes y)) x e in
+      subst (λ (y : WithOctets A). Sent S y bytes) (ok_is (with_octets bytes b.0) x b.2) (is.takes bytes b.0 fits b.1, refl);
+  again = λ x bytes s. rw (is.again x.value bytes s.0) (ap (λ (l : List ℕ). Ok (with_octets l x.value)) (sym s.1));
 }
 
 optional_takes : {A B : Type 0} (tag : ℕ) (S : A → List ℕ → Type 0) (f : List ℕ → Result (A × List ℕ) DerFault) (G : B → List ℕ → Type 0) (g : List ℕ → Result B DerFault)

@@ -1,3 +1,4 @@
+pub mod Sent
 pub mod Format
 pub mod Spells
 pub mod Written
@@ -8,3 +9,8 @@ pub mod WritableLaws
 pub mod SimpleLaws
 pub mod OneSpelling
 pub mod ShortText
+pub mod TextLengths
+pub mod FieldReading
+pub mod CodecLaws
+pub mod Codec
+pub mod Copies

@@ -37,8 +37,8 @@ uint32_at = such (is_within (negsuc 2147483647) (pos 4294967295)) BadInteger int
 
 -- ---- Microseconds (section 5.2.4): an INTEGER from 0 to 999999
 
-abbrev pub IsBelowMillion : ℕ → Type 0
-IsBelowMillion n = n < 1000000
+abbrev pub IsMicrosecond : ℕ → Type 0
+IsMicrosecond n = n < 1000000
 
 abbrev pub Microseconds : ℕ → List ℕ → Type 0
 Microseconds = SeenAs unsigned_abs (Such (is_within (pos 0) (pos 999999)) Int)

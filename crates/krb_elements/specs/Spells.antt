@@ -1,6 +1,7 @@
 -- Which octets spell a message: each word is one way to put spellings together. No word here speaks of a reader.
 use Rattle.std.specs.Prelude.{◌≡◌, ℕ, ◌<◌, ◌^◌, List, [], ◌∷◌, ◌++◌, length, Option, Some, None, Bool, IsTrue}
 use Rattle.krb_der.specs.Spelling.{tlv}
+use Rattle.krb_elements.specs.Sent.{WithOctets}
 
 -- a value with this tag, whose contents are spelled so
 abbrev pub Inside : {A : Type 0} → ℕ → (A → List ℕ → Type 0) → A → List ℕ → Type 0
@@ -27,8 +28,8 @@ OptionalOf tag S G None y bytes = G y bytes
 OptionalOf tag S G (Some x) y bytes = Field tag S G (x, y) bytes
 
 -- a value and its octets as they were sent
-abbrev pub Sent : {A : Type 0} → (A → List ℕ → Type 0) → A × List ℕ → List ℕ → Type 0
-Sent S x bytes = S x.0 bytes × (x.1 ≡ bytes)
+abbrev pub Sent : {A : Type 0} → (A → List ℕ → Type 0) → WithOctets A → List ℕ → Type 0
+Sent S x bytes = S x.value bytes × (x.octets ≡ bytes)
 
 -- a field that may be absent, and then the others
 abbrev pub Optional : {A B : Type 0} → ℕ → (A → List ℕ → Type 0) → (B → List ℕ → Type 0) → Option A × B → List ℕ → Type 0
@@ -42,3 +43,7 @@ Items S (x ∷ xs) bytes = (front : List ℕ) × (back : List ℕ) × S x front 
 -- a SEQUENCE OF
 abbrev pub ListOf : {A : Type 0} → (A → List ℕ → Type 0) → List A → List ℕ → Type 0
 ListOf S = Inside 48 (Items S)
+
+-- a value in a tag, and what the tag says
+abbrev pub InTagOf : {K A : Type 0} → (K → ℕ) → (A → List ℕ → Type 0) → K × A → List ℕ → Type 0
+InTagOf tag S x = Inside (tag x.0) S x.1

@@ -12,7 +12,7 @@ use Rattle.krb_der.proofs.TimeSpellings.{time_spelled}
 use Rattle.krb_elements.specs.Spells.{Inside, End, Field, OptionalOf, Optional, Items, ListOf}
 use Rattle.krb_elements.specs.Written.{field_text, maybe_text, field_then, optional_then, no_more, items_text}
 use Rattle.krb_elements.specs.WrittenLaws.{tlv_longer}
-use Rattle.krb_elements.specs.Simple.{is_within, IsInt32, Int32, IsBelowMillion, Microseconds, microseconds_text, Fixed, fixed_text, Octets, KerberosString, as_they_are}
+use Rattle.krb_elements.specs.Simple.{is_within, IsInt32, Int32, IsMicrosecond, Microseconds, microseconds_text, Fixed, fixed_text, Octets, KerberosString, as_they_are}
 
 -- a value with its own tag
 pub record IsWritable {A : Type 0} (Fits : A → Type 0) (S : A → List ℕ → Type 0) (tag : ℕ) (text : A → List ℕ) : Type 0 where
@@ -31,16 +31,16 @@ Any x = Unit {0}
 int_fits : (z : ℤ) → IsInt32 z → FitsSigned w64 z
 int_fits z e = grind (arith, ints)
 
-microsecond_fits : (n : ℕ) → IsBelowMillion n → FitsSigned w64 (pos n)
+microsecond_fits : (n : ℕ) → IsMicrosecond n → FitsSigned w64 (pos n)
 microsecond_fits n lt = grind (arith, ints)
 
-within_million : (n : ℕ) → IsBelowMillion n → is_within (pos 0) (pos 999999) (pos n) ≡ true
+within_million : (n : ℕ) → IsMicrosecond n → is_within (pos 0) (pos 999999) (pos n) ≡ true
 within_million n lt = grind (arith, ints)
 
 pub int32_writable : IsWritable IsInt32 Int32 2 int_octets
 int32_writable = record { spells = λ z fits lt. (fits, int_spelled z (int_fits z fits)) }
 
-pub microseconds_writable : IsWritable IsBelowMillion Microseconds 2 microseconds_text
+pub microseconds_writable : IsWritable IsMicrosecond Microseconds 2 microseconds_text
 microseconds_writable = record { spells = λ n fits lt. (pos n, (within_million n fits, int_spelled (pos n) (microsecond_fits n fits)), refl) }
 
 pub fixed_writable : (n : ℤ) → is_within n n n ≡ true → IsInt32 n → IsWritable Any (Fixed n) 2 (fixed_text n)

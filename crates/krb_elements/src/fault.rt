@@ -4,6 +4,8 @@ ghost use Rattle.krb_elements.specs.declared.fault.Fault.TheVariants.{Der, Memor
 
 use krb_der::DerFault;
 use std::alloc::{AllocError, AllocFailed};
+use std::error::Error;
+use std::fmt;
 
 /// The octets spell no such message, or memory ran out before it was read.
 #[derive(Clone, Copy, Debug, PartialEq, Eq)]
@@ -11,6 +13,17 @@ pub enum Fault {
     Der(DerFault),
     Memory,
 }
+
+impl fmt::Display for Fault {
+    fn fmt<W: fmt::Write>(&self, f: &mut fmt::Formatter<W>) -> fmt::Result {
+        match self {
+            Fault::Der(fault) => write!(f, "{fault}"),
+            Fault::Memory => f.write_str("out of memory"),
+        }
+    }
+}
+
+impl Error for Fault {}
 
 impl From<DerFault> for Fault {
     ghost from_gives = { λ fault e. e ≡ Der fault };

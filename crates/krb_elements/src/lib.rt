@@ -4,8 +4,7 @@
 //! written are each put together of the same words: a field, a field that may be absent, a list, the end.
 #![tactic(auto)]
 
-mod borrowed;
-mod element;
+mod codec;
 mod fault;
 mod lists;
 mod microseconds;
@@ -15,12 +14,13 @@ mod simple;
 mod string;
 mod uint32;
 
-pub use borrowed::{ElementRef, end_of, look_field, look_optional, look_whole};
-pub use element::{
-    Element, decode, encode, finish, put_field, put_optional, read_field, read_fixed, read_optional,
+pub use codec::{
+    Application, Coded, Decode, DecodeFields, Encode, EncodeFields, Fielded, MakeOwned, ReadOwned,
+    Round, Sent, Untagged, application_tag, end_of, look_either, read, read_owned, take_field,
+    take_fixed, take_optional, take_sent, write, write_field, write_inside, write_optional,
 };
 pub use fault::Fault;
-pub use lists::{copy_items, look_list_field, look_optional_list};
+pub use lists::SeqRef;
 pub use microseconds::Microseconds;
 pub use octets::{Octets, OctetsRef};
 pub use seq::Seq;

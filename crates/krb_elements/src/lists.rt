@@ -1,37 +1,91 @@
-//! SEQUENCE OF: lists of elements.
-ghost use Rattle.std.specs.Prelude.{◌≡◌, ◌<◌, ◌^◌, ◌++◌, List, ℕ, IsOk, IfOk, IfErr, OnOk, OnErr, length, option_map};
-ghost use Rattle.krb_der.specs.Items.{elements};
-ghost use Rattle.krb_elements.specs.Format.{Decodes, LooksBy, SeesBy, whole, inside, maybe, items_of, list_at, values};
-ghost use Rattle.krb_elements.specs.Laws.{IsElement, list_ok};
-ghost use Rattle.krb_elements.specs.Spells.{ListOf};
+//! SEQUENCE OF: lists, read where they stand and written.
+ghost use Rattle.std.specs.Prelude.{◌≡◌, ◌<◌, ◌≤◌, ◌^◌, ◌++◌, IsOk, IfErr, OnOk, IfOk, List, length, map};
+ghost use Rattle.std.specs.Iterator.{YieldsFirst, item_count};
+ghost use Rattle.krb_elements.specs.Format.{Looks, Sees, items_of, values};
 ghost use Rattle.krb_elements.specs.Written.{items_text};
-ghost use Rattle.krb_elements.specs.WrittenLaws.{list_written};
+ghost use Rattle.krb_elements.specs.Codec.{list_of};
+ghost use Rattle.krb_elements.specs.CodecLaws.{AllFit};
 
-use crate::borrowed::{ElementRef, end_of};
-use crate::element::{Element, decode};
-use crate::fault::Fault;
+use crate::codec::{Coded, Decode, Encode, MakeOwned, look_all};
 use crate::seq::Seq;
 use krb_der::{DerFault, Items, Reader, Writer};
 use std::alloc::{AllocError, Global};
+use std::marker::{Model, PhantomData};
 
-/// Elements until nothing is left.
-fn read_items<T: Element>(alloc: Global, contents: &[u8]) -> Result<Seq<T>, Fault>
-    ensures { Decodes result (items_of T.at contents.now) }
-{
-    let mut items = Seq::new(alloc);
-    let mut rest = Reader::new(contents);
-    while !rest.is_empty() {
-        let item = T::read(alloc, &mut rest)?;
-        items.push(item)?;
+/// A list where it stands, whose elements have been read once.
+///
+/// Contracts see it as the list of their values.
+#[derive(Debug, Drop)]
+pub struct SeqRef<'a, T: Coded> {
+    items: Items<'a>,
+    of: PhantomData<T>,
+}
+
+impl<'a, T: Coded> Model for SeqRef<'a, T> {
+    ghost use Rattle.std.specs.Prelude.{List};
+    ghost use Rattle.krb_elements.specs.Format.{values};
+
+    ghost Value = { List T };
+
+    ghost view = { λ s. values T.codec.at s.items };
+}
+
+impl<'a, T: Coded> SeqRef<'a, T> {
+    /// The same values, to be gone over apart.
+    pub fn iter(&self) -> SeqRef<'a, T>
+        ensures { result ≡ self.now }
+    {
+        SeqRef {
+            items: self.items.iter(),
+            of: PhantomData,
+        }
     }
-    Ok(items)
+}
+
+/// The value of the next element that spells one.
+fn next_value<'a, T: Decode<'a>>(items: &mut Items<'a>) -> Option<T>
+    ensures steps { YieldsFirst (values T.codec.at) items.old result items.new }
+    ensures goes { length (values T.codec.at items.new) ≤ length (values T.codec.at items.old) }
+{
+    while let Some(item) = items.next() {
+        if let Ok(value) = look_all(item) {
+            return Some(value);
+        }
+    }
+    None
+}
+
+/// Gives each value once.
+impl<'a, T: Decode<'a>> Iterator for SeqRef<'a, T> {
+    type Item = T;
+
+    ghost next_gives = { YieldsFirst (λ s. s) };
+
+    ghost remaining = { item_count (λ s. s) };
+
+    fn next(&mut self) -> Option<T> {
+        next_value(&mut self.items)
+    }
+}
+
+impl<'a, T: Decode<'a> + MakeOwned> MakeOwned for SeqRef<'a, T> {
+    type Owned = Seq<T::Owned>;
+
+    ghost same = { map T.same };
+
+    fn copy(&self, alloc: Global) -> Result<Seq<T::Owned>, AllocError> {
+        let mut copies = Seq::new(alloc);
+        for value in self.iter() {
+            copies.push(value.copy(alloc)?)?;
+        }
+        Ok(copies)
+    }
 }
 
 /// Goes over the elements, and finds the first fault.
-fn check_items<'a, T: ElementRef<'a>>(contents: &'a [u8]) -> Result<(), DerFault>
-    requires { IsElement T.Spells T.at }
-    ensures ok { OnOk result (IsOk (items_of T.at contents.now)) }
-    ensures err { IfErr result (λ e. items_of T.at contents.now ≡ Err e) }
+fn check_items<'a, T: Decode<'a>>(contents: &'a [u8]) -> Result<(), DerFault>
+    ensures ok { OnOk result (IsOk (items_of T.codec.at contents.now)) }
+    ensures err { IfErr result (λ e. items_of T.codec.at contents.now ≡ Err e) }
 {
     let mut rest = Reader::new(contents);
     while !rest.is_empty() {
@@ -40,97 +94,47 @@ fn check_items<'a, T: ElementRef<'a>>(contents: &'a [u8]) -> Result<(), DerFault
     Ok(())
 }
 
-/// The elements of a list with these contents, each of which has been read once.
-fn checked_items<'a, T: ElementRef<'a>>(contents: &'a [u8]) -> Result<Items<'a>, DerFault>
-    requires { IsElement T.Spells T.at }
-    ensures { SeesBy (values T.at) result (items_of T.at contents.now) }
+/// The list with these contents.
+fn checked<'a, T: Decode<'a>>(contents: &'a [u8]) -> Result<SeqRef<'a, T>, DerFault>
+    ensures { Sees result (items_of T.codec.at contents.now) }
 {
     check_items::<T>(contents)?;
-    Ok(Items::new(contents))
+    Ok(SeqRef {
+        items: Items::new(contents),
+        of: PhantomData,
+    })
 }
 
-/// The elements of the list at the front.
-fn look_list<'a, T: ElementRef<'a>>(reader: &mut Reader<'a>) -> Result<Items<'a>, DerFault>
-    requires { IsElement T.Spells T.at }
-    ensures { LooksBy (values T.at) result reader.new (list_at T.at reader.old) }
-{
-    checked_items::<T>(reader.read_tlv(0x30)?)
+impl<'a, T: Coded> Coded for SeqRef<'a, T> {
+    ghost codec = { list_of T.codec };
 }
 
-/// The field with this tag, which is a list.
-pub fn look_list_field<'a, T: ElementRef<'a>>(
-    fields: &mut Reader<'a>,
-    tag: u8,
-) -> Result<Items<'a>, DerFault>
-    requires { IsElement T.Spells T.at }
-    ensures { LooksBy (values T.at) result fields.new (inside tag (whole (list_at T.at)) fields.old) }
-{
-    let mut contents = Reader::new(fields.read_tlv(tag)?);
-    let items = look_list::<T>(&mut contents)?;
-    end_of(&contents)?;
-    Ok(items)
-}
-
-/// The field with this tag, if it is there, which is a list.
-pub fn look_optional_list<'a, T: ElementRef<'a>>(
-    fields: &mut Reader<'a>,
-    tag: u8,
-) -> Result<Option<Items<'a>>, DerFault>
-    requires { IsElement T.Spells T.at }
-    ensures { LooksBy (option_map (values T.at)) result fields.new (maybe tag (list_at T.at) fields.old) }
-{
-    match fields.peek_tag() {
-        Some(next) if next == tag => Ok(Some(look_list_field::<T>(fields, tag)?)),
-        _ => Ok(None),
+impl<'a, T: Decode<'a>> Decode<'a> for SeqRef<'a, T> {
+    fn look(reader: &mut Reader<'a>) -> Result<SeqRef<'a, T>, DerFault> {
+        checked(reader.read_tlv(0x30)?)
     }
-}
-
-/// The values of a list's elements. Elements that spell no `T` are left out.
-pub fn copy_items<T: Element>(alloc: Global, items: &Items<'_>) -> Result<Seq<T>, AllocError>
-    ensures { IfOk result (λ copies. copies ≡ values T.at items.now) }
-{
-    let mut copies = Seq::new(alloc);
-    for item in items.iter() {
-        match decode::<T>(alloc, item) {
-            Ok(value) => copies.push(value)?,
-            Err(Fault::Memory) => return Err(AllocError),
-            Err(Fault::Der(_)) => {}
-        }
-    }
-    Ok(copies)
 }
 
 /// Appends the elements one after another.
-fn put_items<T: Element>(alloc: Global, out: &mut Writer, items: &[T]) -> Result<(), AllocError>
-    requires { length (items_text T.tag T.text items.now) < 2 ^ 32 }
-    ensures { OnOk result (out.new ≡ out.old ++ items_text T.tag T.text items.now) }
+fn write_items<T: Encode>(out: &mut Writer, items: &[T]) -> Result<(), AllocError>
+    requires { length (items_text T.codec.tag T.codec.text items.now) < 2 ^ 32 }
+    ensures ok { OnOk result (out.new ≡ out.old ++ items_text T.codec.tag T.codec.text items.now) }
+    ensures fits { OnOk result (AllFit T.codec.Fits items.now) }
 {
     for item in items {
-        item.put(alloc, out)?;
+        item.put(out)?;
     }
     Ok(())
 }
 
-impl<T: Element> Element for Seq<T> {
-    ghost tag = { 48 };
+impl<T: Coded> Coded for Seq<T> {
+    ghost codec = { list_of T.codec };
+}
 
-    ghost text = { items_text T.tag T.text };
-
-    ghost Spells = { ListOf T.Spells };
-
-    ghost at = { list_at T.at };
-
-    ghost is_element = { list_ok T.Spells T.at T.is_element };
-
-    ghost is_written = { list_written T.Spells T.tag T.text T.is_written };
-
-    fn read(alloc: Global, reader: &mut Reader<'_>) -> Result<Seq<T>, Fault> {
-        read_items(alloc, reader.read_tlv(0x30)?)
-    }
-
-    fn put(&self, alloc: Global, out: &mut Writer) -> Result<(), AllocError> {
-        let mut contents = Writer::new(alloc);
-        put_items(alloc, &mut contents, self.as_slice())?;
-        out.put_tlv(0x30, &contents.finish())
+impl<T: Encode> Encode for Seq<T> {
+    fn put(&self, out: &mut Writer) -> Result<(), AllocError> {
+        let start = out.len();
+        write_items(out, self.as_slice())?;
+        out.wrap(start, 0x30)
     }
 }

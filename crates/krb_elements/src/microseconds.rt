@@ -1,7 +1,7 @@
 //! Microseconds (RFC 4120, section 5.2.4).
 ghost use Rattle.std.specs.Prelude.{◌≡◌};
 ghost use Rattle.std.specs.Option.{SomeIff};
-ghost use Rattle.krb_elements.specs.Simple.{IsBelowMillion};
+ghost use Rattle.krb_elements.specs.Simple.{IsMicrosecond};
 
 use std::marker::Model;
 
@@ -13,13 +13,13 @@ pub struct Microseconds {
 
 impl Model for Microseconds {
     ghost use Rattle.std.specs.Prelude.{ℕ};
-    ghost use Rattle.krb_elements.specs.Simple.{IsBelowMillion};
+    ghost use Rattle.krb_elements.specs.Simple.{IsMicrosecond};
 
     ghost Value = { ℕ };
 
     ghost view = { λ n. n.value };
 
-    ghost invariant = { λ n. IsBelowMillion n.value };
+    ghost invariant = { λ n. IsMicrosecond n.value };
 
     ghost inverse = { λ n. record { value = n } };
 }
@@ -27,7 +27,7 @@ impl Model for Microseconds {
 impl Microseconds {
     /// That many microseconds, where they are less than a second.
     pub fn new(value: u32) -> Option<Microseconds>
-        ensures { SomeIff result (IsBelowMillion value) value }
+        ensures { SomeIff result (IsMicrosecond value) value }
     {
         if value > 999_999 {
             return None;
@@ -35,9 +35,17 @@ impl Microseconds {
         Some(Microseconds { value })
     }
 
+    /// That many microseconds, which are less than a second.
+    pub fn of(value: u32) -> Microseconds
+        requires { IsMicrosecond value }
+        ensures { result ≡ value }
+    {
+        Microseconds { value }
+    }
+
     pub fn get(self) -> u32
         ensures value { result ≡ self }
-        ensures range { IsBelowMillion result }
+        ensures range { IsMicrosecond result }
     {
         self.value
     }

@@ -79,10 +79,4 @@ impl<'a> OctetsRef<'a> {
         let OctetsRef { bytes } = self;
         *bytes
     }
-
-    pub fn copy(&self, alloc: Global) -> Result<Octets, AllocError>
-        ensures { IfOk result (λ octets. octets ≡ self.now) }
-    {
-        Octets::from_slice(alloc, self.bytes)
-    }
 }

@@ -85,12 +85,6 @@ impl<'a> KerberosStringRef<'a> {
         let KerberosStringRef { bytes } = self;
         *bytes
     }
-
-    pub fn copy(&self, alloc: Global) -> Result<KerberosString, AllocError>
-        ensures { IfOk result (λ string. string ≡ self.now) }
-    {
-        KerberosString::from_slice(alloc, self.bytes)
-    }
 }
 
 impl PartialEq for KerberosString {

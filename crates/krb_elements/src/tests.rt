@@ -7,7 +7,6 @@ use std::test::Fail;
 /// The bounds of RFC 4120, section 5.2.4, spelled by X.690, section 8.3; a UInt32 may be sent as a signed number.
 #[test]
 fn numbers_have_their_bounds(rt: HostRuntime) -> Result<(), Fail> {
-    let alloc = rt.alloc();
     let within: [(&[u8], i64); 6] = [
         (&[2, 4, 0x80, 0, 0, 0], -2147483648),
         (&[2, 1, 0xff], -1),
@@ -17,37 +16,31 @@ fn numbers_have_their_bounds(rt: HostRuntime) -> Result<(), Fail> {
         (&[2, 4, 0x7f, 0xff, 0xff, 0xff], 2147483647),
     ];
     for (octets, number) in within {
-        assert_eq!(rt; decode::<i32>(alloc, octets).map(i64::from), Ok(number));
-        assert_eq!(rt;
-            decode::<UInt32>(alloc, octets).map(|n| n.get()),
-            Ok(number)
-        );
+        assert_eq!(rt; read::<i32>(octets).map(i64::from), Ok(number));
+        assert_eq!(rt; read::<UInt32>(octets).map(|n| n.get()), Ok(number));
         let micro = if (0..1000000).contains(&number) {
             Ok(number)
         } else {
-            Err(Fault::Der(DerFault::BadInteger))
+            Err(DerFault::BadInteger)
         };
         assert_eq!(rt;
-            decode::<Microseconds>(alloc, octets).map(|n| i64::from(n.get())),
+            read::<Microseconds>(octets).map(|n| i64::from(n.get())),
             micro
         );
     }
     let greatest = [2, 5, 0, 0xff, 0xff, 0xff, 0xff];
-    assert_eq!(rt;
-        decode::<UInt32>(alloc, &greatest).map(|n| n.get()),
-        Ok(4294967295)
-    );
+    assert_eq!(rt; read::<UInt32>(&greatest).map(|n| n.get()), Ok(4294967295));
     let beyond: [&[u8]; 3] = [
         &[2, 5, 0xff, 0x7f, 0xff, 0xff, 0xff],
         &[2, 5, 0, 0x80, 0, 0, 0],
         &[2, 5, 1, 0, 0, 0, 0],
     ];
-    let refused = Fault::Der(DerFault::BadInteger);
+    let refused = DerFault::BadInteger;
     for octets in beyond {
-        assert_eq!(rt; decode::<i32>(alloc, octets), Err(refused));
+        assert_eq!(rt; read::<i32>(octets), Err(refused));
     }
-    assert_eq!(rt; decode::<UInt32>(alloc, beyond[0]), Err(refused));
-    assert_eq!(rt; decode::<UInt32>(alloc, beyond[2]), Err(refused));
+    assert_eq!(rt; read::<UInt32>(beyond[0]), Err(refused));
+    assert_eq!(rt; read::<UInt32>(beyond[2]), Err(refused));
     Ok(())
 }
 
@@ -60,7 +53,7 @@ fn numbers_are_written(rt: HostRuntime) -> Result<(), Fail> {
         (128, &[2, 2, 0, 0x80]),
     ];
     for (number, octets) in numbers {
-        assert_eq!(rt; encode(alloc, &number)?.as_slice(), octets);
+        assert_eq!(rt; write(alloc, &number)?.as_slice(), octets);
     }
     let numbers: [(i64, &[u8]); 2] = [
         (-1, &[2, 1, 0xff]),
@@ -68,42 +61,38 @@ fn numbers_are_written(rt: HostRuntime) -> Result<(), Fail> {
     ];
     for (number, octets) in numbers {
         let number = UInt32::new(number).ok_or("a number of the range")?;
-        assert_eq!(rt; encode(alloc, &number)?.as_slice(), octets);
+        assert_eq!(rt; write(alloc, &number)?.as_slice(), octets);
     }
     let numbers: [(u32, &[u8]); 2] = [(0, &[2, 1, 0]), (999999, &[2, 3, 0x0f, 0x42, 0x3f])];
     for (number, octets) in numbers {
         let number = Microseconds::new(number).ok_or("less than a second")?;
-        assert_eq!(rt; encode(alloc, &number)?.as_slice(), octets);
+        assert_eq!(rt; write(alloc, &number)?.as_slice(), octets);
     }
     Ok(())
 }
 
 #[test]
-#[tactic(auto, using(crate::specs::SimpleLaws::int32_ok, crate::proofs::TextLengths::numbers_short))]
+#[tactic(auto, using(crate::proofs::TextLengths::numbers_short))]
 fn lists_are_read_and_written(rt: HostRuntime) -> Result<(), Fail> {
     let alloc = rt.alloc();
     let field = [0xa8, 8, 0x30, 6, 2, 1, 17, 2, 1, 18];
-    let list: Seq<i32> = decode(alloc, &field[2..])?;
+    let mut fields = Reader::new(&field);
+    let absent: Option<SeqRef<'_, i32>> = take_optional(&mut fields, 9)?;
+    assert!(rt; absent.is_none());
+    let found: Option<SeqRef<'_, i32>> = take_optional(&mut fields, 8)?;
+    end_of(&fields)?;
+    let list = found.copy(alloc)?.ok_or("a list")?;
     assert_eq!(rt; list.as_slice(), [17, 18].as_slice());
     assert!(rt; list.len() == 2);
-    assert_eq!(rt; encode(alloc, &list)?.as_slice(), &field[2..]);
+    assert_eq!(rt; write(alloc, &list)?.as_slice(), &field[2..]);
 
-    let mut fields = Reader::new(&field);
-    assert!(rt; look_optional_list::<i32>(&mut fields, 0xa9)?.is_none());
-    let items = look_optional_list::<i32>(&mut fields, 0xa8)?.ok_or("a list")?;
+    let mut numbers: SeqRef<'_, i32> = take_field(&mut Reader::new(&field), 8)?;
+    let mut again = numbers.iter();
+    assert_eq!(rt; (numbers.next(), again.next()), (Some(17), Some(17)));
+    assert_eq!(rt; (numbers.next(), numbers.next()), (Some(18), None));
+    let faulty = [0x30, 6, 2, 1, 17, 2, 2, 18];
     assert_eq!(rt;
-        copy_items::<i32>(alloc, &items)?.as_slice(),
-        [17, 18].as_slice()
-    );
-    end_of(&fields)?;
-    let items = look_list_field::<i32>(&mut Reader::new(&field), 0xa8)?;
-    assert_eq!(rt;
-        copy_items::<i32>(alloc, &items)?.as_slice(),
-        [17, 18].as_slice()
-    );
-    let faulty = [0xa8, 8, 0x30, 6, 2, 1, 17, 2, 2, 18];
-    assert_eq!(rt;
-        look_list_field::<i32>(&mut Reader::new(&faulty), 0xa8).err(),
+        read::<SeqRef<'_, i32>>(&faulty).err(),
         Some(DerFault::Truncated)
     );
     Ok(())
@@ -113,16 +102,16 @@ fn lists_are_read_and_written(rt: HostRuntime) -> Result<(), Fail> {
 fn strings_are_read_and_written(rt: HostRuntime) -> Result<(), Fail> {
     let alloc = rt.alloc();
     let spelled = [0x1b, 3, 0x41, 0x2e, 0x42];
-    let string: KerberosString = decode(alloc, &spelled)?;
+    let found: KerberosStringRef<'_> = read(&spelled)?;
+    let string = found.copy(alloc)?;
     assert_eq!(rt; string.as_slice(), b"A.B".as_slice());
-    let found: KerberosStringRef<'_> = look_whole(&spelled)?;
     assert_eq!(rt; found.as_slice(), string.as_slice());
     assert_eq!(rt;
         KerberosStringRef::new(b"A.B").copy(alloc)?,
         string.copy(alloc)?
     );
     assert!(rt; string.as_slice().len() == 3);
-    assert_eq!(rt; encode(alloc, &string)?.as_slice(), spelled.as_slice());
+    assert_eq!(rt; write(alloc, &string)?.as_slice(), spelled.as_slice());
     assert_eq!(rt;
         KerberosString::from_slice(alloc, b"A.B.")?.cmp(&string),
         Ordering::Greater
@@ -131,16 +120,16 @@ fn strings_are_read_and_written(rt: HostRuntime) -> Result<(), Fail> {
     assert_eq!(rt; string.into_vec().as_slice(), b"A.B".as_slice());
 
     let spelled = [4, 2, 0, 0xff];
-    let octets: Octets = decode(alloc, &spelled)?;
+    let found: OctetsRef<'_> = read(&spelled)?;
+    let octets = found.copy(alloc)?;
     assert_eq!(rt; octets.as_slice(), [0, 0xff].as_slice());
-    let found: OctetsRef<'_> = look_whole(&spelled)?;
     assert_eq!(rt; found.as_slice(), octets.as_slice());
     assert_eq!(rt;
         OctetsRef::new(&[0, 0xff]).copy(alloc)?.as_slice(),
         octets.copy(alloc)?.as_slice()
     );
     assert!(rt; octets.as_slice().len() == 2);
-    assert_eq!(rt; encode(alloc, &octets)?.as_slice(), spelled.as_slice());
+    assert_eq!(rt; write(alloc, &octets)?.as_slice(), spelled.as_slice());
     assert_eq!(rt; Octets::from_slice(alloc, &[7])?.as_slice(), [7].as_slice());
     assert_eq!(rt;
         Octets::new(vec![in alloc; 8u8]?).as_slice(),
@@ -155,66 +144,80 @@ fn strings_are_read_and_written(rt: HostRuntime) -> Result<(), Fail> {
 fn times_are_read_and_written(rt: HostRuntime) -> Result<(), Fail> {
     let alloc = rt.alloc();
     let spelled = b"\x18\x0f19700101000000Z";
-    let time: KTime = decode(alloc, spelled)?;
+    let time: KTime = read(spelled)?;
     assert_eq!(rt; time.seconds(), 0);
-    assert_eq!(rt; encode(alloc, &time)?.as_slice(), spelled.as_slice());
-    assert_eq!(rt; look_whole::<KTime>(spelled).map(|t| t.seconds()), Ok(0));
+    assert_eq!(rt; write(alloc, &time)?.as_slice(), spelled.as_slice());
     Ok(())
 }
 
 #[test]
 fn nothing_may_follow(rt: HostRuntime) {
-    let alloc = rt.alloc();
     let spelled = [2, 1, 5, 0];
-    assert_eq!(rt;
-        decode::<i32>(alloc, &spelled),
-        Err(Fault::Der(DerFault::Trailing))
-    );
-    assert_eq!(rt; look_whole::<i32>(&spelled), Err(DerFault::Trailing));
+    assert_eq!(rt; read::<i32>(&spelled), Err(DerFault::Trailing));
     assert_eq!(rt; end_of(&Reader::new(&spelled)), Err(DerFault::Trailing));
-    assert_eq!(rt;
-        finish(&Reader::new(&spelled)),
-        Err(Fault::Der(DerFault::Trailing))
-    );
-    assert_eq!(rt; finish(&Reader::new(&[])), Ok(()));
+    assert_eq!(rt; end_of(&Reader::new(&[])), Ok(()));
 }
 
 #[test]
 fn fields_are_read(rt: HostRuntime) {
-    let alloc = rt.alloc();
     let spelled = [0xa0, 3, 2, 1, 5, 0xa1, 3, 2, 1, 0xff, 0xa2, 3, 2, 1, 5];
     let mut fields = Reader::new(&spelled);
-    assert_eq!(rt; read_field(alloc, &mut fields, 0xa0), Ok(5i32));
-    assert_eq!(rt; read_optional::<i32>(alloc, &mut fields, 0xa0), Ok(None));
-    assert_eq!(rt; read_optional(alloc, &mut fields, 0xa1), Ok(Some(-1i32)));
+    assert_eq!(rt; take_field(&mut fields, 0), Ok(5i32));
+    assert_eq!(rt; take_optional::<i32>(&mut fields, 0), Ok(None));
+    assert_eq!(rt; take_optional(&mut fields, 1), Ok(Some(-1i32)));
+    assert_eq!(rt; take_fixed(&mut fields, 2, 5), Ok(()));
+    assert_eq!(rt; end_of(&fields), Ok(()));
     assert_eq!(rt;
-        read_fixed(&mut Reader::new(&spelled), 0xa0, 6),
+        take_fixed(&mut Reader::new(&spelled), 0, 6),
         Err(DerFault::BadInteger)
     );
-    assert_eq!(rt; read_fixed(&mut fields, 0xa2, 5), Ok(()));
-    assert_eq!(rt; finish(&fields), Ok(()));
+}
 
+#[test]
+fn octets_are_kept_as_they_were_sent(rt: HostRuntime) -> Result<(), Fail> {
+    let spelled = [0xa0, 3, 2, 1, 5];
     let mut fields = Reader::new(&spelled);
-    assert_eq!(rt; look_field(&mut fields, 0xa0), Ok(5i32));
-    assert_eq!(rt; look_optional::<i32>(&mut fields, 0xa0), Ok(None));
-    assert_eq!(rt; look_optional(&mut fields, 0xa1), Ok(Some(-1i32)));
+    let sent: Sent<'_, i32> = take_sent(&mut fields, 0)?;
+    assert_eq!(rt; (sent.value, sent.octets), (5, [2, 1, 5].as_slice()));
+    Ok(())
+}
+
+#[test]
+fn either_tag_is_read(rt: HostRuntime) {
+    for (octets, found) in [([0x6a, 3, 2, 1, 5], false), ([0x6c, 3, 2, 1, 5], true)] {
+        let mut reader = Reader::new(&octets);
+        let either = look_either(&mut reader, (0x6a, false), (0x6c, true));
+        assert_eq!(rt; either, Ok((found, 5i32)));
+    }
 }
 
 #[test]
 #[tactic(auto, using(krb_der::specs::Ints::int_short, crate::proofs::TextLengths::field_short, crate::proofs::TextLengths::optional_number_short))]
 fn fields_are_written(rt: HostRuntime) -> Result<(), Fail> {
-    let alloc = rt.alloc();
-    let mut out = Writer::new(alloc);
-    for (tag, number) in [(0xa0, Some(5i32)), (0xa1, None), (0xa2, Some(-1))] {
-        put_optional(alloc, &mut out, tag, &number)?;
+    let mut out = Writer::new(rt.alloc());
+    for (n, number) in [(0, Some(5i32)), (1, None), (2, Some(-1))] {
+        write_optional(&mut out, n, &number)?;
     }
-    for (tag, number) in [(0xa3, 0i32), (0xa4, 128)] {
-        put_field(alloc, &mut out, tag, &number)?;
+    for (n, number) in [(3, 0i32), (4, 128)] {
+        write_field(&mut out, n, &number)?;
     }
     let wanted = [
         0xa0, 3, 2, 1, 5, 0xa2, 3, 2, 1, 0xff, 0xa3, 3, 2, 1, 0, 0xa4, 4, 2, 2, 0, 0x80,
     ];
     assert_eq!(rt; out.finish().as_slice(), wanted.as_slice());
+    Ok(())
+}
+
+#[test]
+#[tactic(auto, using(krb_der::specs::Ints::int_short, crate::specs::ShortText::tlv_short))]
+fn values_are_written_inside_a_tag(rt: HostRuntime) -> Result<(), Fail> {
+    for (n, number, octets) in [
+        (1, 5i32, [0x61, 3, 2, 1, 5]),
+        (30, -1, [0x7e, 3, 2, 1, 0xff]),
+    ] {
+        let written = write_inside(rt.alloc(), application_tag(n), &number)?;
+        assert_eq!(rt; written.as_slice(), octets.as_slice());
+    }
     Ok(())
 }
 
@@ -226,6 +229,8 @@ fn lists_keep_their_items(rt: HostRuntime) -> Result<(), Fail> {
     numbers.push(7u32)?;
     numbers.push(8)?;
     assert_eq!(rt; numbers.len(), 2);
+    assert_eq!(rt; numbers.as_slice(), [7, 8].as_slice());
+    let numbers = Seq::from_vec(vec![in alloc; 7u32, 8]?);
     assert_eq!(rt; numbers.as_slice(), [7, 8].as_slice());
     Ok(())
 }

@@ -7,6 +7,7 @@ use Rattle.std.proofs.lemmas.List.Splits.{slice_split_none, slice_split_at, join
 use Rattle.std.proofs.lemmas.Bool.Decides.{nat_tests}
 use Rattle.krb_fields.specs.Name.{Components}
 use Rattle.krb_fields.specs.NameLimits.{IsComponent}
+use Rattle.krb_fields.specs.NameLimitsLaws.{component_facts, name_facts}
 use Rattle.krb_fields.specs.NameText.{is_plain, hex_digit, digits_of, octet_text, component_text, text_of, IsComponentText, IsNameText}
 
 -- ---- octets
@@ -189,9 +190,9 @@ text_of-parts name text e = ap (join_with_byte 0x2F) e ∙ join_with_byte-slice_
 
 pub parts_of-text : (name : Components) → 0 < length name → All IsComponent name → parts_of (text_of name) ≡ map component_text name
 parts_of-text [] some each = absurd (omega (arith, some))
-parts_of-text (c ∷ []) some each = slice_split_none (λ b. b == 0x2F) (component_text c) (component_text-no_slash c (All-head IsComponent c [] each).2)
+parts_of-text (c ∷ []) some each = slice_split_none (λ b. b == 0x2F) (component_text c) (component_text-no_slash c (component_facts c (All-head IsComponent c [] each)).2)
 parts_of-text (c ∷ d ∷ name) some each =
-    slice_split_at (λ b. b == 0x2F) (component_text c) 0x2F (text_of (d ∷ name)) (component_text-no_slash c (All-head IsComponent c (d ∷ name) each).2) refl
+    slice_split_at (λ b. b == 0x2F) (component_text c) 0x2F (text_of (d ∷ name)) (component_text-no_slash c (component_facts c (All-head IsComponent c (d ∷ name) each)).2) refl
     ∙ ap (λ l. component_text c ∷ l) (parts_of-text (d ∷ name) (omega arith) (All-tail IsComponent c (d ∷ name) each))
 
 -- names with the same texts are the same
@@ -209,7 +210,7 @@ texts-injective (c ∷ a) (d ∷ b) e =
 -- ---- the parts of a text that is read as a name's
 
 pub parts_spelled : (name : Components) (text : List ℕ) → IsNameText name text → parts_of text ≡ map component_text name
-parts_spelled name text is = ap parts_of (sym is.1) ∙ parts_of-text name is.0.0 is.0.2
+parts_spelled name text is = ap parts_of (sym is.1) ∙ parts_of-text name (name_facts name is.0).0 (name_facts name is.0).2
 
 pub count_spelled : (name : Components) (text : List ℕ) → IsNameText name text → length (parts_of text) ≡ length name
 count_spelled name text is = ap length (parts_spelled name text is) ∙ length-map name component_text
@@ -218,7 +219,7 @@ count_spelled name text is = ap length (parts_spelled name text is) ∙ length-m
 pub part_spelled : (name : Components) (text part : List ℕ) (i : ℕ) → IsNameText name text → i < length (parts_of text) → part ≡ get_or (parts_of text) i part → IsComponentText (get_or name i []) part
 part_spelled name text part i is within e =
     let below : i < length name = omega (arith, within, count_spelled name text is) in
-    (is.0.2 i [] below, sym (e ∙ ap (λ l. get_or l i part) (parts_spelled name text is) ∙ get_or-map component_text name i [] part below))
+    ((name_facts name is.0).2 i [] below, sym (e ∙ ap (λ l. get_or l i part) (parts_spelled name text is) ∙ get_or-map component_text name i [] part below))
 
 pub parts_nonempty : (text : List ℕ) → 0 < length (parts_of text)
 parts_nonempty text = omega (arith, length-slice_split (λ b. b == 0x2F) text)

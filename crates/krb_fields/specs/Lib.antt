@@ -5,10 +5,12 @@ pub mod KdcOption
 pub mod Moment
 pub mod Name
 pub mod NameLimits
+pub mod NameLimitsLaws
 pub mod NameText
 pub mod Salt
 pub mod TicketFlag
 pub mod PrincipalName
 pub mod EncryptedData
 pub mod PaData
-pub mod HostAddress
+pub mod Typed
+pub mod NameCopies

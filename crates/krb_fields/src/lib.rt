@@ -7,7 +7,6 @@ mod code;
 mod encrypted_data;
 mod flags;
 mod flags_element;
-mod host_address;
 mod kdc_option;
 mod moment;
 mod name;
@@ -17,21 +16,23 @@ mod name_ref;
 mod name_text;
 mod pa_data;
 mod salt;
+mod second;
 mod ticket_flag;
+mod typed;
 
 pub use ap_option::ApOption;
 pub use code::Code;
 pub use encrypted_data::{EncryptedData, EncryptedDataRef};
 pub use flags::{Flags, NamedBit};
-pub use host_address::{HostAddress, HostAddressRef};
 pub use kdc_option::KdcOption;
 pub use moment::Moment;
-pub use name::Name;
+pub use name::{Name, NameRef};
 pub use name_limits::{MAX_COMPONENTS, MAX_OCTETS, is_component};
-pub use name_ref::NameRef;
 pub use name_text::{NT_PRINCIPAL, NameFault, component_from_text, component_to_text};
 pub use pa_data::{PaData, PaDataRef};
+pub use second::Second;
 pub use ticket_flag::TicketFlag;
+pub use typed::{HostAddress, HostAddressRef, Typed, TypedRef};
 
 #[cfg(test)]
 mod tests;

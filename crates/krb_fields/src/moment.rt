@@ -1,8 +1,12 @@
 //! The moment at which something happens.
 ghost use Rattle.std.specs.Prelude.{◌≡◌, ◌↔◌, IsSome, IfSome};
-ghost use Rattle.krb_fields.specs.Moment.{IsSecond, IsMicrosecond};
+ghost use Rattle.krb_elements.specs.Simple.{IsMicrosecond};
+ghost use Rattle.krb_fields.specs.Moment.{IsSecond};
 
-/// A moment in UTC, as a KerberosTime with its Microseconds gives it (RFC 4120 sections 5.2.3 and 5.2.4).
+use krb_der::KTime;
+use krb_elements::Microseconds;
+
+/// A moment in UTC, as a KerberosTime with its Microseconds gives it (RFC 4120, sections 5.2.3 and 5.2.4).
 #[derive(Clone, Copy, Debug, PartialEq, Eq)]
 pub struct Moment {
     /// Whole seconds since the start of 1970, 0 to 253402300799 (the end of the year 9999).
@@ -27,5 +31,18 @@ impl Moment {
         } else {
             None
         }
+    }
+    /// Its whole seconds, as a message has them.
+    pub fn time(self) -> KTime
+        ensures { result ≡ self.sec }
+    {
+        KTime::of(self.sec)
+    }
+
+    /// Its microseconds, as a message has them.
+    pub fn microseconds(self) -> Microseconds
+        ensures { result ≡ self.usec }
+    {
+        Microseconds::of(self.usec)
     }
 }

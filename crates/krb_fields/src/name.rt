@@ -1,8 +1,8 @@
 //! Names of principals.
-ghost use Rattle.std.specs.Prelude.{◌≡◌, IfOk, IsTrue, ◌↔◌};
+ghost use Rattle.std.specs.Prelude.{◌≡◌, IfOk, IsTrue, ◌↔◌, map};
 ghost use Rattle.krb_fields.specs.Name.{name_cmp};
 
-use krb_elements::{KerberosString, Seq};
+use krb_elements::{KerberosString, KerberosStringRef, Seq, SeqRef};
 use std::alloc::{AllocError, Global};
 use std::cmp::Ordering;
 
@@ -11,12 +11,29 @@ use std::cmp::Ordering;
 /// The name-type is a hint: names of the same components are the same principal, whatever their
 /// name-types (RFC 4120 section 6.2). So comparisons read the components alone.
 #[derive(Debug, Drop)]
-pub struct Name {
+pub struct Name<C = Seq<KerberosString>> {
     pub name_type: i32,
-    pub components: Seq<KerberosString>,
+    pub components: C,
 }
 
+/// A [`Name`] where it stands.
+pub type NameRef<'a> = Name<SeqRef<'a, KerberosStringRef<'a>>>;
+
 impl Name {
+    /// The name of these components.
+    pub fn new(alloc: Global, name_type: i32, components: &[&[u8]]) -> Result<Name, AllocError>
+        ensures { IfOk result (λ name. name ≡ record { name_type = name_type; components = map (λ c. c.now) components.now }) }
+    {
+        let mut owned = Seq::new(alloc);
+        for component in components {
+            owned.push(KerberosString::from_slice(alloc, component)?)?;
+        }
+        Ok(Name {
+            name_type,
+            components: owned,
+        })
+    }
+
     /// Orders names by their components, as Rust orders a `Vec<Vec<u8>>`.
     pub fn order(&self, other: &Name) -> Ordering
         ensures { result ≡ name_cmp self.now.components other.now.components }

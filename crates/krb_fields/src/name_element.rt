@@ -1,36 +1,55 @@
-//! Names as elements.
-ghost use Rattle.std.specs.Prelude.{◌≡◌, OnOk};
-ghost use Rattle.krb_fields.specs.PrincipalName.{SpellsName, name_at, name_ok, name_text, name_written};
+//! Names as they are read and written.
+ghost use Rattle.std.specs.Prelude.{◌≡◌, IfOk, OnOk};
+ghost use Rattle.krb_elements.specs.Codec.{itself};
+ghost use Rattle.krb_fields.specs.PrincipalName.{name_of, name_form};
 
 use crate::name::Name;
-use crate::name_ref::NameRef;
-use krb_der::{Reader, Writer};
-use krb_elements::{Element, ElementRef, Fault, put_field};
+use krb_der::{DerFault, Reader, Writer};
+use krb_elements::{
+    Coded, Decode, DecodeFields, Encode, EncodeFields, Fielded, MakeOwned, Untagged, take_field,
+    write_field,
+};
 use std::alloc::{AllocError, Global};
 
-impl Element for Name {
-    ghost tag = { 48 };
+impl<C: Coded> Coded for Name<C> {
+    ghost codec = { name_of C.codec };
+}
 
-    ghost text = { name_text };
+impl<C: Coded> Fielded for Name<C> {
+    type In = Untagged;
 
-    ghost Spells = { SpellsName };
+    ghost form = { name_form C.codec };
 
-    ghost at = { name_at };
+    ghost made = { itself };
+}
 
-    ghost is_element = { name_ok };
-
-    ghost is_written = { name_written };
-
-    fn read(alloc: Global, reader: &mut Reader<'_>) -> Result<Name, Fault> {
-        let found: NameRef<'_> = ElementRef::look(reader)?;
-        Ok(found.copy(alloc)?)
+impl<'a, C: Decode<'a>> DecodeFields<'a> for Name<C> {
+    #[tactic(auto, unfolding(crate::specs::PrincipalName::name_form))]
+    fn look_fields(fields: &mut Reader<'a>) -> Result<Name<C>, DerFault> {
+        Ok(Name {
+            name_type: take_field(fields, 0)?,
+            components: take_field(fields, 1)?,
+        })
     }
+}
 
-    #[tactic(auto, using(std::proofs::lemmas::List::append_assoc), unfolding(crate::specs::PrincipalName::name_text))]
-    fn put(&self, alloc: Global, out: &mut Writer) -> Result<(), AllocError> {
-        let mut fields = Writer::new(alloc);
-        put_field(alloc, &mut fields, 0xa0, &self.name_type)?;
-        put_field(alloc, &mut fields, 0xa1, &self.components)?;
-        out.put_tlv(0x30, &fields.finish())
+impl<C: Encode> EncodeFields for Name<C> {
+    #[tactic(auto, unfolding(crate::specs::PrincipalName::name_form))]
+    fn put_fields(&self, out: &mut Writer) -> Result<(), AllocError> {
+        write_field(out, 0, &self.name_type)?;
+        write_field(out, 1, &self.components)
+    }
+}
+
+impl<C: MakeOwned> MakeOwned for Name<C> {
+    type Owned = Name<C::Owned>;
+
+    ghost same = { λ x. record { name_type = x.name_type; components = C.same x.components } };
+
+    fn copy(&self, alloc: Global) -> Result<Name<C::Owned>, AllocError> {
+        Ok(Name {
+            name_type: self.name_type,
+            components: self.components.copy(alloc)?,
+        })
     }
 }

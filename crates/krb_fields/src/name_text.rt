@@ -3,7 +3,7 @@
 //! The components are joined by `/`. The octets 21 to 7E (hexadecimal) are written as they are, except
 //! `/`, `\` and `@`; those three and every other octet are written as `\` and two lower case
 //! hexadecimal digits. Nothing else is read, so a name has one text alone.
-ghost use Rattle.std.specs.Prelude.{◌≡◌, ◌≢◌, ◌<◌, ◌++◌, ℕ, List, false, IfOk, IfSome, IfNone, OnOk, MatchResult, string_bytes};
+ghost use Rattle.std.specs.Prelude.{◌≡◌, ◌≢◌, ◌<◌, ◌++◌, ℕ, List, false, IfOk, IfSome, IfNone, OnOk, MatchResult, pos, string_bytes};
 ghost use Rattle.krb_fields.specs.Name.{Components};
 ghost use Rattle.krb_fields.specs.NameLimits.{IsWithinLimits};
 ghost use Rattle.krb_fields.specs.NameText.{is_plain, hex_digit, digits_of, octet_text, component_text, text_of, IsComponentText, IsNameText};
@@ -13,8 +13,10 @@ use crate::Name;
 use crate::name_limits::{MAX_COMPONENTS, MAX_OCTETS};
 use krb_elements::{KerberosString, Seq};
 use std::alloc::{AllocError, AllocFailed, Global};
+use std::error::Error;
+use std::fmt;
 
-/// The name-type NT-PRINCIPAL (RFC 4120 section 6.2), which a name that is read from text has.
+/// The name-type NT-PRINCIPAL (RFC 4120, section 6.2), which a name that is read from text has.
 pub const NT_PRINCIPAL: i32 = 1;
 
 /// Why a text is read as no name.
@@ -24,6 +26,17 @@ pub enum NameFault {
     BadName,
     Memory,
 }
+
+impl fmt::Display for NameFault {
+    fn fmt<W: fmt::Write>(&self, f: &mut fmt::Formatter<W>) -> fmt::Result {
+        f.write_str(match self {
+            NameFault::BadName => "not the text of a name within the limits",
+            NameFault::Memory => "out of memory",
+        })
+    }
+}
+
+impl Error for NameFault {}
 
 impl From<AllocError> for NameFault {
     ghost from_gives = { λ _ fault. fault ≡ Memory };
@@ -47,7 +60,7 @@ impl Name {
     /// `BadName` is for a text that is the text of no such name.
     pub fn from_text(alloc: Global, text: &str) -> Result<Name, NameFault>
         ensures ok { IfOk result (λ name. IsNameText name.components text.now) }
-        ensures name_type { IfOk result (λ name. name.name_type ≡ NT_PRINCIPAL) }
+        ensures name_type { IfOk result (λ name. name.name_type ≡ pos 1) }
         ensures read { (n : Components) → IsNameText n text.now
             → MatchResult result (λ name. name.components ≡ n) (λ fault. fault ≡ Memory) }
     {

@@ -1,100 +1,64 @@
 //! PaData (RFC 4120, section 5.2.7).
 ghost use Rattle.std.specs.Prelude.{◌≡◌, IfOk, OnOk};
-ghost use Rattle.krb_fields.specs.PaData.{SpellsPaData, pa_data_at, pa_data_text, pa_data_ok, pa_data_written};
+ghost use Rattle.krb_elements.specs.Codec.{itself};
+ghost use Rattle.krb_fields.specs.PaData.{pa_data_of, pa_data_form};
 
 use krb_der::{DerFault, Reader, Writer};
-use krb_elements::{Element, ElementRef, Fault, Octets, OctetsRef, end_of, look_field, put_field};
+use krb_elements::{
+    Coded, Decode, DecodeFields, Encode, EncodeFields, Fielded, MakeOwned, Octets, OctetsRef,
+    Untagged, take_field, write_field,
+};
 use std::alloc::{AllocError, Global};
-use std::marker::Model;
 
 /// Data for preauthentication, or other data that goes with a request or a reply, by its type.
 #[derive(Debug, Drop)]
-pub struct PaData {
+pub struct PaData<V = Octets> {
     pub padata_type: i32,
-    pub padata_value: Octets,
+    pub padata_value: V,
 }
 
-/// A PaData where it stands.
-#[derive(Debug, Drop)]
-pub struct PaDataRef<'a> {
-    padata_type: i32,
-    padata_value: OctetsRef<'a>,
+/// A [`PaData`] where it stands.
+pub type PaDataRef<'a> = PaData<OctetsRef<'a>>;
+
+impl<V: Coded> Coded for PaData<V> {
+    ghost codec = { pa_data_of V.codec };
 }
 
-impl<'a> Model for PaDataRef<'a> {
-    ghost use Rattle.krb_fields.specs.declared.pa_data.PaData.{PaData};
+impl<V: Coded> Fielded for PaData<V> {
+    type In = Untagged;
 
-    ghost Value = { PaData };
+    ghost form = { pa_data_form V.codec };
 
-    ghost view = { λ r. record { padata_type = r.padata_type; padata_value = r.padata_value } };
+    ghost made = { itself };
 }
 
-impl<'a> PaDataRef<'a> {
-    pub fn padata_type(&self) -> i32
-        ensures { result ≡ self.now.padata_type }
-    {
-        self.padata_type
+impl<'a, V: Decode<'a>> DecodeFields<'a> for PaData<V> {
+    #[tactic(auto, unfolding(crate::specs::PaData::pa_data_form))]
+    fn look_fields(fields: &mut Reader<'a>) -> Result<PaData<V>, DerFault> {
+        Ok(PaData {
+            padata_type: take_field(fields, 1)?,
+            padata_value: take_field(fields, 2)?,
+        })
     }
+}
 
-    pub fn padata_value(&self) -> &'a [u8]
-        ensures { result.now ≡ self.now.padata_value }
-    {
-        self.padata_value.as_slice()
+impl<V: Encode> EncodeFields for PaData<V> {
+    #[tactic(auto, unfolding(crate::specs::PaData::pa_data_form))]
+    fn put_fields(&self, out: &mut Writer) -> Result<(), AllocError> {
+        write_field(out, 1, &self.padata_type)?;
+        write_field(out, 2, &self.padata_value)
     }
+}
 
-    pub fn copy(&self, alloc: Global) -> Result<PaData, AllocError>
-        ensures { IfOk result (λ copy. copy ≡ self.now) }
-    {
+impl<V: MakeOwned> MakeOwned for PaData<V> {
+    type Owned = PaData<V::Owned>;
+
+    ghost same = { λ x. record { padata_type = x.padata_type; padata_value = V.same x.padata_value } };
+
+    fn copy(&self, alloc: Global) -> Result<PaData<V::Owned>, AllocError> {
         Ok(PaData {
             padata_type: self.padata_type,
             padata_value: self.padata_value.copy(alloc)?,
         })
-    }
-}
-
-impl<'a> ElementRef<'a> for PaDataRef<'a> {
-    ghost Spells = { SpellsPaData };
-
-    ghost at = { pa_data_at };
-
-    ghost is_element = { pa_data_ok };
-
-    #[tactic(auto, unfolding(crate::specs::PaData::pa_data_at))]
-    fn look(reader: &mut Reader<'a>) -> Result<PaDataRef<'a>, DerFault> {
-        let mut fields = Reader::new(reader.read_tlv(0x30)?);
-        let padata_type = look_field(&mut fields, 0xa1)?;
-        let padata_value = look_field(&mut fields, 0xa2)?;
-        end_of(&fields)?;
-        Ok(PaDataRef {
-            padata_type,
-            padata_value,
-        })
-    }
-}
-
-impl Element for PaData {
-    ghost tag = { 48 };
-
-    ghost text = { pa_data_text };
-
-    ghost Spells = { SpellsPaData };
-
-    ghost at = { pa_data_at };
-
-    ghost is_element = { pa_data_ok };
-
-    ghost is_written = { pa_data_written };
-
-    fn read(alloc: Global, reader: &mut Reader<'_>) -> Result<PaData, Fault> {
-        let found: PaDataRef<'_> = ElementRef::look(reader)?;
-        Ok(found.copy(alloc)?)
-    }
-
-    #[tactic(auto, using(std::proofs::lemmas::List::append_assoc), unfolding(crate::specs::PaData::pa_data_text))]
-    fn put(&self, alloc: Global, out: &mut Writer) -> Result<(), AllocError> {
-        let mut fields = Writer::new(alloc);
-        put_field(alloc, &mut fields, 0xa1, &self.padata_type)?;
-        put_field(alloc, &mut fields, 0xa2, &self.padata_value)?;
-        out.put_tlv(0x30, &fields.finish())
     }
 }

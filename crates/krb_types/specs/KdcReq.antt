@@ -1,117 +1,130 @@
 -- KDC-REQ (RFC 4120, section 5.4.1): AS-REQ and TGS-REQ, which differ in their tag alone.
-use Rattle.std.proofs.Common.{◌≡◌, ℕ, ℤ, ◌^◌, ◌≤◌, ◌<◌, Bool, true, false, if◌then◌else◌, cond, eqb, List, ◌∷◌, [], ◌++◌, length, Option, Result, Ok, lit<, lit≤, refl, sym, ap, subst, ◌∙◌}
+use Rattle.std.proofs.Common.{◌≡◌, ℕ, ◌+◌, ℤ, ◌<◌, ◌*◌, List, length, Option, Some, None, Result, Ok, Err, refl, arith}
+use Rattle.std.specs.Prelude.{IfOk}
 use Rattle.krb_der.specs.declared.fault.DerFault.{DerFault}
-use Rattle.krb_der.specs.Int.{int_octets}
-use Rattle.krb_der.specs.Spelling.{tlv}
 use Rattle.krb_der.specs.Steps.{IsBytes}
-use Rattle.krb_elements.specs.Format.{whole, inside, starts, field, field_of, optional, end, sent, seen_as, list_at}
-use Rattle.krb_elements.specs.Spells.{Inside, SeenAs, Field, Optional, End, Sent, ListOf}
-use Rattle.krb_elements.specs.Written.{field_then, optional_then, no_more, items_text}
-use Rattle.krb_elements.specs.Simple.{Int32, int32_at}
-use Rattle.krb_elements.specs.Laws.{IsElement, IsWhole, AreFields, inside_ok, whole_ok, field_ok, field_of_ok, optional_ok, sent_ok, seen_ok, end_ok, list_ok, inside_starts}
-use Rattle.krb_elements.specs.SimpleLaws.{int32_ok}
-use Rattle.krb_fields.specs.declared.pa_data.PaData.{PaData}
-use Rattle.krb_fields.specs.PaData.{SpellsPaData, pa_data_at, pa_data_text, pa_data_ok}
-use Rattle.krb_types.specs.declared.req_body.ReqBody.{ReqBody}
+use Rattle.krb_elements.specs.Codec.{Codec, Record, Fields, SpellsFields, field, optional, sent_field, end, sequence, in_tag, list_of, int32}
+use Rattle.krb_elements.specs.CodecLaws.{either_ok}
+use Rattle.krb_elements.specs.FieldReading.{either_inside}
+use Rattle.krb_elements.specs.Laws.{IsElement}
+use Rattle.krb_elements.specs.Sent.{WithOctets}
+use Rattle.krb_elements.specs.Spells.{InTagOf, Field, Optional, OptionalOf, Sent, End}
+use Rattle.krb_elements.specs.WrittenLaws.{tlv_longer}
+use Rattle.krb_fields.specs.PaData.{PaData, pa_data}
+use Rattle.krb_types.specs.ReqBody.{ReqBody, req_body}
 use Rattle.krb_types.specs.declared.kdc_req.Exchange.{Exchange}
 use Rattle.krb_types.specs.declared.kdc_req.Exchange.TheVariants.{As, Tgs}
-use Rattle.krb_types.specs.declared.kdc_req.KdcReq.{KdcReq}
-use Rattle.krb_types.specs.ReqBody.{SpellsReqBody, req_body_at, req_body_text, req_body_ok}
+use Rattle.krb_types.specs.declared.kdc_req.KdcReq as trees
 
--- APPLICATION 10 and 12
-abbrev pub message_tag : Exchange → ℕ
-message_tag As = 106
-message_tag Tgs = 108
+abbrev pub KdcReq : Type 0
+KdcReq = trees.KdcReq (List PaData) ReqBody
 
--- the body is read with its octets as they were sent
-abbrev pub Fields : Type 0
-Fields = ℤ × (ℤ × (Option (List PaData) × ((ReqBody × List ℕ) × Unit {0})))
+-- the body with its octets as they were sent
+abbrev pub Received : Type 0
+Received = trees.KdcReq (List PaData) (WithOctets ReqBody)
 
-abbrev pub fields_of : KdcReq → Fields
-fields_of x = (x.pvno, (x.msg_type, (x.padata, ((x.body, x.body_octets), tt))))
+-- all fields but the body
+abbrev before_body : {P B : Type 0} → Codec P → Fields (trees.KdcReq P B) → Fields (trees.KdcReq P B)
+before_body p body = field 1 (λ x. x.pvno) int32 (field 2 (λ x. x.msg_type) int32 (optional 3 (λ x. x.padata) p body))
 
-abbrev pub made_of : Exchange → Fields → KdcReq
-made_of exchange x = record { exchange = exchange; pvno = x.0; msg_type = x.1.0; padata = x.1.1.0; body = x.1.1.1.0.0; body_octets = x.1.1.1.0.1 }
-
-abbrev pub SpellsFields : Fields → List ℕ → Type 0
-SpellsFields = Inside 48 (Field 161 Int32 (Field 162 Int32 (Optional 163 (ListOf SpellsPaData) (Field 164 (Sent SpellsReqBody) End))))
-
-abbrev pub SpellsKdcReq : KdcReq → List ℕ → Type 0
-SpellsKdcReq x = Inside (message_tag x.exchange) SpellsFields (fields_of x)
-
-unfoldable pub fields_at : List ℕ → Result (Fields × List ℕ) DerFault
-fields_at =
-    inside 48 (field 161 int32_at (field 162 int32_at (optional 163 (list_at pa_data_at) (field_of 164 (sent (whole req_body_at)) end))))
-
-abbrev pub message_at : Exchange → List ℕ → Result (KdcReq × List ℕ) DerFault
-message_at exchange = seen_as (made_of exchange) (inside (message_tag exchange) (whole fields_at))
-
--- a TGS-REQ where its tag stands, else an AS-REQ
-unfoldable pub kdc_req_at : List ℕ → Result (KdcReq × List ℕ) DerFault
-kdc_req_at bytes = if starts 108 bytes then message_at Tgs bytes else message_at As bytes
-
--- what is written: the octets of the body as they were sent take no part
-unfoldable pub kdc_req_fields : KdcReq → List ℕ
-kdc_req_fields x =
-    field_then 161 2 int_octets (field_then 162 2 int_octets (optional_then 163 48 (items_text 48 pa_data_text) (field_then 164 48 req_body_text no_more)))
-    (x.pvno, (x.msg_type, (x.padata, (x.body, tt))))
-
-abbrev pub kdc_req_text : KdcReq → List ℕ
-kdc_req_text x = tlv 48 (kdc_req_fields x)
-
--- ---- what is read is spelled so, and what is spelled so is read
-
-fields_ok : IsElement SpellsFields fields_at
-unfolding fields_at
-fields_ok =
-    inside_ok 48 _ _ are.whole
-  where
-    are : AreFields 161 (Field 161 Int32 (Field 162 Int32 (Optional 163 (ListOf SpellsPaData) (Field 164 (Sent SpellsReqBody) End)))) (field 161 int32_at (field 162 int32_at (optional 163 (list_at pa_data_at) (field_of 164 (sent (whole req_body_at)) end))))
-    are =
-        field_ok 161 161 162 _ _ _ _ (lit≤ tt) int32_ok
-        (field_ok 162 162 163 _ _ _ _ (lit≤ tt) int32_ok
-        (optional_ok 163 163 164 _ _ _ _ (lit≤ tt) (lit< tt) (list_ok _ _ pa_data_ok)
-        (field_of_ok 164 164 165 _ _ _ _ (lit≤ tt) (sent_ok _ _ (whole_ok _ _ req_body_ok.reading))
-        (end_ok 165))))
-
-tagged_ok : (exchange : Exchange) → IsElement (Inside (message_tag exchange) SpellsFields) (inside (message_tag exchange) (whole fields_at))
-tagged_ok exchange = inside_ok (message_tag exchange) SpellsFields (whole fields_at) (whole_ok SpellsFields fields_at fields_ok.reading)
-
-message_ok : (exchange : Exchange) → IsElement (SeenAs (made_of exchange) (Inside (message_tag exchange) SpellsFields)) (message_at exchange)
-message_ok exchange = seen_ok (made_of exchange) _ _ (tagged_ok exchange)
-
--- a message of the one exchange or of the other
-chosen_takes : (b : Bool) (bytes : List ℕ) (x : KdcReq) (rest : List ℕ) → IsBytes bytes → cond b (message_at Tgs bytes) (message_at As bytes) ≡ Ok (x, rest)
-    → (front : List ℕ) × SpellsKdcReq x front × (bytes ≡ front ++ rest)
-chosen_takes true bytes x rest fits e =
-    let t = (message_ok Tgs).reading.takes bytes x rest fits e in
-    (t.0, subst (λ (y : KdcReq). SpellsKdcReq y t.0) t.1.2 t.1.1, t.2)
-chosen_takes false bytes x rest fits e =
-    let t = (message_ok As).reading.takes bytes x rest fits e in
-    (t.0, subst (λ (y : KdcReq). SpellsKdcReq y t.0) t.1.2 t.1.1, t.2)
-
-chosen_shorter : (b : Bool) (bytes : List ℕ) (x : KdcReq) (rest : List ℕ) → cond b (message_at Tgs bytes) (message_at As bytes) ≡ Ok (x, rest) → length rest < length bytes
-chosen_shorter true bytes x rest e = (message_ok Tgs).shorter bytes x rest e
-chosen_shorter false bytes x rest e = (message_ok As).shorter bytes x rest e
-
-exchange_again : (exchange : Exchange) (x : Fields) (front rest : List ℕ) → Inside (message_tag exchange) SpellsFields x front → kdc_req_at (front ++ rest) ≡ Ok (made_of exchange x, rest)
-unfolding kdc_req_at
-exchange_again As x front rest s = rw (inside_starts 106 108 SpellsFields x front rest s) ((message_ok As).reading.again (made_of As x) front rest (x, s, refl))
-exchange_again Tgs x front rest s = rw (inside_starts 108 108 SpellsFields x front rest s) ((message_ok Tgs).reading.again (made_of Tgs x) front rest (x, s, refl))
-
-pub kdc_req_ok : IsElement SpellsKdcReq kdc_req_at
-unfolding kdc_req_at
-kdc_req_ok = record {
-  reading = record {
-    takes = λ bytes x rest fits e. chosen_takes (starts 108 bytes) bytes x rest fits e;
-    again = λ x front rest s. exchange_again x.exchange (fields_of x) front rest s;
-  };
-  value = λ x front s. (message_tag x.exchange, s.0, s.1, s.3);
-  shorter = λ bytes x rest e. chosen_shorter (starts 108 bytes) bytes x rest e;
+unfoldable pub kdc_req_form : Record KdcReq
+kdc_req_form = record {
+  fields = before_body (list_of pa_data) (field 4 (λ x. x.body) req_body end);
+  to = λ (pvno, (msg_type, (padata, (body, _)))). record { pvno = pvno; msg_type = msg_type; padata = padata; body = body };
+  there = λ v. refl;
+  back = λ x. refl;
+  rising = refl;
 }
 
--- ---- what is written
+unfoldable pub received_form : Record Received
+received_form = record {
+  fields = before_body (list_of pa_data) (sent_field 4 (λ x. x.body) req_body end);
+  to = λ (pvno, (msg_type, (padata, (body, _)))). record { pvno = pvno; msg_type = msg_type; padata = padata; body = body };
+  there = λ v. refl;
+  back = λ x. refl;
+  rising = refl;
+}
 
--- the octets that are written
-abbrev pub written_kdc_req : KdcReq → List ℕ
-written_kdc_req x = tlv (message_tag x.exchange) (kdc_req_text x)
+-- the message type, which is also the number of its APPLICATION tag
+abbrev pub request_type : Exchange → ℕ
+request_type As = 10
+request_type Tgs = 12
+
+abbrev pub message_tag : Exchange → ℕ
+message_tag exchange = 96 + request_type exchange
+
+abbrev pub message : Exchange → Codec KdcReq
+message exchange = in_tag (Some (message_tag exchange)) (sequence kdc_req_form)
+
+-- a message of either exchange: a TGS-REQ where its tag stands, else an AS-REQ
+abbrev pub SpellsKdcReq : Exchange × KdcReq → List ℕ → Type 0
+SpellsKdcReq = InTagOf message_tag (sequence kdc_req_form).Spells
+
+abbrev pub kdc_req_at : List ℕ → Result ((Exchange × KdcReq) × List ℕ) DerFault
+kdc_req_at = either_inside (message_tag As, As) (message_tag Tgs, Tgs) (sequence kdc_req_form).at
+
+abbrev pub SpellsReceived : Exchange × Received → List ℕ → Type 0
+SpellsReceived = InTagOf message_tag (sequence received_form).Spells
+
+abbrev pub received_at : List ℕ → Result ((Exchange × Received) × List ℕ) DerFault
+received_at = either_inside (message_tag As, As) (message_tag Tgs, Tgs) (sequence received_form).at
+
+each : (P : Exchange → Type 0) → P As → P Tgs → (x : Exchange) → P x
+each P a t As = a
+each P a t Tgs = t
+
+pub kdc_req_ok : IsElement SpellsKdcReq kdc_req_at
+kdc_req_ok = either_ok message_tag As Tgs each refl _ _ (sequence kdc_req_form).laws.element
+
+pub received_ok : IsElement SpellsReceived received_at
+received_ok = either_ok message_tag As Tgs each refl _ _ (sequence received_form).laws.element
+
+-- ---- a request that was received, without the octets of its body
+
+abbrev pub without_octets : Received → KdcReq
+without_octets r = record { pvno = r.pvno; msg_type = r.msg_type; padata = r.padata; body = r.body.value }
+
+later : {A B C : Type 0} (tag : ℕ) (S : A → List ℕ → Type 0) (G : B → List ℕ → Type 0) (H : C → List ℕ → Type 0) (f : B → C) → ((y : B) (bytes : List ℕ) → G y bytes → H (f y) bytes)
+    → (x : A) (y : B) (bytes : List ℕ) → Field tag S G (x, y) bytes → Field tag S H (x, f y) bytes
+later tag S G H f h x y bytes s = (s.0, s.1, s.2, h y s.1 s.3, s.4)
+
+later_maybe : {A B C : Type 0} (tag : ℕ) (S : A → List ℕ → Type 0) (G : B → List ℕ → Type 0) (H : C → List ℕ → Type 0) (f : B → C) → ((y : B) (bytes : List ℕ) → G y bytes → H (f y) bytes)
+    → (o : Option A) (y : B) (bytes : List ℕ) → OptionalOf tag S G o y bytes → OptionalOf tag S H o (f y) bytes
+later_maybe tag S G H f h None y bytes s = h y bytes s
+later_maybe tag S G H f h (Some x) y bytes s = later tag S G H f h x y bytes s
+
+abbrev Body : Type 0
+Body = WithOctets ReqBody × Unit {0}
+
+abbrev alone : Body → ReqBody × Unit {0}
+alone v = (v.0.value, tt)
+
+body_alone : (v : Body) (bytes : List ℕ) → Field 164 (Sent req_body.Spells) End v bytes → Field 164 req_body.Spells End (alone v) bytes
+body_alone v bytes s = (s.0, s.1, (s.2.0, s.2.1, s.2.2.0, s.2.3), s.3, s.4)
+
+abbrev Padata : Type 0
+Padata = Option (List PaData) × Body
+
+from_padata : (v : Padata) (bytes : List ℕ) → Optional 163 (list_of pa_data).Spells (Field 164 (Sent req_body.Spells) End) v bytes → Optional 163 (list_of pa_data).Spells (Field 164 req_body.Spells End) (v.0, alone v.1) bytes
+from_padata v bytes s = later_maybe 163 (list_of pa_data).Spells (Field 164 (Sent req_body.Spells) End) (Field 164 req_body.Spells End) alone body_alone v.0 v.1 bytes s
+
+from_type : (v : ℤ × Padata) (bytes : List ℕ) → Field 162 int32.Spells (Optional 163 (list_of pa_data).Spells (Field 164 (Sent req_body.Spells) End)) v bytes
+    → Field 162 int32.Spells (Optional 163 (list_of pa_data).Spells (Field 164 req_body.Spells End)) (v.0, (v.1.0, alone v.1.1)) bytes
+from_type v bytes s = later 162 int32.Spells (Optional 163 (list_of pa_data).Spells (Field 164 (Sent req_body.Spells) End)) (Optional 163 (list_of pa_data).Spells (Field 164 req_body.Spells End)) (λ w. (w.0, alone w.1)) from_padata v.0 v.1 bytes s
+
+fields_alone : (r : Received) (bytes : List ℕ) → SpellsFields received_form r bytes → SpellsFields kdc_req_form (without_octets r) bytes
+unfolding received_form kdc_req_form
+fields_alone r bytes s = (s.0, s.1, s.2, from_type (r.msg_type, (r.padata, (r.body, tt))) s.1 s.3, s.4)
+
+-- it is spelled by the same octets
+pub is_request : (exchange : Exchange) (r : Received) (bytes : List ℕ) → SpellsReceived (exchange, r) bytes → SpellsKdcReq (exchange, without_octets r) bytes
+is_request exchange r bytes s = (s.0, s.1, (s.2.0, s.2.1, fields_alone r s.2.0 s.2.2, s.2.3), s.3)
+
+pub request_if : {E : Type 0} (r : Result (Exchange × Received) E) (bytes : List ℕ) → IfOk r (λ x. SpellsReceived x bytes) → IfOk r (λ x. SpellsKdcReq (x.0, without_octets x.1) bytes)
+request_if (Ok x) bytes s = is_request x.0 x.1 bytes s
+request_if (Err e) bytes s = tt
+
+-- what is written of it has less than three times its octets
+pub short_if_decoded : {E : Type 0} (r : Result (Exchange × KdcReq) E) (bytes : List ℕ) → IsBytes bytes → IfOk r (λ x. SpellsKdcReq x bytes) → IfOk r (λ x. length ((message x.0).text x.1) < 3 * length bytes)
+short_if_decoded (Ok x) bytes fits h = omega (arith, tlv_longer (message_tag x.0) ((message x.0).text x.1), (message x.0).laws.short.is x.1 bytes fits h)
+short_if_decoded (Err e) bytes fits h = tt

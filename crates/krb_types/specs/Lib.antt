@@ -1,8 +1,7 @@
 pub mod Ticket
 pub mod ReqBody
 pub mod KdcReq
-pub mod KdcReqWritten
 pub mod KrbError
 pub mod NameInRequest
 pub mod ShortName
-pub mod KrbErrorFits
+pub mod Copied

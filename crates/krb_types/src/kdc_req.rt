@@ -1,19 +1,21 @@
 //! KDC-REQ (RFC 4120, section 5.4.1): AS-REQ and TGS-REQ.
-ghost use Rattle.std.specs.Prelude.{◌≡◌, ◌<◌, ◌^◌, ◌*◌, ◌++◌, List, ℕ, length, IfOk, OnOk};
-ghost use Rattle.krb_der.specs.Steps.{IsBytes};
-ghost use Rattle.krb_elements.specs.Format.{Decodes, IsReadUnlessMemory, whole};
-ghost use Rattle.krb_elements.specs.Written.{field_text};
-ghost use Rattle.krb_types.specs.ReqBody.{req_body_text};
-ghost use Rattle.krb_types.specs.KdcReq.{SpellsKdcReq, message_tag, kdc_req_at, kdc_req_fields, kdc_req_text, written_kdc_req};
-ghost use Rattle.krb_types.specs.KdcReqWritten.{with_body_octets, as_written};
-ghost use Rattle.krb_types.specs.declared.kdc_req.KdcReq as trees;
+ghost use Rattle.std.specs.Prelude.{◌≡◌, ◌<◌, ◌^◌, ◌*◌, length, IfOk, OnOk, IsOkAnd};
+ghost use Rattle.krb_elements.specs.Codec.{itself, sequence, written};
+ghost use Rattle.krb_elements.specs.Format.{Decodes, IsReadUnlessMemory, Sees, whole};
+ghost use Rattle.krb_types.specs.KdcReq.{kdc_req_form, received_form, request_type, message_tag, message, Received, SpellsKdcReq, kdc_req_at, SpellsReceived, received_at, without_octets};
+ghost use Rattle.krb_types.specs.KdcReq as trees;
+ghost use Rattle.krb_types.specs.ShortName.{IsShorter};
+ghost use Rattle.krb_types.specs.declared.kdc_req.Exchange as exchanges;
 
-use crate::application::put_application;
-use crate::kdc_req_ref::read_kdc_req;
-use crate::req_body::ReqBody;
-use krb_der::Writer;
-use krb_elements::{Fault, Octets, Seq, put_field, put_optional};
-use krb_fields::PaData;
+use crate::numbers::{AS_REQ, TGS_REQ};
+use crate::req_body::{ReqBody, ReqBodyRef};
+use krb_der::{DerFault, Reader, Writer};
+use krb_elements::{
+    Coded, DecodeFields, EncodeFields, Fault, Fielded, MakeOwned, Sent, Seq, SeqRef, Untagged,
+    application_tag, end_of, look_either, take_field, take_optional, take_sent, write_field,
+    write_inside, write_optional,
+};
+use krb_fields::{PaData, PaDataRef};
 use std::alloc::{AllocError, Global};
 
 /// Which of the two exchanges with a KDC a message belongs to.
@@ -25,87 +27,203 @@ pub enum Exchange {
     Tgs,
 }
 
-/// An AS-REQ or a TGS-REQ.
-#[derive(Debug, Drop)]
-pub struct KdcReq {
-    pub exchange: Exchange,
-    pub pvno: i32,
-    pub msg_type: i32,
-    pub padata: Option<Seq<PaData>>,
-    pub body: ReqBody,
-    /// The octets of the body as they were sent, over which a checksum is made. Writing doesn't read them.
-    pub body_octets: Octets,
-}
-
 impl Exchange {
-    /// The tag of its requests.
-    pub(crate) fn request_tag(self) -> u8
-        ensures { result ≡ message_tag self }
+    /// The message type of its requests.
+    pub fn request_type(self) -> u8
+        ensures { result ≡ request_type self }
     {
         match self {
-            Exchange::As => 0x6a,
-            Exchange::Tgs => 0x6c,
+            Exchange::As => AS_REQ,
+            Exchange::Tgs => TGS_REQ,
         }
     }
-}
 
-impl KdcReq {
-    #[tactic(auto, using(std::proofs::lemmas::List::append_assoc), unfolding(crate::specs::KdcReq::kdc_req_fields))]
-    fn put_fields(&self, alloc: Global, fields: &mut Writer) -> Result<(), AllocError>
-        requires { length (kdc_req_fields self.now) < 2 ^ 32 }
-        ensures { OnOk result (fields.new ≡ fields.old ++ kdc_req_fields self.now) }
+    /// The tag of its requests.
+    fn request_tag(self) -> u8
+        ensures { result ≡ message_tag self }
     {
-        put_field(alloc, fields, 0xa1, &self.pvno)?;
-        put_field(alloc, fields, 0xa2, &self.msg_type)?;
-        put_optional(alloc, fields, 0xa3, &self.padata)?;
-        self.put_body(alloc, fields)
+        application_tag(self.request_type())
     }
 
-    #[tactic(auto, using(krb_elements::specs::WrittenLaws::tlv_longer))]
-    fn put_body(&self, alloc: Global, fields: &mut Writer) -> Result<(), AllocError>
-        requires { length (field_text 164 48 (req_body_text self.now.body)) < 2 ^ 32 }
-        ensures { OnOk result (fields.new ≡ fields.old ++ field_text 164 48 (req_body_text self.now.body)) }
+    fn tagged(self) -> (u8, Exchange)
+        ensures { result ≡ (message_tag self, self) }
     {
-        let mut body = Writer::new(alloc);
-        self.body.put(alloc, &mut body)?;
-        fields.put_tlv(0xa4, &body.finish())
+        (self.request_tag(), self)
     }
 }
 
-fn decode_all(alloc: Global, bytes: &[u8]) -> Result<KdcReq, Fault>
+/// An AS-REQ or a TGS-REQ. Reading judges neither its version nor its message type.
+#[derive(Debug, Drop)]
+pub struct KdcReq<P = Seq<PaData>, B = ReqBody> {
+    pub pvno: i32,
+    pub msg_type: i32,
+    pub padata: Option<P>,
+    pub body: B,
+}
+
+/// A [`KdcReq`] where it stands, with the octets of its body as they were sent, over which a checksum is made.
+pub type KdcReqRef<'a> = KdcReq<SeqRef<'a, PaDataRef<'a>>, Sent<'a, ReqBodyRef<'a>>>;
+
+/// The same without the octets of its body.
+type WithoutOctets<'a> = KdcReq<SeqRef<'a, PaDataRef<'a>>, ReqBodyRef<'a>>;
+
+impl<'a> Coded for KdcReqRef<'a> {
+    ghost codec = { sequence received_form };
+}
+
+impl<'a> Fielded for KdcReqRef<'a> {
+    type In = Untagged;
+
+    ghost form = { received_form };
+
+    ghost made = { itself };
+}
+
+impl<'a> DecodeFields<'a> for KdcReqRef<'a> {
+    #[tactic(auto, unfolding(crate::specs::KdcReq::received_form))]
+    fn look_fields(fields: &mut Reader<'a>) -> Result<KdcReqRef<'a>, DerFault> {
+        Ok(KdcReq {
+            pvno: take_field(fields, 1)?,
+            msg_type: take_field(fields, 2)?,
+            padata: take_optional(fields, 3)?,
+            body: take_sent(fields, 4)?,
+        })
+    }
+}
+
+impl<'a> Coded for WithoutOctets<'a> {
+    ghost codec = { sequence kdc_req_form };
+}
+
+impl<'a> Fielded for WithoutOctets<'a> {
+    type In = Untagged;
+
+    ghost form = { kdc_req_form };
+
+    ghost made = { itself };
+}
+
+impl<'a> DecodeFields<'a> for WithoutOctets<'a> {
+    #[tactic(auto, unfolding(crate::specs::KdcReq::kdc_req_form))]
+    fn look_fields(fields: &mut Reader<'a>) -> Result<WithoutOctets<'a>, DerFault> {
+        Ok(KdcReq {
+            pvno: take_field(fields, 1)?,
+            msg_type: take_field(fields, 2)?,
+            padata: take_optional(fields, 3)?,
+            body: take_field(fields, 4)?,
+        })
+    }
+}
+
+impl Coded for KdcReq {
+    ghost codec = { sequence kdc_req_form };
+}
+
+impl Fielded for KdcReq {
+    type In = Untagged;
+
+    ghost form = { kdc_req_form };
+
+    ghost made = { itself };
+}
+
+impl EncodeFields for KdcReq {
+    #[tactic(auto, unfolding(crate::specs::KdcReq::kdc_req_form))]
+    fn put_fields(&self, out: &mut Writer) -> Result<(), AllocError> {
+        write_field(out, 1, &self.pvno)?;
+        write_field(out, 2, &self.msg_type)?;
+        write_optional(out, 3, &self.padata)?;
+        write_field(out, 4, &self.body)
+    }
+}
+
+fn copied_data<'a>(
+    alloc: Global,
+    found: &Option<SeqRef<'a, PaDataRef<'a>>>,
+) -> Result<Option<Seq<PaData>>, AllocError>
+    ensures { IfOk result (λ copy. copy ≡ found.now) }
+{
+    found.copy(alloc)
+}
+
+fn copied_body(alloc: Global, found: &ReqBodyRef<'_>) -> Result<ReqBody, AllocError>
+    ensures { IfOk result (λ copy. copy ≡ found.now) }
+{
+    found.copy(alloc)
+}
+
+fn copied(alloc: Global, found: &WithoutOctets<'_>) -> Result<KdcReq, AllocError>
+    ensures { IfOk result (λ copy. copy ≡ found.now) }
+{
+    Ok(KdcReq {
+        pvno: found.pvno,
+        msg_type: found.msg_type,
+        padata: copied_data(alloc, &found.padata)?,
+        body: copied_body(alloc, &found.body)?,
+    })
+}
+
+fn look_message(bytes: &[u8]) -> Result<(Exchange, KdcReqRef<'_>), DerFault>
+    ensures { Sees result (whole received_at bytes.now) }
+{
+    let mut reader = Reader::new(bytes);
+    let found = look_either(&mut reader, Exchange::As.tagged(), Exchange::Tgs.tagged())?;
+    end_of(&reader)?;
+    Ok(found)
+}
+
+/// Reads an AS-REQ or a TGS-REQ where it stands, without memory.
+pub fn read_kdc_req(bytes: &[u8]) -> Result<(Exchange, KdcReqRef<'_>), DerFault>
+    // What is read is spelled so.
+    ensures found { IfOk result (λ x. SpellsReceived x bytes.now) }
+    // What is spelled so is read.
+    ensures only { (x : exchanges.Exchange × Received) → SpellsReceived x bytes.now → IsOkAnd result (λ y. y ≡ x) }
+    // Which fault it is.
+    ensures exact { Sees result (whole received_at bytes.now) }
+    // Without the octets of its body it is the request that they spell.
+    ensures request { IfOk result (λ x. SpellsKdcReq (x.0, without_octets x.1) bytes.now) }
+    // The service that is named has a text shorter than the request, so an answer that repeats it has a spelling.
+    ensures short { IfOk result (λ x. IsShorter bytes.now x.1.body.value.sname) }
+{
+    look_message(bytes)
+}
+
+fn look_without_octets(bytes: &[u8]) -> Result<(Exchange, WithoutOctets<'_>), DerFault>
+    ensures { Sees result (whole kdc_req_at bytes.now) }
+{
+    let mut reader = Reader::new(bytes);
+    let found = look_either(&mut reader, Exchange::As.tagged(), Exchange::Tgs.tagged())?;
+    end_of(&reader)?;
+    Ok(found)
+}
+
+fn decode_all(alloc: Global, bytes: &[u8]) -> Result<(Exchange, KdcReq), Fault>
     ensures { Decodes result (whole kdc_req_at bytes.now) }
 {
-    let found = read_kdc_req(bytes)?;
-    Ok(found.copy(alloc)?)
+    let found = look_without_octets(bytes)?;
+    Ok((found.0, copied(alloc, &found.1)?))
 }
 
 /// The AS-REQ or the TGS-REQ that the octets spell.
-pub fn decode_kdc_req(alloc: Global, bytes: &[u8]) -> Result<KdcReq, Fault>
-    ensures found { IfOk result (λ request. SpellsKdcReq request bytes.now) }
-    ensures only { (request : trees.KdcReq) → SpellsKdcReq request bytes.now → IsReadUnlessMemory result request }
+pub fn decode_kdc_req(alloc: Global, bytes: &[u8]) -> Result<(Exchange, KdcReq), Fault>
+    ensures found { IfOk result (λ x. SpellsKdcReq x bytes.now) }
+    ensures only { (x : exchanges.Exchange × trees.KdcReq) → SpellsKdcReq x bytes.now → IsReadUnlessMemory result x }
     ensures exact { Decodes result (whole kdc_req_at bytes.now) }
     // What was read can be written.
-    ensures short { IfOk result (λ request. length (kdc_req_text request) < 3 * length bytes.now) }
+    ensures short { IfOk result (λ x. length ((message x.0).text x.1) < 3 * length bytes.now) }
 {
     decode_all(alloc, bytes)
 }
 
-/// The octets of the request. The octets of its body as they were sent aren't read.
-#[tactic(auto, using(krb_elements::specs::WrittenLaws::tlv_longer))]
-pub fn encode_kdc_req(alloc: Global, request: &KdcReq) -> Result<Vec<u8>, AllocError>
-    requires { length (kdc_req_text request.now) < 2 ^ 32 }
-    ensures written { IfOk result (λ octets. octets.items ≡ written_kdc_req request.now) }
-    // What has a spelling, whatever the octets of its body were, is spelled by these.
-    ensures spelled { (sent bytes : List ℕ) → IsBytes bytes → SpellsKdcReq (with_body_octets sent request.now) bytes → SpellsKdcReq (as_written request.now) (written_kdc_req request.now) }
+/// The octets of the request, which spell it.
+pub fn encode_kdc_req(
+    alloc: Global,
+    exchange: Exchange,
+    request: &KdcReq,
+) -> Result<Vec<u8>, AllocError>
+    requires { length ((message exchange).text request.now) < 2 ^ 32 }
+    ensures written { IfOk result (λ v. v.items ≡ written (message exchange) request.now) }
+    ensures spelled { IfOk result (λ v. SpellsKdcReq (exchange, request.now) v.items) }
 {
-    let mut fields = Writer::new(alloc);
-    request.put_fields(alloc, &mut fields)?;
-    let mut out = Writer::new(alloc);
-    put_application(
-        alloc,
-        &mut out,
-        request.exchange.request_tag(),
-        &fields.finish(),
-    )?;
-    Ok(out.finish())
+    write_inside(alloc, exchange.request_tag(), request)
 }

@@ -1,150 +1,142 @@
 //! KRB-ERROR (RFC 4120, section 5.9.1).
-ghost use Rattle.std.specs.Prelude.{◌≡◌, ◌<◌, ◌^◌, ◌++◌, List, ℕ, length, IfOk, OnOk};
-ghost use Rattle.krb_der.specs.Steps.{IsBytes};
+ghost use Rattle.std.specs.Prelude.{◌≡◌, ◌<◌, ◌^◌, length, IfOk, OnOk, option_map};
+ghost use Rattle.krb_elements.specs.Codec.{itself, written};
 ghost use Rattle.krb_elements.specs.Format.{Decodes, IsReadUnlessMemory, whole};
-ghost use Rattle.krb_types.specs.KrbError.{SpellsKrbError, fields_at, krb_error_at, krb_error_fields, later_text, later_of, krb_error_text, written_krb_error, krb_error_ok, krb_error_written};
-ghost use Rattle.krb_types.specs.KrbErrorFits.{FitsKrbError};
-ghost use Rattle.krb_types.specs.declared.krb_error.KrbError as trees;
+ghost use Rattle.krb_types.specs.KrbError.{krb_error, krb_error_of, krb_error_form};
+ghost use Rattle.krb_types.specs.KrbError as trees;
 
-use crate::application::put_application;
-use krb_der::{KTime, Reader, Writer};
+use crate::numbers::{KRB_ERROR, PVNO};
+use krb_der::{DerFault, KTime, Reader, Writer};
 use krb_elements::{
-    Element, Fault, KerberosString, Microseconds, Octets, decode, encode, finish, put_field,
-    put_optional, read_field, read_fixed, read_optional,
+    Application, Coded, Decode, DecodeFields, Encode, EncodeFields, Fault, Fielded, KerberosString,
+    KerberosStringRef, MakeOwned, Microseconds, Octets, OctetsRef, ReadOwned, read, read_owned,
+    take_field, take_fixed, take_optional, write, write_field, write_optional,
 };
-use krb_fields::Name;
+use krb_fields::{Name, NameRef};
 use std::alloc::{AllocError, Global};
 
 /// A KDC's or a service's refusal. Its version and its message type are those of every KRB-ERROR, and not kept.
 #[derive(Debug, Drop)]
-pub struct KrbError {
+pub struct KrbError<S = KerberosString, N = Name, O = Octets> {
     pub ctime: Option<KTime>,
     pub cusec: Option<Microseconds>,
     pub stime: KTime,
     pub susec: Microseconds,
     pub error_code: i32,
-    pub crealm: Option<KerberosString>,
-    pub cname: Option<Name>,
-    pub realm: KerberosString,
-    pub sname: Name,
-    pub e_text: Option<KerberosString>,
-    pub e_data: Option<Octets>,
+    pub crealm: Option<S>,
+    pub cname: Option<N>,
+    pub realm: S,
+    pub sname: N,
+    pub e_text: Option<S>,
+    pub e_data: Option<O>,
 }
 
-impl Element for KrbError {
-    ghost tag = { 126 };
+/// A [`KrbError`] where it stands.
+pub type KrbErrorRef<'a> = KrbError<KerberosStringRef<'a>, NameRef<'a>, OctetsRef<'a>>;
 
-    ghost text = { krb_error_text };
-
-    ghost Spells = { SpellsKrbError };
-
-    ghost at = { krb_error_at };
-
-    ghost is_element = { krb_error_ok };
-
-    ghost is_written = { krb_error_written };
-
-    #[tactic(auto, unfolding(crate::specs::KrbError::krb_error_at))]
-    fn read(alloc: Global, reader: &mut Reader<'_>) -> Result<KrbError, Fault> {
-        let mut application = Reader::new(reader.read_tlv(0x7e)?);
-        let mut fields = Reader::new(application.read_tlv(0x30)?);
-        let error = KrbError::read_fields(alloc, &mut fields)?;
-        finish(&application)?;
-        Ok(error)
-    }
-
-    #[tactic(auto, using(krb_elements::specs::WrittenLaws::tlv_longer))]
-    fn put(&self, alloc: Global, out: &mut Writer) -> Result<(), AllocError> {
-        let mut fields = Writer::new(alloc);
-        self.put_fields(alloc, &mut fields)?;
-        put_application(alloc, out, 0x7e, &fields.finish())
-    }
+impl<S: Coded, N: Coded, O: Coded> Coded for KrbError<S, N, O> {
+    ghost codec = { krb_error_of S.codec N.codec O.codec };
 }
 
-impl KrbError {
-    #[tactic(auto, unfolding(crate::specs::KrbError::fields_at))]
-    fn read_fields(alloc: Global, fields: &mut Reader<'_>) -> Result<KrbError, Fault>
-        ensures { Decodes result (fields_at fields.old) }
-    {
-        read_fixed(fields, 0xa0, 5)?;
-        read_fixed(fields, 0xa1, 30)?;
-        let ctime = read_optional(alloc, fields, 0xa2)?;
-        let cusec = read_optional(alloc, fields, 0xa3)?;
-        let stime = read_field(alloc, fields, 0xa4)?;
-        let susec = read_field(alloc, fields, 0xa5)?;
-        let error_code = read_field(alloc, fields, 0xa6)?;
-        let crealm = read_optional(alloc, fields, 0xa7)?;
-        let cname = read_optional(alloc, fields, 0xa8)?;
-        let realm = read_field(alloc, fields, 0xa9)?;
-        let sname = read_field(alloc, fields, 0xaa)?;
-        let e_text = read_optional(alloc, fields, 0xab)?;
-        let e_data = read_optional(alloc, fields, 0xac)?;
-        finish(fields)?;
+impl<S: Coded, N: Coded, O: Coded> Fielded for KrbError<S, N, O> {
+    type In = Application<KRB_ERROR>;
+
+    ghost form = { krb_error_form S.codec N.codec O.codec };
+
+    ghost made = { itself };
+}
+
+impl<'a, S: Decode<'a>, N: Decode<'a>, O: Decode<'a>> DecodeFields<'a> for KrbError<S, N, O> {
+    #[tactic(auto, unfolding(crate::specs::KrbError::krb_error_form))]
+    fn look_fields(fields: &mut Reader<'a>) -> Result<KrbError<S, N, O>, DerFault> {
+        take_fixed(fields, 0, PVNO)?;
+        take_fixed(fields, 1, i32::from(KRB_ERROR))?;
         Ok(KrbError {
-            ctime,
-            cusec,
-            stime,
-            susec,
-            error_code,
-            crealm,
-            cname,
-            realm,
-            sname,
-            e_text,
-            e_data,
+            ctime: take_optional(fields, 2)?,
+            cusec: take_optional(fields, 3)?,
+            stime: take_field(fields, 4)?,
+            susec: take_field(fields, 5)?,
+            error_code: take_field(fields, 6)?,
+            crealm: take_optional(fields, 7)?,
+            cname: take_optional(fields, 8)?,
+            realm: take_field(fields, 9)?,
+            sname: take_field(fields, 10)?,
+            e_text: take_optional(fields, 11)?,
+            e_data: take_optional(fields, 12)?,
         })
     }
+}
 
-    #[tactic(auto, using(std::proofs::lemmas::List::append_assoc), unfolding(crate::specs::KrbError::krb_error_fields))]
-    fn put_fields(&self, alloc: Global, fields: &mut Writer) -> Result<(), AllocError>
-        requires { length (krb_error_fields self.now) < 2 ^ 32 }
-        ensures { OnOk result (fields.new ≡ fields.old ++ krb_error_fields self.now) }
-    {
-        put_field(alloc, fields, 0xa0, &5i32)?;
-        put_field(alloc, fields, 0xa1, &30i32)?;
-        put_optional(alloc, fields, 0xa2, &self.ctime)?;
-        put_optional(alloc, fields, 0xa3, &self.cusec)?;
-        put_field(alloc, fields, 0xa4, &self.stime)?;
-        put_field(alloc, fields, 0xa5, &self.susec)?;
-        put_field(alloc, fields, 0xa6, &self.error_code)?;
-        self.put_later(alloc, fields)
+impl<S: Encode, N: Encode, O: Encode> EncodeFields for KrbError<S, N, O> {
+    #[tactic(auto, unfolding(crate::specs::KrbError::krb_error_form))]
+    fn put_fields(&self, out: &mut Writer) -> Result<(), AllocError> {
+        write_field(out, 0, &PVNO)?;
+        write_field(out, 1, &i32::from(KRB_ERROR))?;
+        write_optional(out, 2, &self.ctime)?;
+        write_optional(out, 3, &self.cusec)?;
+        write_field(out, 4, &self.stime)?;
+        write_field(out, 5, &self.susec)?;
+        write_field(out, 6, &self.error_code)?;
+        write_optional(out, 7, &self.crealm)?;
+        write_optional(out, 8, &self.cname)?;
+        write_field(out, 9, &self.realm)?;
+        write_field(out, 10, &self.sname)?;
+        write_optional(out, 11, &self.e_text)?;
+        write_optional(out, 12, &self.e_data)
     }
+}
 
-    /// Appends the fields from crealm on.
-    #[tactic(auto, using(std::proofs::lemmas::List::append_assoc), unfolding(crate::specs::KrbError::later_text))]
-    fn put_later(&self, alloc: Global, fields: &mut Writer) -> Result<(), AllocError>
-        requires { length (later_text (later_of self.now)) < 2 ^ 32 }
-        ensures { OnOk result (fields.new ≡ fields.old ++ later_text (later_of self.now)) }
-    {
-        put_optional(alloc, fields, 0xa7, &self.crealm)?;
-        put_optional(alloc, fields, 0xa8, &self.cname)?;
-        put_field(alloc, fields, 0xa9, &self.realm)?;
-        put_field(alloc, fields, 0xaa, &self.sname)?;
-        put_optional(alloc, fields, 0xab, &self.e_text)?;
-        put_optional(alloc, fields, 0xac, &self.e_data)?;
-        Ok(())
+impl<S: MakeOwned, N: MakeOwned, O: MakeOwned> MakeOwned for KrbError<S, N, O> {
+    type Owned = KrbError<S::Owned, N::Owned, O::Owned>;
+
+    ghost same = { λ x. record { ctime = x.ctime; cusec = x.cusec; stime = x.stime; susec = x.susec; error_code = x.error_code; crealm = option_map S.same x.crealm; cname = option_map N.same x.cname; realm = S.same x.realm; sname = N.same x.sname; e_text = option_map S.same x.e_text; e_data = option_map O.same x.e_data } };
+
+    fn copy(&self, alloc: Global) -> Result<KrbError<S::Owned, N::Owned, O::Owned>, AllocError> {
+        Ok(KrbError {
+            ctime: self.ctime,
+            cusec: self.cusec,
+            stime: self.stime,
+            susec: self.susec,
+            error_code: self.error_code,
+            crealm: self.crealm.copy(alloc)?,
+            cname: self.cname.copy(alloc)?,
+            realm: self.realm.copy(alloc)?,
+            sname: self.sname.copy(alloc)?,
+            e_text: self.e_text.copy(alloc)?,
+            e_data: self.e_data.copy(alloc)?,
+        })
+    }
+}
+
+fn copied(alloc: Global, found: &KrbErrorRef<'_>) -> Result<KrbError, AllocError>
+    ensures { IfOk result (λ copy. copy ≡ found.now) }
+{
+    found.copy(alloc)
+}
+
+impl ReadOwned for KrbError {
+    fn read_parts(alloc: Global, bytes: &[u8]) -> Result<KrbError, Fault> {
+        let found: KrbErrorRef<'_> = read(bytes)?;
+        Ok(copied(alloc, &found)?)
     }
 }
 
 /// The KRB-ERROR that the octets spell.
 pub fn decode_krb_error(alloc: Global, bytes: &[u8]) -> Result<KrbError, Fault>
-    ensures found { IfOk result (λ error. SpellsKrbError error bytes.now) }
-    ensures only { (error : trees.KrbError) → SpellsKrbError error bytes.now → IsReadUnlessMemory result error }
-    ensures exact { Decodes result (whole krb_error_at bytes.now) }
+    ensures found { IfOk result (λ error. krb_error.Spells error bytes.now) }
+    ensures only { (error : trees.KrbError) → krb_error.Spells error bytes.now → IsReadUnlessMemory result error }
+    ensures exact { Decodes result (whole krb_error.at bytes.now) }
     // It has no other spelling.
-    ensures one { IfOk result (λ error. bytes.now ≡ written_krb_error error) }
+    ensures one { IfOk result (λ error. bytes.now ≡ written krb_error error) }
 {
-    decode(alloc, bytes)
+    read_owned(alloc, bytes)
 }
 
-/// The octets of the KRB-ERROR.
+/// The octets of the KRB-ERROR, which spell it.
 pub fn encode_krb_error(alloc: Global, error: &KrbError) -> Result<Vec<u8>, AllocError>
-    requires { length (krb_error_text error.now) < 2 ^ 32 }
-    ensures written { IfOk result (λ octets. octets.items ≡ written_krb_error error.now) }
-    // What has a spelling has this one.
-    ensures spelled { (bytes : List ℕ) → IsBytes bytes → SpellsKrbError error.now bytes → SpellsKrbError error.now (written_krb_error error.now) }
-    // An error whose numbers are in their ranges is spelled so.
-    ensures fits { FitsKrbError error.now → SpellsKrbError error.now (written_krb_error error.now) }
+    requires { length (krb_error.text error.now) < 2 ^ 32 }
+    ensures written { IfOk result (λ v. v.items ≡ written krb_error error.now) }
+    ensures spelled { IfOk result (λ v. krb_error.Spells error.now v.items) }
 {
-    encode(alloc, error)
+    write(alloc, error)
 }

@@ -1,62 +1,143 @@
 //! KDC-REQ-BODY (RFC 4120, section 5.4.1).
-ghost use Rattle.std.specs.Prelude.{◌≡◌, ◌<◌, ◌^◌, ◌++◌, length, OnOk, OnErr};
-ghost use Rattle.krb_der.specs.Spelling.{tlv};
-ghost use Rattle.krb_types.specs.ReqBody.{req_body_text, later_text, later_of};
+ghost use Rattle.std.specs.Prelude.{◌≡◌, IfOk, OnOk, option_map};
+ghost use Rattle.krb_elements.specs.Codec.{itself};
+ghost use Rattle.krb_types.specs.ReqBody.{req_body_of, req_body_form};
 
-use crate::ticket::Ticket;
-use krb_der::{KTime, Writer};
-use krb_elements::{KerberosString, Seq, UInt32, put_field, put_optional};
-use krb_fields::{EncryptedData, Flags, HostAddress, Name};
+use crate::ticket::{Ticket, TicketRef};
+use krb_der::{DerFault, KTime, Reader, Writer};
+use krb_elements::{
+    Coded, Decode, DecodeFields, Encode, EncodeFields, Fielded, KerberosString, KerberosStringRef,
+    MakeOwned, Seq, SeqRef, UInt32, Untagged, take_field, take_optional, write_field,
+    write_optional,
+};
+use krb_fields::{
+    EncryptedData, EncryptedDataRef, Flags, HostAddress, HostAddressRef, Name, NameRef,
+};
 use std::alloc::{AllocError, Global};
 
 /// What a request asks for.
 #[derive(Debug, Drop)]
-pub struct ReqBody {
+pub struct ReqBody<
+    S = KerberosString,
+    N = Name,
+    L = Seq<i32>,
+    A = Seq<HostAddress>,
+    E = EncryptedData,
+    T = Seq<Ticket>,
+> {
     pub kdc_options: Flags,
-    pub cname: Option<Name>,
-    pub realm: KerberosString,
-    pub sname: Option<Name>,
+    pub cname: Option<N>,
+    pub realm: S,
+    pub sname: Option<N>,
+    /// When the ticket is to start.
     pub from: Option<KTime>,
+    /// When the ticket is to end.
     pub till: KTime,
+    /// Until when the ticket is to be renewable.
     pub rtime: Option<KTime>,
+    /// The number that the reply repeats.
     pub nonce: UInt32,
-    pub etype: Seq<i32>,
-    pub addresses: Option<Seq<HostAddress>>,
-    pub enc_authorization_data: Option<EncryptedData>,
-    pub additional_tickets: Option<Seq<Ticket>>,
+    /// The encryption types that the client takes, in the order of its preference.
+    pub etype: L,
+    pub addresses: Option<A>,
+    pub enc_authorization_data: Option<E>,
+    pub additional_tickets: Option<T>,
 }
 
-impl ReqBody {
-    /// Appends the body. An `Err` changes nothing.
-    #[tactic(auto, using(std::proofs::lemmas::List::append_assoc), unfolding(crate::specs::ReqBody::req_body_text))]
-    pub(crate) fn put(&self, alloc: Global, out: &mut Writer) -> Result<(), AllocError>
-        requires { length (req_body_text self.now) < 2 ^ 32 }
-        ensures ok { OnOk result (out.new ≡ out.old ++ tlv 48 (req_body_text self.now)) }
-        ensures err { OnErr result (out.new ≡ out.old) }
-    {
-        let mut fields = Writer::new(alloc);
-        put_field(alloc, &mut fields, 0xa0, &self.kdc_options)?;
-        put_optional(alloc, &mut fields, 0xa1, &self.cname)?;
-        put_field(alloc, &mut fields, 0xa2, &self.realm)?;
-        put_optional(alloc, &mut fields, 0xa3, &self.sname)?;
-        put_optional(alloc, &mut fields, 0xa4, &self.from)?;
-        put_field(alloc, &mut fields, 0xa5, &self.till)?;
-        self.put_later(alloc, &mut fields)?;
-        out.put_tlv(0x30, &fields.finish())
-    }
+/// A [`ReqBody`] where it stands.
+pub type ReqBodyRef<'a> = ReqBody<
+    KerberosStringRef<'a>,
+    NameRef<'a>,
+    SeqRef<'a, i32>,
+    SeqRef<'a, HostAddressRef<'a>>,
+    EncryptedDataRef<'a>,
+    SeqRef<'a, TicketRef<'a>>,
+>;
 
-    /// Appends the fields from rtime on.
-    #[tactic(auto, using(std::proofs::lemmas::List::append_assoc), unfolding(crate::specs::ReqBody::later_text))]
-    fn put_later(&self, alloc: Global, fields: &mut Writer) -> Result<(), AllocError>
-        requires { length (later_text (later_of self.now)) < 2 ^ 32 }
-        ensures { OnOk result (fields.new ≡ fields.old ++ later_text (later_of self.now)) }
-    {
-        put_optional(alloc, fields, 0xa6, &self.rtime)?;
-        put_field(alloc, fields, 0xa7, &self.nonce)?;
-        put_field(alloc, fields, 0xa8, &self.etype)?;
-        put_optional(alloc, fields, 0xa9, &self.addresses)?;
-        put_optional(alloc, fields, 0xaa, &self.enc_authorization_data)?;
-        put_optional(alloc, fields, 0xab, &self.additional_tickets)?;
-        Ok(())
+impl<S: Coded, N: Coded, L: Coded, A: Coded, E: Coded, T: Coded> Coded
+    for ReqBody<S, N, L, A, E, T> {
+    ghost codec = { req_body_of S.codec N.codec L.codec A.codec E.codec T.codec };
+}
+
+impl<S: Coded, N: Coded, L: Coded, A: Coded, E: Coded, T: Coded> Fielded
+    for ReqBody<S, N, L, A, E, T> {
+    type In = Untagged;
+
+    ghost form = { req_body_form S.codec N.codec L.codec A.codec E.codec T.codec };
+
+    ghost made = { itself };
+}
+
+impl<
+    'a,
+    S: Decode<'a>,
+    N: Decode<'a>,
+    L: Decode<'a>,
+    A: Decode<'a>,
+    E: Decode<'a>,
+    T: Decode<'a>,
+> DecodeFields<'a> for ReqBody<S, N, L, A, E, T> {
+    #[tactic(auto, unfolding(crate::specs::ReqBody::req_body_form))]
+    fn look_fields(fields: &mut Reader<'a>) -> Result<ReqBody<S, N, L, A, E, T>, DerFault> {
+        Ok(ReqBody {
+            kdc_options: take_field(fields, 0)?,
+            cname: take_optional(fields, 1)?,
+            realm: take_field(fields, 2)?,
+            sname: take_optional(fields, 3)?,
+            from: take_optional(fields, 4)?,
+            till: take_field(fields, 5)?,
+            rtime: take_optional(fields, 6)?,
+            nonce: take_field(fields, 7)?,
+            etype: take_field(fields, 8)?,
+            addresses: take_optional(fields, 9)?,
+            enc_authorization_data: take_optional(fields, 10)?,
+            additional_tickets: take_optional(fields, 11)?,
+        })
+    }
+}
+
+impl<S: Encode, N: Encode, L: Encode, A: Encode, E: Encode, T: Encode> EncodeFields
+    for ReqBody<S, N, L, A, E, T> {
+    #[tactic(auto, unfolding(crate::specs::ReqBody::req_body_form))]
+    fn put_fields(&self, out: &mut Writer) -> Result<(), AllocError> {
+        write_field(out, 0, &self.kdc_options)?;
+        write_optional(out, 1, &self.cname)?;
+        write_field(out, 2, &self.realm)?;
+        write_optional(out, 3, &self.sname)?;
+        write_optional(out, 4, &self.from)?;
+        write_field(out, 5, &self.till)?;
+        write_optional(out, 6, &self.rtime)?;
+        write_field(out, 7, &self.nonce)?;
+        write_field(out, 8, &self.etype)?;
+        write_optional(out, 9, &self.addresses)?;
+        write_optional(out, 10, &self.enc_authorization_data)?;
+        write_optional(out, 11, &self.additional_tickets)
+    }
+}
+
+impl<S: MakeOwned, N: MakeOwned, L: MakeOwned, A: MakeOwned, E: MakeOwned, T: MakeOwned> MakeOwned
+    for ReqBody<S, N, L, A, E, T> {
+    type Owned = ReqBody<S::Owned, N::Owned, L::Owned, A::Owned, E::Owned, T::Owned>;
+
+    ghost same = { λ x. record { kdc_options = x.kdc_options; cname = option_map N.same x.cname; realm = S.same x.realm; sname = option_map N.same x.sname; from = x.from; till = x.till; rtime = x.rtime; nonce = x.nonce; etype = L.same x.etype; addresses = option_map A.same x.addresses; enc_authorization_data = option_map E.same x.enc_authorization_data; additional_tickets = option_map T.same x.additional_tickets } };
+
+    fn copy(
+        &self,
+        alloc: Global,
+    ) -> Result<ReqBody<S::Owned, N::Owned, L::Owned, A::Owned, E::Owned, T::Owned>, AllocError> {
+        Ok(ReqBody {
+            kdc_options: self.kdc_options,
+            cname: self.cname.copy(alloc)?,
+            realm: self.realm.copy(alloc)?,
+            sname: self.sname.copy(alloc)?,
+            from: self.from,
+            till: self.till,
+            rtime: self.rtime,
+            nonce: self.nonce,
+            etype: self.etype.copy(alloc)?,
+            addresses: self.addresses.copy(alloc)?,
+            enc_authorization_data: self.enc_authorization_data.copy(alloc)?,
+            additional_tickets: self.additional_tickets.copy(alloc)?,
+        })
     }
 }

@@ -1,8 +1,8 @@
 ghost use Rattle.std.specs.Prelude.{◌<◌, length};
 
 use super::*;
-use krb_der::{DerFault, Items};
-use krb_elements::{Fault, look_whole};
+use krb_der::DerFault;
+use krb_elements::Fault;
 use krb_fields::NameRef;
 use std::alloc::Global;
 use std::test::Fail;
@@ -68,90 +68,82 @@ const LONG_ERROR: &[u8; 137] = b"\x7e\x81\x86\x30\x81\x83\
     \xab\x04\x1b\x02no\
     \xac\x04\x04\x02\x30\x00";
 
-/// Whether these are the elements' octets.
-fn are(items: Items<'_>, octets: &[&[u8]]) -> bool {
-    let mut items = items;
-    for element in octets {
-        if items.next() != Some(*element) {
+/// Whether the name has this name type and these components.
+fn is_name(name: &NameRef<'_>, name_type: i32, components: &[&[u8]]) -> bool {
+    let mut found = name.components.iter();
+    for component in components {
+        let Some(next) = found.next() else {
+            return false;
+        };
+        if next.as_slice() != *component {
             return false;
         }
     }
-    items.next().is_none()
-}
-
-/// Whether the name has this name type and these components.
-fn is_name(name: Option<&NameRef<'_>>, name_type: i32, components: &[&[u8]]) -> bool {
-    let Some(name) = name else {
-        return false;
-    };
-    name.name_type() == name_type && are(name.components(), components)
+    name.name_type == name_type && found.next().is_none()
 }
 
 /// Reading takes no allocator, so no test has to refuse it memory.
 #[test]
 fn requests_are_read(rt: HostRuntime) -> Result<(), Fail> {
     let octets = AS_REQ.as_slice();
-    let request = read_kdc_req(octets)?;
-    assert_eq!(rt; request.exchange(), Exchange::As);
-    assert_eq!(rt; (request.pvno(), request.msg_type()), (5, 10));
-    assert!(rt; request.padata().is_none());
-    assert_eq!(rt; request.body_octets(), &octets[16..]);
-    let body = request.body();
-    assert_eq!(rt; body.kdc_options().bits(), 0);
-    assert!(rt; is_name(body.cname(), 1, &[b"\x1b\x01u"]));
-    assert_eq!(rt; body.realm(), b"A.B".as_slice());
-    assert!(rt; is_name(body.sname(), 2, &[b"\x1b\x06krbtgt", b"\x1b\x03A.B"]));
-    assert_eq!(rt; (body.till().seconds(), body.nonce().get()), (0, 1));
-    assert!(rt; are(body.etype(), &[b"\x02\x01\x12"]));
-    assert!(rt; body.from().is_none() && body.rtime().is_none() && body.addresses().is_none());
-    assert!(rt; body.enc_authorization_data().is_none() && body.additional_tickets().is_none());
+    let (exchange, request) = read_kdc_req(octets)?;
+    assert_eq!(rt; exchange, Exchange::As);
+    assert_eq!(rt; (request.pvno, request.msg_type), (5, 10));
+    assert!(rt; request.padata.is_none());
+    assert_eq!(rt; request.body.octets, &octets[16..]);
+    let body = &request.body.value;
+    assert_eq!(rt; body.kdc_options.bits(), 0);
+    let cname = body.cname.as_ref().ok_or("a client")?;
+    assert!(rt; is_name(cname, 1, &[b"u"]));
+    assert_eq!(rt; body.realm.as_slice(), b"A.B".as_slice());
+    let sname = body.sname.as_ref().ok_or("a service")?;
+    assert!(rt; is_name(sname, 2, &[b"krbtgt", b"A.B"]));
+    assert_eq!(rt; (body.till.seconds(), body.nonce.get()), (0, 1));
+    let mut etypes = body.etype.iter();
+    assert_eq!(rt; (etypes.next(), etypes.next()), (Some(18), None));
+    assert!(rt; body.from.is_none() && body.rtime.is_none() && body.addresses.is_none());
+    assert!(rt; body.enc_authorization_data.is_none() && body.additional_tickets.is_none());
     Ok(())
 }
 
 /// The seconds are those of Python's datetime.
 #[test]
 fn requests_with_more_fields_are_read(rt: HostRuntime) -> Result<(), Fail> {
-    let request = read_kdc_req(TGS_REQ)?;
-    assert_eq!(rt; request.exchange(), Exchange::Tgs);
-    assert_eq!(rt; (request.pvno(), request.msg_type()), (5, 12));
-    let padata = request.padata().ok_or("data")?;
-    assert!(rt;
-        are(
-            padata,
-            &[b"\x30\x0b\xa1\x03\x02\x01\x01\xa2\x04\x04\x02\x01\x02"]
-        )
-    );
-    let body = request.body();
-    assert_eq!(rt; body.kdc_options().bits(), 0x4081_0010);
-    assert!(rt; body.cname().is_none());
-    assert_eq!(rt; body.from().map(|time| time.seconds()), Some(1_704_067_200));
-    assert_eq!(rt; body.till().seconds(), 1_704_153_600);
+    let (exchange, request) = read_kdc_req(TGS_REQ)?;
+    assert_eq!(rt; exchange, Exchange::Tgs);
+    assert_eq!(rt; (request.pvno, request.msg_type), (5, 12));
+    let mut padata = request.padata.as_ref().ok_or("data")?.iter();
+    let data = padata.next().ok_or("one")?;
     assert_eq!(rt;
-        body.rtime().map(|time| time.seconds()),
-        Some(1_704_240_000)
+        (data.padata_type, data.padata_value.as_slice()),
+        (1, [1, 2].as_slice())
     );
-    assert_eq!(rt; body.nonce().get(), 2_147_483_648);
-    assert!(rt; are(body.etype(), &[b"\x02\x01\x12", b"\x02\x01\x11"]));
-    let addresses = body.addresses().ok_or("addresses")?;
-    assert!(rt;
-        are(
-            addresses,
-            &[b"\x30\x0d\xa0\x03\x02\x01\x02\xa1\x06\x04\x04\x0a\x00\x00\x01"]
-        )
+    assert!(rt; padata.next().is_none());
+    let body = &request.body.value;
+    assert_eq!(rt; body.kdc_options.bits(), 0x4081_0010);
+    assert!(rt; body.cname.is_none());
+    assert_eq!(rt; body.from.map(|time| time.seconds()), Some(1_704_067_200));
+    assert_eq!(rt; body.till.seconds(), 1_704_153_600);
+    assert_eq!(rt; body.rtime.map(|time| time.seconds()), Some(1_704_240_000));
+    assert_eq!(rt; body.nonce.get(), 2_147_483_648);
+    let mut etypes = body.etype.iter();
+    assert_eq!(rt; (etypes.next(), etypes.next()), (Some(18), Some(17)));
+    let mut addresses = body.addresses.as_ref().ok_or("addresses")?.iter();
+    let address = addresses.next().ok_or("an address")?;
+    assert_eq!(rt;
+        (address.number, address.octets.as_slice()),
+        (2, [10, 0, 0, 1].as_slice())
     );
-    let sealed = body.enc_authorization_data().ok_or("sealed data")?;
-    assert_eq!(rt; sealed.cipher(), [3, 4].as_slice());
-    let mut tickets = body.additional_tickets().ok_or("tickets")?;
-    let ticket: TicketRef<'_> = look_whole(tickets.next().ok_or("a ticket")?)?;
-    assert_eq!(rt; (ticket.tkt_vno(), ticket.realm()), (5, b"A.B".as_slice()));
-    assert!(rt;
-        is_name(
-            Some(ticket.sname()),
-            2,
-            &[b"\x1b\x06krbtgt", b"\x1b\x03A.B"]
-        )
+    let sealed = body.enc_authorization_data.as_ref().ok_or("sealed data")?;
+    assert_eq!(rt; sealed.cipher.as_slice(), [3, 4].as_slice());
+    let mut tickets = body.additional_tickets.as_ref().ok_or("tickets")?.iter();
+    let ticket = tickets.next().ok_or("a ticket")?;
+    assert_eq!(rt;
+        (ticket.tkt_vno, ticket.realm.as_slice()),
+        (5, b"A.B".as_slice())
     );
-    assert_eq!(rt; ticket.enc_part().cipher(), [5].as_slice());
+    assert!(rt; is_name(&ticket.sname, 2, &[b"krbtgt", b"A.B"]));
+    assert_eq!(rt; ticket.enc_part.cipher.as_slice(), [5].as_slice());
     assert!(rt; tickets.next().is_none());
     Ok(())
 }
@@ -186,8 +178,8 @@ fn faults_are_told_apart(rt: HostRuntime) {
 fn request_again(alloc: Global, octets: &[u8]) -> Result<Vec<u8>, Fault>
     requires { length octets.now < 1000 }
 {
-    let request = decode_kdc_req(alloc, octets)?;
-    Ok(encode_kdc_req(alloc, &request)?)
+    let found = decode_kdc_req(alloc, octets)?;
+    Ok(encode_kdc_req(alloc, found.0, &found.1)?)
 }
 
 /// What is written of the error that the octets spell.
@@ -210,10 +202,8 @@ fn requests_are_written(rt: HostRuntime) -> Result<(), Fail> {
         assert!(rt; octets.len() < 1000);
         assert_eq!(rt; request_again(alloc, octets)?.as_slice(), octets);
     }
-    assert_eq!(rt;
-        read_kdc_req(&tgs).map(|request| request.exchange()),
-        Ok(Exchange::Tgs)
-    );
+    let (exchange, _) = read_kdc_req(&tgs)?;
+    assert_eq!(rt; exchange, Exchange::Tgs);
     Ok(())
 }
 

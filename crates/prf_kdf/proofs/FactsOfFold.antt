@@ -1,17 +1,66 @@
--- The standards' examples of the definitions themselves, so that a wrong definition does not check.
+-- The standard's examples of the definition itself, so that a wrong definition does not check.
 use Rattle.std.proofs.Common.{◌≡◌, [], ◌∷◌, codes, refl}
-use Rattle.prf_kdf.specs.Fold.{number, bytes_of, rotated_copies, gcd_within, pieces_sum, n_fold}
+use Rattle.prf_kdf.specs.Fold.{number, octets_of, rotated_copies, gcd_within, pieces_sum, n_fold}
 
--- the examples of RFC 3961 appendix A.1
-pub n_fold-012345 : n_fold (codes "012345") 8 ≡ 0xbe ∷ 0x07 ∷ 0x26 ∷ 0x31 ∷ 0x27 ∷ 0x6b ∷ 0x19 ∷ 0x55 ∷ []
-unfolding number bytes_of rotated_copies gcd_within pieces_sum n_fold
+-- RFC 3961, appendix A.1: each text with the octets of its n-fold
+
+pub n_fold-012345 : n_fold (codes "012345") 8 ≡
+    0xbe ∷ 0x07 ∷ 0x26 ∷ 0x31 ∷ 0x27 ∷ 0x6b ∷ 0x19 ∷ 0x55 ∷ []
+unfolding number octets_of rotated_copies gcd_within pieces_sum n_fold
 n_fold-012345 = refl
 
-pub n_fold-password : n_fold (codes "password") 7 ≡ 0x78 ∷ 0xa0 ∷ 0x7b ∷ 0x6c ∷ 0xaf ∷ 0x85 ∷ 0xfa ∷ []
-unfolding number bytes_of rotated_copies gcd_within pieces_sum n_fold
-n_fold-password = refl
+pub n_fold-password-56 : n_fold (codes "password") 7 ≡
+    0x78 ∷ 0xa0 ∷ 0x7b ∷ 0x6c ∷ 0xaf ∷ 0x85 ∷ 0xfa ∷ []
+unfolding number octets_of rotated_copies gcd_within pieces_sum n_fold
+n_fold-password-56 = refl
 
-pub n_fold-kerberos : n_fold (codes "kerberos") 16 ≡
+pub n_fold-rough_consensus : n_fold (codes "Rough Consensus, and Running Code") 8 ≡
+    0xbb ∷ 0x6e ∷ 0xd3 ∷ 0x08 ∷ 0x70 ∷ 0xb7 ∷ 0xf0 ∷ 0xe0 ∷ []
+unfolding number octets_of rotated_copies gcd_within pieces_sum n_fold
+n_fold-rough_consensus = refl
+
+pub n_fold-password-168 : n_fold (codes "password") 21 ≡
+    0x59 ∷ 0xe4 ∷ 0xa8 ∷ 0xca ∷ 0x7c ∷ 0x03 ∷ 0x85 ∷ 0xc3 ∷ 0xc3 ∷ 0x7b ∷ 0x3f ∷ 0x6d ∷ 0x20 ∷ 0x00 ∷ 0x24 ∷ 0x7c ∷
+    0xb6 ∷ 0xe6 ∷ 0xbd ∷ 0x5b ∷ 0x3e ∷ []
+unfolding number octets_of rotated_copies gcd_within pieces_sum n_fold
+n_fold-password-168 = refl
+
+pub n_fold-massachvsetts : n_fold (codes "MASSACHVSETTS INSTITVTE OF TECHNOLOGY") 24 ≡
+    0xdb ∷ 0x3b ∷ 0x0d ∷ 0x8f ∷ 0x0b ∷ 0x06 ∷ 0x1e ∷ 0x60 ∷ 0x32 ∷ 0x82 ∷ 0xb3 ∷ 0x08 ∷ 0xa5 ∷ 0x08 ∷ 0x41 ∷ 0x22 ∷
+    0x9a ∷ 0xd7 ∷ 0x98 ∷ 0xfa ∷ 0xb9 ∷ 0x54 ∷ 0x0c ∷ 0x1b ∷ []
+unfolding number octets_of rotated_copies gcd_within pieces_sum n_fold
+n_fold-massachvsetts = refl
+
+pub n_fold-q : n_fold (codes "Q") 21 ≡
+    0x51 ∷ 0x8a ∷ 0x54 ∷ 0xa2 ∷ 0x15 ∷ 0xa8 ∷ 0x45 ∷ 0x2a ∷ 0x51 ∷ 0x8a ∷ 0x54 ∷ 0xa2 ∷ 0x15 ∷ 0xa8 ∷ 0x45 ∷ 0x2a ∷
+    0x51 ∷ 0x8a ∷ 0x54 ∷ 0xa2 ∷ 0x15 ∷ []
+unfolding number octets_of rotated_copies gcd_within pieces_sum n_fold
+n_fold-q = refl
+
+pub n_fold-ba : n_fold (codes "ba") 21 ≡
+    0xfb ∷ 0x25 ∷ 0xd5 ∷ 0x31 ∷ 0xae ∷ 0x89 ∷ 0x74 ∷ 0x49 ∷ 0x9f ∷ 0x52 ∷ 0xfd ∷ 0x92 ∷ 0xea ∷ 0x98 ∷ 0x57 ∷ 0xc4 ∷
+    0xba ∷ 0x24 ∷ 0xcf ∷ 0x29 ∷ 0x7e ∷ []
+unfolding number octets_of rotated_copies gcd_within pieces_sum n_fold
+n_fold-ba = refl
+
+pub n_fold-kerberos-64 : n_fold (codes "kerberos") 8 ≡
+    0x6b ∷ 0x65 ∷ 0x72 ∷ 0x62 ∷ 0x65 ∷ 0x72 ∷ 0x6f ∷ 0x73 ∷ []
+unfolding number octets_of rotated_copies gcd_within pieces_sum n_fold
+n_fold-kerberos-64 = refl
+
+pub n_fold-kerberos-128 : n_fold (codes "kerberos") 16 ≡
     0x6b ∷ 0x65 ∷ 0x72 ∷ 0x62 ∷ 0x65 ∷ 0x72 ∷ 0x6f ∷ 0x73 ∷ 0x7b ∷ 0x9b ∷ 0x5b ∷ 0x2b ∷ 0x93 ∷ 0x13 ∷ 0x2b ∷ 0x93 ∷ []
-unfolding number bytes_of rotated_copies gcd_within pieces_sum n_fold
-n_fold-kerberos = refl
+unfolding number octets_of rotated_copies gcd_within pieces_sum n_fold
+n_fold-kerberos-128 = refl
+
+pub n_fold-kerberos-168 : n_fold (codes "kerberos") 21 ≡
+    0x83 ∷ 0x72 ∷ 0xc2 ∷ 0x36 ∷ 0x34 ∷ 0x4e ∷ 0x5f ∷ 0x15 ∷ 0x50 ∷ 0xcd ∷ 0x07 ∷ 0x47 ∷ 0xe1 ∷ 0x5d ∷ 0x62 ∷ 0xca ∷
+    0x7a ∷ 0x5a ∷ 0x3b ∷ 0xce ∷ 0xa4 ∷ []
+unfolding number octets_of rotated_copies gcd_within pieces_sum n_fold
+n_fold-kerberos-168 = refl
+
+pub n_fold-kerberos-256 : n_fold (codes "kerberos") 32 ≡
+    0x6b ∷ 0x65 ∷ 0x72 ∷ 0x62 ∷ 0x65 ∷ 0x72 ∷ 0x6f ∷ 0x73 ∷ 0x7b ∷ 0x9b ∷ 0x5b ∷ 0x2b ∷ 0x93 ∷ 0x13 ∷ 0x2b ∷ 0x93 ∷
+    0x5c ∷ 0x9b ∷ 0xdc ∷ 0xda ∷ 0xd9 ∷ 0x5c ∷ 0x98 ∷ 0x99 ∷ 0xc4 ∷ 0xca ∷ 0xe4 ∷ 0xde ∷ 0xe6 ∷ 0xd6 ∷ 0xca ∷ 0xe4 ∷ []
+unfolding number octets_of rotated_copies gcd_within pieces_sum n_fold
+n_fold-kerberos-256 = refl

@@ -2,8 +2,10 @@ pub mod KeyBlocks
 pub mod Iterates
 pub mod Blocks
 pub mod Lengths
+pub mod Octets
 pub mod Numbers
 pub mod Sums
+pub mod EndAround
 pub mod Turns
 pub mod Copies
 pub mod Multiples

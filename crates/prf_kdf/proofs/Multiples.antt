@@ -11,7 +11,8 @@ unfolding gcd_within
 gcd_within_is zero a b fuel = IsGcd-from_zero a b (omega arith)
 gcd_within_is (suc steps) a zero fuel = IsGcd-from_zero a 0 refl
 gcd_within_is (suc steps) a (suc b) fuel =
-    IsGcd-from_mod a (suc b) _ (gcd_within_is steps (suc b) (a % suc b) (omega (arith, mod_below a (suc b) (omega arith))))
+    IsGcd-from_mod a (suc b) _
+    (gcd_within_is steps (suc b) (a % suc b) (omega (arith, mod_below a (suc b) (omega arith))))
 
 -- the definition by Euclid's algorithm is the greatest common divisor
 pub gcd_is : (a b : ℕ) → IsGcd a b (gcd a b)
@@ -42,7 +43,8 @@ fits_lcm n m g some_n some_m is =
     let product : n * m ≡ d * m * g + 0 = omega (arith, ap (λ k. k * m) n_is) in
     let same : m * d ≡ n * e = omega (arith, ap (λ k. k * d) m_is, ap (λ k. k * e) n_is) in
     let lcm_is : lcm n m ≡ d * m =
-    ap (λ k. n * m / k) (same_from_IsGcd n m (gcd n m) g (gcd_is n m) is) ∙ ap (λ k. k / g) product ∙ div-mul-add (d * m) g 0 some_g in
+    ap (λ k. n * m / k) (same_from_IsGcd n m (gcd n m) g (gcd_is n m) is) ∙ ap (λ k. k / g) product
+    ∙ div-mul-add (d * m) g 0 some_g in
     let by_m : d * m ≡ d * m + 0 = omega arith in
     let by_n : d * m ≡ e * n + 0 = omega arith in
     record {

@@ -1,14 +1,15 @@
--- Adding numbers byte by byte, with carry.
-use Rattle.std.proofs.Common.{◌≡◌, ℕ, zero, suc, ◌+◌, ◌*◌, ◌^◌, ◌≤◌, ◌<◌, List, take, drop, length, get_or, set, refl, ap, arith, add-one}
+-- Adding numbers octet by octet, with carry.
+use Rattle.std.proofs.Common.{◌≡◌, ℕ, zero, suc, ◌+◌, ◌*◌, ◌^◌, ◌≤◌, ◌<◌, List}
+use Rattle.std.proofs.Common.{take, drop, length, get_or, set, refl, ap, arith, add-one}
 use Rattle.std.proofs.lemmas.List.{drop-set-lt, get_or-set_same, length-set}
-use Rattle.std.proofs.lemmas.Nat.{div-mul-add, mod-mul-add}
-use Rattle.prf_kdf.specs.Fold.{number, end_around_carry, pieces_sum}
+use Rattle.prf_kdf.specs.Fold.{number, pieces_sum}
 use Rattle.prf_kdf.proofs.Numbers.{number-drop, next_power}
 
-digit : (P N A B c t p x d : ℕ) → c * P + N ≡ A + B → c + t + p ≡ 256 * d + x → d * (256 * P) + (x * P + N) ≡ (t * P + A) + (p * P + B)
+digit : (P N A B c t p x d : ℕ) → c * P + N ≡ A + B → c + t + p ≡ 256 * d + x
+    → d * (256 * P) + (x * P + N) ≡ (t * P + A) + (p * P + B)
 digit P N A B c t p x d sum here = omega (arith, ap (λ (n : ℕ). n * P) here)
 
--- one byte more, from the end: to byte i of the total goes the byte p and the carry c, which leaves x and the carry d
+-- one octet more, from the end: to octet i of the total goes the octet p and the carry c, which leaves x and the carry d
 pub sum_more : (total old : List ℕ) (i j k c p x d B : ℕ) → length total ≡ length old → j ≡ i + 1 → k + j ≡ length old
     → get_or total i 0 ≡ get_or old i 0
     → c * 2 ^ (8 * k) + number (drop j total) ≡ number (drop j old) + B
@@ -34,13 +35,11 @@ carry_fits zero P N A B bound sum a b n = omega arith
 carry_fits (suc zero) P N A B bound sum a b n = omega arith
 carry_fits (suc (suc c)) P N A B bound sum a b n = absurd (omega arith)
 
-pub end_around_carry_is : (n c N S : ℕ) → c * 2 ^ n + N ≡ S → N < 2 ^ n → end_around_carry n S ≡ N + c
-end_around_carry_is n c N S sum fits = rw (← sum, div-mul-add c (2 ^ n) N fits, mod-mul-add c (2 ^ n) N fits) refl
-
 pub pieces_sum_none : (n : ℕ) (bs : List ℕ) → pieces_sum n bs 0 ≡ 0
 unfolding pieces_sum
 pieces_sum_none n bs = refl
 
-pub pieces_sum_more : (n : ℕ) (bs : List ℕ) (k : ℕ) → pieces_sum n bs (k + 1) ≡ end_around_carry (8 * n) (pieces_sum n bs k + number (take n (drop (n * k) bs)))
+pub pieces_sum_more : (n : ℕ) (bs : List ℕ) (k : ℕ)
+    → pieces_sum n bs (k + 1) ≡ pieces_sum n bs k + number (take n (drop (n * k) bs))
 unfolding pieces_sum
 pieces_sum_more n bs k = rw add-one refl

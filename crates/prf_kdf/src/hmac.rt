@@ -3,16 +3,17 @@
 ghost use Rattle.std.specs.Prelude.{◌≡◌, ◌<◌, ◌≤◌, ◌-◌, ℕ, List, ◌++◌, length, take, replicate, map, bit_xor};
 ghost use Rattle.std.specs.List.{flat_map};
 ghost use Rattle.prf_kdf.specs.Hasher.{HoldsKeyBlock};
-ghost use Rattle.prf_kdf.specs.Hmac.{block_of, key_block, masked_bytes, hmac_of_block, hmac, hmac_sha1, hmac_sha256, hmac_sha384};
+ghost use Rattle.prf_kdf.specs.Hmac.{block_of, key_block, masked_octets, hmac_of_block};
+ghost use Rattle.prf_kdf.specs.Hmac.{hmac, hmac_sha1, hmac_sha256, hmac_sha384};
 
 use crate::hasher::Hasher;
 use sha1::Sha1;
 use sha2::{Sha256, Sha384};
 
-// The longest block of the three hash functions, in bytes.
+// The longest block of the three hash functions, in octets.
 pub const LONGEST_BLOCK: usize = 128;
 
-// The bytes that each byte of the key is masked with (RFC 2104 section 2).
+// The octets that each octet of the key is masked with (RFC 2104, section 2).
 const INNER_MASK: u8 = 0x36;
 
 const OUTER_MASK: u8 = 0x5c;
@@ -55,7 +56,7 @@ impl<H: Hasher> HmacKey<H> {
 }
 
 /// The HMAC-SHA-1 of the parts, taken one after the other as one text, under the key
-/// (RFC 2104): 20 bytes. An empty part adds nothing.
+/// (RFC 2104): 20 octets. An empty part adds nothing.
 pub fn hmac_sha1(key: &[u8], parts: &[&[u8]]) -> [u8; 20]
     ensures { result ≡ hmac_sha1 key.now (flat_map (λ part. part.now) parts.now) }
 {
@@ -65,7 +66,7 @@ pub fn hmac_sha1(key: &[u8], parts: &[&[u8]]) -> [u8; 20]
 }
 
 /// The HMAC-SHA-256 of the parts, taken one after the other as one text, under the key
-/// (RFC 2104, RFC 4231): 32 bytes. An empty part adds nothing.
+/// (RFC 2104, RFC 4231): 32 octets. An empty part adds nothing.
 pub fn hmac_sha256(key: &[u8], parts: &[&[u8]]) -> [u8; 32]
     ensures { result ≡ hmac_sha256 key.now (flat_map (λ part. part.now) parts.now) }
 {
@@ -75,7 +76,7 @@ pub fn hmac_sha256(key: &[u8], parts: &[&[u8]]) -> [u8; 32]
 }
 
 /// The HMAC-SHA-384 of the parts, taken one after the other as one text, under the key
-/// (RFC 2104, RFC 4231): 48 bytes. An empty part adds nothing.
+/// (RFC 2104, RFC 4231): 48 octets. An empty part adds nothing.
 pub fn hmac_sha384(key: &[u8], parts: &[&[u8]]) -> [u8; 48]
     ensures { result ≡ hmac_sha384 key.now (flat_map (λ part. part.now) parts.now) }
 {
@@ -119,20 +120,20 @@ fn key_block<H: Hasher>(key: &[u8]) -> [u8; LONGEST_BLOCK]
     block_of(digest)
 }
 
-// The bytes, with zeros behind them.
-pub fn block_of(bytes: &[u8]) -> [u8; LONGEST_BLOCK]
-    requires { length bytes.now ≤ LONGEST_BLOCK }
-    ensures { result ≡ block_of LONGEST_BLOCK bytes.now }
+// The octets, with zeros behind them.
+pub fn block_of(octets: &[u8]) -> [u8; LONGEST_BLOCK]
+    requires { length octets.now ≤ LONGEST_BLOCK }
+    ensures { result ≡ block_of LONGEST_BLOCK octets.now }
 {
     let mut block = [0; LONGEST_BLOCK];
-    block[..bytes.len()].copy_from_slice(bytes);
+    block[..octets.len()].copy_from_slice(octets);
     block
 }
 
 // A hasher that has taken in the masked block.
 fn masked_hasher<H: Hasher>(block: &[u8], mask: u8) -> H
     requires { length block.now ≤ LONGEST_BLOCK }
-    ensures { H.Holds result (masked_bytes mask block.now) }
+    ensures { H.Holds result (masked_octets mask block.now) }
 {
     let mut masked = [0; LONGEST_BLOCK];
     for i in 0..block.len() {

@@ -1,4 +1,4 @@
-//! The key derivation of the encryption types 19 and 20, KDF-HMAC-SHA2 (RFC 8009 section 3).
+//! The key derivation of the encryption types 19 and 20, KDF-HMAC-SHA2 (RFC 8009, section 3).
 
 ghost use Rattle.std.specs.Prelude.{◌≡◌, ◌≤◌, ◌*◌, length};
 ghost use Rattle.prf_kdf.specs.Kdf.{kdf_sha256, kdf_sha384};
@@ -9,7 +9,7 @@ use crate::hmac::{hmac_sha256, hmac_sha384};
 const BLOCK_NUMBER: [u8; 4] = [0, 0, 0, 1];
 
 /// Fills `out` with the key that KDF-HMAC-SHA2 derives by SHA-256 from the key and the label,
-/// without a context (RFC 8009 section 3). At most 32 bytes can be derived.
+/// without a context (RFC 8009, section 3). At most 32 octets can be derived.
 pub fn kdf_sha256(key: &[u8], label: &[u8], out: &mut [u8])
     requires { length out.old ≤ 32 }
     ensures { out.new ≡ kdf_sha256 key.now label.now (length out.old) }
@@ -20,7 +20,7 @@ pub fn kdf_sha256(key: &[u8], label: &[u8], out: &mut [u8])
 }
 
 /// Fills `out` with the key that KDF-HMAC-SHA2 derives by SHA-384 from the key and the label,
-/// without a context (RFC 8009 section 3). At most 48 bytes can be derived.
+/// without a context (RFC 8009, section 3). At most 48 octets can be derived.
 pub fn kdf_sha384(key: &[u8], label: &[u8], out: &mut [u8])
     requires { length out.old ≤ 48 }
     ensures { out.new ≡ kdf_sha384 key.now label.now (length out.old) }

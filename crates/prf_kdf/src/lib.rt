@@ -4,10 +4,10 @@
 //!
 //! | call | standard | fills or returns |
 //! |---|---|---|
-//! | [`hmac_sha1`], [`hmac_sha256`], [`hmac_sha384`] | RFC 2104, RFC 4231 | 20, 32, 48 bytes |
-//! | [`pbkdf2_sha1`], [`pbkdf2_sha256`], [`pbkdf2_sha384`] | RFC 8018 section 5.2 | a slice of any length up to 4,294,967,295 blocks |
-//! | [`n_fold`] | RFC 3961 section 5.1 | a slice of any length but none |
-//! | [`kdf_sha256`], [`kdf_sha384`] | RFC 8009 section 3 | a slice of at most 32, 48 bytes |
+//! | [`hmac_sha1`], [`hmac_sha256`], [`hmac_sha384`] | RFC 2104, RFC 4231 | 20, 32, 48 octets |
+//! | [`pbkdf2_sha1`], [`pbkdf2_sha256`], [`pbkdf2_sha384`] | RFC 8018, section 5.2 | a slice of up to 4,294,967,295 blocks |
+//! | [`n_fold`] | RFC 3961, section 5.1 | a slice of any length but none |
+//! | [`kdf_sha256`], [`kdf_sha384`] | RFC 8009, section 3 | a slice of at most 32, 48 octets |
 #![tactic(auto)]
 
 mod fold;

@@ -1,9 +1,9 @@
-//! PBKDF2 (RFC 8018 section 5.2) with HMAC over SHA-1, SHA-256 and SHA-384.
+//! PBKDF2 (RFC 8018, section 5.2) with HMAC over SHA-1, SHA-256 and SHA-384.
 
 ghost use Rattle.std.specs.Prelude.{◌≡◌, ◌<◌, ◌≤◌, ◌+◌, ◌*◌, ℕ, List, length, take, bit_xor};
 ghost use Rattle.prf_kdf.specs.Hasher.{HoldsKeyBlock};
 ghost use Rattle.prf_kdf.specs.Hmac.{hmac_of_block, hmac};
-ghost use Rattle.prf_kdf.specs.Pbkdf2.{bytes_xor, pbkdf2_block, pbkdf2, pbkdf2_sha1, pbkdf2_sha256, pbkdf2_sha384};
+ghost use Rattle.prf_kdf.specs.Pbkdf2.{octets_xor, pbkdf2_block, pbkdf2, pbkdf2_sha1, pbkdf2_sha256, pbkdf2_sha384};
 
 use crate::hasher::Hasher;
 use crate::hmac::{HmacKey, LONGEST_BLOCK, block_of};
@@ -11,7 +11,7 @@ use sha1::Sha1;
 use sha2::{Sha256, Sha384};
 
 /// Fills `out` with the key that PBKDF2-HMAC-SHA-1 derives from the password, the salt and the
-/// count of iterations (RFC 8018 section 5.2).
+/// count of iterations (RFC 8018, section 5.2).
 pub fn pbkdf2_sha1(password: &[u8], salt: &[u8], count: u32, out: &mut [u8])
     requires count { 1 ≤ count }
     requires blocks { length out.old ≤ 4294967295 * 20 }
@@ -21,7 +21,7 @@ pub fn pbkdf2_sha1(password: &[u8], salt: &[u8], count: u32, out: &mut [u8])
 }
 
 /// Fills `out` with the key that PBKDF2-HMAC-SHA-256 derives from the password, the salt and the
-/// count of iterations (RFC 8018 section 5.2).
+/// count of iterations (RFC 8018, section 5.2).
 pub fn pbkdf2_sha256(password: &[u8], salt: &[u8], count: u32, out: &mut [u8])
     requires count { 1 ≤ count }
     requires blocks { length out.old ≤ 4294967295 * 32 }
@@ -31,7 +31,7 @@ pub fn pbkdf2_sha256(password: &[u8], salt: &[u8], count: u32, out: &mut [u8])
 }
 
 /// Fills `out` with the key that PBKDF2-HMAC-SHA-384 derives from the password, the salt and the
-/// count of iterations (RFC 8018 section 5.2).
+/// count of iterations (RFC 8018, section 5.2).
 pub fn pbkdf2_sha384(password: &[u8], salt: &[u8], count: u32, out: &mut [u8])
     requires count { 1 ≤ count }
     requires blocks { length out.old ≤ 4294967295 * 48 }
@@ -80,7 +80,7 @@ fn iterate_once<H: Hasher>(key: &HmacKey<H>, last: &mut [u8], total: &mut [u8])
     requires total { length total.old ≡ H.SIZE }
     ensures next { (block : List ℕ) → HoldsKeyBlock H.Holds key.now.inner key.now.outer block
         → last.new ≡ hmac_of_block H.hash block last.old }
-    ensures total { total.new ≡ bytes_xor total.old last.new }
+    ensures total { total.new ≡ octets_xor total.old last.new }
 {
     let before = block_of(last);
     key.write_mac(&[&before[..H::SIZE]], last);
@@ -90,7 +90,7 @@ fn iterate_once<H: Hasher>(key: &HmacKey<H>, last: &mut [u8], total: &mut [u8])
 // Adds the piece to the total, bit by bit.
 fn xor_into(total: &mut [u8], piece: &[u8])
     requires { length piece.now ≡ length total.old }
-    ensures { total.new ≡ bytes_xor total.old piece.now }
+    ensures { total.new ≡ octets_xor total.old piece.now }
 {
     for i in 0..total.len() {
         total[i] ^= piece[i];

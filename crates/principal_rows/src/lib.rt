@@ -1,14 +1,16 @@
-//! What a database knows of a principal: its keys by version; and maps from names.
+//! What a database knows of a principal: its keys by version and its policy; and maps from names.
 #![tactic(auto)]
 
 mod key_list;
 mod limits;
 mod name_map;
+mod policy;
 mod row;
 
 pub use key_list::{KeyList, KeyListFault};
 pub use limits::Limits;
-pub use name_map::{NameKey, NameMap};
+pub use name_map::{Entry, NameKey, NameMap};
+pub use policy::Policy;
 pub use row::{KeyVersion, Row, Versions};
 
 #[cfg(test)]

@@ -5,7 +5,8 @@
 ghost use Rattle.std.specs.Prelude.{◌≡◌, T, false, IfOk, IfErr, IsOk, OnOk, OnErr, IsTrue, option_copied, option_map, slice_get};
 ghost use Rattle.std.specs.FinMap as map;
 ghost use Rattle.krb_fields.specs.Name.{Components, name_cmp};
-ghost use Rattle.principal_rows.specs.NameMap.{IsAt, IsGap, pairs};
+ghost use Rattle.sorted_entries.specs.Entries.{IsAt, IsGap};
+ghost use Rattle.principal_rows.specs.NameMap.{name_of, pairs};
 
 use krb_fields::{Name, NameRef};
 use std::alloc::{AllocError, Global};
@@ -37,10 +38,11 @@ impl<'a> NameKey for NameRef<'a> {
     }
 }
 
+/// A name and its value.
 #[derive(Debug, Drop)]
-struct Entry<V> {
-    name: Name,
-    value: V,
+pub struct Entry<V> {
+    pub name: Name,
+    pub value: V,
 }
 
 /// A map from names to values, kept in the order of the names and searched by halving.
@@ -73,10 +75,27 @@ impl<V: Drop> NameMap<V> {
         }
     }
 
+    /// The map of these entries, in whatever order they stand. Where a name stands twice, its first value stays.
+    pub fn from_entries(entries: Vec<Entry<V>>) -> Result<NameMap<V>, AllocError>
+        ensures { IfOk result (λ made. made ≡ map.from_entries (pairs entries.items)) }
+    {
+        let mut entries = entries;
+        entries.sort_by(|a, b| a.name.order(&b.name))?;
+        entries.dedup_by(|later, earlier| later.name.order(&earlier.name) == Ordering::Equal);
+        Ok(NameMap { entries })
+    }
+
     pub fn len(&self) -> usize
         ensures { result ≡ map.len self.now }
     {
         self.entries.len()
+    }
+
+    /// The names with their values, in rising order of the names.
+    pub fn entries(&self) -> &[Entry<V>]
+        ensures { pairs result.now ≡ map.entries self.now }
+    {
+        self.entries.as_slice()
     }
 
     /// The name and value at a place, for each place below `len`; names rise from place to place.
@@ -132,6 +151,17 @@ impl<V: Drop> NameMap<V> {
         }
     }
 
+    /// Takes a name out of the map, with its value.
+    pub fn remove<K: NameKey>(&mut self, key: &K) -> Option<V>
+        ensures value { result ≡ map.get self.old (K.components key.now) }
+        ensures map { self.new ≡ map.remove self.old (K.components key.now) }
+    {
+        match place(&self.entries, key) {
+            Ok(at) => Some(self.entries.remove(at).value),
+            Err(_) => None,
+        }
+    }
+
     /// Forgets all names.
     pub fn clear(&mut self)
         ensures { self.new ≡ map.empty }
@@ -143,8 +173,8 @@ impl<V: Drop> NameMap<V> {
 /// Where the key stands among the entries, or else where it would go.
 fn place<K: NameKey, V>(entries: &[Entry<V>], key: &K) -> Result<usize, usize>
     requires { T (map.is_sorted name_cmp (pairs entries.now)) }
-    ensures found { IfOk result (IsAt (K.components key.now) entries.now) }
-    ensures absent { IfErr result (IsGap (K.components key.now) entries.now) }
+    ensures found { IfOk result (IsAt name_cmp name_of (K.components key.now) entries.now) }
+    ensures absent { IfErr result (IsGap name_cmp name_of (K.components key.now) entries.now) }
 {
     entries.binary_search_by(|entry| key.compare(&entry.name))
 }

@@ -1,7 +1,8 @@
 //! Rows: what a database holds of one principal.
-ghost use Rattle.std.specs.Prelude.{◌≡◌, ◌∷◌, [], IfOk};
+ghost use Rattle.std.specs.Prelude.{◌≡◌, ◌≢◌, ◌<◌, ◌∷◌, [], IfOk, IfSome, OnOk, OnErr, is_some, option_copied};
+ghost use Rattle.principal_rows.specs.Versions.{are_versions};
 
-use crate::KeyList;
+use crate::{KeyList, Policy};
 use std::alloc::{AllocError, Global};
 use std::marker::Model;
 
@@ -32,8 +33,19 @@ impl Model for Versions {
     ghost invariant = { λ a. IsVersions a.versions.items };
 }
 
+impl KeyVersion {
+    pub fn copy(&self, alloc: Global) -> Result<KeyVersion, AllocError>
+        ensures { IfOk result (λ version. version ≡ self.now) }
+    {
+        Ok(KeyVersion {
+            number: self.number,
+            keys: self.keys.copy(alloc)?,
+        })
+    }
+}
+
 impl Versions {
-    ghost use Rattle.principal_rows.specs.Versions.{IsVersions, current};
+    ghost use Rattle.principal_rows.specs.Versions.{IsVersions, current, version_of, with_keys, without, are_versions};
 
     /// Version 1 alone, with these keys.
     pub fn first(alloc: Global, keys: KeyList) -> Result<Versions, AllocError>
@@ -42,6 +54,18 @@ impl Versions {
         let mut versions = Vec::new(alloc);
         versions.push(KeyVersion { number: 1, keys })?;
         Ok(Versions { versions })
+    }
+
+    /// These versions, where they are versions: at least one, and their numbers positive and falling.
+    pub fn new(versions: Vec<KeyVersion>) -> Option<Versions>
+        ensures some { is_some result ≡ are_versions versions.items }
+        ensures versions { IfSome result (λ made. made ≡ versions.items) }
+    {
+        if are_versions(&versions) {
+            Some(Versions { versions })
+        } else {
+            None
+        }
     }
 
     /// The versions, the current one first.
@@ -58,23 +82,89 @@ impl Versions {
     {
         &self.versions[0]
     }
+
+    /// The version of this number, if it is held.
+    pub fn find(&self, number: u32) -> Option<&KeyVersion>
+        ensures { option_copied result ≡ version_of self.now number }
+    {
+        self.versions
+            .iter()
+            .find(|version| version.number == number)
+    }
+
+    /// Makes these keys the current version, with the next number.
+    pub fn add(&mut self, keys: KeyList) -> Result<(), AllocError>
+        requires { (current self.old).number < 4294967295 }
+        ensures ok { OnOk result (self.new ≡ with_keys keys self.old) }
+        ensures err { OnErr result (self.new ≡ self.old) }
+    {
+        let number = self.current().number + 1;
+        Ok(self.versions.insert(0, KeyVersion { number, keys })?)
+    }
+
+    /// Drops the version of this number, which is not the current one.
+    pub fn drop(&mut self, number: u32)
+        requires { (current self.old).number ≢ number }
+        ensures { self.new ≡ without number self.old }
+    {
+        self.versions.retain(|version| version.number != number);
+    }
+
+    pub fn copy(&self, alloc: Global) -> Result<Versions, AllocError>
+        ensures { IfOk result (λ versions. versions ≡ self.now) }
+    {
+        let mut versions = Vec::new(alloc);
+        for version in &self.versions {
+            versions.push(version.copy(alloc)?)?;
+        }
+        Ok(Versions { versions })
+    }
+}
+
+fn are_versions(versions: &[KeyVersion]) -> bool
+    ensures { result ≡ are_versions versions.now }
+{
+    let mut rest = versions;
+    while let [version, later @ ..] = rest {
+        if version.number == 0 {
+            return false;
+        }
+        if let [next, ..] = later {
+            if next.number >= version.number {
+                return false;
+            }
+        }
+        rest = later;
+    }
+    !versions.is_empty()
 }
 
 /// A principal of the realm.
 #[derive(Debug, Drop)]
 pub struct Row {
     pub versions: Versions,
+    pub policy: Policy,
 }
 
 impl Row {
     ghost use Rattle.principal_rows.specs.Row.{first_row};
 
-    /// The row of a new principal, with these keys as version 1.
+    /// The row of a new principal, with these keys as version 1 and the default policy.
     pub fn first(alloc: Global, keys: KeyList) -> Result<Row, AllocError>
         ensures { IfOk result (λ row. row ≡ first_row keys) }
     {
         Ok(Row {
             versions: Versions::first(alloc, keys)?,
+            policy: Policy::default(),
+        })
+    }
+
+    pub fn copy(&self, alloc: Global) -> Result<Row, AllocError>
+        ensures { IfOk result (λ row. row ≡ self.now) }
+    {
+        Ok(Row {
+            versions: self.versions.copy(alloc)?,
+            policy: self.policy,
         })
     }
 }

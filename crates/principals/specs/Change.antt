@@ -1,34 +1,67 @@
 -- Changes of a database.
-use Rattle.std.specs.Prelude.{ℕ, Bool, not, ◌&&◌, nat_lt, nat_le, if◌then◌else◌, List, length, Option, Some, None}
-use Rattle.std.specs.List.{list_all}
-use Rattle.std.specs.FinMap.{contains_key, insert}
-use Rattle.krb_fields.specs.Name.{Components}
+use Rattle.std.specs.Prelude.{ℕ, Bool, false, not, ◌==◌, List, [], ◌∷◌, Option, Some, None, is_none}
+use Rattle.std.specs.Ordering.{eq_by_cmp}
+use Rattle.std.specs.FinMap.{get, contains_key, insert, remove}
+use Rattle.refusals.specs.Refusals.{Rule, first_holding}
+use Rattle.krb_fields.specs.Name.{Components, name_cmp}
+use Rattle.krb_fields.specs.NameLimits.{is_within_limits}
 use Rattle.principal_rows.specs.Row.{first_row}
+use Rattle.principal_rows.specs.Versions.{current, version_of, with_keys, without}
+use Rattle.principal_rows.specs.declared.row.Row.{Row}
 use Rattle.principals.specs.declared.change.Change.{Change}
-use Rattle.principals.specs.declared.change.Change.TheVariants.{Add}
+use Rattle.principals.specs.declared.change.Change.TheVariants.{Add, Remove, NewKeys, DropKeys, SetPolicy}
 use Rattle.principals.specs.declared.change.ChangeFault.{ChangeFault}
-use Rattle.principals.specs.declared.change.ChangeFault.TheVariants.{BadName, Exists}
-use Rattle.principals.specs.Database.{Principals}
+use Rattle.principals.specs.declared.change.ChangeFault.TheVariants.{BadName, Exists, Protected, Absent, LastVersion, CurrentKeys}
+use Rattle.principals.specs.Database.{Principals, ticket_granter}
 
--- `IsComponent` as a test: 1 to 255 octets
-abbrev pub is_component : List ℕ → Bool
-is_component octets = nat_lt 0 (length octets) && nat_le (length octets) 255 && list_all (λ o. nat_lt o 256) octets
+-- whether a row is there, and passes a test
+abbrev pub holds_of : (Row → Bool) → Option Row → Bool
+holds_of test None = false
+holds_of test (Some row) = test row
 
--- `IsWithinLimits` as a test: 1 to 16 components
-abbrev pub is_within_limits : Components → Bool
-is_within_limits name = nat_lt 0 (length name) && nat_le (length name) 16 && list_all is_component name
+abbrev pub add_rules : Principals → Components → List (Rule ChangeFault)
+add_rules p name = (not (is_within_limits name), BadName) ∷ (contains_key p.rows name, Exists) ∷ []
 
--- why a name is not added: the fault of the first condition that holds, if any does
-abbrev pub add_refusal : Principals → Components → Option ChangeFault
-add_refusal p name =
-    if not (is_within_limits name) then Some BadName
-    else if contains_key p.rows name then Some Exists
-    else None
+abbrev pub remove_rules : Principals → Components → List (Rule ChangeFault)
+remove_rules p name = (eq_by_cmp name_cmp name (ticket_granter p.realm), Protected) ∷ (not (contains_key p.rows name), Absent) ∷ []
+
+abbrev pub new_keys_rules : Option Row → List (Rule ChangeFault)
+new_keys_rules row =
+    (is_none row, Absent)
+    ∷ (holds_of (λ r. (current r.versions).number == 4294967295) row, LastVersion)
+    ∷ []
+
+abbrev pub drop_keys_rules : ℕ → Option Row → List (Rule ChangeFault)
+drop_keys_rules version row =
+    (is_none row, Absent)
+    ∷ (holds_of (λ r. is_none (version_of r.versions version)) row, Absent)
+    ∷ (holds_of (λ r. (current r.versions).number == version) row, CurrentKeys)
+    ∷ []
+
+abbrev pub set_policy_rules : Option Row → List (Rule ChangeFault)
+set_policy_rules row = (is_none row, Absent) ∷ []
+
+-- the conditions under which a change is refused, in their order
+abbrev pub rules : Principals → Change → List (Rule ChangeFault)
+rules p (Add name keys) = add_rules p name.components
+rules p (Remove name) = remove_rules p name.components
+rules p (NewKeys name keys) = new_keys_rules (get p.rows name.components)
+rules p (DropKeys name version) = drop_keys_rules version (get p.rows name.components)
+rules p (SetPolicy name policy) = set_policy_rules (get p.rows name.components)
 
 -- why the change is refused, if it is
 abbrev pub refusal : Principals → Change → Option ChangeFault
-refusal p (Add name keys) = add_refusal p name.components
+refusal p change = first_holding (rules p change)
+
+-- the row of a name is exchanged for what is made of it
+abbrev pub with_row : Principals → Components → (Row → Row) → Option Row → Principals
+with_row p name change None = p
+with_row p name change (Some row) = record p { rows = insert p.rows name (change row) }
 
 -- what the change makes where it is not refused
 abbrev pub changed : Principals → Change → Principals
 changed p (Add name keys) = record p { rows = insert p.rows name.components (first_row keys) }
+changed p (Remove name) = record p { rows = remove p.rows name.components }
+changed p (NewKeys name keys) = with_row p name.components (λ row. record row { versions = with_keys keys row.versions }) (get p.rows name.components)
+changed p (DropKeys name version) = with_row p name.components (λ row. record row { versions = without version row.versions }) (get p.rows name.components)
+changed p (SetPolicy name policy) = with_row p name.components (λ row. record row { policy = policy }) (get p.rows name.components)

@@ -1,2 +1,9 @@
 pub mod Change
 pub mod Database
+pub mod NameOf
+pub mod ReadBack
+pub mod ReadFault
+pub mod RowValue
+pub mod RowWritten
+pub mod Value
+pub mod Written

@@ -1,13 +1,23 @@
 //! Changes of a database.
 use krb_fields::Name;
-use principal_rows::KeyList;
+use principal_rows::{KeyList, Policy};
 use std::alloc::AllocError;
+use std::error::Error;
+use std::fmt;
 
 /// A change of one principal's row.
 #[derive(Debug, Drop)]
 pub enum Change {
-    /// A new principal, with these keys as version 1.
+    /// A new principal, with these keys as version 1 and the default policy.
     Add { name: Name, keys: KeyList },
+    /// The principal's row goes.
+    Remove { name: Name },
+    /// The keys become the principal's current ones, with the next version number.
+    NewKeys { name: Name, keys: KeyList },
+    /// The keys of a version that is not current go.
+    DropKeys { name: Name, version: u32 },
+    /// The policy becomes the principal's.
+    SetPolicy { name: Name, policy: Policy },
 }
 
 /// Why a change is refused.
@@ -17,8 +27,47 @@ pub enum ChangeFault {
     BadName,
     /// The name has a row already.
     Exists,
+    /// The ticket-granting service cannot go.
+    Protected,
+    /// The name has no row, or its row no such version.
+    Absent,
+    /// The current version is 4294967295, and has no next one.
+    LastVersion,
+    /// The version is the current one.
+    CurrentKeys,
     Memory,
 }
+
+impl ChangeFault {
+    /// The word that stands for the fault in what commands print.
+    pub fn name(self) -> &'static str {
+        match self {
+            ChangeFault::BadName => "BadName",
+            ChangeFault::Exists => "Exists",
+            ChangeFault::Protected => "Protected",
+            ChangeFault::Absent => "Absent",
+            ChangeFault::LastVersion => "LastVersion",
+            ChangeFault::CurrentKeys => "CurrentKeys",
+            ChangeFault::Memory => "Memory",
+        }
+    }
+}
+
+impl fmt::Display for ChangeFault {
+    fn fmt<W: fmt::Write>(&self, f: &mut fmt::Formatter<W>) -> fmt::Result {
+        f.write_str(match self {
+            ChangeFault::BadName => "the name is beyond the limits of names",
+            ChangeFault::Exists => "the name has a row already",
+            ChangeFault::Protected => "the ticket-granting service cannot go",
+            ChangeFault::Absent => "there is no such row, or no such version",
+            ChangeFault::LastVersion => "the current version has the last number",
+            ChangeFault::CurrentKeys => "the version is the current one",
+            ChangeFault::Memory => "out of memory",
+        })
+    }
+}
+
+impl Error for ChangeFault {}
 
 impl From<AllocError> for ChangeFault {
     ghost use Rattle.std.specs.Prelude.{◌≡◌};

@@ -1,15 +1,21 @@
 //! Databases.
-ghost use Rattle.std.specs.Prelude.{◌≡◌, ◌↔◌, IfOk, IfSome, IfNone, OnOk, OnErr, IsOkUnless, option_copied, option_map, slice_get};
+ghost use Rattle.std.specs.Prelude.{◌≡◌, ◌↔◌, ◌≤◌, length, IfOk, IfSome, IfNone, IsTrue, OnOk, OnErr, IsOkUnless, option_copied, option_map, slice_get};
 ghost use Rattle.std.specs.FinMap as map;
+ghost use Rattle.refusals.specs.Refusals.{first_holding};
 ghost use Rattle.krb_fields.specs.NameLimits.{IsComponent};
-ghost use Rattle.principals.specs.Database.{IsDatabase, first_database, granter_name};
-ghost use Rattle.principals.specs.Change.{refusal, add_refusal, changed};
+ghost use Rattle.std.specs.Ordering.{eq_by_cmp};
+ghost use Rattle.krb_fields.specs.Name.{name_cmp};
+ghost use Rattle.principals.specs.Database.{IsDatabase, first_database, granter_name, ticket_granter};
+ghost use Rattle.principals.specs.Change.{refusal, add_rules, changed};
 
 use crate::{Change, ChangeFault};
-use krb_elements::{KerberosString, Seq};
+use krb_elements::KerberosString;
 use krb_fields::{Name, NameRef, is_component};
-use principal_rows::{KeyList, NameMap, Row};
+use principal_rows::{Entry, KeyList, NameMap, Policy, Row};
+use refusals::first_holding;
 use std::alloc::{AllocError, Global};
+use std::error::Error;
+use std::fmt;
 use std::marker::Model;
 
 /// The name-type of a service with an instance: NT-SRV-INST of RFC 4120 section 6.2.
@@ -18,8 +24,8 @@ const NT_SRV_INST: i32 = 2;
 /// The principals of one realm, the ticket-granting service `krbtgt/REALM` always among them.
 #[derive(Debug, Drop)]
 pub struct Database {
-    realm: KerberosString,
-    rows: NameMap<Row>,
+    pub(crate) realm: KerberosString,
+    pub(crate) rows: NameMap<Row>,
 }
 
 impl Model for Database {
@@ -41,6 +47,17 @@ pub enum FirstFault {
     BadName,
     Memory,
 }
+
+impl fmt::Display for FirstFault {
+    fn fmt<W: fmt::Write>(&self, f: &mut fmt::Formatter<W>) -> fmt::Result {
+        f.write_str(match self {
+            FirstFault::BadName => "a realm has 1 to 255 octets",
+            FirstFault::Memory => "out of memory",
+        })
+    }
+}
+
+impl Error for FirstFault {}
 
 impl From<AllocError> for FirstFault {
     ghost use Rattle.std.specs.Prelude.{◌≡◌};
@@ -71,10 +88,21 @@ impl Database {
         })
     }
 
+    pub fn copy(&self, alloc: Global) -> Result<Database, AllocError>
+        ensures { IfOk result (λ database. database ≡ self.now) }
+    {
+        let entries = copy_entries(alloc, self.rows.entries())?;
+        Ok(Database {
+            realm: self.realm.copy(alloc)?,
+            rows: NameMap::from_entries(entries)?,
+        })
+    }
+
     /// The realm's octets, 1 to 255.
     pub fn realm(&self) -> &[u8]
         ensures realm { result.now ≡ self.now.realm }
         ensures valid { IsDatabase self.now }
+        ensures short { length self.now.realm ≤ 255 }
     {
         self.realm.as_slice()
     }
@@ -116,13 +144,17 @@ impl Database {
     {
         match change {
             Change::Add { name, keys } => self.add(alloc, name, keys),
+            Change::Remove { name } => self.remove(name),
+            Change::NewKeys { name, keys } => self.new_keys(alloc, name, keys),
+            Change::DropKeys { name, version } => self.drop_keys(alloc, name, *version),
+            Change::SetPolicy { name, policy } => self.set_policy(alloc, name, *policy),
         }
     }
 
     fn add(&mut self, alloc: Global, name: &Name, keys: &KeyList) -> Result<(), ChangeFault>
         ensures changed { OnOk result (self.new ≡ changed self.old (Change.Add name.now keys.now)) }
-        ensures refused { IfSome (add_refusal self.old name.now.components) (λ fault. result ≡ Err fault) }
-        ensures otherwise { IfNone (add_refusal self.old name.now.components) (IsOkUnless result ChangeFault.Memory) }
+        ensures refused { IfSome (refusal self.old (Change.Add name.now keys.now)) (λ fault. result ≡ Err fault) }
+        ensures otherwise { IfNone (refusal self.old (Change.Add name.now keys.now)) (IsOkUnless result ChangeFault.Memory) }
         ensures err { OnErr result (self.new ≡ self.old) }
     {
         if let Some(fault) = self.add_refusal(name) {
@@ -133,16 +165,117 @@ impl Database {
         Ok(())
     }
 
-    fn add_refusal(&self, name: &Name) -> Option<ChangeFault>
-        ensures { result ≡ add_refusal self.now name.now.components }
+    fn remove(&mut self, name: &Name) -> Result<(), ChangeFault>
+        ensures changed { OnOk result (self.new ≡ changed self.old (Change.Remove name.now)) }
+        ensures refused { IfSome (refusal self.old (Change.Remove name.now)) (λ fault. result ≡ Err fault) }
+        ensures otherwise { IfNone (refusal self.old (Change.Remove name.now)) (result ≡ Ok tt) }
+        ensures err { OnErr result (self.new ≡ self.old) }
     {
-        if !name.is_within_limits() {
-            Some(ChangeFault::BadName)
-        } else if self.get(name).is_some() {
-            Some(ChangeFault::Exists)
-        } else {
-            None
+        if is_granter(name, self.realm.as_slice()) {
+            return Err(ChangeFault::Protected);
         }
+        if self.rows.get(name).is_none() {
+            return Err(ChangeFault::Absent);
+        }
+        self.rows.remove(name);
+        Ok(())
+    }
+
+    fn new_keys(&mut self, alloc: Global, name: &Name, keys: &KeyList) -> Result<(), ChangeFault>
+        ensures changed { OnOk result (self.new ≡ changed self.old (Change.NewKeys name.now keys.now)) }
+        ensures refused { IfSome (refusal self.old (Change.NewKeys name.now keys.now)) (λ fault. result ≡ Err fault) }
+        ensures otherwise { IfNone (refusal self.old (Change.NewKeys name.now keys.now)) (IsOkUnless result ChangeFault.Memory) }
+        ensures err { OnErr result (self.new ≡ self.old) }
+    {
+        let Some(row) = self.rows.get(name) else {
+            return Err(ChangeFault::Absent);
+        };
+        if row.versions.current().number == u32::MAX {
+            return Err(ChangeFault::LastVersion);
+        }
+        let mut row = row.copy(alloc)?;
+        row.versions.add(keys.copy(alloc)?)?;
+        self.replace(name, row);
+        Ok(())
+    }
+
+    fn drop_keys(&mut self, alloc: Global, name: &Name, version: u32) -> Result<(), ChangeFault>
+        ensures changed { OnOk result (self.new ≡ changed self.old (Change.DropKeys name.now version)) }
+        ensures refused { IfSome (refusal self.old (Change.DropKeys name.now version)) (λ fault. result ≡ Err fault) }
+        ensures otherwise { IfNone (refusal self.old (Change.DropKeys name.now version)) (IsOkUnless result ChangeFault.Memory) }
+        ensures err { OnErr result (self.new ≡ self.old) }
+    {
+        let Some(row) = self.rows.get(name) else {
+            return Err(ChangeFault::Absent);
+        };
+        if row.versions.find(version).is_none() {
+            return Err(ChangeFault::Absent);
+        }
+        if row.versions.current().number == version {
+            return Err(ChangeFault::CurrentKeys);
+        }
+        let mut row = row.copy(alloc)?;
+        row.versions.drop(version);
+        self.replace(name, row);
+        Ok(())
+    }
+
+    fn set_policy(&mut self, alloc: Global, name: &Name, policy: Policy) -> Result<(), ChangeFault>
+        ensures changed { OnOk result (self.new ≡ changed self.old (Change.SetPolicy name.now policy)) }
+        ensures refused { IfSome (refusal self.old (Change.SetPolicy name.now policy)) (λ fault. result ≡ Err fault) }
+        ensures otherwise { IfNone (refusal self.old (Change.SetPolicy name.now policy)) (IsOkUnless result ChangeFault.Memory) }
+        ensures err { OnErr result (self.new ≡ self.old) }
+    {
+        let Some(row) = self.rows.get(name) else {
+            return Err(ChangeFault::Absent);
+        };
+        let mut row = row.copy(alloc)?;
+        row.policy = policy;
+        self.replace(name, row);
+        Ok(())
+    }
+
+    /// Sets the row of a name that has one.
+    fn replace(&mut self, name: &Name, row: Row)
+        requires { IsTrue (map.contains_key self.old.rows name.now.components) }
+        ensures { self.new ≡ record self.old { rows = map.insert self.old.rows name.now.components row } }
+    {
+        let mut row = row;
+        self.rows.exchange(name, &mut row);
+    }
+
+    fn add_refusal(&self, name: &Name) -> Option<ChangeFault>
+        ensures { result ≡ first_holding (add_rules self.now name.now.components) }
+    {
+        first_holding(&[
+            (!name.is_within_limits(), ChangeFault::BadName),
+            (self.get(name).is_some(), ChangeFault::Exists),
+        ])
+    }
+}
+
+fn copy_entries(alloc: Global, entries: &[Entry<Row>]) -> Result<Vec<Entry<Row>>, AllocError>
+    ensures { IfOk result (λ copies. copies.items ≡ entries.now) }
+{
+    let mut copies = Vec::new(alloc);
+    for entry in entries {
+        copies.push(Entry {
+            name: entry.name.copy(alloc)?,
+            value: entry.value.copy(alloc)?,
+        })?;
+    }
+    Ok(copies)
+}
+
+/// Whether the name is that of the realm's ticket-granting service.
+fn is_granter(name: &Name, realm: &[u8]) -> bool
+    ensures { result ≡ eq_by_cmp name_cmp name.now.components (ticket_granter realm.now) }
+{
+    match name.components.as_slice() {
+        [service, instance] => {
+            service.as_slice() == b"krbtgt".as_slice() && instance.as_slice() == realm
+        }
+        _ => false,
     }
 }
 
@@ -150,11 +283,5 @@ impl Database {
 pub fn granter_name(alloc: Global, realm: &[u8]) -> Result<Name, AllocError>
     ensures { IfOk result (λ name. name ≡ granter_name realm.now) }
 {
-    let mut components = Seq::new(alloc);
-    components.push(KerberosString::from_slice(alloc, b"krbtgt")?)?;
-    components.push(KerberosString::from_slice(alloc, realm)?)?;
-    Ok(Name {
-        name_type: NT_SRV_INST,
-        components,
-    })
+    Name::new(alloc, NT_SRV_INST, &[b"krbtgt", realm])
 }

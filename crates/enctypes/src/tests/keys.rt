@@ -1,13 +1,13 @@
 //! Derived keys and checksums.
 
 use super::{TEXT, USAGE, base_key, in_hex};
-use crate::derived_key::DerivedKey;
+use crate::derived_key::{DerivedKey, derived_key};
 use crate::purpose::Purpose;
 use crate::sha2_profile::{Aes128Sha2, Aes256Sha2};
 use crate::suite::Suite;
 use crate::{Etype, checksum, verify};
 
-// RFC 8009 appendix A, usage 2.
+// RFC 8009, appendix A, usage 2.
 #[test]
 fn derived_keys_of_rfc_8009(rt: HostRuntime) {
     let rows: [(Purpose, &[u8], &[u8]); 3] = [
@@ -35,10 +35,10 @@ fn derived_keys_of_rfc_8009(rt: HostRuntime) {
 
 fn derived<S: Suite>(purpose: Purpose) -> DerivedKey {
     let key = base_key(S::ETYPE);
-    DerivedKey::of::<S>(key.bytes(), USAGE.number(), purpose)
+    derived_key::<S>(key.bytes(), USAGE.number(), purpose)
 }
 
-// RFC 8009 appendix A for types 19 and 20; the others are from the independent implementation.
+// RFC 8009, appendix A, for types 19 and 20; the others are from the independent implementation.
 #[test]
 fn checksums_of_the_standards(rt: HostRuntime) {
     let rows: [(Etype, &[u8]); 4] = [

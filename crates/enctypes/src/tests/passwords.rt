@@ -4,7 +4,7 @@ use super::in_hex;
 use crate::{Etype, string_to_key};
 use std::test::Fail;
 
-// RFC 3962 appendix B.
+// RFC 3962, appendix B.
 #[test]
 fn keys_of_rfc_3962(rt: HostRuntime) -> Result<(), Fail> {
     let rows: [(Etype, &[u8], &[u8], u32, &[u8]); 14] = [
@@ -118,7 +118,7 @@ fn keys_of_rfc_3962(rt: HostRuntime) -> Result<(), Fail> {
     Ok(())
 }
 
-// RFC 8009 appendix A: the salt is random octets and a default salt.
+// RFC 8009, appendix A: the salt is random octets and a default salt.
 #[test]
 fn keys_of_rfc_8009(rt: HostRuntime) -> Result<(), Fail> {
     const SALT: &[u8; 37] =

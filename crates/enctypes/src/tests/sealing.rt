@@ -5,7 +5,7 @@ use crate::{Etype, KeyUsage, open, seal, string_to_key};
 use std::alloc::AllocError;
 use std::test::Fail;
 
-// RFC 8009 appendix A for types 19 and 20; the others are from the independent implementation.
+// RFC 8009, appendix A, for types 19 and 20; the others are from the independent implementation.
 #[test]
 fn sealed_texts_of_the_standards(rt: HostRuntime) -> Result<(), Fail> {
     let rows: [(Etype, [u8; 16], usize, &[u8]); 14] = [

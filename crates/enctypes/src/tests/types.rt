@@ -20,7 +20,7 @@ fn numbers_are_those_that_iana_assigned(rt: HostRuntime) {
     }
 }
 
-// RFC 3962 sections 4 and 7, RFC 8009 sections 4, 5 and 6.
+// RFC 3962, sections 4 and 7; RFC 8009, sections 4, 5 and 6.
 #[test]
 fn sizes_and_defaults_are_the_standards(rt: HostRuntime) {
     for (etype, mac_len, checksum_type, default_count) in [
@@ -35,7 +35,7 @@ fn sizes_and_defaults_are_the_standards(rt: HostRuntime) {
     }
 }
 
-// RFC 4120 section 7.5.1.
+// RFC 4120, section 7.5.1.
 #[test]
 fn usages_have_their_numbers(rt: HostRuntime) {
     for (usage, number) in [

@@ -3,7 +3,7 @@
 use super::in_hex;
 use crate::{kdf_sha256, kdf_sha384, n_fold, pbkdf2_sha1, pbkdf2_sha256, pbkdf2_sha384};
 
-// The base keys of RFC 8009 appendix A.
+// The base keys of RFC 8009, appendix A.
 const BASE_KEY_128: [u8; 16] = [
     0x37, 0x05, 0xd9, 0x60, 0x80, 0xc1, 0x77, 0x28, 0xa0, 0xe8, 0x00, 0xea, 0xb6, 0xe0, 0xd2, 0x3c,
 ];
@@ -13,7 +13,7 @@ const BASE_KEY_256: [u8; 32] = [
     0x00, 0xeb, 0x48, 0x36, 0x47, 0x2e, 0xa8, 0xa0, 0x26, 0xd1, 0x6b, 0x71, 0x82, 0x46, 0x0c, 0x52,
 ];
 
-// RFC 6070 section 2, but for the case of 16,777,216 iterations.
+// RFC 6070, section 2, but for the case of 16,777,216 iterations.
 #[test]
 fn pbkdf2_sha1_of_rfc_6070(rt: HostRuntime) {
     let rows: [(&[u8], &[u8], u32, &[u8]); 5] = [
@@ -57,7 +57,7 @@ fn pbkdf2_sha1_of_rfc_6070(rt: HostRuntime) {
     }
 }
 
-// RFC 3962 appendix B: the keys of 256 bits, and one of 128.
+// RFC 3962, appendix B: the keys of 256 bits, and one of 128.
 #[test]
 fn pbkdf2_sha1_of_rfc_3962(rt: HostRuntime) {
     let rows: [(&[u8], &[u8], u32, &[u8]); 8] = [
@@ -185,7 +185,7 @@ fn pbkdf2_sha384_of_hashlib(rt: HostRuntime) {
     }
 }
 
-// RFC 3961 appendix A.1.
+// RFC 3961, appendix A.1.
 #[test]
 fn n_folds_of_the_standard(rt: HostRuntime) {
     let rows: [(&[u8], &[u8]); 11] = [
@@ -212,11 +212,11 @@ fn n_folds_of_the_standard(rt: HostRuntime) {
         assert!(rt; !input.is_empty() && folded.len() >= 2 && folded.len() <= 64);
         let out = &mut out[..folded.len() / 2];
         n_fold(input, out);
-        assert!(rt; in_hex(out, folded), "{} bytes", input.len());
+        assert!(rt; in_hex(out, folded), "{} octets", input.len());
     }
 }
 
-// RFC 8009 appendix A: Kc, Ke and Ki of usage 2; the last row by Python's hmac.
+// RFC 8009, appendix A: Kc, Ke and Ki of usage 2; the last row by Python's hmac.
 #[test]
 fn kdf_sha256_of_rfc_8009(rt: HostRuntime) {
     let rows: [(&[u8], &[u8]); 4] = [
@@ -233,11 +233,11 @@ fn kdf_sha256_of_rfc_8009(rt: HostRuntime) {
         assert!(rt; key.len() <= 64);
         let out = &mut out[..key.len() / 2];
         kdf_sha256(&BASE_KEY_128, label, out);
-        assert!(rt; in_hex(out, key), "{} bytes", out.len());
+        assert!(rt; in_hex(out, key), "{} octets", out.len());
     }
 }
 
-// RFC 8009 appendix A: Kc, Ke and Ki of usage 2; the last row by Python's hmac.
+// RFC 8009, appendix A: Kc, Ke and Ki of usage 2; the last row by Python's hmac.
 #[test]
 fn kdf_sha384_of_rfc_8009(rt: HostRuntime) {
     let rows: [(&[u8], &[u8]); 4] = [
@@ -263,6 +263,6 @@ fn kdf_sha384_of_rfc_8009(rt: HostRuntime) {
         assert!(rt; key.len() <= 96);
         let out = &mut out[..key.len() / 2];
         kdf_sha384(&BASE_KEY_256, label, out);
-        assert!(rt; in_hex(out, key), "{} bytes", out.len());
+        assert!(rt; in_hex(out, key), "{} octets", out.len());
     }
 }

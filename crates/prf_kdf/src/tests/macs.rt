@@ -8,7 +8,7 @@ const COUNTING: [u8; 25] = [
     1, 2, 3, 4, 5, 6, 7, 8, 9, 10, 11, 12, 13, 14, 15, 16, 17, 18, 19, 20, 21, 22, 23, 24, 25,
 ];
 
-// RFC 2202 section 3.
+// RFC 2202, section 3.
 #[test]
 fn hmac_sha1_of_the_standard(rt: HostRuntime) {
     let rows: [(&[u8], &[u8], &[u8]); 7] = [
@@ -51,13 +51,13 @@ fn hmac_sha1_of_the_standard(rt: HostRuntime) {
     for (key, text, mac) in rows {
         assert!(rt;
             in_hex(&hmac_sha1(key, &[text]), mac),
-            "{} bytes of key",
+            "{} octets of key",
             key.len()
         );
     }
 }
 
-// RFC 4231 section 4.
+// RFC 4231, section 4.
 #[test]
 fn hmac_sha256_of_the_standard(rt: HostRuntime) {
     let rows: [(&[u8], &[u8], &[u8]); 6] = [
@@ -95,7 +95,7 @@ fn hmac_sha256_of_the_standard(rt: HostRuntime) {
     for (key, text, mac) in rows {
         assert!(rt;
             in_hex(&hmac_sha256(key, &[text]), mac),
-            "{} bytes of key",
+            "{} octets of key",
             key.len()
         );
     }
@@ -104,7 +104,7 @@ fn hmac_sha256_of_the_standard(rt: HostRuntime) {
     assert!(rt; in_hex(&mac[..16], b"a3b6167473100ee06e0c796c2955552b"));
 }
 
-// RFC 4231 section 4.
+// RFC 4231, section 4.
 #[test]
 fn hmac_sha384_of_the_standard(rt: HostRuntime) {
     let rows: [(&[u8], &[u8], &[u8]); 6] = [
@@ -142,7 +142,7 @@ fn hmac_sha384_of_the_standard(rt: HostRuntime) {
     for (key, text, mac) in rows {
         assert!(rt;
             in_hex(&hmac_sha384(key, &[text]), mac),
-            "{} bytes of key",
+            "{} octets of key",
             key.len()
         );
     }

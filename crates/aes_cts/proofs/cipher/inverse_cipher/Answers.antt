@@ -1,19 +1,49 @@
-use Rattle.std.proofs.Common.{◌≡◌, refl, ℕ, ◌+◌, ◌-◌, ◌*◌, sym, ap, ◌∙◌, arith}
-use Rattle.aes_cts.specs.State.{add_round_key}
-use Rattle.aes_cts.proofs.Rounds.{inverse_rounds_none, inverse_rounds_more, inverse_cipher_is, part_is}
+use Rattle.std.proofs.Common.{◌≡◌, ℕ, ◌+◌, ◌-◌, ◌*◌, List, take, drop, refl, sym, ap, ◌∙◌, arith}
+use Rattle.aes_cts.specs.State.{add_round_key, inverse_mix_columns, inverse_shift_rows, inverse_sub_bytes}
+use Rattle.aes_cts.specs.Cipher.{equivalent_rounds}
+use Rattle.aes_cts.specs.Words.{octets}
+use Rattle.aes_cts.proofs.Equivalent.{equivalent_none, equivalent_more, equivalent_is}
+use Rattle.aes_cts.proofs.WordLaws.{octets-take, key_words_is}
 use Rattle.aes_cts.proofs.cipher.inverse_cipher.Goals as goal
 
 pub loop-i-init : goal.loop-i-init
 loop-i-init c =
-    c.add_round_key.ensures ∙ ap (add_round_key _) (part_is c.args.schedule.now (16 * c.args.round_count) _ (omega arith))
-    ∙ sym (inverse_rounds_none c.args.round_count c.args.schedule.now c.args.state.now)
+    let w : List ℕ = c.args.schedule.now in
+    let s : List ℕ = octets c.args.state.now in
+    let nr : ℕ = c.args.round_count in
+    c.inverse_round.ensures
+    ∙ ap (λ (t : List ℕ). add_round_key (inverse_mix_columns (inverse_sub_bytes (inverse_shift_rows t)))
+    (octets (take (4 * nr - (4 * nr - 4)) (drop (4 * nr - 4) w))))
+    (c.add_round_key.ensures ∙ ap (add_round_key s) (key_words_is w (4 * nr) (4 * nr + 4) nr refl refl) ∙ sym
+    (equivalent_none nr (octets w) s))
+    ∙ ap (add_round_key (inverse_mix_columns
+    (inverse_sub_bytes (inverse_shift_rows (equivalent_rounds nr (octets w) s 0)))))
+    (key_words_is w (4 * nr - 4) (4 * nr) (nr - 1) (omega arith) (omega arith))
+    ∙ sym (equivalent_more nr (octets w) s 0)
 
 pub loop-i-preserved : goal.loop-i-preserved
 loop-i-preserved c =
-    let at : ℕ = 16 * (c.args.round_count - (c.loop-i.i + 1)) in
-    rw (c.inverse_mix_columns.ensures, c.add_round_key-in-loop-i.ensures, c.inverse_sub_bytes.ensures, c.inverse_shift_rows.ensures, c.loop-i.invariant, inverse_rounds_more, part_is c.args.schedule.now at (at + 16) refl) refl
+    let w : List ℕ = c.args.schedule.now in
+    let s : List ℕ = octets c.args.state.now in
+    let nr : ℕ = c.args.round_count in
+    let i : ℕ = c.loop-i.i in
+    c.inverse_round-in-loop-i.ensures
+    ∙ ap (λ (t : List ℕ). add_round_key (inverse_mix_columns (inverse_sub_bytes (inverse_shift_rows t)))
+    (octets (take (4 * (nr - (i + 1)) + 4 - 4 * (nr - (i + 1))) (drop (4 * (nr - (i + 1))) w)))) c.loop-i.invariant
+    ∙ ap (add_round_key (inverse_mix_columns
+    (inverse_sub_bytes (inverse_shift_rows (equivalent_rounds nr (octets w) s i)))))
+    (key_words_is w (4 * (nr - (i + 1))) (4 * (nr - (i + 1)) + 4) (nr - (i + 1)) refl refl)
+    ∙ sym (equivalent_more nr (octets w) s i)
 
 pub returns : goal.returns
 returns c =
-    let done : c.loop-i.i ≡ c.args.round_count - 1 = omega arith in
-    rw (c.add_round_key-2.ensures, c.inverse_sub_bytes-2.ensures, c.inverse_shift_rows-2.ensures, c.loop-i.invariant, done, inverse_cipher_is) refl
+    let w : List ℕ = c.args.schedule.now in
+    let s : List ℕ = octets c.args.state.now in
+    let nr : ℕ = c.args.round_count in
+    let done : c.loop-i.i ≡ nr - 1 = omega arith in
+    c.last_inverse_round.ensures
+    ∙ ap (λ (t : List ℕ). add_round_key (inverse_sub_bytes (inverse_shift_rows t)) (octets (take 4 w)))
+    (c.loop-i.invariant ∙ ap (equivalent_rounds nr (octets w) s) done)
+    ∙ ap (add_round_key (inverse_sub_bytes (inverse_shift_rows (equivalent_rounds nr (octets w) s (nr - 1)))))
+    (sym (octets-take 4 w))
+    ∙ sym (equivalent_is nr (octets w) s)

@@ -18,7 +18,8 @@ loop-i-preserved c =
       none = λ all.
           let low : before ≡ 0 = c.loop-i.invariant.none (λ k lt. all k (omega arith)) in
           let same : a ≡ b = all i (omega arith) in
-          ap (λ (n : ℕ). bit_or n (bit_xor a b)) low ∙ or_zero_l (bit_xor a b) ∙ ap (λ (n : ℕ). bit_xor n b) same ∙ xor_self b;
+          ap (λ (n : ℕ). bit_or n (bit_xor a b)) low ∙ or_zero_l (bit_xor a b) ∙ ap (λ (n : ℕ). bit_xor n b) same
+          ∙ xor_self b;
     }
 
 pub returns : goal.returns

@@ -11,11 +11,12 @@ unfolding string_key
 returns g c =
     let etype : Etype = g.S.Suite.ETYPE in
     let len : ℕ = c.KEY_LEN-2.result in
-    let fits : len ≤ 32 = omega (arith, c.KEY_LEN-2.ensures, g.met.S.Suite.sizes.key, key_len-most etype) in
+    let fits : len ≤ 32 = omega (arith, c.KEY_LEN-2.ensures, g.met.S.Suite.constants.key, key_len-most etype) in
     let key_of : Etype → List ℕ → ProtocolKey = λ e b. record { etype = e; bytes = b } in
     let bytes : c.derive.new.out ≡ string_key etype c.args.pass.now c.args.salt.now c.args.count =
     c.derive.ensures.value
     ∙ ap (derived etype c.stretch.new.out (codes "kerberos")) (length-take-le len (replicate {A = ℕ} 32 0) fits)
     ∙ ap (λ (l : List ℕ). derived etype l (codes "kerberos") len) c.in_ok-stretch.ensures.value
-    ∙ ap (derived etype (stretched etype c.args.pass.now c.args.salt.now c.args.count) (codes "kerberos")) (c.KEY_LEN-2.ensures ∙ g.met.S.Suite.sizes.key) in
+    ∙ ap (derived etype (stretched etype c.args.pass.now c.args.salt.now c.args.count) (codes "kerberos"))
+    (c.KEY_LEN-2.ensures ∙ g.met.S.Suite.constants.key) in
     c.with_octets.ensures ∙ ap (λ (e : Etype). key_of e c.derive.new.out) c.ETYPE.ensures ∙ ap (key_of etype) bytes

@@ -7,5 +7,6 @@ use Rattle.enctypes.proofs.sealing.encryption_key.Goals as goal
 pub aes_key-requires : goal.aes_key-requires
 aes_key-requires g c =
     let len : length c.bytes.result.now ≡ key_len g.S.Suite.ETYPE =
-    ap length (c.bytes.ensures ∙ c.of.ensures) ∙ length-derived_key g.S.Suite.ETYPE c.args.key.now c.args.usage Encryption in
+    ap length (c.bytes.ensures.bytes ∙ c.derived_key.ensures)
+    ∙ length-derived_key g.S.Suite.ETYPE c.args.key.now c.args.usage Encryption in
     subst (λ (n : ℕ). (n ≡ 16) ⊎ (n ≡ 32)) (sym len) (key_len-cases g.S.Suite.ETYPE)

@@ -1,87 +1,101 @@
-use Rattle.std.proofs.Common.{◌≡◌, ℕ, ◌+◌, ◌-◌, ◌≤◌, ◌<◌, true, false, List, ◌++◌, take, drop, length, sym, subst, ap, ◌∙◌, arith}
+use Rattle.std.proofs.Common.{◌≡◌, ℕ, ◌+◌, ◌-◌, ◌<◌, true, false, List, ◌++◌, All, get_or, take, drop, length}
+use Rattle.std.proofs.Common.{Some, sym, ap, ◌∙◌, arith}
 use Rattle.std.proofs.lemmas.List.{take_at}
 use Rattle.std.proofs.lemmas.List.Elements.{All-from_get_or}
-use Rattle.aes_cts.specs.Cts.{PermutesTexts}
 use Rattle.enctypes.specs.declared.etype.Etype.{Etype}
-use Rattle.enctypes.specs.Etype.{mac_len}
-use Rattle.enctypes.specs.Sealing.{Opens}
-use Rattle.enctypes.proofs.Opening.{taken_out, opens-length, opens-one, Deciphers, deciphers, opens-nothing, opens-text, rotated, length-deciphered}
+use Rattle.enctypes.specs.Sealing.{OpensWhatWasSealed, deciphered}
+use Rattle.enctypes.proofs.OpenedLaws.{opened-some, opened-none, opens_what_was_sealed}
+use Rattle.enctypes.proofs.Sealed.{IsSealed}
+use Rattle.enctypes.proofs.SealingSteps.{IsRecomputed, recomputed, rotated}
 use Rattle.enctypes.proofs.sealing.open_as.Goals as goal
 
-pub returns-then-cipher-MAC_LEN-clause-none : goal.returns-then-cipher-MAC_LEN-clause-none
-returns-then-cipher-MAC_LEN-clause-none g c = λ text o.
-    omega (arith, opens-length g.S.Suite.ETYPE c.args.key.now c.args.usage c.args.cipher.now text o, g.met.S.Suite.sizes.mac, c.MAC_LEN.ensures)
+octets : (l : List ℕ) → ((i : ℕ) → get_or l i 0 < 256) → All (λ b. b < 256) l
+octets l fits = All-from_get_or (λ b. b < 256) l 0 (λ i lt. fits i)
 
-pub returns-then-cipher-MAC_LEN-clause-one : goal.returns-then-cipher-MAC_LEN-clause-one
-returns-then-cipher-MAC_LEN-clause-one g c = λ text other o p.
-    absurd (omega (arith, opens-length g.S.Suite.ETYPE c.args.key.now c.args.usage c.args.cipher.now text o, g.met.S.Suite.sizes.mac, c.MAC_LEN.ensures))
+law : (etype : Etype) (key : List ℕ) (usage : ℕ) → ((i : ℕ) → get_or key i 0 < 256) → OpensWhatWasSealed etype key usage
+law etype key usage fits = opens_what_was_sealed etype key usage (octets key fits)
+
+pub returns-then-cipher-MAC_LEN-clause-value : goal.returns-then-cipher-MAC_LEN-clause-value
+returns-then-cipher-MAC_LEN-clause-value g c =
+    sym (opened-none g.S.Suite.ETYPE c.args.key.now c.args.usage c.args.cipher.now
+    (λ s. omega (arith, s.room, g.met.S.Suite.constants.mac, c.MAC_LEN.ensures)))
+
+pub returns-then-cipher-MAC_LEN-clause-none : goal.returns-then-cipher-MAC_LEN-clause-none
+returns-then-cipher-MAC_LEN-clause-none g c =
+    let etype : Etype = g.S.Suite.ETYPE in
+    let by_law = law etype c.args.key.now c.args.usage (λ i. omega (arith, c.type_inv.key i)) in
+    let cipher_octets = octets c.args.cipher.now (λ i. omega (arith, c.type_inv.cipher i)) in
+    (by_law.none c.args.cipher.now cipher_octets).0 (sym (returns-then-cipher-MAC_LEN-clause-value g c))
+
+pub returns-then-not-are_same-clause-value : goal.returns-then-not-are_same-clause-value
+returns-then-not-are_same-clause-value g c =
+    let etype : Etype = g.S.Suite.ETYPE in
+    let cipher : List ℕ = c.args.cipher.now in
+    let r : IsRecomputed etype c.args.key.now c.args.usage cipher c.decipher-expected.new.text c.decipher-expected.result
+    c.split_at.result.1.now =
+    recomputed etype c.args.key.now c.args.usage cipher c.split_at.result.0.now c.split_at.result.1.now
+    c.in_ok-text.text.items c.extend_from_slice.new.self.items c.deref_mut.result.now c.decipher-expected.new.text
+    c.decipher-expected.result c.MAC_LEN-2.result c.split_at.ensures.front c.split_at.ensures.back
+    (c.MAC_LEN-2.ensures ∙ g.met.S.Suite.constants.mac) c.in_ok-text.ensures.items c.in_ok-extend_from_slice.ensures.items
+    c.deref_mut.ensures.value c.decipher-expected.ensures.value c.decipher-expected.ensures.mac in
+    sym (opened-none etype c.args.key.now c.args.usage cipher (λ s.
+    let agree : c.bytes.result.now ≡ c.split_at.result.1.now =
+    c.bytes.ensures.bytes ∙ r.expected_is ∙ sym s.ends ∙ sym r.mac_is in
+    let is_true : c.are_same.result ≡ true = c.are_same.ensures.1 agree in
+    let is_false : c.are_same.result ≡ false = c.if-not-are_same.true in
+    cc))
 
 pub returns-then-not-are_same-clause-none : goal.returns-then-not-are_same-clause-none
 returns-then-not-are_same-clause-none g c =
     let etype : Etype = g.S.Suite.ETYPE in
-    let cipher : List ℕ = c.args.cipher.now in
-    let mac_len_is : c.MAC_LEN-2.result ≡ mac_len etype = c.MAC_LEN-2.ensures ∙ g.met.S.Suite.sizes.mac in
-    let body : c.deref_mut.result.now ≡ take (length cipher - mac_len etype) cipher =
-    taken_out cipher c.split_at.result.0.now c.in_ok-text.text.items c.extend_from_slice.new.self.items c.deref_mut.result.now
-    c.MAC_LEN-2.result (mac_len etype) c.deref_mut.ensures.value c.in_ok-extend_from_slice.ensures.items c.in_ok-text.ensures.items
-    c.split_at.ensures.front mac_len_is in
-    let d : Deciphers etype c.args.key.now c.args.usage cipher c.decipher-expected.new.text c.decipher-expected.result =
-    deciphers etype c.args.key.now c.args.usage cipher c.encryption_key.result c.of-integrity.result g.S.Suite.MACS_CIPHER
-    c.deref_mut.result.now c.decipher-expected.new.text c.decipher-expected.result
-    c.encryption_key.ensures c.of-integrity.ensures g.met.S.Suite.sizes.order body
-    c.decipher-expected.ensures.value c.decipher-expected.ensures.mac c.decipher-expected.ensures.permutes in
-    let rest : c.split_at.result.1.now ≡ drop (length cipher - mac_len etype) cipher =
-    c.split_at.ensures.back ∙ ap (λ (n : ℕ). drop (length cipher - n) cipher) mac_len_is in
-    opens-nothing etype c.args.key.now c.args.usage cipher c.decipher-expected.new.text c.decipher-expected.result d
-    (λ same.
-    let is_true : c.are_same.result ≡ true = c.are_same.ensures.1 (c.bytes.ensures ∙ same ∙ sym rest) in
-    let is_false : c.are_same.result ≡ false = c.if-not-are_same.true in
-    cc)
+    let by_law = law etype c.args.key.now c.args.usage (λ i. omega (arith, c.type_inv.key i)) in
+    let cipher_octets = octets c.args.cipher.now (λ i. omega (arith, c.type_inv.cipher i)) in
+    (by_law.none c.args.cipher.now cipher_octets).0 (sym (returns-then-not-are_same-clause-value g c))
 
-pub returns-then-not-are_same-clause-one : goal.returns-then-not-are_same-clause-one
-returns-then-not-are_same-clause-one g c = λ text other o p.
-    opens-one g.S.Suite.ETYPE c.args.key.now c.args.usage c.args.cipher.now text other
-    (subst (λ (l : List ℕ). PermutesTexts l) c.encryption_key.ensures c.decipher-expected.ensures.permutes) o p
+pub returns-clause-value : goal.returns-clause-value
+returns-clause-value g c =
+    let etype : Etype = g.S.Suite.ETYPE in
+    let key : List ℕ = c.args.key.now in
+    let cipher : List ℕ = c.args.cipher.now in
+    let plain : List ℕ = c.decipher-expected.new.text in
+    let r : IsRecomputed etype key c.args.usage cipher plain c.decipher-expected.result c.split_at.result.1.now =
+    recomputed etype key c.args.usage cipher c.split_at.result.0.now c.split_at.result.1.now
+    c.in_ok-text.text.items c.extend_from_slice.new.self.items c.deref_mut.result.now plain c.decipher-expected.result
+    c.MAC_LEN-2.result c.split_at.ensures.front c.split_at.ensures.back
+    (c.MAC_LEN-2.ensures ∙ g.met.S.Suite.constants.mac) c.in_ok-text.ensures.items c.in_ok-extend_from_slice.ensures.items
+    c.deref_mut.ensures.value c.decipher-expected.ensures.value c.decipher-expected.ensures.mac in
+    let agree : c.bytes.result.now ≡ c.split_at.result.1.now = c.are_same.ensures.0 c.if-not-are_same.false in
+    let s : IsSealed etype key c.args.usage cipher = record {
+      room = omega (arith, c.MAC_LEN.ensures, g.met.S.Suite.constants.mac);
+      ends = sym r.mac_is ∙ sym agree ∙ c.bytes.ensures.bytes ∙ r.expected_is;
+    } in
+    let before : List ℕ = c.extend_from_slice.new.self.items in
+    let size : length plain ≡ c.extend_from_slice.new.self.len =
+    omega (arith, c.decipher-expected.auto.text, c.deref_mut.ensures.len) in
+    let written : take c.extend_from_slice.new.self.len (plain ++ drop (length plain) before) ≡ plain =
+    take_at plain (drop (length plain) before) c.extend_from_slice.new.self.len size in
+    let turned : c.rotate_left.new.self.items ≡ drop 16 plain ++ take 16 plain =
+    c.rotate_left.ensures.items ∙ ap (λ (l : List ℕ). drop 16 l ++ take 16 l) written in
+    let front : List ℕ = c.split_at.result.0.now in
+    let kept : ℕ = length front - 16 in
+    let copied : length c.deref_mut.result.now ≡ length front =
+    ap length (c.deref_mut.ensures.value ∙ c.in_ok-extend_from_slice.ensures.items
+    ∙ ap (λ (l : List ℕ). l ++ front) c.in_ok-text.ensures.items) in
+    let len : length plain ≡ kept + 16 =
+    omega (
+      arith,
+      copied,
+      c.decipher-expected.auto.text,
+      c.split_at.ensures.front_len,
+      c.MAC_LEN.ensures,
+      c.MAC_LEN-2.ensures,
+    ) in
+    let text_is : c.truncate.new.self.items ≡ drop 16 (deciphered etype key c.args.usage cipher) =
+    c.truncate.ensures.items ∙ ap (take kept) turned ∙ rotated plain kept len ∙ ap (drop 16) r.plain_is in
+    ap (λ (l : List ℕ). Some l) text_is ∙ sym (opened-some etype key c.args.usage cipher s)
 
 pub returns-clause-opened : goal.returns-clause-opened
 returns-clause-opened g c =
-    let etype : Etype = g.S.Suite.ETYPE in
-    let cipher : List ℕ = c.args.cipher.now in
-    let plain : List ℕ = c.decipher-expected.new.text in
-    let mac_len_is : c.MAC_LEN-2.result ≡ mac_len etype = c.MAC_LEN-2.ensures ∙ g.met.S.Suite.sizes.mac in
-    let body : c.deref_mut.result.now ≡ take (length cipher - mac_len etype) cipher =
-    taken_out cipher c.split_at.result.0.now c.in_ok-text.text.items c.extend_from_slice.new.self.items c.deref_mut.result.now
-    c.MAC_LEN-2.result (mac_len etype) c.deref_mut.ensures.value c.in_ok-extend_from_slice.ensures.items c.in_ok-text.ensures.items
-    c.split_at.ensures.front mac_len_is in
-    let d : Deciphers etype c.args.key.now c.args.usage cipher plain c.decipher-expected.result =
-    deciphers etype c.args.key.now c.args.usage cipher c.encryption_key.result c.of-integrity.result g.S.Suite.MACS_CIPHER
-    c.deref_mut.result.now plain c.decipher-expected.result
-    c.encryption_key.ensures c.of-integrity.ensures g.met.S.Suite.sizes.order body
-    c.decipher-expected.ensures.value c.decipher-expected.ensures.mac c.decipher-expected.ensures.permutes in
-    let rest : c.split_at.result.1.now ≡ drop (length cipher - mac_len etype) cipher =
-    c.split_at.ensures.back ∙ ap (λ (n : ℕ). drop (length cipher - n) cipher) mac_len_is in
-    let agree : c.decipher-expected.result ≡ drop (length cipher - mac_len etype) cipher =
-    sym c.bytes.ensures ∙ c.are_same.ensures.0 c.if-not-are_same.false ∙ rest in
-    let room : 16 + mac_len etype ≤ length cipher = omega (arith, c.MAC_LEN.ensures, g.met.S.Suite.sizes.mac) in
-    let opens : Opens etype c.args.key.now c.args.usage cipher (drop 16 plain) =
-    opens-text etype c.args.key.now c.args.usage cipher plain c.decipher-expected.result d
-    (All-from_get_or (λ b. b < 256) cipher 0 (λ i lt. omega (arith, c.type_inv.cipher i))) room agree in
-    let written : take c.extend_from_slice.new.self.len (plain ++ drop (length plain) c.extend_from_slice.new.self.items) ≡ plain =
-    take_at plain (drop (length plain) c.extend_from_slice.new.self.items) c.extend_from_slice.new.self.len
-    (omega (arith, c.decipher-expected.auto.text, c.deref_mut.ensures.len)) in
-    let turned : c.rotate_left.new.self.items ≡ drop 16 plain ++ take 16 plain =
-    c.rotate_left.ensures.items ∙ ap (λ (l : List ℕ). drop 16 l ++ take 16 l) written in
-    let len : length plain ≡ length c.split_at.result.0.now - 16 + 16 =
-    omega (arith, length-deciphered etype c.args.key.now c.args.usage cipher plain c.decipher-expected.result d room, c.split_at.ensures.front_len, mac_len_is) in
-    let text_is : c.truncate.new.self.items ≡ drop 16 plain =
-    c.truncate.ensures.items ∙ ap (take (length c.split_at.result.0.now - 16)) turned ∙ rotated plain (length c.split_at.result.0.now - 16) len in
-    subst (λ (l : List ℕ). Opens etype c.args.key.now c.args.usage cipher l) (sym text_is) opens
-
-pub returns-clause-len : goal.returns-clause-len
-returns-clause-len g c =
-    opens-length g.S.Suite.ETYPE c.args.key.now c.args.usage c.args.cipher.now c.truncate.new.self.items (returns-clause-opened g c)
-
-pub returns-clause-one : goal.returns-clause-one
-returns-clause-one g c = λ text other o p.
-    opens-one g.S.Suite.ETYPE c.args.key.now c.args.usage c.args.cipher.now text other
-    (subst (λ (l : List ℕ). PermutesTexts l) c.encryption_key.ensures c.decipher-expected.ensures.permutes) o p
+    let by_law = law g.S.Suite.ETYPE c.args.key.now c.args.usage (λ i. omega (arith, c.type_inv.key i)) in
+    let cipher_octets = octets c.args.cipher.now (λ i. omega (arith, c.type_inv.cipher i)) in
+    (by_law.some c.args.cipher.now c.truncate.new.self.items cipher_octets).0 (sym (returns-clause-value g c))

@@ -1,4 +1,4 @@
-use Rattle.std.proofs.Common.{◌≡◌, ◌<◌, List, ℕ, Result, Ok, Err, IfNone, MatchResult, Option, sym, subst}
+use Rattle.std.proofs.Common.{◌≡◌, List, ℕ, Result, Ok, Err, IfNone, MatchResult, Option, sym, subst}
 use Rattle.std.specs.Result.{result_ok}
 use Rattle.std.specs.Str.{IsAscii, IsUtf8}
 use Rattle.std.proofs.lemmas.Str.{IsUtf8-from_ascii}

@@ -4,6 +4,7 @@ use Rattle.std.proofs.lemmas.Iterator.Consumers.{YieldsList-turn, YieldsList-end
 use Rattle.std.specs.List.{All}
 use Rattle.std.proofs.lemmas.List.Elements.{All-push}
 use Rattle.krb_fields.specs.NameLimits.{IsComponent}
+use Rattle.krb_fields.specs.NameLimitsLaws.{name_facts, name_is}
 use Rattle.krb_fields.specs.NameText.{component_text}
 use Rattle.krb_fields.specs.declared.name_text.NameFault.{NameFault}
 use Rattle.krb_fields.specs.declared.name_text.NameFault.TheVariants.{Memory}
@@ -19,7 +20,7 @@ pub returns-then-len-eq-MAX_COMPONENTS-clause-read : goal.returns-then-len-eq-MA
 returns-then-len-eq-MAX_COMPONENTS-clause-read c = λ n spelled.
     let parts = YieldsList-from_str_split 0x2F c.args.text.now (lit< tt) c.split-part-items.ensures.text c.split-part-items.ensures.has_more c.split-part-items.ensures.pattern in
     let turn = YieldsList-turn (YieldsList-at c.into_iter-part-iterator.ensures.into_iter_gives parts) c.loop-part.yielded _ c.loop-part.yielded_by _ _ c.in-Some.part c.in-Some.is c.next.ensures.steps in
-    absurd (omega (arith, turn.0, count_spelled n c.args.text.now spelled, spelled.0.1, c.loop-part.invariant.1, c.len.ensures, c.if-len-eq-MAX_COMPONENTS.true))
+    absurd (omega (arith, turn.0, count_spelled n c.args.text.now spelled, (name_facts n spelled.0).1, c.loop-part.invariant.1, c.len.ensures, c.if-len-eq-MAX_COMPONENTS.true))
 
 pub returns-in_err-component_from_text-clause-read : goal.returns-in_err-component_from_text-clause-read
 returns-in_err-component_from_text-clause-read c = λ n spelled.
@@ -51,7 +52,7 @@ returns-clause-ok c =
     let parts = YieldsList-from_str_split 0x2F c.args.text.now (lit< tt) c.split-part-items.ensures.text c.split-part-items.ensures.has_more c.split-part-items.ensures.pattern in
     let end = YieldsList-end (YieldsList-at c.into_iter-part-iterator.ensures.into_iter_gives parts) c.loop-part.yielded _ c.loop-part.yielded_by _ _ c.in-None.is c.next.ensures.steps in
     let i = c.loop-part.invariant in (
-      (omega (arith, i.1, end.1, parts_nonempty c.args.text.now), i.2, i.3),
+      name_is c.loop-part.components (omega (arith, i.1, end.1, parts_nonempty c.args.text.now), i.2, i.3),
       text_of-parts c.loop-part.components c.args.text.now (all_parts c.loop-part.components c.args.text.now _ i.0 end.1),
     )
 

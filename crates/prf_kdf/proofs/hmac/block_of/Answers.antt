@@ -4,5 +4,5 @@ use Rattle.prf_kdf.proofs.hmac.block_of.Goals as goal
 
 pub returns : goal.returns
 returns c =
-    ap (λ (l : List ℕ). l ++ drop (length c.args.bytes.now) (replicate {A = ℕ} 128 0)) c.copy_from_slice.ensures.after
-    ∙ ap (λ (l : List ℕ). c.args.bytes.now ++ l) (drop-replicate {X = ℕ} (length c.args.bytes.now) 128 0)
+    ap (λ (l : List ℕ). l ++ drop (length c.args.octets.now) (replicate {A = ℕ} 128 0)) c.copy_from_slice.ensures.after
+    ∙ ap (λ (l : List ℕ). c.args.octets.now ++ l) (drop-replicate {X = ℕ} (length c.args.octets.now) 128 0)

@@ -10,6 +10,7 @@ returns-then-key-BLOCK_LEN g c =
 pub returns : goal.returns
 returns g c =
     let fits = g.met.H.Hasher.sizes_fit in
-    let digest : c.finish.new.out ≡ g.H.Hasher.hash c.args.key.now = c.finish.ensures.digest _ (c.update.ensures _ c.new-hasher.ensures) in
+    let digest : c.finish.new.out ≡ g.H.Hasher.hash c.args.key.now =
+    c.finish.ensures.digest _ (c.update.ensures _ c.new-hasher.ensures) in
     key_block-long g.H.Hasher.hash g.H.Hasher.BLOCK_LEN c.args.key.now _ (omega arith) fits.2
     (omega (arith, ap length digest, fits.1, c.finish.ensures.len)) (c.block_of-2.ensures ∙ rw digest refl)

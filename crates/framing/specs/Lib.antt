@@ -1,0 +1,4 @@
+pub mod Stream
+pub mod Messages
+pub mod Splitting
+pub mod Pieces

@@ -1,0 +1,18 @@
+//! Messages on a stream, as over TCP (RFC 4120, section 7.2.2): four octets of length, the most significant first, and then
+//! the message. A `Splitter` takes a stream in, in whatever pieces it comes, and hands out its messages; `frame` and
+//! `prefix` write them.
+#![tactic(auto)]
+
+mod fault;
+mod front;
+mod laws;
+mod splitter;
+mod writing;
+
+pub use fault::FrameFault;
+pub use laws::{any_pieces, cuts_what_was_framed, one_cutting, two_pieces};
+pub use splitter::Splitter;
+pub use writing::{frame, prefix};
+
+#[cfg(test)]
+mod tests;

@@ -1,0 +1,84 @@
+-- What a request names, and the part of the state that its answer is made from.
+use Rattle.std.specs.Prelude.{◌≡◌, ℕ, List, Option, Some, None, IfSome, option_map}
+use Rattle.std.specs.FinMap as map
+use Rattle.krb_fields.specs.PrincipalName.{Name}
+use Rattle.krb_fields.specs.Name.{Components}
+use Rattle.krb_types.specs.declared.kdc_req.Exchange.{Exchange}
+use Rattle.krb_types.specs.declared.kdc_req.Exchange.TheVariants.{As, Tgs}
+use Rattle.krb_types.specs.KdcReq.{Received}
+use Rattle.principal_rows.specs.declared.limits.Limits.{Limits}
+use Rattle.principal_rows.specs.declared.row.Row.{Row}
+use Rattle.principals.specs.Database.{ticket_granter}
+use Rattle.replay.specs.declared.keep.Kept.{Kept}
+use Rattle.replay.specs.declared.memory.Memory.{Memory}
+use Rattle.kdc_state.specs.declared.opening.Opening.TheVariants.{First}
+use Rattle.kdc_state.specs.declared.state.State.{State}
+use Rattle.kdc_state.specs.Memory.{opened_memory}
+use Rattle.kdc_state.specs.State.{memory_of}
+use Rattle.kdc_core.specs.Request.{Request, request_of}
+
+-- the client and the service that a request names, each perhaps absent
+pub record Named : Type 0 where
+  pub client : Option Components
+  pub service : Option Components
+
+abbrev pub components_of : Option Name → Option Components
+components_of = option_map (λ name. name.components)
+
+-- AS-REQ: the body's client. TGS-REQ: the client of the presented ticket, which is not opened yet
+abbrev pub client_in : State → Exchange → Received → Option Components
+client_in state As message = components_of message.body.value.cname
+client_in state Tgs message = None
+
+abbrev pub named_in : State → Request → Named
+named_in state request = record {
+  client = client_in state request.exchange request.message;
+  service = components_of request.message.body.value.sname;
+}
+
+abbrev pub named_by : State → Option Request → Named
+named_by state (Some request) = named_in state request
+named_by state None = record { client = None; service = None }
+
+abbrev pub named : State → List ℕ → Named
+named state bytes = named_by state (request_of bytes)
+
+-- realm and limits, the rows of the named client, of the named service and of the ticket-granting service,
+-- and the named client's memory
+pub record View : Type 0 where
+  pub realm : List ℕ
+  pub limits : Limits
+  pub client : Option Row
+  pub service : Option Row
+  pub granter : Option Row
+  pub memory : Memory Kept
+
+abbrev pub row_of : State → Option Components → Option Row
+row_of state (Some name) = map.get state.database.rows name
+row_of state None = None
+
+-- where no client is named, that of a first opening
+abbrev pub memory_named : State → Option Components → Memory Kept
+memory_named state (Some name) = memory_of state name
+memory_named state None = opened_memory First
+
+abbrev pub view_of : State → Named → View
+view_of state names = record {
+  realm = state.database.realm;
+  limits = state.limits;
+  client = row_of state names.client;
+  service = row_of state names.service;
+  granter = map.get state.database.rows (ticket_granter state.database.realm);
+  memory = memory_named state names.client;
+}
+
+abbrev pub view : State → List ℕ → View
+view state bytes = view_of state (named state bytes)
+
+-- a second state with the same realm and limits agrees at what the octets name in the first
+pub record Agrees (state other : State) (bytes : List ℕ) : Type 0 where
+  pub realm : other.database.realm ≡ state.database.realm
+  pub limits : other.limits ≡ state.limits
+  pub granter : map.get other.database.rows (ticket_granter state.database.realm) ≡ map.get state.database.rows (ticket_granter state.database.realm)
+  pub client : IfSome (named state bytes).client (λ c. (map.get other.database.rows c ≡ map.get state.database.rows c) × (memory_of other c ≡ memory_of state c))
+  pub service : IfSome (named state bytes).service (λ s. map.get other.database.rows s ≡ map.get state.database.rows s)

@@ -1,0 +1,109 @@
+-- What a hub's calls leave is what a step leaves.
+use Rattle.std.proofs.Common.{◌≡◌, ℕ, ◌≤◌, arith, Bool, true, false, List, [], ◌∷◌, length, take, Option, Some, Result, Ok, Err, refl, sym, ap, ◌∙◌, Vec}
+use Rattle.std.specs.Global.{Global}
+use Rattle.std.specs.Prelude.{IfOk, IfErr, nat_lt}
+use Rattle.std.proofs.lemmas.Bool.{le-ltb}
+use Rattle.std.specs.Ordering.{nat_cmp}
+use Rattle.std.specs.FinMap as map
+use Rattle.rand_core.specs.Stream.{Stream, fill_bytes}
+use Rattle.framing.specs.Splitting.{Splitting, fed, handed_out, left}
+use Rattle.krb_fields.specs.declared.moment.Moment.{Moment}
+use Rattle.kdc_hub.specs.declared.event.Action.{Action}
+use Rattle.kdc_hub.specs.declared.event.Action.TheVariants.{Close}
+use Rattle.kdc_hub.specs.declared.event.Event.TheVariants.{Opened}
+use Rattle.kdc_hub.specs.declared.event.HubFault.{HubFault}
+use Rattle.kdc_state.specs.declared.state.State.{State}
+use Rattle.kdc_hub.specs.Issuing.{Issuing}
+use Rattle.kdc_hub.specs.StreamStep.{StreamStep, after_some, drawn, stream_step}
+use Rattle.kdc_hub.specs.Hub.{Standing, Step, Steps, brings, kept, opened, requests_of, stopped_issuing, most_connections}
+use Rattle.kdc_hub.proofs.Tables.{set_anew, taken_out}
+
+abbrev pub Table : Type 0
+Table = map.FinMap nat_cmp Splitting
+
+pub same_issuing : (k l : State) (r s : Stream) → k ≡ l → r ≡ s → (let x : Issuing = record { kdc = k; random = r } in x) ≡ record { kdc = l; random = s }
+same_issuing k l r s e h = rw (e, h) refl
+
+-- nothing was answered, and nothing drawn, or 64 octets
+pub stopped_before : (n draws : ℕ) (i : Issuing) (at : Moment) (requests : List (List ℕ)) → n ≡ 0 → draws ≡ 0 → i ≡ stopped_issuing i at requests n draws
+unfolding after_some drawn
+stopped_before n draws i at requests e d = rw (e, d) refl
+
+pub stopped_drawn : (n draws : ℕ) (i i' : Issuing) (at : Moment) (requests : List (List ℕ)) → n ≡ 0 → draws ≡ 1 → i'.kdc ≡ i.kdc → i'.random ≡ (fill_bytes 64 i.random).1 → i' ≡ stopped_issuing i at requests n draws
+unfolding after_some drawn
+stopped_drawn n draws i i' at requests e d kdc random = rw (e, d) (same_issuing i'.kdc i.kdc i'.random _ kdc random)
+
+pub same_standing : (i j : Issuing) (c d : Table) → i ≡ j → c ≡ d → (let s : Standing = record { issuing = i; connections = c } in s) ≡ record { issuing = j; connections = d }
+same_standing i j c d e h = rw (e, h) refl
+
+module _ (hub : Standing) (at : Moment) (conn : ℕ) (piece : List ℕ) (o : Option Splitting) (s f : Splitting) (is : o ≡ Some s) (feed : f ≡ fed s piece) where
+  full : Splitting → StreamStep
+  full x = stream_step hub.issuing at conn x
+
+  taken_actions : (full f).actions ≡ (brings hub at conn piece o).actions
+  unfolding full
+  taken_actions = ap (λ x. (full x).actions) feed ∙ sym (ap (λ x. (brings hub at conn piece x).actions) is)
+
+  kept_hub : (b : Bool) → b ≡ (full f).stays → kept b hub conn (left f) (full f).issuing ≡ (brings hub at conn piece o).hub
+  unfolding full
+  kept_hub b e = ap (λ c. kept c hub conn (left f) (full f).issuing) e ∙ ap (λ x. kept (full x).stays hub conn (left x) (full x).issuing) feed ∙ sym (ap (λ x. (brings hub at conn piece x).hub) is)
+
+  -- the connection stays
+  pub stays_there : (actions : List Action) (i : Issuing) (t place : Splitting) (table table' : Table) (stays : Bool)
+      → actions ≡ (stream_step hub.issuing at conn f).actions → i ≡ (stream_step hub.issuing at conn f).issuing → stays ≡ (stream_step hub.issuing at conn f).stays → stays ≡ true
+      → t ≡ left f → table ≡ map.insert hub.connections conn place → table' ≡ map.insert table conn t
+      → (actions ≡ (brings hub at conn piece o).actions) × ((let x : Standing = record { issuing = i; connections = table' } in x) ≡ (brings hub at conn piece o).hub)
+  unfolding full
+  stays_there actions i t place table table' stays acts issues e open_still same first then = (
+    acts ∙ taken_actions,
+    same_standing i (full f).issuing table' (map.insert hub.connections conn (left f)) issues (then ∙ ap (λ m. map.insert m conn t) first ∙ set_anew hub.connections conn place t ∙ ap (map.insert hub.connections conn) same)
+        ∙ kept_hub true (sym open_still ∙ e),
+  )
+
+  -- it is closed
+  pub is_closed : (actions : List Action) (i : Issuing) (place : Splitting) (table table' : Table) (stays : Bool)
+      → actions ≡ (stream_step hub.issuing at conn f).actions → i ≡ (stream_step hub.issuing at conn f).issuing → stays ≡ (stream_step hub.issuing at conn f).stays → stays ≡ false
+      → table ≡ map.insert hub.connections conn place → table' ≡ map.remove table conn
+      → (actions ≡ (brings hub at conn piece o).actions) × ((let x : Standing = record { issuing = i; connections = table' } in x) ≡ (brings hub at conn piece o).hub)
+  unfolding full
+  is_closed actions i place table table' stays acts issues e closed first then = (
+    acts ∙ taken_actions,
+    same_standing i (full f).issuing table' (map.remove hub.connections conn) issues (then ∙ ap (λ m. map.remove m conn) first ∙ taken_out hub.connections conn place)
+        ∙ kept_hub false (sym closed ∙ e),
+  )
+
+  -- memory is wanting
+  pub is_stopped : (done : List Action) (i : Issuing) (draws : ℕ) (place : Splitting) (table table' : Table)
+      → done ≡ take (length done) (stream_step hub.issuing at conn f).actions → i.kdc ≡ (after_some (length done) hub.issuing at (handed_out f).messages).kdc → i.random ≡ drawn draws hub.issuing.random
+      → table ≡ map.insert hub.connections conn place → table' ≡ map.remove table conn
+      → (done ≡ take (length done) (brings hub at conn piece o).actions)
+      × ((let x : Standing = record { issuing = i; connections = table' } in x) ≡ record { issuing = stopped_issuing hub.issuing at (requests_of piece o) (length done) draws; connections = map.remove hub.connections conn })
+  unfolding full
+  is_stopped done i draws place table table' acts kdc random first then = (
+    acts ∙ ap (take (length done)) taken_actions,
+    same_standing i _ table' (map.remove hub.connections conn)
+        (same_issuing i.kdc _ i.random _ kdc random ∙ ap (λ x. stopped_issuing hub.issuing at (handed_out x).messages (length done) draws) feed ∙ sym (ap (λ x. stopped_issuing hub.issuing at (requests_of piece x) (length done) draws) is))
+        (then ∙ ap (λ m. map.remove m conn) first ∙ taken_out hub.connections conn place),
+  )
+
+-- nothing of the piece was taken in
+pub not_fed : (hub : Standing) (at : Moment) (conn : ℕ) (piece : List ℕ) (o : Option Splitting) (done : List Action) (draws : ℕ) (place : Splitting) (table table' : Table)
+    → done ≡ [] → draws ≡ 0 → table ≡ map.insert hub.connections conn place → table' ≡ map.remove table conn
+    → (done ≡ take (length done) (brings hub at conn piece o).actions)
+    × ((let x : Standing = record { issuing = hub.issuing; connections = table' } in x) ≡ record { issuing = stopped_issuing hub.issuing at (requests_of piece o) (length done) draws; connections = map.remove hub.connections conn })
+not_fed hub at conn piece o done draws place table table' e d first then =
+    (rw e refl, same_standing hub.issuing _ table' _ (stopped_before (length done) draws hub.issuing at (requests_of piece o) (ap length e) d) (then ∙ ap (λ m. map.remove m conn) first ∙ taken_out hub.connections conn place))
+
+full_there : (hub : Standing) (conn : ℕ) → map.contains_key hub.connections conn ≡ false → nat_lt (map.len hub.connections) most_connections ≡ false → opened hub conn ≡ record { actions = Close conn ∷ []; hub = hub }
+full_there hub conn e h = rw (e, h) refl
+
+-- a connection for which there is no place
+pub table_full : (hub : Standing) (at : Moment) (conn : ℕ) (there : Bool) (n : ℕ) (r : Result (Vec Action Global) HubFault)
+    → there ≡ map.contains_key hub.connections conn → there ≡ false → n ≡ map.len hub.connections → most_connections ≤ n
+    → IfOk r (λ actions. actions.items ≡ Close conn ∷ []) → IfErr r (λ fault. fault.done.items ≡ []) → IfErr r (λ fault. fault.conn ≡ Some conn) → IfErr r (λ fault. fault.draws ≡ 0)
+    → Steps hub at (Opened conn) r hub
+table_full hub at conn there n (Ok actions) is no_one len le ok done at_conn draws =
+    let e = full_there hub conn (sym is ∙ no_one) (le-ltb (map.len hub.connections) most_connections (omega (arith, len, le))) in
+    (ok ∙ sym (ap (λ (s : Step). s.actions) e), sym (ap (λ (s : Step). s.hub) e))
+table_full hub at conn there n (Err fault) is no_one len le ok done at_conn draws =
+    (done, same_standing _ _ _ _ (stopped_before _ _ hub.issuing at _ (ap length done) draws) refl, at_conn)

@@ -1,0 +1,9 @@
+use Rattle.kdc_hub.proofs.Cuts.{same_run}
+use Rattle.kdc_hub.proofs.Working.{same_replies}
+use Rattle.kdc_hub.proofs.laws.any_cutting.Goals as goal
+
+pub returns-clause-replies : goal.returns-clause-replies
+returns-clause-replies c = same_replies
+
+pub returns-clause-two_pieces : goal.returns-clause-two_pieces
+returns-clause-two_pieces c = same_run c.two_pieces.ensures

@@ -1,0 +1,9 @@
+pub mod Issuing
+pub mod StreamStep
+pub mod Hub
+pub mod Logged
+pub mod Works
+pub mod Cutting
+pub mod Wire
+pub mod Rounds
+pub mod Acts

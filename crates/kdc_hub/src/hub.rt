@@ -1,0 +1,184 @@
+//! One key distribution centre behind many peers and connections.
+ghost use Rattle.std.specs.Prelude.{◌≡◌, ℕ, List, ◌∷◌, [], Some, IfOk, IfErr, IsOk};
+ghost use Rattle.std.specs.FinMap as map;
+ghost use Rattle.kdc_hub.specs.Hub.{AreDraws, Standing, Steps, standing};
+ghost use Rattle.kdc_hub.specs.Logged.{Entry, LogsNext, logged};
+ghost use Rattle.kdc_hub.specs.declared.event.Action.TheVariants.{Close};
+ghost use Rattle.kdc_hub.specs.declared.event.Event.TheVariants.{Datagram, Opened, Bytes, Closed};
+
+use crate::connections::Connections;
+use crate::event::{Action, Event, HubFault};
+use crate::issuer::Issuer;
+use crate::stream::answer_stream;
+use framing::Splitter;
+use kdc_core::Kdc;
+use krb_fields::Moment;
+use rand_core::Rng;
+use std::alloc::Global;
+use std::net::SocketAddr;
+
+/// The most octets of a request on a connection.
+const GREATEST_REQUEST: u32 = 65_535;
+
+/// The most octets of a reply with a ticket in a datagram.
+const DATAGRAM_ROOM: u32 = 1_400;
+
+/// The most connections that are open at once.
+const MOST_CONNECTIONS: usize = 256;
+
+/// A key distribution centre with the generator of its random octets, and the connections that are open.
+#[derive(Debug, Drop)]
+pub struct Hub<R> {
+    issuer: Issuer<R>,
+    connections: Connections,
+}
+
+impl<R: Rng> Hub<R> {
+    /// A hub with no connections. It takes no memory yet.
+    pub fn new(alloc: Global, kdc: Kdc, rng: R) -> Hub<R>
+        ensures kdc { (standing R.stream result).issuing.kdc ≡ kdc }
+        ensures random { (standing R.stream result).issuing.random ≡ R.stream rng }
+        ensures connections { (standing R.stream result).connections ≡ map.empty }
+    {
+        Hub {
+            issuer: Issuer { kdc, rng },
+            connections: Connections::new(alloc),
+        }
+    }
+
+    /// What an event asks for: the actions, in order. A connection is served until a request gets no reply, or a length is
+    /// at fault; then it is closed, and what else came on it is dropped. Where memory is wanting, the step ends after the
+    /// actions that are done, and the event's connection is taken out.
+    pub fn step(&mut self, alloc: Global, at: Moment, event: Event) -> Result<Vec<Action>, HubFault>
+        // What the step returns is what the log has next, and the hub then stands where the log leaves it.
+        ensures log { (start : Standing) (entries : List Entry) → (logged start entries).hub ≡ standing R.stream self.old → LogsNext start entries at event result (standing R.stream self.new) }
+        ensures step { Steps (standing R.stream self.old) at event result (standing R.stream self.new) }
+        ensures draws { IfErr result AreDraws }
+        // The end of a connection takes no memory.
+        ensures closed { (conn : ℕ) → event ≡ Closed conn → IsOk result }
+    {
+        self.take(alloc, at, event)
+    }
+
+    /// The step, without the log.
+    fn take(&mut self, alloc: Global, at: Moment, event: Event) -> Result<Vec<Action>, HubFault>
+        ensures step { Steps (standing R.stream self.old) at event result (standing R.stream self.new) }
+        ensures draws { IfErr result AreDraws }
+        ensures closed { (conn : ℕ) → event ≡ Closed conn → IsOk result }
+    {
+        match event {
+            Event::Datagram { peer, request } => {
+                self.answer_datagram(alloc, at, peer, request.as_slice())
+            }
+            Event::Opened { conn } => self.open(alloc, at, conn),
+            Event::Bytes { conn, piece } => self.take_piece(alloc, at, conn, piece.as_slice()),
+            Event::Closed { conn } => {
+                self.connections.remove(conn);
+                Ok(Vec::new(alloc))
+            }
+        }
+    }
+
+    fn answer_datagram(
+        &mut self,
+        alloc: Global,
+        at: Moment,
+        peer: SocketAddr,
+        request: &[u8],
+    ) -> Result<Vec<Action>, HubFault>
+        ensures step { Steps (standing R.stream self.old) at (Datagram peer request.now) result (standing R.stream self.new) }
+        ensures draws { IfErr result AreDraws }
+    {
+        let Ok(mut actions) = Vec::with_capacity(alloc, 1) else {
+            return Err(nothing_done(alloc, None, 0));
+        };
+        match self.issuer.answer(alloc, at, DATAGRAM_ROOM, request) {
+            Ok(Some(message)) => {
+                actions.push_reserved(Action::SendTo { peer, message });
+                Ok(actions)
+            }
+            Ok(None) => Ok(actions),
+            Err(_) => Err(nothing_done(alloc, None, 1)),
+        }
+    }
+
+    fn open(&mut self, alloc: Global, at: Moment, conn: u64) -> Result<Vec<Action>, HubFault>
+        ensures step { Steps (standing R.stream self.old) at (Opened conn) result (standing R.stream self.new) }
+        ensures draws { IfErr result AreDraws }
+    {
+        if self.connections.contains(conn) {
+            return Ok(Vec::new(alloc));
+        }
+        if self.connections.len() >= MOST_CONNECTIONS {
+            return refuse_connection(alloc, conn);
+        }
+        let stream = Splitter::new(alloc, GREATEST_REQUEST);
+        match self.connections.put(conn, stream) {
+            Ok(()) => Ok(Vec::new(alloc)),
+            Err(_) => Err(nothing_done(alloc, Some(conn), 0)),
+        }
+    }
+
+    /// Serves what a piece completes. Meanwhile an empty stream stands in the table, so that putting the connection's own
+    /// stream back takes no memory.
+    fn take_piece(
+        &mut self,
+        alloc: Global,
+        at: Moment,
+        conn: u64,
+        piece: &[u8],
+    ) -> Result<Vec<Action>, HubFault>
+        ensures step { Steps (standing R.stream self.old) at (Bytes conn piece.now) result (standing R.stream self.new) }
+        ensures draws { IfErr result AreDraws }
+    {
+        let place = Splitter::new(alloc, GREATEST_REQUEST);
+        let Some(mut stream) = self.connections.replace(conn, place) else {
+            return Ok(Vec::new(alloc));
+        };
+        let Ok(()) = stream.feed(piece) else {
+            self.connections.remove(conn);
+            return Err(nothing_done(alloc, Some(conn), 0));
+        };
+        match answer_stream(alloc, &mut self.issuer, at, conn, &mut stream) {
+            Ok(served) => {
+                if served.stays {
+                    let _ = self.connections.replace(conn, stream);
+                    return Ok(served.actions);
+                }
+                self.connections.remove(conn);
+                Ok(served.actions)
+            }
+            Err(fault) => {
+                self.connections.remove(conn);
+                Err(fault)
+            }
+        }
+    }
+}
+
+/// Want of memory before any action.
+fn nothing_done(alloc: Global, conn: Option<u64>, draws: usize) -> HubFault
+    ensures done { result.done.items ≡ [] }
+    ensures conn { result.conn ≡ conn }
+    ensures draws { result.draws ≡ draws }
+{
+    HubFault {
+        done: Vec::new(alloc),
+        conn,
+        draws,
+    }
+}
+
+/// Closes a connection for which there is no place.
+fn refuse_connection(alloc: Global, conn: u64) -> Result<Vec<Action>, HubFault>
+    ensures ok { IfOk result (λ actions. actions.items ≡ Close conn ∷ []) }
+    ensures done { IfErr result (λ fault. fault.done.items ≡ []) }
+    ensures conn { IfErr result (λ fault. fault.conn ≡ Some conn) }
+    ensures draws { IfErr result (λ fault. fault.draws ≡ 0) }
+{
+    let Ok(mut actions) = Vec::with_capacity(alloc, 1) else {
+        return Err(nothing_done(alloc, Some(conn), 0));
+    };
+    actions.push_reserved(Action::Close { conn });
+    Ok(actions)
+}

@@ -1,0 +1,24 @@
+//! The hub: one key distribution centre behind many peers and connections (RFC 4120, section 7.2). A `Hub` takes events one
+//! by one, and says what each asks for; `serve` takes them from a `Wire`, and does it.
+#![tactic(auto)]
+
+mod connections;
+mod diary;
+mod event;
+mod hub;
+mod issuer;
+mod laws;
+mod memory;
+mod server;
+mod stream;
+mod wires;
+
+pub use event::{Action, Event, HubFault};
+pub use hub::Hub;
+pub use laws::any_cutting;
+pub use memory::MemoryWire;
+pub use server::{Served, serve};
+pub use wires::{Did, Wire, WireFault};
+
+#[cfg(test)]
+mod tests;

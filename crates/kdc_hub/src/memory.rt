@@ -1,0 +1,101 @@
+//! A Wire in memory.
+ghost use Rattle.std.specs.Prelude.{◌≡◌, if◌then◌else◌};
+ghost use Rattle.kdc_hub.specs.Wire.{IsCounted};
+
+use crate::diary::Diary;
+use crate::event::{Action, Event};
+use crate::wires::{Did, Wire, WireFault};
+use krb_fields::Moment;
+use std::alloc::Global;
+use std::collections::VecDeque;
+
+/// A Wire that gives the events that it was handed, and tells what it does.
+#[derive(Debug, Drop)]
+pub struct MemoryWire {
+    coming: VecDeque<(Moment, Event)>,
+    diary: Diary,
+    /// How many calls succeed before the one that fails, if one is to fail.
+    calls_before_fault: Option<u64>,
+    faults: u64,
+}
+
+impl MemoryWire {
+    /// A Wire on which these events come. After so many polls and acts one fails, if any is to.
+    pub fn new(
+        alloc: Global,
+        coming: VecDeque<(Moment, Event)>,
+        calls_before_fault: Option<u64>,
+    ) -> MemoryWire {
+        MemoryWire {
+            coming,
+            diary: Diary::new(alloc),
+            calls_before_fault,
+            faults: 0,
+        }
+    }
+
+    /// What it did, in order, where memory sufficed to write all of it down.
+    pub fn did(&self) -> Option<&[Did]> {
+        if self.diary.is_whole {
+            Some(self.diary.did.as_slice())
+        } else {
+            None
+        }
+    }
+
+    /// Whether this call fails. A failure is counted.
+    fn fails(&mut self) -> bool
+        ensures counted { IsCounted self.old.faults (if result then 1 else 0) self.new.faults }
+        ensures diary { self.new.diary ≡ self.old.diary }
+    {
+        match self.calls_before_fault {
+            Some(0) => {
+                self.calls_before_fault = None;
+                self.faults = self.faults.saturating_add(1);
+                true
+            }
+            Some(calls) => {
+                self.calls_before_fault = Some(calls.saturating_sub(1));
+                false
+            }
+            None => false,
+        }
+    }
+}
+
+impl Wire for MemoryWire {
+    ghost use Rattle.kdc_hub.specs.Wire.{kept};
+
+    ghost told = { λ w. kept w.diary.is_whole w.diary.did.items };
+
+    ghost fault_count = { λ w. w.faults };
+
+    fn poll(&mut self, alloc: Global) -> Result<Option<(Moment, Event)>, WireFault> {
+        if self.fails() {
+            self.diary.keep(Ok(Did::Missed));
+            return Err(WireFault);
+        }
+        let Some((at, event)) = self.coming.pop_front() else {
+            self.diary.keep(Ok(Did::Waited));
+            return Ok(None);
+        };
+        self.diary
+            .keep(event.copy(alloc).map(|event| Did::Polled { at, event }));
+        Ok(Some((at, event)))
+    }
+
+    fn act(&mut self, alloc: Global, action: &Action) -> Result<(), WireFault> {
+        if self.fails() {
+            self.diary
+                .keep(action.copy(alloc).map(|action| Did::Failed { action }));
+            return Err(WireFault);
+        }
+        self.diary
+            .keep(action.copy(alloc).map(|action| Did::Acted { action }));
+        Ok(())
+    }
+
+    fn faults(&self) -> u64 {
+        self.faults
+    }
+}

@@ -1,0 +1,160 @@
+//! The messages that a connection brings, each answered in its turn.
+ghost use Rattle.std.specs.Prelude.{◌≡◌, ◌+◌, if◌then◌else◌, ◌++◌, ◌∷◌, [], true, false, length, take, Some, IfOk, IfErr, OnOk, OnErr, is_some};
+ghost use Rattle.framing.specs.Splitting.{handed_out, left};
+ghost use Rattle.kdc_hub.specs.Hub.{AreDraws};
+ghost use Rattle.kdc_hub.specs.Issuing.{after, issuing, reply_of, too_long};
+ghost use Rattle.kdc_hub.specs.StreamStep.{after_some, drawn, stream_step, stream_room, action_for};
+ghost use Rattle.kdc_hub.specs.declared.event.Action.TheVariants.{Write, Close};
+
+use crate::event::{Action, HubFault};
+use crate::issuer::Issuer;
+use framing::{FrameFault, Splitter};
+use krb_fields::Moment;
+use rand_core::Rng;
+use std::alloc::{AllocError, Global};
+
+/// The most octets of a reply with a ticket on a connection.
+const ROOM: u32 = 131_072;
+
+/// What came of the messages of a connection.
+#[derive(Debug, Drop)]
+pub struct StreamStep {
+    pub actions: Vec<Action>,
+    /// Whether the connection stays open.
+    pub stays: bool,
+}
+
+/// Answers the messages of a stream that are there whole.
+pub fn answer_stream<R: Rng>(
+    alloc: Global,
+    issuer: &mut Issuer<R>,
+    at: Moment,
+    conn: u64,
+    stream: &mut Splitter,
+) -> Result<StreamStep, HubFault>
+    ensures actions { IfOk result (λ s. s.actions.items ≡ (stream_step (issuing R.stream issuer.old) at conn stream.old).actions) }
+    ensures issuing { OnOk result (issuing R.stream issuer.new ≡ (stream_step (issuing R.stream issuer.old) at conn stream.old).issuing) }
+    ensures stays { IfOk result (λ s. s.stays ≡ (stream_step (issuing R.stream issuer.old) at conn stream.old).stays) }
+    ensures left { IfOk result (λ s. s.stays ≡ true → stream.new ≡ left stream.old) }
+    ensures conn { IfErr result (λ fault. fault.conn ≡ Some conn) }
+    ensures done { IfErr result (λ fault. fault.done.items ≡ take (length fault.done.items) (stream_step (issuing R.stream issuer.old) at conn stream.old).actions) }
+    ensures kdc { IfErr result (λ fault. issuer.new.kdc ≡ (after_some (length fault.done.items) (issuing R.stream issuer.old) at (handed_out stream.old).messages).kdc) }
+    ensures drawn { IfErr result (λ fault. R.stream issuer.new.rng ≡ drawn fault.draws (R.stream issuer.old.rng)) }
+    ensures draws { IfErr result AreDraws }
+{
+    let mut actions = Vec::new(alloc);
+    loop {
+        match stream.next(alloc) {
+            Ok(Some(request)) => {
+                match answer_request(alloc, issuer, at, conn, &request, &mut actions) {
+                    Ok(true) => {}
+                    Ok(false) => {
+                        return Ok(StreamStep {
+                            actions,
+                            stays: false,
+                        });
+                    }
+                    Err(drawn) => return Err(want_of_memory(actions, conn, drawn)),
+                }
+            }
+            Ok(None) => {
+                return Ok(StreamStep {
+                    actions,
+                    stays: true,
+                });
+            }
+            Err(fault) => {
+                return match fault {
+                    FrameFault::Memory => Err(want_of_memory(actions, conn, false)),
+                    _ => refuse_length(alloc, issuer, at, conn, actions),
+                };
+            }
+        }
+    }
+}
+
+/// Want of memory after these replies, and after one draw more or none.
+fn want_of_memory(done: Vec<Action>, conn: u64, drawn: bool) -> HubFault
+    ensures done { result.done ≡ done }
+    ensures conn { result.conn ≡ Some conn }
+    ensures draws { result.draws ≡ length done.items + (if drawn then 1 else 0) }
+{
+    let draws = done.len() + usize::from(drawn);
+    HubFault {
+        done,
+        conn: Some(conn),
+        draws,
+    }
+}
+
+/// Answers one request, and says whether the connection stays open. An `Err` says whether it drew random octets.
+#[tactic(auto, unfolding(crate::specs::StreamStep::drawn))]
+fn answer_request<R: Rng>(
+    alloc: Global,
+    issuer: &mut Issuer<R>,
+    at: Moment,
+    conn: u64,
+    request: &[u8],
+    actions: &mut Vec<Action>,
+) -> Result<bool, bool>
+    ensures action { OnOk result (actions.new.items ≡ actions.old.items ++ action_for conn (reply_of (issuing R.stream issuer.old) at stream_room request.now) ∷ []) }
+    ensures after { OnOk result (issuing R.stream issuer.new ≡ after (issuing R.stream issuer.old) at stream_room request.now) }
+    ensures stays { IfOk result (λ stays. stays ≡ is_some (reply_of (issuing R.stream issuer.old) at stream_room request.now)) }
+    ensures err { OnErr result ((actions.new.items ≡ actions.old.items) × (issuer.new.kdc ≡ issuer.old.kdc)) }
+    ensures drawn { IfErr result (λ one. R.stream issuer.new.rng ≡ drawn (if one then 1 else 0) (R.stream issuer.old.rng)) }
+{
+    if actions.reserve(1).is_err() {
+        return Err(false);
+    }
+    match issuer.answer(alloc, at, ROOM, request) {
+        Ok(Some(message)) => {
+            actions.push_reserved(Action::Write { conn, message });
+            Ok(true)
+        }
+        Ok(None) => {
+            actions.push_reserved(Action::Close { conn });
+            Ok(false)
+        }
+        Err(_) => Err(true),
+    }
+}
+
+/// Answers a faulty length, and ends the connection.
+fn refuse_length<R: Rng>(
+    alloc: Global,
+    issuer: &Issuer<R>,
+    at: Moment,
+    conn: u64,
+    mut actions: Vec<Action>,
+) -> Result<StreamStep, HubFault>
+    ensures actions { IfOk result (λ s. s.actions.items ≡ actions.items ++ Write conn (too_long issuer.now.kdc at) ∷ Close conn ∷ []) }
+    ensures stays { IfOk result (λ s. s.stays ≡ false) }
+    ensures conn { IfErr result (λ fault. fault.conn ≡ Some conn) }
+    ensures done { IfErr result (λ fault. fault.done.items ≡ actions.items) }
+    ensures draws { IfErr result (λ fault. fault.draws ≡ length actions.items + 0) }
+{
+    match push_refusal(alloc, issuer, at, conn, &mut actions) {
+        Ok(()) => Ok(StreamStep {
+            actions,
+            stays: false,
+        }),
+        Err(_) => Err(want_of_memory(actions, conn, false)),
+    }
+}
+
+fn push_refusal<R: Rng>(
+    alloc: Global,
+    issuer: &Issuer<R>,
+    at: Moment,
+    conn: u64,
+    actions: &mut Vec<Action>,
+) -> Result<(), AllocError>
+    ensures ok { OnOk result (actions.new.items ≡ actions.old.items ++ Write conn (too_long issuer.now.kdc at) ∷ Close conn ∷ []) }
+    ensures err { OnErr result (actions.new.items ≡ actions.old.items) }
+{
+    actions.reserve(2)?;
+    let message = issuer.too_long(alloc, at)?;
+    actions.push_reserved(Action::Write { conn, message });
+    actions.push_reserved(Action::Close { conn });
+    Ok(())
+}

@@ -1,0 +1,79 @@
+-- Settings of a policy, each with the text that spells it.
+use Rattle.std.specs.Prelude.{◌≡◌, ◌==◌, ℕ, ℤ, pos, ◌<◌, Bool, true, false, List, length, Option, Some, None, codes, bytes_eq, if◌then◌else◌}
+use Rattle.std.specs.List.{before_first, after_first, position_or_len}
+use Rattle.std.specs.Str.Parse.{IsNumeral, digits_value}
+use Rattle.krb_fields.specs.Moment.{IsSecond}
+use Rattle.principal_rows.specs.Policy.{default_policy}
+use Rattle.principal_rows.specs.declared.policy.Policy.{Policy}
+use Rattle.principal_rows.specs.declared.row.Row.{Row}
+use Rattle.kdc_script.specs.declared.setting.FlagField.{FlagField}
+use Rattle.kdc_script.specs.declared.setting.FlagField.TheVariants.{Disabled, Preauth, Forwardable, Proxiable, Postdate, OkAsDelegate}
+use Rattle.kdc_script.specs.declared.setting.LifeField.{LifeField}
+use Rattle.kdc_script.specs.declared.setting.LifeField.TheVariants.{GreatestLife, GreatestRenewable}
+use Rattle.kdc_script.specs.declared.setting.TimeField.{TimeField}
+use Rattle.kdc_script.specs.declared.setting.TimeField.TheVariants.{Expires, PasswordExpires, RevokedBefore}
+use Rattle.kdc_script.specs.declared.setting.Setting.{Setting}
+use Rattle.kdc_script.specs.declared.setting.Setting.TheVariants.{Flag, Life, Time}
+use Rattle.kdc_script.specs.Field.{IsU32Text}
+
+-- the field of a name
+abbrev pub flag_of : List ℕ → Option FlagField
+flag_of name =
+    if bytes_eq name (codes "disabled") then Some Disabled
+    else if bytes_eq name (codes "preauth") then Some Preauth
+    else if bytes_eq name (codes "forwardable") then Some Forwardable
+    else if bytes_eq name (codes "proxiable") then Some Proxiable
+    else if bytes_eq name (codes "postdate") then Some Postdate
+    else if bytes_eq name (codes "ok_as_delegate") then Some OkAsDelegate
+    else None
+
+abbrev pub life_of : List ℕ → Option LifeField
+life_of name =
+    if bytes_eq name (codes "greatest_life") then Some GreatestLife
+    else if bytes_eq name (codes "greatest_renewable") then Some GreatestRenewable
+    else None
+
+abbrev pub time_of : List ℕ → Option TimeField
+time_of name =
+    if bytes_eq name (codes "expires") then Some Expires
+    else if bytes_eq name (codes "password_expires") then Some PasswordExpires
+    else if bytes_eq name (codes "revoked_before") then Some RevokedBefore
+    else None
+
+abbrev pub IsFlagText : Bool → List ℕ → Type 0
+IsFlagText true text = text ≡ codes "true"
+IsFlagText false text = text ≡ codes "false"
+
+-- a whole second since 1970, up to the end of 9999, or none
+abbrev pub IsTimeText : Option ℤ → List ℕ → Type 0
+IsTimeText None text = text ≡ codes "never"
+IsTimeText (Some second) text = IsNumeral 10 text × (second ≡ pos (digits_value 10 text)) × IsSecond second
+
+abbrev pub IsSettingOf : Setting → List ℕ → List ℕ → Type 0
+IsSettingOf (Flag field on) name value = (flag_of name ≡ Some field) × IsFlagText on value
+IsSettingOf (Life field life) name value = (life_of name ≡ Some field) × IsU32Text life value
+IsSettingOf (Time field time) name value = (time_of name ≡ Some field) × IsTimeText time value
+
+-- a field's name, an equals sign (3D), and its value
+pub record IsSettingText (setting : Setting) (text : List ℕ) : Type 0 where
+  pub equals : position_or_len (λ b. b == 0x3D) text < length text
+  pub parts : IsSettingOf setting (before_first (λ b. b == 0x3D) text) (after_first (λ b. b == 0x3D) text)
+
+-- the policy with a field set
+abbrev pub with_setting : Setting → Policy → Policy
+with_setting (Flag Disabled on) policy = record policy { disabled = on }
+with_setting (Flag Preauth on) policy = record policy { preauth = on }
+with_setting (Flag Forwardable on) policy = record policy { forwardable = on }
+with_setting (Flag Proxiable on) policy = record policy { proxiable = on }
+with_setting (Flag Postdate on) policy = record policy { postdate = on }
+with_setting (Flag OkAsDelegate on) policy = record policy { ok_as_delegate = on }
+with_setting (Life GreatestLife life) policy = record policy { greatest_life = life }
+with_setting (Life GreatestRenewable life) policy = record policy { greatest_renewable = life }
+with_setting (Time Expires time) policy = record policy { expires = time }
+with_setting (Time PasswordExpires time) policy = record policy { password_expires = time }
+with_setting (Time RevokedBefore time) policy = record policy { revoked_before = time }
+
+-- the policy of a row, and of a name that has none that of a new principal
+abbrev pub policy_of : Option Row → Policy
+policy_of None = default_policy
+policy_of (Some row) = row.policy

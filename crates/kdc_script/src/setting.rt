@@ -1,0 +1,181 @@
+//! Settings: a field of a policy and the value that it gets.
+ghost use Rattle.std.specs.Prelude.{◌≡◌, ℤ, ℕ, Bool, Option, IfSome, IfNone};
+ghost use Rattle.kdc_script.specs.Setting.{flag_of, life_of, time_of, IsFlagText, IsTimeText, IsSettingOf, IsSettingText, with_setting};
+ghost use Rattle.kdc_script.specs.declared.setting.FlagField as flags;
+ghost use Rattle.kdc_script.specs.declared.setting.LifeField as lives;
+ghost use Rattle.kdc_script.specs.declared.setting.TimeField as times;
+ghost use Rattle.kdc_script.specs.declared.setting.Setting as settings;
+ghost use Rattle.kdc_script.specs.declared.setting.Setting.TheVariants as kinds;
+
+use crate::field::{number, number_u32};
+use krb_fields::Second;
+use principal_rows::Policy;
+
+/// A field that holds or doesn't.
+#[derive(Clone, Copy, Debug, PartialEq, Eq)]
+pub(crate) enum FlagField {
+    Disabled,
+    Preauth,
+    Forwardable,
+    Proxiable,
+    Postdate,
+    OkAsDelegate,
+}
+
+/// A field of so many seconds.
+#[derive(Clone, Copy, Debug, PartialEq, Eq)]
+pub(crate) enum LifeField {
+    GreatestLife,
+    GreatestRenewable,
+}
+
+/// A field of a second, or of none.
+#[derive(Clone, Copy, Debug, PartialEq, Eq)]
+pub(crate) enum TimeField {
+    Expires,
+    PasswordExpires,
+    RevokedBefore,
+}
+
+/// A field of a policy with its value.
+#[derive(Clone, Copy, Debug, PartialEq, Eq)]
+pub(crate) enum Setting {
+    Flag(FlagField, bool),
+    Life(LifeField, u32),
+    Time(TimeField, Option<Second>),
+}
+
+impl Setting {
+    /// A field's name and its value, with an equals sign between them.
+    pub(crate) fn parse(text: &str) -> Option<Setting>
+        ensures read { IfSome result (λ setting. IsSettingText setting text.now) }
+        ensures none { IfNone result ((setting : settings.Setting) → ¬ IsSettingText setting text.now) }
+    {
+        let (name, value) = text.split_once('=')?;
+        setting_of(name, value)
+    }
+
+    /// The policy with this field set.
+    pub(crate) fn on(self, policy: Policy) -> Policy
+        ensures { result ≡ with_setting self policy }
+    {
+        let mut policy = policy;
+        match self {
+            Setting::Flag(FlagField::Disabled, on) => policy.disabled = on,
+            Setting::Flag(FlagField::Preauth, on) => policy.preauth = on,
+            Setting::Flag(FlagField::Forwardable, on) => policy.forwardable = on,
+            Setting::Flag(FlagField::Proxiable, on) => policy.proxiable = on,
+            Setting::Flag(FlagField::Postdate, on) => policy.postdate = on,
+            Setting::Flag(FlagField::OkAsDelegate, on) => policy.ok_as_delegate = on,
+            Setting::Life(LifeField::GreatestLife, life) => policy.greatest_life = life,
+            Setting::Life(LifeField::GreatestRenewable, life) => policy.greatest_renewable = life,
+            Setting::Time(TimeField::Expires, time) => policy.expires = time,
+            Setting::Time(TimeField::PasswordExpires, time) => policy.password_expires = time,
+            Setting::Time(TimeField::RevokedBefore, time) => policy.revoked_before = time,
+        }
+        policy
+    }
+}
+
+fn setting_of(name: &str, value: &str) -> Option<Setting>
+    ensures read { IfSome result (λ setting. IsSettingOf setting name.now value.now) }
+    ensures none { IfNone result ((setting : settings.Setting) → ¬ IsSettingOf setting name.now value.now) }
+{
+    if let Some(setting) = flag_setting(name, value) {
+        return Some(setting);
+    }
+    if let Some(setting) = life_setting(name, value) {
+        return Some(setting);
+    }
+    time_setting(name, value)
+}
+
+fn flag_setting(name: &str, value: &str) -> Option<Setting>
+    ensures read { IfSome result (λ setting. IsSettingOf setting name.now value.now) }
+    ensures none { IfNone result ((field : flags.FlagField) (on : Bool) → ¬ IsSettingOf (kinds.Flag field on) name.now value.now) }
+{
+    Some(Setting::Flag(flag_field(name)?, flag(value)?))
+}
+
+fn life_setting(name: &str, value: &str) -> Option<Setting>
+    ensures read { IfSome result (λ setting. IsSettingOf setting name.now value.now) }
+    ensures none { IfNone result ((field : lives.LifeField) (life : ℕ) → ¬ IsSettingOf (kinds.Life field life) name.now value.now) }
+{
+    Some(Setting::Life(life_field(name)?, number_u32(value)?))
+}
+
+fn time_setting(name: &str, value: &str) -> Option<Setting>
+    ensures read { IfSome result (λ setting. IsSettingOf setting name.now value.now) }
+    ensures none { IfNone result ((field : times.TimeField) (time : Option ℤ) → ¬ IsSettingOf (kinds.Time field time) name.now value.now) }
+{
+    Some(Setting::Time(time_field(name)?, time(value)?))
+}
+
+fn flag_field(name: &str) -> Option<FlagField>
+    ensures { result ≡ flag_of name.now }
+{
+    if name == "disabled" {
+        Some(FlagField::Disabled)
+    } else if name == "preauth" {
+        Some(FlagField::Preauth)
+    } else if name == "forwardable" {
+        Some(FlagField::Forwardable)
+    } else if name == "proxiable" {
+        Some(FlagField::Proxiable)
+    } else if name == "postdate" {
+        Some(FlagField::Postdate)
+    } else if name == "ok_as_delegate" {
+        Some(FlagField::OkAsDelegate)
+    } else {
+        None
+    }
+}
+
+fn life_field(name: &str) -> Option<LifeField>
+    ensures { result ≡ life_of name.now }
+{
+    if name == "greatest_life" {
+        Some(LifeField::GreatestLife)
+    } else if name == "greatest_renewable" {
+        Some(LifeField::GreatestRenewable)
+    } else {
+        None
+    }
+}
+
+fn time_field(name: &str) -> Option<TimeField>
+    ensures { result ≡ time_of name.now }
+{
+    if name == "expires" {
+        Some(TimeField::Expires)
+    } else if name == "password_expires" {
+        Some(TimeField::PasswordExpires)
+    } else if name == "revoked_before" {
+        Some(TimeField::RevokedBefore)
+    } else {
+        None
+    }
+}
+
+fn flag(text: &str) -> Option<bool>
+    ensures read { IfSome result (λ on. IsFlagText on text.now) }
+    ensures none { IfNone result ((on : Bool) → ¬ IsFlagText on text.now) }
+{
+    match text {
+        "true" => Some(true),
+        "false" => Some(false),
+        _ => None,
+    }
+}
+
+/// A second in decimal, or `never`.
+fn time(text: &str) -> Option<Option<Second>>
+    ensures read { IfSome result (λ time. IsTimeText time text.now) }
+    ensures none { IfNone result ((time : Option ℤ) → ¬ IsTimeText time text.now) }
+{
+    if text == "never" {
+        return Some(None);
+    }
+    let second = i64::try_from(number(text)?).ok()?;
+    Some(Some(Second::new(second)?))
+}

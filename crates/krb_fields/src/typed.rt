@@ -1,0 +1,70 @@
+//! Octets of a type that a number names.
+ghost use Rattle.std.specs.Prelude.{◌≡◌, IfOk, OnOk};
+ghost use Rattle.krb_elements.specs.Codec.{itself};
+ghost use Rattle.krb_fields.specs.Typed.{typed_of, typed_form};
+
+use krb_der::{DerFault, Reader, Writer};
+use krb_elements::{
+    Coded, Decode, DecodeFields, Encode, EncodeFields, Fielded, MakeOwned, Octets, OctetsRef,
+    Untagged, take_field, write_field,
+};
+use std::alloc::{AllocError, Global};
+
+/// Octets, by their type: the shape of HostAddress (RFC 4120, section 5.2.5) and of other types.
+#[derive(Debug, Drop)]
+pub struct Typed<O = Octets> {
+    pub number: i32,
+    pub octets: O,
+}
+
+/// A [`Typed`] where it stands.
+pub type TypedRef<'a> = Typed<OctetsRef<'a>>;
+
+/// A host's address, by its type.
+pub type HostAddress = Typed;
+
+/// A [`HostAddress`] where it stands.
+pub type HostAddressRef<'a> = TypedRef<'a>;
+
+impl<O: Coded> Coded for Typed<O> {
+    ghost codec = { typed_of O.codec };
+}
+
+impl<O: Coded> Fielded for Typed<O> {
+    type In = Untagged;
+
+    ghost form = { typed_form O.codec };
+
+    ghost made = { itself };
+}
+
+impl<'a, O: Decode<'a>> DecodeFields<'a> for Typed<O> {
+    #[tactic(auto, unfolding(crate::specs::Typed::typed_form))]
+    fn look_fields(fields: &mut Reader<'a>) -> Result<Typed<O>, DerFault> {
+        Ok(Typed {
+            number: take_field(fields, 0)?,
+            octets: take_field(fields, 1)?,
+        })
+    }
+}
+
+impl<O: Encode> EncodeFields for Typed<O> {
+    #[tactic(auto, unfolding(crate::specs::Typed::typed_form))]
+    fn put_fields(&self, out: &mut Writer) -> Result<(), AllocError> {
+        write_field(out, 0, &self.number)?;
+        write_field(out, 1, &self.octets)
+    }
+}
+
+impl<O: MakeOwned> MakeOwned for Typed<O> {
+    type Owned = Typed<O::Owned>;
+
+    ghost same = { λ x. record { number = x.number; octets = O.same x.octets } };
+
+    fn copy(&self, alloc: Global) -> Result<Typed<O::Owned>, AllocError> {
+        Ok(Typed {
+            number: self.number,
+            octets: self.octets.copy(alloc)?,
+        })
+    }
+}

@@ -1,0 +1,7 @@
+pub mod EncTicketPart
+pub mod LastReq
+pub mod EncKdcRepPart
+pub mod PaEncTsEnc
+pub mod Authenticator
+pub mod EncApRepPart
+pub mod EtypeInfo2Entry

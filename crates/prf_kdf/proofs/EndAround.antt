@@ -1,0 +1,57 @@
+-- End-around carry: the code brings a carry round after each piece, the definition in the sum of all pieces.
+use Rattle.std.proofs.Common.{◌≡◌, ℕ, zero, suc, ◌+◌, ◌-◌, ◌*◌, ◌/◌, ◌%◌}
+use Rattle.std.proofs.Common.{◌^◌, ◌≤◌, ◌<◌, refl, sym, ap, ◌∙◌, arith, ⊎_elim}
+use Rattle.std.proofs.Math.Nat.{mod-add-mod}
+use Rattle.std.proofs.lemmas.Bool.{cases_lt}
+use Rattle.std.proofs.lemmas.Nat.{div-mul-add, mod-mul-add, mod_below}
+use Rattle.prf_kdf.specs.Fold.{end_around_carry}
+
+-- what stands above n bits, brought round to the lowest bits once
+abbrev pub brought_round : ℕ → ℕ → ℕ
+brought_round n x = x % 2 ^ n + x / 2 ^ n
+
+pub brought_round_is : (n c N x : ℕ) → c * 2 ^ n + N ≡ x → N < 2 ^ n → brought_round n x ≡ N + c
+brought_round_is n c N x parts fits = rw (← parts, div-mul-add c (2 ^ n) N fits, mod-mul-add c (2 ^ n) N fits) refl
+
+end_around_carry-most : (n t : ℕ) → 2 ≤ 2 ^ n → end_around_carry n t ≤ 2 ^ n - 1
+end_around_carry-most n zero some = omega arith
+end_around_carry-most n (suc t) some =
+    let below : t % (2 ^ n - 1) < 2 ^ n - 1 = mod_below t (2 ^ n - 1) (omega arith) in
+    omega arith
+
+-- a number that is added afterwards
+end_around_carry-add : (n t p : ℕ) → end_around_carry n (end_around_carry n t + p) ≡ end_around_carry n (t + p)
+end_around_carry-add n zero p = refl
+end_around_carry-add n (suc t) p =
+    let first : t % (2 ^ n - 1) + 1 + p ≡ suc (t % (2 ^ n - 1) + p) = omega arith in
+    let second : suc t + p ≡ suc (t + p) = omega arith in
+    ap (end_around_carry n) first
+    ∙ ap (λ (m : ℕ). m + 1) (mod-add-mod t (2 ^ n - 1) p)
+    ∙ sym (ap (end_around_carry n) second)
+
+-- of a sum of two numbers of n bits
+end_around_carry-two : (n x : ℕ) → 2 ≤ 2 ^ n → x ≤ 2 ^ n - 1 + (2 ^ n - 1) → end_around_carry n x ≡ brought_round n x
+end_around_carry-two n zero some most =
+    let none : 0 * 2 ^ n + 0 ≡ 0 = omega arith in
+    sym (brought_round_is n 0 0 0 none (omega arith))
+end_around_carry-two n (suc x) some most = ⊎_elim
+    (λ (fits : x < 2 ^ n - 1).
+    let parts : 0 * (2 ^ n - 1) + x ≡ x = omega arith in
+    let same : x % (2 ^ n - 1) ≡ x = ap (λ (m : ℕ). m % (2 ^ n - 1)) (sym parts) ∙ mod-mul-add 0 (2 ^ n - 1) x fits in
+    let whole : 0 * 2 ^ n + suc x ≡ suc x = omega arith in
+    ap (λ (m : ℕ). m + 1) same ∙ omega (arith, brought_round_is n 0 (suc x) (suc x) whole (omega arith)))
+    (λ (over : 2 ^ n - 1 ≤ x).
+    let N : ℕ = x - (2 ^ n - 1) in
+    let parts : 1 * (2 ^ n - 1) + N ≡ x = omega arith in
+    let less : x % (2 ^ n - 1) ≡ N =
+    ap (λ (m : ℕ). m % (2 ^ n - 1)) (sym parts) ∙ mod-mul-add 1 (2 ^ n - 1) N (omega arith) in
+    let whole : 1 * 2 ^ n + N ≡ suc x = omega arith in
+    ap (λ (m : ℕ). m + 1) less ∙ sym (brought_round_is n 1 N (suc x) whole (omega arith)))
+    (cases_lt x (2 ^ n - 1))
+
+-- a piece p more: bringing the carry round now, or once in the whole sum, is the same
+pub end_around_carry-more : (n t p : ℕ) → 2 ≤ 2 ^ n → p < 2 ^ n
+    → end_around_carry n (t + p) ≡ brought_round n (end_around_carry n t + p)
+end_around_carry-more n t p some small =
+    let most : end_around_carry n t ≤ 2 ^ n - 1 = end_around_carry-most n t some in
+    sym (end_around_carry-add n t p) ∙ end_around_carry-two n (end_around_carry n t + p) some (omega arith)

@@ -1,0 +1,58 @@
+//! Why a text is read as no database.
+use crate::row_fault::RowFault;
+use std::alloc::AllocError;
+use std::error::Error;
+use std::fmt;
+
+/// Why a text is read as no database.
+#[derive(Debug, Clone, Copy, PartialEq, Eq)]
+pub enum ReadFault {
+    /// The text is no JSON object.
+    NotJson,
+    /// The object has no version that is read.
+    BadVersion,
+    /// The realm, or a row, is amiss.
+    BadRow,
+    /// The ticket-granting service has no row.
+    NoTicketGranter,
+    Memory,
+}
+
+impl fmt::Display for ReadFault {
+    fn fmt<W: fmt::Write>(&self, f: &mut fmt::Formatter<W>) -> fmt::Result {
+        f.write_str(match self {
+            ReadFault::NotJson => "the text is no JSON object",
+            ReadFault::BadVersion => "the database has another version",
+            ReadFault::BadRow => "the realm, or a row, is amiss",
+            ReadFault::NoTicketGranter => "the ticket-granting service has no row",
+            ReadFault::Memory => "out of memory",
+        })
+    }
+}
+
+impl Error for ReadFault {}
+
+impl From<AllocError> for ReadFault {
+    ghost use Rattle.std.specs.Prelude.{◌≡◌};
+    ghost use Rattle.principals.specs.declared.read_fault.ReadFault.{ReadFault};
+
+    ghost from_gives = { λ _ fault. fault ≡ ReadFault.Memory };
+
+    fn from(_: AllocError) -> ReadFault {
+        ReadFault::Memory
+    }
+}
+
+impl From<RowFault> for ReadFault {
+    ghost use Rattle.std.specs.Prelude.{◌≡◌};
+    ghost use Rattle.principals.specs.ReadFault.{read_fault};
+
+    ghost from_gives = { λ row fault. fault ≡ read_fault row };
+
+    fn from(fault: RowFault) -> ReadFault {
+        match fault {
+            RowFault::BadRow => ReadFault::BadRow,
+            RowFault::Memory => ReadFault::Memory,
+        }
+    }
+}

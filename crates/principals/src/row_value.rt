@@ -1,0 +1,256 @@
+//! Rows as JSON values.
+ghost use Rattle.std.specs.Prelude.{◌≡◌, None, Some, IfOk};
+ghost use Rattle.serde_json.specs.View.{view};
+ghost use Rattle.principals.specs.ReadBack.{IsTimeReadBack, IsKeyReadBack, AreKeysReadBack, IsVersionReadBack, AreVersionsReadBack, IsRowReadBack};
+ghost use Rattle.principals.specs.RowWritten as written;
+ghost use Rattle.principals.specs.RowValue.{member_count, u32_of, flag, life, time, revoked_before, etype_value, key_of, keys_of, version_of, versions_of, policy_of, row_of};
+
+use crate::format::Format;
+use crate::row_fault::RowFault;
+use enctypes::{Etype, Key};
+use krb_fields::Second;
+use principal_rows::{KeyList, KeyListFault, KeyVersion, Policy, Row, Versions};
+use serde_json::{Value, json};
+use std::alloc::{AllocError, Global};
+
+/// The most octets that a key has.
+const LONGEST_KEY: usize = 32;
+
+/// How many members an object has; other values have none.
+#[tactic(auto, using(crate::proofs::Values::object_count))]
+pub(crate) fn member_count(value: &Value) -> usize
+    ensures { result ≡ member_count (view value.now) }
+{
+    match value.as_object() {
+        Some(members) => members.len(),
+        None => 0,
+    }
+}
+
+fn read_u32(value: &Value) -> Option<u32>
+    ensures { result ≡ u32_of (view value.now) }
+{
+    u32::try_from(value.as_u64()?).ok()
+}
+
+fn read_etype(value: &Value) -> Option<Etype>
+    ensures { result ≡ etype_value (view value.now) }
+{
+    Etype::from_number(i32::try_from(value.as_u64()?).ok()?)
+}
+
+/// An encryption type and the octets of a key, in hexadecimal.
+fn read_key(value: &Value) -> Option<Key>
+    ensures { result ≡ key_of (view value.now) }
+{
+    if member_count(value) != 2 {
+        return None;
+    }
+    let etype = read_etype(value.get("etype")?)?;
+    let mut octets = [0; LONGEST_KEY];
+    let octets = octets.get_mut(..etype.key_len())?;
+    hex::decode_to_slice(value.get("key")?.as_str()?, octets).ok()?;
+    Key::new(etype, octets)
+}
+
+fn read_keys(alloc: Global, value: &Value) -> Result<KeyList, RowFault>
+    ensures ok { IfOk result (λ keys. keys_of (view value.now) ≡ Some keys) }
+    ensures bad { result ≡ Err RowFault.BadRow → keys_of (view value.now) ≡ None }
+{
+    let Some(items) = value.as_array() else {
+        return Err(RowFault::BadRow);
+    };
+    let mut keys = Vec::new(alloc);
+    for item in items {
+        let Some(key) = read_key(item) else {
+            return Err(RowFault::BadRow);
+        };
+        keys.push(key)?;
+    }
+    match KeyList::new(alloc, &keys) {
+        Ok(list) => Ok(list),
+        Err(KeyListFault::Empty | KeyListFault::Doubled) => Err(RowFault::BadRow),
+        Err(KeyListFault::Memory) => Err(RowFault::Memory),
+    }
+}
+
+fn read_version(alloc: Global, value: &Value) -> Result<KeyVersion, RowFault>
+    ensures ok { IfOk result (λ version. version_of (view value.now) ≡ Some version) }
+    ensures bad { result ≡ Err RowFault.BadRow → version_of (view value.now) ≡ None }
+{
+    if member_count(value) != 2 {
+        return Err(RowFault::BadRow);
+    }
+    let Some(number) = value.get("version").and_then(read_u32) else {
+        return Err(RowFault::BadRow);
+    };
+    let Some(keys) = value.get("keys") else {
+        return Err(RowFault::BadRow);
+    };
+    Ok(KeyVersion {
+        number,
+        keys: read_keys(alloc, keys)?,
+    })
+}
+
+fn read_versions(alloc: Global, value: &Value) -> Result<Versions, RowFault>
+    ensures ok { IfOk result (λ versions. versions_of (view value.now) ≡ Some versions) }
+    ensures bad { result ≡ Err RowFault.BadRow → versions_of (view value.now) ≡ None }
+{
+    let Some(items) = value.as_array() else {
+        return Err(RowFault::BadRow);
+    };
+    let mut versions = Vec::new(alloc);
+    for item in items {
+        versions.push(read_version(alloc, item)?)?;
+    }
+    Versions::new(versions).ok_or(RowFault::BadRow)
+}
+
+fn read_flag(row: &Value, name: &str) -> Option<bool>
+    ensures { result ≡ flag name.now (view row.now) }
+{
+    row.get(name)?.as_bool()
+}
+
+fn read_life(row: &Value, name: &str) -> Option<u32>
+    ensures { result ≡ life name.now (view row.now) }
+{
+    read_u32(row.get(name)?)
+}
+
+/// `null`, or a second.
+fn read_time(row: &Value, name: &str) -> Option<Option<Second>>
+    ensures { result ≡ time name.now (view row.now) }
+{
+    let value = row.get(name)?;
+    if value.is_null() {
+        return Some(None);
+    }
+    let second = Second::new(i64::try_from(value.as_u64()?).ok()?)?;
+    Some(Some(second))
+}
+
+/// A row of version 1 has no such member.
+fn read_revoked_before(row: &Value, format: Format) -> Option<Option<Second>>
+    ensures { result ≡ revoked_before format (view row.now) }
+{
+    match format {
+        Format::Version1 => Some(None),
+        Format::Version2 => read_time(row, "revoked_before"),
+    }
+}
+
+fn read_policy(row: &Value, format: Format) -> Option<Policy>
+    ensures { result ≡ policy_of format (view row.now) }
+{
+    Some(Policy {
+        disabled: read_flag(row, "disabled")?,
+        expires: read_time(row, "expires")?,
+        password_expires: read_time(row, "password_expires")?,
+        revoked_before: read_revoked_before(row, format)?,
+        greatest_life: read_life(row, "greatest_life")?,
+        greatest_renewable: read_life(row, "greatest_renewable")?,
+        preauth: read_flag(row, "preauth")?,
+        forwardable: read_flag(row, "forwardable")?,
+        proxiable: read_flag(row, "proxiable")?,
+        postdate: read_flag(row, "postdate")?,
+        ok_as_delegate: read_flag(row, "ok_as_delegate")?,
+    })
+}
+
+/// The row that a value stands for.
+pub(crate) fn read_row(alloc: Global, value: &Value, format: Format) -> Result<Row, RowFault>
+    ensures ok { IfOk result (λ row. row_of format (view value.now) ≡ Some row) }
+    ensures bad { result ≡ Err RowFault.BadRow → row_of format (view value.now) ≡ None }
+{
+    if member_count(value) != format.row_members() {
+        return Err(RowFault::BadRow);
+    }
+    let Some(policy) = read_policy(value, format) else {
+        return Err(RowFault::BadRow);
+    };
+    let Some(versions) = value.get("keys") else {
+        return Err(RowFault::BadRow);
+    };
+    Ok(Row {
+        versions: read_versions(alloc, versions)?,
+        policy,
+    })
+}
+
+// ---- what is written
+
+fn time_value(time: Option<Second>) -> Value
+    ensures value { view result ≡ written.time_value time }
+    ensures reads { IsTimeReadBack time }
+{
+    match time {
+        Some(second) => Value::from(second.get()),
+        None => Value::Null,
+    }
+}
+
+fn key_value(alloc: Global, key: &Key) -> Result<Value, AllocError>
+    ensures value { IfOk result (λ value. view value ≡ written.key_value key.now) }
+    ensures reads { IfOk result (λ _. IsKeyReadBack key.now) }
+{
+    json!(in alloc; {
+        "etype": key.etype().number(),
+        "key": hex::encode(alloc, key.bytes())?
+    })
+}
+
+fn keys_value(alloc: Global, keys: &KeyList) -> Result<Value, AllocError>
+    ensures value { IfOk result (λ value. view value ≡ written.keys_value keys.now) }
+    ensures reads { IfOk result (λ _. AreKeysReadBack keys.now) }
+{
+    let mut values = Vec::new(alloc);
+    for key in keys.keys() {
+        values.push(key_value(alloc, key)?)?;
+    }
+    Ok(Value::from(values))
+}
+
+fn version_value(alloc: Global, version: &KeyVersion) -> Result<Value, AllocError>
+    ensures value { IfOk result (λ value. view value ≡ written.version_value version.now) }
+    ensures reads { IfOk result (λ _. IsVersionReadBack version.now) }
+{
+    json!(in alloc; {
+        "keys": keys_value(alloc, &version.keys)?,
+        "version": version.number
+    })
+}
+
+fn versions_value(alloc: Global, versions: &Versions) -> Result<Value, AllocError>
+    ensures value { IfOk result (λ value. view value ≡ written.versions_value versions.now) }
+    ensures reads { IfOk result (λ _. AreVersionsReadBack versions.now) }
+{
+    let mut values = Vec::new(alloc);
+    for version in versions.as_slice() {
+        values.push(version_value(alloc, version)?)?;
+    }
+    Ok(Value::from(values))
+}
+
+/// The value that stands for a row in version 2.
+pub(crate) fn row_value(alloc: Global, row: &Row) -> Result<Value, AllocError>
+    ensures value { IfOk result (λ value. view value ≡ written.row_value row.now) }
+    ensures reads { IfOk result (λ _. IsRowReadBack row.now) }
+{
+    let policy = row.policy;
+    json!(in alloc; {
+        "disabled": policy.disabled,
+        "expires": time_value(policy.expires),
+        "forwardable": policy.forwardable,
+        "greatest_life": row.policy.greatest_life,
+        "greatest_renewable": row.policy.greatest_renewable,
+        "keys": versions_value(alloc, &row.versions)?,
+        "ok_as_delegate": policy.ok_as_delegate,
+        "password_expires": time_value(policy.password_expires),
+        "postdate": policy.postdate,
+        "preauth": policy.preauth,
+        "proxiable": policy.proxiable,
+        "revoked_before": time_value(policy.revoked_before)
+    })
+}

@@ -1,0 +1,159 @@
+//! The text of a database: a JSON object (RFC 8259), written in version 2 and read in versions 1 and 2.
+ghost use Rattle.std.specs.Prelude.{◌≡◌, ◌≢◌, All, IsSome, None, Some, IfOk, IfErr, IfSome, IfNone, string_bytes};
+ghost use Rattle.std.specs.FinMap as map;
+ghost use Rattle.serde_json.specs.Data.{no_members};
+ghost use Rattle.serde_json.specs.Find.{as_object};
+ghost use Rattle.serde_json.specs.Read.{read as read_text};
+ghost use Rattle.serde_json.specs.View.{view, members_view};
+ghost use Rattle.serde_json.specs.Written.{compact_text};
+ghost use Rattle.krb_fields.specs.NameLimits.{IsComponent};
+ghost use Rattle.principals.specs.NameOf.{name_of, component_of};
+ghost use Rattle.principals.specs.ReadBack.{IsEntryReadBack};
+ghost use Rattle.principals.specs.RowValue.{member_count};
+ghost use Rattle.principal_rows.specs.NameMap.{pairs};
+ghost use Rattle.principals.specs.Written.{with_rows, database_value};
+ghost use Rattle.principals.specs.Value.{format_value, entries_of, rows_of, realm_of, principals_of, database, text_database};
+
+use crate::format::Format;
+use crate::row_fault::RowFault;
+use crate::row_value::{member_count, read_row, row_value};
+use crate::{Database, ReadFault, granter_name};
+use krb_elements::KerberosString;
+use krb_fields::{Name, NameFault, component_from_text, component_to_text};
+use principal_rows::{Entry, NameMap, Row};
+use serde_json::{Map, Value, json};
+use std::alloc::{AllocError, Global};
+
+impl Database {
+    /// The database that a text stands for.
+    pub fn read(alloc: Global, text: &str) -> Result<Database, ReadFault>
+        ensures ok { IfOk result (λ database. text_database text.now ≡ Ok database) }
+        ensures fault { IfErr result (λ fault. fault ≢ ReadFault.Memory → text_database text.now ≡ Err fault) }
+    {
+        let value = read_object(alloc, text)?;
+        let Some(format) = read_format(&value) else {
+            return Err(ReadFault::BadVersion);
+        };
+        if member_count(&value) != 3 {
+            return Err(ReadFault::BadRow);
+        }
+        let realm = read_realm(alloc, &value)?;
+        let rows = read_rows(alloc, &value, format)?;
+        let granter = granter_name(alloc, realm.as_slice())?;
+        if rows.get(&granter).is_none() {
+            return Err(ReadFault::NoTicketGranter);
+        }
+        Ok(Database { realm, rows })
+    }
+
+    /// The text of the database, in version 2: compact, with members in the order of their names.
+    pub fn write(&self, alloc: Global) -> Result<String, AllocError>
+        ensures text { IfOk result (λ text. string_bytes text ≡ compact_text (database_value self.now)) }
+        ensures value { IfOk result (λ text. read_text (string_bytes text) ≡ Some (database_value self.now)) }
+        ensures reads_back { IfOk result (λ text. text_database (string_bytes text) ≡ Ok self.now) }
+    {
+        self.to_value(alloc)?.to_string(alloc)
+    }
+
+    fn to_value(&self, alloc: Global) -> Result<Value, AllocError>
+        ensures value { IfOk result (λ value. view value ≡ database_value self.now) }
+        ensures reads { IfOk result (λ _. database (database_value self.now) ≡ Ok self.now) }
+    {
+        let principals = row_members(alloc, self.rows.entries())?;
+        let realm = component_to_text(alloc, self.realm.as_slice())?;
+        json!(in alloc; {
+            "principals": Value::from(principals),
+            "realm": realm,
+            "version": 2u32
+        })
+    }
+}
+
+/// A member for each row.
+fn row_members(alloc: Global, entries: &[Entry<Row>]) -> Result<Map<String, Value>, AllocError>
+    ensures members { IfOk result (λ members. members_view members.entries ≡ with_rows no_members (pairs entries.now)) }
+    ensures reads { IfOk result (λ _. All IsEntryReadBack entries.now) }
+{
+    let mut members = Map::new(alloc);
+    for entry in entries {
+        let text = entry.name.to_text(alloc)?;
+        let value = row_value(alloc, &entry.value)?;
+        members.insert(text, value)?;
+    }
+    Ok(members)
+}
+
+/// The object that a text is read as.
+fn read_object(alloc: Global, text: &str) -> Result<Value, ReadFault>
+    ensures ok { IfOk result (λ value. text_database text.now ≡ database (view value)) }
+    ensures object { IfOk result (λ value. IsSome (as_object (view value))) }
+    ensures fault { IfErr result (λ fault. fault ≢ ReadFault.Memory → text_database text.now ≡ Err fault) }
+{
+    match Value::from_str(alloc, text) {
+        Ok(value) if value.is_object() => Ok(value),
+        Ok(_) => Err(ReadFault::NotJson),
+        Err(error) if error.is_memory() => Err(ReadFault::Memory),
+        Err(_) => Err(ReadFault::NotJson),
+    }
+}
+
+fn read_format(value: &Value) -> Option<Format>
+    ensures { result ≡ format_value (view value.now) }
+{
+    Format::from_number(value.get("version")?.as_u64()?)
+}
+
+fn read_realm(alloc: Global, value: &Value) -> Result<KerberosString, RowFault>
+    ensures ok { IfOk result (λ realm. realm_of (view value.now) ≡ Some realm) }
+    ensures fits { IfOk result (λ realm. IsComponent realm) }
+    ensures bad { result ≡ Err RowFault.BadRow → realm_of (view value.now) ≡ None }
+{
+    let Some(text) = value.get("realm").and_then(Value::as_str) else {
+        return Err(RowFault::BadRow);
+    };
+    match component_from_text(alloc, text) {
+        Ok(realm) => Ok(realm),
+        Err(NameFault::BadName) => Err(RowFault::BadRow),
+        Err(NameFault::Memory) => Err(RowFault::Memory),
+    }
+}
+
+fn read_name(alloc: Global, text: &str) -> Result<Name, RowFault>
+    ensures ok { IfOk result (λ name. name_of text.now ≡ Some name.components) }
+    ensures bad { result ≡ Err RowFault.BadRow → name_of text.now ≡ None }
+{
+    match Name::from_text(alloc, text) {
+        Ok(name) => Ok(name),
+        Err(NameFault::BadName) => Err(RowFault::BadRow),
+        Err(NameFault::Memory) => Err(RowFault::Memory),
+    }
+}
+
+/// The rows, each a member with the text of its name.
+fn read_rows(alloc: Global, value: &Value, format: Format) -> Result<NameMap<Row>, RowFault>
+    ensures ok { IfOk result (λ rows. rows_of format (view value.now) ≡ Some rows) }
+    ensures bad { result ≡ Err RowFault.BadRow → rows_of format (view value.now) ≡ None }
+{
+    let Some(members) = value.get("principals").and_then(Value::as_object) else {
+        return Err(RowFault::BadRow);
+    };
+    let entries = read_entries(alloc, members, format)?;
+    Ok(NameMap::from_entries(entries)?)
+}
+
+fn read_entries(
+    alloc: Global,
+    members: &Map<String, Value>,
+    format: Format,
+) -> Result<Vec<Entry<Row>>, RowFault>
+    ensures ok { IfOk result (λ entries. entries_of format (members_view members.now.entries) ≡ Some (pairs entries.items)) }
+    ensures bad { result ≡ Err RowFault.BadRow → entries_of format (members_view members.now.entries) ≡ None }
+{
+    let mut entries = Vec::new(alloc);
+    for (text, row) in members.iter() {
+        let name = read_name(alloc, text.as_str())?;
+        let value = read_row(alloc, row, format)?;
+        entries.push(Entry { name, value })?;
+    }
+    Ok(entries)
+}

@@ -1,0 +1,17 @@
+-- That what is sealed is read again.
+use Rattle.std.proofs.Common.{◌≡◌, ℕ, List, Option, Some, Result, Ok, Err, IfOk, sym, subst, ap, ◌∙◌}
+use Rattle.krb_der.specs.declared.fault.DerFault.{DerFault}
+use Rattle.krb_elements.specs.Codec.{Codec}
+use Rattle.krb_elements.specs.Laws.{whole_ok}
+use Rattle.sealed_parts.specs.Parts.{ok_of, read_as}
+
+-- where the opened text spells the value
+pub read_again : {A : Type 0} (c : Codec A) (x : A) (text : List ℕ) (found : Option (List ℕ)) → c.Spells x text → found ≡ Some text → read_as c found ≡ Some x
+read_again {A} c x text found s opens =
+    ap (λ (o : Option (List ℕ)). read_as c o) opens ∙ ap (λ (r : Result A DerFault). ok_of r) ((whole_ok c.Spells c.at c.laws.element.reading).again x text s)
+
+-- the same of what a call returned
+pub returned_again : {A V E : Type 0} (c : Codec A) (x : A) (text : List ℕ) (found : V → Option (List ℕ)) (r : Result V E) → c.Spells x text
+    → IfOk r (λ v. found v ≡ Some text) → IfOk r (λ v. read_as c (found v) ≡ Some x)
+returned_again c x text found (Ok v) s opens = read_again c x text (found v) s opens
+returned_again c x text found (Err e) s opens = tt

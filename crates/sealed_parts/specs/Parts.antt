@@ -1,0 +1,20 @@
+-- Values that stand sealed in a message.
+use Rattle.std.specs.Prelude.{ℕ, List, Option, Some, None, Result, Ok, Err}
+use Rattle.krb_der.specs.declared.fault.DerFault.{DerFault}
+use Rattle.krb_elements.specs.Codec.{Codec}
+use Rattle.krb_elements.specs.Format.{whole}
+use Rattle.enctypes.specs.declared.etype.Etype.{Etype}
+use Rattle.enctypes.specs.Sealing.{opened}
+
+abbrev pub ok_of : {A : Type 0} → Result A DerFault → Option A
+ok_of (Ok x) = Some x
+ok_of (Err fault) = None
+
+-- the value that the text spells, if there is a text
+abbrev pub read_as : {A : Type 0} → Codec A → Option (List ℕ) → Option A
+read_as c None = None
+read_as c (Some text) = ok_of (whole c.at text)
+
+-- the value that is sealed in the cipher, if the key opens it to the spelling of one
+abbrev pub opened_as : {A : Type 0} → Codec A → Etype → List ℕ → ℕ → List ℕ → Option A
+opened_as c etype key usage cipher = read_as c (opened etype key usage cipher)

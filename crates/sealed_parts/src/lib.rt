@@ -1,0 +1,54 @@
+//! The encrypted parts of messages: values that stand sealed under a key.
+#![tactic(auto)]
+
+ghost use Rattle.std.specs.Prelude.{◌≡◌, ◌<◌, ◌^◌, length, Some, IfOk};
+ghost use Rattle.krb_elements.specs.Codec.{written};
+ghost use Rattle.enctypes.specs.KeyUsage.{usage_number};
+ghost use Rattle.enctypes.specs.Sealing.{seal};
+ghost use Rattle.sealed_parts.specs.Parts.{opened_as};
+
+use enctypes::{Key, KeyUsage, open, seal};
+use krb_elements::{Encode, Fault, ReadOwned, read_owned, write};
+use std::alloc::{AllocError, Global};
+
+/// Seals the encoding of a value. `confounder` is 16 random octets.
+pub fn seal_part<T: Encode>(
+    alloc: Global,
+    key: &Key,
+    usage: KeyUsage,
+    confounder: &[u8; 16],
+    part: &T,
+) -> Result<Vec<u8>, AllocError>
+    requires { length (T.codec.text part.now) < 2 ^ 32 }
+    ensures value { IfOk result (λ cipher. cipher.items
+        ≡ seal key.now.etype key.now.bytes (usage_number usage) confounder.now (written T.codec part.now)) }
+    // Whoever has the key opens it to the value again.
+    ensures opens { IfOk result (λ cipher.
+        opened_as T.codec key.now.etype key.now.bytes (usage_number usage) cipher.items ≡ Some part.now) }
+{
+    let text = write(alloc, part)?;
+    seal(alloc, key, usage, confounder, &text)
+}
+
+/// The value that is sealed; `None` where the key doesn't open the cipher to the encoding of one.
+pub fn open_part<T: ReadOwned>(
+    alloc: Global,
+    key: &Key,
+    usage: KeyUsage,
+    cipher: &[u8],
+) -> Result<Option<T>, AllocError>
+    ensures { IfOk result (λ found. found
+        ≡ opened_as T.codec key.now.etype key.now.bytes (usage_number usage) cipher.now) }
+{
+    let Some(text) = open(alloc, key, usage, cipher)? else {
+        return Ok(None);
+    };
+    match read_owned(alloc, &text) {
+        Ok(part) => Ok(Some(part)),
+        Err(Fault::Der(_)) => Ok(None),
+        Err(Fault::Memory) => Err(AllocError),
+    }
+}
+
+#[cfg(test)]
+mod tests;

@@ -1,0 +1,282 @@
+//! The times of a ticket (RFC 4120 sections 3.1.3 and 3.3.3).
+ghost use Rattle.std.specs.Prelude.{◌≡◌, ◌≤ℤ◌, IfSome, IfOk};
+ghost use Rattle.std.specs.Option.{unwrap_or};
+ghost use Rattle.krb_der.specs.Civil.{IsCivilSecond};
+ghost use Rattle.krb_fields.specs.Moment.{IsSecond};
+ghost use Rattle.ticket_times.specs.Least.{last_second, least};
+ghost use Rattle.ticket_times.specs.Times.{bound_asked, later, starts_too_late, start_of, end_of, wanted, renewable_until, renew_till_of};
+ghost use Rattle.ticket_times.specs.Times.{IsTimes, valid_times, fresh_times, as_times, kept_renewal, validated_times, lived_again, renewed_ends, renewed_times, tgs_times};
+
+use crate::TicketTerms;
+use crate::asked::asks;
+use crate::ceiling::Ceiling;
+use crate::earliest::earliest;
+use krb_der::KTime;
+use krb_fields::{Code, KdcOption, Moment, TicketFlag};
+use krb_types::ReqBodyRef;
+use principal_rows::{Limits, Policy};
+
+/// By how many seconds the clocks of a client and of this KDC may differ.
+const SKEW: i64 = 300;
+
+/// When a ticket is valid, and until when it may be renewed, if at all.
+#[derive(Clone, Copy, Debug, PartialEq, Eq)]
+pub struct Times {
+    pub start: KTime,
+    pub end: KTime,
+    pub renew_till: Option<KTime>,
+}
+
+/// The times of a ticket of the AS exchange, or why there is none: KDC_ERR_CANNOT_POSTDATE or
+/// KDC_ERR_NEVER_VALID.
+pub fn as_times(
+    at: Moment,
+    client: &Policy,
+    service: &Policy,
+    limits: &Limits,
+    body: &ReqBodyRef<'_>,
+) -> Result<Times, Code>
+    ensures value { result ≡ as_times at.sec client.now service.now limits.now body.now }
+    ensures range { IfOk result IsTimes }
+{
+    fresh_times(at.sec, &Ceiling::none(), client, service, limits, body)
+}
+
+/// The times of a ticket of the TGS exchange for which this one is presented, or why there is none:
+/// KDC_ERR_CANNOT_POSTDATE or KDC_ERR_NEVER_VALID.
+pub fn tgs_times(
+    at: Moment,
+    ticket: &TicketTerms,
+    client: &Policy,
+    service: &Policy,
+    limits: &Limits,
+    body: &ReqBodyRef<'_>,
+) -> Result<Times, Code>
+    ensures value { result ≡ tgs_times at.sec ticket.now client.now service.now limits.now body.now }
+    ensures range { IfOk result IsTimes }
+{
+    if asks(body, KdcOption::Validate) {
+        return validated_times(ticket);
+    }
+    if asks(body, KdcOption::Renew) {
+        return renewed_times(at.sec, ticket);
+    }
+    fresh_times(at.sec, &Ceiling::of(ticket), client, service, limits, body)
+}
+
+/// A new ticket's times.
+fn fresh_times(
+    now: i64,
+    ceiling: &Ceiling,
+    client: &Policy,
+    service: &Policy,
+    limits: &Limits,
+    body: &ReqBodyRef<'_>,
+) -> Result<Times, Code>
+    requires { IsSecond now }
+    ensures value { result ≡ fresh_times now ceiling.now client.now service.now limits.now body.now }
+    ensures range { IfOk result IsTimes }
+{
+    if starts_too_late(now, body) {
+        return Err(Code::KdcErrCannotPostdate);
+    }
+    let start = start_of(now, body);
+    let end = end_of(start, ceiling, client, service, limits, body);
+    let renew_till = match wanted(ceiling, body, end) {
+        Some(wanted) => renewable_until(start, wanted, ceiling, client, service, limits),
+        None => None,
+    };
+    valid_times(start, end, renew_till)
+}
+
+/// A validated ticket keeps its times.
+fn validated_times(ticket: &TicketTerms) -> Result<Times, Code>
+    ensures value { result ≡ validated_times ticket.now }
+    ensures range { IfOk result IsTimes }
+{
+    valid_times(
+        ticket.start(),
+        ticket.endtime.seconds(),
+        kept_renewal(ticket),
+    )
+}
+
+/// A renewed ticket lives as long as it did, and no longer than until its renew-till.
+fn renewed_times(now: i64, ticket: &TicketTerms) -> Result<Times, Code>
+    requires { IsSecond now }
+    ensures value { result ≡ renewed_times now ticket.now }
+    ensures range { IfOk result IsTimes }
+{
+    valid_times(now, renewed_end(now, ticket), kept_renewal(ticket))
+}
+
+fn renewed_end(now: i64, ticket: &TicketTerms) -> i64
+    requires { IsSecond now }
+    ensures value { result ≡ least (renewed_ends now ticket.now) }
+    ensures last { result ≤ℤ last_second }
+{
+    earliest(&[lived_again(now, ticket), ticket.renewal()])
+}
+
+/// When a ticket ends that starts now and lives as long as this one.
+fn lived_again(now: i64, ticket: &TicketTerms) -> i64
+    requires { IsSecond now }
+    ensures { result ≡ lived_again now ticket.now }
+{
+    now + (ticket.endtime.seconds() - ticket.start())
+}
+
+/// The renew-till of a ticket that is renewed or validated.
+fn kept_renewal(ticket: &TicketTerms) -> Option<KTime>
+    ensures value { result ≡ kept_renewal ticket.now }
+    ensures range { IfSome result IsCivilSecond }
+{
+    if ticket.has(TicketFlag::Renewable) {
+        Some(time_at(ticket.renewal()))
+    } else {
+        None
+    }
+}
+
+/// These times, where the end is after the start.
+fn valid_times(start: i64, end: i64, renew_till: Option<KTime>) -> Result<Times, Code>
+    requires start { IsCivilSecond start }
+    requires end { end ≤ℤ last_second }
+    requires renew_till { IfSome renew_till IsCivilSecond }
+    ensures value { result ≡ valid_times start end renew_till }
+    ensures range { IfOk result IsTimes }
+{
+    if end <= start {
+        return Err(Code::KdcErrNeverValid);
+    }
+    Ok(Times {
+        start: time_at(start),
+        end: time_at(end),
+        renew_till,
+    })
+}
+
+/// A start is asked for without POSTDATED, and lies beyond the skew.
+fn starts_too_late(now: i64, body: &ReqBodyRef<'_>) -> bool
+    requires { IsSecond now }
+    ensures { result ≡ starts_too_late now body.now }
+{
+    !asks(body, KdcOption::Postdated) && now + SKEW < from_or(now, body)
+}
+
+fn start_of(now: i64, body: &ReqBodyRef<'_>) -> i64
+    requires { IsSecond now }
+    ensures value { result ≡ start_of now body.now }
+    ensures range { IsSecond result }
+{
+    if asks(body, KdcOption::Postdated) {
+        now.max(from_or(now, body))
+    } else {
+        now
+    }
+}
+
+/// The start that is asked for, if any.
+fn from_or(now: i64, body: &ReqBodyRef<'_>) -> i64
+    requires { IsSecond now }
+    ensures value { result ≡ unwrap_or body.now.from now }
+    ensures range { result ≤ℤ last_second }
+{
+    match body.from {
+        Some(from) => from.seconds(),
+        None => now,
+    }
+}
+
+/// When a ticket that starts then ends at the latest.
+fn end_of(
+    start: i64,
+    ceiling: &Ceiling,
+    client: &Policy,
+    service: &Policy,
+    limits: &Limits,
+    body: &ReqBodyRef<'_>,
+) -> i64
+    requires { IsSecond start }
+    ensures value { result ≡ end_of start ceiling.now client.now service.now limits.now body.now }
+    ensures last { result ≤ℤ last_second }
+{
+    earliest(&[
+        bound_asked(body.till),
+        ceiling.end,
+        later(start, client.greatest_life),
+        later(start, service.greatest_life),
+        later(start, limits.greatest_life),
+        Moment::LAST_SECOND,
+    ])
+}
+
+/// Until when the ticket is wanted renewable, if at all.
+fn wanted(ceiling: &Ceiling, body: &ReqBodyRef<'_>, end: i64) -> Option<i64>
+    ensures { result ≡ wanted ceiling.now body.now end }
+{
+    if asks(body, KdcOption::Renewable) {
+        return Some(match body.rtime {
+            Some(rtime) => bound_asked(rtime),
+            None => Moment::LAST_SECOND,
+        });
+    }
+    let till = body.till.seconds();
+    if asks(body, KdcOption::RenewableOk) && ceiling.renewable_ok && till != 0 && end < till {
+        return Some(till);
+    }
+    None
+}
+
+/// Until when a ticket that starts then may be renewed: not at all where that wouldn't be after its start.
+fn renewable_until(
+    start: i64,
+    wanted: i64,
+    ceiling: &Ceiling,
+    client: &Policy,
+    service: &Policy,
+    limits: &Limits,
+) -> Option<KTime>
+    requires { IsSecond start }
+    ensures value { result ≡ renewable_until start wanted ceiling.now client.now service.now limits.now }
+    ensures range { IfSome result IsCivilSecond }
+{
+    let until = earliest(&[
+        wanted,
+        ceiling.renew_till,
+        later(start, client.greatest_renewable),
+        later(start, service.greatest_renewable),
+        later(start, limits.greatest_renewable),
+        Moment::LAST_SECOND,
+    ]);
+    if start < until {
+        Some(time_at(until))
+    } else {
+        None
+    }
+}
+
+/// A time that is asked for; zero asks for no bound.
+fn bound_asked(time: KTime) -> i64
+    ensures { result ≡ bound_asked time }
+{
+    if time.seconds() == 0 {
+        Moment::LAST_SECOND
+    } else {
+        time.seconds()
+    }
+}
+
+fn later(time: i64, seconds: u32) -> i64
+    requires { IsSecond time }
+    ensures { result ≡ later time seconds }
+{
+    time + i64::from(seconds)
+}
+
+fn time_at(second: i64) -> KTime
+    requires { IsCivilSecond second }
+    ensures { result ≡ second }
+{
+    KTime::new(second).unwrap()
+}
