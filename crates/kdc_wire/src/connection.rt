@@ -1,0 +1,106 @@
+//! A connection, and what is still to be written to it.
+ghost use Rattle.std.specs.Prelude.{◌≡◌};
+ghost use Rattle.std.specs.Io.{ReadsAtMost};
+
+use framing::prefix;
+use mio::net::TcpStream;
+use std::alloc::Global;
+use std::io::{Error, ErrorKind, Read, Result, Write};
+use std::net::Shutdown;
+
+/// The most octets that are kept for a peer that doesn't read. The greatest reply fits, behind its length.
+const MOST_UNSENT: usize = 150_000;
+
+/// A connection, and what is still to be written to it.
+#[derive(Drop)]
+pub struct Connection {
+    stream: TcpStream,
+    unsent: Vec<u8>,
+    /// No reply will come any more. What is unsent is written, and then the peer is told so.
+    is_closing: bool,
+    /// The peer sends nothing any more.
+    is_at_end: bool,
+}
+
+impl Connection {
+    pub fn new(alloc: Global, stream: TcpStream) -> Connection {
+        Connection {
+            stream,
+            unsent: Vec::new(alloc),
+            is_closing: false,
+            is_at_end: false,
+        }
+    }
+
+    /// Whether no reply will come any more.
+    pub fn is_closing(&self) -> bool {
+        self.is_closing
+    }
+
+    /// Whether both sides are done. A connection that is let go earlier could take replies from its peer that the peer has
+    /// not read yet.
+    pub fn is_over(&self) -> bool {
+        self.is_closing && self.is_at_end && self.unsent.is_empty()
+    }
+
+    pub fn read(&mut self, buffer: &mut [u8]) -> Result<usize>
+        ensures { ReadsAtMost result buffer.new }
+    {
+        self.stream.read(buffer)
+    }
+
+    /// Writes a message behind its length, as much as fits, and keeps the rest. Where too much is kept, it is an error.
+    pub fn write(&mut self, message: &[u8]) -> Result<()> {
+        if message.len() > MOST_UNSENT {
+            return Err(Error::from(ErrorKind::InvalidInput));
+        }
+        self.unsent
+            .extend_from_slice(&prefix(message.len() as u32))?;
+        self.unsent.extend_from_slice(message)?;
+        self.flush()?;
+        if self.unsent.len() > MOST_UNSENT {
+            return Err(Error::from(ErrorKind::WriteZero));
+        }
+        Ok(())
+    }
+
+    /// No reply will come any more.
+    pub fn close(&mut self) -> Result<()> {
+        self.is_closing = true;
+        self.flush()
+    }
+
+    /// The peer sends nothing any more. What is unsent is still for it.
+    pub fn end(&mut self) -> Result<()> {
+        self.is_at_end = true;
+        self.close()
+    }
+
+    /// Writes what fits. After the last octet of the last reply the peer is told that no more will come.
+    pub fn flush(&mut self) -> Result<()> {
+        for _ in 0..self.unsent.len() {
+            if self.unsent.is_empty() || !self.write_once()? {
+                break;
+            }
+        }
+        if self.is_closing && self.unsent.is_empty() {
+            self.stream.shutdown(Shutdown::Write)?;
+        }
+        Ok(())
+    }
+
+    /// Writes once, and says whether more may fit.
+    fn write_once(&mut self) -> Result<bool> {
+        match self.stream.write(&self.unsent) {
+            Ok(0) => Err(Error::from(ErrorKind::WriteZero)),
+            Ok(sent) => {
+                self.unsent.rotate_left(sent);
+                let left = self.unsent.len() - sent;
+                self.unsent.truncate(left);
+                Ok(true)
+            }
+            Err(error) if error.kind() == ErrorKind::WouldBlock => Ok(false),
+            Err(error) => Err(error),
+        }
+    }
+}

@@ -1,0 +1,17 @@
+//! The wire of the KDC over sockets (RFC 4120, section 7.2): one socket takes datagrams, one takes connections, and both are
+//! waited for together, in one thread. No contract can say what a socket gives or takes. What is proved here is that each
+//! call is safe, returns and counts its faults; the rest is tested, on the loopback.
+#![tactic(auto)]
+
+mod bind_fault;
+mod connection;
+mod moment;
+mod sockets;
+mod wire;
+
+pub use bind_fault::BindFault;
+pub use moment::now;
+pub use wire::SocketWire;
+
+#[cfg(test)]
+mod tests;

@@ -1,0 +1,325 @@
+//! Clients on the loopback, on ports that the system gives. The KDC has the realm `A.B` and no clients: each request is
+//! answered by an error of code 6. The octets are those of an encoder in Python.
+use super::*;
+use enctypes::{Etype, Key};
+use kdc_core::{Kdc, Opening};
+use kdc_hub::{Hub, serve};
+use principal_rows::{KeyList, Limits};
+use principals::Database;
+use rand_chacha::ChaCha20Rng;
+use rand_core::SeedableRng;
+use std::io::{ErrorKind, Read, Write};
+use std::net::{Ipv4Addr, SocketAddr, TcpStream, UdpSocket};
+use std::rt::Clock;
+use std::test::Fail;
+use std::time::Duration;
+
+/// An AS-REQ of `u` in `A.B` for `a`, till zero, nonce 1, encryption type 18. The service's one octet has the place
+/// `SERVICE_PLACE`.
+const REQUEST: &[u8] =
+    b"6a5f305da103020105a20302010aa451304fa00703050000000000a10e300ca003020101a10530031b0175a2051b03412e42a30e300ca003020101a10530031b0161a511180f31393730303130313030303030305aa703020101a8053003020112";
+
+const SERVICE_PLACE: usize = 65;
+
+/// The KRB-ERROR of 2024-01-01 00:00:00 with code 6, of the realm `A.B` and the service `a`, which is its last octet.
+const CLIENT_UNKNOWN: &[u8] =
+    b"7e40303ea003020105a10302011ea411180f32303234303130313030303030305aa503020100a603020106a9051b03412e42aa0e300ca003020101a10530031b0161";
+
+/// The error of the realm with code 61, behind its length.
+const TOO_LONG: &[u8] =
+    b"0000004c7e4a3048a003020105a10302011ea411180f32303234303130313030303030305aa503020100a60302013da9051b03412e42aa183016a003020102a10f300d1b066b72627467741b03412e42";
+
+/// The octets of a framed request before and after a service of one component of 60,000 octets.
+const BEFORE_LONG_SERVICE: &[u8] =
+    b"0000ead26a82eace3082eacaa103020105a20302010aa482eabc3082eab8a00703050000000000a10e300ca003020101a10530031b0175a2051b03412e42a382ea753082ea71a003020101a182ea683082ea641b82ea60";
+
+const AFTER_LONG_SERVICE: &[u8] = b"a511180f31393730303130313030303030305aa703020101a8053003020112";
+
+/// A clock that always shows the first second of 2024.
+#[derive(Clone, Copy)]
+struct Stopped;
+
+impl Clock for Stopped {
+    fn monotonic(&self) -> std::io::Result<Duration> {
+        Ok(Duration::ZERO)
+    }
+
+    fn since_1970(&self) -> std::io::Result<Duration> {
+        Ok(Duration::from_secs(1_704_067_200))
+    }
+}
+
+/// A server, and the addresses that it listens on.
+#[derive(Drop)]
+struct Server {
+    wire: SocketWire<Stopped>,
+    hub: Hub<ChaCha20Rng>,
+    udp: SocketAddr,
+    tcp: SocketAddr,
+}
+
+fn open(rt: &HostRuntime) -> Result<Server, Fail> {
+    let alloc = rt.alloc();
+    let key = Key::new(Etype::Aes256CtsHmacSha1_96, &[0; 32]).ok_or("a key")?;
+    let database = Database::first(alloc, b"A.B", KeyList::new(alloc, &[key])?)?;
+    let limits = Limits::new(64, 0, 0, 36000, 0).ok_or("limits")?;
+    let kdc = Kdc::open(alloc, database, limits, Opening::First)?;
+    let hub = Hub::new(alloc, kdc, ChaCha20Rng::from_seed([0; 32]));
+    let here = SocketAddr::from((Ipv4Addr::LOCALHOST, 0));
+    let wait = Duration::from_millis(1);
+    let wire = SocketWire::bind(alloc, Stopped, rt, here, here, wait)?;
+    Ok(Server {
+        udp: wire.udp_addr()?,
+        tcp: wire.tcp_addr()?,
+        wire,
+        hub,
+    })
+}
+
+/// What a test does with a server, and whether what it saw is right. A server is let go in `run` alone: proofs about its
+/// end take minutes for each place.
+#[derive(Clone, Copy, Debug)]
+enum Scenario {
+    OwnReplies,
+    OneByOne,
+    FaultyLength,
+    ManyConnections,
+    IdleConnections,
+    UnreadReplies,
+}
+
+fn run(rt: &HostRuntime, scenario: Scenario) -> Result<bool, Fail> {
+    let mut server = open(rt)?;
+    play(rt, &mut server, scenario)
+}
+
+fn play(rt: &HostRuntime, server: &mut Server, scenario: Scenario) -> Result<bool, Fail> {
+    match scenario {
+        Scenario::OwnReplies => each_gets_its_own(rt, server),
+        Scenario::OneByOne => octets_come_one_by_one(rt, server),
+        Scenario::FaultyLength => a_length_is_at_fault(rt, server),
+        Scenario::ManyConnections => connections_come_and_go(rt, server),
+        Scenario::IdleConnections => connections_are_idle(rt, server),
+        Scenario::UnreadReplies => replies_are_not_read(rt, server),
+    }
+}
+
+/// Serves for so many rounds, and gives how many events came. No call may fail.
+fn rounds(rt: &HostRuntime, server: &mut Server, rounds: u32) -> Result<u32, Fail> {
+    let served = serve(rt.alloc(), &mut server.wire, &mut server.hub, rounds);
+    if served.faults != 0 || served.refused != 0 {
+        Err("a fault")?;
+    }
+    Ok(served.events)
+}
+
+/// These octets for another service.
+fn for_service(rt: &HostRuntime, digits: &[u8], service: u8) -> Result<Vec<u8>, Fail> {
+    let mut octets = hex::decode(rt.alloc(), digits)?;
+    *octets.get_mut(SERVICE_PLACE).ok_or("the service")? = service;
+    Ok(octets)
+}
+
+/// These octets behind their length, which is below 256.
+fn framed(rt: &HostRuntime, octets: &[u8]) -> Result<Vec<u8>, Fail> {
+    let len = u8::try_from(octets.len())?;
+    let mut framed = Vec::from_slice(rt.alloc(), &[0, 0, 0, len])?;
+    framed.extend_from_slice(octets)?;
+    Ok(framed)
+}
+
+fn peer(rt: &HostRuntime, server: &Server) -> Result<UdpSocket, Fail> {
+    let peer = UdpSocket::bind(rt, SocketAddr::from((Ipv4Addr::LOCALHOST, 0)))?;
+    peer.connect(server.udp)?;
+    peer.set_nonblocking(true)?;
+    Ok(peer)
+}
+
+fn connection(rt: &HostRuntime, server: &Server) -> Result<TcpStream, Fail> {
+    let connection = TcpStream::connect(rt, server.tcp)?;
+    connection.set_nonblocking(true)?;
+    Ok(connection)
+}
+
+fn ask(rt: &HostRuntime, peer: &UdpSocket, service: u8) -> Result<(), Fail> {
+    peer.send(&for_service(rt, REQUEST, service)?)?;
+    Ok(())
+}
+
+fn ask_over(rt: &HostRuntime, connection: &mut TcpStream, service: u8) -> Result<(), Fail> {
+    let request = for_service(rt, REQUEST, service)?;
+    connection.write_all(&framed(rt, &request)?)?;
+    Ok(())
+}
+
+/// Whether the peer has this one reply, and no other.
+fn has_reply(rt: &HostRuntime, peer: &UdpSocket, service: u8) -> Result<bool, Fail> {
+    let reply = for_service(rt, CLIENT_UNKNOWN, service)?;
+    let mut buffer = [0; 200];
+    let len = peer.recv(&mut buffer)?;
+    Ok(buffer[..len] == reply[..] && peer.recv(&mut buffer).is_err())
+}
+
+/// Whether this came on the connection, and no more yet.
+fn has_come(connection: &mut TcpStream, octets: &[u8]) -> Result<bool, Fail> {
+    let mut buffer = [0; 200];
+    let len = connection.read(&mut buffer)?;
+    Ok(buffer[..len] == octets[..] && is_waiting(connection.read(&mut buffer)))
+}
+
+/// Whether a read found nothing, on a connection that stays open.
+fn is_waiting(read: std::io::Result<usize>) -> bool {
+    match read {
+        Ok(_) => false,
+        Err(error) => error.kind() == ErrorKind::WouldBlock,
+    }
+}
+
+fn has_come_for(rt: &HostRuntime, connection: &mut TcpStream, service: u8) -> Result<bool, Fail> {
+    let reply = for_service(rt, CLIENT_UNKNOWN, service)?;
+    has_come(connection, &framed(rt, &reply)?)
+}
+
+fn each_gets_its_own(rt: &HostRuntime, server: &mut Server) -> Result<bool, Fail> {
+    let (first, second) = (peer(rt, server)?, peer(rt, server)?);
+    let (mut third, mut fourth) = (connection(rt, server)?, connection(rt, server)?);
+    ask(rt, &first, b'a')?;
+    ask(rt, &second, b'b')?;
+    ask_over(rt, &mut third, b'c')?;
+    ask_over(rt, &mut fourth, b'd')?;
+    // Two datagrams, two new connections, and a piece on each.
+    Ok(
+        rounds(rt, server, 64)? == 6
+            && has_reply(rt, &first, b'a')?
+            && has_reply(rt, &second, b'b')?
+            && has_come_for(rt, &mut third, b'c')?
+            && has_come_for(rt, &mut fourth, b'd')?,
+    )
+}
+
+#[test]
+fn each_peer_and_connection_gets_its_own_reply(rt: HostRuntime) -> Result<(), Fail> {
+    assert!(rt; run(&rt, Scenario::OwnReplies)?);
+    Ok(())
+}
+
+fn octets_come_one_by_one(rt: &HostRuntime, server: &mut Server) -> Result<bool, Fail> {
+    let mut client = connection(rt, server)?;
+    let request = framed(rt, &for_service(rt, REQUEST, b'a')?)?;
+    for octet in &request {
+        client.write_all(&[*octet])?;
+        rounds(rt, server, 2)?;
+    }
+    has_come_for(rt, &mut client, b'a')
+}
+
+#[test]
+fn octets_that_come_one_by_one_are_one_request(rt: HostRuntime) -> Result<(), Fail> {
+    assert!(rt; run(&rt, Scenario::OneByOne)?);
+    Ok(())
+}
+
+/// More comes than the server reads before it closes the connection.
+fn a_length_is_at_fault(rt: &HostRuntime, server: &mut Server) -> Result<bool, Fail> {
+    let mut client = connection(rt, server)?;
+    client.write_all(&[0x80; 5000])?;
+    rounds(rt, server, 16)?;
+    let mut came = Vec::new(rt.alloc());
+    client.read_to_end(&mut came)?;
+    Ok(came == hex::decode(rt.alloc(), TOO_LONG)?)
+}
+
+#[test]
+fn a_length_at_fault_is_answered_before_the_end(rt: HostRuntime) -> Result<(), Fail> {
+    assert!(rt; run(&rt, Scenario::FaultyLength)?);
+    Ok(())
+}
+
+/// A hub has place for 256 connections.
+fn connections_come_and_go(rt: &HostRuntime, server: &mut Server) -> Result<bool, Fail> {
+    for _ in 0..300u32 {
+        if !connection_is_answered(rt, server)? {
+            return Ok(false);
+        }
+    }
+    Ok(true)
+}
+
+fn connection_is_answered(rt: &HostRuntime, server: &mut Server) -> Result<bool, Fail> {
+    let mut client = connection(rt, server)?;
+    ask_over(rt, &mut client, b'a')?;
+    rounds(rt, server, 4)?;
+    has_come_for(rt, &mut client, b'a')
+}
+
+#[test]
+fn connections_that_end_make_place(rt: HostRuntime) -> Result<(), Fail> {
+    assert!(rt; run(&rt, Scenario::ManyConnections)?);
+    Ok(())
+}
+
+fn peer_is_answered(rt: &HostRuntime, server: &mut Server) -> Result<bool, Fail> {
+    let peer = peer(rt, server)?;
+    ask(rt, &peer, b'b')?;
+    rounds(rt, server, 4)?;
+    has_reply(rt, &peer, b'b')
+}
+
+/// The hub's table is full, and one more connection comes.
+fn connections_are_idle(rt: &HostRuntime, server: &mut Server) -> Result<bool, Fail> {
+    let mut idle = Vec::new(rt.alloc());
+    for _ in 0..256u32 {
+        idle.push(connection(rt, server)?)?;
+    }
+    if rounds(rt, server, 300)? != 256 {
+        return Ok(false);
+    }
+    let mut next = connection(rt, server)?;
+    Ok(peer_is_answered(rt, server)? && next.read(&mut [0; 1])? == 0)
+}
+
+#[test]
+fn idle_connections_hold_up_nobody_but_the_next(rt: HostRuntime) -> Result<(), Fail> {
+    assert!(rt; run(&rt, Scenario::IdleConnections)?);
+    Ok(())
+}
+
+/// A request for a service whose name has 60,000 octets, behind its length. Its reply is as long.
+fn long_request(rt: &HostRuntime) -> Result<Vec<u8>, Fail> {
+    let mut request = hex::decode(rt.alloc(), BEFORE_LONG_SERVICE)?;
+    request.extend_from_slice(&[b'a'; 60_000])?;
+    request.extend_from_slice(&hex::decode(rt.alloc(), AFTER_LONG_SERVICE)?)?;
+    Ok(request)
+}
+
+/// Sends what fits of these octets over and over, from a place on. It gives the next place, or none where the server has
+/// let go of the connection.
+fn send_some(client: &mut TcpStream, octets: &[u8], place: usize) -> Option<usize> {
+    match client.write(octets.get(place..)?) {
+        Ok(sent) if place + sent < octets.len() => Some(place + sent),
+        Ok(_) => Some(0),
+        Err(error) if error.kind() == ErrorKind::WouldBlock => Some(place),
+        Err(_) => None,
+    }
+}
+
+/// A peer sends long requests without end, and reads nothing.
+fn replies_are_not_read(rt: &HostRuntime, server: &mut Server) -> Result<bool, Fail> {
+    let mut client = connection(rt, server)?;
+    let request = long_request(rt)?;
+    let mut place = 0usize;
+    for _ in 0..10_000u32 {
+        let Some(next) = send_some(&mut client, &request, place) else {
+            return peer_is_answered(rt, server);
+        };
+        place = next;
+        serve(rt.alloc(), &mut server.wire, &mut server.hub, 40);
+    }
+    Ok(false)
+}
+
+#[test]
+fn a_peer_that_does_not_read_is_let_go(rt: HostRuntime) -> Result<(), Fail> {
+    assert!(rt; run(&rt, Scenario::UnreadReplies)?);
+    Ok(())
+}
