@@ -1,0 +1,155 @@
+-- A keytab.
+use Rattle.std.specs.Prelude.{◌≡◌, ◌⊎◌, ℕ, ◌-◌, ◌^◌, ◌%◌, ◌<◌, ◌≤◌, ◌==◌, ◌&&◌, Bool, true, nat_lt, unsigned_abs, All, List, [], ◌∷◌, ◌++◌, length, take, flat_map, option_to_list, if◌then◌else◌, Option, Some, None, Result, Ok, Err, refl}
+use Rattle.std.specs.Ordering.{eq_by_cmp}
+use Rattle.std.specs.Int.{w32, to_be_bytes, from_be_bytes}
+use Rattle.enctypes.specs.declared.etype.Etype.{Etype}
+use Rattle.enctypes.specs.declared.etype.Etype.TheVariants.{Aes128CtsHmacSha1_96, Aes256CtsHmacSha1_96, Aes128CtsHmacSha256_128, Aes256CtsHmacSha384_192}
+use Rattle.enctypes.specs.Etype.{key_len, number, is_same}
+use Rattle.enctypes.specs.Key.{ProtocolKey}
+use Rattle.krb_elements.specs.Spells.{Items}
+use Rattle.krb_fields.specs.Name.{Components, name_cmp}
+use Rattle.cred_files.specs.declared.fault.FileFault.{FileFault}
+use Rattle.cred_files.specs.declared.fault.FileFault.TheVariants.{BadEntry, Memory}
+use Rattle.cred_files.specs.declared.keytab_entry.EntryFields.{EntryFields}
+use Rattle.cred_files.specs.declared.keytab_entry.KeytabEntry.{KeytabEntry}
+use Rattle.cred_files.specs.declared.keytab.Miss.{Miss}
+use Rattle.cred_files.specs.declared.keytab.Miss.TheVariants.{NoService, NoEtype, NoVersion}
+use Rattle.cred_files.specs.declared.width.Width.TheVariants.{Two}
+use Rattle.cred_files.specs.Format.{Format, ◌>>◌, octet, word16, signed32, blank, counted_octets, after_count, structure}
+
+-- ---- an entry
+
+-- the number of components, the realm, the components, the name-type, a time, the version, the key's type, the key
+unfoldable pub entry_fields : Format EntryFields
+entry_fields = structure (after_count Two (counted_octets Two) (counted_octets Two) >> signed32 >> blank 4 >> octet >> word16 >> counted_octets Two)
+    (λ v. record { realm = v.0.0; name = record { name_type = v.1.0; components = v.0.1 }; version = v.1.1.1.0; key_type = v.1.1.1.1.0; key = v.1.1.1.1.1 })
+    (λ e. ((e.realm, e.name.components), (e.name.name_type, (tt, (e.version, (e.key_type, e.key))))))
+    (λ v. refl) (λ e. refl)
+
+-- a version in four octets counts where it is there and not zero
+abbrev pub unless_zero : ℕ → ℕ → ℕ
+unless_zero short long = if long == 0 then short else long
+
+abbrev pub version_of : ℕ → List ℕ → ℕ
+version_of short more = if nat_lt (length more) 4 then short else unless_zero short (from_be_bytes w32 (take 4 more))
+
+abbrev pub etype_of : ℕ → Option Etype
+etype_of n =
+    if n == 17 then Some Aes128CtsHmacSha1_96
+    else if n == 18 then Some Aes256CtsHmacSha1_96
+    else if n == 19 then Some Aes128CtsHmacSha256_128
+    else if n == 20 then Some Aes256CtsHmacSha384_192
+    else None
+
+-- an entry of another key type is none; a key has the length of its type
+abbrev pub entry_of : EntryFields → ℕ → Option Etype → Result (Option KeytabEntry) FileFault
+entry_of fields version None = Ok None
+entry_of fields version (Some etype) =
+    if length fields.key == key_len etype
+    then Ok (Some (record { realm = fields.realm; name = fields.name; version = version; key = record { etype = etype; bytes = fields.key } }))
+    else Err BadEntry
+
+-- what these octets of an entry say: its fields, a version or none, and octets that are ignored
+pub record IsEntry (found : Option KeytabEntry) (content : List ℕ) : Type 0 where
+  pub fields : EntryFields
+  pub front : List ℕ
+  pub more : List ℕ
+  pub spells : entry_fields.form.Spells fields front
+  pub all : content ≡ front ++ more
+  pub says : entry_of fields (version_of fields.version more) (etype_of fields.key_type) ≡ Ok found
+
+-- ---- the keytab and its octets
+
+-- an entry after its length
+abbrev pub IsHeld : Option KeytabEntry → List ℕ → Type 0
+IsHeld found bytes = (content : List ℕ) × (0 < length content) × (length content < 2 ^ 31) × IsEntry found content × (bytes ≡ to_be_bytes w32 (length content) ++ content)
+
+-- a hole after its length, which is written as a number below zero
+abbrev pub IsHole : List ℕ → Type 0
+IsHole bytes = (content : List ℕ) × (0 < length content) × (length content ≤ 2 ^ 31) × (bytes ≡ to_be_bytes w32 (2 ^ 32 - length content) ++ content)
+
+abbrev pub IsPart : Option KeytabEntry → List ℕ → Type 0
+IsPart found bytes = IsHeld found bytes ⊎ (IsHole bytes × (found ≡ None))
+
+-- nothing, or a length of zero, after which nothing is read
+abbrev pub IsEnd : List ℕ → Type 0
+IsEnd bytes = (bytes ≡ []) ⊎ ((rest : List ℕ) × (bytes ≡ 0 ∷ 0 ∷ 0 ∷ 0 ∷ rest))
+
+-- 05 02, parts, and the end
+pub record IsKeytab (entries : List KeytabEntry) (bytes : List ℕ) : Type 0 where
+  pub parts : List (Option KeytabEntry)
+  pub front : List ℕ
+  pub end : List ℕ
+  pub spells : Items IsPart parts front
+  pub ends : IsEnd end
+  pub all : bytes ≡ 5 ∷ 2 ∷ (front ++ end)
+  pub held : entries ≡ flat_map option_to_list parts
+
+-- ---- what is written
+
+-- the fields of an entry: of the version the last octet, and no time
+abbrev pub written_fields : KeytabEntry → EntryFields
+written_fields e = record { realm = e.realm; name = e.name; version = e.version % 256; key_type = unsigned_abs (number e.key.etype); key = e.key.bytes }
+
+-- the version stands behind them in four octets
+abbrev pub entry_text : KeytabEntry → List ℕ
+entry_text e = entry_fields.form.text (written_fields e) ++ to_be_bytes w32 e.version
+
+-- an entry after its length
+abbrev pub part_text : KeytabEntry → List ℕ
+part_text e = to_be_bytes w32 (length (entry_text e)) ++ entry_text e
+
+abbrev pub keytab_text : List KeytabEntry → List ℕ
+keytab_text entries = 5 ∷ 2 ∷ flat_map part_text entries
+
+-- that the lengths and the count, of two octets each, are enough for the texts of an entry
+abbrev pub HasCounts : KeytabEntry → Type 0
+HasCounts e = (length e.name.components < 2 ^ 16) × (length e.realm < 2 ^ 16) × All (λ c. length c < 2 ^ 16) e.name.components
+
+-- and that its length is below those that stand for holes
+abbrev pub HasRoom : KeytabEntry → Type 0
+HasRoom e = HasCounts e × (length (entry_text e) < 2 ^ 31)
+
+-- why something is not written: it has no room, or memory ran out
+abbrev pub IsNotWritten : Type 0 → FileFault → Type 0
+IsNotWritten Room BadEntry = Room → ⊥
+IsNotWritten Room Memory = Unit {0}
+IsNotWritten Room fault = ⊥
+
+-- ---- what is found
+
+-- a service is its realm and the components of its name
+abbrev pub is_of : Components → KeytabEntry → Bool
+is_of service e = eq_by_cmp name_cmp (e.realm ∷ e.name.components) service
+
+-- of this encryption type, or of any
+abbrev pub is_typed : Option Etype → ProtocolKey → Bool
+is_typed None key = true
+is_typed (Some etype) key = is_same key.etype etype
+
+-- of this version, or of any
+abbrev pub is_numbered : Option ℕ → ℕ → Bool
+is_numbered None number = true
+is_numbered (Some version) number = number == version
+
+abbrev pub passes : Components → Option Etype → Option ℕ → KeytabEntry → Bool
+passes service etype version e = is_of service e && (is_typed etype e.key && is_numbered version e.version)
+
+-- the one with the greater version, and of the same version the later one
+abbrev pub newer : KeytabEntry → Option KeytabEntry → KeytabEntry
+newer e None = e
+newer e (Some later) = if nat_lt later.version e.version then e else later
+
+-- of the entries that pass, the last of the greatest version
+unfoldable pub newest : (KeytabEntry → Bool) → List KeytabEntry → Option KeytabEntry
+newest test [] = None
+newest test (e ∷ es) = if test e then Some (newer e (newest test es)) else newest test es
+
+-- what lacks, where there is no such entry: the first of service, encryption type and version
+abbrev pub miss_of : Option KeytabEntry → Option KeytabEntry → Miss
+miss_of None typed = NoService
+miss_of (Some e) None = NoEtype
+miss_of (Some e) (Some f) = NoVersion
+
+abbrev pub missing : List KeytabEntry → Components → Etype → Miss
+missing entries service etype = miss_of (newest (passes service None None) entries) (newest (passes service (Some etype) None) entries)

@@ -1,0 +1,242 @@
+//! Keytabs: the keys of services.
+ghost use Rattle.std.specs.Prelude.{◌≡◌, ◌++◌, ◌∷◌, List, All, IfOk, IfErr, IfSome, IfNone, OnOk, Some, None, flat_map, length, option_map};
+ghost use Rattle.cred_files.specs.Keytab.{HasRoom, IsKeytab, IsNotWritten, IsPart, keytab_text, missing, newer, newest, part_text, passes};
+ghost use Rattle.cred_files.specs.KeytabReading.{Gives, GivesBy, GivesNext, entries_at, keytab_at, next_at};
+ghost use Rattle.cred_files.specs.Reading.{IsReadUnlessMemory};
+ghost use Rattle.cred_files.specs.declared.keytab_entry.KeytabEntry as entries;
+
+use crate::fault::FileFault;
+use crate::keytab_entry::{HOLES, KeytabEntry, read_entry, write_entry};
+use crate::magic::{FIRST, KEYTAB, after_magic};
+use crate::reader::Reader;
+use crate::writer::put_u32;
+use enctypes::{Etype, Key};
+use krb_fields::Name;
+use std::alloc::Global;
+use std::error::Error;
+use std::fmt;
+use std::marker::Model;
+
+/// Why a keytab has no key to give.
+#[derive(Clone, Copy, Debug, PartialEq, Eq)]
+pub enum Miss {
+    /// No entry is of the service.
+    NoService,
+    /// None of the service's entries is of the encryption type.
+    NoEtype,
+    /// None of those has the version.
+    NoVersion,
+}
+
+impl fmt::Display for Miss {
+    fn fmt<W: fmt::Write>(&self, f: &mut fmt::Formatter<W>) -> fmt::Result {
+        f.write_str(match self {
+            Miss::NoService => "the keytab has no key of the service",
+            Miss::NoEtype => "the keytab has no key of the encryption type",
+            Miss::NoVersion => "the keytab has no key of the version",
+        })
+    }
+}
+
+impl Error for Miss {}
+
+/// What stands between two lengths of a keytab.
+#[derive(Debug, Drop)]
+enum Part {
+    End,
+    /// A hole, or an entry whose key is of another type.
+    Skipped,
+    Held(KeytabEntry),
+}
+
+/// The keys of services, in the order of their file.
+#[derive(Debug, Drop)]
+pub struct Keytab {
+    entries: Vec<KeytabEntry>,
+}
+
+impl Model for Keytab {
+    ghost use Rattle.std.specs.Prelude.{List};
+    ghost use Rattle.cred_files.specs.declared.keytab_entry.KeytabEntry.{KeytabEntry};
+
+    ghost Value = { List KeytabEntry };
+
+    ghost view = { λ k. k.entries.items };
+}
+
+#[tactic(auto, unfolding(crate::specs::KeytabReading::next_at))]
+fn next_part(alloc: Global, reader: &mut Reader<'_>) -> Result<Part, FileFault>
+    ensures { GivesNext result reader.new (next_at reader.old) }
+{
+    if reader.is_empty() {
+        return Ok(Part::End);
+    }
+    let len = reader.read_u32()? as usize;
+    if len == 0 {
+        return Ok(Part::End);
+    }
+    if len < HOLES {
+        let content = reader.read_part(len)?;
+        let found = read_entry(alloc, content)?;
+        return match found {
+            Some(entry) => Ok(Part::Held(entry)),
+            None => Ok(Part::Skipped),
+        };
+    }
+    let _hole = reader.read_part((1 << 32) - len)?;
+    Ok(Part::Skipped)
+}
+
+/// The entries to the end.
+fn read_entries(alloc: Global, bytes: &[u8]) -> Result<Vec<KeytabEntry>, FileFault>
+    ensures { GivesBy (λ v. v.items) result (entries_at bytes.now) }
+{
+    let mut entries = Vec::new(alloc);
+    let mut rest = Reader::new(bytes);
+    loop {
+        let part = next_part(alloc, &mut rest)?;
+        match part {
+            Part::End => return Ok(entries),
+            Part::Skipped => {}
+            Part::Held(entry) => entries.push(entry)?,
+        }
+    }
+}
+
+/// Appends an entry after its length.
+fn put_entry(alloc: Global, out: &mut Vec<u8>, entry: &KeytabEntry) -> Result<(), FileFault>
+    ensures text { OnOk result (out.new.items ≡ out.old.items ++ part_text entry.now) }
+    ensures spelled { IfOk result (λ done. IsPart (Some entry.now) (part_text entry.now)) }
+    ensures fault { IfErr result (λ fault. IsNotWritten (HasRoom entry.now) fault) }
+{
+    let octets = write_entry(alloc, entry)?;
+    put_u32(out, octets.len() as u32)?;
+    out.extend_from_slice(&octets)?;
+    Ok(())
+}
+
+/// Appends entries, each after its length.
+fn put_entries(alloc: Global, out: &mut Vec<u8>, entries: &[KeytabEntry]) -> Result<(), FileFault>
+    ensures text { OnOk result (out.new.items ≡ out.old.items ++ flat_map part_text entries.now) }
+    ensures spelled { IfOk result (λ done. All (λ e. IsPart (Some e) (part_text e)) entries.now) }
+    ensures fault { IfErr result (λ fault. IsNotWritten (All HasRoom entries.now) fault) }
+{
+    for entry in entries {
+        put_entry(alloc, out, entry)?;
+    }
+    Ok(())
+}
+
+/// The entry with the greater version, and of the same version the later one.
+fn newer<'a>(entry: &'a KeytabEntry, later: Option<&'a KeytabEntry>) -> &'a KeytabEntry
+    ensures { result.now ≡ newer entry.now (option_map (λ e. e.now) later.entry) }
+{
+    match later {
+        Some(later) if later.version >= entry.version => later,
+        _ => entry,
+    }
+}
+
+/// The last of the entries of the greatest version, among those of the service and of the encryption type
+/// and version, where one is asked for.
+fn newest<'a>(
+    entries: &'a [KeytabEntry],
+    realm: &[u8],
+    name: &Name,
+    etype: Option<Etype>,
+    version: Option<u32>,
+) -> Option<&'a KeytabEntry>
+    ensures some { IfSome result (λ e. newest (passes (realm.now ∷ name.now.components) etype version) entries.now ≡ Some e.now) }
+    ensures none { IfNone result (newest (passes (realm.now ∷ name.now.components) etype version) entries.now ≡ None) }
+{
+    let mut found: Option<&KeytabEntry> = None;
+    for i in (0..entries.len()).rev() {
+        let entry = &entries[i];
+        if entry.passes(realm, name, etype, version) {
+            found = Some(newer(entry, found));
+        }
+    }
+    found
+}
+
+impl Keytab {
+    /// A keytab of copies of these entries. `BadEntry` where one has no room in a file.
+    pub fn new(alloc: Global, entries: &[KeytabEntry]) -> Result<Keytab, FileFault>
+        ensures ok { IfOk result (λ keytab. keytab ≡ entries.now) }
+        ensures room { IfOk result (λ keytab. All HasRoom entries.now) }
+        ensures fault { IfErr result (λ fault. IsNotWritten (All HasRoom entries.now) fault) }
+    {
+        let mut copies = Vec::new(alloc);
+        for entry in entries {
+            let _octets = write_entry(alloc, entry)?;
+            copies.push(entry.copy(alloc)?)?;
+        }
+        Ok(Keytab { entries: copies })
+    }
+
+    /// How many keys there are.
+    pub fn len(&self) -> usize
+        ensures { result ≡ length self.now }
+    {
+        self.entries.len()
+    }
+
+    /// The keytab that the octets of a file are.
+    pub fn read(alloc: Global, bytes: &[u8]) -> Result<Keytab, FileFault>
+        // What is read, the file is.
+        ensures found { IfOk result (λ keytab. IsKeytab keytab bytes.now) }
+        // What the file is, is read, unless memory runs out.
+        ensures only { (keytab : List entries.KeytabEntry) → IsKeytab keytab bytes.now → IsReadUnlessMemory result keytab }
+        // Which fault it is.
+        ensures exact { Gives result (keytab_at bytes.now) }
+    {
+        let rest = after_magic(bytes, KEYTAB)?;
+        let entries = read_entries(alloc, rest)?;
+        Ok(Keytab { entries })
+    }
+
+    /// The octets of the file. `BadEntry` where an entry has no room in it, as one of 2147483644 octets or more
+    /// that was read without its version of four octets.
+    pub fn write(&self, alloc: Global) -> Result<Vec<u8>, FileFault>
+        ensures text { IfOk result (λ bytes. bytes.items ≡ keytab_text self.now) }
+        // So what is written is read back to the same entries.
+        ensures spelled { IfOk result (λ bytes. IsKeytab self.now bytes.items) }
+        ensures fault { IfErr result (λ fault. IsNotWritten (All HasRoom self.now) fault) }
+    {
+        let mut out = Vec::from_slice(alloc, &[FIRST, KEYTAB])?;
+        put_entries(alloc, &mut out, &self.entries)?;
+        Ok(out)
+    }
+
+    /// The key of a service by its encryption type and version; without a version the one of the greatest version.
+    /// Of several such keys it is the last one of the file.
+    pub fn find(
+        &self,
+        realm: &[u8],
+        name: &Name,
+        etype: Etype,
+        version: Option<u32>,
+    ) -> Result<&Key, Miss>
+        ensures found { IfOk result (λ key. option_map (λ e. e.key) (newest (passes (realm.now ∷ name.now.components) (Some etype) version) self.now) ≡ Some key.now) }
+        ensures none { IfErr result (λ miss. newest (passes (realm.now ∷ name.now.components) (Some etype) version) self.now ≡ None) }
+        ensures miss { IfErr result (λ miss. miss ≡ missing self.now (realm.now ∷ name.now.components) etype) }
+    {
+        match newest(&self.entries, realm, name, Some(etype), version) {
+            Some(entry) => Ok(&entry.key),
+            None => Err(self.miss(realm, name, etype)),
+        }
+    }
+
+    /// What lacks, where there is no such key.
+    fn miss(&self, realm: &[u8], name: &Name, etype: Etype) -> Miss
+        ensures { result ≡ missing self.now (realm.now ∷ name.now.components) etype }
+    {
+        if newest(&self.entries, realm, name, None, None).is_none() {
+            return Miss::NoService;
+        }
+        match newest(&self.entries, realm, name, Some(etype), None) {
+            None => Miss::NoEtype,
+            Some(_) => Miss::NoVersion,
+        }
+    }
+}

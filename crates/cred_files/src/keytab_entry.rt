@@ -1,0 +1,218 @@
+//! Entries of a keytab: each a key of a principal, with the key's version.
+ghost use Rattle.std.specs.Prelude.{◌≡◌, ◌∷◌, nat_lt, length, unsigned_abs, IsTrue, IfOk, IfErr, OnOk, Some};
+ghost use Rattle.std.specs.List.{list_all};
+ghost use Rattle.enctypes.specs.Etype.{key_len, number};
+ghost use Rattle.cred_files.specs.Keytab.{HasCounts, HasRoom, IsEntry, IsNotWritten, entry_fields, entry_text, etype_of, is_numbered, is_typed, passes, version_of, written_fields};
+ghost use Rattle.cred_files.specs.KeytabReading.{Gives, content_at};
+ghost use Rattle.cred_files.specs.Reading.{Reads};
+
+use crate::fault::{Cut, FileFault};
+use crate::principal::is_same;
+use crate::reader::Reader;
+use crate::stored::{Stored, put_all, read_several};
+use crate::width::Width;
+use crate::writer::{put_counted, put_i32, put_number, put_u16, put_u32};
+use enctypes::{Etype, Key};
+use krb_elements::{KerberosString, Octets};
+use krb_fields::Name;
+use std::alloc::{AllocError, Global};
+
+/// A key of a principal.
+#[derive(Debug, Drop)]
+pub struct KeytabEntry {
+    pub realm: KerberosString,
+    pub name: Name,
+    pub version: u32,
+    pub key: Key,
+}
+
+/// The fields of an entry as they stand in the file, before the version of four octets.
+#[derive(Debug, Drop)]
+struct EntryFields {
+    realm: KerberosString,
+    name: Name,
+    version: u8,
+    key_type: u16,
+    key: Octets,
+}
+
+impl KeytabEntry {
+    pub fn copy(&self, alloc: Global) -> Result<KeytabEntry, AllocError>
+        ensures { IfOk result (λ copy. copy ≡ self.now) }
+    {
+        Ok(KeytabEntry {
+            realm: self.realm.copy(alloc)?,
+            name: self.name.copy(alloc)?,
+            version: self.version,
+            key: self.key,
+        })
+    }
+
+    /// Whether it is a key of this service, and of this encryption type and version, where one is asked for.
+    pub(crate) fn passes(
+        &self,
+        realm: &[u8],
+        name: &Name,
+        etype: Option<Etype>,
+        version: Option<u32>,
+    ) -> bool
+        ensures { result ≡ passes (realm.now ∷ name.now.components) etype version self.now }
+    {
+        is_same(&self.realm, &self.name, realm, name)
+            && is_typed(&self.key, etype)
+            && is_numbered(self.version, version)
+    }
+}
+
+fn is_typed(key: &Key, etype: Option<Etype>) -> bool
+    ensures { result ≡ is_typed etype key.now }
+{
+    match etype {
+        None => true,
+        Some(etype) => key.etype() == etype,
+    }
+}
+
+fn is_numbered(number: u32, version: Option<u32>) -> bool
+    ensures { result ≡ is_numbered version number }
+{
+    match version {
+        None => true,
+        Some(version) => number == version,
+    }
+}
+
+#[tactic(auto, unfolding(crate::specs::Keytab::entry_fields))]
+fn read_fields(alloc: Global, reader: &mut Reader<'_>) -> Result<EntryFields, Cut>
+    ensures { Reads result reader.new (entry_fields.form.at reader.old) }
+{
+    let count = reader.read_number(Width::Two)?;
+    let realm = KerberosString::read(alloc, reader, Width::Two)?;
+    let components = read_several(alloc, reader, Width::Two, count)?;
+    let name_type = reader.read_i32()?;
+    let _time = reader.read_part(4)?;
+    let version = reader.read_u8()?;
+    let key_type = reader.read_u16()?;
+    let key = Octets::from_slice(alloc, reader.read_counted(Width::Two)?)?;
+    let name = Name {
+        name_type,
+        components,
+    };
+    Ok(EntryFields {
+        realm,
+        name,
+        version,
+        key_type,
+        key,
+    })
+}
+
+/// The version of four octets, where it is there and not zero; else the one of one octet.
+fn full_version(short: u8, more: &[u8]) -> u32
+    ensures { result ≡ version_of short more.now }
+{
+    match more.first_chunk::<4>() {
+        Some(octets) if u32::from_be_bytes(*octets) != 0 => u32::from_be_bytes(*octets),
+        _ => u32::from(short),
+    }
+}
+
+/// The encryption type of this number, if it is one of the four.
+pub fn known_etype(number: u16) -> Option<Etype>
+    ensures { result ≡ etype_of number }
+{
+    Etype::from_number(i32::from(number))
+}
+
+/// What the octets of an entry say: nothing where its key is of another type.
+#[tactic(auto, unfolding(crate::specs::KeytabReading::content_at))]
+pub fn read_entry(alloc: Global, content: &[u8]) -> Result<Option<KeytabEntry>, FileFault>
+    ensures { Gives result (content_at content.now) }
+{
+    let mut reader = Reader::new(content);
+    let fields = match read_fields(alloc, &mut reader) {
+        Ok(fields) => fields,
+        Err(Cut::End) => return Err(FileFault::BadEntry),
+        Err(Cut::Memory) => return Err(FileFault::Memory),
+    };
+    let Some(etype) = known_etype(fields.key_type) else {
+        return Ok(None);
+    };
+    let Some(key) = Key::new(etype, fields.key.as_slice()) else {
+        return Err(FileFault::BadEntry);
+    };
+    let version = full_version(fields.version, reader.rest());
+    let EntryFields { realm, name, .. } = fields;
+    Ok(Some(KeytabEntry {
+        realm,
+        name,
+        version,
+        key,
+    }))
+}
+
+/// The greatest length, and the greatest count, that two octets hold.
+const MOST: usize = 0xffff;
+
+/// The lengths from here on are those of holes, below zero as signed numbers.
+pub const HOLES: usize = 1 << 31;
+
+/// Whether the lengths and the count of an entry's texts have room in two octets each.
+fn has_counts(entry: &KeytabEntry) -> bool
+    ensures yes { IsTrue result → HasCounts entry.now }
+    ensures no { HasCounts entry.now → IsTrue result }
+{
+    let components = entry.name.components.as_slice();
+    components.len() <= MOST && entry.realm.as_slice().len() <= MOST && are_counted(components)
+}
+
+fn are_counted(components: &[KerberosString]) -> bool
+    ensures { result ≡ list_all (λ c. nat_lt (length c) 65536) components.now }
+{
+    components.iter().all(|c| c.as_slice().len() <= MOST)
+}
+
+/// The number of an encryption type as files have it.
+fn key_type(etype: Etype) -> u16
+    ensures { result ≡ unsigned_abs (number etype) }
+{
+    etype.number() as u16
+}
+
+#[tactic(auto, unfolding(crate::specs::Keytab::entry_fields))]
+fn put_fields(out: &mut Vec<u8>, entry: &KeytabEntry) -> Result<(), AllocError>
+    requires { HasCounts entry.now }
+    ensures text { OnOk result (out.new.items ≡ entry_fields.form.onto out.old.items (written_fields entry.now)) }
+    ensures fits { IfOk result (λ done. entry_fields.form.Fits (written_fields entry.now)) }
+    ensures key { IfOk result (λ done. length entry.now.key.bytes ≡ key_len entry.now.key.etype) }
+{
+    let components = entry.name.components.as_slice();
+    put_number(out, Width::Two, components.len())?;
+    entry.realm.put(out, Width::Two)?;
+    put_all(out, Width::Two, components)?;
+    put_i32(out, entry.name.name_type)?;
+    out.extend_from_slice(&[0; 4])?;
+    out.push((entry.version % 256) as u8)?;
+    put_u16(out, key_type(entry.key.etype()))?;
+    put_counted(out, Width::Two, entry.key.bytes())
+}
+
+/// The octets of an entry, which stand behind their length. `BadEntry` where one of its lengths, or its number
+/// of components, has no room.
+pub fn write_entry(alloc: Global, entry: &KeytabEntry) -> Result<Vec<u8>, FileFault>
+    ensures room { IfOk result (λ octets. HasRoom entry.now) }
+    ensures text { IfOk result (λ octets. octets.items ≡ entry_text entry.now) }
+    ensures spelled { IfOk result (λ octets. IsEntry (Some entry.now) octets.items) }
+    ensures fault { IfErr result (λ fault. IsNotWritten (HasRoom entry.now) fault) }
+{
+    if !has_counts(entry) {
+        return Err(FileFault::BadEntry);
+    }
+    let mut octets = Vec::new(alloc);
+    put_fields(&mut octets, entry)?;
+    put_u32(&mut octets, entry.version)?;
+    if octets.len() >= HOLES {
+        return Err(FileFault::BadEntry);
+    }
+    Ok(octets)
+}
