@@ -1,6 +1,13 @@
-//! The program of the KDC: `kdcd script` runs a script from standard input to standard output.
+//! The program of the KDC: `kdcd script` runs a script from standard input to standard output, `kdcd serve` serves a realm
+//! over UDP and TCP.
 #![tactic(auto)]
 
+mod files;
+mod options;
+mod serving;
+
+use crate::options::{serve_command, serve_options};
+use crate::serving::serve_realm;
 use clap::error::{Error, ErrorKind};
 use clap::{ArgMatches, Command};
 use kdc_script::{FAILED, run_script};
@@ -20,15 +27,26 @@ fn run(rt: &HostRuntime) -> io::Result<u8> {
     let alloc = rt.alloc();
     let words: Vec<String> = env::args(rt)?.collect(alloc)?;
     match parse(alloc, &words) {
-        Ok(matches) if matches.subcommand_name() == Some("script") => {
-            Ok(run_script(alloc, rt.stdin(), rt.stdout()))
-        }
-        Ok(_) => Ok(USAGE),
+        Ok(matches) => run_subcommand(rt, &matches),
         Err(error) if error.kind() == ErrorKind::OutOfMemory => Ok(FAILED),
         Err(error) => {
             print!(rt; "{error}")?;
             Ok(if error.exit_code() == 0 { 0 } else { USAGE })
         }
+    }
+}
+
+fn run_subcommand(rt: &HostRuntime, matches: &ArgMatches<'_>) -> io::Result<u8> {
+    match matches.subcommand() {
+        Some(("script", _)) => Ok(run_script(rt.alloc(), rt.stdin(), rt.stdout())),
+        Some(("serve", words)) => match serve_options(words) {
+            Ok(options) => serve_realm(rt, &options),
+            Err(fault) => {
+                println!(rt; "error: {fault}")?;
+                Ok(USAGE)
+            }
+        },
+        _ => Ok(USAGE),
     }
 }
 
@@ -38,6 +56,10 @@ fn parse<'a>(alloc: Global, words: &'a [String]) -> Result<ArgMatches<'a>, Error
     let kdcd = Command::new(alloc, "kdcd")
         .about("A Kerberos KDC")
         .subcommand_required(true)
-        .subcommand(script)?;
+        .subcommand(script)?
+        .subcommand(serve_command(alloc)?)?;
     kdcd.try_get_matches_from(words)
 }
+
+#[cfg(test)]
+mod tests;

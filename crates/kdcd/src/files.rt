@@ -1,0 +1,92 @@
+//! The files that a server is opened with.
+ghost use Rattle.std.specs.Prelude.{◌≤◌, IfOk, vec_len};
+
+use principals::{Database, ReadFault};
+use std::alloc::{AllocError, Global};
+use std::io::Read;
+use std::{fmt, io, str};
+
+/// The most octets of a file.
+const LONGEST_FILE: usize = 16_777_216;
+
+/// Why what stands in a file is not taken, or could not be read.
+#[derive(Debug, Drop)]
+pub enum FileFault {
+    /// The file has more than 16,777,216 octets.
+    LongFile,
+    /// The file of the seed has fewer than 32 octets.
+    ShortSeed,
+    /// The file of the database is no text of a database. `Memory` is no such fault.
+    Database(ReadFault),
+    /// The file could not be read, or memory ran out.
+    Failed(io::Error),
+}
+
+impl FileFault {
+    /// The word for it, where the file was read and is refused.
+    pub fn refusal(&self) -> Option<&'static str> {
+        match self {
+            FileFault::LongFile => Some("LongFile"),
+            FileFault::ShortSeed => Some("ShortSeed"),
+            FileFault::Database(fault) => match fault {
+                ReadFault::NotJson => Some("NotJson"),
+                ReadFault::BadVersion => Some("BadVersion"),
+                ReadFault::BadRow => Some("BadRow"),
+                ReadFault::NoTicketGranter => Some("NoTicketGranter"),
+                ReadFault::Memory => None,
+            },
+            FileFault::Failed(_) => None,
+        }
+    }
+}
+
+impl fmt::Display for FileFault {
+    fn fmt<W: fmt::Write>(&self, f: &mut fmt::Formatter<W>) -> fmt::Result {
+        match self {
+            FileFault::LongFile => f.write_str("it has more than 16777216 octets"),
+            FileFault::ShortSeed => f.write_str("it has fewer than 32 octets"),
+            FileFault::Database(fault) => write!(f, "{fault}"),
+            FileFault::Failed(error) => write!(f, "{error}"),
+        }
+    }
+}
+
+impl From<io::Error> for FileFault {
+    fn from(error: io::Error) -> FileFault {
+        FileFault::Failed(error)
+    }
+}
+
+impl From<AllocError> for FileFault {
+    fn from(error: AllocError) -> FileFault {
+        FileFault::Failed(io::Error::from(error))
+    }
+}
+
+/// All octets of a file. One is read past the limit, to see that there is one.
+pub fn read_whole<R: Read + Drop>(alloc: Global, file: R) -> Result<Vec<u8>, FileFault>
+    ensures { IfOk result (λ octets. vec_len octets ≤ 16777216) }
+{
+    let mut octets = Vec::new(alloc);
+    file.take(LONGEST_FILE as u64 + 1).read_to_end(&mut octets)?;
+    if octets.len() > LONGEST_FILE {
+        return Err(FileFault::LongFile);
+    }
+    Ok(octets)
+}
+
+/// The database that a file holds. One that is no UTF-8 is no JSON.
+pub fn database_of(alloc: Global, octets: &[u8]) -> Result<Database, FileFault> {
+    let Ok(text) = str::from_utf8(octets) else {
+        return Err(FileFault::Database(ReadFault::NotJson));
+    };
+    Database::read(alloc, text).map_err(FileFault::Database)
+}
+
+/// The seed that a file holds: its first 32 octets.
+pub fn seed_of(octets: &[u8]) -> Result<[u8; 32], FileFault> {
+    match octets.first_chunk::<32>() {
+        Some(seed) => Ok(*seed),
+        None => Err(FileFault::ShortSeed),
+    }
+}

@@ -1,0 +1,340 @@
+#!/usr/bin/env python3
+"""Measures `kdcd serve` on the loopback, and tries it with hostile traffic. Linux and Python 3 alone are needed.
+
+    python3 tools/measure_server.py [--kdcd crates/kdcd/out/kdcd] [--idle SECONDS] [--requests N]
+
+It makes a realm of its own in a temporary folder, starts the server on ports that the system gives, and prints what it
+found. It ends with status 1 where a good request got no reply."""
+
+import argparse
+import json
+import os
+import random
+import re
+import select
+import socket
+import subprocess
+import sys
+import tempfile
+import threading
+import time
+
+REALM = b"EXAMPLE.COM"
+TICKS = os.sysconf("SC_CLK_TCK")
+
+
+# The octets of a request (RFC 4120, section 5.4.1), in DER.
+
+
+def tlv(tag, *contents):
+    contents = b"".join(contents)
+    length = len(contents)
+    if length < 128:
+        return bytes([tag, length]) + contents
+    octets = length.to_bytes((length.bit_length() + 7) // 8, "big")
+    return bytes([tag, 0x80 | len(octets)]) + octets + contents
+
+
+def integer(value):
+    return tlv(0x02, value.to_bytes(value.bit_length() // 8 + 1, "big", signed=True))
+
+
+def field(number, *contents):
+    return tlv(0xA0 + number, *contents)
+
+
+def sequence(*contents):
+    return tlv(0x30, *contents)
+
+
+def name(kind, *parts):
+    texts = [tlv(0x1B, part) for part in parts]
+    return sequence(field(0, integer(kind)), field(1, sequence(*texts)))
+
+
+def as_req(client):
+    """An AS-REQ for the ticket-granting service, without padata: till zero, nonce 1, all four encryption types."""
+    body = sequence(
+        field(0, tlv(0x03, bytes(5))),
+        field(1, name(1, client)),
+        field(2, tlv(0x1B, REALM)),
+        field(3, name(2, b"krbtgt", REALM)),
+        field(5, tlv(0x18, b"19700101000000Z")),
+        field(7, integer(1)),
+        field(8, sequence(*[integer(etype) for etype in (18, 17, 20, 19)])),
+    )
+    return tlv(0x6A, sequence(field(1, integer(5)), field(2, integer(10)), field(4, body)))
+
+
+def framed(message):
+    return len(message).to_bytes(4, "big") + message
+
+
+# The server.
+
+
+def row(key):
+    return {
+        "disabled": False, "expires": None, "forwardable": True, "greatest_life": 4294967295,
+        "greatest_renewable": 4294967295, "keys": [{"keys": [{"etype": 18, "key": key}], "version": 1}],
+        "ok_as_delegate": False, "password_expires": None, "postdate": False, "preauth": True, "proxiable": True,
+        "revoked_before": None,
+    }
+
+
+class Server:
+    """`kdcd serve` over a realm with one client, `alice`."""
+
+    def __init__(self, kdcd, folder, rounds=4294967295):
+        database = os.path.join(folder, "database")
+        seed = os.path.join(folder, "seed")
+        rows = {"krbtgt/EXAMPLE.COM": row("00" * 32), "alice": row("11" * 32)}
+        with open(database, "w") as file:
+            json.dump({"principals": rows, "realm": REALM.decode(), "version": 2}, file)
+        with open(seed, "wb") as file:
+            file.write(os.urandom(32))
+        words = [kdcd, "serve", "--db", database, "--udp", "127.0.0.1:0", "--tcp", "127.0.0.1:0"]
+        words += ["--rounds", str(rounds), "--seed", seed, "--first"]
+        self.process = subprocess.Popen(words, stdout=subprocess.PIPE, stderr=subprocess.PIPE, text=True)
+        line = self.process.stderr.readline()
+        found = re.search(r"udp (\S+):(\d+) and tcp (\S+):(\d+)", line)
+        if not found:
+            sys.exit(f"the server did not start: {line}{self.process.stdout.read()}")
+        self.udp = (found[1], int(found[2]))
+        self.tcp = (found[3], int(found[4]))
+
+    def processor_seconds(self):
+        with open(f"/proc/{self.process.pid}/schedstat") as file:
+            return int(file.read().split()[0]) / 1e9
+
+    def ticks(self):
+        with open(f"/proc/{self.process.pid}/stat") as file:
+            parts = file.read().rsplit(")", 1)[1].split()
+        return int(parts[11]) + int(parts[12])
+
+    def resident_kib(self):
+        with open(f"/proc/{self.process.pid}/status") as file:
+            return int(re.search(r"VmRSS:\s+(\d+)", file.read())[1])
+
+    def connect(self):
+        connection = socket.create_connection(self.tcp)
+        connection.settimeout(5)
+        return connection
+
+    def end(self):
+        self.process.terminate()
+        return self.process.wait()
+
+
+class Peer:
+    """A client by datagrams."""
+
+    def __init__(self, server):
+        self.socket = socket.socket(socket.AF_INET, socket.SOCK_DGRAM)
+        self.socket.connect(server.udp)
+        self.socket.settimeout(1)
+        self.asked_again = 0
+
+    def ask(self, request):
+        """How many seconds the reply took. As stock clients do, it asks again after a second, three times in all: where the
+        system's queue is full a datagram is dropped."""
+        for _ in range(3):
+            start = time.perf_counter()
+            self.socket.send(request)
+            try:
+                self.socket.recv(65536)
+                return time.perf_counter() - start
+            except TimeoutError:
+                self.asked_again += 1
+        raise TimeoutError
+
+
+def summary(seconds):
+    seconds = sorted(seconds)
+    at = lambda part: seconds[min(len(seconds) - 1, int(len(seconds) * part))] * 1e6
+    return f"median {at(0.5):.0f} us, 99 of 100 {at(0.99):.0f} us, most {seconds[-1] * 1e6:.0f} us"
+
+
+def measure_datagrams(server, what, request, count):
+    peer = Peer(server)
+    for _ in range(200):
+        peer.ask(request)
+    before, start = server.processor_seconds(), time.perf_counter()
+    taken = [peer.ask(request) for _ in range(count)]
+    passed, used = time.perf_counter() - start, server.processor_seconds() - before
+    print(f"datagrams, {what}: {used / count * 1e6:.1f} us of processor time each, {count / passed:.0f} a second "
+          f"from one client; {summary(taken)}")
+
+
+def measure_connection(server, request, count):
+    connection, taken = server.connect(), []
+    before = server.processor_seconds()
+    for _ in range(count):
+        start = time.perf_counter()
+        connection.sendall(framed(request))
+        read_message(connection)
+        taken.append(time.perf_counter() - start)
+    used = server.processor_seconds() - before
+    print(f"one connection: {used / count * 1e6:.1f} us of processor time a request; {summary(taken)}")
+
+
+def read_exactly(connection, count):
+    octets = b""
+    while len(octets) < count:
+        piece = connection.recv(count - len(octets))
+        if not piece:
+            raise EOFError
+        octets += piece
+    return octets
+
+
+def read_message(connection):
+    return read_exactly(connection, int.from_bytes(read_exactly(connection, 4), "big"))
+
+
+def measure_idle(server, what, seconds, request):
+    ticks, used = server.ticks(), server.processor_seconds()
+    time.sleep(seconds)
+    used = server.processor_seconds() - used
+    print(f"idle {seconds} s, {what}: {server.ticks() - ticks} ticks of 1/{TICKS} s, {used * 1e3:.2f} ms of processor "
+          f"time, {used / seconds * 100:.3f} of 100 of one core")
+    peer, taken = Peer(server), []
+    for _ in range(30):
+        time.sleep(random.uniform(0.05, 0.15))
+        taken.append(peer.ask(request))
+    print(f"  a datagram then: {summary(taken)}")
+
+
+class Asking(threading.Thread):
+    """Asks good requests, in datagrams and over a connection of its own, as long as it is let."""
+
+    def __init__(self, server, request):
+        super().__init__()
+        self.peer, self.connection, self.request = Peer(server), server.connect(), request
+        self.taken, self.taken_over, self.lost, self.is_over = [], [], 0, False
+
+    def run(self):
+        while not self.is_over:
+            try:
+                self.taken.append(self.peer.ask(self.request))
+            except OSError:
+                self.lost += 1
+            try:
+                start = time.perf_counter()
+                self.connection.sendall(framed(self.request))
+                read_message(self.connection)
+                self.taken_over.append(time.perf_counter() - start)
+            except (OSError, EOFError):
+                self.lost += 1
+            time.sleep(0.005)
+
+    def end(self, what):
+        self.is_over = True
+        self.join()
+        print(f"  good requests beside {what}: {len(self.taken)} datagrams, {self.peer.asked_again} of them asked again, "
+              f"{summary(self.taken)}")
+        print(f"  and {len(self.taken_over)} on a connection, {summary(self.taken_over)}; {self.lost} lost")
+        return self.lost
+
+
+def random_datagrams(server, count, request):
+    """Random octets, and good requests with one octet changed."""
+    sender = socket.socket(socket.AF_INET, socket.SOCK_DGRAM)
+    sender.connect(server.udp)
+    sender.setblocking(False)
+    for number in range(count):
+        if number % 2:
+            octets = bytearray(request)
+            octets[random.randrange(len(octets))] = random.randrange(256)
+        else:
+            octets = os.urandom(random.randrange(1400))
+        try:
+            sender.send(octets)
+        except BlockingIOError:
+            pass
+        if number % 50 == 49:
+            time.sleep(0.001)
+        while select.select([sender], [], [], 0)[0]:
+            sender.recv(65536)
+
+
+def hostile_connections(server, count):
+    """Connections that send random octets, half of a length, a length of 2^31, or nothing; 100 of them open at a time."""
+    held = []
+    kinds = [lambda: os.urandom(random.randrange(1, 3000)), lambda: b"\0\0", lambda: b"\x80\0\0\0" + bytes(100), lambda: b""]
+    for number in range(count):
+        connection = server.connect()
+        try:
+            connection.sendall(kinds[number % 4]())
+        except OSError:
+            pass
+        held.append(connection)
+        time.sleep(0.002)
+        if len(held) > 100:
+            held.pop(0).close()
+    for connection in held:
+        connection.close()
+
+
+def unread_connection(server, request):
+    """A peer that asks and never reads. It gives how many octets it could send until it was let go."""
+    connection, sent = server.connect(), 0
+    requests = framed(request) * 100
+    try:
+        while sent < 2**30:
+            connection.sendall(requests)
+            sent += len(requests)
+    except OSError as error:
+        print(f"a peer that never reads is let go after {sent / 1e6:.1f} MB of requests ({error})")
+        return
+    print("a peer that never reads is not let go")
+
+
+def main():
+    parser = argparse.ArgumentParser(description="Measures kdcd serve on the loopback.")
+    parser.add_argument("--kdcd", default="crates/kdcd/out/kdcd")
+    parser.add_argument("--idle", type=float, default=60)
+    parser.add_argument("--requests", type=int, default=20000)
+    parser.add_argument("--datagrams", type=int, default=100000)
+    parser.add_argument("--connections", type=int, default=1000)
+    words = parser.parse_args()
+    unknown, known = as_req(b"nobody"), as_req(b"alice")
+    lost = 0
+    with tempfile.TemporaryDirectory() as folder:
+        server = Server(words.kdcd, folder)
+        measure_datagrams(server, "a client that is unknown", unknown, words.requests)
+        measure_datagrams(server, "a client that is known", known, words.requests)
+        measure_connection(server, unknown, words.requests)
+        measure_idle(server, "no connection open", words.idle, unknown)
+        idle = [server.connect() for _ in range(256)]
+        measure_idle(server, "256 idle connections", words.idle, unknown)
+        for connection in idle:
+            connection.close()
+        time.sleep(0.5)
+        print(f"memory: {server.resident_kib()} KiB")
+
+        asking = Asking(server, unknown)
+        asking.start()
+        random_datagrams(server, words.datagrams, known)
+        lost += asking.end(f"{words.datagrams} random datagrams")
+        asking = Asking(server, unknown)
+        asking.start()
+        hostile_connections(server, words.connections)
+        lost += asking.end(f"{words.connections} hostile connections")
+        asking = Asking(server, unknown)
+        asking.start()
+        unread_connection(server, unknown)
+        lost += asking.end("it")
+        print(f"memory afterwards: {server.resident_kib()} KiB")
+        if server.process.poll() is not None:
+            sys.exit("the server has ended")
+        server.end()
+
+        server = Server(words.kdcd, folder, rounds=40)
+        Peer(server).ask(unknown)
+        out, _ = server.process.communicate()
+        print(f"40 rounds with one datagram: {out.strip()}, status {server.process.returncode}")
+    sys.exit(1 if lost else 0)
+
+
+main()
