@@ -290,6 +290,27 @@ def unread_connection(server, request):
     print("a peer that never reads is not let go")
 
 
+def pipelining_connections(server, request, count, seconds):
+    """Connections that send requests without end, and read what comes. Each has its replies beside all the others."""
+    connections = [server.connect() for _ in range(count)]
+    unsent = dict.fromkeys(connections, b"")
+    read = dict.fromkeys(connections, 0)
+    for connection in connections:
+        connection.setblocking(False)
+    end = time.monotonic() + seconds
+    while time.monotonic() < end:
+        readable, writable, _ = select.select(connections, connections, [], 0.1)
+        for connection in readable:
+            read[connection] += len(connection.recv(65536))
+        for connection in writable:
+            unsent[connection] = unsent[connection] or framed(request) * 200
+            unsent[connection] = unsent[connection][connection.send(unsent[connection]):]
+    print(f"{count} connections that send without end had {min(read.values())} to {max(read.values())} octets of replies "
+          f"each in {seconds} s")
+    for connection in connections:
+        connection.close()
+
+
 def main():
     parser = argparse.ArgumentParser(description="Measures kdcd serve on the loopback.")
     parser.add_argument("--kdcd", default="crates/kdcd/out/kdcd")
@@ -321,6 +342,10 @@ def main():
         asking.start()
         hostile_connections(server, words.connections)
         lost += asking.end(f"{words.connections} hostile connections")
+        asking = Asking(server, unknown)
+        asking.start()
+        pipelining_connections(server, unknown, 200, 5)
+        lost += asking.end("them")
         asking = Asking(server, unknown)
         asking.start()
         unread_connection(server, unknown)
