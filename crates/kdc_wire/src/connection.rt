@@ -18,6 +18,8 @@ pub struct Connection {
     unsent: Vec<u8>,
     /// No reply will come any more. What is unsent is written, and then the peer is told so.
     is_closing: bool,
+    /// The peer was told that no more will come.
+    is_told: bool,
     /// The peer sends nothing any more.
     is_at_end: bool,
 }
@@ -28,6 +30,7 @@ impl Connection {
             stream,
             unsent: Vec::new(alloc),
             is_closing: false,
+            is_told: false,
             is_at_end: false,
         }
     }
@@ -76,14 +79,16 @@ impl Connection {
         self.close()
     }
 
-    /// Writes what fits. After the last octet of the last reply the peer is told that no more will come.
+    /// Writes what fits. After the last octet of the last reply the peer is told that no more will come: once, since each
+    /// time would be an event of the connection.
     pub fn flush(&mut self) -> Result<()> {
         for _ in 0..self.unsent.len() {
             if self.unsent.is_empty() || !self.write_once()? {
                 break;
             }
         }
-        if self.is_closing && self.unsent.is_empty() {
+        if self.is_closing && self.unsent.is_empty() && !self.is_told {
+            self.is_told = true;
             self.stream.shutdown(Shutdown::Write)?;
         }
         Ok(())

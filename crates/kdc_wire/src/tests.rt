@@ -12,7 +12,7 @@ use std::io::{ErrorKind, Read, Write};
 use std::net::{Ipv4Addr, SocketAddr, TcpStream, UdpSocket};
 use std::rt::Clock;
 use std::test::Fail;
-use std::time::Duration;
+use std::time::{Duration, Instant};
 
 /// An AS-REQ of `u` in `A.B` for `a`, till zero, nonce 1, encryption type 18. The service's one octet has the place
 /// `SERVICE_PLACE`.
@@ -83,6 +83,7 @@ enum Scenario {
     OwnReplies,
     OneByOne,
     FaultyLength,
+    KeptOpen,
     ManyConnections,
     IdleConnections,
     UnreadReplies,
@@ -98,6 +99,7 @@ fn play(rt: &HostRuntime, server: &mut Server, scenario: Scenario) -> Result<boo
         Scenario::OwnReplies => each_gets_its_own(rt, server),
         Scenario::OneByOne => octets_come_one_by_one(rt, server),
         Scenario::FaultyLength => a_length_is_at_fault(rt, server),
+        Scenario::KeptOpen => a_closed_connection_is_kept_open(rt, server),
         Scenario::ManyConnections => connections_come_and_go(rt, server),
         Scenario::IdleConnections => connections_are_idle(rt, server),
         Scenario::UnreadReplies => replies_are_not_read(rt, server),
@@ -232,6 +234,22 @@ fn a_length_is_at_fault(rt: &HostRuntime, server: &mut Server) -> Result<bool, F
 #[test]
 fn a_length_at_fault_is_answered_before_the_end(rt: HostRuntime) -> Result<(), Fail> {
     assert!(rt; run(&rt, Scenario::FaultyLength)?);
+    Ok(())
+}
+
+/// The peer keeps its side open after the server closed its own. Rounds with nothing to do wait, each a millisecond.
+fn a_closed_connection_is_kept_open(rt: &HostRuntime, server: &mut Server) -> Result<bool, Fail> {
+    let mut client = connection(rt, server)?;
+    client.write_all(&[0x80; 4])?;
+    rounds(rt, server, 8)?;
+    let start = Instant::now(rt)?;
+    let events = rounds(rt, server, 40)?;
+    Ok(events == 0 && start.elapsed(rt)? >= Duration::from_millis(20))
+}
+
+#[test]
+fn a_closed_connection_keeps_nobody_busy(rt: HostRuntime) -> Result<(), Fail> {
+    assert!(rt; run(&rt, Scenario::KeptOpen)?);
     Ok(())
 }
 
