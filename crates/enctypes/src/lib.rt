@@ -40,6 +40,3 @@ pub use sha2_profile::{Aes128Sha2, Aes256Sha2};
 pub use short_octets::Mac;
 pub use simplified::{Aes128Sha1, Aes256Sha1};
 pub use suite::Suite;
-
-#[cfg(test)]
-mod tests;

@@ -13,6 +13,3 @@ pub use fault::FrameFault;
 pub use laws::{any_pieces, cuts_what_was_framed, one_cutting, two_pieces};
 pub use splitter::Splitter;
 pub use writing::{frame, prefix};
-
-#[cfg(test)]
-mod tests;

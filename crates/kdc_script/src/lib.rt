@@ -24,6 +24,3 @@ mod run;
 mod setting;
 
 pub use run::{DONE, FAILED, FAULT, run_script};
-
-#[cfg(test)]
-mod tests;

@@ -21,6 +21,3 @@ pub use items::Items;
 pub use reader::Reader;
 pub use time::KTime;
 pub use writer::Writer;
-
-#[cfg(test)]
-mod tests;

@@ -26,6 +26,3 @@ pub use octets::{Octets, OctetsRef};
 pub use seq::Seq;
 pub use string::{KerberosString, KerberosStringRef};
 pub use uint32::UInt32;
-
-#[cfg(test)]
-mod tests;

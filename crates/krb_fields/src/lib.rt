@@ -33,6 +33,3 @@ pub use pa_data::{PaData, PaDataRef};
 pub use second::Second;
 pub use ticket_flag::TicketFlag;
 pub use typed::{HostAddress, HostAddressRef, Typed, TypedRef};
-
-#[cfg(test)]
-mod tests;

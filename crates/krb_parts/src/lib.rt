@@ -23,6 +23,3 @@ pub use enc_ticket_part::{
 pub use etype_info2_entry::{EtypeInfo2Entry, EtypeInfo2EntryRef};
 pub use last_req::LastReq;
 pub use pa_enc_ts_enc::{PaEncTsEnc, decode_pa_enc_ts_enc, encode_pa_enc_ts_enc};
-
-#[cfg(test)]
-mod tests;

@@ -12,6 +12,3 @@ pub use krb_error::{KrbError, KrbErrorRef, decode_krb_error, encode_krb_error};
 pub use numbers::{AS_REQ, KRB_ERROR, PVNO, TGS_REQ};
 pub use req_body::{ReqBody, ReqBodyRef};
 pub use ticket::{Ticket, TicketRef};
-
-#[cfg(test)]
-mod tests;

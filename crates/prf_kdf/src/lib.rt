@@ -20,6 +20,3 @@ pub use fold::n_fold;
 pub use hmac::{hmac_sha1, hmac_sha256, hmac_sha384};
 pub use kdf::{kdf_sha256, kdf_sha384};
 pub use pbkdf2::{pbkdf2_sha1, pbkdf2_sha256, pbkdf2_sha384};
-
-#[cfg(test)]
-mod tests;

@@ -12,6 +12,3 @@ pub use limits::Limits;
 pub use name_map::{Entry, NameKey, NameMap};
 pub use policy::Policy;
 pub use row::{KeyVersion, Row, Versions};
-
-#[cfg(test)]
-mod tests;

@@ -49,6 +49,3 @@ pub fn open_part<T: ReadOwned>(
         Err(Fault::Memory) => Err(AllocError),
     }
 }
-
-#[cfg(test)]
-mod tests;

@@ -1,0 +1,345 @@
+//! Names, flags, codes and moments (`krb_fields`).
+use krb_elements::{KerberosString, Seq};
+use krb_fields::{
+    ApOption, Code, Flags, KdcOption, Moment, NT_PRINCIPAL, Name, NameFault, TicketFlag,
+    component_from_text, component_to_text, is_component,
+};
+use std::alloc::{AllocError, Global};
+use std::test::Fail;
+
+/// A name of these components.
+fn name_of(alloc: Global, name_type: i32, components: &[&[u8]]) -> Result<Name, AllocError> {
+    let mut name = Name {
+        name_type,
+        components: Seq::new(alloc),
+    };
+    for component in components {
+        name.components
+            .push(KerberosString::from_slice(alloc, *component)?)?;
+    }
+    Ok(name)
+}
+
+/// The name of a text, which is within the limits and is written as that text.
+fn name_of_text(alloc: Global, text: &str) -> Result<Name, Fail> {
+    let name = Name::from_text(alloc, text)?;
+    if name.to_text(alloc)?.as_str() != text || !name.is_within_limits() {
+        Err("another text, or a name beyond the limits")?;
+    }
+    Ok(name)
+}
+
+#[test]
+fn names_are_read_and_written(rt: HostRuntime) -> Result<(), Fail> {
+    let alloc = rt.alloc();
+    let texts: [(&str, &[&[u8]]); 5] = [
+        ("u\\40x", &[&[0x75, 0x40, 0x78]]),
+        ("krbtgt/A.B", &[b"krbtgt", b"A.B"]),
+        ("host/a\\2fb\\5c\\20!~", &[b"host", b"a/b\\ !~"]),
+        (
+            "\\00\\0a\\7f\\80\\c3\\bf\\ff",
+            &[&[0, 10, 127, 128, 195, 191, 255]],
+        ),
+        (
+            "a/b/c/d/e/f/g/h/i/j/k/l/m/n/o/p",
+            &[
+                b"a", b"b", b"c", b"d", b"e", b"f", b"g", b"h", b"i", b"j", b"k", b"l", b"m", b"n",
+                b"o", b"p",
+            ],
+        ),
+    ];
+    for (text, components) in texts {
+        let name = name_of_text(alloc, text)?;
+        assert_eq!(rt; name.name_type, NT_PRINCIPAL);
+        assert!(rt; name.is_same(&name_of(alloc, 2, components)?), "{text}");
+    }
+    Ok(())
+}
+
+#[test]
+fn other_texts_are_no_names(rt: HostRuntime) -> Result<(), Fail> {
+    let alloc = rt.alloc();
+    let texts = [
+        "",
+        "/",
+        "a/",
+        "/a",
+        "a//b",
+        "\\4A",
+        "\\c3\\BF",
+        "\\61",
+        "a@b",
+        "a b",
+        "\u{e9}",
+        "a\\",
+        "a\\4",
+        "\\4/0",
+        "\\4g",
+        "a/b/c/d/e/f/g/h/i/j/k/l/m/n/o/p/q",
+    ];
+    for text in texts {
+        assert_eq!(rt;
+            Name::from_text(alloc, text).map(|_| ()),
+            Err(NameFault::BadName),
+            "{text}"
+        );
+    }
+    Ok(())
+}
+
+#[test]
+fn components_have_at_most_255_octets(rt: HostRuntime) -> Result<(), Fail> {
+    let alloc = rt.alloc();
+    let mut text = String::new(alloc);
+    for _ in 0..255 {
+        text.push_str("\\ff")?;
+    }
+    let realm = component_from_text(alloc, text.as_str())?;
+    assert_eq!(rt; realm.as_slice().len(), 255);
+    assert!(rt; is_component(realm.as_slice()));
+    let written = component_to_text(alloc, realm.as_slice())?;
+    assert_eq!(rt; written.as_str(), text.as_str());
+    text.push('a')?;
+    assert!(rt; is_no_component(alloc, text.as_str()));
+    Ok(())
+}
+
+fn is_no_component(alloc: Global, text: &str) -> bool {
+    component_from_text(alloc, text) == Err(NameFault::BadName)
+}
+
+#[test]
+fn names_have_1_to_16_components_of_1_to_255_octets(rt: HostRuntime) -> Result<(), Fail> {
+    let alloc = rt.alloc();
+    assert!(rt; !is_component(&[1; 256]));
+    assert!(rt; !is_component(&[]));
+    let names: [&[&[u8]]; 3] = [&[], &[b"a", b""], &[b"a".as_slice(); 17]];
+    for components in names {
+        assert!(rt; !name_of(alloc, 1, components)?.is_within_limits());
+    }
+    Ok(())
+}
+
+/// The text of a realm is that of one component.
+#[test]
+fn realms_are_read(rt: HostRuntime) -> Result<(), Fail> {
+    let alloc = rt.alloc();
+    let realm = component_from_text(alloc, "A.B")?;
+    assert_eq!(rt; realm.as_slice(), b"A.B".as_slice());
+    for text in ["", "A/B", "A@B"] {
+        assert!(rt; is_no_component(alloc, text), "{text}");
+    }
+    Ok(())
+}
+
+/// The salt of raeburn in ATHENA.MIT.EDU is that of RFC 3962 appendix B.
+#[test]
+fn salts_join_realm_and_components(rt: HostRuntime) -> Result<(), Fail> {
+    let alloc = rt.alloc();
+    let names: [(&[u8], &[&[u8]], &[u8]); 4] = [
+        (b"A.B", &[b"u"], b"A.Bu"),
+        (b"ATHENA.MIT.EDU", &[b"raeburn"], b"ATHENA.MIT.EDUraeburn"),
+        (b"A.B", &[b"krbtgt", b"A.B"], b"A.BkrbtgtA.B"),
+        (b"A.B", &[], b"A.B"),
+    ];
+    for (realm, components, salt) in names {
+        assert_eq!(rt;
+            name_of(alloc, 1, components)?
+                .salt(alloc, realm)?
+                .as_slice(),
+            salt
+        );
+    }
+    Ok(())
+}
+
+#[test]
+fn names_are_ordered_by_components(rt: HostRuntime) -> Result<(), Fail> {
+    let alloc = rt.alloc();
+    let texts = [
+        "a",
+        "b",
+        "h",
+        "krbtgt/A",
+        "krbtgt/A.B",
+        "krbtgt0",
+        "u",
+        "u/a",
+    ];
+    for (i, text) in texts.iter().enumerate() {
+        let name = Name::from_text(alloc, *text)?;
+        for (j, other) in texts.iter().enumerate() {
+            let other = Name::from_text(alloc, *other)?;
+            assert_eq!(rt; name.order(&other), i.cmp(&j));
+            assert_eq!(rt; name.is_same(&other), i == j);
+        }
+    }
+    Ok(())
+}
+
+#[test]
+fn a_copy_of_a_name_is_the_same(rt: HostRuntime) -> Result<(), Fail> {
+    let alloc = rt.alloc();
+    let name = name_of(alloc, 2, &[b"krbtgt", b"A.B"])?;
+    let copy = name.copy(alloc)?;
+    assert!(rt; copy.is_same(&name) && copy.name_type == 2);
+    Ok(())
+}
+
+#[test]
+fn moments_are_in_range(rt: HostRuntime) {
+    for (sec, usec) in [(0, 0), (253402300799, 999999)] {
+        let at = Moment::new(sec, usec);
+        assert_eq!(rt; at.map(|at| (at.sec, at.usec)), Some((sec, usec)));
+    }
+    for (sec, usec) in [(-1, 0), (253402300800, 0), (0, 1000000)] {
+        assert_eq!(rt; Moment::new(sec, usec), None);
+    }
+}
+
+/// The masks are those of krb5.h of MIT Kerberos.
+#[test]
+fn flags_have_their_bits(rt: HostRuntime) {
+    let none = Flags::from_bits(0);
+    let ticket = [
+        (TicketFlag::Forwardable, 0x4000_0000),
+        (TicketFlag::Forwarded, 0x2000_0000),
+        (TicketFlag::Proxiable, 0x1000_0000),
+        (TicketFlag::Proxy, 0x0800_0000),
+        (TicketFlag::MayPostdate, 0x0400_0000),
+        (TicketFlag::Postdated, 0x0200_0000),
+        (TicketFlag::Invalid, 0x0100_0000),
+        (TicketFlag::Renewable, 0x0080_0000),
+        (TicketFlag::Initial, 0x0040_0000),
+        (TicketFlag::PreAuthent, 0x0020_0000),
+        (TicketFlag::HwAuthent, 0x0010_0000),
+        (TicketFlag::TransitedPolicyChecked, 0x0008_0000),
+        (TicketFlag::OkAsDelegate, 0x0004_0000),
+    ];
+    for (flag, mask) in ticket {
+        assert_eq!(rt; none.with(flag).bits(), mask);
+    }
+    let options = [
+        (KdcOption::Forwardable, 0x4000_0000),
+        (KdcOption::Forwarded, 0x2000_0000),
+        (KdcOption::Proxiable, 0x1000_0000),
+        (KdcOption::Proxy, 0x0800_0000),
+        (KdcOption::AllowPostdate, 0x0400_0000),
+        (KdcOption::Postdated, 0x0200_0000),
+        (KdcOption::Renewable, 0x0080_0000),
+        (KdcOption::DisableTransitedCheck, 0x20),
+        (KdcOption::RenewableOk, 0x10),
+        (KdcOption::EncTktInSkey, 0x08),
+        (KdcOption::Renew, 0x02),
+        (KdcOption::Validate, 0x01),
+    ];
+    for (option, mask) in options {
+        assert_eq!(rt; none.with(option).bits(), mask);
+    }
+    assert_eq!(rt; none.with(ApOption::UseSessionKey).bits(), 0x4000_0000);
+    assert_eq!(rt; none.with(ApOption::MutualRequired).bits(), 0x2000_0000);
+}
+
+#[test]
+fn flags_are_set_and_cleared(rt: HostRuntime) {
+    let flags = Flags::from_bits(0x8080_0001);
+    assert!(rt; flags.has(TicketFlag::Renewable) && !flags.has(TicketFlag::Invalid));
+    assert_eq!(rt; flags.without(TicketFlag::Renewable).bits(), 0x8000_0001);
+    assert_eq!(rt; flags.without(TicketFlag::Invalid), flags);
+    assert_eq!(rt; flags.with(TicketFlag::Renewable), flags);
+}
+
+/// Each number is read off the table of RFC 4120 section 7.5.9.
+#[test]
+fn codes_have_their_names(rt: HostRuntime) -> Result<(), Fail> {
+    let alloc = rt.alloc();
+    let codes = [
+        (Code::KdcErrNameExp, 1, "KDC_ERR_NAME_EXP"),
+        (Code::KdcErrServiceExp, 2, "KDC_ERR_SERVICE_EXP"),
+        (Code::KdcErrBadPvno, 3, "KDC_ERR_BAD_PVNO"),
+        (
+            Code::KdcErrCPrincipalUnknown,
+            6,
+            "KDC_ERR_C_PRINCIPAL_UNKNOWN",
+        ),
+        (
+            Code::KdcErrSPrincipalUnknown,
+            7,
+            "KDC_ERR_S_PRINCIPAL_UNKNOWN",
+        ),
+        (Code::KdcErrCannotPostdate, 10, "KDC_ERR_CANNOT_POSTDATE"),
+        (Code::KdcErrNeverValid, 11, "KDC_ERR_NEVER_VALID"),
+        (Code::KdcErrPolicy, 12, "KDC_ERR_POLICY"),
+        (Code::KdcErrBadoption, 13, "KDC_ERR_BADOPTION"),
+        (Code::KdcErrEtypeNosupp, 14, "KDC_ERR_ETYPE_NOSUPP"),
+        (Code::KdcErrSumtypeNosupp, 15, "KDC_ERR_SUMTYPE_NOSUPP"),
+        (
+            Code::KdcErrPadataTypeNosupp,
+            16,
+            "KDC_ERR_PADATA_TYPE_NOSUPP",
+        ),
+        (Code::KdcErrClientRevoked, 18, "KDC_ERR_CLIENT_REVOKED"),
+        (Code::KdcErrServiceRevoked, 19, "KDC_ERR_SERVICE_REVOKED"),
+        (Code::KdcErrTgtRevoked, 20, "KDC_ERR_TGT_REVOKED"),
+        (Code::KdcErrKeyExpired, 23, "KDC_ERR_KEY_EXPIRED"),
+        (Code::KdcErrPreauthFailed, 24, "KDC_ERR_PREAUTH_FAILED"),
+        (Code::KdcErrPreauthRequired, 25, "KDC_ERR_PREAUTH_REQUIRED"),
+        (Code::KdcErrServerNomatch, 26, "KDC_ERR_SERVER_NOMATCH"),
+        (Code::KdcErrSvcUnavailable, 29, "KDC_ERR_SVC_UNAVAILABLE"),
+        (Code::KrbApErrBadIntegrity, 31, "KRB_AP_ERR_BAD_INTEGRITY"),
+        (Code::KrbApErrTktExpired, 32, "KRB_AP_ERR_TKT_EXPIRED"),
+        (Code::KrbApErrTktNyv, 33, "KRB_AP_ERR_TKT_NYV"),
+        (Code::KrbApErrRepeat, 34, "KRB_AP_ERR_REPEAT"),
+        (Code::KrbApErrNotUs, 35, "KRB_AP_ERR_NOT_US"),
+        (Code::KrbApErrBadmatch, 36, "KRB_AP_ERR_BADMATCH"),
+        (Code::KrbApErrSkew, 37, "KRB_AP_ERR_SKEW"),
+        (Code::KrbApErrBadaddr, 38, "KRB_AP_ERR_BADADDR"),
+        (Code::KrbApErrBadversion, 39, "KRB_AP_ERR_BADVERSION"),
+        (Code::KrbApErrMsgType, 40, "KRB_AP_ERR_MSG_TYPE"),
+        (Code::KrbApErrModified, 41, "KRB_AP_ERR_MODIFIED"),
+        (Code::KrbApErrBadkeyver, 44, "KRB_AP_ERR_BADKEYVER"),
+        (Code::KrbApErrNokey, 45, "KRB_AP_ERR_NOKEY"),
+        (Code::KrbApErrInappCksum, 50, "KRB_AP_ERR_INAPP_CKSUM"),
+        (Code::KrbApPathNotAccepted, 51, "KRB_AP_PATH_NOT_ACCEPTED"),
+        (Code::KrbErrResponseTooBig, 52, "KRB_ERR_RESPONSE_TOO_BIG"),
+        (Code::KrbErrGeneric, 60, "KRB_ERR_GENERIC"),
+        (Code::KrbErrFieldToolong, 61, "KRB_ERR_FIELD_TOOLONG"),
+    ];
+    for (code, number, name) in codes {
+        assert_eq!(rt; code.number(), number);
+        assert_eq!(rt; format!(in alloc; "{code}")?.as_str(), name);
+    }
+    Ok(())
+}
+
+/// One allocation may be refused, by `rt try --test --fail-alloc N`: the answer is then want of
+/// memory and nothing else, and the next call succeeds.
+#[test]
+fn want_of_memory_is_answered(rt: HostRuntime) -> Result<(), Fail> {
+    let alloc = rt.alloc();
+    let text = "host\\20of/a.b";
+    let name = match Name::from_text(alloc, text) {
+        Ok(name) => name,
+        Err(fault) => {
+            assert_eq!(rt; fault, NameFault::Memory);
+            Name::from_text(alloc, text)?
+        }
+    };
+    assert_eq!(rt; text_of(alloc, &name)?.as_str(), text);
+    assert_eq!(rt;
+        salt_of(alloc, &name)?.as_slice(),
+        b"A.Bhost ofa.b".as_slice()
+    );
+    Ok(())
+}
+
+/// The text of a name, asked for again where an allocation is refused.
+fn text_of(alloc: Global, name: &Name) -> Result<String, AllocError> {
+    name.to_text(alloc).or_else(|_| name.to_text(alloc))
+}
+
+/// The salt of a name in `A.B`, asked for again where an allocation is refused.
+fn salt_of(alloc: Global, name: &Name) -> Result<KerberosString, AllocError> {
+    name.salt(alloc, b"A.B")
+        .or_else(|_| name.salt(alloc, b"A.B"))
+}

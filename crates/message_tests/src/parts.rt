@@ -1,0 +1,202 @@
+//! What stands inside the OCTET STRINGs of messages (`krb_parts`).
+use krb_der::{DerFault, KTime};
+use krb_elements::{Fault, read};
+use krb_parts::{
+    Authenticator, EncApRepPart, EncKdcRepPartRef, EncTicketPart, EtypeInfo2EntryRef, PaEncTsEnc,
+    decode_authenticator, decode_enc_ap_rep_part, decode_enc_ticket_part, decode_pa_enc_ts_enc,
+    encode_pa_enc_ts_enc,
+};
+use std::alloc::{AllocError, Global};
+use std::test::Fail;
+
+// The octets are those of an encoder in Python, in hexadecimal.
+
+/// An EncTicketPart with each field.
+const TICKET: &[u8] =
+    b"6381d93081d6a00703050040c10000a12b3029a003020112a1220420000102030405060708090a0b0c0d0e0f101112131415\
+    161718191a1b1c1d1e1fa2051b03412e42a30e300ca003020101a10530031b0175a40b3009a003020101a1020400a511180f\
+    32303234303130313030303030305aa611180f32303234303130313030303130305aa711180f323032343031303131303030\
+    30305aa811180f32303234303130383030303030305aa911300f300da003020102a10604040a000001aa1b3019300ba00302\
+    0101a10404023000300aa0030201ffa103040178";
+
+/// An EncTicketPart with no field that may be absent.
+const LEAST_TICKET: &[u8] =
+    b"63723070a00703050000400000a11b3019a003020111a1120410000102030405060708090a0b0c0d0e0fa2051b03412e42a3\
+    0e300ca003020101a10530031b0175a40b3009a003020101a1020400a511180f32303234303130313030303030305aa71118\
+    0f32303234303130313130303030305a";
+
+/// An Authenticator with each field.
+const AUTHENTICATOR: &[u8] =
+    b"628180307ea003020105a1051b03412e42a20e300ca003020101a10530031b0175a30e300ca003020110a1050403010203a4\
+    03020107a511180f32303234303130313030303030305aa62b3029a003020112a1220420000102030405060708090a0b0c0d\
+    0e0f101112131415161718191a1b1c1d1e1fa707020500ffffffffa8023000";
+
+/// An Authenticator of version 4.
+const VERSION_4: &[u8] =
+    b"62363034a003020104a1051b03412e42a20e300ca003020101a10530031b0175a403020107a511180f323032343031303130\
+    30303030305a";
+
+/// An EncKDCRepPart with each field, without its tag.
+const REPLY: &[u8] =
+    b"3081eca02b3029a003020112a1220420000102030405060708090a0b0c0d0e0f101112131415161718191a1b1c1d1e1fa11c\
+    301a3018a003020100a111180f32303234303130313030303030305aa2030201ffa311180f32303235303130313030303030\
+    305aa40703050000400000a511180f32303234303130313030303030305aa611180f32303234303130313030303130305aa7\
+    11180f32303234303130313130303030305aa811180f32303234303130383030303030305aa9051b03412e42aa183016a003\
+    020102a10f300d1b066b72627467741b03412e42ab11300f300da003020102a10604040a000001";
+
+/// A PA-ENC-TS-ENC.
+const TIMESTAMP: &[u8] = b"301aa011180f32303234303130313030303030305aa10502030f423f";
+
+/// An EncAPRepPart with each field.
+const AP_REPLY: &[u8] =
+    b"7b4c304aa011180f32303234303130313030303030305aa103020107a22b3029a003020112a1220420000102030405060708\
+    090a0b0c0d0e0f101112131415161718191a1b1c1d1e1fa303020101";
+
+/// An ETYPE-INFO2-ENTRY with each field.
+const ETYPE_INFO2_ENTRY: &[u8] = b"3015a003020112a1061b04412e4275a206040400001000";
+
+fn octets(alloc: Global, digits: &[u8]) -> Result<Vec<u8>, Fail> {
+    Ok(hex::decode(alloc, digits)?)
+}
+
+/// 2024-01-01 00:00:00.
+const MIDNIGHT: i64 = 1_704_067_200;
+
+fn is_at(time: KTime, later: i64) -> bool {
+    time.seconds().wrapping_sub(MIDNIGHT) == later
+}
+
+fn was_sent_at(time: Option<KTime>, later: i64) -> bool {
+    time.is_some_and(|time| is_at(time, later))
+}
+
+fn ticket_part(alloc: Global, digits: &[u8]) -> Result<EncTicketPart, Fail> {
+    Ok(decode_enc_ticket_part(alloc, &octets(alloc, digits)?)?)
+}
+
+/// The start, the end and the bound of renewals are 60, 36,000 and 604,800 seconds after the first ticket.
+fn has_times(part: &EncTicketPart) -> bool {
+    is_at(part.authtime, 0)
+        && was_sent_at(part.starttime, 60)
+        && is_at(part.endtime, 36_000)
+        && was_sent_at(part.renew_till, 604_800)
+}
+
+fn has_lists(part: &EncTicketPart) -> bool {
+    part.caddr.as_ref().is_some_and(|list| list.len() == 1)
+        && part
+            .authorization_data
+            .as_ref()
+            .is_some_and(|list| list.len() == 2)
+}
+
+#[test]
+fn parts_of_tickets_are_read(rt: HostRuntime) -> Result<(), Fail> {
+    let part = ticket_part(rt.alloc(), TICKET)?;
+    assert_eq!(rt; part.flags.bits(), 0x40c1_0000);
+    assert_eq!(rt; (part.key.number, part.transited.number), (18, 1));
+    assert_eq!(rt; part.key.octets.as_slice().len(), 32);
+    assert_eq!(rt; part.crealm.as_slice(), b"A.B".as_slice());
+    assert!(rt; has_times(&part));
+    assert!(rt; has_lists(&part));
+    Ok(())
+}
+
+#[test]
+fn what_may_be_absent_is_absent(rt: HostRuntime) -> Result<(), Fail> {
+    let part = ticket_part(rt.alloc(), LEAST_TICKET)?;
+    assert!(rt; part.starttime.is_none() && part.renew_till.is_none());
+    assert!(rt; part.caddr.is_none() && part.authorization_data.is_none());
+    Ok(())
+}
+
+fn authenticator(alloc: Global, digits: &[u8]) -> Result<Authenticator, Fail> {
+    Ok(decode_authenticator(alloc, &octets(alloc, digits)?)?)
+}
+
+#[test]
+fn authenticators_are_read(rt: HostRuntime) -> Result<(), Fail> {
+    let found = authenticator(rt.alloc(), AUTHENTICATOR)?;
+    assert!(rt; is_at(found.ctime, 0));
+    assert_eq!(rt; found.cusec.get(), 7);
+    assert!(rt; found.cksum.is_some_and(|sum| sum.number == 16));
+    assert!(rt; found.subkey.is_some_and(|key| key.number == 18));
+    assert!(rt; found.seq_number.is_some_and(|n| n.get() == 4_294_967_295));
+    assert!(rt; found.authorization_data.is_some_and(|list| list.is_empty()));
+    Ok(())
+}
+
+#[test]
+fn authenticators_have_version_5(rt: HostRuntime) -> Result<(), Fail> {
+    let alloc = rt.alloc();
+    let octets = octets(alloc, VERSION_4)?;
+    let fault = decode_authenticator(alloc, &octets).err();
+    assert_eq!(rt; fault, Some(Fault::Der(DerFault::BadInteger)));
+    Ok(())
+}
+
+fn reply_part(octets: &[u8]) -> Result<EncKdcRepPartRef<'_>, Fail> {
+    Ok(read(octets)?)
+}
+
+#[test]
+fn parts_of_replies_are_read_where_they_stand(rt: HostRuntime) -> Result<(), Fail> {
+    let reply = octets(rt.alloc(), REPLY)?;
+    let part = reply_part(&reply)?;
+    assert_eq!(rt; (part.key.number, part.nonce.get()), (18, -1));
+    let last = part.last_req.iter().next().ok_or("an entry")?;
+    assert!(rt; last.lr_type == 0 && is_at(last.lr_value, 0));
+    assert!(rt; was_sent_at(part.key_expiration, 31_622_400));
+    assert_eq!(rt; part.srealm.as_slice(), b"A.B".as_slice());
+    assert_eq!(rt; part.sname.name_type, 2);
+    Ok(())
+}
+
+fn service_answer(alloc: Global, digits: &[u8]) -> Result<EncApRepPart, Fail> {
+    Ok(decode_enc_ap_rep_part(alloc, &octets(alloc, digits)?)?)
+}
+
+#[test]
+fn a_service_s_answer_is_read(rt: HostRuntime) -> Result<(), Fail> {
+    let part = service_answer(rt.alloc(), AP_REPLY)?;
+    assert!(rt; is_at(part.ctime, 0) && part.cusec.get() == 7);
+    assert!(rt; part.subkey.is_some_and(|key| key.number == 18));
+    assert!(rt; part.seq_number.is_some_and(|n| n.get() == 1));
+    Ok(())
+}
+
+fn etype_info2_entry(octets: &[u8]) -> Result<EtypeInfo2EntryRef<'_>, Fail> {
+    Ok(read(octets)?)
+}
+
+#[test]
+fn entries_of_etype_info2_are_read(rt: HostRuntime) -> Result<(), Fail> {
+    let octets = octets(rt.alloc(), ETYPE_INFO2_ENTRY)?;
+    let entry = etype_info2_entry(&octets)?;
+    assert_eq!(rt; entry.etype, 18);
+    let salt = entry.salt.ok_or("a salt")?;
+    assert_eq!(rt; salt.as_slice(), b"A.Bu".as_slice());
+    let count = entry.s2kparams.ok_or("a count")?;
+    assert_eq!(rt; count.as_slice(), [0, 0, 16, 0].as_slice());
+    Ok(())
+}
+
+fn timestamp(alloc: Global, octets: &[u8]) -> Result<PaEncTsEnc, Fail> {
+    Ok(decode_pa_enc_ts_enc(alloc, octets)?)
+}
+
+#[tactic(auto, using(krb_parts::specs::PaEncTsEnc::pa_enc_ts_enc_short))]
+fn written_timestamp(alloc: Global, part: &PaEncTsEnc) -> Result<Vec<u8>, AllocError> {
+    encode_pa_enc_ts_enc(alloc, part)
+}
+
+#[test]
+fn timestamps_are_read_and_written(rt: HostRuntime) -> Result<(), Fail> {
+    let alloc = rt.alloc();
+    let octets = octets(alloc, TIMESTAMP)?;
+    let part = timestamp(alloc, &octets)?;
+    assert!(rt; is_at(part.patimestamp, 0));
+    assert!(rt; part.pausec.is_some_and(|n| n.get() == 999_999));
+    assert_eq!(rt; written_timestamp(alloc, &part)?, octets);
+    Ok(())
+}

@@ -1,0 +1,360 @@
+//! Whole messages (`krb_types`).
+ghost use Rattle.std.specs.Prelude.{◌<◌, length};
+
+use krb_der::{DerFault, KTime};
+use krb_elements::Fault;
+use krb_fields::NameRef;
+use krb_types::{
+    Exchange, KdcReqRef, KrbError, ReqBodyRef, TicketRef, decode_kdc_req, decode_krb_error,
+    encode_kdc_req, encode_krb_error, read_kdc_req,
+};
+use std::alloc::Global;
+use std::test::Fail;
+
+// pyasn1 gives these octets of the types of RFC 4120, sections 5.3, 5.4.1 and 5.9.1.
+
+/// The AS-REQ of `u` for `krbtgt/A.B`.
+const AS_REQ: &[u8; 107] = b"\x6a\x69\x30\x67\
+    \xa1\x03\x02\x01\x05\
+    \xa2\x03\x02\x01\x0a\
+    \xa4\x5b\x30\x59\
+    \xa0\x07\x03\x05\x00\x00\x00\x00\x00\
+    \xa1\x0e\x30\x0c\xa0\x03\x02\x01\x01\xa1\x05\x30\x03\x1b\x01u\
+    \xa2\x05\x1b\x03A.B\
+    \xa3\x18\x30\x16\xa0\x03\x02\x01\x02\xa1\x0f\x30\x0d\x1b\x06krbtgt\x1b\x03A.B\
+    \xa5\x11\x18\x0f19700101000000Z\
+    \xa7\x03\x02\x01\x01\
+    \xa8\x05\x30\x03\x02\x01\x12";
+
+/// A TGS-REQ with each field but the client's name.
+const TGS_REQ: &[u8; 252] = b"\x6c\x81\xf9\x30\x81\xf6\
+    \xa1\x03\x02\x01\x05\
+    \xa2\x03\x02\x01\x0c\
+    \xa3\x0f\x30\x0d\x30\x0b\xa1\x03\x02\x01\x01\xa2\x04\x04\x02\x01\x02\
+    \xa4\x81\xd8\x30\x81\xd5\
+    \xa0\x07\x03\x05\x00\x40\x81\x00\x10\
+    \xa2\x05\x1b\x03A.B\
+    \xa3\x14\x30\x12\xa0\x03\x02\x01\x03\xa1\x0b\x30\x09\x1b\x04host\x1b\x01b\
+    \xa4\x11\x18\x0f20240101000000Z\
+    \xa5\x11\x18\x0f20240102000000Z\
+    \xa6\x11\x18\x0f20240103000000Z\
+    \xa7\x07\x02\x05\x00\x80\x00\x00\x00\
+    \xa8\x08\x30\x06\x02\x01\x12\x02\x01\x11\
+    \xa9\x11\x30\x0f\x30\x0d\xa0\x03\x02\x01\x02\xa1\x06\x04\x04\x0a\x00\x00\x01\
+    \xaa\x0d\x30\x0b\xa0\x03\x02\x01\x12\xa2\x04\x04\x02\x03\x04\
+    \xab\x3f\x30\x3d\x61\x3b\x30\x39\xa0\x03\x02\x01\x05\xa1\x05\x1b\x03A.B\
+    \xa2\x18\x30\x16\xa0\x03\x02\x01\x02\xa1\x0f\x30\x0d\x1b\x06krbtgt\x1b\x03A.B\
+    \xa3\x11\x30\x0f\xa0\x03\x02\x01\x11\xa1\x03\x02\x01\x07\xa2\x03\x04\x01\x05";
+
+/// An error with no field that may be absent.
+const SHORT_ERROR: &[u8; 76] = b"\x7e\x4a\x30\x48\
+    \xa0\x03\x02\x01\x05\
+    \xa1\x03\x02\x01\x1e\
+    \xa4\x11\x18\x0f20240101000000Z\
+    \xa5\x03\x02\x01\x00\
+    \xa6\x03\x02\x01\x06\
+    \xa9\x05\x1b\x03A.B\
+    \xaa\x18\x30\x16\xa0\x03\x02\x01\x02\xa1\x0f\x30\x0d\x1b\x06krbtgt\x1b\x03A.B";
+
+/// An error with each field.
+const LONG_ERROR: &[u8; 137] = b"\x7e\x81\x86\x30\x81\x83\
+    \xa0\x03\x02\x01\x05\
+    \xa1\x03\x02\x01\x1e\
+    \xa2\x11\x18\x0f20231231235959Z\
+    \xa3\x05\x02\x03\x0f\x42\x3f\
+    \xa4\x11\x18\x0f20240101000000Z\
+    \xa5\x03\x02\x01\x01\
+    \xa6\x03\x02\x01\x19\
+    \xa7\x03\x1b\x01C\
+    \xa8\x0e\x30\x0c\xa0\x03\x02\x01\x01\xa1\x05\x30\x03\x1b\x01u\
+    \xa9\x05\x1b\x03A.B\
+    \xaa\x18\x30\x16\xa0\x03\x02\x01\x02\xa1\x0f\x30\x0d\x1b\x06krbtgt\x1b\x03A.B\
+    \xab\x04\x1b\x02no\
+    \xac\x04\x04\x02\x30\x00";
+
+/// Whether the name has this name type and these components.
+fn is_name(name: &NameRef<'_>, name_type: i32, components: &[&[u8]]) -> bool {
+    let mut found = name.components.iter();
+    for component in components {
+        let Some(next) = found.next() else {
+            return false;
+        };
+        if next.as_slice() != *component {
+            return false;
+        }
+    }
+    name.name_type == name_type && found.next().is_none()
+}
+
+fn has_name(name: &Option<NameRef<'_>>, name_type: i32, components: &[&[u8]]) -> bool {
+    match name {
+        Some(name) => is_name(name, name_type, components),
+        None => false,
+    }
+}
+
+fn is_at(time: Option<KTime>, seconds: i64) -> bool {
+    time.is_some_and(|time| time.seconds() == seconds)
+}
+
+fn request(octets: &[u8]) -> Result<(Exchange, KdcReqRef<'_>), Fail> {
+    Ok(read_kdc_req(octets)?)
+}
+
+fn has_no_optional_field(body: &ReqBodyRef<'_>) -> bool {
+    body.from.is_none()
+        && body.rtime.is_none()
+        && body.addresses.is_none()
+        && body.enc_authorization_data.is_none()
+        && body.additional_tickets.is_none()
+}
+
+/// Whether these are the encryption types that are asked for.
+fn asks_for(body: &ReqBodyRef<'_>, etypes: &[i32]) -> bool {
+    let mut found = body.etype.iter();
+    for etype in etypes {
+        if found.next() != Some(*etype) {
+            return false;
+        }
+    }
+    found.next().is_none()
+}
+
+/// Reading takes no allocator, so no test has to refuse it memory.
+#[test]
+fn requests_are_read(rt: HostRuntime) -> Result<(), Fail> {
+    let octets = AS_REQ.as_slice();
+    let (exchange, request) = request(octets)?;
+    assert_eq!(rt; exchange, Exchange::As);
+    assert_eq!(rt; (request.pvno, request.msg_type), (5, 10));
+    assert!(rt; request.padata.is_none());
+    assert_eq!(rt; request.body.octets, &octets[16..]);
+    Ok(())
+}
+
+#[test]
+fn bodies_of_requests_are_read(rt: HostRuntime) -> Result<(), Fail> {
+    let (_, request) = request(AS_REQ)?;
+    let body = &request.body.value;
+    assert_eq!(rt; body.kdc_options.bits(), 0);
+    assert!(rt; has_name(&body.cname, 1, &[b"u"]));
+    assert_eq!(rt; body.realm.as_slice(), b"A.B".as_slice());
+    assert!(rt; has_name(&body.sname, 2, &[b"krbtgt", b"A.B"]));
+    assert_eq!(rt; (body.till.seconds(), body.nonce.get()), (0, 1));
+    assert!(rt; asks_for(body, &[18]));
+    assert!(rt; has_no_optional_field(body));
+    Ok(())
+}
+
+/// Whether the request has this element of data alone.
+fn has_data(request: &KdcReqRef<'_>, padata_type: i32, value: &[u8]) -> bool {
+    let Some(padata) = &request.padata else {
+        return false;
+    };
+    let mut padata = padata.iter();
+    let Some(data) = padata.next() else {
+        return false;
+    };
+    data.padata_type == padata_type
+        && data.padata_value.as_slice() == value
+        && padata.next().is_none()
+}
+
+#[test]
+fn requests_with_data_are_read(rt: HostRuntime) -> Result<(), Fail> {
+    let (exchange, request) = request(TGS_REQ)?;
+    assert_eq!(rt; exchange, Exchange::Tgs);
+    assert_eq!(rt; (request.pvno, request.msg_type), (5, 12));
+    assert!(rt; has_data(&request, 1, &[1, 2]));
+    Ok(())
+}
+
+/// The seconds are those of Python's datetime.
+#[test]
+fn numbers_and_times_are_read(rt: HostRuntime) -> Result<(), Fail> {
+    let (_, request) = request(TGS_REQ)?;
+    let body = &request.body.value;
+    assert_eq!(rt; body.kdc_options.bits(), 0x4081_0010);
+    assert!(rt; body.cname.is_none());
+    assert!(rt; has_name(&body.sname, 3, &[b"host", b"b"]));
+    assert!(rt; is_at(body.from, 1_704_067_200));
+    assert_eq!(rt; body.till.seconds(), 1_704_153_600);
+    assert!(rt; is_at(body.rtime, 1_704_240_000));
+    assert_eq!(rt; body.nonce.get(), 2_147_483_648);
+    assert!(rt; asks_for(body, &[18, 17]));
+    Ok(())
+}
+
+/// Whether this is the first address.
+fn has_address(body: &ReqBodyRef<'_>, number: i32, octets: &[u8]) -> bool {
+    let Some(addresses) = &body.addresses else {
+        return false;
+    };
+    let Some(address) = addresses.iter().next() else {
+        return false;
+    };
+    address.number == number && address.octets.as_slice() == octets
+}
+
+/// Whether there is sealed authorization-data with this cipher.
+fn has_sealed_data(body: &ReqBodyRef<'_>, cipher: &[u8]) -> bool {
+    match &body.enc_authorization_data {
+        Some(sealed) => sealed.cipher.as_slice() == cipher,
+        None => false,
+    }
+}
+
+/// Whether there is one ticket, of `krbtgt/A.B` in `A.B`, whose cipher is the octet 5.
+fn has_ticket(body: &ReqBodyRef<'_>) -> bool {
+    let Some(tickets) = &body.additional_tickets else {
+        return false;
+    };
+    let mut tickets = tickets.iter();
+    let Some(ticket) = tickets.next() else {
+        return false;
+    };
+    is_ticket(&ticket) && tickets.next().is_none()
+}
+
+fn is_ticket(ticket: &TicketRef<'_>) -> bool {
+    ticket.tkt_vno == 5
+        && ticket.realm.as_slice() == b"A.B".as_slice()
+        && is_name(&ticket.sname, 2, &[b"krbtgt", b"A.B"])
+        && ticket.enc_part.cipher.as_slice() == [5].as_slice()
+}
+
+#[test]
+fn parts_of_requests_are_read(rt: HostRuntime) -> Result<(), Fail> {
+    let (_, request) = request(TGS_REQ)?;
+    let body = &request.body.value;
+    assert!(rt; has_address(body, 2, &[10, 0, 0, 1]));
+    assert!(rt; has_sealed_data(body, &[3, 4]));
+    assert!(rt; has_ticket(body));
+    Ok(())
+}
+
+/// The order of faults: no octet, tag, length, contents cut, contents, what follows.
+#[test]
+fn faults_are_told_apart(rt: HostRuntime) {
+    let octets = AS_REQ.as_slice();
+    let mut followed = [0; 108];
+    followed[..107].copy_from_slice(octets);
+    let mut long_length = [0x81; 108];
+    long_length[0] = 0x6a;
+    long_length[2..].copy_from_slice(&octets[1..]);
+    let faults: [(&[u8], DerFault); 6] = [
+        (&[], DerFault::Truncated),
+        (&[0x6a], DerFault::Truncated),
+        (&[0x6b], DerFault::BadTag),
+        (&octets[..106], DerFault::Truncated),
+        (&followed, DerFault::Trailing),
+        (&long_length, DerFault::BadLength),
+    ];
+    for (faulty, fault) in faults {
+        assert_eq!(rt; read_kdc_req(faulty).err(), Some(fault));
+    }
+    for len in 0..107 {
+        let read = read_kdc_req(&octets[..len]);
+        assert_eq!(rt; read.err(), Some(DerFault::Truncated), "at {len}");
+    }
+}
+
+/// What is written of the request that the octets spell.
+fn request_again(alloc: Global, octets: &[u8]) -> Result<Vec<u8>, Fault>
+    requires { length octets.now < 1000 }
+{
+    let found = decode_kdc_req(alloc, octets)?;
+    Ok(encode_kdc_req(alloc, found.0, &found.1)?)
+}
+
+/// What is written of the error that the octets spell.
+#[tactic(auto, using(krb_elements::specs::WrittenLaws::tlv_longer))]
+fn error_again(alloc: Global, octets: &[u8]) -> Result<Vec<u8>, Fault>
+    requires { length octets.now < 1000 }
+{
+    let error = decode_krb_error(alloc, octets)?;
+    Ok(encode_krb_error(alloc, &error)?)
+}
+
+#[test]
+fn requests_are_written(rt: HostRuntime) -> Result<(), Fail> {
+    let alloc = rt.alloc();
+    let mut tgs = *AS_REQ;
+    tgs[0] = 0x6c;
+    tgs[13] = 12;
+    let requests: [&[u8]; 3] = [AS_REQ, TGS_REQ, &tgs];
+    for octets in requests {
+        assert!(rt; octets.len() < 1000);
+        assert_eq!(rt; request_again(alloc, octets)?.as_slice(), octets);
+    }
+    Ok(())
+}
+
+#[test]
+fn errors_are_written(rt: HostRuntime) -> Result<(), Fail> {
+    let alloc = rt.alloc();
+    let errors: [&[u8]; 2] = [SHORT_ERROR, LONG_ERROR];
+    for octets in errors {
+        assert!(rt; octets.len() < 1000);
+        assert_eq!(rt; error_again(alloc, octets)?.as_slice(), octets);
+    }
+    Ok(())
+}
+
+fn error(alloc: Global, octets: &[u8]) -> Result<KrbError, Fault> {
+    decode_krb_error(alloc, octets)
+}
+
+#[test]
+fn errors_are_read(rt: HostRuntime) -> Result<(), Fail> {
+    let error = error(rt.alloc(), LONG_ERROR)?;
+    assert!(rt; is_at(error.ctime, 1_704_067_199));
+    assert!(rt; error.cusec.is_some_and(|n| n.get() == 999_999));
+    assert_eq!(rt;
+        (error.stime.seconds(), error.susec.get()),
+        (1_704_067_200, 1)
+    );
+    assert_eq!(rt; error.error_code, 25);
+    let text = error.e_text.ok_or("a text")?;
+    assert_eq!(rt; text.as_slice(), b"no".as_slice());
+    let data = error.e_data.ok_or("data")?;
+    assert_eq!(rt; data.as_slice(), [0x30, 0].as_slice());
+    Ok(())
+}
+
+#[test]
+fn errors_have_version_5(rt: HostRuntime) {
+    let mut version_4 = *SHORT_ERROR;
+    version_4[8] = 4;
+    let fault = error(rt.alloc(), &version_4).err();
+    assert_eq!(rt; fault, Some(Fault::Der(DerFault::BadInteger)));
+}
+
+/// One allocation may be refused, by `rt try --test --fail-alloc N`: the answer is then want of
+/// memory and nothing else, and the next call succeeds.
+#[test]
+fn want_of_memory_for_a_request_is_answered(rt: HostRuntime) -> Result<(), Fail> {
+    let written = match request_again(rt.alloc(), AS_REQ) {
+        Ok(written) => written,
+        Err(fault) => {
+            assert_eq!(rt; fault, Fault::Memory);
+            request_again(rt.alloc(), AS_REQ)?
+        }
+    };
+    assert_eq!(rt; written.as_slice(), AS_REQ.as_slice());
+    Ok(())
+}
+
+/// As above.
+#[test]
+fn want_of_memory_for_an_error_is_answered(rt: HostRuntime) -> Result<(), Fail> {
+    let written = match error_again(rt.alloc(), LONG_ERROR) {
+        Ok(written) => written,
+        Err(fault) => {
+            assert_eq!(rt; fault, Fault::Memory);
+            error_again(rt.alloc(), LONG_ERROR)?
+        }
+    };
+    assert_eq!(rt; written.as_slice(), LONG_ERROR.as_slice());
+    Ok(())
+}

@@ -1,0 +1,70 @@
+//! The text of a database (`principals`).
+use principals::{Database, ReadFault};
+use std::alloc::{AllocError, Global};
+use std::test::Fail;
+
+const VERSION_1: &str =
+    "{\"principals\":{\"krbtgt/A.B\":{\"disabled\":false,\"expires\":null,\"forwardable\":true,\"greatest_life\":4294967295,\"greatest_renewable\":4294967295,\"keys\":[{\"keys\":[{\"etype\":17,\"key\":\"000102030405060708090a0b0c0d0e0f\"}],\"version\":1}],\"ok_as_delegate\":false,\"password_expires\":null,\"postdate\":false,\"preauth\":true,\"proxiable\":true}},\"realm\":\"A.B\",\"version\":1}";
+
+const VERSION_2: &str =
+    "{\"principals\":{\"krbtgt/A.B\":{\"disabled\":false,\"expires\":null,\"forwardable\":true,\"greatest_life\":4294967295,\"greatest_renewable\":4294967295,\"keys\":[{\"keys\":[{\"etype\":17,\"key\":\"000102030405060708090a0b0c0d0e0f\"}],\"version\":1}],\"ok_as_delegate\":false,\"password_expires\":null,\"postdate\":false,\"preauth\":true,\"proxiable\":true,\"revoked_before\":null}},\"realm\":\"A.B\",\"version\":2}";
+
+#[test]
+fn a_text_is_read_and_written_in_version_2(rt: HostRuntime) -> Result<(), Fail> {
+    for text in [VERSION_1, VERSION_2] {
+        let database = read(rt.alloc(), text)?;
+        assert!(rt; database.len() == 1);
+        assert!(rt; is_written_as(rt.alloc(), &database, VERSION_2)?);
+        let copy = database.copy(rt.alloc())?;
+        assert!(rt; is_written_as(rt.alloc(), &copy, VERSION_2)?);
+    }
+    Ok(())
+}
+
+fn read(alloc: Global, text: &str) -> Result<Database, Fail> {
+    Ok(Database::read(alloc, text)?)
+}
+
+fn is_written_as(alloc: Global, database: &Database, text: &str) -> Result<bool, AllocError> {
+    Ok(database.write(alloc)?.as_str() == text)
+}
+
+fn is_refused(alloc: Global, text: &str, fault: ReadFault) -> bool {
+    Database::read(alloc, text).is_err_and(|found| found == fault)
+}
+
+#[test]
+fn a_text_is_refused_by_its_first_fault(rt: HostRuntime) -> Result<(), AllocError> {
+    let alloc = rt.alloc();
+    for (old, new, fault) in [
+        ("\"version\":2}", "\"version\":3}", ReadFault::BadVersion),
+        ("\"version\":2}", "\"version\":2.0}", ReadFault::BadVersion),
+        (",\"version\":2}", "}", ReadFault::BadVersion),
+        ("\"version\":2}", "\"version\":1}", ReadFault::BadRow),
+        ("krbtgt/A.B", "krbtgt/A.C", ReadFault::NoTicketGranter),
+        ("krbtgt/A.B", "krbtgt/", ReadFault::BadRow),
+        ("\"A.B\"", "\"A/B\"", ReadFault::BadRow),
+        ("null", "253402300800", ReadFault::BadRow),
+        ("4294967295", "4294967296", ReadFault::BadRow),
+        ("\"version\":1", "\"version\":0", ReadFault::BadRow),
+        ("\"etype\":17", "\"etype\":18", ReadFault::BadRow),
+        ("0f\"", "0g\"", ReadFault::BadRow),
+        ("true,", "true,\"a\":1,", ReadFault::BadRow),
+        ("{\"principals\"", "[{\"principals\"", ReadFault::NotJson),
+    ] {
+        let text = VERSION_2.replace(alloc, old, new)?;
+        assert!(rt; is_refused(alloc, text.as_str(), fault), "{old} {new}");
+    }
+    assert!(rt; is_refused(alloc, "[]", ReadFault::NotJson));
+    Ok(())
+}
+
+#[test]
+fn every_front_of_a_text_is_no_json(rt: HostRuntime) {
+    let alloc = rt.alloc();
+    for end in 0..VERSION_2.len() {
+        if let Some(front) = VERSION_2.get(..end) {
+            assert!(rt; is_refused(alloc, front, ReadFault::NotJson), "{end}");
+        }
+    }
+}

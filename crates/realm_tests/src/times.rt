@@ -1,0 +1,190 @@
+//! The times and flags of tickets (`ticket_times`).
+use krb_der::KTime;
+use krb_elements::read;
+use krb_fields::{Code, Flags, Moment};
+use krb_types::ReqBodyRef;
+use principal_rows::{Limits, Policy};
+use std::test::Fail;
+use ticket_times::{TicketTerms, Times, as_flags, as_times, tgs_flags, tgs_times};
+
+/// 2024-01-01 00:00:00.
+const MIDNIGHT: i64 = 1_704_067_200;
+
+/// A body without cname, from, sname and rtime: no option, till zero.
+const BODY: &[u8; 49] = b"\x30\x2f\
+    \xa0\x07\x03\x05\x00\x00\x00\x00\x00\
+    \xa2\x05\x1b\x03A.B\
+    \xa5\x11\x18\x0f19700101000000Z\
+    \xa7\x03\x02\x01\x01\
+    \xa8\x05\x30\x03\x02\x01\x12";
+
+/// A body like it, with a `from` an hour after midnight.
+const BODY_FROM: &[u8; 68] = b"\x30\x42\
+    \xa0\x07\x03\x05\x00\x00\x00\x00\x00\
+    \xa2\x05\x1b\x03A.B\
+    \xa4\x11\x18\x0f20240101010000Z\
+    \xa5\x11\x18\x0f19700101000000Z\
+    \xa7\x03\x02\x01\x01\
+    \xa8\x05\x30\x03\x02\x01\x12";
+
+const NO_BOUND: &[u8; 15] = b"19700101000000Z";
+
+const THAT_DAY: &[u8; 15] = b"20240101000000Z";
+
+const NEXT_DAY: &[u8; 15] = b"20240102000000Z";
+
+const POSTDATED: u32 = 0x0600_0000;
+
+const RENEWABLE_OK: u32 = 0x10;
+
+const RENEW: u32 = 0x2;
+
+const VALIDATE: u32 = 0x1;
+
+fn body(options: u32, till: &[u8; 15]) -> [u8; 49] {
+    let mut body = *BODY;
+    body[7..11].copy_from_slice(&options.to_be_bytes());
+    body[22..37].copy_from_slice(till);
+    body
+}
+
+fn body_from(options: u32) -> [u8; 68] {
+    let mut body = *BODY_FROM;
+    body[7..11].copy_from_slice(&options.to_be_bytes());
+    body
+}
+
+fn body_of(octets: &[u8]) -> Result<ReqBodyRef<'_>, Fail> {
+    Ok(read(octets)?)
+}
+
+fn time(seconds: i64) -> Result<KTime, Fail> {
+    Ok(KTime::new(seconds).ok_or("a time")?)
+}
+
+/// The times and flags by the AS exchange at midnight, with lives of 36,000 seconds.
+fn granted(octets: &[u8], renewable: u32) -> Result<Result<(Times, Flags), Code>, Fail> {
+    let policy = Policy::default();
+    let limits = Limits::new(64, 0, 0, 36_000, renewable).ok_or("limits")?;
+    let at = Moment::new(MIDNIGHT, 0).ok_or("a moment")?;
+    let body = body_of(octets)?;
+    Ok(match as_times(at, &policy, &policy, &limits, &body) {
+        Ok(times) => Ok((times, as_flags(&body, &policy, &policy, false, &times))),
+        Err(code) => Err(code),
+    })
+}
+
+#[test]
+fn a_ticket_lives_as_long_as_the_realm_allows(rt: HostRuntime) -> Result<(), Fail> {
+    let times = Times {
+        start: time(MIDNIGHT)?,
+        end: time(MIDNIGHT + 36_000)?,
+        renew_till: None,
+    };
+    let initial = Flags::from_bits(0x0040_0000);
+    assert!(rt; granted(&body(0, NO_BOUND), 0)? == Ok((times, initial)));
+    assert!(rt; granted(&body(RENEWABLE_OK, NO_BOUND), 0)? == Ok((times, initial)));
+    Ok(())
+}
+
+#[test]
+fn a_ticket_that_ends_early_is_renewable(rt: HostRuntime) -> Result<(), Fail> {
+    let times = Times {
+        start: time(MIDNIGHT)?,
+        end: time(MIDNIGHT + 36_000)?,
+        renew_till: Some(time(MIDNIGHT + 86_400)?),
+    };
+    let flags = Flags::from_bits(0x00c0_0000);
+    assert!(rt; granted(&body(RENEWABLE_OK, NEXT_DAY), 604_800)? == Ok((times, flags)));
+    Ok(())
+}
+
+#[test]
+fn a_later_start_is_for_postdated_tickets_and_an_early_end_for_none(
+    rt: HostRuntime,
+) -> Result<(), Fail> {
+    let times = Times {
+        start: time(MIDNIGHT + 3_600)?,
+        end: time(MIDNIGHT + 39_600)?,
+        renew_till: None,
+    };
+    let flags = Flags::from_bits(0x0740_0000);
+    assert!(rt; granted(&body_from(POSTDATED), 0)? == Ok((times, flags)));
+    assert!(rt; granted(&body_from(0), 0)? == Err(Code::KdcErrCannotPostdate));
+    assert!(rt; granted(&body(0, THAT_DAY), 0)? == Err(Code::KdcErrNeverValid));
+    Ok(())
+}
+
+/// A ticket of midnight that is renewable until the next day.
+fn renewable_ticket() -> Result<TicketTerms, Fail> {
+    Ok(TicketTerms {
+        flags: Flags::from_bits(0x00c0_0000),
+        authtime: time(MIDNIGHT)?,
+        starttime: Some(time(MIDNIGHT)?),
+        endtime: time(MIDNIGHT + 36_000)?,
+        renew_till: Some(time(MIDNIGHT + 86_400)?),
+    })
+}
+
+/// The times and flags by the TGS exchange, so many seconds after midnight.
+fn exchanged(
+    octets: &[u8],
+    ticket: &TicketTerms,
+    later: u32,
+) -> Result<Result<(Times, Flags), Code>, Fail> {
+    let policy = Policy::default();
+    let limits = Limits::new(64, 0, 0, 36_000, 0).ok_or("limits")?;
+    let at = Moment::new(MIDNIGHT + i64::from(later), 0).ok_or("a moment")?;
+    let body = body_of(octets)?;
+    Ok(
+        match tgs_times(at, ticket, &policy, &policy, &limits, &body) {
+            Ok(times) => Ok((times, tgs_flags(&body, ticket, &policy, &times))),
+            Err(code) => Err(code),
+        },
+    )
+}
+
+#[test]
+fn a_renewed_ticket_lives_as_long_again(rt: HostRuntime) -> Result<(), Fail> {
+    let times = Times {
+        start: time(MIDNIGHT + 36_300)?,
+        end: time(MIDNIGHT + 72_300)?,
+        renew_till: Some(time(MIDNIGHT + 86_400)?),
+    };
+    let flags = Flags::from_bits(0x0080_0000);
+    let ticket = renewable_ticket()?;
+    assert!(rt; exchanged(&body(RENEW, NO_BOUND), &ticket, 36_300)? == Ok((times, flags)));
+    Ok(())
+}
+
+#[test]
+fn a_validated_ticket_keeps_its_times(rt: HostRuntime) -> Result<(), Fail> {
+    let ticket = TicketTerms {
+        flags: Flags::from_bits(0x0740_0000),
+        authtime: time(MIDNIGHT)?,
+        starttime: Some(time(MIDNIGHT + 3_600)?),
+        endtime: time(MIDNIGHT + 39_600)?,
+        renew_till: None,
+    };
+    let times = Times {
+        start: time(MIDNIGHT + 3_600)?,
+        end: time(MIDNIGHT + 39_600)?,
+        renew_till: None,
+    };
+    let flags = Flags::from_bits(0x0600_0000);
+    assert!(rt; exchanged(&body(VALIDATE, NO_BOUND), &ticket, 3_600)? == Ok((times, flags)));
+    Ok(())
+}
+
+#[test]
+fn a_new_ticket_ends_with_the_old_one(rt: HostRuntime) -> Result<(), Fail> {
+    let ticket = renewable_ticket()?;
+    let times = Times {
+        start: time(MIDNIGHT + 35_000)?,
+        end: time(MIDNIGHT + 36_000)?,
+        renew_till: None,
+    };
+    let no_flags = Flags::from_bits(0);
+    assert!(rt; exchanged(&body(0, NO_BOUND), &ticket, 35_000)? == Ok((times, no_flags)));
+    Ok(())
+}
