@@ -1,0 +1,18 @@
+//! The administrator's tool: `kadm SUB --db FILE ..`, as `kadm --help` lists them.
+#![tactic(auto)]
+
+use kadm_run::{FAILED, FileStore, kadm_run};
+use std::process::ExitCode;
+use std::{env, io};
+
+fn main(rt: HostRuntime) -> ExitCode {
+    ExitCode::from(run(&rt).unwrap_or(FAILED))
+}
+
+/// The status of the program; an error is one of reading the words.
+fn run(rt: &HostRuntime) -> io::Result<u8> {
+    let alloc = rt.alloc();
+    let words: Vec<String> = env::args(rt)?.collect(alloc)?;
+    let mut store = FileStore::new(rt);
+    Ok(kadm_run(alloc, words.as_slice(), &mut store, rt.stdout()))
+}

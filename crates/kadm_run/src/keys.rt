@@ -1,0 +1,56 @@
+//! The keys that the tool makes: one of each encryption type, in one order of preference.
+ghost use Rattle.std.specs.Prelude.{◌≡◌, IfOk, map};
+ghost use Rattle.kadm_run.specs.Keys.{offered, password_key};
+ghost use Rattle.enctypes.specs.Etype.{key_len};
+ghost use Rattle.rand_core.specs.Stream.{fill_bytes};
+ghost use Rattle.std.specs.Prelude.{take};
+
+use enctypes::{Etype, Key, string_to_key};
+use principal_rows::{KeyList, KeyListFault};
+use rand_chacha::ChaCha20Rng;
+use rand_core::{Rng, SeedableRng};
+use std::alloc::{AllocError, Global};
+
+/// The keys of a password (RFC 3961, section 5, string-to-key) with this salt and the types' default counts, for types 18,
+/// 17, 20 and 19.
+pub fn password_keys(alloc: Global, pass: &[u8], salt: &[u8]) -> Result<KeyList, KeyListFault>
+    ensures { IfOk result (λ keys. keys ≡ map (password_key pass.now salt.now) offered) }
+{
+    let keys = [
+        password_key(alloc, Etype::Aes256CtsHmacSha1_96, pass, salt)?,
+        password_key(alloc, Etype::Aes128CtsHmacSha1_96, pass, salt)?,
+        password_key(alloc, Etype::Aes256CtsHmacSha384_192, pass, salt)?,
+        password_key(alloc, Etype::Aes128CtsHmacSha256_128, pass, salt)?,
+    ];
+    KeyList::new(alloc, &keys)
+}
+
+fn password_key(alloc: Global, etype: Etype, pass: &[u8], salt: &[u8]) -> Result<Key, AllocError>
+    ensures { IfOk result (λ key. key ≡ password_key pass.now salt.now etype) }
+{
+    string_to_key(alloc, etype, pass, salt, etype.default_count())
+}
+
+/// Random keys for types 18, 17, 20 and 19: for each 32 octets are drawn from ChaCha20 under the seed, and the first
+/// of them are the key.
+pub fn random_keys(alloc: Global, seed: [u8; 32]) -> Result<KeyList, KeyListFault>
+    ensures { IfOk result (λ keys. map (λ k. k.etype) keys ≡ offered) }
+{
+    let mut rng = ChaCha20Rng::from_seed(seed);
+    let keys = [
+        random_key(&mut rng, Etype::Aes256CtsHmacSha1_96),
+        random_key(&mut rng, Etype::Aes128CtsHmacSha1_96),
+        random_key(&mut rng, Etype::Aes256CtsHmacSha384_192),
+        random_key(&mut rng, Etype::Aes128CtsHmacSha256_128),
+    ];
+    KeyList::new(alloc, &keys)
+}
+
+fn random_key<R: Rng>(rng: &mut R, etype: Etype) -> Key
+    ensures key { result ≡ record { etype = etype; bytes = take (key_len etype) (fill_bytes 32 (R.stream rng.old)).0 } }
+    ensures drawn { R.stream rng.new ≡ (fill_bytes 32 (R.stream rng.old)).1 }
+{
+    let mut octets = [0; 32];
+    rng.fill_bytes(&mut octets);
+    Key::from_random(etype, &octets)
+}

@@ -1,0 +1,19 @@
+//! The administrator's tool: a realm's database is made, changed and listed, and keys of it go into keytabs.
+//!
+//! `kadm_run` takes the words of one command line and does what they say to the files of a `Store`.
+#![tactic(auto)]
+
+mod file_store;
+mod keys;
+mod order;
+mod run;
+mod setting;
+mod store;
+
+pub use file_store::FileStore;
+pub use keys::{password_keys, random_keys};
+pub use run::{DONE, FAILED, REFUSED, USAGE, kadm_run};
+pub use store::{LONGEST_FILE, Store};
+
+#[cfg(test)]
+mod tests;
