@@ -205,6 +205,15 @@ def measure_idle(server, what, seconds, request):
     print(f"  a datagram then: {summary(taken)}")
 
 
+def closed_connection(server):
+    """A connection that the server has closed, for a length of 2^31, and that its peer keeps open."""
+    connection = server.connect()
+    connection.sendall(b"\x80\0\0\0")
+    while connection.recv(65536):
+        pass
+    return connection
+
+
 class Asking(threading.Thread):
     """Asks good requests, in datagrams and over a connection of its own, as long as it is let."""
 
@@ -332,6 +341,10 @@ def main():
         for connection in idle:
             connection.close()
         time.sleep(0.5)
+        closed = [closed_connection(server) for _ in range(100)]
+        measure_idle(server, "100 connections that it closed and their peers keep open", words.idle, unknown)
+        for connection in closed:
+            connection.close()
         print(f"memory: {server.resident_kib()} KiB")
 
         asking = Asking(server, unknown)
