@@ -1,11 +1,14 @@
-//! Measures the cryptography and the reading of a request: `bench WORD` prints how many nanoseconds a call takes.
+//! Measures the cryptography, the reading of a request, and the text of a database: `bench WORD` prints how many
+//! nanoseconds a call takes.
 #![tactic(auto)]
 
 ghost use Rattle.std.specs.Prelude.{◌<◌};
 
 mod messages;
+mod rows;
 
 use crate::messages::read_request;
+use crate::rows::measure_rows;
 use aes_cts::AesKey;
 use enctypes::{Etype, Key, KeyUsage, open, seal, string_to_key};
 use prf_kdf::{pbkdf2_sha1, pbkdf2_sha384};
@@ -15,10 +18,10 @@ use std::time::Instant;
 use std::{env, io};
 
 const USAGE: &str =
-    "usage: bench block | cts | pbkdf2-sha1 | pbkdf2-sha384 | seal-TYPE | string-TYPE | read-request, for TYPE 17 to 20";
+    "usage: bench block | cts | pbkdf2-sha1 | pbkdf2-sha384 | seal-TYPE | string-TYPE | read-request | read-rows | write-rows, for TYPE 17 to 20";
 
 /// The status of a fault of the command line.
-const FAULT: u8 = 2;
+pub(crate) const FAULT: u8 = 2;
 
 /// What is measured.
 #[derive(Clone, Copy)]
@@ -118,11 +121,14 @@ pub(crate) fn last_of(octets: &[u8]) -> u8 {
 
 fn main(rt: HostRuntime) -> io::Result<ExitCode> {
     let words: Vec<String> = env::args(&rt)?.collect(rt.alloc())?;
-    let work = match words.as_slice() {
-        [_, word] => Work::named(word.as_str()),
-        _ => None,
+    let word = match words.as_slice() {
+        [_, word] => word.as_str(),
+        _ => "",
     };
-    let Some(work) = work else {
+    if word == "read-rows" || word == "write-rows" {
+        return measure_rows(&rt, word == "read-rows");
+    }
+    let Some(work) = Work::named(word) else {
         println!(rt; "{USAGE}")?;
         return Ok(if words.len() < 2 {
             ExitCode::SUCCESS
