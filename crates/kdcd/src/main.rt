@@ -19,7 +19,12 @@ use std::{env, io};
 const USAGE: u8 = 2;
 
 fn main(rt: HostRuntime) -> ExitCode {
-    ExitCode::from(run(&rt).unwrap_or(FAILED))
+    let Ok(status) = run(&rt) else {
+        // A failed write may be why, so this one may fail as well.
+        let _ = println!(rt; "failed");
+        return ExitCode::from(FAILED);
+    };
+    ExitCode::from(status)
 }
 
 /// The status of the program; an error is a failed write, or want of memory.
@@ -28,7 +33,9 @@ fn run(rt: &HostRuntime) -> io::Result<u8> {
     let words: Vec<String> = env::args(rt)?.collect(alloc)?;
     match parse(alloc, &words) {
         Ok(matches) => run_subcommand(rt, &matches),
-        Err(error) if error.kind() == ErrorKind::OutOfMemory => Ok(FAILED),
+        Err(error) if error.kind() == ErrorKind::OutOfMemory => {
+            Err(io::Error::from(io::ErrorKind::OutOfMemory))
+        }
         Err(error) => {
             print!(rt; "{error}")?;
             Ok(if error.exit_code() == 0 { 0 } else { USAGE })

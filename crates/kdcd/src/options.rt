@@ -22,11 +22,11 @@ pub struct ServeOptions<'a> {
 const ABOUT: &str = "Serves a realm over UDP and TCP";
 
 const AFTER_HELP: &str = "\
-A round takes one event: a datagram, a new connection, a piece of what comes on one, or its end. Where nothing comes it
-waits a tenth of a second. After the last round it prints `served EVENTS FAULTS REFUSED`: the events, the calls of the
-sockets that failed, and the events that were refused memory. With --rounds 4294967295 it serves for thirteen years where
-nothing comes, and for seven weeks at a thousand events a second; let the system start it anew. With --rounds 0 it opens
-everything, and ends.
+A round takes one event at most: a datagram, a new connection, a piece of what comes on one, or its end. Where nothing
+comes it waits a tenth of a second. After the last round it prints `served EVENTS FAULTS REFUSED`: the events, the calls
+of the sockets that failed, and the events that were refused memory. With --rounds 4294967295 it serves for thirteen years
+where nothing comes, and for three to seven weeks at a thousand events a second; let the system start it anew. With
+--rounds 0 it opens everything, and ends.
 
 Once it listens it says so on standard error, with the addresses. A port 0 is one that the system gives.
 
