@@ -1,7 +1,7 @@
 -- What is written for a keytab is a keytab.
 use Rattle.std.specs.Prelude.{flat_map, option_to_list, unsigned_abs, All, ◌&&◌, map, IfSome, IfNone}
-use Rattle.std.proofs.Common.{◌≡◌, ◌≢◌, ℕ, ℤ, pos, zero, suc, ◌+◌, ◌%◌, ◌^◌, ◌<◌, ◌≤◌, ltb, eqb, arith, List, [], ◌∷◌, ◌++◌, length, get_or, take, drop, drop-cons, Bool, true, false, cond, Option, Some, None, Result, Ok, refl, sym, ap, subst, ◌∙◌, inl, inr, w32, FitsSigned}
-use Rattle.std.specs.Int.{to_be_bytes, from_be_bytes}
+use Rattle.std.proofs.Common.{◌≡◌, ◌≢◌, ℕ, ℤ, pos, zero, suc, ◌+◌, ◌%◌, ◌^◌, ◌<◌, ◌≤◌, ltb, eqb, arith, List, [], ◌∷◌, ◌++◌, length, get_or, take, drop, drop-cons, Bool, true, false, Option, Some, None, Ok, refl, sym, ap, subst, ◌∙◌, inl, inr, w32, FitsSigned}
+use Rattle.std.specs.Int.{to_be_bytes}
 use Rattle.std.specs.List.{list_all, AllWithin}
 use Rattle.std.proofs.lemmas.Bool.{ltb-true, lt-ltb, eqb-true, eqb-false, ne_eqb, cases_Bool}
 use Rattle.std.proofs.lemmas.List.{append-nil, length-append, take_more}
@@ -15,7 +15,7 @@ use Rattle.krb_elements.specs.Spells.{Items}
 use Rattle.cred_files.specs.declared.fault.FileFault.{FileFault}
 use Rattle.cred_files.specs.declared.fault.FileFault.TheVariants as faults
 use Rattle.cred_files.specs.declared.keytab_entry.KeytabEntry.{KeytabEntry}
-use Rattle.cred_files.specs.Keytab.{HasCounts, IsEntry, IsHeld, IsPart, IsKeytab, IsNotWritten, entry_fields, entry_of, entry_text, etype_of, keytab_text, newer, newest, part_text, unless_zero, version_of, written_fields}
+use Rattle.cred_files.specs.Keytab.{HasCounts, IsEntry, IsPart, IsKeytab, IsNotWritten, entry_fields, entry_of, entry_text, etype_of, keytab_text, newer, newest, part_text, unless_zero, version_of, written_fields}
 
 -- ---- encryption types
 

@@ -1,4 +1,4 @@
-use Rattle.std.proofs.Common.{◌+◌, ◌≤◌, length, arith, rules, Some, All}
+use Rattle.std.proofs.Common.{◌+◌, arith, Some}
 use Rattle.std.proofs.lemmas.Result.{err_from_is_err_and}
 use Rattle.cred_files.specs.Keytab.{HasRoom, IsPart, part_text}
 use Rattle.cred_files.proofs.Loops.{puts_on}

@@ -1,4 +1,4 @@
-use Rattle.std.proofs.Common.{◌≡◌, ◌∙◌, ◌^◌, ◌<◌, ◌≤◌, length, sym, ap, arith}
+use Rattle.std.proofs.Common.{◌≡◌, length, ap, arith}
 use Rattle.cred_files.specs.Keytab.{entry_text}
 use Rattle.cred_files.proofs.KeytabTexts.{entry_is, entry_written}
 use Rattle.cred_files.proofs.keytab_entry.write_entry.Goals as goal
