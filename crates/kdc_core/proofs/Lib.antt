@@ -1,1 +1,3 @@
-pub mod Replies
+pub mod Frame
+pub mod Known
+pub mod Reading

@@ -1,65 +1,78 @@
 -- What a key distribution centre answers, made from its view of the state alone.
-use Rattle.std.specs.Prelude.{ℕ, List, Option, Some, None}
-use Rattle.std.specs.Option.{unwrap_or}
+use Rattle.std.specs.Prelude.{ℕ, List, ⊤, Option, Some, None, option_map}
 use Rattle.std.specs.FinMap as map
+use Rattle.as_exchange.specs.Answer.{Answer as AsAnswer, as_answer, Spelled, Opens}
+use Rattle.kdc_replies.specs.ErrorReply.{error_reply}
 use Rattle.krb_elements.specs.Codec.{written}
 use Rattle.krb_fields.specs.declared.code.Code.{Code}
+use Rattle.krb_fields.specs.declared.code.Code.TheVariants.{KrbErrGeneric}
 use Rattle.krb_fields.specs.declared.moment.Moment.{Moment}
-use Rattle.krb_fields.specs.PrincipalName.{Name}
-use Rattle.krb_fields.specs.Code.{number_of}
 use Rattle.krb_fields.specs.Name.{Components}
+use Rattle.krb_types.specs.KdcReq.{Received}
 use Rattle.krb_types.specs.KrbError.{KrbError, krb_error}
-use Rattle.principals.specs.Database.{granter_name}
+use Rattle.krb_types.specs.declared.kdc_req.Exchange.{Exchange}
+use Rattle.krb_types.specs.declared.kdc_req.Exchange.TheVariants.{As, Tgs}
+use Rattle.replay.specs.declared.failures.Failures.{Failures}
 use Rattle.replay.specs.declared.keep.Kept.{Kept}
 use Rattle.replay.specs.declared.memory.Memory.{Memory}
 use Rattle.kdc_state.specs.declared.state.State.{State}
 use Rattle.kdc_core.specs.Request.{Request, request_of}
-use Rattle.kdc_core.specs.View.{View, view, named}
-use Rattle.kdc_core.specs.Rules.{refusal}
-
--- KRB-ERROR (RFC 4120, section 5.9.1): the moment, the code, our realm, and the service asked for, else the ticket-granting service
-abbrev pub error_reply : List ℕ → Moment → Code → Option Name → KrbError
-error_reply realm at code sname = record {
-  ctime = None;
-  cusec = None;
-  stime = at.sec;
-  susec = at.usec;
-  error_code = number_of code;
-  crealm = None;
-  cname = None;
-  realm = realm;
-  sname = unwrap_or sname (granter_name realm);
-  e_text = None;
-  e_data = None;
-}
-
--- the error that answers a request
-abbrev pub error_to : View → Moment → Request → KrbError
-error_to v at request = error_reply v.realm at (refusal v request) request.message.body.value.sname
+use Rattle.kdc_core.specs.View.{View, view_of, named_by, as_view}
 
 -- the octets of the error with this code, where no service was asked for
 abbrev pub error_octets : State → Moment → Code → List ℕ
-error_octets state at code = written krb_error (error_reply state.database.realm at code None)
-
--- a reply's octets spell the error that answers the request; where there is no request, there is no reply
-abbrev pub IsReply : View → Moment → Option Request → Option (List ℕ) → Type 0
-IsReply v at (Some request) (Some octets) = krb_error.Spells (error_to v at request) octets
-IsReply v at (Some request) None = ⊥
-IsReply v at None (Some octets) = ⊥
-IsReply v at None None = Unit {0}
+error_octets state at code = written krb_error (error_reply state.database.realm at code None None)
 
 -- the octets of the reply, or none, and the named client's memory afterwards: none, it stays as it was
 pub record Answer : Type 0 where
   pub reply : Option (List ℕ)
   pub kept : Option (Memory Kept)
 
--- random octets and room, and the request's own octets, take no part as long as no ticket is issued
+-- the client's memory with these failures, if they changed
+abbrev pub counted : Memory Kept → Option Failures → Option (Memory Kept)
+counted memory = option_map (λ failures. record memory { failures = failures })
+
+abbrev pub of_as : View → AsAnswer → Answer
+of_as v a = record { reply = Some a.reply; kept = counted v.memory a.failures }
+
+-- a TGS-REQ gets KRB_ERR_GENERIC
+abbrev pub tgs_error : View → Moment → Received → KrbError
+tgs_error v at message = error_reply v.realm at KrbErrGeneric message.body.value.sname None
+
+-- `words` are 64 random octets, and `room` the most octets of a reply with a ticket
+abbrev pub answer_in : View → Moment → List ℕ → ℕ → Exchange → Received → Answer
+answer_in v at words room As message = of_as v (as_answer (as_view v) at words room message)
+answer_in v at words room Tgs message = record { reply = Some (written krb_error (tgs_error v at message)); kept = None }
+
+-- the request's own octets take no part yet
 abbrev pub answer_to : View → Moment → List ℕ → ℕ → List ℕ → Option Request → Answer
-answer_to v at words room bytes (Some request) = record { reply = Some (written krb_error (error_to v at request)); kept = None }
+answer_to v at words room bytes (Some request) = answer_in v at words room request.exchange request.message
 answer_to v at words room bytes None = record { reply = None; kept = None }
 
 abbrev pub answer : View → Moment → List ℕ → ℕ → List ℕ → Answer
 answer v at words room bytes = answer_to v at words room bytes (request_of bytes)
+
+-- the octets of a reply spell the message that answers the request
+abbrev pub SpelledIn : View → Moment → List ℕ → Exchange → Received → List ℕ → Type 0
+SpelledIn v at words As message octets = Spelled (as_view v) at words message octets
+SpelledIn v at words Tgs message octets = krb_error.Spells (tgs_error v at message) octets
+
+-- where there is no request, there is no reply
+abbrev pub IsReply : View → Moment → List ℕ → Option Request → Option (List ℕ) → Type 0
+IsReply v at words (Some request) (Some octets) = SpelledIn v at words request.exchange request.message octets
+IsReply v at words (Some request) None = ⊥
+IsReply v at words None (Some octets) = ⊥
+IsReply v at words None None = ⊤
+
+-- where a ticket is issued, the reply key opens the reply to the session key, flags and times that the service's key
+-- finds in the ticket
+abbrev pub OpensIn : View → Moment → List ℕ → Exchange → Received → Type 0
+OpensIn v at words As message = Opens (as_view v) at words message
+OpensIn v at words Tgs message = ⊤
+
+abbrev pub OneTicketTwoKeys : View → Moment → List ℕ → Option Request → Type 0
+OneTicketTwoKeys v at words (Some request) = OpensIn v at words request.exchange request.message
+OneTicketTwoKeys v at words None = ⊤
 
 -- the state with a memory kept for a client
 abbrev pub keep : State → Option Components → Option (Memory Kept) → State
@@ -67,5 +80,8 @@ keep state (Some name) (Some memory) = record state { memories = map.insert stat
 keep state (Some name) None = state
 keep state None kept = state
 
+abbrev pub next_by : State → Moment → List ℕ → ℕ → List ℕ → Option Request → State
+next_by state at words room bytes o = keep state (named_by state o).client (answer_to (view_of state (named_by state o)) at words room bytes o).kept
+
 abbrev pub next : State → Moment → List ℕ → ℕ → List ℕ → State
-next state at words room bytes = keep state (named state bytes).client (answer (view state bytes) at words room bytes).kept
+next state at words room bytes = next_by state at words room bytes (request_of bytes)

@@ -1,7 +1,6 @@
 pub mod Request
 pub mod View
 pub mod Agreement
-pub mod Rules
 pub mod Answer
-pub mod Lengths
+pub mod After
 pub mod RequestLaws

@@ -15,6 +15,7 @@ use Rattle.kdc_state.specs.declared.opening.Opening.TheVariants.{First}
 use Rattle.kdc_state.specs.declared.state.State.{State}
 use Rattle.kdc_state.specs.Memory.{opened_memory}
 use Rattle.kdc_state.specs.State.{memory_of}
+use Rattle.as_exchange.specs.View as as_exchange
 use Rattle.kdc_core.specs.Request.{Request, request_of}
 
 -- the client and the service that a request names, each perhaps absent
@@ -72,6 +73,10 @@ view_of state names = record {
   memory = memory_named state names.client;
 }
 
+-- of a request that was read
+abbrev pub view_in : State → Exchange → Received → View
+view_in state exchange message = view_of state (named_in state (record { exchange = exchange; message = message }))
+
 abbrev pub view : State → List ℕ → View
 view state bytes = view_of state (named state bytes)
 
@@ -82,3 +87,7 @@ pub record Agrees (state other : State) (bytes : List ℕ) : Type 0 where
   pub granter : map.get other.database.rows (ticket_granter state.database.realm) ≡ map.get state.database.rows (ticket_granter state.database.realm)
   pub client : IfSome (named state bytes).client (λ c. (map.get other.database.rows c ≡ map.get state.database.rows c) × (memory_of other c ≡ memory_of state c))
   pub service : IfSome (named state bytes).service (λ s. map.get other.database.rows s ≡ map.get state.database.rows s)
+
+-- what the AS exchange answers from
+abbrev pub as_view : View → as_exchange.View
+as_view v = record { realm = v.realm; limits = v.limits; client = v.client; service = v.service; failures = v.memory.failures }

@@ -3,7 +3,7 @@ ghost use Rattle.std.specs.Prelude.{◌≡◌, ◌≢◌, ◌≤◌, ◌↔◌, 
 ghost use Rattle.std.specs.FinMap as map;
 ghost use Rattle.std.specs.Option.{option_copied};
 ghost use Rattle.krb_fields.specs.Name.{Components};
-ghost use Rattle.kdc_core.specs.Answer.{answer, next, error_octets, IsReply};
+ghost use Rattle.kdc_core.specs.Answer.{answer, next, error_octets, IsReply, OneTicketTwoKeys};
 ghost use Rattle.kdc_core.specs.Request.{Request, request_of};
 ghost use Rattle.kdc_core.specs.RequestLaws.{SpellsRequest};
 ghost use Rattle.kdc_core.specs.View.{Agrees, named, view};
@@ -11,8 +11,8 @@ ghost use Rattle.kdc_state.specs.State.{opened, memory_of};
 ghost use Rattle.kdc_state.specs.declared.state.State as states;
 ghost use Rattle.principals.specs.Change.{refusal, changed};
 
-use crate::answering::reply;
-use crate::error_reply::error_reply;
+use crate::answering::handle;
+use kdc_replies::error_reply;
 use kdc_state::{Opening, State};
 use krb_fields::{Code, Moment, Name};
 use principal_rows::{Limits, Row};
@@ -69,8 +69,11 @@ impl Kdc {
         ensures request { (r : Request) → (request_of request.now ≡ Some r) ↔ (SpellsRequest r request.now × (length request.now ≤ 2147483647)) }
         // The reply is the one that the rules say.
         ensures reply { IfOk result (λ reply. option_map (λ octets. octets.items) reply ≡ (answer (view self.old request.now) at words.now room request.now).reply) }
-        // The octets of a reply spell the KRB-ERROR that the rules say.
-        ensures spelled { IfOk result (λ reply. IsReply (view self.old request.now) at (request_of request.now) (option_map (λ octets. octets.items) reply)) }
+        // The octets of a reply spell the message that the rules say.
+        ensures spelled { IfOk result (λ reply. IsReply (view self.old request.now) at words.now (request_of request.now) (option_map (λ octets. octets.items) reply)) }
+        // Where a ticket is issued, the reply key opens the reply to the session key, flags and times that the service's
+        // key finds in the ticket.
+        ensures keys { IfOk result (λ reply. OneTicketTwoKeys (view self.old request.now) at words.now (request_of request.now)) }
         // The state afterwards is the one that the rules say.
         ensures state { OnOk result (self.new ≡ next self.old at words.now room request.now) }
         // A second state that agrees at what the request names is answered alike.
@@ -82,7 +85,7 @@ impl Kdc {
         ensures memories { (name : Components) → (named self.old request.now).client ≢ Some name → memory_of self.new name ≡ memory_of self.old name }
         ensures err { OnErr result (self.new ≡ self.old) }
     {
-        reply(alloc, &self.state, at, words, room, request)
+        handle(&mut self.state, alloc, at, words, room, request)
     }
 
     /// Makes a change of the database. A change that is refused leaves everything as it was.
@@ -107,7 +110,7 @@ impl Kdc {
     pub fn error(&self, alloc: Global, at: Moment, code: Code) -> Result<Vec<u8>, AllocError>
         ensures { IfOk result (λ octets. octets.items ≡ error_octets self.now at code) }
     {
-        error_reply(alloc, self.state.database.realm(), at, code, None)
+        error_reply(alloc, self.state.database.realm(), at, code, None, None)
     }
 
     /// The realm's octets, 1 to 255.

@@ -2,8 +2,6 @@
 #![tactic(auto)]
 
 mod answering;
-mod as_rules;
-mod error_reply;
 mod kdc;
 
 pub use kdc::Kdc;

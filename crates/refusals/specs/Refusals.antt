@@ -1,5 +1,5 @@
 -- Lists of conditions, of which the first that holds decides.
-use Rattle.std.specs.Prelude.{Bool, if◌then◌else◌, List, [], ◌∷◌, Option, Some, None}
+use Rattle.std.specs.Prelude.{Bool, if◌then◌else◌, List, [], ◌∷◌, Option, Some, None, Result, Ok, Err}
 
 -- a condition, and the reason where it holds
 abbrev pub Rule : Type 0 → Type 0
@@ -9,3 +9,15 @@ Rule R = Bool × R
 abbrev pub first_holding : {R : Type 0} → List (Rule R) → Option R
 first_holding [] = None
 first_holding (rule ∷ rules) = if rule.0 then Some rule.1 else first_holding rules
+
+abbrev pub unless_found : {A R : Type 0} → Option A → R → Result A R
+unless_found (Some x) otherwise = Ok x
+unless_found None otherwise = Err otherwise
+
+abbrev pub unless_refused : {A R : Type 0} → Option R → Option A → R → Result A R
+unless_refused (Some reason) found otherwise = Err reason
+unless_refused None found otherwise = unless_found found otherwise
+
+-- what is found where none of the conditions holds; a last reason where nothing is found
+abbrev pub decided : {A R : Type 0} → List (Rule R) → Option A → R → Result A R
+decided rules found otherwise = unless_refused (first_holding rules) found otherwise

@@ -2,7 +2,7 @@
 #![tactic(auto)]
 
 ghost use Rattle.std.specs.Prelude.{◌≡◌};
-ghost use Rattle.refusals.specs.Refusals.{first_holding};
+ghost use Rattle.refusals.specs.Refusals.{decided, first_holding};
 
 /// The reason of the first condition that holds.
 pub fn first_holding<R: Copy>(rules: &[(bool, R)]) -> Option<R>
@@ -14,4 +14,18 @@ pub fn first_holding<R: Copy>(rules: &[(bool, R)]) -> Option<R>
         }
     }
     None
+}
+
+/// What is found, where none of the conditions holds; the last reason where nothing is found.
+pub fn decide<T: Drop, R: Copy>(
+    rules: &[(bool, R)],
+    found: Option<T>,
+    otherwise: R,
+) -> Result<T, R>
+    ensures { result ≡ decided rules.now found otherwise }
+{
+    match first_holding(rules) {
+        Some(reason) => Err(reason),
+        None => found.ok_or(otherwise),
+    }
 }

@@ -1,8 +1,9 @@
 -- That what is sealed is read again.
-use Rattle.std.proofs.Common.{◌≡◌, ℕ, List, Option, Some, Result, Ok, Err, IfOk, sym, subst, ap, ◌∙◌}
+use Rattle.std.proofs.Common.{◌≡◌, ℕ, ◌+◌, ◌≤◌, List, length, Option, Some, Result, Ok, Err, IfOk, ap, ◌∙◌, arith}
 use Rattle.krb_der.specs.declared.fault.DerFault.{DerFault}
-use Rattle.krb_elements.specs.Codec.{Codec}
+use Rattle.krb_elements.specs.Codec.{Codec, written}
 use Rattle.krb_elements.specs.Laws.{whole_ok}
+use Rattle.krb_elements.specs.ShortText.{tlv_short}
 use Rattle.sealed_parts.specs.Parts.{ok_of, read_as}
 
 -- where the opened text spells the value
@@ -15,3 +16,9 @@ pub returned_again : {A V E : Type 0} (c : Codec A) (x : A) (text : List ℕ) (f
     → IfOk r (λ v. found v ≡ Some text) → IfOk r (λ v. read_as c (found v) ≡ Some x)
 returned_again c x text found (Ok v) s opens = read_again c x text (found v) s opens
 returned_again c x text found (Err e) s opens = tt
+
+-- how long what is sealed is at most
+pub returned_short : {A V E : Type 0} (c : Codec A) (x : A) (text : List ℕ) (octets : V → List ℕ) (r : Result V E) → text ≡ written c x
+    → IfOk r (λ v. length (octets v) ≤ 40 + length text) → IfOk r (λ v. length (octets v) ≤ 46 + length (c.text x))
+returned_short c x text octets (Ok v) e few = omega (arith, few, ap length e, tlv_short c.tag (c.text x))
+returned_short c x text octets (Err f) e few = tt

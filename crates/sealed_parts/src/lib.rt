@@ -1,7 +1,7 @@
 //! The encrypted parts of messages: values that stand sealed under a key.
 #![tactic(auto)]
 
-ghost use Rattle.std.specs.Prelude.{◌≡◌, ◌<◌, ◌^◌, length, Some, IfOk};
+ghost use Rattle.std.specs.Prelude.{◌≡◌, ◌<◌, ◌≤◌, ◌+◌, ◌^◌, length, Some, IfOk};
 ghost use Rattle.krb_elements.specs.Codec.{written};
 ghost use Rattle.enctypes.specs.KeyUsage.{usage_number};
 ghost use Rattle.enctypes.specs.Sealing.{seal};
@@ -25,6 +25,7 @@ pub fn seal_part<T: Encode>(
     // Whoever has the key opens it to the value again.
     ensures opens { IfOk result (λ cipher.
         opened_as T.codec key.now.etype key.now.bytes (usage_number usage) cipher.items ≡ Some part.now) }
+    ensures most { IfOk result (λ cipher. length cipher.items ≤ 46 + length (T.codec.text part.now)) }
 {
     let text = write(alloc, part)?;
     seal(alloc, key, usage, confounder, &text)

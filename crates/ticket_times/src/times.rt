@@ -157,7 +157,7 @@ fn valid_times(start: i64, end: i64, renew_till: Option<KTime>) -> Result<Times,
 }
 
 /// A start is asked for without POSTDATED, and lies beyond the skew.
-fn starts_too_late(now: i64, body: &ReqBodyRef<'_>) -> bool
+pub fn starts_too_late(now: i64, body: &ReqBodyRef<'_>) -> bool
     requires { IsSecond now }
     ensures { result ≡ starts_too_late now body.now }
 {

@@ -1,7 +1,7 @@
-use Rattle.std.proofs.Common.{List, ℕ, subst, sym}
+use Rattle.std.proofs.Common.{List, ℕ, subst, sym, ◌∙◌}
 use Rattle.enctypes.specs.KeyUsage.{usage_number}
 use Rattle.enctypes.specs.Sealing.{opened}
-use Rattle.sealed_parts.proofs.Reading.{returned_again}
+use Rattle.sealed_parts.proofs.Reading.{returned_again, returned_short}
 use Rattle.sealed_parts.proofs.seal_part.Goals as goal
 
 pub returns-clause-opens : goal.returns-clause-opens
@@ -10,3 +10,7 @@ returns-clause-opens g c =
     returned_again codec c.args.part.now c.deref.result.now
     (λ cipher. opened c.args.key.now.etype c.args.key.now.bytes (usage_number c.args.usage) cipher.items) c.seal.result
     (subst (λ (l : List ℕ). codec.Spells c.args.part.now l) (sym c.deref.ensures.value) c.in_ok-text.ensures.spelled) c.seal.ensures.opened
+
+pub returns-clause-most : goal.returns-clause-most
+returns-clause-most g c =
+    returned_short g.T.Coded.codec c.args.part.now c.deref.result.now (λ cipher. cipher.items) c.seal.result (c.deref.ensures.value ∙ c.in_ok-text.ensures.written) c.seal.ensures.most

@@ -1,6 +1,39 @@
-use Rattle.std.proofs.Common.{arith}
+use Rattle.std.proofs.Common.{rules, ◌≡◌, ◌≢◌, Some, sym, ap, subst, ◌∙◌, arith}
+use Rattle.kdc_state.specs.declared.state.State.{State}
+use Rattle.kdc_state.specs.State.{memory_of}
+use Rattle.kdc_core.proofs.Frame.{database_kept, limits_kept, other_kept, of_either}
+use Rattle.kdc_core.specs.Answer.{answer, next}
 use Rattle.kdc_core.specs.RequestLaws.{request_is}
+use Rattle.kdc_core.specs.View.{named, view}
 use Rattle.kdc_core.proofs.kdc.Kdc.handle.Goals as goal
 
 pub returns-clause-request : goal.returns-clause-request
 returns-clause-request c r = request_is c.args.request.now r (λ i. omega (arith, c.type_inv.request i))
+
+pub returns-clause-database : goal.returns-clause-database
+returns-clause-database c =
+    let state = c.self.inside.state in
+    let bytes = c.args.request.now in
+    let is : state ≡ c.args.self.now = search rules in
+    of_either c.handle.result state c.handle.new.state (next state c.args.at c.args.words.now c.args.room bytes) (λ s. s.database) c.handle.ensures.state c.handle.ensures.err
+    (database_kept state (named state bytes).client (answer (view state bytes) c.args.at c.args.words.now c.args.room bytes).kept)
+    ∙ ap (λ s. s.database) is
+
+pub returns-clause-limits : goal.returns-clause-limits
+returns-clause-limits c =
+    let state = c.self.inside.state in
+    let bytes = c.args.request.now in
+    let is : state ≡ c.args.self.now = search rules in
+    of_either c.handle.result state c.handle.new.state (next state c.args.at c.args.words.now c.args.room bytes) (λ s. s.limits) c.handle.ensures.state c.handle.ensures.err
+    (limits_kept state (named state bytes).client (answer (view state bytes) c.args.at c.args.words.now c.args.room bytes).kept)
+    ∙ ap (λ s. s.limits) is
+
+pub returns-clause-memories : goal.returns-clause-memories
+returns-clause-memories c name other =
+    let state = c.self.inside.state in
+    let bytes = c.args.request.now in
+    let is : state ≡ c.args.self.now = search rules in
+    of_either c.handle.result state c.handle.new.state (next state c.args.at c.args.words.now c.args.room bytes) (λ s. memory_of s name) c.handle.ensures.state c.handle.ensures.err
+    (other_kept state (named state bytes).client (answer (view state bytes) c.args.at c.args.words.now c.args.room bytes).kept name
+    (subst (λ (s : State). (named s bytes).client ≢ Some name) (sym is) other))
+    ∙ ap (λ s. memory_of s name) is

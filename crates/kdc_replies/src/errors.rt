@@ -4,15 +4,15 @@ ghost use Rattle.std.specs.Option.{option_copied};
 ghost use Rattle.krb_elements.specs.Codec.{written};
 ghost use Rattle.krb_fields.specs.PrincipalName.{name};
 ghost use Rattle.krb_types.specs.KrbError.{krb_error};
-ghost use Rattle.kdc_core.specs.Answer.{error_reply};
+ghost use Rattle.kdc_replies.specs.ErrorReply.{error_reply};
 
-use krb_elements::KerberosString;
+use krb_elements::{KerberosString, Octets};
 use krb_fields::{Code, Moment, NameRef};
 use krb_types::{KrbError, encode_krb_error};
 use principals::granter_name;
 use std::alloc::{AllocError, Global};
 
-/// The octets of the error with this code for who asked for this service.
+/// The octets of the error with this code, and what goes with it, for who asked for this service.
 #[tactic(auto, using(crate::specs::Lengths::error_short))]
 pub fn error_reply(
     alloc: Global,
@@ -20,13 +20,15 @@ pub fn error_reply(
     at: Moment,
     code: Code,
     sname: Option<&NameRef<'_>>,
+    e_data: Option<Octets>,
 ) -> Result<Vec<u8>, AllocError>
     requires realm { length realm.now ≤ 255 }
     requires sname { IfSome (option_copied sname) (λ n. length (name.text n) < 2147483648) }
-    ensures written { IfOk result (λ octets. octets.items ≡ written krb_error (error_reply realm.now at code (option_copied sname.entry))) }
-    ensures spelled { IfOk result (λ octets. krb_error.Spells (error_reply realm.now at code (option_copied sname.entry)) octets.items) }
+    requires e_data { IfSome e_data (λ d. length d ≤ 65535) }
+    ensures written { IfOk result (λ octets. octets.items ≡ written krb_error (error_reply realm.now at code (option_copied sname.entry) e_data)) }
+    ensures spelled { IfOk result (λ octets. krb_error.Spells (error_reply realm.now at code (option_copied sname.entry) e_data) octets.items) }
 {
-    let error = error_of(alloc, realm, at, code, sname)?;
+    let error = error_of(alloc, realm, at, code, sname, e_data)?;
     encode_krb_error(alloc, &error)
 }
 
@@ -36,8 +38,9 @@ fn error_of(
     at: Moment,
     code: Code,
     sname: Option<&NameRef<'_>>,
+    e_data: Option<Octets>,
 ) -> Result<KrbError, AllocError>
-    ensures { IfOk result (λ error. error ≡ error_reply realm.now at code (option_copied sname.entry)) }
+    ensures { IfOk result (λ error. error ≡ error_reply realm.now at code (option_copied sname.entry) e_data) }
 {
     let sname = match sname {
         Some(name) => name.to_name(alloc)?,
@@ -54,6 +57,6 @@ fn error_of(
         realm: KerberosString::from_slice(alloc, realm)?,
         sname,
         e_text: None,
-        e_data: None,
+        e_data,
     })
 }

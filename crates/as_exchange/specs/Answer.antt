@@ -1,0 +1,122 @@
+-- What the AS exchange answers, and what becomes of the client's failures.
+use Rattle.std.specs.Prelude.{ℕ, ⊤, ◌⊎◌, nat_lt, if◌then◌else◌, List, length, Option, Some, None, Result, Ok, Err}
+use Rattle.krb_elements.specs.Codec.{written}
+use Rattle.krb_fields.specs.PrincipalName.{Name}
+use Rattle.krb_fields.specs.Salt.{default_salt}
+use Rattle.krb_fields.specs.declared.code.Code.TheVariants.{KrbErrResponseTooBig}
+use Rattle.krb_fields.specs.declared.moment.Moment.{Moment}
+use Rattle.krb_replies.specs.KdcRep.{kdc_rep}
+use Rattle.krb_types.specs.KdcReq.{Received}
+use Rattle.krb_types.specs.KrbError.{KrbError, krb_error}
+use Rattle.krb_types.specs.ReqBody.{ReqBody}
+use Rattle.kdc_replies.specs.ErrorReply.{error_reply}
+use Rattle.kdc_replies.specs.Reply.{OpensAlike}
+use Rattle.preauth.specs.Keys.{types_of}
+use Rattle.preauth.specs.Lock.{after_failure, after_success}
+use Rattle.preauth.specs.MethodData.{method_data}
+use Rattle.preauth.specs.declared.timestamp.Outcome.{Outcome}
+use Rattle.principal_rows.specs.declared.row.Row.{Row}
+use Rattle.replay.specs.declared.failures.Failures.{Failures}
+use Rattle.as_exchange.specs.View.{View}
+use Rattle.as_exchange.specs.Terms.{current_keys}
+use Rattle.as_exchange.specs.Rules.{is_good, timestamp_of, verdict, code_of}
+use Rattle.as_exchange.specs.Issue.{as_rep}
+use Rattle.as_exchange.specs.declared.refusal.AsRefusal.{AsRefusal}
+use Rattle.as_exchange.specs.declared.refusal.AsRefusal.TheVariants.{BadVersion, BadMessageType, ClientUnknown, ServiceUnknown, ClientRevoked, ClientExpired, PasswordExpired, ServiceRevoked, ServiceExpired, BadOption, NoCommonType, PreauthFailed, TimestampSkewed, PreauthRequired, PostdatingRefused, StartsTooLate, NeverValid}
+use Rattle.as_exchange.specs.declared.refusal.Sequel.{Sequel}
+use Rattle.as_exchange.specs.declared.refusal.Sequel.TheVariants.{Nothing, CountsFailure, TellsMethods, FollowsTimestamp}
+use Rattle.as_exchange.specs.declared.terms.Admission.{Admission}
+
+-- the octets of the reply, and the client's failures afterwards: none, they stay as they were
+pub record Answer : Type 0 where
+  pub reply : List ℕ
+  pub failures : Option Failures
+
+-- what goes with a refusal beside its code
+abbrev pub sequel_of : AsRefusal → Sequel
+sequel_of BadVersion = Nothing
+sequel_of BadMessageType = Nothing
+sequel_of ClientUnknown = Nothing
+sequel_of ServiceUnknown = Nothing
+sequel_of ClientRevoked = Nothing
+sequel_of ClientExpired = Nothing
+sequel_of PasswordExpired = Nothing
+sequel_of ServiceRevoked = Nothing
+sequel_of ServiceExpired = Nothing
+sequel_of BadOption = Nothing
+sequel_of NoCommonType = Nothing
+sequel_of PreauthFailed = CountsFailure
+sequel_of TimestampSkewed = Nothing
+sequel_of PreauthRequired = TellsMethods
+sequel_of PostdatingRefused = FollowsTimestamp
+sequel_of StartsTooLate = FollowsTimestamp
+sequel_of NeverValid = FollowsTimestamp
+
+-- ---- failures
+
+abbrev pub after_timestamp : Failures → Outcome → Option Failures
+after_timestamp failures timestamp = if is_good timestamp then Some (after_success failures) else None
+
+-- a failure is counted; a good timestamp ends the count, whatever is refused after it
+abbrev pub after_sequel : Failures → Moment → Outcome → Sequel → Option Failures
+after_sequel failures at timestamp Nothing = None
+after_sequel failures at timestamp CountsFailure = Some (after_failure failures at)
+after_sequel failures at timestamp TellsMethods = None
+after_sequel failures at timestamp FollowsTimestamp = after_timestamp failures timestamp
+
+-- ---- errors
+
+-- METHOD-DATA: the client's current types in the order asked for, with the salt, and that a timestamp is taken
+abbrev pub methods_for : List ℕ → ReqBody → Option Row → Option Name → Option (List ℕ)
+methods_for realm body (Some row) (Some name) = Some (method_data (default_salt realm name.components) (types_of (current_keys row) body.etype))
+methods_for realm body (Some row) None = None
+methods_for realm body None name = None
+
+abbrev pub e_data_of : View → ReqBody → Sequel → Option (List ℕ)
+e_data_of v body Nothing = None
+e_data_of v body CountsFailure = None
+e_data_of v body TellsMethods = methods_for v.realm body v.client body.cname
+e_data_of v body FollowsTimestamp = None
+
+abbrev pub as_error : View → Moment → ReqBody → AsRefusal → KrbError
+as_error v at body refusal = error_reply v.realm at (code_of refusal) body.sname (e_data_of v body (sequel_of refusal))
+
+-- in place of a reply that is too long
+abbrev pub too_big : View → Moment → ReqBody → KrbError
+too_big v at body = error_reply v.realm at KrbErrResponseTooBig body.sname None
+
+-- ---- answers
+
+-- a reply with a ticket that is longer than the room leaves no trace
+abbrev pub within_room : View → Moment → ℕ → ReqBody → List ℕ → Option Failures → Answer
+within_room v at room body octets failures =
+    if nat_lt room (length octets) then record { reply = written krb_error (too_big v at body); failures = None }
+    else record { reply = octets; failures = failures }
+
+abbrev pub answer_by : View → Moment → List ℕ → ℕ → ReqBody → Outcome → Result Admission AsRefusal → Answer
+answer_by v at words room body timestamp (Err refusal) =
+    record { reply = written krb_error (as_error v at body refusal); failures = after_sequel v.failures at timestamp (sequel_of refusal) }
+answer_by v at words room body timestamp (Ok admission) =
+    within_room v at room body (written (kdc_rep 11) (as_rep v at words body timestamp admission)) (after_timestamp v.failures timestamp)
+
+-- `words` are 64 random octets, and `room` the most octets of a reply with a ticket
+abbrev pub as_answer : View → Moment → List ℕ → ℕ → Received → Answer
+as_answer v at words room message = answer_by v at words room message.body.value (timestamp_of v.client at.sec message) (verdict v at.sec message)
+
+-- ---- what the octets spell
+
+-- an error where it was refused; else the AS-REP, or the error in its place
+abbrev pub SpelledBy : View → Moment → List ℕ → ReqBody → Outcome → Result Admission AsRefusal → List ℕ → Type 0
+SpelledBy v at words body timestamp (Err refusal) octets = krb_error.Spells (as_error v at body refusal) octets
+SpelledBy v at words body timestamp (Ok admission) octets = (kdc_rep 11).Spells (as_rep v at words body timestamp admission) octets ⊎ krb_error.Spells (too_big v at body) octets
+
+abbrev pub Spelled : View → Moment → List ℕ → Received → List ℕ → Type 0
+Spelled v at words message octets = SpelledBy v at words message.body.value (timestamp_of v.client at.sec message) (verdict v at.sec message) octets
+
+-- the client's key opens the AS-REP to what the service's key finds in the ticket
+abbrev pub OpensBy : View → Moment → List ℕ → ReqBody → Outcome → Result Admission AsRefusal → Type 0
+OpensBy v at words body timestamp (Err refusal) = ⊤
+OpensBy v at words body timestamp (Ok admission) = OpensAlike 11 25 admission.terms.reply_key 3 admission.terms.service_key.key (as_rep v at words body timestamp admission)
+
+abbrev pub Opens : View → Moment → List ℕ → Received → Type 0
+Opens v at words message = OpensBy v at words message.body.value (timestamp_of v.client at.sec message) (verdict v at.sec message)

@@ -1,0 +1,50 @@
+-- The ticket of an admission, and the reply that bears it (RFC 4120, section 3.1.3).
+use Rattle.std.specs.Prelude.{pos, ℕ, List, [], ◌∷◌, take, Some}
+use Rattle.enctypes.specs.Etype.{number, key_len}
+use Rattle.enctypes.specs.declared.etype.Etype.{Etype}
+use Rattle.enctypes.specs.declared.key.Key.{Key}
+use Rattle.enctypes.specs.declared.key_usage.KeyUsage.TheVariants.{AsRepEncPart}
+use Rattle.kdc_replies.specs.Reply.{reply_of}
+use Rattle.kdc_replies.specs.declared.grant.Grant.{Grant}
+use Rattle.kdc_replies.specs.declared.replies.ReplyKey.{ReplyKey}
+use Rattle.krb_fields.specs.PaData.{PaData}
+use Rattle.krb_fields.specs.Salt.{default_salt}
+use Rattle.krb_fields.specs.declared.moment.Moment.{Moment}
+use Rattle.krb_replies.specs.KdcRep.{KdcRep}
+use Rattle.krb_types.specs.ReqBody.{ReqBody}
+use Rattle.preauth.specs.MethodData.{etype_info2}
+use Rattle.preauth.specs.declared.timestamp.Outcome.{Outcome}
+use Rattle.ticket_times.specs.Flags.{as_flags}
+use Rattle.as_exchange.specs.View.{View}
+use Rattle.as_exchange.specs.Rules.{is_good}
+use Rattle.as_exchange.specs.declared.terms.Terms.{Terms}
+use Rattle.as_exchange.specs.declared.terms.Admission.{Admission}
+
+-- random octets are a key as they are: the first of them, as many as the type's keys have
+abbrev pub session_key : Etype → List ℕ → Key
+session_key etype words = record { etype = etype; bytes = take (key_len etype) (take 32 words) }
+
+abbrev pub grant_by : View → Moment → List ℕ → ReqBody → Outcome → Admission → Grant
+grant_by v at words body timestamp admission = record {
+  realm = v.realm;
+  client = admission.terms.client_name;
+  service = admission.terms.service_name;
+  session_key = session_key admission.terms.session_type words;
+  flags = as_flags body admission.terms.client admission.terms.service (is_good timestamp) admission.times;
+  authtime = at.sec;
+  times = admission.times;
+}
+
+-- the client's key, by its version
+abbrev pub reply_key_of : Terms → ReplyKey
+reply_key_of terms = record { key = terms.reply_key; usage = AsRepEncPart; kvno = Some (pos terms.reply_version) }
+
+-- PA-ETYPE-INFO2 with how the reply key is made from a password
+abbrev pub reply_info : View → Terms → PaData
+reply_info v terms = etype_info2 (default_salt v.realm terms.client_name.components) (number terms.reply_key.etype ∷ [])
+
+-- the AS-REP, by what became of the timestamp
+abbrev pub as_rep : View → Moment → List ℕ → ReqBody → Outcome → Admission → KdcRep 11
+as_rep v at words body timestamp admission =
+    reply_of 11 25 (grant_by v at words body timestamp admission) admission.terms.service_key (reply_key_of admission.terms) (Some (reply_info v admission.terms ∷ []))
+    body.nonce at.sec words

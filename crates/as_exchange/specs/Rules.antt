@@ -1,0 +1,152 @@
+-- The rules by which AS-REQs are refused (RFC 4120, section 3.1.3), in their order.
+use Rattle.std.specs.Prelude.{ℤ, pos, Bool, true, false, not, ◌&&◌, ◌||◌, nat_eq, int_le, is_none, List, [], ◌∷◌, Option, Some, None, Result}
+use Rattle.std.specs.Ordering.{int_eq}
+use Rattle.std.specs.Cmp.Lexicographic.{pointwise}
+use Rattle.refusals.specs.Refusals.{Rule, decided}
+use Rattle.krb_fields.specs.declared.code.Code.{Code}
+use Rattle.krb_fields.specs.declared.code.Code as codes
+use Rattle.krb_fields.specs.declared.kdc_option.KdcOption.TheVariants.{Forwarded, Proxy, AllowPostdate, Postdated, EncTktInSkey, Renew, Validate}
+use Rattle.krb_types.specs.KdcReq.{Received}
+use Rattle.krb_types.specs.ReqBody.{ReqBody}
+use Rattle.preauth.specs.Lock.{is_locked}
+use Rattle.preauth.specs.Timestamp.{outcome}
+use Rattle.preauth.specs.declared.timestamp.Outcome.{Outcome}
+use Rattle.preauth.specs.declared.timestamp.Outcome.TheVariants.{Absent, Bad, Skewed, Good}
+use Rattle.principal_rows.specs.declared.row.Row.{Row}
+use Rattle.ticket_times.specs.Asked.{asks}
+use Rattle.ticket_times.specs.Times.{starts_too_late}
+use Rattle.as_exchange.specs.View.{View}
+use Rattle.as_exchange.specs.Terms.{terms, admission_of}
+use Rattle.as_exchange.specs.declared.refusal.AsRefusal.{AsRefusal}
+use Rattle.as_exchange.specs.declared.refusal.AsRefusal.TheVariants.{BadVersion, BadMessageType, ClientUnknown, ServiceUnknown, ClientRevoked, ClientExpired, PasswordExpired, ServiceRevoked, ServiceExpired, BadOption, NoCommonType, PreauthFailed, TimestampSkewed, PreauthRequired, PostdatingRefused, StartsTooLate, NeverValid}
+use Rattle.as_exchange.specs.declared.terms.Admission.{Admission}
+use Rattle.as_exchange.specs.declared.terms.Terms.{Terms}
+
+-- what a row says, where there is one
+abbrev pub holds_of : (Row → Bool) → Option Row → Bool
+holds_of test (Some row) = test row
+holds_of test None = false
+
+-- a time has come
+abbrev pub has_come : Option ℤ → ℤ → Bool
+has_come (Some time) now = int_le time now
+has_come None now = false
+
+abbrev pub is_bad_version : Received → Bool
+is_bad_version message = not (int_eq message.pvno (pos 5))
+
+abbrev pub is_bad_message_type : Received → Bool
+is_bad_message_type message = not (int_eq message.msg_type (pos 10))
+
+-- the realm isn't ours, no client is named, or it has no row
+abbrev pub is_client_unknown : View → ReqBody → Bool
+is_client_unknown v body = not (pointwise nat_eq body.realm v.realm) || is_none body.cname || is_none v.client
+
+-- no service is named, or it has no row
+abbrev pub is_service_unknown : View → ReqBody → Bool
+is_service_unknown v body = is_none body.sname || is_none v.service
+
+abbrev pub is_disabled : Option Row → Bool
+is_disabled = holds_of (λ row. row.policy.disabled)
+
+abbrev pub is_expired : Option Row → ℤ → Bool
+is_expired row now = holds_of (λ row. has_come row.policy.expires now) row
+
+abbrev pub has_expired_password : Option Row → ℤ → Bool
+has_expired_password row now = holds_of (λ row. has_come row.policy.password_expires now) row
+
+abbrev pub is_client_revoked : View → ℤ → Bool
+is_client_revoked v now = is_disabled v.client || is_locked v.failures v.limits now
+
+-- options that only a TGS-REQ may have
+abbrev pub asks_bad_option : ReqBody → Bool
+asks_bad_option body = asks body Forwarded || asks body Proxy || asks body EncTktInSkey || asks body Renew || asks body Validate
+
+abbrev pub needs_preauth : Option Row → Bool
+needs_preauth = holds_of (λ row. row.policy.preauth)
+
+abbrev pub forbids_postdating : Option Row → Bool
+forbids_postdating = holds_of (λ row. not row.policy.postdate)
+
+abbrev pub is_postdating_refused : View → ReqBody → Bool
+is_postdating_refused v body = (asks body Postdated || asks body AllowPostdate) && (forbids_postdating v.client || forbids_postdating v.service)
+
+-- what became of the timestamp: without a row there is none to judge
+abbrev pub timestamp_of : Option Row → ℤ → Received → Outcome
+timestamp_of (Some row) now message = outcome row now message.padata
+timestamp_of None now message = Absent
+
+abbrev pub is_bad : Outcome → Bool
+is_bad Absent = false
+is_bad Bad = true
+is_bad Skewed = false
+is_bad Good = false
+
+abbrev pub is_skewed : Outcome → Bool
+is_skewed Absent = false
+is_skewed Bad = false
+is_skewed Skewed = true
+is_skewed Good = false
+
+abbrev pub is_absent : Outcome → Bool
+is_absent Absent = true
+is_absent Bad = false
+is_absent Skewed = false
+is_absent Good = false
+
+abbrev pub is_good : Outcome → Bool
+is_good Absent = false
+is_good Bad = false
+is_good Skewed = false
+is_good Good = true
+
+-- no timestamp came, and the client's row requires one
+abbrev pub lacks_preauth : Option Row → Outcome → Bool
+lacks_preauth row timestamp = is_absent timestamp && needs_preauth row
+
+-- all rules but the last, by what became of the timestamp and by the terms
+abbrev pub rules_by : View → ℤ → Received → Outcome → Option Terms → List (Rule AsRefusal)
+rules_by v now message timestamp found =
+    (is_bad_version message, BadVersion)
+    ∷ (is_bad_message_type message, BadMessageType)
+    ∷ (is_client_unknown v message.body.value, ClientUnknown)
+    ∷ (is_service_unknown v message.body.value, ServiceUnknown)
+    ∷ (is_client_revoked v now, ClientRevoked)
+    ∷ (is_expired v.client now, ClientExpired)
+    ∷ (has_expired_password v.client now, PasswordExpired)
+    ∷ (is_disabled v.service, ServiceRevoked)
+    ∷ (is_expired v.service now, ServiceExpired)
+    ∷ (asks_bad_option message.body.value, BadOption)
+    ∷ (is_none found, NoCommonType)
+    ∷ (is_bad timestamp, PreauthFailed)
+    ∷ (is_skewed timestamp, TimestampSkewed)
+    ∷ (lacks_preauth v.client timestamp, PreauthRequired)
+    ∷ (is_postdating_refused v message.body.value, PostdatingRefused)
+    ∷ (starts_too_late now message.body.value, StartsTooLate)
+    ∷ []
+
+-- what is admitted, or why nothing is: in the end because the ticket would not end after it starts
+abbrev pub verdict_by : View → ℤ → Received → Outcome → Option Terms → Result Admission AsRefusal
+verdict_by v now message timestamp found = decided (rules_by v now message timestamp found) (admission_of v.limits now message.body.value found) NeverValid
+
+abbrev pub verdict : View → ℤ → Received → Result Admission AsRefusal
+verdict v now message = verdict_by v now message (timestamp_of v.client now message) (terms v message.body.value)
+
+abbrev pub code_of : AsRefusal → Code
+code_of BadVersion = codes.TheVariants.KdcErrBadPvno
+code_of BadMessageType = codes.TheVariants.KrbApErrMsgType
+code_of ClientUnknown = codes.TheVariants.KdcErrCPrincipalUnknown
+code_of ServiceUnknown = codes.TheVariants.KdcErrSPrincipalUnknown
+code_of ClientRevoked = codes.TheVariants.KdcErrClientRevoked
+code_of ClientExpired = codes.TheVariants.KdcErrNameExp
+code_of PasswordExpired = codes.TheVariants.KdcErrKeyExpired
+code_of ServiceRevoked = codes.TheVariants.KdcErrServiceRevoked
+code_of ServiceExpired = codes.TheVariants.KdcErrServiceExp
+code_of BadOption = codes.TheVariants.KdcErrBadoption
+code_of NoCommonType = codes.TheVariants.KdcErrEtypeNosupp
+code_of PreauthFailed = codes.TheVariants.KdcErrPreauthFailed
+code_of TimestampSkewed = codes.TheVariants.KrbApErrSkew
+code_of PreauthRequired = codes.TheVariants.KdcErrPreauthRequired
+code_of PostdatingRefused = codes.TheVariants.KdcErrPolicy
+code_of StartsTooLate = codes.TheVariants.KdcErrCannotPostdate
+code_of NeverValid = codes.TheVariants.KdcErrNeverValid

@@ -1,0 +1,132 @@
+//! From an AS-REQ to its reply, and what becomes of the client's failures.
+ghost use Rattle.std.specs.Prelude.{◌≡◌, ◌⊎◌, length, IfOk};
+ghost use Rattle.krb_types.specs.KrbError.{krb_error};
+ghost use Rattle.as_exchange.specs.Answer.{after_timestamp, after_sequel, answer_by, as_answer, too_big, within_room};
+ghost use Rattle.as_exchange.specs.Answer.{Opens, OpensBy, Spelled, SpelledBy};
+ghost use Rattle.as_exchange.specs.Known.{IsKnown};
+ghost use Rattle.as_exchange.specs.Named.{IsNamed};
+
+use crate::errors::{as_error, too_big};
+use crate::issuing::as_rep;
+use crate::refusal::{AsRefusal, Sequel};
+use crate::rules::{is_good, timestamp_of, verdict};
+use crate::terms::{Admission, terms_for};
+use crate::view::AsView;
+use krb_fields::Moment;
+use krb_types::{KdcReqRef, ReqBodyRef};
+use preauth::{Outcome, after_failure, after_success};
+use replay::Failures;
+use std::alloc::{AllocError, Global};
+
+/// The reply to an AS-REQ, and the client's failures afterwards: `None` where they stay as they were.
+#[derive(Debug, Drop)]
+pub struct AsAnswer {
+    pub reply: Vec<u8>,
+    pub failures: Option<Failures>,
+}
+
+/// Answers an AS-REQ. `words` are 64 random octets, and `room` is the most octets of a reply with a ticket.
+pub fn as_answer(
+    alloc: Global,
+    view: &AsView<'_>,
+    at: Moment,
+    words: &[u8; 64],
+    room: u32,
+    request: &KdcReqRef<'_>,
+) -> Result<AsAnswer, AllocError>
+    requires { IsKnown view.now request.now.body.value }
+    ensures reply { IfOk result (λ answer. answer.reply.items ≡ (as_answer view.now at words.now room request.now).reply) }
+    ensures failures { IfOk result (λ answer. answer.failures ≡ (as_answer view.now at words.now room request.now).failures) }
+    // The octets spell the message that the verdict says.
+    ensures spelled { IfOk result (λ answer. Spelled view.now at words.now request.now answer.reply.items) }
+    // Where they spell an AS-REP, the client's key and the service's find the same inside.
+    ensures same { IfOk result (λ answer. Opens view.now at words.now request.now) }
+{
+    let body = &request.body.value;
+    let timestamp = timestamp_of(alloc, view.client, at, request)?;
+    let terms = terms_for(alloc, view, body)?;
+    let verdict = verdict(view, at, request, timestamp, terms);
+    answer_by(alloc, view, at, words, room, body, timestamp, &verdict)
+}
+
+/// The answer by a verdict.
+fn answer_by(
+    alloc: Global,
+    view: &AsView<'_>,
+    at: Moment,
+    words: &[u8; 64],
+    room: u32,
+    body: &ReqBodyRef<'_>,
+    timestamp: Outcome,
+    verdict: &Result<Admission, AsRefusal>,
+) -> Result<AsAnswer, AllocError>
+    requires known { IsKnown view.now body.now }
+    requires named { IfOk verdict.now (λ admission. IsNamed admission.terms) }
+    ensures reply { IfOk result (λ answer. answer.reply.items ≡ (answer_by view.now at words.now room body.now timestamp verdict.now).reply) }
+    ensures failures { IfOk result (λ answer. answer.failures ≡ (answer_by view.now at words.now room body.now timestamp verdict.now).failures) }
+    ensures spelled { IfOk result (λ answer. SpelledBy view.now at words.now body.now timestamp verdict.now answer.reply.items) }
+    ensures same { IfOk result (λ answer. OpensBy view.now at words.now body.now timestamp verdict.now) }
+{
+    match verdict {
+        Err(refusal) => Ok(AsAnswer {
+            reply: as_error(alloc, view, at, body, *refusal)?,
+            failures: after_sequel(view.failures, at, timestamp, refusal.sequel()),
+        }),
+        Ok(admission) => {
+            let reply = as_rep(alloc, view, at, words, body, timestamp, admission)?;
+            let failures = after_timestamp(view.failures, timestamp);
+            within_room(alloc, view, at, room, body, reply, failures)
+        }
+    }
+}
+
+/// The reply with a ticket, or an error in its place where it is longer than the room.
+fn within_room(
+    alloc: Global,
+    view: &AsView<'_>,
+    at: Moment,
+    room: u32,
+    body: &ReqBodyRef<'_>,
+    reply: Vec<u8>,
+    failures: Option<Failures>,
+) -> Result<AsAnswer, AllocError>
+    requires { IsKnown view.now body.now }
+    ensures reply { IfOk result (λ answer. answer.reply.items ≡ (within_room view.now at room body.now reply.items failures).reply) }
+    ensures failures { IfOk result (λ answer. answer.failures ≡ (within_room view.now at room body.now reply.items failures).failures) }
+    ensures spelled { IfOk result (λ answer. (answer.reply.items ≡ reply.items) ⊎ krb_error.Spells (too_big view.now at body.now) answer.reply.items) }
+{
+    if reply.len() > room as usize {
+        return Ok(AsAnswer {
+            reply: too_big(alloc, view, at, body)?,
+            failures: None,
+        });
+    }
+    Ok(AsAnswer { reply, failures })
+}
+
+/// The failures after a refusal.
+fn after_sequel(
+    failures: Failures,
+    at: Moment,
+    timestamp: Outcome,
+    sequel: Sequel,
+) -> Option<Failures>
+    ensures { result ≡ after_sequel failures at timestamp sequel }
+{
+    match sequel {
+        Sequel::CountsFailure => Some(after_failure(failures, at)),
+        Sequel::FollowsTimestamp => after_timestamp(failures, timestamp),
+        Sequel::Nothing | Sequel::TellsMethods => None,
+    }
+}
+
+/// A good timestamp ends the count of failures.
+fn after_timestamp(failures: Failures, timestamp: Outcome) -> Option<Failures>
+    ensures { result ≡ after_timestamp failures timestamp }
+{
+    if is_good(timestamp) {
+        Some(after_success(failures))
+    } else {
+        None
+    }
+}

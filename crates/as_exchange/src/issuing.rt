@@ -1,0 +1,139 @@
+//! The ticket of an admission, and the reply that bears it (RFC 4120, section 3.1.3).
+ghost use Rattle.std.specs.Prelude.{◌≡◌, ◌≤◌, ◌∷◌, [], length, take, IfOk};
+ghost use Rattle.krb_elements.specs.Codec.{list_of, written};
+ghost use Rattle.krb_fields.specs.NameLimits.{IsWithinLimits};
+ghost use Rattle.krb_fields.specs.PaData.{pa_data};
+ghost use Rattle.krb_replies.specs.KdcRep.{kdc_rep};
+ghost use Rattle.kdc_replies.specs.Grant.{IsShort};
+ghost use Rattle.kdc_replies.specs.Reply.{OpensAlike};
+ghost use Rattle.as_exchange.specs.Issue.{session_key, grant_by, reply_key_of, reply_info, as_rep};
+ghost use Rattle.as_exchange.specs.Named.{IsNamed};
+
+use crate::rules::is_good;
+use crate::terms::{Admission, Terms};
+use crate::view::AsView;
+use enctypes::{Etype, Key, KeyUsage};
+use kdc_replies::{Asked, Grant, ReplyKey, ticket_reply, version_number};
+use krb_elements::{KerberosString, Seq};
+use krb_fields::{Moment, PaData};
+use krb_types::ReqBodyRef;
+use preauth::{Outcome, etype_info2};
+use std::alloc::{AllocError, Global};
+use ticket_times::as_flags;
+
+/// The octets of the AS-REP. Of the random octets the first 32 make the session key, and the last 32 are the
+/// confounders of the ticket and of the reply.
+pub fn as_rep(
+    alloc: Global,
+    view: &AsView<'_>,
+    at: Moment,
+    words: &[u8; 64],
+    body: &ReqBodyRef<'_>,
+    timestamp: Outcome,
+    admission: &Admission,
+) -> Result<Vec<u8>, AllocError>
+    requires realm { length view.now.realm ≤ 255 }
+    requires named { IsNamed admission.now.terms }
+    ensures written { IfOk result (λ octets. octets.items ≡ written (kdc_rep 11) (as_rep view.now at words.now body.now timestamp admission.now)) }
+    ensures spelled { IfOk result (λ octets. (kdc_rep 11).Spells (as_rep view.now at words.now body.now timestamp admission.now) octets.items) }
+    // The client and the service find the same inside.
+    ensures same { IfOk result (λ octets. OpensAlike 11 25 admission.now.terms.reply_key 3 admission.now.terms.service_key.key (as_rep view.now at words.now body.now timestamp admission.now)) }
+{
+    let padata = reply_data(alloc, view, &admission.terms)?;
+    let reply_key = reply_key_of(&admission.terms);
+    let asked = Asked {
+        nonce: body.nonce,
+        now: at.time(),
+    };
+    let grant = grant_of(alloc, view, at, words, body, timestamp, admission)?;
+    ticket_reply::<11, 25>(
+        alloc,
+        &grant,
+        &admission.terms.service_key,
+        &reply_key,
+        Some(padata),
+        asked,
+        words,
+    )
+}
+
+fn grant_of(
+    alloc: Global,
+    view: &AsView<'_>,
+    at: Moment,
+    words: &[u8; 64],
+    body: &ReqBodyRef<'_>,
+    timestamp: Outcome,
+    admission: &Admission,
+) -> Result<Grant, AllocError>
+    requires realm { length view.now.realm ≤ 255 }
+    requires named { IsNamed admission.now.terms }
+    ensures value { IfOk result (λ grant. grant ≡ grant_by view.now at words.now body.now timestamp admission.now) }
+    ensures short { IfOk result IsShort }
+{
+    let Admission { terms, times } = admission;
+    let flags = as_flags(
+        body,
+        &terms.client,
+        &terms.service,
+        is_good(timestamp),
+        times,
+    );
+    Ok(Grant {
+        realm: KerberosString::from_slice(alloc, view.realm)?,
+        client: terms.client_name.copy(alloc)?,
+        service: terms.service_name.copy(alloc)?,
+        session_key: session_key(terms.session_type, words),
+        flags,
+        authtime: at.time(),
+        times: *times,
+    })
+}
+
+/// Random octets are a key as they are: the first ones.
+fn session_key(etype: Etype, words: &[u8; 64]) -> Key
+    ensures { result ≡ session_key etype words.now }
+{
+    let mut octets = [0; 32];
+    octets.copy_from_slice(&words[..32]);
+    Key::from_random(etype, &octets)
+}
+
+/// The client's key, by its version.
+fn reply_key_of(terms: &Terms) -> ReplyKey
+    ensures { result ≡ reply_key_of terms.now }
+{
+    ReplyKey {
+        key: terms.reply_key,
+        usage: KeyUsage::AsRepEncPart,
+        kvno: Some(version_number(terms.reply_version)),
+    }
+}
+
+/// PA-ETYPE-INFO2 with how the reply key is made from a password.
+#[tactic(auto, using(crate::specs::Named::data_short))]
+fn reply_data(
+    alloc: Global,
+    view: &AsView<'_>,
+    terms: &Terms,
+) -> Result<Seq<PaData>, AllocError>
+    requires realm { length view.now.realm ≤ 255 }
+    requires named { IsNamed terms.now }
+    ensures value { IfOk result (λ list. list ≡ reply_info view.now terms.now ∷ []) }
+    ensures short { IfOk result (λ list. length ((list_of pa_data).text list) ≤ 70000) }
+{
+    let mut list = Seq::new(alloc);
+    list.push(reply_info(alloc, view, terms)?)?;
+    Ok(list)
+}
+
+#[tactic(auto, using(crate::specs::Known::salt_short))]
+fn reply_info(alloc: Global, view: &AsView<'_>, terms: &Terms) -> Result<PaData, AllocError>
+    requires realm { length view.now.realm ≤ 255 }
+    requires named { IsNamed terms.now }
+    ensures value { IfOk result (λ info. info ≡ reply_info view.now terms.now) }
+    ensures short { IfOk result (λ info. length info.padata_value ≤ 32926) }
+{
+    let salt = terms.client_name.salt(alloc, view.realm)?;
+    etype_info2(alloc, salt.as_slice(), &[terms.reply_key.etype().number()])
+}

@@ -1,0 +1,15 @@
+//! The Authentication Service exchange (RFC 4120, section 3.1): from a request and what is known of its client and its
+//! service to the reply.
+#![tactic(auto)]
+
+mod answering;
+mod errors;
+mod issuing;
+mod refusal;
+mod rules;
+mod terms;
+mod view;
+
+pub use answering::{AsAnswer, as_answer};
+pub use refusal::AsRefusal;
+pub use view::AsView;

@@ -1,0 +1,79 @@
+//! Why AS-REQs are refused.
+ghost use Rattle.std.specs.Prelude.{◌≡◌};
+ghost use Rattle.as_exchange.specs.Answer.{sequel_of};
+ghost use Rattle.as_exchange.specs.Rules.{code_of};
+
+use krb_fields::Code;
+
+/// Why an AS-REQ is refused, in the order in which it is asked.
+#[derive(Clone, Copy, Debug, PartialEq, Eq)]
+pub enum AsRefusal {
+    BadVersion,
+    BadMessageType,
+    ClientUnknown,
+    ServiceUnknown,
+    ClientRevoked,
+    ClientExpired,
+    PasswordExpired,
+    ServiceRevoked,
+    ServiceExpired,
+    BadOption,
+    NoCommonType,
+    PreauthFailed,
+    TimestampSkewed,
+    PreauthRequired,
+    PostdatingRefused,
+    StartsTooLate,
+    NeverValid,
+}
+
+/// What goes with a refusal beside its code.
+#[derive(Clone, Copy, Debug, PartialEq, Eq)]
+pub enum Sequel {
+    Nothing,
+    /// A failure of the client is counted.
+    CountsFailure,
+    /// The client is told how it can show its key.
+    TellsMethods,
+    /// The timestamp, if there was one, was good.
+    FollowsTimestamp,
+}
+
+impl AsRefusal {
+    pub fn code(self) -> Code
+        ensures { result ≡ code_of self }
+    {
+        match self {
+            AsRefusal::BadVersion => Code::KdcErrBadPvno,
+            AsRefusal::BadMessageType => Code::KrbApErrMsgType,
+            AsRefusal::ClientUnknown => Code::KdcErrCPrincipalUnknown,
+            AsRefusal::ServiceUnknown => Code::KdcErrSPrincipalUnknown,
+            AsRefusal::ClientRevoked => Code::KdcErrClientRevoked,
+            AsRefusal::ClientExpired => Code::KdcErrNameExp,
+            AsRefusal::PasswordExpired => Code::KdcErrKeyExpired,
+            AsRefusal::ServiceRevoked => Code::KdcErrServiceRevoked,
+            AsRefusal::ServiceExpired => Code::KdcErrServiceExp,
+            AsRefusal::BadOption => Code::KdcErrBadoption,
+            AsRefusal::NoCommonType => Code::KdcErrEtypeNosupp,
+            AsRefusal::PreauthFailed => Code::KdcErrPreauthFailed,
+            AsRefusal::TimestampSkewed => Code::KrbApErrSkew,
+            AsRefusal::PreauthRequired => Code::KdcErrPreauthRequired,
+            AsRefusal::PostdatingRefused => Code::KdcErrPolicy,
+            AsRefusal::StartsTooLate => Code::KdcErrCannotPostdate,
+            AsRefusal::NeverValid => Code::KdcErrNeverValid,
+        }
+    }
+
+    pub fn sequel(self) -> Sequel
+        ensures { result ≡ sequel_of self }
+    {
+        match self {
+            AsRefusal::PreauthFailed => Sequel::CountsFailure,
+            AsRefusal::PreauthRequired => Sequel::TellsMethods,
+            AsRefusal::PostdatingRefused | AsRefusal::StartsTooLate | AsRefusal::NeverValid => {
+                Sequel::FollowsTimestamp
+            }
+            _ => Sequel::Nothing,
+        }
+    }
+}

@@ -1,0 +1,224 @@
+//! The rules of the AS exchange (RFC 4120, section 3.1.3), one condition each.
+ghost use Rattle.std.specs.Prelude.{◌≡◌, IfOk, option_copied};
+ghost use Rattle.as_exchange.specs.Rules.{is_bad_version, is_bad_message_type, is_client_unknown, is_service_unknown, is_disabled, is_expired};
+ghost use Rattle.as_exchange.specs.Rules.{has_come, has_expired_password, is_client_revoked, asks_bad_option, needs_preauth, lacks_preauth, forbids_postdating};
+ghost use Rattle.as_exchange.specs.Rules.{is_postdating_refused, is_bad, is_skewed, is_absent, is_good, timestamp_of, rules_by, verdict_by};
+
+use crate::refusal::AsRefusal;
+use crate::terms::{Admission, Terms, admission_of};
+use crate::view::AsView;
+use krb_fields::{KdcOption, Moment, Second};
+use krb_types::{AS_REQ, KdcReqRef, PVNO, ReqBodyRef};
+use preauth::{Outcome, check_timestamp, is_locked};
+use principal_rows::Row;
+use refusals::decide;
+use std::alloc::{AllocError, Global};
+use ticket_times::{asks, starts_too_late};
+
+/// What is admitted, or why nothing is: the first rule that holds, and in the end that the ticket would not end after it
+/// starts.
+pub fn verdict(
+    view: &AsView<'_>,
+    at: Moment,
+    request: &KdcReqRef<'_>,
+    timestamp: Outcome,
+    terms: Option<Terms>,
+) -> Result<Admission, AsRefusal>
+    ensures { result ≡ verdict_by view.now at.sec request.now timestamp terms }
+{
+    let rules = rules_by(view, at, request, timestamp, &terms);
+    let admission = admission_of(view.limits, at, &request.body.value, terms);
+    decide(&rules, admission, AsRefusal::NeverValid)
+}
+
+/// All rules but the last, in the order in which they are asked.
+fn rules_by(
+    view: &AsView<'_>,
+    at: Moment,
+    request: &KdcReqRef<'_>,
+    timestamp: Outcome,
+    terms: &Option<Terms>,
+) -> [(bool, AsRefusal); 16]
+    ensures { result ≡ rules_by view.now at.sec request.now timestamp terms.now }
+{
+    let body = &request.body.value;
+    [
+        (is_bad_version(request), AsRefusal::BadVersion),
+        (is_bad_message_type(request), AsRefusal::BadMessageType),
+        (is_client_unknown(view, body), AsRefusal::ClientUnknown),
+        (is_service_unknown(view, body), AsRefusal::ServiceUnknown),
+        (is_client_revoked(view, at), AsRefusal::ClientRevoked),
+        (is_expired(view.client, at), AsRefusal::ClientExpired),
+        (
+            has_expired_password(view.client, at),
+            AsRefusal::PasswordExpired,
+        ),
+        (is_disabled(view.service), AsRefusal::ServiceRevoked),
+        (is_expired(view.service, at), AsRefusal::ServiceExpired),
+        (asks_bad_option(body), AsRefusal::BadOption),
+        (terms.is_none(), AsRefusal::NoCommonType),
+        (is_bad(timestamp), AsRefusal::PreauthFailed),
+        (is_skewed(timestamp), AsRefusal::TimestampSkewed),
+        (
+            lacks_preauth(view.client, timestamp),
+            AsRefusal::PreauthRequired,
+        ),
+        (
+            is_postdating_refused(view, body),
+            AsRefusal::PostdatingRefused,
+        ),
+        (starts_too_late(at.sec, body), AsRefusal::StartsTooLate),
+    ]
+}
+
+/// What became of the timestamp of a client that has a row.
+pub fn timestamp_of(
+    alloc: Global,
+    client: Option<&Row>,
+    at: Moment,
+    request: &KdcReqRef<'_>,
+) -> Result<Outcome, AllocError>
+    ensures { IfOk result (λ timestamp. timestamp ≡ timestamp_of (option_copied client.entry) at.sec request.now) }
+{
+    match client {
+        Some(row) => check_timestamp(alloc, row, at, request.padata.as_ref()),
+        None => Ok(Outcome::Absent),
+    }
+}
+
+fn is_bad_version(request: &KdcReqRef<'_>) -> bool
+    ensures { result ≡ is_bad_version request.now }
+{
+    request.pvno != PVNO
+}
+
+fn is_bad_message_type(request: &KdcReqRef<'_>) -> bool
+    ensures { result ≡ is_bad_message_type request.now }
+{
+    request.msg_type != i32::from(AS_REQ)
+}
+
+/// The realm isn't ours, no client is named, or it has no row.
+fn is_client_unknown(view: &AsView<'_>, body: &ReqBodyRef<'_>) -> bool
+    ensures { result ≡ is_client_unknown view.now body.now }
+{
+    body.realm.as_slice() != view.realm || body.cname.is_none() || view.client.is_none()
+}
+
+/// No service is named, or it has no row.
+fn is_service_unknown(view: &AsView<'_>, body: &ReqBodyRef<'_>) -> bool
+    ensures { result ≡ is_service_unknown view.now body.now }
+{
+    body.sname.is_none() || view.service.is_none()
+}
+
+/// The client's row is disabled, or too many failures have locked it.
+fn is_client_revoked(view: &AsView<'_>, at: Moment) -> bool
+    ensures { result ≡ is_client_revoked view.now at.sec }
+{
+    is_disabled(view.client) || is_locked(view.failures, view.limits, at)
+}
+
+fn is_disabled(row: Option<&Row>) -> bool
+    ensures { result ≡ is_disabled (option_copied row.entry) }
+{
+    match row {
+        Some(row) => row.policy.disabled,
+        None => false,
+    }
+}
+
+fn is_expired(row: Option<&Row>, at: Moment) -> bool
+    ensures { result ≡ is_expired (option_copied row.entry) at.sec }
+{
+    match row {
+        Some(row) => has_come(row.policy.expires, at),
+        None => false,
+    }
+}
+
+fn has_expired_password(row: Option<&Row>, at: Moment) -> bool
+    ensures { result ≡ has_expired_password (option_copied row.entry) at.sec }
+{
+    match row {
+        Some(row) => has_come(row.policy.password_expires, at),
+        None => false,
+    }
+}
+
+/// Whether a time has come, if there is one.
+fn has_come(time: Option<Second>, at: Moment) -> bool
+    ensures { result ≡ has_come time at.sec }
+{
+    match time {
+        Some(time) => time.get() <= at.sec,
+        None => false,
+    }
+}
+
+/// Options that only a TGS-REQ may have.
+fn asks_bad_option(body: &ReqBodyRef<'_>) -> bool
+    ensures { result ≡ asks_bad_option body.now }
+{
+    asks(body, KdcOption::Forwarded)
+        || asks(body, KdcOption::Proxy)
+        || asks(body, KdcOption::EncTktInSkey)
+        || asks(body, KdcOption::Renew)
+        || asks(body, KdcOption::Validate)
+}
+
+/// No timestamp came, and the client's row requires one.
+fn lacks_preauth(row: Option<&Row>, timestamp: Outcome) -> bool
+    ensures { result ≡ lacks_preauth (option_copied row.entry) timestamp }
+{
+    is_absent(timestamp) && needs_preauth(row)
+}
+
+fn needs_preauth(row: Option<&Row>) -> bool
+    ensures { result ≡ needs_preauth (option_copied row.entry) }
+{
+    match row {
+        Some(row) => row.policy.preauth,
+        None => false,
+    }
+}
+
+fn is_postdating_refused(view: &AsView<'_>, body: &ReqBodyRef<'_>) -> bool
+    ensures { result ≡ is_postdating_refused view.now body.now }
+{
+    let postdating = asks(body, KdcOption::Postdated) || asks(body, KdcOption::AllowPostdate);
+    postdating && (forbids_postdating(view.client) || forbids_postdating(view.service))
+}
+
+fn forbids_postdating(row: Option<&Row>) -> bool
+    ensures { result ≡ forbids_postdating (option_copied row.entry) }
+{
+    match row {
+        Some(row) => !row.policy.postdate,
+        None => false,
+    }
+}
+
+fn is_bad(timestamp: Outcome) -> bool
+    ensures { result ≡ is_bad timestamp }
+{
+    matches!(timestamp, Outcome::Bad)
+}
+
+fn is_skewed(timestamp: Outcome) -> bool
+    ensures { result ≡ is_skewed timestamp }
+{
+    matches!(timestamp, Outcome::Skewed)
+}
+
+fn is_absent(timestamp: Outcome) -> bool
+    ensures { result ≡ is_absent timestamp }
+{
+    matches!(timestamp, Outcome::Absent)
+}
+
+pub fn is_good(timestamp: Outcome) -> bool
+    ensures { result ≡ is_good timestamp }
+{
+    matches!(timestamp, Outcome::Good)
+}

@@ -1,0 +1,115 @@
+//! What the rows have for the types that a request asks for, and the times of the ticket.
+ghost use Rattle.std.specs.Prelude.{◌≡◌, IfOk, IfSome, option_copied};
+ghost use Rattle.as_exchange.specs.Terms.{admission_of, terms, terms_of};
+
+use crate::view::AsView;
+use enctypes::{Etype, Key};
+use kdc_replies::ServiceKey;
+use krb_elements::SeqRef;
+use krb_fields::{Moment, Name, NameRef};
+use krb_types::ReqBodyRef;
+use preauth::first_key;
+use principal_rows::{Limits, Policy, Row};
+use std::alloc::{AllocError, Global};
+use ticket_times::{Times, as_times};
+
+/// A client and a service that have keys of the types asked for.
+#[derive(Debug, Drop)]
+pub struct Terms {
+    pub client_name: Name,
+    pub service_name: Name,
+    pub client: Policy,
+    pub service: Policy,
+    /// The client's current key of the first type asked for that it has.
+    pub reply_key: Key,
+    /// The number of its version.
+    pub reply_version: u32,
+    /// The first type asked for that the service has a current key of.
+    pub session_type: Etype,
+    /// The service's first current key, under which the ticket is sealed.
+    pub service_key: ServiceKey,
+}
+
+/// What a ticket is issued by.
+#[derive(Debug, Drop)]
+pub struct Admission {
+    pub terms: Terms,
+    pub times: Times,
+}
+
+/// The terms of a request; `None` where a name or a row is absent, or there is no common type.
+pub fn terms_for(
+    alloc: Global,
+    view: &AsView<'_>,
+    body: &ReqBodyRef<'_>,
+) -> Result<Option<Terms>, AllocError>
+    ensures { IfOk result (λ found. found ≡ terms view.now body.now) }
+{
+    let Some(cname) = &body.cname else {
+        return Ok(None);
+    };
+    let Some(sname) = &body.sname else {
+        return Ok(None);
+    };
+    let Some(client) = view.client else {
+        return Ok(None);
+    };
+    let Some(service) = view.service else {
+        return Ok(None);
+    };
+    terms_of(alloc, &body.etype, cname, sname, client, service)
+}
+
+fn terms_of(
+    alloc: Global,
+    types: &SeqRef<'_, i32>,
+    cname: &NameRef<'_>,
+    sname: &NameRef<'_>,
+    client: &Row,
+    service: &Row,
+) -> Result<Option<Terms>, AllocError>
+    ensures { IfOk result (λ found. found ≡ terms_of types.now cname.now sname.now client.now service.now) }
+{
+    let theirs = client.versions.current();
+    let ours = service.versions.current();
+    let Some(reply_key) = first_key(&theirs.keys, types) else {
+        return Ok(None);
+    };
+    let Some(session_key) = first_key(&ours.keys, types) else {
+        return Ok(None);
+    };
+    let Some(key) = ours.keys.keys().first() else {
+        return Ok(None);
+    };
+    Ok(Some(Terms {
+        client_name: cname.to_name(alloc)?,
+        service_name: sname.to_name(alloc)?,
+        client: client.policy,
+        service: service.policy,
+        reply_key: *reply_key,
+        reply_version: theirs.number,
+        session_type: session_key.etype(),
+        service_key: ServiceKey {
+            key: *key,
+            version: ours.number,
+        },
+    }))
+}
+
+/// The admission by these terms, where the ticket ends after it starts.
+pub fn admission_of(
+    limits: &Limits,
+    at: Moment,
+    body: &ReqBodyRef<'_>,
+    terms: Option<Terms>,
+) -> Option<Admission>
+    ensures { result ≡ admission_of limits.now at.sec body.now terms }
+{
+    let Some(terms) = terms else {
+        return None;
+    };
+    let Ok(times) = as_times(at, &terms.client, &terms.service, limits, body) else {
+        return None;
+    };
+    Some(Admission { terms, times })
+}

@@ -1,0 +1,27 @@
+//! What an answer of the AS exchange is made from, beside the request.
+use principal_rows::{Limits, Row};
+use replay::Failures;
+use std::marker::Model;
+
+/// What is known of the client and the service that a request names.
+#[derive(Debug, Drop)]
+pub struct AsView<'a> {
+    /// The realm's octets, 1 to 255.
+    pub realm: &'a [u8],
+    pub limits: &'a Limits,
+    /// The client's row, where it has one.
+    pub client: Option<&'a Row>,
+    /// The service's row, where it has one.
+    pub service: Option<&'a Row>,
+    /// The client's failures.
+    pub failures: Failures,
+}
+
+impl<'a> Model for AsView<'a> {
+    ghost use Rattle.std.specs.Prelude.{option_copied};
+    ghost use Rattle.as_exchange.specs.View.{View};
+
+    ghost Value = { View };
+
+    ghost view = { λ v. record { realm = v.realm.now; limits = v.limits.now; client = option_copied v.client; service = option_copied v.service; failures = v.failures } };
+}

@@ -1,0 +1,26 @@
+-- The errors that a key distribution centre answers with.
+use Rattle.std.specs.Prelude.{ℕ, List, Option, None}
+use Rattle.std.specs.Option.{unwrap_or}
+use Rattle.krb_fields.specs.declared.code.Code.{Code}
+use Rattle.krb_fields.specs.declared.moment.Moment.{Moment}
+use Rattle.krb_fields.specs.Code.{number_of}
+use Rattle.krb_fields.specs.PrincipalName.{Name}
+use Rattle.krb_types.specs.KrbError.{KrbError}
+use Rattle.principals.specs.Database.{granter_name}
+
+-- KRB-ERROR (RFC 4120, section 5.9.1): the moment, the code, our realm, the service asked for, else the ticket-granting
+-- service, and what goes with the code
+abbrev pub error_reply : List ℕ → Moment → Code → Option Name → Option (List ℕ) → KrbError
+error_reply realm at code sname e_data = record {
+  ctime = None;
+  cusec = None;
+  stime = at.sec;
+  susec = at.usec;
+  error_code = number_of code;
+  crealm = None;
+  cname = None;
+  realm = realm;
+  sname = unwrap_or sname (granter_name realm);
+  e_text = None;
+  e_data = e_data;
+}

@@ -1,0 +1,56 @@
+-- What is granted, as it stands in the ticket and in the part of the reply that the client reads (RFC 4120, sections 5.3
+-- and 5.4.2).
+use Rattle.std.specs.Prelude.{ℤ, pos, ◌≤◌, List, [], ◌∷◌, length, Option, Some, None}
+use Rattle.enctypes.specs.declared.key.Key.{Key}
+use Rattle.enctypes.specs.Etype.{number}
+use Rattle.krb_fields.specs.NameLimits.{IsWithinLimits}
+use Rattle.krb_fields.specs.Typed.{Typed}
+use Rattle.krb_parts.specs.EncKdcRepPart.{EncKdcRepPart}
+use Rattle.krb_parts.specs.EncTicketPart.{EncTicketPart}
+use Rattle.kdc_replies.specs.declared.grant.Grant.{Grant}
+
+-- a realm and names that have rows: what is written of them is short
+pub record IsShort (grant : Grant) : Type 0 where
+  pub realm : length grant.realm ≤ 255
+  pub client : IsWithinLimits grant.client.components
+  pub service : IsWithinLimits grant.service.components
+
+-- EncryptionKey (section 5.2.9)
+abbrev pub key_part : Key → Typed
+key_part key = record { number = number key.etype; octets = key.bytes }
+
+-- the realms between the client's and the service's: none, in the form DOMAIN-X500-COMPRESS (section 3.3.3.2)
+abbrev pub no_realms : Typed
+no_realms = record { number = pos 1; octets = [] }
+
+abbrev pub ticket_part : Grant → EncTicketPart
+ticket_part grant = record {
+  flags = grant.flags;
+  key = key_part grant.session_key;
+  crealm = grant.realm;
+  cname = grant.client;
+  transited = no_realms;
+  authtime = grant.authtime;
+  starttime = Some grant.times.start;
+  endtime = grant.times.end;
+  renew_till = grant.times.renew_till;
+  caddr = None;
+  authorization_data = None;
+}
+
+-- `nonce` is the request's, and `now` the moment's second
+abbrev pub reply_part : Grant → ℤ → ℤ → EncKdcRepPart
+reply_part grant nonce now = record {
+  key = key_part grant.session_key;
+  last_req = record { lr_type = pos 0; lr_value = now } ∷ [];
+  nonce = nonce;
+  key_expiration = None;
+  flags = grant.flags;
+  authtime = grant.authtime;
+  starttime = Some grant.times.start;
+  endtime = grant.times.end;
+  renew_till = grant.times.renew_till;
+  srealm = grant.realm;
+  sname = grant.service;
+  caddr = None;
+}

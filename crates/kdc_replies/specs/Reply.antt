@@ -1,0 +1,63 @@
+-- Replies with a ticket (RFC 4120, section 5.4.2). Of the random octets the last 32 are the two confounders.
+use Rattle.std.specs.Prelude.{◌≡◌, ℕ, ℤ, pos, List, take, drop, Option, Some}
+use Rattle.enctypes.specs.declared.key.Key.{Key}
+use Rattle.enctypes.specs.KeyUsage.{usage_number}
+use Rattle.krb_fields.specs.EncryptedData.{EncryptedData}
+use Rattle.krb_fields.specs.PaData.{PaData}
+use Rattle.krb_parts.specs.EncKdcRepPart.{EncKdcRepPart, enc_kdc_rep_part}
+use Rattle.krb_parts.specs.EncTicketPart.{EncTicketPart, enc_ticket_part}
+use Rattle.krb_replies.specs.KdcRep.{KdcRep}
+use Rattle.krb_replies.specs.Under.{under}
+use Rattle.krb_types.specs.Ticket.{Ticket}
+use Rattle.kdc_replies.specs.declared.grant.Grant.{Grant}
+use Rattle.kdc_replies.specs.declared.replies.ReplyKey.{ReplyKey}
+use Rattle.kdc_replies.specs.declared.tickets.ServiceKey.{ServiceKey}
+use Rattle.kdc_replies.specs.Encrypted.{encrypted, decrypted}
+use Rattle.kdc_replies.specs.Grant.{ticket_part, reply_part}
+
+abbrev pub ticket_confounder : List ℕ → List ℕ
+ticket_confounder words = take 16 (drop 32 words)
+
+abbrev pub reply_confounder : List ℕ → List ℕ
+reply_confounder words = take 16 (drop 48 words)
+
+-- Ticket (section 5.3): sealed under the service's key
+abbrev pub ticket_of : Grant → ServiceKey → List ℕ → Ticket
+ticket_of grant service words = record {
+  tkt_vno = pos 5;
+  realm = grant.realm;
+  sname = grant.service;
+  enc_part = encrypted enc_ticket_part service.key 2 (Some (pos service.version)) (ticket_confounder words) (ticket_part grant);
+}
+
+-- the part in the tag that its exchange gives it
+abbrev pub sealed_part : ℕ → Grant → ReplyKey → ℤ → ℤ → List ℕ → EncryptedData
+sealed_part tag grant reply nonce now words =
+    encrypted (under tag enc_kdc_rep_part) reply.key (usage_number reply.usage) reply.kvno (reply_confounder words) (reply_part grant nonce now)
+
+-- the reply of an exchange: `type` is its message type, and `tag` that of its sealed part
+abbrev pub reply_of : (type tag : ℕ) → Grant → ServiceKey → ReplyKey → Option (List PaData) → ℤ → ℤ → List ℕ → KdcRep type
+reply_of type tag grant service reply padata nonce now words = record {
+  padata = padata;
+  crealm = grant.realm;
+  cname = grant.client;
+  ticket = ticket_of grant service words;
+  enc_part = sealed_part tag grant reply nonce now words;
+}
+
+-- What the two sealed parts hold: the same session key, flags and times.
+pub record SayTheSame (part : EncKdcRepPart) (ticket : EncTicketPart) : Type 0 where
+  pub key : part.key ≡ ticket.key
+  pub flags : part.flags ≡ ticket.flags
+  pub authtime : part.authtime ≡ ticket.authtime
+  pub starttime : part.starttime ≡ ticket.starttime
+  pub endtime : part.endtime ≡ ticket.endtime
+  pub renew_till : part.renew_till ≡ ticket.renew_till
+
+-- The client's key opens its part of the reply, and the service's key the ticket, and they find the same.
+pub record OpensAlike (type tag : ℕ) (reply_key : Key) (usage : ℕ) (service_key : Key) (reply : KdcRep type) : Type 0 where
+  pub part : EncKdcRepPart
+  pub ticket : EncTicketPart
+  pub client_reads : decrypted (under tag enc_kdc_rep_part) reply_key usage reply.enc_part ≡ Some part
+  pub service_reads : decrypted enc_ticket_part service_key 2 reply.ticket.enc_part ≡ Some ticket
+  pub same : SayTheSame part ticket

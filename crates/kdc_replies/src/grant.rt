@@ -1,0 +1,105 @@
+//! What a key distribution centre grants.
+ghost use Rattle.std.specs.Prelude.{◌≡◌, ◌≤◌, length, IfOk};
+ghost use Rattle.krb_parts.specs.EncKdcRepPart.{enc_kdc_rep_part};
+ghost use Rattle.krb_parts.specs.EncTicketPart.{enc_ticket_part};
+ghost use Rattle.kdc_replies.specs.Grant.{IsShort, key_part, no_realms, ticket_part, reply_part};
+
+use enctypes::Key;
+use krb_der::KTime;
+use krb_elements::{KerberosString, Octets, Seq, UInt32};
+use krb_fields::{Flags, Name, Typed};
+use krb_parts::{EncKdcRepPart, EncTicketPart, LastReq};
+use std::alloc::{AllocError, Global};
+use ticket_times::Times;
+
+/// A session of a client with a service, to which a ticket is issued.
+#[derive(Debug, Drop)]
+pub struct Grant {
+    /// The realm of both.
+    pub realm: KerberosString,
+    pub client: Name,
+    pub service: Name,
+    pub session_key: Key,
+    pub flags: Flags,
+    /// When the client was first authenticated.
+    pub authtime: KTime,
+    pub times: Times,
+}
+
+impl Grant {
+    /// What the ticket holds under the service's key.
+    #[tactic(auto, using(crate::specs::Lengths::ticket_part_short))]
+    pub(crate) fn ticket_part(&self, alloc: Global) -> Result<EncTicketPart, AllocError>
+        requires { IsShort self.now }
+        ensures value { IfOk result (λ part. part ≡ ticket_part self.now) }
+        ensures short { IfOk result (λ part. length (enc_ticket_part.text part) ≤ 6000) }
+    {
+        Ok(EncTicketPart {
+            flags: self.flags,
+            key: key_part(alloc, &self.session_key)?,
+            crealm: self.realm.copy(alloc)?,
+            cname: self.client.copy(alloc)?,
+            transited: no_realms(alloc),
+            authtime: self.authtime,
+            starttime: Some(self.times.start),
+            endtime: self.times.end,
+            renew_till: self.times.renew_till,
+            caddr: None,
+            authorization_data: None,
+        })
+    }
+
+    /// What the reply holds under the reply key.
+    #[tactic(auto, using(crate::specs::Lengths::reply_text_short))]
+    pub(crate) fn reply_part(
+        &self,
+        alloc: Global,
+        nonce: UInt32,
+        now: KTime,
+    ) -> Result<EncKdcRepPart, AllocError>
+        requires { IsShort self.now }
+        ensures value { IfOk result (λ part. part ≡ reply_part self.now nonce now) }
+        ensures short { IfOk result (λ part. length (enc_kdc_rep_part.text part) ≤ 6000) }
+    {
+        let mut last_req = Seq::new(alloc);
+        last_req.push(LastReq {
+            lr_type: 0,
+            lr_value: now,
+        })?;
+        Ok(EncKdcRepPart {
+            key: key_part(alloc, &self.session_key)?,
+            last_req,
+            nonce,
+            key_expiration: None,
+            flags: self.flags,
+            authtime: self.authtime,
+            starttime: Some(self.times.start),
+            endtime: self.times.end,
+            renew_till: self.times.renew_till,
+            srealm: self.realm.copy(alloc)?,
+            sname: self.service.copy(alloc)?,
+            caddr: None,
+        })
+    }
+}
+
+/// EncryptionKey (RFC 4120, section 5.2.9).
+fn key_part(alloc: Global, key: &Key) -> Result<Typed, AllocError>
+    ensures value { IfOk result (λ part. part ≡ key_part key.now) }
+    ensures short { length key.now.bytes ≤ 32 }
+{
+    Ok(Typed {
+        number: key.etype().number(),
+        octets: Octets::from_slice(alloc, key.bytes())?,
+    })
+}
+
+/// The realms between the client's and the service's: none (RFC 4120, section 3.3.3.2).
+fn no_realms(alloc: Global) -> Typed
+    ensures { result ≡ no_realms }
+{
+    Typed {
+        number: 1,
+        octets: Octets::new(Vec::new(alloc)),
+    }
+}

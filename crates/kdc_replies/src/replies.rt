@@ -1,0 +1,113 @@
+//! Replies with a ticket (RFC 4120, section 5.4.2).
+ghost use Rattle.std.specs.Prelude.{◌≡◌, ◌≤◌, ◌<◌, ◌+◌, ◌^◌, length, Some, IfOk, IfSome};
+ghost use Rattle.krb_elements.specs.Codec.{list_of, written};
+ghost use Rattle.krb_fields.specs.PaData.{pa_data};
+ghost use Rattle.krb_parts.specs.EncKdcRepPart.{enc_kdc_rep_part};
+ghost use Rattle.krb_replies.specs.KdcRep.{kdc_rep};
+ghost use Rattle.krb_replies.specs.Under.{under};
+ghost use Rattle.enctypes.specs.KeyUsage.{usage_number};
+ghost use Rattle.kdc_replies.specs.Encrypted.{decrypted};
+ghost use Rattle.kdc_replies.specs.Grant.{IsShort, reply_part};
+ghost use Rattle.kdc_replies.specs.Reply.{OpensAlike, sealed_part, reply_of};
+
+use crate::sealing::encrypted;
+use crate::grant::Grant;
+use crate::tickets::{ServiceKey, confounder, ticket};
+use enctypes::{Key, KeyUsage};
+use krb_der::KTime;
+use krb_elements::{Seq, UInt32, write};
+use krb_fields::{EncryptedData, PaData};
+use krb_replies::{KdcRep, Under};
+use std::alloc::{AllocError, Global};
+
+/// The key under which the client reads its part of a reply, what that use of it is, and its version where the reply
+/// says it.
+#[derive(Debug, Clone, Copy)]
+pub struct ReplyKey {
+    pub key: Key,
+    pub usage: KeyUsage,
+    pub kvno: Option<UInt32>,
+}
+
+/// What a reply repeats of its request, and when it is made.
+#[derive(Debug, Clone, Copy)]
+pub struct Asked {
+    pub nonce: UInt32,
+    pub now: KTime,
+}
+
+/// The octets of the reply with a grant's ticket, of message type `TYPE`, its sealed part in the tag
+/// `[APPLICATION TAG]`. Octets 32 to 48 and 48 to 64 of the random ones are the two confounders.
+pub fn ticket_reply<const TYPE: u8, const TAG: u8>(
+    alloc: Global,
+    grant: &Grant,
+    service: &ServiceKey,
+    key: &ReplyKey,
+    padata: Option<Seq<PaData>>,
+    asked: Asked,
+    words: &[u8; 64],
+) -> Result<Vec<u8>, AllocError>
+    requires grant { IsShort grant.now }
+    requires padata { IfSome padata (λ list. length ((list_of pa_data).text list) ≤ 70000) }
+    ensures written { IfOk result (λ octets. octets.items ≡ written (kdc_rep TYPE) (reply_of TYPE TAG grant.now service.now key.now padata asked.nonce asked.now words.now)) }
+    ensures spelled { IfOk result (λ octets. (kdc_rep TYPE).Spells (reply_of TYPE TAG grant.now service.now key.now padata asked.nonce asked.now words.now) octets.items) }
+    // The client and the service find the same inside.
+    ensures same { IfOk result (λ octets. OpensAlike TYPE TAG key.now.key (usage_number key.now.usage) service.now.key
+        (reply_of TYPE TAG grant.now service.now key.now padata asked.nonce asked.now words.now)) }
+{
+    let reply = whole_reply::<TYPE, TAG>(alloc, grant, service, key, padata, asked, words)?;
+    write(alloc, &reply)
+}
+
+#[tactic(auto, using(crate::specs::Lengths::reply_short))]
+fn whole_reply<const TYPE: u8, const TAG: u8>(
+    alloc: Global,
+    grant: &Grant,
+    service: &ServiceKey,
+    key: &ReplyKey,
+    padata: Option<Seq<PaData>>,
+    asked: Asked,
+    words: &[u8; 64],
+) -> Result<KdcRep<TYPE>, AllocError>
+    requires grant { IsShort grant.now }
+    requires padata { IfSome padata (λ list. length ((list_of pa_data).text list) ≤ 70000) }
+    ensures value { IfOk result (λ reply. reply ≡ reply_of TYPE TAG grant.now service.now key.now padata asked.nonce asked.now words.now) }
+    ensures short { IfOk result (λ reply. length ((kdc_rep TYPE).text reply) < 2 ^ 32) }
+    ensures same { IfOk result (λ reply. OpensAlike TYPE TAG key.now.key (usage_number key.now.usage) service.now.key reply) }
+{
+    let ticket = ticket(alloc, grant, service, words)?;
+    let enc_part = sealed::<TAG>(alloc, grant, key, asked, words)?;
+    Ok(KdcRep {
+        padata,
+        crealm: grant.realm.copy(alloc)?,
+        cname: grant.client.copy(alloc)?,
+        ticket,
+        enc_part,
+    })
+}
+
+#[tactic(auto, using(krb_elements::specs::ShortText::tlv_short))]
+fn sealed<const TAG: u8>(
+    alloc: Global,
+    grant: &Grant,
+    key: &ReplyKey,
+    asked: Asked,
+    words: &[u8; 64],
+) -> Result<EncryptedData, AllocError>
+    requires { IsShort grant.now }
+    ensures value { IfOk result (λ sealed. sealed ≡ sealed_part TAG grant.now key.now asked.nonce asked.now words.now) }
+    ensures opens { IfOk result (λ sealed. decrypted (under TAG enc_kdc_rep_part) key.now.key (usage_number key.now.usage) sealed ≡ Some (reply_part grant.now asked.nonce asked.now)) }
+    ensures most { IfOk result (λ sealed. length sealed.cipher ≤ 6200) }
+{
+    let part: Under<TAG, _> = Under {
+        value: grant.reply_part(alloc, asked.nonce, asked.now)?,
+    };
+    encrypted(
+        alloc,
+        &key.key,
+        key.usage,
+        key.kvno,
+        &confounder(words, 48),
+        &part,
+    )
+}

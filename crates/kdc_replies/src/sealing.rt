@@ -1,0 +1,32 @@
+//! Values sealed in messages.
+ghost use Rattle.std.specs.Prelude.{◌≡◌, ◌<◌, ◌≤◌, ◌+◌, ◌^◌, length, Some, IfOk};
+ghost use Rattle.enctypes.specs.KeyUsage.{usage_number};
+ghost use Rattle.kdc_replies.specs.Encrypted.{encrypted, decrypted};
+
+use enctypes::{Key, KeyUsage};
+use krb_elements::{Encode, Octets, UInt32};
+use krb_fields::EncryptedData;
+use sealed_parts::seal_part;
+use std::alloc::{AllocError, Global};
+
+/// The value, sealed. `confounder` is 16 random octets.
+pub fn encrypted<T: Encode>(
+    alloc: Global,
+    key: &Key,
+    usage: KeyUsage,
+    kvno: Option<UInt32>,
+    confounder: &[u8; 16],
+    part: &T,
+) -> Result<EncryptedData, AllocError>
+    requires { length (T.codec.text part.now) < 2 ^ 32 }
+    ensures value { IfOk result (λ sealed. sealed ≡ encrypted T.codec key.now (usage_number usage) kvno confounder.now part.now) }
+    ensures opens { IfOk result (λ sealed. decrypted T.codec key.now (usage_number usage) sealed ≡ Some part.now) }
+    ensures most { IfOk result (λ sealed. length sealed.cipher ≤ 46 + length (T.codec.text part.now)) }
+{
+    let cipher = seal_part(alloc, key, usage, confounder, part)?;
+    Ok(EncryptedData {
+        etype: key.etype().number(),
+        kvno,
+        cipher: Octets::new(cipher),
+    })
+}

@@ -1,0 +1,80 @@
+//! Tickets (RFC 4120, section 5.3).
+ghost use Rattle.std.specs.Prelude.{◌≡◌, ◌≤◌, ◌+◌, pos, length, take, drop, Some, IfOk};
+ghost use Rattle.krb_parts.specs.EncTicketPart.{enc_ticket_part};
+ghost use Rattle.kdc_replies.specs.Encrypted.{decrypted};
+ghost use Rattle.kdc_replies.specs.Grant.{IsShort, ticket_part};
+ghost use Rattle.kdc_replies.specs.Reply.{ticket_confounder, ticket_of};
+
+use crate::sealing::encrypted;
+use crate::grant::Grant;
+use enctypes::{Key, KeyUsage};
+use krb_elements::UInt32;
+use krb_fields::EncryptedData;
+use krb_types::{PVNO, Ticket};
+use std::alloc::{AllocError, Global};
+
+/// A key of a service, under which its tickets are sealed, and the number of its version.
+#[derive(Debug, Clone, Copy)]
+pub struct ServiceKey {
+    pub key: Key,
+    pub version: u32,
+}
+
+/// The ticket of a grant. Octets 32 to 48 of the random ones are its confounder.
+pub fn ticket(
+    alloc: Global,
+    grant: &Grant,
+    service: &ServiceKey,
+    words: &[u8; 64],
+) -> Result<Ticket, AllocError>
+    requires { IsShort grant.now }
+    ensures value { IfOk result (λ ticket. ticket ≡ ticket_of grant.now service.now words.now) }
+    ensures opens { IfOk result (λ ticket. decrypted enc_ticket_part service.now.key 2 ticket.enc_part ≡ Some (ticket_part grant.now)) }
+    ensures most { IfOk result (λ ticket. length ticket.enc_part.cipher ≤ 6100) }
+{
+    Ok(Ticket {
+        tkt_vno: PVNO,
+        realm: grant.realm.copy(alloc)?,
+        sname: grant.service.copy(alloc)?,
+        enc_part: sealed(alloc, grant, service, words)?,
+    })
+}
+
+fn sealed(
+    alloc: Global,
+    grant: &Grant,
+    service: &ServiceKey,
+    words: &[u8; 64],
+) -> Result<EncryptedData, AllocError>
+    requires { IsShort grant.now }
+    ensures value { IfOk result (λ sealed. sealed ≡ (ticket_of grant.now service.now words.now).enc_part) }
+    ensures opens { IfOk result (λ sealed. decrypted enc_ticket_part service.now.key 2 sealed ≡ Some (ticket_part grant.now)) }
+    ensures most { IfOk result (λ sealed. length sealed.cipher ≤ 6100) }
+{
+    let part = grant.ticket_part(alloc)?;
+    encrypted(
+        alloc,
+        &service.key,
+        KeyUsage::Ticket,
+        Some(version_number(service.version)),
+        &confounder(words, 32),
+        &part,
+    )
+}
+
+/// The number of a key's version, as a message has it.
+pub fn version_number(version: u32) -> UInt32
+    ensures { result ≡ pos version }
+{
+    UInt32::new(i64::from(version)).unwrap()
+}
+
+/// The 16 random octets from this place on.
+pub fn confounder(words: &[u8; 64], place: usize) -> [u8; 16]
+    requires { place ≤ 48 }
+    ensures { result ≡ take 16 (drop place words.now) }
+{
+    let mut octets = [0; 16];
+    octets.copy_from_slice(&words[place..place + 16]);
+    octets
+}

@@ -1,0 +1,2 @@
+pub mod KdcRep
+pub mod Under

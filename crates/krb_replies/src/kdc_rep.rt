@@ -1,0 +1,125 @@
+//! KDC-REP (RFC 4120, section 5.4.2): AS-REP and TGS-REP.
+ghost use Rattle.std.specs.Prelude.{◌≡◌, IfOk, OnOk, option_map};
+ghost use Rattle.krb_elements.specs.Codec.{itself};
+ghost use Rattle.krb_replies.specs.KdcRep.{kdc_rep_of, kdc_rep_form};
+
+use krb_der::{DerFault, Reader, Writer};
+use krb_elements::{
+    Application, Coded, Decode, DecodeFields, Encode, EncodeFields, Fielded, KerberosString,
+    KerberosStringRef, MakeOwned, Seq, SeqRef, take_field, take_fixed, take_optional, write_field,
+    write_optional,
+};
+use krb_fields::{EncryptedData, EncryptedDataRef, Name, NameRef, PaData, PaDataRef};
+use krb_types::{PVNO, Ticket, TicketRef};
+use std::alloc::{AllocError, Global};
+
+/// A reply with a ticket, and what the client has to know of it, sealed. `TYPE` is its message type. That and the
+/// version are those of every such reply, and not kept.
+#[derive(Debug, Drop)]
+pub struct KdcRep<
+    const TYPE: u8,
+    P = Seq<PaData>,
+    S = KerberosString,
+    N = Name,
+    T = Ticket,
+    E = EncryptedData,
+> {
+    pub padata: Option<P>,
+    pub crealm: S,
+    pub cname: N,
+    pub ticket: T,
+    pub enc_part: E,
+}
+
+/// The reply of the Authentication Service exchange.
+pub type AsRep = KdcRep<11>;
+
+/// The reply of the Ticket-Granting Service exchange.
+pub type TgsRep = KdcRep<13>;
+
+/// A [`KdcRep`] where it stands.
+pub type KdcRepRef<'a, const TYPE: u8> = KdcRep<
+    TYPE,
+    SeqRef<'a, PaDataRef<'a>>,
+    KerberosStringRef<'a>,
+    NameRef<'a>,
+    TicketRef<'a>,
+    EncryptedDataRef<'a>,
+>;
+
+impl<const TYPE: u8, P: Coded, S: Coded, N: Coded, T: Coded, E: Coded> Coded
+    for KdcRep<TYPE, P, S, N, T, E> {
+    ghost codec = { kdc_rep_of TYPE P.codec S.codec N.codec T.codec E.codec };
+}
+
+impl<const TYPE: u8, P: Coded, S: Coded, N: Coded, T: Coded, E: Coded> Fielded
+    for KdcRep<TYPE, P, S, N, T, E> {
+    type In = Application<TYPE>;
+
+    ghost form = { kdc_rep_form TYPE P.codec S.codec N.codec T.codec E.codec };
+
+    ghost made = { itself };
+}
+
+impl<
+    'a,
+    const TYPE: u8,
+    P: Decode<'a>,
+    S: Decode<'a>,
+    N: Decode<'a>,
+    T: Decode<'a>,
+    E: Decode<'a>,
+> DecodeFields<'a> for KdcRep<TYPE, P, S, N, T, E> {
+    #[tactic(auto, unfolding(crate::specs::KdcRep::kdc_rep_form))]
+    fn look_fields(fields: &mut Reader<'a>) -> Result<KdcRep<TYPE, P, S, N, T, E>, DerFault> {
+        take_fixed(fields, 0, PVNO)?;
+        take_fixed(fields, 1, i32::from(TYPE & 0x1f))?;
+        Ok(KdcRep {
+            padata: take_optional(fields, 2)?,
+            crealm: take_field(fields, 3)?,
+            cname: take_field(fields, 4)?,
+            ticket: take_field(fields, 5)?,
+            enc_part: take_field(fields, 6)?,
+        })
+    }
+}
+
+impl<const TYPE: u8, P: Encode, S: Encode, N: Encode, T: Encode, E: Encode> EncodeFields
+    for KdcRep<TYPE, P, S, N, T, E> {
+    #[tactic(auto, unfolding(crate::specs::KdcRep::kdc_rep_form))]
+    fn put_fields(&self, out: &mut Writer) -> Result<(), AllocError> {
+        write_field(out, 0, &PVNO)?;
+        write_field(out, 1, &i32::from(TYPE & 0x1f))?;
+        write_optional(out, 2, &self.padata)?;
+        write_field(out, 3, &self.crealm)?;
+        write_field(out, 4, &self.cname)?;
+        write_field(out, 5, &self.ticket)?;
+        write_field(out, 6, &self.enc_part)
+    }
+}
+
+impl<
+    const TYPE: u8,
+    P: MakeOwned,
+    S: MakeOwned,
+    N: MakeOwned,
+    T: MakeOwned,
+    E: MakeOwned,
+> MakeOwned for KdcRep<TYPE, P, S, N, T, E> {
+    type Owned = KdcRep<TYPE, P::Owned, S::Owned, N::Owned, T::Owned, E::Owned>;
+
+    ghost same = { λ x. record { padata = option_map P.same x.padata; crealm = S.same x.crealm; cname = N.same x.cname; ticket = T.same x.ticket; enc_part = E.same x.enc_part } };
+
+    fn copy(
+        &self,
+        alloc: Global,
+    ) -> Result<KdcRep<TYPE, P::Owned, S::Owned, N::Owned, T::Owned, E::Owned>, AllocError> {
+        Ok(KdcRep {
+            padata: self.padata.copy(alloc)?,
+            crealm: self.crealm.copy(alloc)?,
+            cname: self.cname.copy(alloc)?,
+            ticket: self.ticket.copy(alloc)?,
+            enc_part: self.enc_part.copy(alloc)?,
+        })
+    }
+}

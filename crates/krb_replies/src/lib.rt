@@ -1,0 +1,8 @@
+//! The replies of a KDC that bear a ticket (RFC 4120, section 5.4.2), and the sealed parts of replies under their tags.
+#![tactic(auto)]
+
+mod kdc_rep;
+mod under;
+
+pub use kdc_rep::{AsRep, KdcRep, KdcRepRef, TgsRep};
+pub use under::{EncAsRepPart, EncTgsRepPart, Under};

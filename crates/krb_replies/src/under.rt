@@ -1,0 +1,51 @@
+//! Values in tags of their own.
+ghost use Rattle.std.specs.Prelude.{◌≡◌, IfOk, OnOk};
+ghost use Rattle.krb_replies.specs.Under.{under};
+
+use krb_der::{DerFault, Reader, Writer};
+use krb_elements::{Coded, Decode, Encode, end_of};
+use krb_parts::EncKdcRepPart;
+use std::alloc::{AllocError, Global};
+use std::marker::Model;
+
+/// A value in the tag `[APPLICATION N]`, where N is at most 30. Contracts see it as the value.
+#[derive(Debug, Drop)]
+pub struct Under<const N: u8, T> {
+    pub value: T,
+}
+
+impl<const N: u8, T> Model for Under<N, T> {
+    ghost Value = { T };
+
+    ghost coded = { T.code };
+
+    ghost view = { λ u. u.value };
+}
+
+/// What an AS-REP holds under the reply key.
+pub type EncAsRepPart = Under<25, EncKdcRepPart>;
+
+/// What a TGS-REP holds under the reply key.
+pub type EncTgsRepPart = Under<26, EncKdcRepPart>;
+
+impl<const N: u8, T: Coded> Coded for Under<N, T> {
+    ghost codec = { under N T.codec };
+}
+
+impl<'a, const N: u8, T: Decode<'a>> Decode<'a> for Under<N, T> {
+    fn look(reader: &mut Reader<'a>) -> Result<Under<N, T>, DerFault> {
+        let mut contents = Reader::new(reader.read_tlv(0x60 | (N & 0x1f))?);
+        let value = T::look(&mut contents)?;
+        end_of(&contents)?;
+        Ok(Under { value })
+    }
+}
+
+impl<const N: u8, T: Encode> Encode for Under<N, T> {
+    #[tactic(auto, using(krb_elements::specs::WrittenLaws::tlv_longer))]
+    fn put(&self, out: &mut Writer) -> Result<(), AllocError> {
+        let start = out.len();
+        self.value.put(out)?;
+        out.wrap(start, 0x60 | (N & 0x1f))
+    }
+}

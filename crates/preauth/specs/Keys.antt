@@ -1,0 +1,35 @@
+-- The keys of a principal by the numbers that messages name their types by.
+use Rattle.std.specs.Prelude.{ℤ, Bool, not, ◌&&◌, List, [], ◌∷◌, Option, None, is_some, find}
+use Rattle.std.specs.List.{filter, list_any}
+use Rattle.std.specs.Option.{option_or}
+use Rattle.std.specs.Ordering.{int_eq}
+use Rattle.enctypes.specs.declared.key.Key.{Key}
+use Rattle.enctypes.specs.Etype.{number}
+
+-- the key of the type of this number
+abbrev pub key_numbered : List Key → ℤ → Option Key
+key_numbered keys n = find (λ k. int_eq (number k.etype) n) keys
+
+-- the key of the first of these types that there is a key of
+abbrev pub first_key : List Key → List ℤ → Option Key
+first_key keys [] = None
+first_key keys (n ∷ ns) = option_or (key_numbered keys n) (first_key keys ns)
+
+abbrev pub has_key : List Key → ℤ → Bool
+has_key keys n = is_some (key_numbered keys n)
+
+abbrev pub is_among : List ℤ → ℤ → Bool
+is_among numbers n = list_any (λ m. int_eq m n) numbers
+
+-- there is a key of it, and it was not found before
+abbrev pub is_new : List Key → List ℤ → ℤ → Bool
+is_new keys found n = has_key keys n && not (is_among found n)
+
+-- each number once, where it stands first
+abbrev pub each_once : List ℤ → List ℤ
+each_once [] = []
+each_once (n ∷ ns) = n ∷ filter (λ m. not (int_eq n m)) (each_once ns)
+
+-- those of these types that there is a key of
+abbrev pub types_of : List Key → List ℤ → List ℤ
+types_of keys numbers = each_once (filter (has_key keys) numbers)

@@ -1,0 +1,5 @@
+pub mod Keys
+pub mod Lengths
+pub mod Lock
+pub mod MethodData
+pub mod Timestamp

@@ -1,0 +1,54 @@
+//! Keys by the numbers of their types, as messages name them.
+ghost use Rattle.std.specs.Prelude.{◌≡◌, ◌≤◌, ◌<◌, All, length, IfOk, IfSome, option_copied};
+ghost use Rattle.preauth.specs.Keys.{key_numbered, first_key, is_new, types_of};
+
+use enctypes::Key;
+use krb_elements::SeqRef;
+use principal_rows::KeyList;
+use std::alloc::{AllocError, Global};
+
+/// The key of the type that this number names, if there is one.
+pub fn key_numbered(keys: &KeyList, number: i32) -> Option<&Key>
+    ensures { option_copied result ≡ key_numbered keys.now number }
+{
+    keys.keys()
+        .iter()
+        .find(|key| key.etype().number() == number)
+}
+
+/// The key of the first of these types that there is a key of.
+pub fn first_key<'k>(keys: &'k KeyList, types: &SeqRef<'_, i32>) -> Option<&'k Key>
+    ensures { option_copied result ≡ first_key keys.now types.now }
+{
+    for number in types.iter() {
+        if let Some(key) = key_numbered(keys, number) {
+            return Some(key);
+        }
+    }
+    None
+}
+
+/// Those of these types that there is a key of, in their order, each once.
+pub fn types_of(
+    alloc: Global,
+    keys: &KeyList,
+    types: &SeqRef<'_, i32>,
+) -> Result<Vec<i32>, AllocError>
+    ensures value { IfOk result (λ found. found.items ≡ types_of keys.now types.now) }
+    ensures few { IfOk result (λ found. length found.items ≤ 4) }
+{
+    let mut found = Vec::new(alloc);
+    for number in types.iter() {
+        if is_new(keys, &found, number) {
+            found.push(number)?;
+        }
+    }
+    Ok(found)
+}
+
+/// Whether there is a key of this type, which was not found before.
+fn is_new(keys: &KeyList, found: &[i32], number: i32) -> bool
+    ensures { result ≡ is_new keys.now found.now number }
+{
+    key_numbered(keys, number).is_some() && !found.contains(&number)
+}

@@ -1,0 +1,17 @@
+//! Preauthentication by timestamps (RFC 4120, sections 3.1.3 and 5.2.7), and the lock of clients that fail at it.
+#![tactic(auto)]
+
+mod keys;
+mod lock;
+mod methods;
+mod numbers;
+mod timestamp;
+
+pub use keys::{first_key, key_numbered, types_of};
+pub use lock::{after_failure, after_success, is_locked};
+pub use methods::{etype_info2, method_data};
+pub use numbers::{PA_ENC_TIMESTAMP, PA_ETYPE_INFO2};
+pub use timestamp::{Outcome, check_timestamp};
+
+#[cfg(test)]
+mod tests;

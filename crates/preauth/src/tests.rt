@@ -1,0 +1,195 @@
+use super::*;
+use enctypes::{Etype, Key};
+use krb_elements::{SeqRef, read};
+use krb_fields::{Moment, PaDataRef};
+use principal_rows::{KeyList, Limits, Row};
+use replay::Failures;
+use std::alloc::{AllocError, Global};
+use std::test::Fail;
+
+// The octets are those of a program in Python over `cryptography`, in hexadecimal. The timestamps are of the second T.
+
+/// PA-PAC-REQUEST, and a timestamp under the key of type 18.
+const OF_TYPE_18: &[u8] =
+    b"30613011a10402020080a20904073005a0030101ff304ca103020102a24504433041a003020112a23a0438aea3b9c005012f\
+    6c6c4be9b1d270d9fe1ef4cd1bc9dde7b5fd4192ed2afa0762332ad931d87dffcaf68dbeb017eaec43e46ce7dc4627e765";
+
+/// A timestamp without microseconds under the key of type 20, with a kvno that there is no key of.
+const OF_TYPE_20: &[u8] =
+    b"30583056a103020102a24f044d304ba003020114a103020107a23f043dc037addb2e98c6943c09034983e9630360e5eb6812\
+    c52d41deb0efcae2769ef566d5e5677b2390346c5983f0c2ab6d1f220a4fa538ef1160443762b3f7";
+
+/// A timestamp under another key of type 18, and then a good one.
+const OTHER_KEY: &[u8] =
+    b"30819c304ca103020102a24504433041a003020112a23a043855ac3d0212457e340ac16a68eb4c90324960d6808e67d567d6\
+    56f85a6e4a5826e126fc039bb2818abe2888eb8c442a5b832767ef6c2a840a304ca103020102a24504433041a003020112a2\
+    3a0438aea3b9c005012f6c6c4be9b1d270d9fe1ef4cd1bc9dde7b5fd4192ed2afa0762332ad931d87dffcaf68dbeb017eaec\
+    43e46ce7dc4627e765";
+
+/// A timestamp under the key of type 18, sealed as the part of an AS-REP.
+const OTHER_USAGE: &[u8] =
+    b"304e304ca103020102a24504433041a003020112a23a0438e4dde4edf21d10ef689394ca99137f30113a50f1b93bbabb5ba5\
+    f526a9055db40c94f582a28afbf3899ef8e404f8bb3c024034f45a37c1d2";
+
+/// A timestamp under the key of type 18, which is said to be of type 20.
+const OTHER_TYPE: &[u8] =
+    b"304e304ca103020102a24504433041a003020114a23a0438aea3b9c005012f6c6c4be9b1d270d9fe1ef4cd1bc9dde7b5fd41\
+    92ed2afa0762332ad931d87dffcaf68dbeb017eaec43e46ce7dc4627e765";
+
+/// A timestamp under a key of type 17, which the client has not.
+const NO_KEY: &[u8] =
+    b"304e304ca103020102a24504433041a003020111a23a043894f90c3c639cd6d70d8f2405d3c045c00dc1fbf78ca377f0c508\
+    b8313d766d0bfb2845b67533aaeb8088d8555cfc715c2ccbd8c766e7d150";
+
+/// A number under the key of type 18.
+const NO_TIMESTAMP: &[u8] =
+    b"30393037a103020102a230042e302ca003020112a22504239471f5a5ee7b17f8f6f33a5e03e03d77aea3b9c005012f3d6fbb\
+    de37c5481eb7b94304";
+
+/// An empty PA-ENC-TIMESTAMP, and then a good one.
+const NO_ENCRYPTED_DATA: &[u8] =
+    b"30593009a103020102a2020400304ca103020102a24504433041a003020112a23a0438aea3b9c005012f6c6c4be9b1d270d9\
+    fe1ef4cd1bc9dde7b5fd4192ed2afa0762332ad931d87dffcaf68dbeb017eaec43e46ce7dc4627e765";
+
+/// PA-PAC-REQUEST alone.
+const NONE: &[u8] = b"30133011a10402020080a20904073005a0030101ff";
+
+/// The types 23, 20, 18, 20 and 17.
+const ETYPES: &[u8] = b"300f020117020114020112020114020111";
+
+/// PA-ETYPE-INFO2 of types 20 and 18 with the salt `A.Bu`, and an empty PA-ENC-TIMESTAMP.
+const METHOD_DATA: &[u8] =
+    b"30363029a103020113a2220420301e300da003020114a1061b04412e4275300da003020112a1061b04412e42753009a10302\
+    0102a2020400";
+
+/// 2024-01-01 00:00:00.
+const T: i64 = 1_704_067_200;
+
+fn octets(alloc: Global, digits: &[u8]) -> Result<Vec<u8>, Fail> {
+    Ok(hex::decode(alloc, digits)?)
+}
+
+/// A key of octets that count up from this one.
+fn key(etype: Etype, first: u8) -> Key {
+    let mut octets = [first; 32];
+    for (place, octet) in (0..32).zip(&mut octets) {
+        *octet = octet.wrapping_add(place);
+    }
+    Key::from_random(etype, &octets)
+}
+
+fn keys(alloc: Global) -> Result<KeyList, Fail> {
+    let first = key(Etype::Aes256CtsHmacSha1_96, 0);
+    let second = key(Etype::Aes256CtsHmacSha384_192, 32);
+    Ok(KeyList::new(alloc, &[first, second])?)
+}
+
+fn shown(alloc: Global, client: &Row, sec: i64, digits: &[u8]) -> Result<Outcome, Fail> {
+    let at = Moment::new(sec, 0).ok_or("a moment")?;
+    let octets = octets(alloc, digits)?;
+    let padata: SeqRef<'_, PaDataRef<'_>> = read(&octets)?;
+    Ok(check_timestamp(alloc, client, at, Some(&padata))?)
+}
+
+#[test]
+fn a_timestamp_is_good_within_300_seconds(rt: HostRuntime) -> Result<(), Fail> {
+    let alloc = rt.alloc();
+    let client = Row::first(alloc, keys(alloc)?)?;
+    for digits in [OF_TYPE_18, OF_TYPE_20] {
+        for (sec, outcome) in [
+            (T, Outcome::Good),
+            (T - 300, Outcome::Good),
+            (T + 300, Outcome::Good),
+            (T - 301, Outcome::Skewed),
+            (T + 301, Outcome::Skewed),
+        ] {
+            assert_eq!(rt; shown(alloc, &client, sec, digits)?, outcome, "at {sec}");
+        }
+    }
+    Ok(())
+}
+
+#[test]
+fn the_first_timestamp_counts_under_the_key_of_its_type(rt: HostRuntime) -> Result<(), Fail> {
+    let alloc = rt.alloc();
+    let client = Row::first(alloc, keys(alloc)?)?;
+    for digits in [
+        OTHER_KEY,
+        OTHER_USAGE,
+        OTHER_TYPE,
+        NO_KEY,
+        NO_TIMESTAMP,
+        NO_ENCRYPTED_DATA,
+    ] {
+        assert_eq!(rt; shown(alloc, &client, T, digits)?, Outcome::Bad);
+    }
+    assert_eq!(rt; shown(alloc, &client, T, NONE)?, Outcome::Absent);
+    Ok(())
+}
+
+#[test]
+fn types_are_told_in_the_order_asked_for(rt: HostRuntime) -> Result<(), Fail> {
+    let alloc = rt.alloc();
+    let octets = octets(alloc, ETYPES)?;
+    let asked: SeqRef<'_, i32> = read(&octets)?;
+    let keys = keys(alloc)?;
+    assert_eq!(rt;
+        types_of(alloc, &keys, &asked)?.as_slice(),
+        [20, 18].as_slice()
+    );
+    assert_eq!(rt;
+        first_key(&keys, &asked).map(|key| key.etype()),
+        Some(Etype::Aes256CtsHmacSha384_192)
+    );
+    assert!(rt; key_numbered(&keys, 18).is_some());
+    assert!(rt; key_numbered(&keys, 17).is_none());
+    Ok(())
+}
+
+#[test]
+fn method_data_tells_types_and_salt(rt: HostRuntime) -> Result<(), Fail> {
+    let alloc = rt.alloc();
+    let told = method_data(alloc, b"A.Bu", &[20, 18])?;
+    assert_eq!(rt; told.as_slice(), octets(alloc, METHOD_DATA)?.as_slice());
+    Ok(())
+}
+
+#[test]
+fn a_client_is_locked_until_lock_seconds_are_over(rt: HostRuntime) -> Result<(), Fail> {
+    let last = Moment::new(T, 999_999).ok_or("a moment")?;
+    for (count, lock_after, sec, locked) in [
+        (2, 2, T, true),
+        (2, 2, T + 59, true),
+        (2, 2, T + 60, false),
+        (1, 2, T, false),
+        (3, 2, T, true),
+        (3, 0, T, false),
+    ] {
+        let limits = Limits::new(64, lock_after, 60, 36000, 0).ok_or("limits")?;
+        let at = Moment::new(sec, 0).ok_or("a moment")?;
+        assert_eq!(rt;
+            is_locked(Failures { count, last }, &limits, at),
+            locked,
+            "{count} at {sec}"
+        );
+    }
+    Ok(())
+}
+
+#[test]
+fn failures_are_counted_to_the_greatest_count(rt: HostRuntime) -> Result<(), Fail> {
+    let (last, at) = (Moment::new(T, 7), Moment::new(T + 1, 0));
+    let (last, at) = (last.ok_or("a moment")?, at.ok_or("a moment")?);
+    for (count, next) in [(0, 1), (u32::MAX - 1, u32::MAX), (u32::MAX, u32::MAX)] {
+        let failures = Failures { count, last };
+        assert_eq!(rt;
+            after_failure(failures, at),
+            Failures {
+                count: next,
+                last: at
+            }
+        );
+        assert_eq!(rt; after_success(failures), Failures { count: 0, last });
+    }
+    Ok(())
+}

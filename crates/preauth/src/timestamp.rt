@@ -1,0 +1,89 @@
+//! PA-ENC-TIMESTAMP: how a client shows that it has its key (RFC 4120, section 5.2.7.2).
+ghost use Rattle.std.specs.Prelude.{◌≡◌, IfOk, option_copied};
+ghost use Rattle.preauth.specs.Timestamp.{first_of, encrypted_in, opened_of, time_of, is_skewed, outcome};
+
+use crate::keys::key_numbered;
+use crate::numbers::PA_ENC_TIMESTAMP;
+use enctypes::KeyUsage;
+use krb_der::KTime;
+use krb_elements::{OctetsRef, SeqRef, read};
+use krb_fields::{EncryptedDataRef, Moment, PaDataRef};
+use krb_parts::PaEncTsEnc;
+use principal_rows::{KeyList, Row};
+use sealed_parts::open_part;
+use std::alloc::{AllocError, Global};
+
+/// By how many seconds the clocks of a client and of this KDC may differ.
+const SKEW: u64 = 300;
+
+/// What a request shows of the client's key.
+#[derive(Debug, Clone, Copy, PartialEq, Eq)]
+pub enum Outcome {
+    /// It has no PA-ENC-TIMESTAMP.
+    Absent,
+    /// The first one isn't sealed under a current key of the client.
+    Bad,
+    /// It is, and its time is too far from now.
+    Skewed,
+    /// It is, and its time is now, but for the skew of clocks.
+    Good,
+}
+
+/// What a client's request with these padata shows at this moment.
+pub fn check_timestamp<'p>(
+    alloc: Global,
+    client: &Row,
+    at: Moment,
+    padata: Option<&SeqRef<'p, PaDataRef<'p>>>,
+) -> Result<Outcome, AllocError>
+    ensures { IfOk result (λ o. o ≡ outcome client.now at.sec (option_copied padata.entry)) }
+{
+    let Some(value) = first_of(PA_ENC_TIMESTAMP, padata) else {
+        return Ok(Outcome::Absent);
+    };
+    let keys = &client.versions.current().keys;
+    Ok(match opened_time(alloc, keys, value.as_slice())? {
+        None => Outcome::Bad,
+        Some(time) if is_skewed(at.sec, time) => Outcome::Skewed,
+        Some(_) => Outcome::Good,
+    })
+}
+
+/// The value of the first padata of this type.
+fn first_of<'p>(number: i32, padata: Option<&SeqRef<'p, PaDataRef<'p>>>) -> Option<OctetsRef<'p>>
+    ensures { result ≡ first_of number (option_copied padata.entry) }
+{
+    for entry in padata?.iter() {
+        if entry.padata_type == number {
+            return Some(entry.padata_value);
+        }
+    }
+    None
+}
+
+/// The time that stands sealed in the value of a PA-ENC-TIMESTAMP, if the key of its type opens it.
+fn opened_time(alloc: Global, keys: &KeyList, value: &[u8]) -> Result<Option<KTime>, AllocError>
+    ensures { IfOk result (λ found. found ≡ time_of (opened_of keys.now (encrypted_in value.now))) }
+{
+    let Ok(sealed) = read::<EncryptedDataRef<'_>>(value) else {
+        return Ok(None);
+    };
+    let Some(key) = key_numbered(keys, sealed.etype) else {
+        return Ok(None);
+    };
+    let usage = KeyUsage::PaEncTimestamp;
+    let Some(part) = open_part(alloc, key, usage, sealed.cipher.as_slice())? else {
+        return Ok(None);
+    };
+    let PaEncTsEnc {
+        patimestamp,
+        pausec: _pausec,
+    } = part;
+    Ok(Some(patimestamp))
+}
+
+fn is_skewed(now: i64, time: KTime) -> bool
+    ensures { result ≡ is_skewed now time }
+{
+    time.seconds().abs_diff(now) > SKEW
+}
