@@ -59,6 +59,7 @@ by_names cname sname client service (Some r) (Some s) (Some f) t e = (ap (λ (o 
     client_of : Option Terms → Name
     client_of (Some t) = t.client_name
     client_of None = cname
+
     service_of : Option Terms → Name
     service_of (Some t) = t.service_name
     service_of None = sname

@@ -112,11 +112,7 @@ fn reply_key_of(terms: &Terms) -> ReplyKey
 
 /// PA-ETYPE-INFO2 with how the reply key is made from a password.
 #[tactic(auto, using(crate::specs::Named::data_short))]
-fn reply_data(
-    alloc: Global,
-    view: &AsView<'_>,
-    terms: &Terms,
-) -> Result<Seq<PaData>, AllocError>
+fn reply_data(alloc: Global, view: &AsView<'_>, terms: &Terms) -> Result<Seq<PaData>, AllocError>
     requires realm { length view.now.realm ≤ 255 }
     requires named { IsNamed terms.now }
     ensures value { IfOk result (λ list. list ≡ reply_info view.now terms.now ∷ []) }

@@ -95,7 +95,12 @@ pub reply_short : (type : ℕ) (reply : KdcRep type) → length reply.crealm ≤
     → length ((kdc_rep type).text reply) < 2 ^ 32
 unfolding kdc_rep_form ticket_form encrypted_data_form
 reply_short type reply crealm cname realm sname sealed part padata =
-    omega (arith,
+    omega (
+      arith,
       (kdc_rep_of type (measured (list_of pa_data)) string (measured name) (ticket_of string (measured name) encrypted_data) encrypted_data).bounded reply,
-      name_short reply.cname cname, name_short reply.ticket.sname sname,
-      kvno_short reply.enc_part.kvno, kvno_short reply.ticket.enc_part.kvno, padata_short reply.padata padata)
+      name_short reply.cname cname,
+      name_short reply.ticket.sname sname,
+      kvno_short reply.enc_part.kvno,
+      kvno_short reply.ticket.enc_part.kvno,
+      padata_short reply.padata padata,
+    )

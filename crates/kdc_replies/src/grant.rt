@@ -61,6 +61,11 @@ impl Grant {
         ensures value { IfOk result (λ part. part ≡ reply_part self.now nonce now) }
         ensures short { IfOk result (λ part. length (enc_kdc_rep_part.text part) ≤ 6000) }
     {
+        let Times {
+            start,
+            end,
+            renew_till,
+        } = self.times;
         let mut last_req = Seq::new(alloc);
         last_req.push(LastReq {
             lr_type: 0,
@@ -73,9 +78,9 @@ impl Grant {
             key_expiration: None,
             flags: self.flags,
             authtime: self.authtime,
-            starttime: Some(self.times.start),
-            endtime: self.times.end,
-            renew_till: self.times.renew_till,
+            starttime: Some(start),
+            endtime: end,
+            renew_till,
             srealm: self.realm.copy(alloc)?,
             sname: self.service.copy(alloc)?,
             caddr: None,

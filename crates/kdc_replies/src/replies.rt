@@ -10,8 +10,8 @@ ghost use Rattle.kdc_replies.specs.Encrypted.{decrypted};
 ghost use Rattle.kdc_replies.specs.Grant.{IsShort, reply_part};
 ghost use Rattle.kdc_replies.specs.Reply.{OpensAlike, sealed_part, reply_of};
 
-use crate::sealing::encrypted;
 use crate::grant::Grant;
+use crate::sealing::encrypted;
 use crate::tickets::{ServiceKey, confounder, ticket};
 use enctypes::{Key, KeyUsage};
 use krb_der::KTime;

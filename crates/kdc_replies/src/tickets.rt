@@ -5,8 +5,8 @@ ghost use Rattle.kdc_replies.specs.Encrypted.{decrypted};
 ghost use Rattle.kdc_replies.specs.Grant.{IsShort, ticket_part};
 ghost use Rattle.kdc_replies.specs.Reply.{ticket_confounder, ticket_of};
 
-use crate::sealing::encrypted;
 use crate::grant::Grant;
+use crate::sealing::encrypted;
 use enctypes::{Key, KeyUsage};
 use krb_elements::UInt32;
 use krb_fields::EncryptedData;

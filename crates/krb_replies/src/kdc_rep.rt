@@ -98,14 +98,8 @@ impl<const TYPE: u8, P: Encode, S: Encode, N: Encode, T: Encode, E: Encode> Enco
     }
 }
 
-impl<
-    const TYPE: u8,
-    P: MakeOwned,
-    S: MakeOwned,
-    N: MakeOwned,
-    T: MakeOwned,
-    E: MakeOwned,
-> MakeOwned for KdcRep<TYPE, P, S, N, T, E> {
+impl<const TYPE: u8, P: MakeOwned, S: MakeOwned, N: MakeOwned, T: MakeOwned, E: MakeOwned> MakeOwned
+    for KdcRep<TYPE, P, S, N, T, E> {
     type Owned = KdcRep<TYPE, P::Owned, S::Owned, N::Owned, T::Owned, E::Owned>;
 
     ghost same = { λ x. record { padata = option_map P.same x.padata; crealm = S.same x.crealm; cname = N.same x.cname; ticket = T.same x.ticket; enc_part = E.same x.enc_part } };

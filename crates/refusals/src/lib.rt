@@ -17,11 +17,7 @@ pub fn first_holding<R: Copy>(rules: &[(bool, R)]) -> Option<R>
 }
 
 /// What is found, where none of the conditions holds; the last reason where nothing is found.
-pub fn decide<T: Drop, R: Copy>(
-    rules: &[(bool, R)],
-    found: Option<T>,
-    otherwise: R,
-) -> Result<T, R>
+pub fn decide<T: Drop, R: Copy>(rules: &[(bool, R)], found: Option<T>, otherwise: R) -> Result<T, R>
     ensures { result ≡ decided rules.now found otherwise }
 {
     match first_holding(rules) {
