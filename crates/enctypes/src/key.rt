@@ -1,6 +1,7 @@
 //! Protocol keys (RFC 3961, section 3; RFC 4120, section 5.2.9, EncryptionKey).
 ghost use Rattle.std.specs.Prelude.{◌≡◌, ◌↔◌, ◌<◌, All, length, take, IsSome, IfSome};
 ghost use Rattle.enctypes.specs.Etype.{key_len};
+ghost use Rattle.enctypes.specs.Key.{IsKey};
 
 use crate::Etype;
 use crate::short_octets::ShortOctets;
@@ -20,16 +21,14 @@ pub struct Key {
 }
 
 impl Model for Key {
-    ghost use Rattle.std.specs.Prelude.{◌≡◌, length};
     ghost use Rattle.std.proofs.Common.{refl};
-    ghost use Rattle.enctypes.specs.Etype.{key_len};
-    ghost use Rattle.enctypes.specs.Key.{ProtocolKey};
+    ghost use Rattle.enctypes.specs.Key.{ProtocolKey, IsKey};
 
     ghost Value = { ProtocolKey };
 
     ghost view = { λ k. record { etype = k.etype; bytes = k.octets } };
 
-    ghost invariant = { λ k. length k.octets ≡ key_len k.etype };
+    ghost invariant = { λ k. IsKey (record { etype = k.etype; bytes = k.octets }) };
 
     ghost inverse = { λ v. record { etype = v.etype; octets = v.bytes } };
 
@@ -68,7 +67,8 @@ impl Key {
     }
 
     pub fn etype(&self) -> Etype
-        ensures { result ≡ self.now.etype }
+        ensures etype { result ≡ self.now.etype }
+        ensures valid { IsKey self.now }
     {
         self.etype
     }

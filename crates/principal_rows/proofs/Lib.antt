@@ -1,3 +1,4 @@
 pub mod Collected
+pub mod Fronts
 pub mod Keys
 pub mod VersionLists

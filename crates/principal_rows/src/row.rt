@@ -1,6 +1,7 @@
 //! Rows: what a database holds of one principal.
-ghost use Rattle.std.specs.Prelude.{◌≡◌, ◌≢◌, ◌<◌, ◌∷◌, [], IfOk, IfSome, OnOk, OnErr, is_some, option_copied};
-ghost use Rattle.principal_rows.specs.Versions.{are_versions};
+ghost use Rattle.std.specs.Prelude.{◌≡◌, ◌≢◌, ◌<◌, ◌∷◌, [], IfOk, IfSome, IsTrue, OnOk, OnErr, is_some, option_copied};
+ghost use Rattle.principal_rows.specs.KeyList.{IsKeyList};
+ghost use Rattle.principal_rows.specs.Versions.{IsVersions, are_versions};
 
 use crate::{KeyList, Policy};
 use std::alloc::{AllocError, Global};
@@ -34,6 +35,15 @@ impl Model for Versions {
 }
 
 impl KeyVersion {
+    // The version of this number. What holds of every list of keys is known where one is looked at.
+    fn new(number: u32, keys: KeyList) -> KeyVersion
+        ensures version { result ≡ record { number = number; keys = keys } }
+        ensures valid { IsKeyList keys }
+    {
+        let _keys = keys.keys();
+        KeyVersion { number, keys }
+    }
+
     pub fn copy(&self, alloc: Global) -> Result<KeyVersion, AllocError>
         ensures { IfOk result (λ version. version ≡ self.now) }
     {
@@ -45,14 +55,15 @@ impl KeyVersion {
 }
 
 impl Versions {
-    ghost use Rattle.principal_rows.specs.Versions.{IsVersions, current, version_of, with_keys, without, are_versions};
+    ghost use Rattle.principal_rows.specs.Versions.{current, version_of, with_keys, without};
 
     /// Version 1 alone, with these keys.
     pub fn first(alloc: Global, keys: KeyList) -> Result<Versions, AllocError>
-        ensures { IfOk result (λ versions. versions ≡ record { number = 1; keys = keys } ∷ []) }
+        ensures versions { IfOk result (λ versions. versions ≡ record { number = 1; keys = keys } ∷ []) }
+        ensures valid { IfOk result IsVersions }
     {
         let mut versions = Vec::new(alloc);
-        versions.push(KeyVersion { number: 1, keys })?;
+        versions.push(KeyVersion::new(1, keys))?;
         Ok(Versions { versions })
     }
 
@@ -60,6 +71,7 @@ impl Versions {
     pub fn new(versions: Vec<KeyVersion>) -> Option<Versions>
         ensures some { is_some result ≡ are_versions versions.items }
         ensures versions { IfSome result (λ made. made ≡ versions.items) }
+        ensures valid { IfSome result IsVersions }
     {
         if are_versions(&versions) {
             Some(Versions { versions })
@@ -78,7 +90,8 @@ impl Versions {
 
     /// The version by which tickets are sealed.
     pub fn current(&self) -> &KeyVersion
-        ensures { result.now ≡ current self.now }
+        ensures version { result.now ≡ current self.now }
+        ensures valid { IsKeyList result.now.keys }
     {
         &self.versions[0]
     }
@@ -97,21 +110,24 @@ impl Versions {
         requires { (current self.old).number < 4294967295 }
         ensures ok { OnOk result (self.new ≡ with_keys keys self.old) }
         ensures err { OnErr result (self.new ≡ self.old) }
+        ensures valid { IsVersions self.new }
     {
         let number = self.current().number + 1;
-        Ok(self.versions.insert(0, KeyVersion { number, keys })?)
+        Ok(self.versions.insert(0, KeyVersion::new(number, keys))?)
     }
 
     /// Drops the version of this number, which is not the current one.
     pub fn drop(&mut self, number: u32)
         requires { (current self.old).number ≢ number }
-        ensures { self.new ≡ without number self.old }
+        ensures versions { self.new ≡ without number self.old }
+        ensures valid { IsVersions self.new }
     {
         self.versions.retain(|version| version.number != number);
     }
 
     pub fn copy(&self, alloc: Global) -> Result<Versions, AllocError>
-        ensures { IfOk result (λ versions. versions ≡ self.now) }
+        ensures versions { IfOk result (λ versions. versions ≡ self.now) }
+        ensures valid { IfOk result IsVersions }
     {
         let mut versions = Vec::new(alloc);
         for version in &self.versions {
@@ -121,11 +137,15 @@ impl Versions {
     }
 }
 
+// Whether there is a version, and the numbers are positive and fall. It looks at each list of keys, since what holds of
+// every such list is known where one is looked at.
 fn are_versions(versions: &[KeyVersion]) -> bool
-    ensures { result ≡ are_versions versions.now }
+    ensures value { result ≡ are_versions versions.now }
+    ensures valid { IsTrue result → IsVersions versions.now }
 {
     let mut rest = versions;
     while let [version, later @ ..] = rest {
+        let _keys = version.keys.keys();
         if version.number == 0 {
             return false;
         }
@@ -147,11 +167,12 @@ pub struct Row {
 }
 
 impl Row {
-    ghost use Rattle.principal_rows.specs.Row.{first_row};
+    ghost use Rattle.principal_rows.specs.Row.{IsRow, first_row};
 
     /// The row of a new principal, with these keys as version 1 and the default policy.
     pub fn first(alloc: Global, keys: KeyList) -> Result<Row, AllocError>
-        ensures { IfOk result (λ row. row ≡ first_row keys) }
+        ensures row { IfOk result (λ row. row ≡ first_row keys) }
+        ensures valid { IfOk result IsRow }
     {
         Ok(Row {
             versions: Versions::first(alloc, keys)?,
@@ -160,7 +181,8 @@ impl Row {
     }
 
     pub fn copy(&self, alloc: Global) -> Result<Row, AllocError>
-        ensures { IfOk result (λ row. row ≡ self.now) }
+        ensures row { IfOk result (λ row. row ≡ self.now) }
+        ensures valid { IfOk result IsRow }
     {
         Ok(Row {
             versions: self.versions.copy(alloc)?,

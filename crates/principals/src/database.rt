@@ -5,6 +5,7 @@ ghost use Rattle.refusals.specs.Refusals.{first_holding};
 ghost use Rattle.krb_fields.specs.NameLimits.{IsComponent};
 ghost use Rattle.std.specs.Ordering.{eq_by_cmp};
 ghost use Rattle.krb_fields.specs.Name.{name_cmp};
+ghost use Rattle.principal_rows.specs.Row.{IsRow};
 ghost use Rattle.principals.specs.Database.{IsDatabase, first_database, granter_name, ticket_granter};
 ghost use Rattle.principals.specs.Change.{refusal, add_rules, changed};
 
@@ -109,14 +110,16 @@ impl Database {
 
     /// The row of a principal, whose name is compared by its components alone.
     pub fn get(&self, name: &Name) -> Option<&Row>
-        ensures { option_copied result ≡ map.get self.now.rows name.now.components }
+        ensures row { option_copied result ≡ map.get self.now.rows name.now.components }
+        ensures valid { IfSome result (λ row. IsRow row.now) }
     {
         self.rows.get(name)
     }
 
     /// The row of a principal that is named where it stands, as in a request. It takes no memory.
     pub fn get_ref(&self, name_ref: &NameRef<'_>) -> Option<&Row>
-        ensures { option_copied result ≡ map.get self.now.rows name_ref.now.components }
+        ensures row { option_copied result ≡ map.get self.now.rows name_ref.now.components }
+        ensures valid { IfSome result (λ row. IsRow row.now) }
     {
         self.rows.get(name_ref)
     }
@@ -237,7 +240,8 @@ impl Database {
 
     /// Sets the row of a name that has one.
     fn replace(&mut self, name: &Name, row: Row)
-        requires { IsTrue (map.contains_key self.old.rows name.now.components) }
+        requires there { IsTrue (map.contains_key self.old.rows name.now.components) }
+        requires valid { IsRow row }
         ensures { self.new ≡ record self.old { rows = map.insert self.old.rows name.now.components row } }
     {
         let mut row = row;

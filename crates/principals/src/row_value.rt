@@ -1,7 +1,9 @@
 //! Rows as JSON values.
 ghost use Rattle.std.specs.Prelude.{◌≡◌, None, Some, IfOk};
 ghost use Rattle.serde_json.specs.View.{view};
-ghost use Rattle.principals.specs.ReadBack.{IsTimeReadBack, IsKeyReadBack, AreKeysReadBack, IsVersionReadBack, AreVersionsReadBack, IsRowReadBack};
+ghost use Rattle.principal_rows.specs.Row.{IsRow};
+ghost use Rattle.principal_rows.specs.Versions.{IsVersions};
+ghost use Rattle.principals.specs.ReadBack.{IsTimeReadBack, AreVersionsReadBack, IsRowReadBack};
 ghost use Rattle.principals.specs.RowWritten as written;
 ghost use Rattle.principals.specs.RowValue.{member_count, u32_of, flag, life, time, revoked_before, etype_value, key_of, keys_of, version_of, versions_of, policy_of, row_of};
 
@@ -95,6 +97,7 @@ fn read_version(alloc: Global, value: &Value) -> Result<KeyVersion, RowFault>
 
 fn read_versions(alloc: Global, value: &Value) -> Result<Versions, RowFault>
     ensures ok { IfOk result (λ versions. versions_of (view value.now) ≡ Some versions) }
+    ensures fits { IfOk result IsVersions }
     ensures bad { result ≡ Err RowFault.BadRow → versions_of (view value.now) ≡ None }
 {
     let Some(items) = value.as_array() else {
@@ -162,6 +165,7 @@ fn read_policy(row: &Value, format: Format) -> Option<Policy>
 /// The row that a value stands for.
 pub(crate) fn read_row(alloc: Global, value: &Value, format: Format) -> Result<Row, RowFault>
     ensures ok { IfOk result (λ row. row_of format (view value.now) ≡ Some row) }
+    ensures fits { IfOk result IsRow }
     ensures bad { result ≡ Err RowFault.BadRow → row_of format (view value.now) ≡ None }
 {
     if member_count(value) != format.row_members() {
@@ -192,8 +196,7 @@ fn time_value(time: Option<Second>) -> Value
 }
 
 fn key_value(alloc: Global, key: &Key) -> Result<Value, AllocError>
-    ensures value { IfOk result (λ value. view value ≡ written.key_value key.now) }
-    ensures reads { IfOk result (λ _. IsKeyReadBack key.now) }
+    ensures { IfOk result (λ value. view value ≡ written.key_value key.now) }
 {
     json!(in alloc; {
         "etype": key.etype().number(),
@@ -202,8 +205,7 @@ fn key_value(alloc: Global, key: &Key) -> Result<Value, AllocError>
 }
 
 fn keys_value(alloc: Global, keys: &KeyList) -> Result<Value, AllocError>
-    ensures value { IfOk result (λ value. view value ≡ written.keys_value keys.now) }
-    ensures reads { IfOk result (λ _. AreKeysReadBack keys.now) }
+    ensures { IfOk result (λ value. view value ≡ written.keys_value keys.now) }
 {
     let mut values = Vec::new(alloc);
     for key in keys.keys() {
@@ -213,8 +215,7 @@ fn keys_value(alloc: Global, keys: &KeyList) -> Result<Value, AllocError>
 }
 
 fn version_value(alloc: Global, version: &KeyVersion) -> Result<Value, AllocError>
-    ensures value { IfOk result (λ value. view value ≡ written.version_value version.now) }
-    ensures reads { IfOk result (λ _. IsVersionReadBack version.now) }
+    ensures { IfOk result (λ value. view value ≡ written.version_value version.now) }
 {
     json!(in alloc; {
         "keys": keys_value(alloc, &version.keys)?,

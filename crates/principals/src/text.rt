@@ -11,6 +11,8 @@ ghost use Rattle.principals.specs.NameOf.{name_of, component_of};
 ghost use Rattle.principals.specs.ReadBack.{IsEntryReadBack};
 ghost use Rattle.principals.specs.RowValue.{member_count};
 ghost use Rattle.principal_rows.specs.NameMap.{pairs};
+ghost use Rattle.principal_rows.specs.Row.{IsRow};
+ghost use Rattle.principals.specs.Database.{AreRows};
 ghost use Rattle.principals.specs.Written.{with_rows, database_value};
 ghost use Rattle.principals.specs.Value.{format_value, entries_of, rows_of, realm_of, principals_of, database, text_database};
 
@@ -132,6 +134,7 @@ fn read_name(alloc: Global, text: &str) -> Result<Name, RowFault>
 /// The rows, each a member with the text of its name.
 fn read_rows(alloc: Global, value: &Value, format: Format) -> Result<NameMap<Row>, RowFault>
     ensures ok { IfOk result (λ rows. rows_of format (view value.now) ≡ Some rows) }
+    ensures fits { IfOk result AreRows }
     ensures bad { result ≡ Err RowFault.BadRow → rows_of format (view value.now) ≡ None }
 {
     let Some(members) = value.get("principals").and_then(Value::as_object) else {
@@ -147,6 +150,7 @@ fn read_entries(
     format: Format,
 ) -> Result<Vec<Entry<Row>>, RowFault>
     ensures ok { IfOk result (λ entries. entries_of format (members_view members.now.entries) ≡ Some (pairs entries.items)) }
+    ensures fits { IfOk result (λ entries. All (λ entry. IsRow entry.value) entries.items) }
     ensures bad { result ≡ Err RowFault.BadRow → entries_of format (members_view members.now.entries) ≡ None }
 {
     let mut entries = Vec::new(alloc);
