@@ -132,7 +132,7 @@ fn kept_renewal(ticket: &TicketTerms) -> Option<KTime>
     ensures range { IfSome result IsCivilSecond }
 {
     if ticket.has(TicketFlag::Renewable) {
-        Some(time_at(ticket.renewal()))
+        Some(KTime::of(ticket.renewal()))
     } else {
         None
     }
@@ -150,8 +150,8 @@ fn valid_times(start: i64, end: i64, renew_till: Option<KTime>) -> Result<Times,
         return Err(Code::KdcErrNeverValid);
     }
     Ok(Times {
-        start: time_at(start),
-        end: time_at(end),
+        start: KTime::of(start),
+        end: KTime::of(end),
         renew_till,
     })
 }
@@ -250,7 +250,7 @@ fn renewable_until(
         Moment::LAST_SECOND,
     ]);
     if start < until {
-        Some(time_at(until))
+        Some(KTime::of(until))
     } else {
         None
     }
@@ -272,11 +272,4 @@ fn later(time: i64, seconds: u32) -> i64
     ensures { result ≡ later time seconds }
 {
     time + i64::from(seconds)
-}
-
-fn time_at(second: i64) -> KTime
-    requires { IsCivilSecond second }
-    ensures { result ≡ second }
-{
-    KTime::new(second).unwrap()
 }
