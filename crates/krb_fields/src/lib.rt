@@ -25,7 +25,7 @@ pub use code::Code;
 pub use encrypted_data::{EncryptedData, EncryptedDataRef};
 pub use flags::{Flags, NamedBit};
 pub use kdc_option::KdcOption;
-pub use moment::Moment;
+pub use moment::{Moment, SKEW};
 pub use name::{Name, NameRef};
 pub use name_limits::{MAX_COMPONENTS, MAX_OCTETS, is_component};
 pub use name_text::{NT_PRINCIPAL, NameFault, component_from_text, component_to_text};

@@ -6,6 +6,9 @@ ghost use Rattle.krb_fields.specs.Moment.{IsSecond};
 use krb_der::KTime;
 use krb_elements::Microseconds;
 
+/// By how many seconds the clocks of two parties may differ (RFC 4120, section 8.2).
+pub const SKEW: i64 = 300;
+
 /// A moment in UTC, as a KerberosTime with its Microseconds gives it (RFC 4120, sections 5.2.3 and 5.2.4).
 #[derive(Clone, Copy, Debug, PartialEq, Eq)]
 pub struct Moment {
@@ -32,6 +35,7 @@ impl Moment {
             None
         }
     }
+
     /// Its whole seconds, as a message has them.
     pub fn time(self) -> KTime
         ensures { result ≡ self.sec }

@@ -12,12 +12,9 @@ use crate::asked::asks;
 use crate::ceiling::Ceiling;
 use crate::earliest::earliest;
 use krb_der::KTime;
-use krb_fields::{Code, KdcOption, Moment, TicketFlag};
+use krb_fields::{Code, KdcOption, Moment, SKEW, TicketFlag};
 use krb_types::ReqBodyRef;
 use principal_rows::{Limits, Policy};
-
-/// By how many seconds the clocks of a client and of this KDC may differ.
-const SKEW: i64 = 300;
 
 /// When a ticket is valid, and until when it may be renewed, if at all.
 #[derive(Clone, Copy, Debug, PartialEq, Eq)]
