@@ -7,14 +7,11 @@ use crate::numbers::PA_ENC_TIMESTAMP;
 use enctypes::KeyUsage;
 use krb_der::KTime;
 use krb_elements::{OctetsRef, SeqRef, read};
-use krb_fields::{EncryptedDataRef, Moment, PaDataRef};
+use krb_fields::{EncryptedDataRef, Moment, PaDataRef, SKEW};
 use krb_parts::PaEncTsEnc;
 use principal_rows::{KeyList, Row};
 use sealed_parts::open_part;
 use std::alloc::{AllocError, Global};
-
-/// By how many seconds the clocks of a client and of this KDC may differ.
-const SKEW: u64 = 300;
 
 /// What a request shows of the client's key.
 #[derive(Debug, Clone, Copy, PartialEq, Eq)]
@@ -85,5 +82,5 @@ fn opened_time(alloc: Global, keys: &KeyList, value: &[u8]) -> Result<Option<KTi
 fn is_skewed(now: i64, time: KTime) -> bool
     ensures { result ≡ is_skewed now time }
 {
-    time.seconds().abs_diff(now) > SKEW
+    time.seconds().abs_diff(now) > SKEW.unsigned_abs()
 }
