@@ -6,6 +6,3 @@ mod under;
 
 pub use kdc_rep::{AsRep, KdcRep, KdcRepRef, TgsRep};
 pub use under::{EncAsRepPart, EncTgsRepPart, Under};
-
-#[cfg(test)]
-mod tests;

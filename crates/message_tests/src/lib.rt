@@ -12,6 +12,8 @@ mod fields;
 #[cfg(test)]
 mod parts;
 #[cfg(test)]
+mod replies;
+#[cfg(test)]
 mod times;
 #[cfg(test)]
 mod whole_messages;

@@ -1,6 +1,7 @@
-use super::*;
+//! Replies with a ticket (`krb_replies`).
 use krb_der::DerFault;
 use krb_elements::read;
+use krb_replies::KdcRepRef;
 use std::test::Fail;
 
 /// An AS-REP of a Python program, by the types of RFC 4120, section 5.4.2.
