@@ -328,7 +328,8 @@ fn a_ticket_without_memory_is_issued_when_asked_again(rt: HostRuntime) -> Result
     let mut kdc = kdc_with_user(alloc)?;
     let basic = octets(alloc, BASIC)?;
     let ticket = octets(alloc, TICKET)?;
-    let _ = issued(alloc, &mut kdc, 1400, &basic);
+    let at = Moment::new(MIDNIGHT, 0).ok_or("a moment")?;
+    let _ = kdc.handle(alloc, at, &[0; 64], 1400, &basic);
     let found = issued(alloc, &mut kdc, 1400, &basic)?;
     assert!(rt; found.is_some_and(|found| found == ticket));
     Ok(())
