@@ -1,3 +1,4 @@
 pub mod Frame
 pub mod Known
 pub mod Reading
+pub mod Runs

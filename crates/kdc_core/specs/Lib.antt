@@ -4,3 +4,4 @@ pub mod Agreement
 pub mod Answer
 pub mod After
 pub mod RequestLaws
+pub mod Run

@@ -3,9 +3,11 @@
 
 mod answering;
 mod kdc;
+mod run;
 
 pub use kdc::Kdc;
 pub use kdc_state::Opening;
+pub use run::{Event, RunFault};
 
 #[cfg(test)]
 mod tests;

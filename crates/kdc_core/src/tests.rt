@@ -1,6 +1,6 @@
 use super::*;
 use enctypes::{Etype, Key};
-use krb_elements::{KerberosString, Seq};
+use krb_elements::{KerberosString, Octets, Seq};
 use krb_fields::{Moment, Name};
 use principal_rows::{KeyList, Limits, Policy};
 use principals::{Change, ChangeFault, Database};
@@ -332,5 +332,59 @@ fn a_ticket_without_memory_is_issued_when_asked_again(rt: HostRuntime) -> Result
     let _ = kdc.handle(alloc, at, &[0; 64], 1400, &basic);
     let found = issued(alloc, &mut kdc, 1400, &basic)?;
     assert!(rt; found.is_some_and(|found| found == ticket));
+    Ok(())
+}
+
+/// An event in which this is asked at midnight.
+fn asks(request: Vec<u8>) -> Result<Event, Fail> {
+    Ok(Event::Request {
+        at: Moment::new(MIDNIGHT, 0).ok_or("a moment")?,
+        words: [0; 64],
+        room: 1400,
+        request: Octets::new(request),
+    })
+}
+
+fn adds_user(alloc: Global) -> Result<Event, Fail> {
+    let change = Change::Add {
+        name: name(alloc, &[b"u"])?,
+        keys: keys(alloc)?,
+    };
+    Ok(Event::Change { change })
+}
+
+/// No request; `u` is added, and again; `x` asks, and `u`.
+fn events(alloc: Global) -> Result<[Event; 5], Fail> {
+    Ok([
+        asks(Vec::new(alloc))?,
+        adds_user(alloc)?,
+        adds_user(alloc)?,
+        asks(changed(alloc, 42, b'x')?)?,
+        asks(octets(alloc, BASIC)?)?,
+    ])
+}
+
+fn replies(alloc: Global) -> Result<[Option<Vec<u8>>; 5], Fail> {
+    let unknown = octets(alloc, CLIENT_UNKNOWN)?;
+    let preauth_required = octets(alloc, PREAUTH_REQUIRED)?;
+    Ok([None, None, None, Some(unknown), Some(preauth_required)])
+}
+
+// Passes whichever allocation of the first run is refused.
+#[test]
+fn a_run_goes_on_where_it_stopped(rt: HostRuntime) -> Result<(), Fail> {
+    let alloc = rt.alloc();
+    let mut kdc = kdc(alloc)?;
+    let events = events(alloc)?;
+    let events = events.as_slice();
+    let wanted = replies(alloc)?;
+    let wanted = wanted.as_slice();
+    let (done, first) = match kdc.run(alloc, events) {
+        Ok(replies) => (events.len(), replies),
+        Err(RunFault { done, replies }) => (done, replies),
+    };
+    assert!(rt; first.as_slice() == &wanted[..done]);
+    let rest = kdc.run(alloc, &events[done..]).map_err(|_| "a run")?;
+    assert!(rt; rest.as_slice() == &wanted[done..]);
     Ok(())
 }

@@ -1,0 +1,124 @@
+//! Runs of a key distribution centre: events in their order.
+ghost use Rattle.std.specs.Prelude.{◌≡◌, ◌<◌, ◌++◌, ◌∷◌, [], length, map, take, IfOk, IfErr, IfSome, IsOk, OnOk, OnErr, option_map};
+ghost use Rattle.kdc_core.specs.Run.{after_change, after_event, event_reply, replies, run};
+ghost use Rattle.principals.specs.Change.{refusal};
+
+use crate::kdc::Kdc;
+use krb_elements::Octets;
+use krb_fields::Moment;
+use principals::{Change, ChangeFault};
+use std::alloc::{AllocError, Global};
+use std::error::Error;
+use std::fmt;
+
+/// What happens to a KDC.
+#[derive(Debug, Drop)]
+pub enum Event {
+    /// A request comes, at this moment. `words` are 64 random octets, and `room` is the most octets of a reply with
+    /// a ticket.
+    Request {
+        at: Moment,
+        words: [u8; 64],
+        room: u32,
+        request: Octets,
+    },
+    /// A change of the database is asked for.
+    Change {
+        change: Change,
+    },
+}
+
+/// Want of memory, in the midst of a run. The KDC stands after the events that are done.
+#[derive(Debug, Drop)]
+pub struct RunFault {
+    /// How many events are done.
+    pub done: usize,
+    /// The reply, or none, of each event that is done.
+    pub replies: Vec<Option<Vec<u8>>>,
+}
+
+impl fmt::Display for RunFault {
+    fn fmt<W: fmt::Write>(&self, f: &mut fmt::Formatter<W>) -> fmt::Result {
+        write!(f, "out of memory after {} events", self.done)
+    }
+}
+
+impl Error for RunFault {}
+
+impl Kdc {
+    /// Handles the requests and makes the changes, in their order. It gives the reply, or none, of each event: a
+    /// change has none, and one that is refused leaves everything as it was.
+    ///
+    /// Want of memory alone ends a run early. It can go on at the first event that is not done.
+    pub fn run(&mut self, alloc: Global, events: &[Event]) -> Result<Vec<Option<Vec<u8>>>, RunFault>
+        // The replies are those that the rules say, each from the state that the events before it left.
+        ensures replies { IfOk result (λ r. map (option_map (λ octets. octets.items)) r.items ≡ replies self.old events.now) }
+        // The state afterwards is the one that the rules say.
+        ensures state { OnOk result (self.new ≡ run self.old events.now) }
+        // Where memory lacks, both are as after the events that are done.
+        ensures done { IfErr result (λ fault. fault.done < length events.now) }
+        ensures done_replies { IfErr result (λ fault. map (option_map (λ octets. octets.items)) fault.replies.items ≡ replies self.old (take fault.done events.now)) }
+        ensures done_state { IfErr result (λ fault. self.new ≡ run self.old (take fault.done events.now)) }
+    {
+        let mut replies = Vec::new(alloc);
+        for event in events {
+            if let Err(AllocError) = self.step(alloc, event, &mut replies) {
+                return Err(RunFault {
+                    done: replies.len(),
+                    replies,
+                });
+            }
+        }
+        Ok(replies)
+    }
+
+    /// Puts the reply of an event behind the others. Its place is reserved first, so that no reply is lost.
+    fn step(
+        &mut self,
+        alloc: Global,
+        event: &Event,
+        replies: &mut Vec<Option<Vec<u8>>>,
+    ) -> Result<(), AllocError>
+        ensures reply { OnOk result (map (option_map (λ octets. octets.items)) replies.new.items ≡ map (option_map (λ octets. octets.items)) replies.old.items ++ event_reply self.old event.now ∷ []) }
+        ensures state { OnOk result (self.new ≡ after_event self.old event.now) }
+        ensures err { OnErr result ((self.new ≡ self.old) × (replies.new.items ≡ replies.old.items)) }
+    {
+        replies.reserve(1)?;
+        let reply = self.take_event(alloc, event)?;
+        replies.push_reserved(reply);
+        Ok(())
+    }
+
+    /// The reply of an event, or none.
+    fn take_event(&mut self, alloc: Global, event: &Event) -> Result<Option<Vec<u8>>, AllocError>
+        ensures reply { IfOk result (λ reply. option_map (λ octets. octets.items) reply ≡ event_reply self.old event.now) }
+        ensures state { OnOk result (self.new ≡ after_event self.old event.now) }
+        ensures err { OnErr result (self.new ≡ self.old) }
+    {
+        match event {
+            Event::Request {
+                at,
+                words,
+                room,
+                request,
+            } => self.handle(alloc, *at, words, *room, request.as_slice()),
+            Event::Change { change } => {
+                self.change(alloc, change)?;
+                Ok(None)
+            }
+        }
+    }
+
+    /// Makes a change, or leaves everything as it was where the change is refused.
+    fn change(&mut self, alloc: Global, change: &Change) -> Result<(), AllocError>
+        ensures state { OnOk result (self.new ≡ after_change self.old change.now) }
+        ensures refused { IfSome (refusal self.old.database change.now) (λ _. IsOk result) }
+        ensures err { OnErr result (self.new ≡ self.old) }
+    {
+        match self.apply(alloc, change) {
+            Ok(()) => Ok(()),
+            Err(ChangeFault::Memory) => Err(AllocError),
+            Err(_) => Ok(()),
+        }
+    }
+}
