@@ -1,0 +1,2 @@
+pub mod ApReq
+pub mod ApRep
