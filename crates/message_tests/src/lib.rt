@@ -4,6 +4,8 @@
 #![tactic(auto)]
 
 #[cfg(test)]
+mod ap_messages;
+#[cfg(test)]
 mod der;
 #[cfg(test)]
 mod elements;

@@ -73,7 +73,7 @@ const LONG_ERROR: &[u8; 137] = b"\x7e\x81\x86\x30\x81\x83\
     \xac\x04\x04\x02\x30\x00";
 
 /// Whether the name has this name type and these components.
-fn is_name(name: &NameRef<'_>, name_type: i32, components: &[&[u8]]) -> bool {
+pub fn is_name(name: &NameRef<'_>, name_type: i32, components: &[&[u8]]) -> bool {
     let mut found = name.components.iter();
     for component in components {
         let Some(next) = found.next() else {
