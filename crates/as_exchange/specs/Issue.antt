@@ -1,9 +1,8 @@
 -- The ticket of an admission, and the reply that bears it (RFC 4120, section 3.1.3).
-use Rattle.std.specs.Prelude.{pos, ℕ, List, [], ◌∷◌, take, Some}
-use Rattle.enctypes.specs.Etype.{number, key_len}
-use Rattle.enctypes.specs.declared.etype.Etype.{Etype}
-use Rattle.enctypes.specs.declared.key.Key.{Key}
+use Rattle.std.specs.Prelude.{pos, ℕ, List, [], ◌∷◌, Some, None}
+use Rattle.enctypes.specs.Etype.{number}
 use Rattle.enctypes.specs.declared.key_usage.KeyUsage.TheVariants.{AsRepEncPart}
+use Rattle.kdc_replies.specs.Grant.{session_key}
 use Rattle.kdc_replies.specs.Reply.{reply_of}
 use Rattle.kdc_replies.specs.declared.grant.Grant.{Grant}
 use Rattle.kdc_replies.specs.declared.replies.ReplyKey.{ReplyKey}
@@ -20,10 +19,6 @@ use Rattle.as_exchange.specs.Rules.{is_good}
 use Rattle.as_exchange.specs.declared.terms.Terms.{Terms}
 use Rattle.as_exchange.specs.declared.terms.Admission.{Admission}
 
--- random octets are a key as they are: the first of them, as many as the type's keys have
-abbrev pub session_key : Etype → List ℕ → Key
-session_key etype words = record { etype = etype; bytes = take (key_len etype) (take 32 words) }
-
 abbrev pub grant_by : View → Moment → List ℕ → ReqBody → Outcome → Admission → Grant
 grant_by v at words body timestamp admission = record {
   realm = v.realm;
@@ -33,6 +28,7 @@ grant_by v at words body timestamp admission = record {
   flags = as_flags body admission.terms.client admission.terms.service (is_good timestamp) admission.times;
   authtime = at.sec;
   times = admission.times;
+  authorization_data = None;
 }
 
 -- the client's key, by its version

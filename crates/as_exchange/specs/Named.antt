@@ -10,7 +10,8 @@ use Rattle.krb_fields.specs.declared.code.Code.{Code}
 use Rattle.krb_types.specs.ReqBody.{ReqBody}
 use Rattle.principal_rows.specs.declared.limits.Limits.{Limits}
 use Rattle.principal_rows.specs.declared.row.Row.{Row}
-use Rattle.refusals.specs.Refusals.{Rule, decided, first_holding, unless_refused}
+use Rattle.refusals.specs.RefusalLaws.{decided_found}
+use Rattle.refusals.specs.Refusals.{Rule, decided}
 use Rattle.ticket_times.specs.Times.{as_times}
 use Rattle.ticket_times.specs.declared.times.Times.{Times}
 use Rattle.as_exchange.specs.View.{View}
@@ -23,19 +24,6 @@ use Rattle.as_exchange.specs.declared.terms.Admission.{Admission}
 pub record IsNamed (t : Terms) : Type 0 where
   pub client : IsWithinLimits t.client_name.components
   pub service : IsWithinLimits t.service_name.components
-
--- what was decided on was found
-found_by : {A R : Type 0} (reason : Option R) (found : Option A) (otherwise : R) (x : A) → unless_refused reason found otherwise ≡ Ok x → found ≡ Some x
-found_by (Some r) found otherwise x e = absurd cc
-found_by None None otherwise x e = absurd cc
-found_by {A} {R} None (Some y) otherwise x e = ap (λ (r : Result A R). again r) e
-  where
-    again : Result A R → Option A
-    again (Ok z) = Some z
-    again (Err r) = Some y
-
-pub decided_found : {A R : Type 0} (rules : List (Rule R)) (found : Option A) (otherwise : R) (x : A) → decided rules found otherwise ≡ Ok x → found ≡ Some x
-decided_found rules found otherwise x e = found_by (first_holding rules) found otherwise x e
 
 at_terms : (t : Terms) (times : Result Times Code) (a : Admission) → admission_at t times ≡ Some a → t ≡ a.terms
 at_terms t (Ok times) a e = ap (λ (o : Option Admission). again o) e

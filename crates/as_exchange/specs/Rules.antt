@@ -1,8 +1,9 @@
 -- The rules by which AS-REQs are refused (RFC 4120, section 3.1.3), in their order.
-use Rattle.std.specs.Prelude.{ℤ, pos, Bool, true, false, not, ◌&&◌, ◌||◌, nat_eq, int_le, is_none, List, [], ◌∷◌, Option, Some, None, Result}
+use Rattle.std.specs.Prelude.{ℤ, pos, Bool, true, false, not, ◌&&◌, ◌||◌, nat_eq, is_none, List, [], ◌∷◌, Option, Some, None, Result}
 use Rattle.std.specs.Ordering.{int_eq}
 use Rattle.std.specs.Cmp.Lexicographic.{pointwise}
 use Rattle.refusals.specs.Refusals.{Rule, decided}
+use Rattle.kdc_replies.specs.Standing.{holds_of, has_come, is_disabled, is_expired}
 use Rattle.krb_fields.specs.declared.code.Code.{Code}
 use Rattle.krb_fields.specs.declared.code.Code as codes
 use Rattle.krb_fields.specs.declared.kdc_option.KdcOption.TheVariants.{Forwarded, Proxy, AllowPostdate, Postdated, EncTktInSkey, Renew, Validate}
@@ -22,16 +23,6 @@ use Rattle.as_exchange.specs.declared.refusal.AsRefusal.TheVariants.{BadVersion,
 use Rattle.as_exchange.specs.declared.terms.Admission.{Admission}
 use Rattle.as_exchange.specs.declared.terms.Terms.{Terms}
 
--- what a row says, where there is one
-abbrev pub holds_of : (Row → Bool) → Option Row → Bool
-holds_of test (Some row) = test row
-holds_of test None = false
-
--- a time has come
-abbrev pub has_come : Option ℤ → ℤ → Bool
-has_come (Some time) now = int_le time now
-has_come None now = false
-
 abbrev pub is_bad_version : Received → Bool
 is_bad_version message = not (int_eq message.pvno (pos 5))
 
@@ -45,12 +36,6 @@ is_client_unknown v body = not (pointwise nat_eq body.realm v.realm) || is_none 
 -- no service is named, or it has no row
 abbrev pub is_service_unknown : View → ReqBody → Bool
 is_service_unknown v body = is_none body.sname || is_none v.service
-
-abbrev pub is_disabled : Option Row → Bool
-is_disabled = holds_of (λ row. row.policy.disabled)
-
-abbrev pub is_expired : Option Row → ℤ → Bool
-is_expired row now = holds_of (λ row. has_come row.policy.expires now) row
 
 abbrev pub has_expired_password : Option Row → ℤ → Bool
 has_expired_password row now = holds_of (λ row. has_come row.policy.password_expires now) row

@@ -1,19 +1,19 @@
 //! The ticket of an admission, and the reply that bears it (RFC 4120, section 3.1.3).
-ghost use Rattle.std.specs.Prelude.{◌≡◌, ◌≤◌, ◌∷◌, [], length, take, IfOk};
+ghost use Rattle.std.specs.Prelude.{◌≡◌, ◌≤◌, ◌∷◌, [], length, IfOk};
 ghost use Rattle.krb_elements.specs.Codec.{list_of, written};
 ghost use Rattle.krb_fields.specs.NameLimits.{IsWithinLimits};
 ghost use Rattle.krb_fields.specs.PaData.{pa_data};
 ghost use Rattle.krb_replies.specs.KdcRep.{kdc_rep};
 ghost use Rattle.kdc_replies.specs.Grant.{IsShort};
 ghost use Rattle.kdc_replies.specs.Reply.{OpensAlike};
-ghost use Rattle.as_exchange.specs.Issue.{session_key, grant_by, reply_key_of, reply_info, as_rep};
+ghost use Rattle.as_exchange.specs.Issue.{grant_by, reply_key_of, reply_info, as_rep};
 ghost use Rattle.as_exchange.specs.Named.{IsNamed};
 
 use crate::rules::is_good;
 use crate::terms::{Admission, Terms};
 use crate::view::AsView;
-use enctypes::{Etype, Key, KeyUsage};
-use kdc_replies::{Asked, Grant, ReplyKey, ticket_reply, version_number};
+use enctypes::KeyUsage;
+use kdc_replies::{Asked, Grant, ReplyKey, session_key, ticket_reply, version_number};
 use krb_elements::{KerberosString, Seq};
 use krb_fields::{Moment, PaData};
 use krb_types::ReqBodyRef;
@@ -87,16 +87,8 @@ fn grant_of(
         flags,
         authtime: at.time(),
         times: *times,
+        authorization_data: None,
     })
-}
-
-/// Random octets are a key as they are: the first ones.
-fn session_key(etype: Etype, words: &[u8; 64]) -> Key
-    ensures { result ≡ session_key etype words.now }
-{
-    let mut octets = [0; 32];
-    octets.copy_from_slice(&words[..32]);
-    Key::from_random(etype, &octets)
 }
 
 /// The client's key, by its version.

@@ -1,13 +1,14 @@
 //! The rules of the AS exchange (RFC 4120, section 3.1.3), one condition each.
 ghost use Rattle.std.specs.Prelude.{◌≡◌, IfOk, option_copied};
-ghost use Rattle.as_exchange.specs.Rules.{is_bad_version, is_bad_message_type, is_client_unknown, is_service_unknown, is_disabled, is_expired};
-ghost use Rattle.as_exchange.specs.Rules.{has_come, has_expired_password, is_client_revoked, asks_bad_option, needs_preauth, lacks_preauth, forbids_postdating};
+ghost use Rattle.as_exchange.specs.Rules.{is_bad_version, is_bad_message_type, is_client_unknown, is_service_unknown};
+ghost use Rattle.as_exchange.specs.Rules.{has_expired_password, is_client_revoked, asks_bad_option, needs_preauth, lacks_preauth, forbids_postdating};
 ghost use Rattle.as_exchange.specs.Rules.{is_postdating_refused, is_bad, is_skewed, is_absent, is_good, timestamp_of, rules_by, verdict_by};
 
 use crate::refusal::AsRefusal;
 use crate::terms::{Admission, Terms, admission_of};
 use crate::view::AsView;
-use krb_fields::{KdcOption, Moment, Second};
+use kdc_replies::{has_come, is_disabled, is_expired};
+use krb_fields::{KdcOption, Moment};
 use krb_types::{AS_REQ, KdcReqRef, PVNO, ReqBodyRef};
 use preauth::{Outcome, check_timestamp, is_locked};
 use principal_rows::Row;
@@ -119,39 +120,11 @@ fn is_client_revoked(view: &AsView<'_>, at: Moment) -> bool
     is_disabled(view.client) || is_locked(view.failures, view.limits, at)
 }
 
-fn is_disabled(row: Option<&Row>) -> bool
-    ensures { result ≡ is_disabled (option_copied row.entry) }
-{
-    match row {
-        Some(row) => row.policy.disabled,
-        None => false,
-    }
-}
-
-fn is_expired(row: Option<&Row>, at: Moment) -> bool
-    ensures { result ≡ is_expired (option_copied row.entry) at.sec }
-{
-    match row {
-        Some(row) => has_come(row.policy.expires, at),
-        None => false,
-    }
-}
-
 fn has_expired_password(row: Option<&Row>, at: Moment) -> bool
     ensures { result ≡ has_expired_password (option_copied row.entry) at.sec }
 {
     match row {
         Some(row) => has_come(row.policy.password_expires, at),
-        None => false,
-    }
-}
-
-/// Whether a time has come, if there is one.
-fn has_come(time: Option<Second>, at: Moment) -> bool
-    ensures { result ≡ has_come time at.sec }
-{
-    match time {
-        Some(time) => time.get() <= at.sec,
         None => false,
     }
 }

@@ -1,19 +1,26 @@
 -- What is granted, as it stands in the ticket and in the part of the reply that the client reads (RFC 4120, sections 5.3
 -- and 5.4.2).
-use Rattle.std.specs.Prelude.{ℤ, pos, ◌≤◌, List, [], ◌∷◌, length, Option, Some, None}
+use Rattle.std.specs.Prelude.{ℕ, ℤ, pos, ◌<◌, ◌≤◌, IfSome, List, [], ◌∷◌, length, take, Option, Some, None}
 use Rattle.enctypes.specs.declared.key.Key.{Key}
-use Rattle.enctypes.specs.Etype.{number}
+use Rattle.enctypes.specs.Etype.{number, key_len}
+use Rattle.enctypes.specs.declared.etype.Etype.{Etype}
+use Rattle.krb_elements.specs.Codec.{list_of}
 use Rattle.krb_fields.specs.NameLimits.{IsWithinLimits}
-use Rattle.krb_fields.specs.Typed.{Typed}
+use Rattle.krb_fields.specs.Typed.{Typed, typed}
 use Rattle.krb_parts.specs.EncKdcRepPart.{EncKdcRepPart}
 use Rattle.krb_parts.specs.EncTicketPart.{EncTicketPart}
 use Rattle.kdc_replies.specs.declared.grant.Grant.{Grant}
 
--- a realm and names that have rows: what is written of them is short
+-- A realm and names that have rows: what is written of them is short. What is repeated of a ticket came in a request.
 pub record IsShort (grant : Grant) : Type 0 where
   pub realm : length grant.realm ≤ 255
   pub client : IsWithinLimits grant.client.components
   pub service : IsWithinLimits grant.service.components
+  pub authorization : IfSome grant.authorization_data (λ list. length ((list_of typed).text list) < 2147483648)
+
+-- random octets are a key as they are: the first of them, as many as the type's keys have
+abbrev pub session_key : Etype → List ℕ → Key
+session_key etype words = record { etype = etype; bytes = take (key_len etype) (take 32 words) }
 
 -- EncryptionKey (section 5.2.9)
 abbrev pub key_part : Key → Typed
@@ -35,7 +42,7 @@ ticket_part grant = record {
   endtime = grant.times.end;
   renew_till = grant.times.renew_till;
   caddr = None;
-  authorization_data = None;
+  authorization_data = grant.authorization_data;
 }
 
 -- `nonce` is the request's, and `now` the moment's second

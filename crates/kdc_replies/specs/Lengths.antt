@@ -11,7 +11,7 @@ use Rattle.krb_fields.specs.NameLimits.{IsComponent, IsWithinLimits}
 use Rattle.krb_fields.specs.NameLimitsLaws.{component_facts, name_facts}
 use Rattle.krb_fields.specs.PaData.{PaData, pa_data}
 use Rattle.krb_fields.specs.PrincipalName.{Name, name, name_form}
-use Rattle.krb_fields.specs.Typed.{typed, typed_form}
+use Rattle.krb_fields.specs.Typed.{Typed, typed, typed_form}
 use Rattle.krb_parts.specs.EncKdcRepPart.{enc_kdc_rep_part, enc_kdc_rep_part_of, enc_kdc_rep_part_form}
 use Rattle.krb_parts.specs.EncTicketPart.{enc_ticket_part, enc_ticket_part_of, enc_ticket_part_form}
 use Rattle.krb_parts.specs.LastReq.{last_req, last_req_form}
@@ -57,17 +57,33 @@ error_short realm at code None e_data short shorter few = error_bounded realm at
 
 -- ---- tickets and replies
 
+data_short : (entries : Option (List Typed)) → IfSome entries (λ list. length ((list_of typed).text list) < 2147483648) → most_maybe {A = List Typed} (λ list. length ((list_of typed).text list)) entries ≤ 2147483660
+data_short None short = omega arith
+data_short (Some list) short = omega (arith, short)
+
 ticket_text : (grant : Grant) (renew_till : Option ℤ) → grant.times.renew_till ≡ renew_till → length grant.realm ≤ 255 → IsWithinLimits grant.client.components → length grant.session_key.bytes ≤ 32
-    → length (enc_ticket_part.text (ticket_part grant)) ≤ 6000
+    → IfSome grant.authorization_data (λ list. length ((list_of typed).text list) < 2147483648) → length (enc_ticket_part.text (ticket_part grant)) ≤ 2147490000
 unfolding enc_ticket_part_form typed_form
-ticket_text grant None e realm client key =
-    omega (arith, (enc_ticket_part_of typed string (measured name) (list_of typed)).bounded (ticket_part grant), name_short grant.client client, ap (most_maybe {A = ℤ} (λ z. 15)) e)
-ticket_text grant (Some till) e realm client key =
-    omega (arith, (enc_ticket_part_of typed string (measured name) (list_of typed)).bounded (ticket_part grant), name_short grant.client client, ap (most_maybe {A = ℤ} (λ z. 15)) e)
+ticket_text grant None e realm client key few =
+    omega (
+      arith,
+      (enc_ticket_part_of typed string (measured name) (measured (list_of typed))).bounded (ticket_part grant),
+      name_short grant.client client,
+      ap (most_maybe {A = ℤ} (λ z. 15)) e,
+      data_short grant.authorization_data few,
+    )
+ticket_text grant (Some till) e realm client key few =
+    omega (
+      arith,
+      (enc_ticket_part_of typed string (measured name) (measured (list_of typed))).bounded (ticket_part grant),
+      name_short grant.client client,
+      ap (most_maybe {A = ℤ} (λ z. 15)) e,
+      data_short grant.authorization_data few,
+    )
 
 -- what a ticket holds
-pub ticket_part_short : (grant : Grant) → IsShort grant → length grant.session_key.bytes ≤ 32 → length (enc_ticket_part.text (ticket_part grant)) ≤ 6000
-ticket_part_short grant short key = ticket_text grant grant.times.renew_till refl short.realm short.client key
+pub ticket_part_short : (grant : Grant) → IsShort grant → length grant.session_key.bytes ≤ 32 → length (enc_ticket_part.text (ticket_part grant)) ≤ 2147490000
+ticket_part_short grant short key = ticket_text grant grant.times.renew_till refl short.realm short.client key short.authorization
 
 reply_text : (grant : Grant) (nonce now : ℤ) (renew_till : Option ℤ) → grant.times.renew_till ≡ renew_till → length grant.realm ≤ 255 → IsWithinLimits grant.service.components → length grant.session_key.bytes ≤ 32
     → length (enc_kdc_rep_part.text (reply_part grant nonce now)) ≤ 6000
@@ -91,7 +107,7 @@ padata_short (Some list) short = omega (arith, short)
 
 -- a reply with short names and short ciphers
 pub reply_short : (type : ℕ) (reply : KdcRep type) → length reply.crealm ≤ 255 → IsWithinLimits reply.cname.components → length reply.ticket.realm ≤ 255 → IsWithinLimits reply.ticket.sname.components
-    → length reply.ticket.enc_part.cipher ≤ 6100 → length reply.enc_part.cipher ≤ 6200 → IfSome reply.padata (λ list. length ((list_of pa_data).text list) ≤ 70000)
+    → length reply.ticket.enc_part.cipher ≤ 2147490100 → length reply.enc_part.cipher ≤ 6200 → IfSome reply.padata (λ list. length ((list_of pa_data).text list) ≤ 70000)
     → length ((kdc_rep type).text reply) < 2 ^ 32
 unfolding kdc_rep_form ticket_form encrypted_data_form
 reply_short type reply crealm cname realm sname sealed part padata =

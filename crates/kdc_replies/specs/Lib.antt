@@ -1,4 +1,5 @@
 pub mod ErrorReply
+pub mod Standing
 pub mod Grant
 pub mod Encrypted
 pub mod Reply

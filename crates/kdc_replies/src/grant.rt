@@ -4,6 +4,7 @@ ghost use Rattle.krb_parts.specs.EncKdcRepPart.{enc_kdc_rep_part};
 ghost use Rattle.krb_parts.specs.EncTicketPart.{enc_ticket_part};
 ghost use Rattle.kdc_replies.specs.Grant.{IsShort, key_part, no_realms, ticket_part, reply_part};
 
+use crate::authorization_data::copy_data;
 use enctypes::Key;
 use krb_der::KTime;
 use krb_elements::{KerberosString, Octets, Seq, UInt32};
@@ -24,6 +25,8 @@ pub struct Grant {
     /// When the client was first authenticated.
     pub authtime: KTime,
     pub times: Times,
+    /// What the ticket repeats of the one that was presented.
+    pub authorization_data: Option<Seq<Typed>>,
 }
 
 impl Grant {
@@ -32,7 +35,7 @@ impl Grant {
     pub(crate) fn ticket_part(&self, alloc: Global) -> Result<EncTicketPart, AllocError>
         requires { IsShort self.now }
         ensures value { IfOk result (λ part. part ≡ ticket_part self.now) }
-        ensures short { IfOk result (λ part. length (enc_ticket_part.text part) ≤ 6000) }
+        ensures short { IfOk result (λ part. length (enc_ticket_part.text part) ≤ 2147490000) }
     {
         Ok(EncTicketPart {
             flags: self.flags,
@@ -45,7 +48,7 @@ impl Grant {
             endtime: self.times.end,
             renew_till: self.times.renew_till,
             caddr: None,
-            authorization_data: None,
+            authorization_data: copy_data(alloc, &self.authorization_data)?,
         })
     }
 

@@ -1,13 +1,19 @@
 //! What a key distribution centre answers with: errors, and replies with a ticket.
 #![tactic(auto)]
 
+mod authorization_data;
 mod errors;
 mod grant;
 mod replies;
 mod sealing;
+mod session_keys;
+mod standing;
 mod tickets;
 
+pub use authorization_data::copy_data;
 pub use errors::error_reply;
 pub use grant::Grant;
 pub use replies::{Asked, ReplyKey, ticket_reply};
+pub use session_keys::session_key;
+pub use standing::{has_come, is_disabled, is_expired};
 pub use tickets::{ServiceKey, version_number};

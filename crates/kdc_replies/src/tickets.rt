@@ -30,7 +30,7 @@ pub fn ticket(
     requires { IsShort grant.now }
     ensures value { IfOk result (λ ticket. ticket ≡ ticket_of grant.now service.now words.now) }
     ensures opens { IfOk result (λ ticket. decrypted enc_ticket_part service.now.key 2 ticket.enc_part ≡ Some (ticket_part grant.now)) }
-    ensures most { IfOk result (λ ticket. length ticket.enc_part.cipher ≤ 6100) }
+    ensures most { IfOk result (λ ticket. length ticket.enc_part.cipher ≤ 2147490100) }
 {
     Ok(Ticket {
         tkt_vno: PVNO,
@@ -49,7 +49,7 @@ fn sealed(
     requires { IsShort grant.now }
     ensures value { IfOk result (λ sealed. sealed ≡ (ticket_of grant.now service.now words.now).enc_part) }
     ensures opens { IfOk result (λ sealed. decrypted enc_ticket_part service.now.key 2 sealed ≡ Some (ticket_part grant.now)) }
-    ensures most { IfOk result (λ sealed. length sealed.cipher ≤ 6100) }
+    ensures most { IfOk result (λ sealed. length sealed.cipher ≤ 2147490100) }
 {
     let part = grant.ticket_part(alloc)?;
     encrypted(

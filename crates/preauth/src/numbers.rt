@@ -1,5 +1,8 @@
 //! The types of padata (RFC 4120, section 5.2.7).
 
+/// An AP-REQ: how a TGS-REQ presents its ticket.
+pub const PA_TGS_REQ: i32 = 1;
+
 /// An EncryptedData, under a key of the client's, of the moment of its clock.
 pub const PA_ENC_TIMESTAMP: i32 = 2;
 

@@ -1,6 +1,7 @@
 -- Values that stand sealed in a message.
-use Rattle.std.specs.Prelude.{ℕ, List, Option, Some, None, Result, Ok, Err}
+use Rattle.std.specs.Prelude.{ℕ, ◌≤◌, List, length, Option, Some, None, Result, Ok, Err}
 use Rattle.krb_der.specs.declared.fault.DerFault.{DerFault}
+use Rattle.krb_der.specs.Steps.{IsBytes}
 use Rattle.krb_elements.specs.Codec.{Codec}
 use Rattle.krb_elements.specs.Format.{whole}
 use Rattle.enctypes.specs.declared.etype.Etype.{Etype}
@@ -18,3 +19,10 @@ read_as c (Some text) = ok_of (whole c.at text)
 -- the value that is sealed in the cipher, if the key opens it to the spelling of one
 abbrev pub opened_as : {A : Type 0} → Codec A → Etype → List ℕ → ℕ → List ℕ → Option A
 opened_as c etype key usage cipher = read_as c (opened etype key usage cipher)
+
+-- octets that spell the value, no more than these
+pub record IsSpelledWithin {A : Type 0} (c : Codec A) (x : A) (cipher : List ℕ) : Type 0 where
+  pub octets : List ℕ
+  pub are_bytes : IsBytes octets
+  pub spelled : c.Spells x octets
+  pub short : length octets ≤ length cipher

@@ -1,11 +1,15 @@
 //! The encrypted parts of messages: values that stand sealed under a key.
 #![tactic(auto)]
 
-ghost use Rattle.std.specs.Prelude.{◌≡◌, ◌<◌, ◌≤◌, ◌+◌, ◌^◌, length, Some, IfOk};
+mod keys;
+
+pub use keys::key_of;
+
+ghost use Rattle.std.specs.Prelude.{◌≡◌, ◌<◌, ◌≤◌, ◌+◌, ◌^◌, length, Some, IfOk, IfSome};
 ghost use Rattle.krb_elements.specs.Codec.{written};
 ghost use Rattle.enctypes.specs.KeyUsage.{usage_number};
 ghost use Rattle.enctypes.specs.Sealing.{seal};
-ghost use Rattle.sealed_parts.specs.Parts.{opened_as};
+ghost use Rattle.sealed_parts.specs.Parts.{IsSpelledWithin, opened_as};
 
 use enctypes::{Key, KeyUsage, open, seal};
 use krb_elements::{Encode, Fault, ReadOwned, read_owned, write};
@@ -38,8 +42,10 @@ pub fn open_part<T: ReadOwned>(
     usage: KeyUsage,
     cipher: &[u8],
 ) -> Result<Option<T>, AllocError>
-    ensures { IfOk result (λ found. found
+    ensures value { IfOk result (λ found. found
         ≡ opened_as T.codec key.now.etype key.now.bytes (usage_number usage) cipher.now) }
+    // It stands in no more octets than the cipher has.
+    ensures within { IfOk result (λ found. IfSome found (λ part. IsSpelledWithin T.codec part cipher.now)) }
 {
     let Some(text) = open(alloc, key, usage, cipher)? else {
         return Ok(None);

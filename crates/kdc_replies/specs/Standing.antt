@@ -1,0 +1,19 @@
+-- What the row of a principal says of its standing.
+use Rattle.std.specs.Prelude.{ℤ, Bool, false, int_le, Option, Some, None}
+use Rattle.principal_rows.specs.declared.row.Row.{Row}
+
+-- what a row says, where there is one
+abbrev pub holds_of : (Row → Bool) → Option Row → Bool
+holds_of test (Some row) = test row
+holds_of test None = false
+
+-- a time has come
+abbrev pub has_come : Option ℤ → ℤ → Bool
+has_come (Some time) now = int_le time now
+has_come None now = false
+
+abbrev pub is_disabled : Option Row → Bool
+is_disabled = holds_of (λ row. row.policy.disabled)
+
+abbrev pub is_expired : Option Row → ℤ → Bool
+is_expired row now = holds_of (λ row. has_come row.policy.expires now) row

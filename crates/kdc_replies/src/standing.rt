@@ -1,0 +1,36 @@
+//! What the row of a principal says of its standing, where it has a row.
+ghost use Rattle.std.specs.Prelude.{◌≡◌, option_copied};
+ghost use Rattle.kdc_replies.specs.Standing.{has_come, is_disabled, is_expired};
+
+use krb_fields::{Moment, Second};
+use principal_rows::Row;
+
+/// Whether it is disabled.
+pub fn is_disabled(row: Option<&Row>) -> bool
+    ensures { result ≡ is_disabled (option_copied row.entry) }
+{
+    match row {
+        Some(row) => row.policy.disabled,
+        None => false,
+    }
+}
+
+/// Whether it has expired: from the second of its time on.
+pub fn is_expired(row: Option<&Row>, at: Moment) -> bool
+    ensures { result ≡ is_expired (option_copied row.entry) at.sec }
+{
+    match row {
+        Some(row) => has_come(row.policy.expires, at),
+        None => false,
+    }
+}
+
+/// Whether a time has come, if there is one.
+pub fn has_come(time: Option<Second>, at: Moment) -> bool
+    ensures { result ≡ has_come time at.sec }
+{
+    match time {
+        Some(time) => time.get() <= at.sec,
+        None => false,
+    }
+}

@@ -1,0 +1,10 @@
+use Rattle.std.proofs.Common.{◌≡◌, ap, ◌∙◌}
+use Rattle.std.specs.FinMap.{get, get-empty}
+use Rattle.std.specs.Option.{unwrap_or}
+use Rattle.krb_fields.specs.Name.{name_cmp}
+use Rattle.replay.specs.Memory as memories
+use Rattle.kdc_state.proofs.state.State.restart.Goals as goal
+
+pub returns-clause-memories : goal.returns-clause-memories
+returns-clause-memories c name =
+    ap (λ m. unwrap_or (get m name) (memories.restarted c.args.at.sec)) c.clear.ensures ∙ ap (λ o. unwrap_or o (memories.restarted c.args.at.sec)) (get-empty name_cmp name)

@@ -1,0 +1,143 @@
+-- What the TGS exchange answers, and what it keeps of it.
+use Rattle.std.specs.Prelude.{ℕ, ℤ, ⊤, ◌≡◌, ◌⊎◌, Bool, ◌&&◌, nat_eq, nat_lt, get_or, if◌then◌else◌, List, length, Option, Some, None, Result, Ok, Err}
+use Rattle.std.specs.Cmp.Lexicographic.{pointwise}
+use Rattle.refusals.specs.Refusals.{first_holding}
+use Rattle.enctypes.specs.KeyUsage.{usage_number}
+use Rattle.krb_elements.specs.Codec.{written}
+use Rattle.krb_fields.specs.declared.code.Code.TheVariants.{KrbErrResponseTooBig}
+use Rattle.krb_fields.specs.declared.moment.Moment.{Moment}
+use Rattle.krb_replies.specs.KdcRep.{kdc_rep}
+use Rattle.krb_types.specs.KrbError.{KrbError, krb_error}
+use Rattle.krb_types.specs.ReqBody.{ReqBody}
+use Rattle.kdc_replies.specs.ErrorReply.{error_reply}
+use Rattle.kdc_replies.specs.Reply.{OpensAlike}
+use Rattle.replay.specs.Memory.{verdict}
+use Rattle.replay.specs.Stamp.{Stamp}
+use Rattle.replay.specs.declared.keep.Kept.{Kept}
+use Rattle.replay.specs.declared.verdict.Verdict.{Verdict}
+use Rattle.replay.specs.declared.verdict.Verdict.TheVariants.{Fresh, Skew, Repeat, Full as NoPlace}
+use Rattle.tgs_opening.specs.Refusal.{code_of}
+use Rattle.tgs_opening.specs.declared.presented.Presented.{Presented}
+use Rattle.tgs_opening.specs.declared.refusal.TgsRefusal.{TgsRefusal}
+use Rattle.tgs_opening.specs.declared.refusal.TgsRefusal.TheVariants.{Skewed, Repeated, Full}
+use Rattle.tgs_exchange.specs.View.{View}
+use Rattle.tgs_exchange.specs.Rules.{client_rules, admitted}
+use Rattle.tgs_exchange.specs.Issue.{reply_key_of, tgs_rep}
+use Rattle.tgs_exchange.specs.declared.terms.Admission.{Admission}
+
+-- the octets of the reply, and what is kept of the request and of the reply for the authenticator: none, it is not
+-- remembered
+pub record Answer : Type 0 where
+  pub reply : List ℕ
+  pub kept : Option Kept
+
+-- ---- errors
+
+abbrev pub tgs_error : List ℕ → Moment → ReqBody → TgsRefusal → KrbError
+tgs_error realm at body refusal = error_reply realm at (code_of refusal) body.sname None
+
+-- in place of a reply that is too long
+abbrev pub too_big : List ℕ → Moment → ReqBody → KrbError
+too_big realm at body = error_reply realm at KrbErrResponseTooBig body.sname None
+
+-- a refusal of which nothing is remembered
+abbrev pub refused : View → Moment → ReqBody → TgsRefusal → Answer
+refused v at body refusal = record { reply = written krb_error (tgs_error v.realm at body refusal); kept = None }
+
+-- ---- an authenticator that came before
+
+-- whether octets begin a reply with a ticket: [APPLICATION 13]
+abbrev pub bears_ticket : List ℕ → Bool
+bears_ticket octets = nat_eq (get_or octets 0 0) 109
+
+abbrev pub kept_reply : View → Moment → ℕ → ReqBody → List ℕ → Answer
+kept_reply v at room body octets =
+    if bears_ticket octets && nat_lt room (length octets) then record { reply = written krb_error (too_big v.realm at body); kept = None }
+    else record { reply = octets; kept = None }
+
+-- the same request gets the reply that is kept, and another one is refused
+abbrev pub repeated : View → Moment → ℕ → List ℕ → ReqBody → Kept → Answer
+repeated v at room request body kept = if pointwise nat_eq request kept.request then kept_reply v at room body kept.reply else refused v at body Repeated
+
+-- ---- an authenticator that is new
+
+abbrev pub remembering : List ℕ → List ℕ → Answer
+remembering request octets = record { reply = octets; kept = Some (record { request = request; reply = octets }) }
+
+-- a reply with a ticket that is longer than the room leaves no trace
+abbrev pub within_room : View → Moment → ℕ → List ℕ → ReqBody → List ℕ → Answer
+within_room v at room request body octets =
+    if nat_lt room (length octets) then record { reply = written krb_error (too_big v.realm at body); kept = None }
+    else remembering request octets
+
+abbrev pub fresh_by : View → Moment → List ℕ → ℕ → List ℕ → ReqBody → Presented → Result Admission TgsRefusal → Answer
+fresh_by v at words room request body p (Err refusal) = remembering request (written krb_error (tgs_error v.realm at body refusal))
+fresh_by v at words room request body p (Ok admission) = within_room v at room request body (written (kdc_rep 13) (tgs_rep v at words body p admission))
+
+-- ---- answers
+
+-- the pair by which an authenticator is known
+abbrev pub stamp_of : Presented → Stamp
+stamp_of p = (p.authenticator.ctime, p.authenticator.cusec)
+
+abbrev pub verdict_on : View → ℤ → Presented → Verdict Kept
+verdict_on v now p = verdict v.memory now (stamp_of p) v.limits.remembered
+
+abbrev pub by_verdict : View → Moment → List ℕ → ℕ → List ℕ → ReqBody → Presented → Verdict Kept → Answer
+by_verdict v at words room request body p Skew = refused v at body Skewed
+by_verdict v at words room request body p (Repeat kept) = repeated v at room request body kept
+by_verdict v at words room request body p NoPlace = refused v at body Full
+by_verdict v at words room request body p Fresh = fresh_by v at words room request body p (admitted v at.sec body p)
+
+abbrev pub by_client : View → Moment → List ℕ → ℕ → List ℕ → ReqBody → Presented → Option TgsRefusal → Answer
+by_client v at words room request body p (Some refusal) = refused v at body refusal
+by_client v at words room request body p None = by_verdict v at words room request body p (verdict_on v at.sec p)
+
+-- `words` are 64 random octets, `room` the most octets of a reply with a ticket, and `request` the octets of the request
+abbrev pub tgs_answer : View → Moment → List ℕ → ℕ → List ℕ → ReqBody → Presented → Answer
+tgs_answer v at words room request body p = by_client v at words room request body p (first_holding (client_rules v at.sec p.ticket.authtime))
+
+-- ---- what the octets spell
+
+-- an error where it was refused; else the TGS-REP, or the error in its place
+abbrev pub FreshSpelled : View → Moment → List ℕ → ReqBody → Presented → Result Admission TgsRefusal → List ℕ → Type 0
+FreshSpelled v at words body p (Err refusal) octets = krb_error.Spells (tgs_error v.realm at body refusal) octets
+FreshSpelled v at words body p (Ok admission) octets = (kdc_rep 13).Spells (tgs_rep v at words body p admission) octets ⊎ krb_error.Spells (too_big v.realm at body) octets
+
+-- the reply that is kept, or an error in its place
+abbrev pub RepeatSpelled : View → Moment → ReqBody → Kept → List ℕ → Type 0
+RepeatSpelled v at body kept octets = (octets ≡ kept.reply) ⊎ (krb_error.Spells (too_big v.realm at body) octets ⊎ krb_error.Spells (tgs_error v.realm at body Repeated) octets)
+
+abbrev pub SpelledByVerdict : View → Moment → List ℕ → ReqBody → Presented → Verdict Kept → List ℕ → Type 0
+SpelledByVerdict v at words body p Skew octets = krb_error.Spells (tgs_error v.realm at body Skewed) octets
+SpelledByVerdict v at words body p (Repeat kept) octets = RepeatSpelled v at body kept octets
+SpelledByVerdict v at words body p NoPlace octets = krb_error.Spells (tgs_error v.realm at body Full) octets
+SpelledByVerdict v at words body p Fresh octets = FreshSpelled v at words body p (admitted v at.sec body p) octets
+
+abbrev pub SpelledByClient : View → Moment → List ℕ → ReqBody → Presented → Option TgsRefusal → List ℕ → Type 0
+SpelledByClient v at words body p (Some refusal) octets = krb_error.Spells (tgs_error v.realm at body refusal) octets
+SpelledByClient v at words body p None octets = SpelledByVerdict v at words body p (verdict_on v at.sec p) octets
+
+abbrev pub Spelled : View → Moment → List ℕ → ReqBody → Presented → List ℕ → Type 0
+Spelled v at words body p octets = SpelledByClient v at words body p (first_holding (client_rules v at.sec p.ticket.authtime)) octets
+
+-- ---- one ticket, two keys
+
+-- the reply key opens the TGS-REP to what the service's key finds in the ticket
+abbrev pub OpensBy : View → Moment → List ℕ → ReqBody → Presented → Result Admission TgsRefusal → Type 0
+OpensBy v at words body p (Err refusal) = ⊤
+OpensBy v at words body p (Ok admission) =
+    OpensAlike 13 26 (reply_key_of p).key (usage_number (reply_key_of p).usage) admission.terms.service_key.key (tgs_rep v at words body p admission)
+
+abbrev pub OpensByVerdict : View → Moment → List ℕ → ReqBody → Presented → Verdict Kept → Type 0
+OpensByVerdict v at words body p Skew = ⊤
+OpensByVerdict v at words body p (Repeat kept) = ⊤
+OpensByVerdict v at words body p NoPlace = ⊤
+OpensByVerdict v at words body p Fresh = OpensBy v at words body p (admitted v at.sec body p)
+
+abbrev pub OpensByClient : View → Moment → List ℕ → ReqBody → Presented → Option TgsRefusal → Type 0
+OpensByClient v at words body p (Some refusal) = ⊤
+OpensByClient v at words body p None = OpensByVerdict v at words body p (verdict_on v at.sec p)
+
+abbrev pub Opens : View → Moment → List ℕ → ReqBody → Presented → Type 0
+Opens v at words body p = OpensByClient v at words body p (first_holding (client_rules v at.sec p.ticket.authtime))

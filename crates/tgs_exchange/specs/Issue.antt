@@ -1,0 +1,40 @@
+-- The ticket of an admission, and the reply that bears it (RFC 4120, section 3.3.3).
+use Rattle.std.specs.Prelude.{ℕ, List, Option, Some, None}
+use Rattle.enctypes.specs.declared.key.Key.{Key}
+use Rattle.enctypes.specs.declared.key_usage.KeyUsage.TheVariants.{TgsRepEncPartSessionKey, TgsRepEncPartSubkey}
+use Rattle.kdc_replies.specs.Grant.{session_key}
+use Rattle.kdc_replies.specs.Reply.{reply_of}
+use Rattle.kdc_replies.specs.declared.grant.Grant.{Grant}
+use Rattle.kdc_replies.specs.declared.replies.ReplyKey.{ReplyKey}
+use Rattle.krb_fields.specs.declared.moment.Moment.{Moment}
+use Rattle.krb_replies.specs.KdcRep.{KdcRep}
+use Rattle.krb_types.specs.ReqBody.{ReqBody}
+use Rattle.ticket_times.specs.Flags.{tgs_flags}
+use Rattle.tgs_opening.specs.declared.presented.Presented.{Presented}
+use Rattle.tgs_exchange.specs.View.{View}
+use Rattle.tgs_exchange.specs.Terms.{ticket_terms}
+use Rattle.tgs_exchange.specs.declared.terms.Admission.{Admission}
+
+-- the client, its authtime and the authorization data are those of the ticket that is presented
+abbrev pub grant_by : View → List ℕ → ReqBody → Presented → Admission → Grant
+grant_by v words body p admission = record {
+  realm = v.realm;
+  client = p.ticket.cname;
+  service = admission.terms.service_name;
+  session_key = session_key admission.terms.session_type words;
+  flags = tgs_flags body (ticket_terms p.ticket) admission.terms.service admission.times;
+  authtime = p.ticket.authtime;
+  times = admission.times;
+  authorization_data = p.ticket.authorization_data;
+}
+
+-- the key that the client chose, else the session key of the ticket that is presented
+abbrev pub reply_key_by : Key → Option Key → ReplyKey
+reply_key_by session (Some subkey) = record { key = subkey; usage = TgsRepEncPartSubkey; kvno = None }
+reply_key_by session None = record { key = session; usage = TgsRepEncPartSessionKey; kvno = None }
+
+abbrev pub reply_key_of : Presented → ReplyKey
+reply_key_of p = reply_key_by p.session_key p.subkey
+
+abbrev pub tgs_rep : View → Moment → List ℕ → ReqBody → Presented → Admission → KdcRep 13
+tgs_rep v at words body p admission = reply_of 13 26 (grant_by v words body p admission) admission.terms.service_key (reply_key_of p) None body.nonce at.sec words

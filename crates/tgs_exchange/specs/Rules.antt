@@ -1,0 +1,130 @@
+-- The rules by which TGS-REQs are refused whose ticket and authenticator were opened (RFC 4120, section 3.3.3), in their
+-- order: those of the client, and then, once the authenticator is known to be new, those of what is asked for.
+use Rattle.std.specs.Prelude.{ℤ, pos, ◌-ℤ◌, Bool, false, not, ◌&&◌, ◌||◌, nat_eq, int_lt, is_none, is_some, List, [], ◌∷◌, Option, Some, None, Result}
+use Rattle.std.specs.Cmp.Lexicographic.{pointwise}
+use Rattle.refusals.specs.Refusals.{Rule, decided}
+use Rattle.krb_fields.specs.PrincipalName.{Name}
+use Rattle.krb_fields.specs.declared.kdc_option.KdcOption.{KdcOption}
+use Rattle.krb_fields.specs.declared.kdc_option.KdcOption as options
+use Rattle.krb_fields.specs.declared.ticket_flag.TicketFlag.{TicketFlag}
+use Rattle.krb_fields.specs.declared.ticket_flag.TicketFlag.TheVariants.{Forwardable, Proxiable, MayPostdate, Invalid, Renewable}
+use Rattle.krb_types.specs.ReqBody.{ReqBody}
+use Rattle.kdc_replies.specs.Standing.{holds_of, is_disabled, is_expired}
+use Rattle.principal_rows.specs.declared.row.Row.{Row}
+use Rattle.ticket_times.specs.Asked.{asks}
+use Rattle.ticket_times.specs.TicketTerms.{has_flag, start_of_ticket, renewal_of_ticket}
+use Rattle.ticket_times.specs.Times.{later, starts_too_late}
+use Rattle.ticket_times.specs.declared.ticket_terms.TicketTerms.{TicketTerms}
+use Rattle.tgs_opening.specs.Tickets.{is_named}
+use Rattle.tgs_opening.specs.declared.presented.Presented.{Presented}
+use Rattle.tgs_opening.specs.declared.refusal.TgsRefusal.{TgsRefusal}
+use Rattle.tgs_opening.specs.declared.refusal.TgsRefusal.TheVariants.{ClientUnknown, ClientRevoked, ClientExpired, TicketRevoked}
+use Rattle.tgs_opening.specs.declared.refusal.TgsRefusal.TheVariants.{NotYetValid, TicketExpired, ServiceUnknown, ServiceRevoked, ServiceExpired, OtherService, AuthorizationData}
+use Rattle.tgs_opening.specs.declared.refusal.TgsRefusal.TheVariants.{BadOption, NothingToValidate, ValidatedTooEarly, RenewedTooLate, NoCommonType, StartsTooLate, NeverValid}
+use Rattle.tgs_exchange.specs.View.{View}
+use Rattle.tgs_exchange.specs.Terms.{terms, admission_of, ticket_terms}
+use Rattle.tgs_exchange.specs.declared.terms.Admission.{Admission}
+use Rattle.tgs_exchange.specs.declared.terms.Terms.{Terms}
+
+-- ---- the client
+
+-- a moment before which the client's tickets are revoked
+abbrev pub is_before : ℤ → Option ℤ → Bool
+is_before time (Some revoked_before) = int_lt time revoked_before
+is_before time None = false
+
+-- the client was first authenticated before that moment
+abbrev pub is_ticket_revoked : Option Row → ℤ → Bool
+is_ticket_revoked row authtime = holds_of (λ row. is_before authtime row.policy.revoked_before) row
+
+abbrev pub client_rules : View → ℤ → ℤ → List (Rule TgsRefusal)
+client_rules v now authtime =
+    (is_none v.client, ClientUnknown)
+    ∷ (is_disabled v.client, ClientRevoked)
+    ∷ (is_expired v.client now, ClientExpired)
+    ∷ (is_ticket_revoked v.client authtime, TicketRevoked)
+    ∷ []
+
+-- ---- the ticket
+
+-- it starts later than the skew of clocks allows, or has yet to be validated, and this request doesn't ask for that
+abbrev pub is_not_yet_valid : TicketTerms → ℤ → ReqBody → Bool
+is_not_yet_valid ticket now body = int_lt (later now 300) (start_of_ticket ticket) || (has_flag ticket Invalid && not (asks body options.TheVariants.Validate))
+
+abbrev pub has_ended : TicketTerms → ℤ → Bool
+has_ended ticket now = int_lt ticket.endtime (now -ℤ pos 300)
+
+-- ---- the service
+
+-- the realm isn't ours, no service is named, or it has no row
+abbrev pub is_service_unknown : View → ReqBody → Bool
+is_service_unknown v body = not (pointwise nat_eq body.realm v.realm) || is_none body.sname || is_none v.service
+
+-- the ticket itself is to be renewed or validated
+abbrev pub keeps_ticket : ReqBody → Bool
+keeps_ticket body = asks body options.TheVariants.Renew || asks body options.TheVariants.Validate
+
+-- it is to be renewed or validated for another service than its own
+abbrev pub is_for_other_service : ReqBody → Name → Bool
+is_for_other_service body service = keeps_ticket body && not (is_named body.sname service)
+
+-- ---- options
+
+-- an option that only a ticket with this flag gives
+abbrev pub lacks_flag : ReqBody → TicketTerms → KdcOption → TicketFlag → Bool
+lacks_flag body ticket option flag = asks body option && not (has_flag ticket flag)
+
+-- ENC-TKT-IN-SKEY; RENEW with VALIDATE; or an option whose flag the ticket lacks
+abbrev pub asks_bad_option : ReqBody → TicketTerms → Bool
+asks_bad_option body ticket =
+    asks body options.TheVariants.EncTktInSkey
+    || (asks body options.TheVariants.Renew && asks body options.TheVariants.Validate)
+    || lacks_flag body ticket options.TheVariants.Forwardable Forwardable
+    || lacks_flag body ticket options.TheVariants.Forwarded Forwardable
+    || lacks_flag body ticket options.TheVariants.Proxiable Proxiable
+    || lacks_flag body ticket options.TheVariants.Proxy Proxiable
+    || lacks_flag body ticket options.TheVariants.AllowPostdate MayPostdate
+    || lacks_flag body ticket options.TheVariants.Postdated MayPostdate
+    || lacks_flag body ticket options.TheVariants.Renewable Renewable
+    || lacks_flag body ticket options.TheVariants.Renew Renewable
+
+-- ---- renewing and validating
+
+abbrev pub has_nothing_to_validate : ReqBody → TicketTerms → Bool
+has_nothing_to_validate body ticket = asks body options.TheVariants.Validate && not (has_flag ticket Invalid)
+
+abbrev pub is_validated_too_early : ReqBody → TicketTerms → ℤ → Bool
+is_validated_too_early body ticket now = asks body options.TheVariants.Validate && int_lt now (start_of_ticket ticket)
+
+abbrev pub is_renewed_too_late : ReqBody → TicketTerms → ℤ → Bool
+is_renewed_too_late body ticket now = asks body options.TheVariants.Renew && int_lt (renewal_of_ticket ticket) now
+
+-- a new ticket's start is asked for without POSTDATED, and lies beyond the skew
+abbrev pub starts_late : ReqBody → ℤ → Bool
+starts_late body now = not (keeps_ticket body) && starts_too_late now body
+
+-- ---- in their order
+
+abbrev pub rules_by : View → ℤ → ReqBody → Name → TicketTerms → Option Terms → List (Rule TgsRefusal)
+rules_by v now body service ticket found =
+    (is_not_yet_valid ticket now body, NotYetValid)
+    ∷ (has_ended ticket now, TicketExpired)
+    ∷ (is_service_unknown v body, ServiceUnknown)
+    ∷ (is_disabled v.service, ServiceRevoked)
+    ∷ (is_expired v.service now, ServiceExpired)
+    ∷ (is_for_other_service body service, OtherService)
+    ∷ (is_some body.enc_authorization_data, AuthorizationData)
+    ∷ (asks_bad_option body ticket, BadOption)
+    ∷ (has_nothing_to_validate body ticket, NothingToValidate)
+    ∷ (is_validated_too_early body ticket now, ValidatedTooEarly)
+    ∷ (is_renewed_too_late body ticket now, RenewedTooLate)
+    ∷ (is_none found, NoCommonType)
+    ∷ (starts_late body now, StartsTooLate)
+    ∷ []
+
+-- what is admitted, or why nothing is: in the end because the ticket would not end after it starts
+abbrev pub admitted_by : View → ℤ → ReqBody → Name → TicketTerms → Option Terms → Result Admission TgsRefusal
+admitted_by v now body service ticket found = decided (rules_by v now body service ticket found) (admission_of v.limits now ticket body found) NeverValid
+
+abbrev pub admitted : View → ℤ → ReqBody → Presented → Result Admission TgsRefusal
+admitted v now body p = admitted_by v now body p.service (ticket_terms p.ticket) (terms v body)

@@ -1,0 +1,309 @@
+//! From a TGS-REQ and what it presents to its reply, and to what is kept of both.
+ghost use Rattle.std.specs.Prelude.{◌≡◌, ◌⊎◌, ◌<◌, ◌≤◌, false, None, length, IfOk, IfSome};
+ghost use Rattle.std.specs.FinMap as map;
+ghost use Rattle.refusals.specs.Refusals.{first_holding};
+ghost use Rattle.krb_elements.specs.Codec.{written};
+ghost use Rattle.krb_fields.specs.PrincipalName.{name};
+ghost use Rattle.krb_types.specs.KrbError.{krb_error};
+ghost use Rattle.replay.specs.Memory.{IfNew, verdict_copied};
+ghost use Rattle.replay.specs.Stamp.{is_skewed};
+ghost use Rattle.tgs_exchange.specs.Answer.{bears_ticket, by_client, by_verdict, fresh_by, kept_reply, remembering, repeated, refused, stamp_of, tgs_answer, tgs_error, too_big, verdict_on, within_room};
+ghost use Rattle.tgs_exchange.specs.Answer.{FreshSpelled, Opens, OpensBy, OpensByClient, OpensByVerdict, RepeatSpelled, Spelled, SpelledByClient, SpelledByVerdict};
+ghost use Rattle.tgs_exchange.specs.Known.{IsKnown};
+ghost use Rattle.tgs_exchange.specs.Named.{IsNamed};
+ghost use Rattle.tgs_exchange.specs.Rules.{admitted, client_rules};
+
+use crate::errors::{tgs_error, too_big};
+use crate::issuing::tgs_rep;
+use crate::rules::{admitted, client_rules};
+use crate::terms::{Admission, terms_for, ticket_terms};
+use crate::view::TgsView;
+use krb_elements::Octets;
+use krb_fields::Moment;
+use krb_types::ReqBodyRef;
+use refusals::first_holding;
+use replay::{Kept, Verdict};
+use std::alloc::{AllocError, Global};
+use tgs_opening::{Presented, TgsRefusal};
+
+/// The first octet of a reply with a ticket: the tag of a TGS-REP.
+const TICKET_TAG: u8 = 0x6d;
+
+/// The reply to a TGS-REQ, and what is to be remembered with its authenticator: `None` where nothing is.
+#[derive(Debug, Drop)]
+pub struct TgsAnswer {
+    pub reply: Vec<u8>,
+    pub kept: Option<Kept>,
+}
+
+/// Answers a TGS-REQ. `words` are 64 random octets, `room` is the most octets of a reply with a ticket, and `request` are
+/// the octets of the request.
+pub fn tgs_answer(
+    alloc: Global,
+    view: &TgsView<'_>,
+    at: Moment,
+    words: &[u8; 64],
+    room: u32,
+    request: &[u8],
+    body: &ReqBodyRef<'_>,
+    presented: &Presented,
+) -> Result<TgsAnswer, AllocError>
+    requires { IsKnown view.now body.now presented.now }
+    ensures reply { IfOk result (λ answer. answer.reply.items ≡ (tgs_answer view.now at words.now room request.now body.now presented.now).reply) }
+    ensures kept { IfOk result (λ answer. answer.kept ≡ (tgs_answer view.now at words.now room request.now body.now presented.now).kept) }
+    // The octets spell the message that the rules say, or are the reply that is kept.
+    ensures spelled { IfOk result (λ answer. Spelled view.now at words.now body.now presented.now answer.reply.items) }
+    // Where a ticket is issued, the reply key and the service's key find the same inside.
+    ensures same { IfOk result (λ answer. Opens view.now at words.now body.now presented.now) }
+    // What is to be remembered is neither skewed nor a repeat.
+    ensures timely { IfOk result (λ answer. IfSome answer.kept (λ kept. is_skewed view.now.memory.floor at.sec presented.now.authenticator.ctime ≡ false)) }
+    ensures new { IfOk result (λ answer. IfSome answer.kept (λ kept. map.get view.now.memory.pairs (stamp_of presented.now) ≡ None)) }
+{
+    let refusal = client_refusal(view, at, presented);
+    by_client(alloc, view, at, words, room, request, body, presented, refusal)
+}
+
+/// The first rule of the client that holds.
+fn client_refusal(view: &TgsView<'_>, at: Moment, presented: &Presented) -> Option<TgsRefusal>
+    ensures { result ≡ first_holding (client_rules view.now at.sec presented.now.ticket.authtime) }
+{
+    let authtime = presented.ticket.authtime.seconds();
+    first_holding(&client_rules(view, at, authtime))
+}
+
+/// The answer by what the rules of the client say.
+fn by_client(
+    alloc: Global,
+    view: &TgsView<'_>,
+    at: Moment,
+    words: &[u8; 64],
+    room: u32,
+    request: &[u8],
+    body: &ReqBodyRef<'_>,
+    presented: &Presented,
+    refusal: Option<TgsRefusal>,
+) -> Result<TgsAnswer, AllocError>
+    requires { IsKnown view.now body.now presented.now }
+    ensures reply { IfOk result (λ answer. answer.reply.items ≡ (by_client view.now at words.now room request.now body.now presented.now refusal).reply) }
+    ensures kept { IfOk result (λ answer. answer.kept ≡ (by_client view.now at words.now room request.now body.now presented.now refusal).kept) }
+    ensures spelled { IfOk result (λ answer. SpelledByClient view.now at words.now body.now presented.now refusal answer.reply.items) }
+    ensures same { IfOk result (λ answer. OpensByClient view.now at words.now body.now presented.now refusal) }
+    ensures timely { IfOk result (λ answer. IfSome answer.kept (λ kept. is_skewed view.now.memory.floor at.sec presented.now.authenticator.ctime ≡ false)) }
+    ensures new { IfOk result (λ answer. IfSome answer.kept (λ kept. map.get view.now.memory.pairs (stamp_of presented.now) ≡ None)) }
+{
+    match refusal {
+        Some(refusal) => refused(alloc, view, at, body, refusal),
+        None => {
+            let verdict = verdict_on(view, at, presented);
+            by_verdict(alloc, view, at, words, room, request, body, presented, verdict)
+        }
+    }
+}
+
+/// What the client's memory says of the authenticator.
+fn verdict_on<'v>(view: &TgsView<'v>, at: Moment, presented: &Presented) -> Verdict<&'v Kept>
+    ensures verdict { verdict_copied result ≡ verdict_on view.now at.sec presented.now }
+    ensures timely { IfNew result (is_skewed view.now.memory.floor at.sec presented.now.authenticator.ctime ≡ false) }
+    ensures new { IfNew result (map.get view.now.memory.pairs (stamp_of presented.now) ≡ None) }
+{
+    let ctime = presented.authenticator.ctime.seconds();
+    let cusec = presented.authenticator.cusec.get();
+    view.memory.check(at, ctime, cusec, view.limits.remembered)
+}
+
+/// The answer by what the client's memory says.
+fn by_verdict(
+    alloc: Global,
+    view: &TgsView<'_>,
+    at: Moment,
+    words: &[u8; 64],
+    room: u32,
+    request: &[u8],
+    body: &ReqBodyRef<'_>,
+    presented: &Presented,
+    verdict: Verdict<&Kept>,
+) -> Result<TgsAnswer, AllocError>
+    requires known { IsKnown view.now body.now presented.now }
+    requires timely { IfNew verdict (is_skewed view.now.memory.floor at.sec presented.now.authenticator.ctime ≡ false) }
+    requires new { IfNew verdict (map.get view.now.memory.pairs (stamp_of presented.now) ≡ None) }
+    ensures reply { IfOk result (λ answer. answer.reply.items ≡ (by_verdict view.now at words.now room request.now body.now presented.now (verdict_copied verdict.entry)).reply) }
+    ensures kept { IfOk result (λ answer. answer.kept ≡ (by_verdict view.now at words.now room request.now body.now presented.now (verdict_copied verdict.entry)).kept) }
+    ensures spelled { IfOk result (λ answer. SpelledByVerdict view.now at words.now body.now presented.now (verdict_copied verdict.entry) answer.reply.items) }
+    ensures same { IfOk result (λ answer. OpensByVerdict view.now at words.now body.now presented.now (verdict_copied verdict.entry)) }
+    ensures timely { IfOk result (λ answer. IfSome answer.kept (λ kept. is_skewed view.now.memory.floor at.sec presented.now.authenticator.ctime ≡ false)) }
+    ensures new { IfOk result (λ answer. IfSome answer.kept (λ kept. map.get view.now.memory.pairs (stamp_of presented.now) ≡ None)) }
+{
+    match verdict {
+        Verdict::Skew => refused(alloc, view, at, body, TgsRefusal::Skewed),
+        Verdict::Repeat(kept) => repeated(alloc, view, at, room, request, body, kept),
+        Verdict::Full => refused(alloc, view, at, body, TgsRefusal::Full),
+        Verdict::Fresh => fresh(alloc, view, at, words, room, request, body, presented),
+    }
+}
+
+/// An error of which nothing is remembered.
+fn refused(
+    alloc: Global,
+    view: &TgsView<'_>,
+    at: Moment,
+    body: &ReqBodyRef<'_>,
+    refusal: TgsRefusal,
+) -> Result<TgsAnswer, AllocError>
+    requires realm { length view.now.realm ≤ 255 }
+    requires sname { IfSome body.now.sname (λ n. length (name.text n) < 2147483648) }
+    ensures reply { IfOk result (λ answer. answer.reply.items ≡ (refused view.now at body.now refusal).reply) }
+    ensures kept { IfOk result (λ answer. answer.kept ≡ None) }
+    ensures spelled { IfOk result (λ answer. krb_error.Spells (tgs_error view.now.realm at body.now refusal) answer.reply.items) }
+{
+    Ok(TgsAnswer {
+        reply: tgs_error(alloc, view.realm, at, body, refusal)?,
+        kept: None,
+    })
+}
+
+/// The answer to an authenticator that came before: the same request gets the reply that is kept.
+fn repeated(
+    alloc: Global,
+    view: &TgsView<'_>,
+    at: Moment,
+    room: u32,
+    request: &[u8],
+    body: &ReqBodyRef<'_>,
+    kept: &Kept,
+) -> Result<TgsAnswer, AllocError>
+    requires realm { length view.now.realm ≤ 255 }
+    requires sname { IfSome body.now.sname (λ n. length (name.text n) < 2147483648) }
+    ensures reply { IfOk result (λ answer. answer.reply.items ≡ (repeated view.now at room request.now body.now kept.now).reply) }
+    ensures kept { IfOk result (λ answer. answer.kept ≡ None) }
+    ensures spelled { IfOk result (λ answer. RepeatSpelled view.now at body.now kept.now answer.reply.items) }
+{
+    if request != kept.request.as_slice() {
+        return refused(alloc, view, at, body, TgsRefusal::Repeated);
+    }
+    let reply = kept_reply(alloc, view, at, room, body, kept.reply.as_slice())?;
+    Ok(TgsAnswer { reply, kept: None })
+}
+
+/// The reply that is kept, or an error in its place where it bears a ticket and is longer than the room.
+fn kept_reply(
+    alloc: Global,
+    view: &TgsView<'_>,
+    at: Moment,
+    room: u32,
+    body: &ReqBodyRef<'_>,
+    octets: &[u8],
+) -> Result<Vec<u8>, AllocError>
+    requires realm { length view.now.realm ≤ 255 }
+    requires sname { IfSome body.now.sname (λ n. length (name.text n) < 2147483648) }
+    ensures reply { IfOk result (λ reply. reply.items ≡ (kept_reply view.now at room body.now octets.now).reply) }
+    ensures spelled { IfOk result (λ reply. (reply.items ≡ octets.now) ⊎ krb_error.Spells (too_big view.now.realm at body.now) reply.items) }
+{
+    if bears_ticket(octets) && octets.len() > room as usize {
+        return too_big(alloc, view.realm, at, body);
+    }
+    Vec::from_slice(alloc, octets)
+}
+
+/// Whether octets begin a reply with a ticket.
+fn bears_ticket(octets: &[u8]) -> bool
+    ensures { result ≡ bears_ticket octets.now }
+{
+    match octets.first() {
+        Some(tag) => *tag == TICKET_TAG,
+        None => false,
+    }
+}
+
+/// The answer to an authenticator that is new.
+fn fresh(
+    alloc: Global,
+    view: &TgsView<'_>,
+    at: Moment,
+    words: &[u8; 64],
+    room: u32,
+    request: &[u8],
+    body: &ReqBodyRef<'_>,
+    presented: &Presented,
+) -> Result<TgsAnswer, AllocError>
+    requires { IsKnown view.now body.now presented.now }
+    ensures reply { IfOk result (λ answer. answer.reply.items ≡ (fresh_by view.now at words.now room request.now body.now presented.now (admitted view.now at.sec body.now presented.now)).reply) }
+    ensures kept { IfOk result (λ answer. answer.kept ≡ (fresh_by view.now at words.now room request.now body.now presented.now (admitted view.now at.sec body.now presented.now)).kept) }
+    ensures spelled { IfOk result (λ answer. FreshSpelled view.now at words.now body.now presented.now (admitted view.now at.sec body.now presented.now) answer.reply.items) }
+    ensures same { IfOk result (λ answer. OpensBy view.now at words.now body.now presented.now (admitted view.now at.sec body.now presented.now)) }
+{
+    let terms = terms_for(alloc, view, body)?;
+    let ticket = ticket_terms(&presented.ticket);
+    let admission = admitted(view, at, body, &presented.service, &ticket, terms);
+    fresh_by(alloc, view, at, words, room, request, body, presented, &admission)
+}
+
+/// The answer by what was decided.
+fn fresh_by(
+    alloc: Global,
+    view: &TgsView<'_>,
+    at: Moment,
+    words: &[u8; 64],
+    room: u32,
+    request: &[u8],
+    body: &ReqBodyRef<'_>,
+    presented: &Presented,
+    admission: &Result<Admission, TgsRefusal>,
+) -> Result<TgsAnswer, AllocError>
+    requires known { IsKnown view.now body.now presented.now }
+    requires named { IfOk admission.now (λ admission. IsNamed presented.now admission.terms) }
+    ensures reply { IfOk result (λ answer. answer.reply.items ≡ (fresh_by view.now at words.now room request.now body.now presented.now admission.now).reply) }
+    ensures kept { IfOk result (λ answer. answer.kept ≡ (fresh_by view.now at words.now room request.now body.now presented.now admission.now).kept) }
+    ensures spelled { IfOk result (λ answer. FreshSpelled view.now at words.now body.now presented.now admission.now answer.reply.items) }
+    ensures same { IfOk result (λ answer. OpensBy view.now at words.now body.now presented.now admission.now) }
+{
+    match admission {
+        Err(refusal) => {
+            let reply = tgs_error(alloc, view.realm, at, body, *refusal)?;
+            remembering(alloc, request, reply)
+        }
+        Ok(admission) => {
+            let reply = tgs_rep(alloc, view, at, words, body, presented, admission)?;
+            within_room(alloc, view, at, room, request, body, reply)
+        }
+    }
+}
+
+/// The reply with a ticket, or an error in its place where it is longer than the room.
+fn within_room(
+    alloc: Global,
+    view: &TgsView<'_>,
+    at: Moment,
+    room: u32,
+    request: &[u8],
+    body: &ReqBodyRef<'_>,
+    reply: Vec<u8>,
+) -> Result<TgsAnswer, AllocError>
+    requires realm { length view.now.realm ≤ 255 }
+    requires sname { IfSome body.now.sname (λ n. length (name.text n) < 2147483648) }
+    ensures reply { IfOk result (λ answer. answer.reply.items ≡ (within_room view.now at room request.now body.now reply.items).reply) }
+    ensures kept { IfOk result (λ answer. answer.kept ≡ (within_room view.now at room request.now body.now reply.items).kept) }
+    ensures spelled { IfOk result (λ answer. (answer.reply.items ≡ reply.items) ⊎ krb_error.Spells (too_big view.now.realm at body.now) answer.reply.items) }
+{
+    if reply.len() > room as usize {
+        return Ok(TgsAnswer {
+            reply: too_big(alloc, view.realm, at, body)?,
+            kept: None,
+        });
+    }
+    remembering(alloc, request, reply)
+}
+
+/// A reply that is kept with its request.
+fn remembering(alloc: Global, request: &[u8], reply: Vec<u8>) -> Result<TgsAnswer, AllocError>
+    ensures reply { IfOk result (λ answer. answer.reply.items ≡ reply.items) }
+    ensures kept { IfOk result (λ answer. answer.kept ≡ (remembering request.now reply.items).kept) }
+{
+    let kept = Kept {
+        request: Octets::from_slice(alloc, request)?,
+        reply: Octets::from_slice(alloc, &reply)?,
+    };
+    Ok(TgsAnswer {
+        reply,
+        kept: Some(kept),
+    })
+}

@@ -1,0 +1,110 @@
+//! The ticket of an admission, and the reply that bears it (RFC 4120, section 3.3.3).
+ghost use Rattle.std.specs.Prelude.{◌≡◌, ◌≤◌, length, IfOk};
+ghost use Rattle.enctypes.specs.KeyUsage.{usage_number};
+ghost use Rattle.krb_elements.specs.Codec.{written};
+ghost use Rattle.krb_replies.specs.KdcRep.{kdc_rep};
+ghost use Rattle.kdc_replies.specs.Grant.{IsShort};
+ghost use Rattle.kdc_replies.specs.Reply.{OpensAlike};
+ghost use Rattle.tgs_exchange.specs.Issue.{grant_by, reply_key_of, tgs_rep};
+ghost use Rattle.ticket_times.specs.Flags.{tgs_flags};
+ghost use Rattle.tgs_exchange.specs.Known.{IsKnown};
+ghost use Rattle.tgs_exchange.specs.Named.{IsNamed};
+ghost use Rattle.tgs_exchange.specs.Terms.{ticket_terms};
+
+use crate::terms::{Admission, ticket_terms};
+use crate::view::TgsView;
+use enctypes::KeyUsage;
+use kdc_replies::{Asked, Grant, ReplyKey, copy_data, session_key, ticket_reply};
+use krb_elements::KerberosString;
+use krb_fields::{Flags, Moment};
+use krb_types::ReqBodyRef;
+use std::alloc::{AllocError, Global};
+use tgs_opening::Presented;
+use ticket_times::tgs_flags;
+
+/// The octets of the TGS-REP. Of the random octets the first 32 make the session key, and the last 32 are the
+/// confounders of the ticket and of the reply.
+pub fn tgs_rep(
+    alloc: Global,
+    view: &TgsView<'_>,
+    at: Moment,
+    words: &[u8; 64],
+    body: &ReqBodyRef<'_>,
+    presented: &Presented,
+    admission: &Admission,
+) -> Result<Vec<u8>, AllocError>
+    requires known { IsKnown view.now body.now presented.now }
+    requires named { IsNamed presented.now admission.now.terms }
+    ensures written { IfOk result (λ octets. octets.items ≡ written (kdc_rep 13) (tgs_rep view.now at words.now body.now presented.now admission.now)) }
+    ensures spelled { IfOk result (λ octets. (kdc_rep 13).Spells (tgs_rep view.now at words.now body.now presented.now admission.now) octets.items) }
+    // The client and the service find the same inside.
+    ensures same { IfOk result (λ octets. OpensAlike 13 26 (reply_key_of presented.now).key (usage_number (reply_key_of presented.now).usage) admission.now.terms.service_key.key (tgs_rep view.now at words.now body.now presented.now admission.now)) }
+{
+    let reply_key = reply_key_of(presented);
+    let asked = Asked {
+        nonce: body.nonce,
+        now: at.time(),
+    };
+    let grant = grant_of(alloc, view, words, body, presented, admission)?;
+    ticket_reply::<13, 26>(
+        alloc,
+        &grant,
+        &admission.terms.service_key,
+        &reply_key,
+        None,
+        asked,
+        words,
+    )
+}
+
+fn grant_of(
+    alloc: Global,
+    view: &TgsView<'_>,
+    words: &[u8; 64],
+    body: &ReqBodyRef<'_>,
+    presented: &Presented,
+    admission: &Admission,
+) -> Result<Grant, AllocError>
+    requires known { IsKnown view.now body.now presented.now }
+    requires named { IsNamed presented.now admission.now.terms }
+    ensures value { IfOk result (λ grant. grant ≡ grant_by view.now words.now body.now presented.now admission.now) }
+    ensures short { IfOk result IsShort }
+{
+    let Admission { terms, times } = admission;
+    let ticket = &presented.ticket;
+    Ok(Grant {
+        realm: KerberosString::from_slice(alloc, view.realm)?,
+        client: ticket.cname.copy(alloc)?,
+        service: terms.service_name.copy(alloc)?,
+        session_key: session_key(terms.session_type, words),
+        flags: flags_of(body, presented, admission),
+        authtime: ticket.authtime,
+        times: *times,
+        authorization_data: copy_data(alloc, &ticket.authorization_data)?,
+    })
+}
+
+fn flags_of(body: &ReqBodyRef<'_>, presented: &Presented, admission: &Admission) -> Flags
+    ensures { result ≡ tgs_flags body.now (ticket_terms presented.now.ticket) admission.now.terms.service admission.now.times }
+{
+    let ticket = ticket_terms(&presented.ticket);
+    tgs_flags(body, &ticket, &admission.terms.service, &admission.times)
+}
+
+/// The key that the client chose, else the session key of the ticket that is presented.
+fn reply_key_of(presented: &Presented) -> ReplyKey
+    ensures { result ≡ reply_key_of presented.now }
+{
+    match presented.subkey {
+        Some(subkey) => ReplyKey {
+            key: subkey,
+            usage: KeyUsage::TgsRepEncPartSubkey,
+            kvno: None,
+        },
+        None => ReplyKey {
+            key: presented.session_key,
+            usage: KeyUsage::TgsRepEncPartSessionKey,
+            kvno: None,
+        },
+    }
+}

@@ -1,0 +1,200 @@
+//! The rules of the TGS exchange for what was opened (RFC 4120, section 3.3.3), one condition each.
+ghost use Rattle.std.specs.Prelude.{◌≡◌, option_copied};
+ghost use Rattle.tgs_exchange.specs.Rules.{admitted_by, asks_bad_option, client_rules, has_ended, has_nothing_to_validate, is_before, is_for_other_service};
+ghost use Rattle.tgs_exchange.specs.Rules.{is_not_yet_valid, is_renewed_too_late, is_service_unknown, is_ticket_revoked, is_validated_too_early, keeps_ticket, lacks_flag, rules_by, starts_late};
+
+use crate::terms::{Admission, Terms, admission_of};
+use crate::view::TgsView;
+use kdc_replies::{is_disabled, is_expired};
+use krb_fields::{KdcOption, Moment, Name, SKEW, Second, TicketFlag};
+use krb_types::ReqBodyRef;
+use principal_rows::Row;
+use refusals::decide;
+use tgs_opening::{TgsRefusal, is_named};
+use ticket_times::{TicketTerms, asks, starts_too_late};
+
+/// The rules of the client, in the order in which they are asked. `authtime` is the second when it was first
+/// authenticated.
+pub fn client_rules(view: &TgsView<'_>, at: Moment, authtime: i64) -> [(bool, TgsRefusal); 4]
+    ensures { result ≡ client_rules view.now at.sec authtime }
+{
+    [
+        (view.client.is_none(), TgsRefusal::ClientUnknown),
+        (is_disabled(view.client), TgsRefusal::ClientRevoked),
+        (is_expired(view.client, at), TgsRefusal::ClientExpired),
+        (
+            is_ticket_revoked(view.client, authtime),
+            TgsRefusal::TicketRevoked,
+        ),
+    ]
+}
+
+/// What is admitted, or why nothing is: the first rule that holds, and in the end that the ticket would not end after it
+/// starts.
+pub fn admitted(
+    view: &TgsView<'_>,
+    at: Moment,
+    body: &ReqBodyRef<'_>,
+    service: &Name,
+    ticket: &TicketTerms,
+    terms: Option<Terms>,
+) -> Result<Admission, TgsRefusal>
+    ensures { result ≡ admitted_by view.now at.sec body.now service.now ticket.now terms }
+{
+    let rules = rules_by(view, at, body, service, ticket, &terms);
+    let admission = admission_of(view.limits, at, ticket, body, terms);
+    decide(&rules, admission, TgsRefusal::NeverValid)
+}
+
+/// All rules but the last, in the order in which they are asked.
+fn rules_by(
+    view: &TgsView<'_>,
+    at: Moment,
+    body: &ReqBodyRef<'_>,
+    service: &Name,
+    ticket: &TicketTerms,
+    terms: &Option<Terms>,
+) -> [(bool, TgsRefusal); 13]
+    ensures { result ≡ rules_by view.now at.sec body.now service.now ticket.now terms.now }
+{
+    [
+        (
+            is_not_yet_valid(ticket, at, body),
+            TgsRefusal::NotYetValid,
+        ),
+        (has_ended(ticket, at), TgsRefusal::TicketExpired),
+        (is_service_unknown(view, body), TgsRefusal::ServiceUnknown),
+        (is_disabled(view.service), TgsRefusal::ServiceRevoked),
+        (is_expired(view.service, at), TgsRefusal::ServiceExpired),
+        (
+            is_for_other_service(body, service),
+            TgsRefusal::OtherService,
+        ),
+        (
+            body.enc_authorization_data.is_some(),
+            TgsRefusal::AuthorizationData,
+        ),
+        (asks_bad_option(body, ticket), TgsRefusal::BadOption),
+        (
+            has_nothing_to_validate(body, ticket),
+            TgsRefusal::NothingToValidate,
+        ),
+        (
+            is_validated_too_early(body, ticket, at),
+            TgsRefusal::ValidatedTooEarly,
+        ),
+        (
+            is_renewed_too_late(body, ticket, at),
+            TgsRefusal::RenewedTooLate,
+        ),
+        (terms.is_none(), TgsRefusal::NoCommonType),
+        (starts_late(body, at), TgsRefusal::StartsTooLate),
+    ]
+}
+
+/// The client was first authenticated before the moment before which its tickets are revoked.
+fn is_ticket_revoked(row: Option<&Row>, authtime: i64) -> bool
+    ensures { result ≡ is_ticket_revoked (option_copied row.entry) authtime }
+{
+    match row {
+        Some(row) => is_before(authtime, row.policy.revoked_before),
+        None => false,
+    }
+}
+
+fn is_before(time: i64, revoked_before: Option<Second>) -> bool
+    ensures { result ≡ is_before time revoked_before }
+{
+    match revoked_before {
+        Some(moment) => time < moment.get(),
+        None => false,
+    }
+}
+
+/// It starts later than the skew of clocks allows, or has yet to be validated, and this request doesn't ask for that.
+fn is_not_yet_valid(ticket: &TicketTerms, at: Moment, body: &ReqBodyRef<'_>) -> bool
+    ensures { result ≡ is_not_yet_valid ticket.now at.sec body.now }
+{
+    at.sec + SKEW < ticket.start()
+        || (ticket.has(TicketFlag::Invalid) && !asks(body, KdcOption::Validate))
+}
+
+fn has_ended(ticket: &TicketTerms, at: Moment) -> bool
+    ensures { result ≡ has_ended ticket.now at.sec }
+{
+    ticket.endtime.seconds() < at.sec - SKEW
+}
+
+/// The realm isn't ours, no service is named, or it has no row.
+fn is_service_unknown(view: &TgsView<'_>, body: &ReqBodyRef<'_>) -> bool
+    ensures { result ≡ is_service_unknown view.now body.now }
+{
+    body.realm.as_slice() != view.realm || body.sname.is_none() || view.service.is_none()
+}
+
+/// The ticket itself is to be renewed or validated.
+fn keeps_ticket(body: &ReqBodyRef<'_>) -> bool
+    ensures { result ≡ keeps_ticket body.now }
+{
+    asks(body, KdcOption::Renew) || asks(body, KdcOption::Validate)
+}
+
+/// It is to be renewed or validated for another service than its own.
+fn is_for_other_service(body: &ReqBodyRef<'_>, service: &Name) -> bool
+    ensures { result ≡ is_for_other_service body.now service.now }
+{
+    keeps_ticket(body) && !is_named(body.sname.as_ref(), service)
+}
+
+/// ENC-TKT-IN-SKEY; RENEW with VALIDATE; or an option whose flag the ticket lacks.
+fn asks_bad_option(body: &ReqBodyRef<'_>, ticket: &TicketTerms) -> bool
+    ensures { result ≡ asks_bad_option body.now ticket.now }
+{
+    asks(body, KdcOption::EncTktInSkey)
+        || (asks(body, KdcOption::Renew) && asks(body, KdcOption::Validate))
+        || lacks_flag(body, ticket, KdcOption::Forwardable, TicketFlag::Forwardable)
+        || lacks_flag(body, ticket, KdcOption::Forwarded, TicketFlag::Forwardable)
+        || lacks_flag(body, ticket, KdcOption::Proxiable, TicketFlag::Proxiable)
+        || lacks_flag(body, ticket, KdcOption::Proxy, TicketFlag::Proxiable)
+        || lacks_flag(body, ticket, KdcOption::AllowPostdate, TicketFlag::MayPostdate)
+        || lacks_flag(body, ticket, KdcOption::Postdated, TicketFlag::MayPostdate)
+        || lacks_flag(body, ticket, KdcOption::Renewable, TicketFlag::Renewable)
+        || lacks_flag(body, ticket, KdcOption::Renew, TicketFlag::Renewable)
+}
+
+/// The option is asked for, and the ticket lacks the flag that gives it.
+fn lacks_flag(
+    body: &ReqBodyRef<'_>,
+    ticket: &TicketTerms,
+    option: KdcOption,
+    flag: TicketFlag,
+) -> bool
+    ensures { result ≡ lacks_flag body.now ticket.now option flag }
+{
+    asks(body, option) && !ticket.has(flag)
+}
+
+fn has_nothing_to_validate(body: &ReqBodyRef<'_>, ticket: &TicketTerms) -> bool
+    ensures { result ≡ has_nothing_to_validate body.now ticket.now }
+{
+    asks(body, KdcOption::Validate) && !ticket.has(TicketFlag::Invalid)
+}
+
+fn is_validated_too_early(body: &ReqBodyRef<'_>, ticket: &TicketTerms, at: Moment) -> bool
+    ensures { result ≡ is_validated_too_early body.now ticket.now at.sec }
+{
+    asks(body, KdcOption::Validate) && at.sec < ticket.start()
+}
+
+fn is_renewed_too_late(body: &ReqBodyRef<'_>, ticket: &TicketTerms, at: Moment) -> bool
+    ensures { result ≡ is_renewed_too_late body.now ticket.now at.sec }
+{
+    asks(body, KdcOption::Renew) && ticket.renewal() < at.sec
+}
+
+/// A new ticket's start is asked for without POSTDATED, and lies beyond the skew.
+fn starts_late(body: &ReqBodyRef<'_>, at: Moment) -> bool
+    ensures { result ≡ starts_late body.now at.sec }
+{
+    !keeps_ticket(body) && starts_too_late(at.sec, body)
+}

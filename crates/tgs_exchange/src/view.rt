@@ -1,0 +1,32 @@
+//! What an answer of the TGS exchange is made from, beside the request and what it presents.
+use principal_rows::{Limits, Row};
+use replay::{Kept, Memory};
+use std::marker::Model;
+
+/// What is known of the client of a ticket, and of the service that a request names.
+#[derive(Debug, Drop)]
+pub struct TgsView<'a> {
+    /// The realm's octets, 1 to 255.
+    pub realm: &'a [u8],
+    pub limits: &'a Limits,
+    /// The client's row, where it has one.
+    pub client: Option<&'a Row>,
+    /// The service's row, where it has one.
+    pub service: Option<&'a Row>,
+    /// What is remembered of the client.
+    pub memory: &'a Memory<Kept>,
+}
+
+impl<'a> Model for TgsView<'a> {
+    ghost use Rattle.std.specs.Prelude.{option_copied};
+    ghost use Rattle.std.specs.Coded.{codes};
+    ghost use Rattle.replay.specs.contracts.keep.Kept as kept;
+    ghost use Rattle.replay.specs.contracts.memory.Memory as memories;
+    ghost use Rattle.tgs_exchange.specs.View.{View};
+
+    ghost Value = { View };
+
+    ghost coded = { Prim.hlevel (codes, (memories.the_row kept.the_row).coded) };
+
+    ghost view = { λ v. record { realm = v.realm.now; limits = v.limits.now; client = option_copied v.client; service = option_copied v.service; memory = v.memory.now } };
+}

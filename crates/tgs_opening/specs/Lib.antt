@@ -1,0 +1,8 @@
+pub mod View
+pub mod Refusal
+pub mod Tickets
+pub mod Authenticators
+pub mod Opening
+pub mod InsideLaws
+pub mod PartLaws
+pub mod RequestLaws

@@ -1,0 +1,154 @@
+-- The ticket that a TGS-REQ presents (RFC 4120, sections 3.2.3 and 3.3.3).
+use Rattle.std.specs.Prelude.{ℕ, ℤ, pos, Bool, true, false, not, ◌&&◌, ◌||◌, nat_eq, if◌then◌else◌, is_some, is_none, List, [], ◌∷◌, Option, Some, None, Result, Ok, Err, find}
+use Rattle.std.specs.List.{list_any}
+use Rattle.std.specs.Ordering.{int_eq, eq_by_cmp}
+use Rattle.std.specs.Cmp.Lexicographic.{pointwise}
+use Rattle.refusals.specs.Refusals.{Rule, decided}
+use Rattle.krb_elements.specs.Codec.{Codec}
+use Rattle.krb_elements.specs.Format.{whole}
+use Rattle.krb_fields.specs.ApOption.{ap_option_number}
+use Rattle.krb_fields.specs.EncryptedData.{EncryptedData}
+use Rattle.krb_fields.specs.Flags.{has_bit}
+use Rattle.krb_fields.specs.Name.{name_cmp}
+use Rattle.krb_fields.specs.PrincipalName.{Name}
+use Rattle.krb_fields.specs.declared.ap_option.ApOption.TheVariants.{UseSessionKey}
+use Rattle.krb_fields.specs.declared.kdc_option.KdcOption.TheVariants.{Renew, Validate}
+use Rattle.krb_ap.specs.ApReq.{ApReq, ap_req}
+use Rattle.krb_parts.specs.EncTicketPart.{EncTicketPart, enc_ticket_part}
+use Rattle.krb_types.specs.KdcReq.{Received}
+use Rattle.krb_types.specs.ReqBody.{ReqBody}
+use Rattle.krb_types.specs.Ticket.{Ticket}
+use Rattle.enctypes.specs.declared.key.Key.{Key}
+use Rattle.sealed_parts.specs.Parts.{ok_of, opened_as}
+use Rattle.preauth.specs.Keys.{has_key, key_numbered}
+use Rattle.preauth.specs.Timestamp.{first_of}
+use Rattle.principal_rows.specs.Versions.{current}
+use Rattle.principal_rows.specs.declared.row.KeyVersion.{KeyVersion}
+use Rattle.principal_rows.specs.declared.row.Row.{Row}
+use Rattle.principals.specs.Database.{ticket_granter}
+use Rattle.ticket_times.specs.Asked.{asks}
+use Rattle.tgs_opening.specs.View.{View}
+use Rattle.tgs_opening.specs.declared.refusal.TgsRefusal.{TgsRefusal}
+use Rattle.tgs_opening.specs.declared.refusal.TgsRefusal.TheVariants.{BadVersion, BadMessageType, NoApReq, MalformedApReq}
+use Rattle.tgs_opening.specs.declared.refusal.TgsRefusal.TheVariants.{BadTicketVersion, BadApMessageType, SessionKeyAsked, NotForUs, NoKey, BadKeyVersion, TicketNotOpened}
+use Rattle.tgs_opening.specs.declared.tickets.Addressee.{Addressee}
+use Rattle.tgs_opening.specs.declared.tickets.Addressee.TheVariants.{Granter, Asked, Other}
+
+-- ---- the AP-REQ
+
+-- the value of the first PA-TGS-REQ
+abbrev pub tgs_data : Received → Option (List ℕ)
+tgs_data message = first_of (pos 1) message.padata
+
+abbrev pub ap_req_in : Option (List ℕ) → Option ApReq
+ap_req_in (Some value) = ok_of (whole ap_req.at value)
+ap_req_in None = None
+
+abbrev pub request_rules : Received → List (Rule TgsRefusal)
+request_rules message =
+    (not (int_eq message.pvno (pos 5)), BadVersion)
+    ∷ (not (int_eq message.msg_type (pos 12)), BadMessageType)
+    ∷ (is_none (tgs_data message), NoApReq)
+    ∷ []
+
+-- the AP-REQ that comes with the request
+abbrev pub ap_req_of : Received → Result ApReq TgsRefusal
+ap_req_of message = decided (request_rules message) (ap_req_in (tgs_data message)) MalformedApReq
+
+-- ---- whom the ticket is for
+
+-- names are compared by their components: the name-type is a hint (RFC 4120, section 6.2)
+abbrev pub is_same : Name → Name → Bool
+is_same a b = eq_by_cmp name_cmp a.components b.components
+
+-- the ticket-granting service
+abbrev pub is_for_granter : List ℕ → Name → Bool
+is_for_granter realm service = eq_by_cmp name_cmp service.components (ticket_granter realm)
+
+abbrev pub is_named : Option Name → Name → Bool
+is_named (Some name) service = is_same name service
+is_named None service = false
+
+-- the service that is asked for, which counts where the ticket is to be renewed or validated
+abbrev pub is_for_asked : ReqBody → Name → Bool
+is_for_asked body service = (asks body Renew || asks body Validate) && is_named body.sname service
+
+abbrev pub addressee : List ℕ → ReqBody → Name → Addressee
+addressee realm body service =
+    if is_for_granter realm service then Granter
+    else if is_for_asked body service then Asked
+    else Other
+
+-- the row whose keys the ticket may be sealed under
+abbrev pub row_of : View → Addressee → Option Row
+row_of v Granter = v.granter
+row_of v Asked = v.service
+row_of v Other = None
+
+abbrev pub is_other : Addressee → Bool
+is_other Granter = false
+is_other Asked = false
+is_other Other = true
+
+-- another realm's, or another service's
+abbrev pub is_not_for_us : View → ReqBody → Ticket → Bool
+is_not_for_us v body ticket = not (pointwise nat_eq ticket.realm v.realm) || is_other (addressee v.realm body ticket.sname)
+
+-- ---- the key that it is sealed under
+
+abbrev pub numbered : List KeyVersion → ℤ → Option KeyVersion
+numbered versions kvno = find (λ v. int_eq (pos v.number) kvno) versions
+
+abbrev pub key_in : Option KeyVersion → ℤ → Option Key
+key_in (Some version) etype = key_numbered version.keys etype
+key_in None etype = None
+
+-- the key of that type in the version that is named, else in the current one
+abbrev pub key_by : List KeyVersion → ℤ → Option ℤ → Option Key
+key_by versions etype (Some kvno) = key_in (numbered versions kvno) etype
+key_by versions etype None = key_numbered (current versions).keys etype
+
+abbrev pub ticket_key : Option Row → EncryptedData → Option Key
+ticket_key (Some row) sealed = key_by row.versions sealed.etype sealed.kvno
+ticket_key None sealed = None
+
+-- whether any version has a key of the type
+abbrev pub holds_type : List KeyVersion → ℤ → Bool
+holds_type versions etype = list_any (λ v. has_key v.keys etype) versions
+
+-- there is no row; or it has no key of the type; or no version is named, and the current one has none
+abbrev pub lacks_key : Option Row → EncryptedData → Bool
+lacks_key (Some row) sealed = not (holds_type row.versions sealed.etype) || (is_none sealed.kvno && is_none (ticket_key (Some row) sealed))
+lacks_key None sealed = true
+
+-- a version is named that has no key of the type
+abbrev pub lacks_version : Option Row → EncryptedData → Bool
+lacks_version row sealed = is_some sealed.kvno && is_none (ticket_key row sealed)
+
+-- ---- the ticket
+
+-- the row of the service that the ticket is for
+abbrev pub holder : View → ReqBody → Ticket → Option Row
+holder v body ticket = row_of v (addressee v.realm body ticket.sname)
+
+abbrev pub ticket_rules : View → ReqBody → ApReq → List (Rule TgsRefusal)
+ticket_rules v body ap =
+    (not (int_eq ap.pvno (pos 5)) || not (int_eq ap.ticket.tkt_vno (pos 5)), BadTicketVersion)
+    ∷ (not (int_eq ap.msg_type (pos 14)), BadApMessageType)
+    ∷ (has_bit ap.ap_options (ap_option_number UseSessionKey), SessionKeyAsked)
+    ∷ (is_not_for_us v body ap.ticket, NotForUs)
+    ∷ (lacks_key (holder v body ap.ticket) ap.ticket.enc_part, NoKey)
+    ∷ (lacks_version (holder v body ap.ticket) ap.ticket.enc_part, BadKeyVersion)
+    ∷ []
+
+-- what the key opens, if there is one
+abbrev pub opened_with : {A : Type 0} → Codec A → ℕ → Option Key → List ℕ → Option A
+opened_with c usage (Some key) cipher = opened_as c key.etype key.bytes usage cipher
+opened_with c usage None cipher = None
+
+-- what the ticket holds: key usage 2
+abbrev pub part_of : View → ReqBody → Ticket → Option EncTicketPart
+part_of v body ticket = opened_with enc_ticket_part 2 (ticket_key (holder v body ticket) ticket.enc_part) ticket.enc_part.cipher
+
+abbrev pub ticket_of : View → ReqBody → ApReq → Result EncTicketPart TgsRefusal
+ticket_of v body ap = decided (ticket_rules v body ap) (part_of v body ap.ticket) TicketNotOpened

@@ -1,0 +1,17 @@
+//! The ticket and the authenticator that a TGS-REQ presents, opened and checked (RFC 4120, sections 3.2.3 and 3.3.3).
+//!
+//! Nothing that is remembered takes part here, nor the row of the client or the moment.
+#![tactic(auto)]
+
+mod authenticators;
+mod opening;
+mod presented;
+mod refusal;
+mod tickets;
+mod view;
+
+pub use opening::tgs_open;
+pub use presented::Presented;
+pub use refusal::TgsRefusal;
+pub use tickets::is_named;
+pub use view::TicketView;

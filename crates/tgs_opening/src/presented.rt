@@ -1,0 +1,16 @@
+//! What a TGS-REQ presents.
+use enctypes::Key;
+use krb_fields::Name;
+use krb_parts::{Authenticator, EncTicketPart};
+
+/// A ticket and an authenticator that fit together and to the request.
+#[derive(Debug, Drop)]
+pub struct Presented {
+    /// The service that the ticket is for.
+    pub service: Name,
+    pub ticket: EncTicketPart,
+    pub session_key: Key,
+    pub authenticator: Authenticator,
+    /// The key that the client chose for the reply, if it chose one.
+    pub subkey: Option<Key>,
+}

@@ -1,0 +1,104 @@
+//! Why a TGS-REQ is refused.
+ghost use Rattle.std.specs.Prelude.{◌≡◌};
+ghost use Rattle.tgs_opening.specs.Refusal.{code_of};
+
+use krb_fields::Code;
+
+/// The rules by which TGS-REQs are refused (RFC 4120, sections 3.2.3 and 3.3.3), in the order in which they are asked.
+#[derive(Debug, Clone, Copy, PartialEq, Eq)]
+pub enum TgsRefusal {
+    // what the request presents
+    BadVersion,
+    BadMessageType,
+    NoApReq,
+    MalformedApReq,
+    BadTicketVersion,
+    BadApMessageType,
+    SessionKeyAsked,
+    NotForUs,
+    NoKey,
+    BadKeyVersion,
+    TicketNotOpened,
+    ForeignClient,
+    BoundAddress,
+    BadSessionKey,
+    AuthenticatorNotOpened,
+    BadMatch,
+    NoChecksum,
+    BadChecksumType,
+    Modified,
+    BadSubkey,
+    // who presents it, and whether that came before
+    ClientUnknown,
+    ClientRevoked,
+    ClientExpired,
+    TicketRevoked,
+    Skewed,
+    Repeated,
+    Full,
+    // what it is presented for: from here on the authenticator is remembered
+    NotYetValid,
+    TicketExpired,
+    ServiceUnknown,
+    ServiceRevoked,
+    ServiceExpired,
+    OtherService,
+    AuthorizationData,
+    BadOption,
+    NothingToValidate,
+    ValidatedTooEarly,
+    RenewedTooLate,
+    NoCommonType,
+    StartsTooLate,
+    NeverValid,
+}
+
+impl TgsRefusal {
+    pub fn code(self) -> Code
+        ensures { result ≡ code_of self }
+    {
+        match self {
+            TgsRefusal::BadVersion => Code::KdcErrBadPvno,
+            TgsRefusal::BadMessageType => Code::KrbApErrMsgType,
+            TgsRefusal::NoApReq => Code::KdcErrPadataTypeNosupp,
+            TgsRefusal::MalformedApReq => Code::KrbErrGeneric,
+            TgsRefusal::BadTicketVersion => Code::KrbApErrBadversion,
+            TgsRefusal::BadApMessageType => Code::KrbApErrMsgType,
+            TgsRefusal::SessionKeyAsked => Code::KrbApErrNokey,
+            TgsRefusal::NotForUs => Code::KrbApErrNotUs,
+            TgsRefusal::NoKey => Code::KrbApErrNokey,
+            TgsRefusal::BadKeyVersion => Code::KrbApErrBadkeyver,
+            TgsRefusal::TicketNotOpened => Code::KrbApErrBadIntegrity,
+            TgsRefusal::ForeignClient => Code::KdcErrPolicy,
+            TgsRefusal::BoundAddress => Code::KrbApErrBadaddr,
+            TgsRefusal::BadSessionKey => Code::KdcErrEtypeNosupp,
+            TgsRefusal::AuthenticatorNotOpened => Code::KrbApErrBadIntegrity,
+            TgsRefusal::BadMatch => Code::KrbApErrBadmatch,
+            TgsRefusal::NoChecksum => Code::KrbApErrInappCksum,
+            TgsRefusal::BadChecksumType => Code::KdcErrSumtypeNosupp,
+            TgsRefusal::Modified => Code::KrbApErrModified,
+            TgsRefusal::BadSubkey => Code::KdcErrEtypeNosupp,
+            TgsRefusal::ClientUnknown => Code::KdcErrCPrincipalUnknown,
+            TgsRefusal::ClientRevoked => Code::KdcErrClientRevoked,
+            TgsRefusal::ClientExpired => Code::KdcErrNameExp,
+            TgsRefusal::TicketRevoked => Code::KdcErrTgtRevoked,
+            TgsRefusal::Skewed => Code::KrbApErrSkew,
+            TgsRefusal::Repeated => Code::KrbApErrRepeat,
+            TgsRefusal::Full => Code::KdcErrSvcUnavailable,
+            TgsRefusal::NotYetValid => Code::KrbApErrTktNyv,
+            TgsRefusal::TicketExpired => Code::KrbApErrTktExpired,
+            TgsRefusal::ServiceUnknown => Code::KdcErrSPrincipalUnknown,
+            TgsRefusal::ServiceRevoked => Code::KdcErrServiceRevoked,
+            TgsRefusal::ServiceExpired => Code::KdcErrServiceExp,
+            TgsRefusal::OtherService => Code::KdcErrServerNomatch,
+            TgsRefusal::AuthorizationData => Code::KdcErrPolicy,
+            TgsRefusal::BadOption => Code::KdcErrBadoption,
+            TgsRefusal::NothingToValidate => Code::KdcErrPolicy,
+            TgsRefusal::ValidatedTooEarly => Code::KrbApErrTktNyv,
+            TgsRefusal::RenewedTooLate => Code::KrbApErrTktExpired,
+            TgsRefusal::NoCommonType => Code::KdcErrEtypeNosupp,
+            TgsRefusal::StartsTooLate => Code::KdcErrCannotPostdate,
+            TgsRefusal::NeverValid => Code::KdcErrNeverValid,
+        }
+    }
+}

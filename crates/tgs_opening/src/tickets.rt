@@ -1,0 +1,243 @@
+//! The ticket that a TGS-REQ presents (RFC 4120, sections 3.2.3 and 3.3.3).
+ghost use Rattle.std.specs.Prelude.{◌≡◌, ◌<◌, length, ◌&&◌, ◌||◌, not, nat_eq, IfOk, IfSome, is_none, is_some, option_copied};
+ghost use Rattle.std.specs.Cmp.Lexicographic.{pointwise};
+ghost use Rattle.krb_parts.specs.EncTicketPart.{enc_ticket_part};
+ghost use Rattle.sealed_parts.specs.Parts.{IsSpelledWithin};
+ghost use Rattle.tgs_opening.specs.Tickets.{addressee, ap_req_in, ap_req_of, holder, holds_type, is_for_asked, is_named, is_other};
+ghost use Rattle.tgs_opening.specs.Tickets.{lacks_key, numbered, opened_with, request_rules, row_of, tgs_data, ticket_key, ticket_of, ticket_rules};
+
+use crate::refusal::TgsRefusal;
+use crate::view::TicketView;
+use enctypes::{Key, KeyUsage};
+use krb_ap::{AP_REQ, ApReqRef, read_ap_req};
+use krb_elements::{OctetsRef, UInt32};
+use krb_fields::{ApOption, EncryptedDataRef, KdcOption, Name, NameRef};
+use krb_parts::EncTicketPart;
+use krb_types::{KdcReqRef, PVNO, ReqBodyRef, TGS_REQ, TicketRef};
+use preauth::{PA_TGS_REQ, first_of, key_numbered};
+use principal_rows::{KeyVersion, Row, Versions};
+use principals::granter_name;
+use refusals::decide;
+use sealed_parts::open_part;
+use std::alloc::{AllocError, Global};
+use std::cmp::Ordering;
+use ticket_times::asks;
+
+/// Whom a ticket is for.
+#[derive(Debug, Clone, Copy, PartialEq, Eq)]
+pub enum Addressee {
+    /// The ticket-granting service.
+    Granter,
+    /// The service that is asked for, where the ticket is to be renewed or validated.
+    Asked,
+    Other,
+}
+
+/// The AP-REQ that comes with the request.
+pub fn ap_req_of<'a>(request: &KdcReqRef<'a>) -> Result<ApReqRef<'a>, TgsRefusal>
+    ensures value { result ≡ ap_req_of request.now }
+    ensures short { IfOk result (λ ap. IfSome (tgs_data request.now) (λ value. length ap.ticket.enc_part.cipher < length value)) }
+{
+    let value = first_of(PA_TGS_REQ, request.padata.as_ref());
+    let rules = request_rules(request, value.is_none());
+    decide(&rules, ap_req_in(value), TgsRefusal::MalformedApReq)
+}
+
+fn request_rules(request: &KdcReqRef<'_>, lacks_value: bool) -> [(bool, TgsRefusal); 3]
+    requires { lacks_value ≡ is_none (tgs_data request.now) }
+    ensures { result ≡ request_rules request.now }
+{
+    [
+        (request.pvno != PVNO, TgsRefusal::BadVersion),
+        (
+            request.msg_type != i32::from(TGS_REQ),
+            TgsRefusal::BadMessageType,
+        ),
+        (lacks_value, TgsRefusal::NoApReq),
+    ]
+}
+
+/// The AP-REQ that the value of a PA-TGS-REQ spells.
+fn ap_req_in(value: Option<OctetsRef<'_>>) -> Option<ApReqRef<'_>>
+    ensures value { result ≡ ap_req_in value.entry }
+    ensures short { IfSome result (λ ap. IfSome value.entry (λ octets. length ap.ticket.enc_part.cipher < length octets)) }
+{
+    read_ap_req(value?.as_slice()).ok()
+}
+
+/// What the presented ticket holds.
+pub fn ticket_of(
+    alloc: Global,
+    view: &TicketView<'_>,
+    body: &ReqBodyRef<'_>,
+    ap: &ApReqRef<'_>,
+) -> Result<Result<EncTicketPart, TgsRefusal>, AllocError>
+    ensures value { IfOk result (λ found. found ≡ ticket_of view.now body.now ap.now) }
+    ensures within { IfOk result (λ found. IfOk found (λ part. IsSpelledWithin enc_ticket_part part ap.now.ticket.enc_part.cipher)) }
+{
+    let whom = addressee_of(alloc, view.realm, body, &ap.ticket.sname)?;
+    let row = row_of(view, whom);
+    let key = ticket_key(row, &ap.ticket.enc_part);
+    let rules = ticket_rules(view, body, ap, whom, row, key);
+    let part = part_of(alloc, key, &ap.ticket.enc_part)?;
+    Ok(decide(&rules, part, TgsRefusal::TicketNotOpened))
+}
+
+fn ticket_rules(
+    view: &TicketView<'_>,
+    body: &ReqBodyRef<'_>,
+    ap: &ApReqRef<'_>,
+    whom: Addressee,
+    row: Option<&Row>,
+    key: Option<&Key>,
+) -> [(bool, TgsRefusal); 6]
+    requires whom { whom ≡ addressee view.now.realm body.now ap.now.ticket.sname }
+    requires row { option_copied row ≡ holder view.now body.now ap.now.ticket }
+    requires key { option_copied key ≡ ticket_key (option_copied row) ap.now.ticket.enc_part }
+    ensures { result ≡ ticket_rules view.now body.now ap.now }
+{
+    [
+        (
+            ap.pvno != PVNO || ap.ticket.tkt_vno != PVNO,
+            TgsRefusal::BadTicketVersion,
+        ),
+        (
+            ap.msg_type != i32::from(AP_REQ),
+            TgsRefusal::BadApMessageType,
+        ),
+        (
+            ap.ap_options.has(ApOption::UseSessionKey),
+            TgsRefusal::SessionKeyAsked,
+        ),
+        (
+            is_not_for_us(view, &ap.ticket, whom),
+            TgsRefusal::NotForUs,
+        ),
+        (lacks_key(row, &ap.ticket.enc_part, key), TgsRefusal::NoKey),
+        (
+            lacks_version(&ap.ticket.enc_part, key),
+            TgsRefusal::BadKeyVersion,
+        ),
+    ]
+}
+
+/// Whom a ticket for this service is for.
+fn addressee_of(
+    alloc: Global,
+    realm: &[u8],
+    body: &ReqBodyRef<'_>,
+    service: &NameRef<'_>,
+) -> Result<Addressee, AllocError>
+    ensures { IfOk result (λ found. found ≡ addressee realm.now body.now service.now) }
+{
+    if service.order(&granter_name(alloc, realm)?) == Ordering::Equal {
+        return Ok(Addressee::Granter);
+    }
+    if is_for_asked(body, &service.to_name(alloc)?) {
+        return Ok(Addressee::Asked);
+    }
+    Ok(Addressee::Other)
+}
+
+/// Whether it is the service that is asked for, where a ticket of it is to be renewed or validated.
+fn is_for_asked(body: &ReqBodyRef<'_>, service: &Name) -> bool
+    ensures { result ≡ is_for_asked body.now service.now }
+{
+    let kept = asks(body, KdcOption::Renew) || asks(body, KdcOption::Validate);
+    kept && is_named(body.sname.as_ref(), service)
+}
+
+/// Whether the name is that of this service, by its components.
+pub fn is_named(name: Option<&NameRef<'_>>, service: &Name) -> bool
+    ensures { result ≡ is_named (option_copied name.entry) service.now }
+{
+    match name {
+        Some(name) => name.order(service) == Ordering::Equal,
+        None => false,
+    }
+}
+
+/// The row whose keys a ticket may be sealed under.
+fn row_of<'v>(view: &TicketView<'v>, whom: Addressee) -> Option<&'v Row>
+    ensures { option_copied result ≡ row_of view.now whom }
+{
+    match whom {
+        Addressee::Granter => view.granter,
+        Addressee::Asked => view.service,
+        Addressee::Other => None,
+    }
+}
+
+/// Another realm's ticket, or another service's.
+fn is_not_for_us(view: &TicketView<'_>, ticket: &TicketRef<'_>, whom: Addressee) -> bool
+    ensures { result ≡ (not (pointwise nat_eq ticket.now.realm view.now.realm) || is_other whom) }
+{
+    ticket.realm.as_slice() != view.realm || matches!(whom, Addressee::Other)
+}
+
+/// There is no row; or it has no key of the type; or no version is named, and the current one has none.
+fn lacks_key(row: Option<&Row>, sealed: &EncryptedDataRef<'_>, key: Option<&Key>) -> bool
+    requires { option_copied key ≡ ticket_key (option_copied row) sealed.now }
+    ensures { result ≡ lacks_key (option_copied row.entry) sealed.now }
+{
+    match row {
+        Some(row) => {
+            !holds_type(&row.versions, sealed.etype) || (sealed.kvno.is_none() && key.is_none())
+        }
+        None => true,
+    }
+}
+
+/// A version is named that has no key of the type.
+fn lacks_version(sealed: &EncryptedDataRef<'_>, key: Option<&Key>) -> bool
+    ensures { result ≡ (is_some sealed.now.kvno && is_none (option_copied key.entry)) }
+{
+    sealed.kvno.is_some() && key.is_none()
+}
+
+/// Whether any version has a key of the type.
+fn holds_type(versions: &Versions, etype: i32) -> bool
+    ensures { result ≡ holds_type versions.now etype }
+{
+    versions
+        .as_slice()
+        .iter()
+        .any(|version| key_numbered(&version.keys, etype).is_some())
+}
+
+/// The key that the ticket names by its type and version; without a version, that of the current one.
+fn ticket_key<'r>(row: Option<&'r Row>, sealed: &EncryptedDataRef<'_>) -> Option<&'r Key>
+    ensures { option_copied result ≡ ticket_key (option_copied row.entry) sealed.now }
+{
+    let versions = &row?.versions;
+    match sealed.kvno {
+        Some(kvno) => key_numbered(&numbered(versions, kvno)?.keys, sealed.etype),
+        None => key_numbered(&versions.current().keys, sealed.etype),
+    }
+}
+
+/// The version of this number.
+fn numbered(versions: &Versions, kvno: UInt32) -> Option<&KeyVersion>
+    ensures { option_copied result ≡ numbered versions.now kvno }
+{
+    let number = kvno.get();
+    versions
+        .as_slice()
+        .iter()
+        .find(|version| i64::from(version.number) == number)
+}
+
+/// What the key opens, if there is one.
+fn part_of(
+    alloc: Global,
+    key: Option<&Key>,
+    sealed: &EncryptedDataRef<'_>,
+) -> Result<Option<EncTicketPart>, AllocError>
+    ensures value { IfOk result (λ found. found ≡ opened_with enc_ticket_part 2 (option_copied key.entry) sealed.now.cipher) }
+    ensures within { IfOk result (λ found. IfSome found (λ part. IsSpelledWithin enc_ticket_part part sealed.now.cipher)) }
+{
+    match key {
+        Some(key) => open_part(alloc, key, KeyUsage::Ticket, sealed.cipher.as_slice()),
+        None => Ok(None),
+    }
+}

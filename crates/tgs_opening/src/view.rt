@@ -1,0 +1,23 @@
+//! What a ticket is opened from, beside the request.
+use principal_rows::Row;
+use std::marker::Model;
+
+/// The rows whose keys may have sealed the ticket that a TGS-REQ presents.
+#[derive(Debug, Drop)]
+pub struct TicketView<'a> {
+    /// The realm's octets, 1 to 255.
+    pub realm: &'a [u8],
+    /// The row of the ticket-granting service.
+    pub granter: Option<&'a Row>,
+    /// The row of the service that is asked for, where it has one.
+    pub service: Option<&'a Row>,
+}
+
+impl<'a> Model for TicketView<'a> {
+    ghost use Rattle.std.specs.Prelude.{option_copied};
+    ghost use Rattle.tgs_opening.specs.View.{View};
+
+    ghost Value = { View };
+
+    ghost view = { λ v. record { realm = v.realm.now; granter = option_copied v.granter; service = option_copied v.service } };
+}
