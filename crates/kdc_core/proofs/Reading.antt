@@ -10,19 +10,19 @@ use Rattle.kdc_core.specs.After.{after}
 use Rattle.kdc_core.specs.Answer.{answer, answer_in, answer_to, keep, next, next_by, IsReply, OneTicketTwoKeys, OpensIn, SpelledIn}
 use Rattle.kdc_core.specs.Request.{Request, request_of}
 use Rattle.kdc_core.specs.View.{client_in, named_by, view, view_in, view_of}
-use Rattle.kdc_core.specs.declared.answering.Counted.{Counted}
+use Rattle.kdc_core.specs.declared.mark.Mark.{Mark}
 
 pub request_read : (bytes : List ℕ) (exchange : Exchange) (message : Received) → nat_lt 2147483647 (length bytes) ≡ false → whole received_at bytes ≡ Ok (exchange, message)
     → request_of bytes ≡ Some (record { exchange = exchange; message = message })
 request_read bytes exchange message short read = rw (short, read) refl
 
 module _ (state : State) (at : Moment) (words bytes : List ℕ) (room : ℕ) (exchange : Exchange) (message : Received) (is : request_of bytes ≡ Some (record { exchange = exchange; message = message })) where
-  pub reply_is : (octets : List ℕ) → Some octets ≡ (answer_in (view_in state exchange message) at words room exchange message).reply → Some octets ≡ (answer (view state bytes) at words room bytes).reply
+  pub reply_is : (octets : List ℕ) → Some octets ≡ (answer_in (view_in state exchange message) at words room bytes exchange message).reply → Some octets ≡ (answer (view state bytes) at words room bytes).reply
   reply_is octets e = e ∙ ap (λ o. (answer_to (view_of state (named_by state o)) at words room bytes o).reply) (sym is)
 
-  pub after_is : (counted : Option Counted) → after state counted ≡ keep state (client_in state exchange message) (answer_in (view_in state exchange message) at words room exchange message).kept
-      → after state counted ≡ next state at words room bytes
-  after_is counted e = e ∙ ap (λ o. next_by state at words room bytes o) (sym is)
+  pub after_is : (mark : Option Mark) → after state mark ≡ keep state (client_in state exchange message) (answer_in (view_in state exchange message) at words room bytes exchange message).kept
+      → after state mark ≡ next state at words room bytes
+  after_is mark e = e ∙ ap (λ o. next_by state at words room bytes o) (sym is)
 
   pub spelled_is : (octets : List ℕ) → SpelledIn (view_in state exchange message) at words exchange message octets → IsReply (view state bytes) at words (request_of bytes) (Some octets)
   spelled_is octets s = subst (λ (o : Option Request). IsReply (view_of state (named_by state o)) at words o (Some octets)) (sym is) s

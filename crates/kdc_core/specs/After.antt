@@ -1,22 +1,44 @@
--- A client whose failures change, and the state afterwards.
-use Rattle.std.specs.Prelude.{Option, Some, None}
+-- What a request leaves to be kept of its client, and the state afterwards.
+use Rattle.std.specs.Prelude.{◌≡◌, ⊤, false, Option, Some, None}
+use Rattle.std.specs.FinMap as map
 use Rattle.krb_fields.specs.PrincipalName.{Name}
+use Rattle.krb_fields.specs.declared.moment.Moment.{Moment}
+use Rattle.replay.specs.Memory.{remembered}
+use Rattle.replay.specs.Stamp.{is_skewed}
 use Rattle.replay.specs.declared.failures.Failures.{Failures}
+use Rattle.replay.specs.declared.keep.Kept.{Kept}
 use Rattle.kdc_state.specs.declared.state.State.{State}
 use Rattle.kdc_state.specs.State.{memory_of, with_memory}
-use Rattle.kdc_core.specs.declared.answering.Counted.{Counted}
+use Rattle.tgs_opening.specs.declared.presented.Presented.{Presented}
+use Rattle.kdc_core.specs.declared.mark.Mark.{Mark}
+use Rattle.kdc_core.specs.declared.mark.Mark.TheVariants.{Counted, Stamped}
 
--- who is counted: a client that is named, and whose failures change
-abbrev pub counted_of : Option Name → Option Failures → Option Counted
-counted_of (Some name) (Some failures) = Some (record { client = name; failures = failures })
+-- a client that is named, and whose failures change
+abbrev pub counted_of : Option Name → Option Failures → Option Mark
+counted_of (Some name) (Some failures) = Some (Counted name failures)
 counted_of (Some name) None = None
 counted_of None failures = None
 
-abbrev pub after : State → Option Counted → State
-after state (Some c) = with_memory state c.client.components (record (memory_of state c.client.components) { failures = c.failures })
+-- an authenticator that is to be remembered with what is kept for it
+abbrev pub stamped_of : Moment → Presented → Option Kept → Option Mark
+stamped_of at p (Some kept) = Some (Stamped p.ticket.cname at p.authenticator.ctime p.authenticator.cusec kept)
+stamped_of at p None = None
+
+abbrev pub after_mark : State → Mark → State
+after_mark state (Counted client failures) = with_memory state client.components (record (memory_of state client.components) { failures = failures })
+after_mark state (Stamped client at ctime cusec kept) = with_memory state client.components (remembered (memory_of state client.components) at.sec (ctime, cusec) kept)
+
+abbrev pub after : State → Option Mark → State
+after state (Some mark) = after_mark state mark
 after state None = state
 
 -- where there is no reply, the state stays
-abbrev pub after_reply : State → Option (Option Counted) → State
-after_reply state (Some counted) = after state counted
+abbrev pub after_reply : State → Option (Option Mark) → State
+after_reply state (Some mark) = after state mark
 after_reply state None = state
+
+-- an authenticator is to be remembered only where it is neither skewed nor a repeat
+abbrev pub MayStay : State → Mark → Type 0
+MayStay state (Counted client failures) = ⊤
+MayStay state (Stamped client at ctime cusec kept) =
+    (is_skewed (memory_of state client.components).floor at.sec ctime ≡ false) × (map.get (memory_of state client.components).pairs (ctime, cusec) ≡ None)

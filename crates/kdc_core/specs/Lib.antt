@@ -1,7 +1,8 @@
 pub mod Request
 pub mod View
-pub mod Agreement
 pub mod Answer
+pub mod Agreement
 pub mod After
 pub mod RequestLaws
 pub mod Run
+pub mod PresentedLaws

@@ -4,16 +4,18 @@ use Rattle.krb_fields.specs.declared.moment.Moment.{Moment}
 use Rattle.principals.specs.Change.{refusal, changed}
 use Rattle.principals.specs.declared.change.Change.{Change as PrincipalChange}
 use Rattle.principals.specs.declared.change.ChangeFault.{ChangeFault}
+use Rattle.kdc_state.specs.State.{restarted}
 use Rattle.kdc_state.specs.declared.state.State.{State}
 use Rattle.kdc_core.specs.Answer.{answer, next}
 use Rattle.kdc_core.specs.View.{view}
 use Rattle.kdc_core.specs.declared.run.Event.{Event}
-use Rattle.kdc_core.specs.declared.run.Event.TheVariants.{Request, Change}
+use Rattle.kdc_core.specs.declared.run.Event.TheVariants.{Request, Change, Restart}
 
--- a change gets no reply
+-- a change gets no reply, nor does a restart
 abbrev pub event_reply : State → Event → Option (List ℕ)
 event_reply state (Request at words room request) = (answer (view state request) at words room request).reply
 event_reply state (Change change) = None
+event_reply state (Restart at) = None
 
 abbrev pub unless_refused : Option ChangeFault → State → State → State
 unless_refused (Some fault) old new = old
@@ -26,6 +28,7 @@ after_change state change = unless_refused (refusal state.database change) state
 abbrev pub after_event : State → Event → State
 after_event state (Request at words room request) = next state at words room request
 after_event state (Change change) = after_change state change
+after_event state (Restart at) = restarted state at
 
 -- the reply to each event, in order
 abbrev pub replies : State → List Event → List (Option (List ℕ))
@@ -37,10 +40,13 @@ abbrev pub run : State → List Event → State
 run state [] = state
 run state (event ∷ events) = run (after_event state event) events
 
--- a request alone, and a change alone
+-- a request alone, a change alone, and a restart alone
 pub request_alone : (state : State) (at : Moment) (words : List ℕ) (room : ℕ) (request : List ℕ)
     → (replies state (Request at words room request ∷ []) ≡ (answer (view state request) at words room request).reply ∷ []) × (run state (Request at words room request ∷ []) ≡ next state at words room request)
 request_alone state at words room request = (refl, refl)
 
 pub change_alone : (state : State) (change : PrincipalChange) → refusal state.database change ≡ None → run state (Change change ∷ []) ≡ record state { database = changed state.database change }
 change_alone state change fits = ap (λ o. unless_refused o state (record state { database = changed state.database change })) fits
+
+pub restart_alone : (state : State) (at : Moment) → run state (Restart at ∷ []) ≡ restarted state at
+restart_alone state at = refl

@@ -1,5 +1,5 @@
 -- What a request names, and the part of the state that its answer is made from.
-use Rattle.std.specs.Prelude.{◌≡◌, ℕ, List, Option, Some, None, IfSome, option_map}
+use Rattle.std.specs.Prelude.{◌≡◌, ℕ, List, Option, Some, None, Result, Ok, Err, IfSome, option_map}
 use Rattle.std.specs.FinMap as map
 use Rattle.krb_fields.specs.PrincipalName.{Name}
 use Rattle.krb_fields.specs.Name.{Components}
@@ -16,6 +16,11 @@ use Rattle.kdc_state.specs.declared.state.State.{State}
 use Rattle.kdc_state.specs.Memory.{opened_memory}
 use Rattle.kdc_state.specs.State.{memory_of}
 use Rattle.as_exchange.specs.View as as_exchange
+use Rattle.tgs_exchange.specs.View as tgs_exchange
+use Rattle.tgs_opening.specs.View as tgs_opening
+use Rattle.tgs_opening.specs.Opening.{Opened, opened}
+use Rattle.tgs_opening.specs.declared.presented.Presented.{Presented}
+use Rattle.tgs_opening.specs.declared.refusal.TgsRefusal.{TgsRefusal}
 use Rattle.kdc_core.specs.Request.{Request, request_of}
 
 -- the client and the service that a request names, each perhaps absent
@@ -26,10 +31,27 @@ pub record Named : Type 0 where
 abbrev pub components_of : Option Name → Option Components
 components_of = option_map (λ name. name.components)
 
--- AS-REQ: the body's client. TGS-REQ: the client of the presented ticket, which is not opened yet
+abbrev pub row_of : State → Option Components → Option Row
+row_of state (Some name) = map.get state.database.rows name
+row_of state None = None
+
+-- what a ticket is opened from that comes with a request
+abbrev pub ticket_view : State → Received → tgs_opening.View
+ticket_view state message = record {
+  realm = state.database.realm;
+  granter = map.get state.database.rows (ticket_granter state.database.realm);
+  service = row_of state (components_of message.body.value.sname);
+}
+
+-- the client in a ticket that was opened
+abbrev pub client_of : Result Opened TgsRefusal → Option Components
+client_of (Ok ticket) = Some ticket.part.cname.components
+client_of (Err refusal) = None
+
+-- AS-REQ: the body's client. TGS-REQ: the client of the presented ticket, if that can be opened
 abbrev pub client_in : State → Exchange → Received → Option Components
 client_in state As message = components_of message.body.value.cname
-client_in state Tgs message = None
+client_in state Tgs message = client_of (opened (ticket_view state message) message)
 
 abbrev pub named_in : State → Request → Named
 named_in state request = record {
@@ -54,10 +76,6 @@ pub record View : Type 0 where
   pub granter : Option Row
   pub memory : Memory Kept
 
-abbrev pub row_of : State → Option Components → Option Row
-row_of state (Some name) = map.get state.database.rows name
-row_of state None = None
-
 -- where no client is named, that of a first opening
 abbrev pub memory_named : State → Option Components → Memory Kept
 memory_named state (Some name) = memory_of state name
@@ -77,6 +95,13 @@ view_of state names = record {
 abbrev pub view_in : State → Exchange → Received → View
 view_in state exchange message = view_of state (named_in state (record { exchange = exchange; message = message }))
 
+-- the client of the presented ticket, and the service that is asked for
+abbrev pub names_presented : Received → Presented → Named
+names_presented message p = record { client = Some p.ticket.cname.components; service = components_of message.body.value.sname }
+
+abbrev pub presented_view : State → Received → Presented → View
+presented_view state message p = view_of state (names_presented message p)
+
 abbrev pub view : State → List ℕ → View
 view state bytes = view_of state (named state bytes)
 
@@ -91,3 +116,10 @@ pub record Agrees (state other : State) (bytes : List ℕ) : Type 0 where
 -- what the AS exchange answers from
 abbrev pub as_view : View → as_exchange.View
 as_view v = record { realm = v.realm; limits = v.limits; client = v.client; service = v.service; failures = v.memory.failures }
+
+-- what the TGS exchange opens a ticket from, and what it answers from
+abbrev pub opening_view : View → tgs_opening.View
+opening_view v = record { realm = v.realm; granter = v.granter; service = v.service }
+
+abbrev pub tgs_view : View → tgs_exchange.View
+tgs_view v = record { realm = v.realm; limits = v.limits; client = v.client; service = v.service; memory = v.memory }

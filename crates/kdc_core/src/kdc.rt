@@ -7,7 +7,8 @@ ghost use Rattle.kdc_core.specs.Answer.{answer, next, error_octets, IsReply, One
 ghost use Rattle.kdc_core.specs.Request.{Request, request_of};
 ghost use Rattle.kdc_core.specs.RequestLaws.{SpellsRequest};
 ghost use Rattle.kdc_core.specs.View.{Agrees, named, view};
-ghost use Rattle.kdc_state.specs.State.{opened, memory_of};
+ghost use Rattle.kdc_state.specs.State.{opened, memory_of, restarted};
+ghost use Rattle.replay.specs.Memory as memories;
 ghost use Rattle.kdc_state.specs.declared.state.State as states;
 ghost use Rattle.principals.specs.Change.{refusal, changed};
 
@@ -69,7 +70,7 @@ impl Kdc {
         ensures request { (r : Request) → (request_of request.now ≡ Some r) ↔ (SpellsRequest r request.now × (length request.now ≤ 2147483647)) }
         // The reply is the one that the rules say.
         ensures reply { IfOk result (λ reply. option_map (λ octets. octets.items) reply ≡ (answer (view self.old request.now) at words.now room request.now).reply) }
-        // The octets of a reply spell the message that the rules say.
+        // The octets of a reply spell the message that the rules say, or are a reply that was kept.
         ensures spelled { IfOk result (λ reply. IsReply (view self.old request.now) at words.now (request_of request.now) (option_map (λ octets. octets.items) reply)) }
         // Where a ticket is issued, the reply key opens the reply to the session key, flags and times that the service's
         // key finds in the ticket.
@@ -79,6 +80,10 @@ impl Kdc {
         // A second state that agrees at what the request names is answered alike.
         ensures agreement { (other : states.State) → Agrees self.old other request.now
             → answer (view other request.now) at words.now room request.now ≡ answer (view self.old request.now) at words.now room request.now }
+        // The request names the same client and service in both, and they agree there afterwards.
+        ensures same_names { (other : states.State) → Agrees self.old other request.now → named other request.now ≡ named self.old request.now }
+        ensures afterwards { (other : states.State) → Agrees self.old other request.now
+            → Agrees (next self.old at words.now room request.now) (next other at words.now room request.now) request.now }
         // No request changes a row, the realm or the limits, nor a memory but the named client's.
         ensures database { self.new.database ≡ self.old.database }
         ensures limits { self.new.limits ≡ self.old.limits }
@@ -96,6 +101,18 @@ impl Kdc {
         ensures err { OnErr result (self.new ≡ self.old) }
     {
         self.state.database.apply(alloc, change)
+    }
+
+    /// Forgets what was remembered, as a process does that ends and starts again: no authenticator that was accepted at a
+    /// moment no later than `at` is accepted again. It takes no memory.
+    pub fn restart(&mut self, at: Moment)
+        ensures state { self.new ≡ restarted self.old at }
+        // Each client has the memory of a restart; rows, realm and limits stay.
+        ensures memories { (name : Components) → memory_of self.new name ≡ memories.restarted at.sec }
+        ensures database { self.new.database ≡ self.old.database }
+        ensures limits { self.new.limits ≡ self.old.limits }
+    {
+        self.state.restart(at);
     }
 
     /// The row of a principal, whose name is compared by its components alone.

@@ -26,6 +26,10 @@ pub enum Event {
     Change {
         change: Change,
     },
+    /// What was remembered is lost, and the KDC starts again at this moment.
+    Restart {
+        at: Moment,
+    },
 }
 
 /// Want of memory, in the midst of a run. The KDC stands after the events that are done.
@@ -46,8 +50,8 @@ impl fmt::Display for RunFault {
 impl Error for RunFault {}
 
 impl Kdc {
-    /// Handles the requests and makes the changes, in their order. It gives the reply, or none, of each event: a
-    /// change has none, and one that is refused leaves everything as it was.
+    /// Handles the requests, makes the changes and restarts, in their order. It gives the reply, or none, of each event: a
+    /// change and a restart have none, and a change that is refused leaves everything as it was.
     ///
     /// Want of memory alone ends a run early. It can go on at the first event that is not done.
     pub fn run(&mut self, alloc: Global, events: &[Event]) -> Result<Vec<Option<Vec<u8>>>, RunFault>
@@ -104,6 +108,10 @@ impl Kdc {
             } => self.handle(alloc, *at, words, *room, request.as_slice()),
             Event::Change { change } => {
                 self.change(alloc, change)?;
+                Ok(None)
+            }
+            Event::Restart { at } => {
+                self.restart(*at);
                 Ok(None)
             }
         }

@@ -4,12 +4,13 @@ use Rattle.std.specs.List.{slice_split}
 use Rattle.hex.specs.Hex.{decode_sized}
 use Rattle.krb_fields.specs.PrincipalName.{Name}
 use Rattle.krb_fields.specs.Name.{Components}
+use Rattle.krb_fields.specs.declared.moment.Moment.{Moment}
 use Rattle.krb_fields.specs.NameText.{IsNameText, IsComponentText}
 use Rattle.enctypes.specs.declared.key.Key.{Key}
 use Rattle.principal_rows.specs.declared.limits.Limits.{Limits}
 use Rattle.kdc_script.specs.declared.line.Line.{Line}
 use Rattle.kdc_script.specs.declared.line.Request as requests
-use Rattle.kdc_script.specs.declared.line.Line.TheVariants.{Open, Add, NewKeys, DropKeys, Remove, SetPolicy, Request}
+use Rattle.kdc_script.specs.declared.line.Line.TheVariants.{Open, Add, NewKeys, DropKeys, Remove, SetPolicy, Request, Restart}
 use Rattle.kdc_script.specs.declared.setting.Setting.{Setting}
 use Rattle.kdc_script.specs.Setting.{IsSettingText}
 use Rattle.kdc_script.specs.Field.{IsMomentText, IsU32Text, AreLimitsTexts, IsOctetsText, IsKeysText}
@@ -28,6 +29,7 @@ word_of (DropKeys name version) = codes "drop"
 word_of (Remove name) = codes "remove"
 word_of (SetPolicy name setting) = codes "policy"
 word_of (Request request) = codes "request"
+word_of (Restart at) = codes "restart"
 
 -- the fields behind it
 abbrev pub AreOpenFields : List ℕ → Limits → List Key → List (List ℕ) → Type 0
@@ -58,6 +60,11 @@ AreRequestFields request (sec ∷ usec ∷ words ∷ room ∷ octets ∷ []) =
     × IsOctetsText request.octets.items octets
 AreRequestFields request texts = ⊥
 
+-- a whole second
+abbrev pub AreRestartFields : Moment → List (List ℕ) → Type 0
+AreRestartFields at (sec ∷ []) = IsMomentText at sec (codes "0")
+AreRestartFields at texts = ⊥
+
 abbrev pub AreFields : Line → List (List ℕ) → Type 0
 AreFields (Open realm limits keys) texts = AreOpenFields realm limits keys texts
 AreFields (Add name keys) texts = AreKeysFields name keys texts
@@ -66,6 +73,7 @@ AreFields (DropKeys name version) texts = AreDropFields name version texts
 AreFields (Remove name) texts = AreRemoveFields name texts
 AreFields (SetPolicy name setting) texts = ArePolicyFields name setting texts
 AreFields (Request request) texts = AreRequestFields request texts
+AreFields (Restart at) texts = AreRestartFields at texts
 
 -- a line's fields: its word, and those behind it
 abbrev pub AreLineFields : Line → List (List ℕ) → Type 0

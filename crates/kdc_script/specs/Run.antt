@@ -11,7 +11,7 @@ use Rattle.principals.specs.Change.{refusal, changed}
 use Rattle.principals.specs.Database.{first_database}
 use Rattle.kdc_state.specs.declared.opening.Opening.TheVariants.{First}
 use Rattle.kdc_state.specs.declared.state.State.{State}
-use Rattle.kdc_state.specs.State.{opened}
+use Rattle.kdc_state.specs.State.{opened, restarted}
 use Rattle.kdc_core.specs.View.{view}
 use Rattle.kdc_core.specs.Answer.{answer, next}
 use Rattle.kdc_script.specs.Setting.{with_setting, policy_of}
@@ -23,7 +23,7 @@ use Rattle.kdc_script.specs.declared.line.LineFault.TheVariants.{Form, Memory}
 use Rattle.kdc_script.specs.declared.run.Stop.{Stop}
 use Rattle.kdc_script.specs.declared.run.Stop.TheVariants.{Fault, Failed}
 use Rattle.kdc_script.specs.declared.line.Line.{Line}
-use Rattle.kdc_script.specs.declared.line.Line.TheVariants.{Open, Add, NewKeys, DropKeys, Remove, SetPolicy, Request}
+use Rattle.kdc_script.specs.declared.line.Line.TheVariants.{Open, Add, NewKeys, DropKeys, Remove, SetPolicy, Request, Restart}
 
 -- a line of another form is a fault
 abbrev pub stop_of : LineFault → Stop
@@ -71,6 +71,7 @@ Runs (Some kdc) (SetPolicy None setting) after printed = IsNotNamed kdc after pr
 Runs (Some kdc) (Request request) after printed =
     (after ≡ Some (next kdc request.at request.words request.room request.octets.items))
     × IsReply printed (answer (view kdc request.octets.items) request.at request.words request.room request.octets.items).reply
+Runs (Some kdc) (Restart at) after printed = (after ≡ Some (restarted kdc at)) × (printed ≡ Done)
 Runs None line after printed = ⊥
 
 -- a line that does nothing: no KDC is open, or its realm is none

@@ -10,6 +10,7 @@
 //! remove NAME
 //! policy NAME FIELD=VALUE
 //! request SEC USEC WORDS ROOM HEX
+//! restart SEC
 //! ```
 //!
 //! and prints one line: `ok`, `refused FAULT`, `reply HEX` or `none`. Empty lines print nothing. A line of another

@@ -46,6 +46,10 @@ pub(crate) enum Line {
         setting: Setting,
     },
     Request(Request),
+    /// What was remembered is lost, and the KDC starts again at this moment.
+    Restart {
+        at: Moment,
+    },
 }
 
 /// A request for the KDC.
@@ -120,6 +124,7 @@ fn parse_fields(alloc: Global, fields: &[&str]) -> Result<Line, LineFault>
         "remove" => parse_remove(alloc, fields),
         "policy" => parse_policy(alloc, fields),
         "request" => parse_request(alloc, fields),
+        "restart" => parse_restart(fields),
         _ => Err(LineFault::Form),
     }
 }
@@ -253,4 +258,17 @@ fn parse_request(alloc: Global, fields: &[&str]) -> Result<Line, LineFault>
         room,
         octets: octets(alloc, octets_text)?,
     }))
+}
+
+fn parse_restart(fields: &[&str]) -> Result<Line, LineFault>
+    ensures ok { IfOk result (λ line. AreLineFields line (codes "restart" ∷ map (λ field. field.now) fields.now)) }
+    ensures form { result ≡ Err Form → (line : lines.Line) → ¬ AreLineFields line (codes "restart" ∷ map (λ field. field.now) fields.now) }
+{
+    let [sec] = fields else {
+        return Err(LineFault::Form);
+    };
+    let Some(at) = moment(sec, "0") else {
+        return Err(LineFault::Form);
+    };
+    Ok(Line::Restart { at })
 }

@@ -17,7 +17,7 @@ use crate::line::{Line, LineFault, Request};
 use crate::setting::Setting;
 use kdc_core::{Kdc, Opening};
 use krb_elements::KerberosString;
-use krb_fields::Name;
+use krb_fields::{Moment, Name};
 use principal_rows::{KeyList, Limits, Policy};
 use principals::{Change, ChangeFault, Database, FirstFault};
 use std::alloc::{AllocError, Global};
@@ -128,6 +128,7 @@ fn run_line(alloc: Global, kdc: &mut Option<Kdc>, line: Line) -> Result<Answer, 
         Line::Remove { name } => remove(alloc, kdc, name),
         Line::SetPolicy { name, setting } => set_policy(alloc, kdc, name, setting),
         Line::Request(request) => handle(alloc, kdc, &request),
+        Line::Restart { at } => restart(kdc, at),
     }
 }
 
@@ -254,6 +255,18 @@ fn apply(alloc: Global, kdc: &mut Kdc, change: &Change) -> Result<Answer, Stop>
         Err(ChangeFault::Memory) => Err(Stop::Failed),
         Err(fault) => Ok(Answer::Refused(fault)),
     }
+}
+
+/// The KDC starts again at this moment.
+fn restart(kdc: &mut Option<Kdc>, at: Moment) -> Result<Answer, Stop>
+    ensures ok { IfOk result (λ answer. Runs kdc.old (lines.Restart at) kdc.new answer) }
+    ensures fault { result ≡ Err Fault → CannotRun kdc.old (lines.Restart at) }
+{
+    let Some(kdc) = kdc else {
+        return Err(Stop::Fault);
+    };
+    kdc.restart(at);
+    Ok(Answer::Done)
 }
 
 fn handle(alloc: Global, kdc: &mut Option<Kdc>, request: &Request) -> Result<Answer, Stop>

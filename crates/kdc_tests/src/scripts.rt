@@ -26,7 +26,7 @@ const KRB_ERROR: &str =
     "7e4a3048a003020105a10302011ea411180f32303234303130313030303030305aa503020100a603020106a9051b03412e42aa183016a003020102a10f300d1b066b72627467741b03412e42";
 
 /// Runs a script, and checks what it prints and its status.
-fn expect_run(rt: &(impl AllocGlobal + Abort), script: &[u8], printed: &str, status: u8) {
+pub fn expect_run(rt: &(impl AllocGlobal + Abort), script: &[u8], printed: &str, status: u8) {
     let mut written = Vec::new(rt.alloc());
     let ended = run_script(rt.alloc(), script, &mut written);
     assert_eq!(rt;
@@ -112,7 +112,11 @@ fn an_add_or_request_of_another_form_is_a_fault(rt: HostRuntime) {
         "request 253402300800 0 00000000000000000000000000000000000000000000000000000000000000000000000000000000000000000000000000000000000000000000000000000000 0 -",
         "request -1 0 00000000000000000000000000000000000000000000000000000000000000000000000000000000000000000000000000000000000000000000000000000000 0 -",
         "request 0 0 00000000000000000000000000000000000000000000000000000000000000000000000000000000000000000000000000000000000000000000000000000000 4294967296 -",
-        "restart 0",
+        "restart",
+        "restart ",
+        "restart 0 0",
+        "restart -1",
+        "restart 253402300800",
         "keys u",
         "keys u 17:0",
         "drop u",
@@ -221,6 +225,7 @@ fn each_line_is_answered_in_turn(rt: HostRuntime) {
             "ok\nok\nok\nrefused Absent\nrefused BadName\n",
             DONE,
         ),
+        ("restart 0\nrestart 0253402300799\n", "ok\nok\n", DONE),
         (
             "\n\nadd u 17:00000000000000000000000000000000\n\nadd\nadd v 17:00000000000000000000000000000000\n",
             "ok\nfault 6\n",

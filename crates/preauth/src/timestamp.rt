@@ -47,7 +47,10 @@ pub fn check_timestamp<'p>(
 }
 
 /// The value of the first padata of this type.
-pub fn first_of<'p>(number: i32, padata: Option<&SeqRef<'p, PaDataRef<'p>>>) -> Option<OctetsRef<'p>>
+pub fn first_of<'p>(
+    number: i32,
+    padata: Option<&SeqRef<'p, PaDataRef<'p>>>,
+) -> Option<OctetsRef<'p>>
     ensures { result ≡ first_of number (option_copied padata.entry) }
 {
     for entry in padata?.iter() {

@@ -3,8 +3,6 @@
 
 mod keys;
 
-pub use keys::key_of;
-
 ghost use Rattle.std.specs.Prelude.{◌≡◌, ◌<◌, ◌≤◌, ◌+◌, ◌^◌, length, Some, IfOk, IfSome};
 ghost use Rattle.krb_elements.specs.Codec.{written};
 ghost use Rattle.enctypes.specs.KeyUsage.{usage_number};
@@ -12,6 +10,7 @@ ghost use Rattle.enctypes.specs.Sealing.{seal};
 ghost use Rattle.sealed_parts.specs.Parts.{IsSpelledWithin, opened_as};
 
 use enctypes::{Key, KeyUsage, open, seal};
+pub use keys::key_of;
 use krb_elements::{Encode, Fault, ReadOwned, read_owned, write};
 use std::alloc::{AllocError, Global};
 

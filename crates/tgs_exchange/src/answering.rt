@@ -60,7 +60,9 @@ pub fn tgs_answer(
     ensures new { IfOk result (λ answer. IfSome answer.kept (λ kept. map.get view.now.memory.pairs (stamp_of presented.now) ≡ None)) }
 {
     let refusal = client_refusal(view, at, presented);
-    by_client(alloc, view, at, words, room, request, body, presented, refusal)
+    by_client(
+        alloc, view, at, words, room, request, body, presented, refusal,
+    )
 }
 
 /// The first rule of the client that holds.
@@ -95,7 +97,9 @@ fn by_client(
         Some(refusal) => refused(alloc, view, at, body, refusal),
         None => {
             let verdict = verdict_on(view, at, presented);
-            by_verdict(alloc, view, at, words, room, request, body, presented, verdict)
+            by_verdict(
+                alloc, view, at, words, room, request, body, presented, verdict,
+            )
         }
     }
 }
@@ -234,7 +238,9 @@ fn fresh(
     let terms = terms_for(alloc, view, body)?;
     let ticket = ticket_terms(&presented.ticket);
     let admission = admitted(view, at, body, &presented.service, &ticket, terms);
-    fresh_by(alloc, view, at, words, room, request, body, presented, &admission)
+    fresh_by(
+        alloc, view, at, words, room, request, body, presented, &admission,
+    )
 }
 
 /// The answer by what was decided.

@@ -58,10 +58,7 @@ fn rules_by(
     ensures { result ≡ rules_by view.now at.sec body.now service.now ticket.now terms.now }
 {
     [
-        (
-            is_not_yet_valid(ticket, at, body),
-            TgsRefusal::NotYetValid,
-        ),
+        (is_not_yet_valid(ticket, at, body), TgsRefusal::NotYetValid),
         (has_ended(ticket, at), TgsRefusal::TicketExpired),
         (is_service_unknown(view, body), TgsRefusal::ServiceUnknown),
         (is_disabled(view.service), TgsRefusal::ServiceRevoked),
@@ -152,11 +149,21 @@ fn asks_bad_option(body: &ReqBodyRef<'_>, ticket: &TicketTerms) -> bool
 {
     asks(body, KdcOption::EncTktInSkey)
         || (asks(body, KdcOption::Renew) && asks(body, KdcOption::Validate))
-        || lacks_flag(body, ticket, KdcOption::Forwardable, TicketFlag::Forwardable)
+        || lacks_flag(
+            body,
+            ticket,
+            KdcOption::Forwardable,
+            TicketFlag::Forwardable,
+        )
         || lacks_flag(body, ticket, KdcOption::Forwarded, TicketFlag::Forwardable)
         || lacks_flag(body, ticket, KdcOption::Proxiable, TicketFlag::Proxiable)
         || lacks_flag(body, ticket, KdcOption::Proxy, TicketFlag::Proxiable)
-        || lacks_flag(body, ticket, KdcOption::AllowPostdate, TicketFlag::MayPostdate)
+        || lacks_flag(
+            body,
+            ticket,
+            KdcOption::AllowPostdate,
+            TicketFlag::MayPostdate,
+        )
         || lacks_flag(body, ticket, KdcOption::Postdated, TicketFlag::MayPostdate)
         || lacks_flag(body, ticket, KdcOption::Renewable, TicketFlag::Renewable)
         || lacks_flag(body, ticket, KdcOption::Renew, TicketFlag::Renewable)

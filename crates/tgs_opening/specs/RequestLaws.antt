@@ -1,6 +1,6 @@
 -- The value of a request's PA-TGS-REQ is no longer than the request.
-use Rattle.std.proofs.Common.{◌≡◌, ℕ, ℤ, pos, ◌<◌, ◌≤◌, Bool, true, false, cond, List, [], ◌∷◌, ◌++◌, length, Option, Some, None, Result, Ok, Err, refl, subst, ap, arith}
-use Rattle.std.specs.Prelude.{IfOk, IfSome, option_map, find}
+use Rattle.std.proofs.Common.{◌≡◌, ℕ, ℤ, pos, ◌<◌, ◌≤◌, Bool, true, false, cond, List, [], ◌∷◌, ◌++◌, length, Option, Some, None, refl, subst, ap, arith}
+use Rattle.std.specs.Prelude.{IfSome, option_map, find}
 use Rattle.std.specs.Ordering.{int_eq}
 use Rattle.std.proofs.lemmas.List.{length-append}
 use Rattle.krb_der.specs.Steps.{IsBytes, IsBytes-back, IsBytes-front}
@@ -60,12 +60,6 @@ short number (Some list) bytes le h = few (first_value number list) h
     few None h = tt
 short number None bytes le h = tt
 
-value_short : (exchange : Exchange) (r : Received) (bytes : List ℕ) → IsBytes bytes → length bytes ≤ 2147483647 → SpellsReceived (exchange, r) bytes → IfSome (tgs_data r) (λ value. length value < 2147483648)
+pub value_short : (exchange : Exchange) (r : Received) (bytes : List ℕ) → IsBytes bytes → length bytes ≤ 2147483647 → SpellsReceived (exchange, r) bytes → IfSome (tgs_data r) (λ value. length value < 2147483648)
 value_short exchange r bytes fits le s =
     short (pos 1) r.padata bytes le ((in_contents length (message_tag exchange) (sequence received_form).Spells (λ r. part_of (first_value (pos 1)) r.padata) (λ (r : Received). r) (in_fields (pos 1))).is r bytes fits s)
-
--- of what was read
-pub data_if_read : {E : Type 0} (r : Result (Exchange × Received) E) (bytes : List ℕ) → IsBytes bytes → length bytes ≤ 2147483647 → IfOk r (λ x. SpellsReceived x bytes)
-    → IfOk r (λ x. IfSome (tgs_data x.1) (λ value. length value < 2147483648))
-data_if_read (Ok x) bytes fits le s = value_short x.0 x.1 bytes fits le s
-data_if_read (Err e) bytes fits le s = tt

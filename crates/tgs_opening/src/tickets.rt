@@ -109,10 +109,7 @@ fn ticket_rules(
             ap.ap_options.has(ApOption::UseSessionKey),
             TgsRefusal::SessionKeyAsked,
         ),
-        (
-            is_not_for_us(view, &ap.ticket, whom),
-            TgsRefusal::NotForUs,
-        ),
+        (is_not_for_us(view, &ap.ticket, whom), TgsRefusal::NotForUs),
         (lacks_key(row, &ap.ticket.enc_part, key), TgsRefusal::NoKey),
         (
             lacks_version(&ap.ticket.enc_part, key),

@@ -2,6 +2,7 @@ use Rattle.std.proofs.Common.{rules, ◌≡◌, ◌≢◌, Some, sym, ap, subst,
 use Rattle.kdc_state.specs.declared.state.State.{State}
 use Rattle.kdc_state.specs.State.{memory_of}
 use Rattle.kdc_core.proofs.Frame.{database_kept, limits_kept, other_kept, of_either}
+use Rattle.kdc_core.specs.Agreement.{names_agree, next_agrees, view_agrees}
 use Rattle.kdc_core.specs.Answer.{answer, next}
 use Rattle.kdc_core.specs.RequestLaws.{request_is}
 use Rattle.kdc_core.specs.View.{named, view}
@@ -37,3 +38,12 @@ returns-clause-memories c name other =
     (other_kept state (named state bytes).client (answer (view state bytes) c.args.at c.args.words.now c.args.room bytes).kept name
     (subst (λ (s : State). (named s bytes).client ≢ Some name) (sym is) other))
     ∙ ap (λ s. memory_of s name) is
+
+pub returns-clause-agreement : goal.returns-clause-agreement
+returns-clause-agreement c other agrees = ap (λ v. answer v c.args.at c.args.words.now c.args.room c.args.request.now) (view_agrees c.args.self.now other c.args.request.now agrees)
+
+pub returns-clause-same_names : goal.returns-clause-same_names
+returns-clause-same_names c other agrees = names_agree c.args.self.now other c.args.request.now agrees
+
+pub returns-clause-afterwards : goal.returns-clause-afterwards
+returns-clause-afterwards c other agrees = next_agrees c.args.self.now other c.args.at c.args.words.now c.args.room c.args.request.now agrees

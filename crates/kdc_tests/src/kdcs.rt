@@ -1,5 +1,6 @@
-use super::*;
+//! A key distribution centre (`kdc_core`).
 use enctypes::{Etype, Key};
+use kdc_core::{Event, Kdc, Opening, RunFault};
 use krb_elements::{KerberosString, Octets, Seq};
 use krb_fields::{Moment, Name};
 use principal_rows::{KeyList, Limits, Policy};
@@ -175,8 +176,8 @@ fn code_for(alloc: Global, kdc: &mut Kdc, place: usize, octet: u8) -> Result<Opt
 fn refuses_by_version_type_and_exchange(rt: HostRuntime) -> Result<(), Fail> {
     let alloc = rt.alloc();
     let mut kdc = kdc(alloc)?;
-    // pvno 4; the message type of a TGS-REQ; the tag of a TGS-REQ.
-    for (place, octet, code) in [(8, 4, 3), (13, 12, 40), (0, 0x6c, 60)] {
+    // pvno 4; the message type of a TGS-REQ; the tag of a TGS-REQ, whose message type is 12.
+    for (place, octet, code) in [(8, 4, 3), (13, 12, 40), (0, 0x6c, 40)] {
         assert_eq!(rt; code_for(alloc, &mut kdc, place, octet)?, Some(code));
     }
     Ok(())
@@ -353,21 +354,35 @@ fn adds_user(alloc: Global) -> Result<Event, Fail> {
     Ok(Event::Change { change })
 }
 
-/// No request; `u` is added, and again; `x` asks, and `u`.
-fn events(alloc: Global) -> Result<[Event; 5], Fail> {
+fn restarts() -> Result<Event, Fail> {
+    Ok(Event::Restart {
+        at: Moment::new(MIDNIGHT, 0).ok_or("a moment")?,
+    })
+}
+
+/// No request; `u` is added, and again; a restart; `x` asks, and `u`.
+fn events(alloc: Global) -> Result<[Event; 6], Fail> {
     Ok([
         asks(Vec::new(alloc))?,
         adds_user(alloc)?,
         adds_user(alloc)?,
+        restarts()?,
         asks(changed(alloc, 42, b'x')?)?,
         asks(octets(alloc, BASIC)?)?,
     ])
 }
 
-fn replies(alloc: Global) -> Result<[Option<Vec<u8>>; 5], Fail> {
+fn replies(alloc: Global) -> Result<[Option<Vec<u8>>; 6], Fail> {
     let unknown = octets(alloc, CLIENT_UNKNOWN)?;
     let preauth_required = octets(alloc, PREAUTH_REQUIRED)?;
-    Ok([None, None, None, Some(unknown), Some(preauth_required)])
+    Ok([
+        None,
+        None,
+        None,
+        None,
+        Some(unknown),
+        Some(preauth_required),
+    ])
 }
 
 // Passes whichever allocation of the first run is refused.

@@ -1,0 +1,91 @@
+//! The AS exchange of a KDC.
+ghost use Rattle.std.specs.Prelude.{◌≡◌, ◌<◌, length, Some, IfOk, IfSome, option_copied};
+ghost use Rattle.as_exchange.specs.Known.{IsKnown};
+ghost use Rattle.krb_fields.specs.PrincipalName.{name};
+ghost use Rattle.krb_types.specs.declared.kdc_req.Exchange.TheVariants.{As};
+ghost use Rattle.kdc_core.specs.After.{after, counted_of, MayStay};
+ghost use Rattle.kdc_core.specs.Answer.{answer_in, keep, OpensIn, SpelledIn};
+ghost use Rattle.kdc_core.specs.View.{as_view, client_in, components_of, memory_named, view_in};
+ghost use Rattle.kdc_state.specs.declared.state.State as states;
+
+use crate::answering::{Answered, row_of};
+use crate::mark::Mark;
+use as_exchange::{AsAnswer, AsView, as_answer};
+use kdc_state::State;
+use krb_fields::{Moment, NameRef};
+use krb_types::KdcReqRef;
+use replay::Failures;
+use std::alloc::{AllocError, Global};
+
+/// The reply to an AS-REQ.
+pub fn as_reply(
+    state: &State,
+    alloc: Global,
+    at: Moment,
+    words: &[u8; 64],
+    room: u32,
+    request: &[u8],
+    message: &KdcReqRef<'_>,
+) -> Result<Answered, AllocError>
+    requires { IfSome message.now.body.value.sname (λ n. length (name.text n) < 2147483648) }
+    ensures reply { IfOk result (λ reply. Some reply.octets.items ≡ (answer_in (view_in state.now As message.now) at words.now room request.now As message.now).reply) }
+    ensures after { IfOk result (λ reply. after state.now reply.mark ≡ keep state.now (client_in state.now As message.now) (answer_in (view_in state.now As message.now) at words.now room request.now As message.now).kept) }
+    ensures spelled { IfOk result (λ reply. SpelledIn (view_in state.now As message.now) at words.now As message.now reply.octets.items) }
+    ensures keys { IfOk result (λ reply. OpensIn (view_in state.now As message.now) at words.now As message.now) }
+    ensures stays { IfOk result (λ reply. IfSome reply.mark (MayStay state.now)) }
+{
+    let view = as_view(state, message);
+    let AsAnswer { reply, failures } = as_answer(alloc, &view, at, words, room, message)?;
+    let mark = counted_of(alloc, message.body.value.cname.as_ref(), failures)?;
+    Ok(Answered {
+        octets: reply,
+        mark,
+    })
+}
+
+/// What an AS-REQ is answered from.
+fn as_view<'s>(state: &'s State, message: &KdcReqRef<'_>) -> AsView<'s>
+    requires { IfSome message.now.body.value.sname (λ n. length (name.text n) < 2147483648) }
+    ensures view { result ≡ as_view (view_in state.now As message.now) }
+    ensures known { IsKnown (as_view (view_in state.now As message.now)) message.now.body.value }
+{
+    let body = &message.body.value;
+    AsView {
+        realm: state.database.realm(),
+        limits: &state.limits,
+        client: row_of(state, body.cname.as_ref()),
+        service: row_of(state, body.sname.as_ref()),
+        failures: failures_of(state, body.cname.as_ref()),
+    }
+}
+
+/// The failures of a client that a request may name.
+fn failures_of(state: &State, name: Option<&NameRef<'_>>) -> Failures
+    ensures { result ≡ (memory_named state.now (components_of (option_copied name.entry))).failures }
+{
+    match name {
+        Some(name) => state.failures(name),
+        None => Failures::none(),
+    }
+}
+
+/// The client whose failures change, if it is named and they do.
+fn counted_of(
+    alloc: Global,
+    name: Option<&NameRef<'_>>,
+    failures: Option<Failures>,
+) -> Result<Option<Mark>, AllocError>
+    ensures value { IfOk result (λ mark. mark ≡ counted_of (option_copied name.entry) failures) }
+    ensures stays { (state : states.State) → IfOk result (λ mark. IfSome mark (MayStay state)) }
+{
+    let Some(name) = name else {
+        return Ok(None);
+    };
+    let Some(failures) = failures else {
+        return Ok(None);
+    };
+    Ok(Some(Mark::Counted {
+        client: name.to_name(alloc)?,
+        failures,
+    }))
+}
