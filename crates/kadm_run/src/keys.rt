@@ -1,9 +1,7 @@
 //! The keys that the tool makes: one of each encryption type, in one order of preference.
 ghost use Rattle.std.specs.Prelude.{◌≡◌, IfOk, map};
-ghost use Rattle.kadm_run.specs.Keys.{offered, password_key};
-ghost use Rattle.enctypes.specs.Etype.{key_len};
+ghost use Rattle.kadm_run.specs.Keys.{drawn_key, drawn_keys, offered, password_key, seeded};
 ghost use Rattle.rand_core.specs.Stream.{fill_bytes};
-ghost use Rattle.std.specs.Prelude.{take};
 
 use enctypes::{Etype, Key, string_to_key};
 use principal_rows::{KeyList, KeyListFault};
@@ -34,20 +32,26 @@ fn password_key(alloc: Global, etype: Etype, pass: &[u8], salt: &[u8]) -> Result
 /// Random keys for types 18, 17, 20 and 19: for each 32 octets are drawn from ChaCha20 under the seed, and the first
 /// of them are the key.
 pub fn random_keys(alloc: Global, seed: [u8; 32]) -> Result<KeyList, KeyListFault>
-    ensures { IfOk result (λ keys. map (λ k. k.etype) keys ≡ offered) }
+    ensures { IfOk result (λ keys. keys ≡ drawn_keys (seeded seed) offered) }
 {
     let mut rng = ChaCha20Rng::from_seed(seed);
+    draw_keys(alloc, &mut rng)
+}
+
+fn draw_keys<R: Rng>(alloc: Global, rng: &mut R) -> Result<KeyList, KeyListFault>
+    ensures { IfOk result (λ keys. keys ≡ drawn_keys (R.stream rng.old) offered) }
+{
     let keys = [
-        random_key(&mut rng, Etype::Aes256CtsHmacSha1_96),
-        random_key(&mut rng, Etype::Aes128CtsHmacSha1_96),
-        random_key(&mut rng, Etype::Aes256CtsHmacSha384_192),
-        random_key(&mut rng, Etype::Aes128CtsHmacSha256_128),
+        draw_key(rng, Etype::Aes256CtsHmacSha1_96),
+        draw_key(rng, Etype::Aes128CtsHmacSha1_96),
+        draw_key(rng, Etype::Aes256CtsHmacSha384_192),
+        draw_key(rng, Etype::Aes128CtsHmacSha256_128),
     ];
     KeyList::new(alloc, &keys)
 }
 
-fn random_key<R: Rng>(rng: &mut R, etype: Etype) -> Key
-    ensures key { result ≡ record { etype = etype; bytes = take (key_len etype) (fill_bytes 32 (R.stream rng.old)).0 } }
+fn draw_key<R: Rng>(rng: &mut R, etype: Etype) -> Key
+    ensures key { result ≡ drawn_key (R.stream rng.old) etype }
     ensures drawn { R.stream rng.new ≡ (fill_bytes 32 (R.stream rng.old)).1 }
 {
     let mut octets = [0; 32];

@@ -299,31 +299,41 @@ fn a_keytab_has_the_current_keys(rt: HostRuntime) -> Result<(), Fail> {
     Ok(())
 }
 
+/// Each command, and how often it calls its store.
+const CALLS: [(&str, u32); 10] = [
+    ("kadm init --db other --realm A.B --seed seed", 3),
+    ("kadm add --db db --name u --password-file pass", 3),
+    ("kadm passwd --db db --name h --password-file pass", 3),
+    ("kadm random --db db --name h --seed seed", 3),
+    ("kadm drop --db db --name h --version 1", 2),
+    ("kadm policy --db db --name h --field preauth --value false", 2),
+    ("kadm remove --db db --name h", 2),
+    ("kadm list --db db", 1),
+    ("kadm keytab --db db --name h --out kt", 2),
+    ("kadm migrate --db db", 2),
+];
+
 #[test]
 fn a_failed_call_of_the_store_leaves_the_files(rt: HostRuntime) -> io::Result<()> {
     let mut store = store(&rt)?;
-    expect_run(&rt, &mut store, INIT, "ok\n", DONE)?;
-    let before = Vec::from_slice(rt.alloc(), store.get("db").unwrap_or(&[]))?;
-    for failing in 1..4u32 {
-        store.calls = 0;
-        store.failing = failing;
-        expect_run(
-            &rt,
-            &mut store,
-            "kadm random --db db --name h --seed seed",
-            "failed\n",
-            FAILED,
-        )?;
-        assert!(&rt; store.get("db") == Some(before.as_slice()));
-    }
-    store.failing = 0;
-    expect_run(
-        &rt,
-        &mut store,
+    for line in [
+        INIT,
         "kadm random --db db --name h --seed seed",
-        "ok\n",
-        DONE,
-    )
+        "kadm passwd --db db --name h --password-file pass",
+    ] {
+        expect_run(&rt, &mut store, line, "ok\n", DONE)?;
+    }
+    let before = Vec::from_slice(rt.alloc(), store.get("db").unwrap_or(&[]))?;
+    for (line, calls) in CALLS {
+        for failing in 0..calls {
+            store.calls = 0;
+            store.failing = failing.wrapping_add(1);
+            expect_run(&rt, &mut store, line, "failed\n", FAILED)?;
+            assert!(&rt; store.get("db") == Some(before.as_slice()), "{line}");
+        }
+    }
+    assert!(&rt; store.get("kt").is_none() && store.get("other").is_none());
+    Ok(())
 }
 
 /// The keys that ChaCha20 gives under a seed of 32 octets 07, as Python's `cryptography` computes it with a nonce of zeros:
