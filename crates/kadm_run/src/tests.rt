@@ -306,7 +306,10 @@ const CALLS: [(&str, u32); 10] = [
     ("kadm passwd --db db --name h --password-file pass", 3),
     ("kadm random --db db --name h --seed seed", 3),
     ("kadm drop --db db --name h --version 1", 2),
-    ("kadm policy --db db --name h --field preauth --value false", 2),
+    (
+        "kadm policy --db db --name h --field preauth --value false",
+        2,
+    ),
     ("kadm remove --db db --name h", 2),
     ("kadm list --db db", 1),
     ("kadm keytab --db db --name h --out kt", 2),
