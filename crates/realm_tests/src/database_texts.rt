@@ -9,6 +9,19 @@ const VERSION_1: &str =
 const VERSION_2: &str =
     "{\"principals\":{\"krbtgt/A.B\":{\"disabled\":false,\"expires\":null,\"forwardable\":true,\"greatest_life\":4294967295,\"greatest_renewable\":4294967295,\"keys\":[{\"keys\":[{\"etype\":17,\"key\":\"000102030405060708090a0b0c0d0e0f\"}],\"version\":1}],\"ok_as_delegate\":false,\"password_expires\":null,\"postdate\":false,\"preauth\":true,\"proxiable\":true,\"revoked_before\":null}},\"realm\":\"A.B\",\"version\":2}";
 
+/// The keys in it, and the versions that have them.
+const KEYS: &str = "[{\"etype\":17,\"key\":\"000102030405060708090a0b0c0d0e0f\"}]";
+
+const VERSIONS: &str =
+    "[{\"keys\":[{\"etype\":17,\"key\":\"000102030405060708090a0b0c0d0e0f\"}],\"version\":1}]";
+
+/// The end of the versions, with version 1 once more, or with a later one.
+const AND_VERSION_1: &str =
+    "1},{\"keys\":[{\"etype\":17,\"key\":\"000102030405060708090a0b0c0d0e0f\"}],\"version\":1}],";
+
+const AND_VERSION_2: &str =
+    "1},{\"keys\":[{\"etype\":17,\"key\":\"000102030405060708090a0b0c0d0e0f\"}],\"version\":2}],";
+
 #[test]
 fn a_text_is_read_and_written_in_version_2(rt: HostRuntime) -> Result<(), Fail> {
     for text in [VERSION_1, VERSION_2] {
@@ -50,6 +63,19 @@ fn a_text_is_refused_by_its_first_fault(rt: HostRuntime) -> Result<(), AllocErro
         ("\"etype\":17", "\"etype\":18", ReadFault::BadRow),
         ("0f\"", "0g\"", ReadFault::BadRow),
         ("true,", "true,\"a\":1,", ReadFault::BadRow),
+        ("\"preauth\":true,", "", ReadFault::BadRow),
+        ("\"disabled\":false", "\"disabled\":0", ReadFault::BadRow),
+        ("\"realm\":\"A.B\",", "", ReadFault::BadRow),
+        ("\"realm\":\"A.B\"", "\"realm\":1", ReadFault::BadRow),
+        (KEYS, "[]", ReadFault::BadRow),
+        (VERSIONS, "[]", ReadFault::BadRow),
+        ("1}],", AND_VERSION_1, ReadFault::BadRow),
+        ("1}],", AND_VERSION_2, ReadFault::BadRow),
+        (
+            "\"disabled\":false",
+            "\"disabled\":false,\"disabled\":0",
+            ReadFault::BadRow,
+        ),
         ("{\"principals\"", "[{\"principals\"", ReadFault::NotJson),
     ] {
         let text = VERSION_2.replace(alloc, old, new)?;
@@ -67,4 +93,38 @@ fn every_front_of_a_text_is_no_json(rt: HostRuntime) {
             assert!(rt; is_refused(alloc, front, ReadFault::NotJson), "{end}");
         }
     }
+}
+
+/// Of a member that stands twice the last counts.
+#[test]
+fn the_last_of_two_members_counts(rt: HostRuntime) -> Result<(), Fail> {
+    let text = VERSION_2.replace(
+        rt.alloc(),
+        "\"disabled\":false",
+        "\"disabled\":0,\"disabled\":false",
+    )?;
+    let database = read(rt.alloc(), text.as_str())?;
+    assert!(rt; is_written_as(rt.alloc(), &database, VERSION_2)?);
+    Ok(())
+}
+
+/// The text with this character so often for its realm, between these quotes.
+fn with_realm(alloc: Global, quote: &str, fill: char, count: usize) -> Result<String, AllocError> {
+    let mut realm = String::new(alloc);
+    realm.push_str(quote)?;
+    for _ in 0..count {
+        realm.push(fill)?;
+    }
+    realm.push_str(quote)?;
+    VERSION_2.replace(alloc, "\"A.B\"", realm.as_str())
+}
+
+#[test]
+fn deep_and_long_texts_are_refused(rt: HostRuntime) -> Result<(), AllocError> {
+    let alloc = rt.alloc();
+    let deep = with_realm(alloc, "", '[', 10_000)?;
+    assert!(rt; is_refused(alloc, deep.as_str(), ReadFault::NotJson));
+    let long = with_realm(alloc, "\"", 'x', 1_000_000)?;
+    assert!(rt; is_refused(alloc, long.as_str(), ReadFault::BadRow));
+    Ok(())
 }

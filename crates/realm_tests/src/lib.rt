@@ -1,5 +1,5 @@
-//! The tests of what a realm keeps: rows, the database, what is remembered of clients; and of the times of tickets. They
-//! stand apart, since a crate with tests is proved twice.
+//! The tests of what a realm keeps: rows, the database, what is remembered of clients; of preauthentication; and of the times
+//! of tickets. They stand apart, since a crate with tests is proved twice.
 #![tactic(auto)]
 
 #[cfg(test)]
@@ -16,3 +16,5 @@ mod replays;
 mod rows;
 #[cfg(test)]
 mod times;
+#[cfg(test)]
+mod timestamps;

@@ -1,7 +1,11 @@
-use super::*;
+//! Preauthentication by timestamps, and the lock (`preauth`).
 use enctypes::{Etype, Key};
 use krb_elements::{SeqRef, read};
 use krb_fields::{Moment, PaDataRef};
+use preauth::{
+    Outcome, after_failure, after_success, check_timestamp, first_key, is_locked, key_numbered,
+    method_data, types_of,
+};
 use principal_rows::{KeyList, Limits, Row};
 use replay::Failures;
 use std::alloc::{AllocError, Global};
