@@ -1,24 +1,26 @@
-//! Measures the cryptography, the reading of a request, and the text of a database: `bench WORD` prints how many
-//! nanoseconds a call takes.
+//! Measures the cryptography, messages, whole requests, and the text of a database: `bench WORD` prints how many nanoseconds of
+//! processor time a call takes.
 #![tactic(auto)]
 
 ghost use Rattle.std.specs.Prelude.{◌<◌};
 
+mod exchanges;
 mod messages;
 mod rows;
 
-use crate::messages::read_request;
+use crate::exchanges::{Asked, measure_exchange};
+use crate::messages::{measure_error, read_request};
 use crate::rows::measure_rows;
 use aes_cts::AesKey;
 use enctypes::{Etype, Key, KeyUsage, open, seal, string_to_key};
 use prf_kdf::{pbkdf2_sha1, pbkdf2_sha384};
 use std::alloc::{AllocError, Global};
 use std::process::ExitCode;
-use std::time::Instant;
+use std::time::CpuClock;
 use std::{env, io};
 
 const USAGE: &str =
-    "usage: bench block | cts | pbkdf2-sha1 | pbkdf2-sha384 | seal-TYPE | string-TYPE | read-request | read-rows | write-rows, for TYPE 17 to 20";
+    "usage: bench block | cts | pbkdf2-sha1 | pbkdf2-sha384 | seal-TYPE | string-TYPE | read-request | write-error | as | as-preauth | read-rows | write-rows, for TYPE 17 to 20";
 
 /// The status of a fault of the command line.
 pub(crate) const FAULT: u8 = 2;
@@ -128,6 +130,12 @@ fn main(rt: HostRuntime) -> io::Result<ExitCode> {
     if word == "read-rows" || word == "write-rows" {
         return measure_rows(&rt, word == "read-rows");
     }
+    if word == "write-error" {
+        return measure_error(&rt);
+    }
+    if let Some(asked) = Asked::named(word) {
+        return measure_exchange(&rt, asked);
+    }
     let Some(work) = Work::named(word) else {
         println!(rt; "{USAGE}")?;
         return Ok(if words.len() < 2 {
@@ -140,9 +148,10 @@ fn main(rt: HostRuntime) -> io::Result<ExitCode> {
         return Ok(ExitCode::from(FAULT));
     };
     let mut text = [0; 512];
-    let start = Instant::now(&rt)?;
+    let start = rt.thread_cpu_time()?;
     work.run(rt.alloc(), &key, &mut text)?;
-    let nanoseconds = start.elapsed(&rt)?.as_nanos() / u128::from(work.calls());
+    let took = rt.thread_cpu_time()?.saturating_sub(start);
+    let nanoseconds = took.as_nanos() / u128::from(work.calls());
     // printed, so that no call can be left out
     let first = text[0];
     println!(rt; "{nanoseconds} ns a call (first octet left: {first})")?;
