@@ -55,7 +55,7 @@ const PREAUTH_REQUIRED: &[u8] =
 
 const MIDNIGHT: i64 = 1_704_067_200;
 
-fn octets(alloc: Global, digits: &[u8]) -> Result<Vec<u8>, Fail> {
+pub fn octets(alloc: Global, digits: &[u8]) -> Result<Vec<u8>, Fail> {
     Ok(hex::decode(alloc, digits)?)
 }
 
@@ -65,7 +65,16 @@ fn keys(alloc: Global) -> Result<KeyList, Fail> {
 }
 
 fn kdc(alloc: Global) -> Result<Kdc, Fail> {
-    let database = Database::first(alloc, b"A.B", keys(alloc)?)?;
+    kdc_of(
+        alloc,
+        Key::from_random(Etype::Aes256CtsHmacSha1_96, &[0; 32]),
+    )
+}
+
+/// A KDC of `A.B`, which has the ticket-granting service alone, with this key.
+pub fn kdc_of(alloc: Global, key: Key) -> Result<Kdc, Fail> {
+    let keys = KeyList::new(alloc, &[key])?;
+    let database = Database::first(alloc, b"A.B", keys)?;
     let limits = Limits::new(64, 0, 0, 36000, 0).ok_or("limits")?;
     Ok(Kdc::open(alloc, database, limits, Opening::First)?)
 }
@@ -75,7 +84,7 @@ fn asked(alloc: Global, kdc: &mut Kdc, request: &[u8]) -> Result<Option<Vec<u8>>
     Ok(kdc.handle(alloc, at, &[0; 64], 1400, request)?)
 }
 
-fn name(alloc: Global, components: &[&[u8]]) -> Result<Name, Fail> {
+pub fn name(alloc: Global, components: &[&[u8]]) -> Result<Name, Fail> {
     let mut owned = Seq::new(alloc);
     for component in components {
         owned.push(KerberosString::from_slice(alloc, *component)?)?;

@@ -9,4 +9,6 @@ mod lives;
 #[cfg(test)]
 mod scripts;
 #[cfg(test)]
+mod service_tickets;
+#[cfg(test)]
 mod streams;
