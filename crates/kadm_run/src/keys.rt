@@ -4,14 +4,14 @@ ghost use Rattle.kadm_run.specs.Keys.{drawn_key, drawn_keys, offered, password_k
 ghost use Rattle.rand_core.specs.Stream.{fill_bytes};
 
 use enctypes::{Etype, Key, string_to_key};
-use principal_rows::{KeyList, KeyListFault};
+use principal_rows::KeyList;
 use rand_chacha::ChaCha20Rng;
 use rand_core::{Rng, SeedableRng};
 use std::alloc::{AllocError, Global};
 
 /// The keys of a password (RFC 3961, section 5, string-to-key) with this salt and the types' default counts, for types 18,
 /// 17, 20 and 19.
-pub fn password_keys(alloc: Global, pass: &[u8], salt: &[u8]) -> Result<KeyList, KeyListFault>
+pub fn password_keys(alloc: Global, pass: &[u8], salt: &[u8]) -> Result<KeyList, AllocError>
     ensures { IfOk result (λ keys. keys ≡ map (password_key pass.now salt.now) offered) }
 {
     let keys = [
@@ -20,7 +20,7 @@ pub fn password_keys(alloc: Global, pass: &[u8], salt: &[u8]) -> Result<KeyList,
         password_key(alloc, Etype::Aes256CtsHmacSha384_192, pass, salt)?,
         password_key(alloc, Etype::Aes128CtsHmacSha256_128, pass, salt)?,
     ];
-    KeyList::new(alloc, &keys)
+    list_of(alloc, &keys)
 }
 
 fn password_key(alloc: Global, etype: Etype, pass: &[u8], salt: &[u8]) -> Result<Key, AllocError>
@@ -31,14 +31,14 @@ fn password_key(alloc: Global, etype: Etype, pass: &[u8], salt: &[u8]) -> Result
 
 /// Random keys for types 18, 17, 20 and 19: for each 32 octets are drawn from ChaCha20 under the seed, and the first
 /// of them are the key.
-pub fn random_keys(alloc: Global, seed: [u8; 32]) -> Result<KeyList, KeyListFault>
+pub fn random_keys(alloc: Global, seed: [u8; 32]) -> Result<KeyList, AllocError>
     ensures { IfOk result (λ keys. keys ≡ drawn_keys (seeded seed) offered) }
 {
     let mut rng = ChaCha20Rng::from_seed(seed);
     draw_keys(alloc, &mut rng)
 }
 
-fn draw_keys<R: Rng>(alloc: Global, rng: &mut R) -> Result<KeyList, KeyListFault>
+fn draw_keys<R: Rng>(alloc: Global, rng: &mut R) -> Result<KeyList, AllocError>
     ensures { IfOk result (λ keys. keys ≡ drawn_keys (R.stream rng.old) offered) }
 {
     let keys = [
@@ -47,7 +47,7 @@ fn draw_keys<R: Rng>(alloc: Global, rng: &mut R) -> Result<KeyList, KeyListFault
         draw_key(rng, Etype::Aes256CtsHmacSha384_192),
         draw_key(rng, Etype::Aes128CtsHmacSha256_128),
     ];
-    KeyList::new(alloc, &keys)
+    list_of(alloc, &keys)
 }
 
 fn draw_key<R: Rng>(rng: &mut R, etype: Etype) -> Key
@@ -57,4 +57,14 @@ fn draw_key<R: Rng>(rng: &mut R, etype: Etype) -> Key
     let mut octets = [0; 32];
     rng.fill_bytes(&mut octets);
     Key::from_random(etype, &octets)
+}
+
+/// The list of keys of four types, for which memory alone can lack.
+fn list_of(alloc: Global, keys: &[Key]) -> Result<KeyList, AllocError>
+    ensures { IfOk result (λ list. list ≡ keys.now) }
+{
+    match KeyList::new(alloc, keys) {
+        Ok(list) => Ok(list),
+        Err(_) => Err(AllocError),
+    }
 }

@@ -9,7 +9,7 @@ use clap::error::ErrorKind;
 use cred_files::{FileFault, Keytab, KeytabEntry};
 use krb_elements::KerberosString;
 use krb_fields::{Name, NameFault, component_from_text};
-use principal_rows::{KeyList, KeyListFault, Row};
+use principal_rows::{KeyList, Row};
 use principals::{Change, ChangeFault, Database, FirstFault, ReadFault};
 use std::alloc::{AllocError, AllocFailed, Global};
 use std::convert::AsStr;
@@ -97,13 +97,6 @@ impl From<FirstFault> for Stop {
             FirstFault::BadName => Stop::Refused("BadName"),
             FirstFault::Memory => Stop::Failed,
         }
-    }
-}
-
-/// Four keys of four types are a list of keys, so that memory alone can lack.
-impl From<KeyListFault> for Stop {
-    fn from(_: KeyListFault) -> Stop {
-        Stop::Failed
     }
 }
 
