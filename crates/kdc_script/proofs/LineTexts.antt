@@ -5,7 +5,7 @@ use Rattle.enctypes.specs.declared.key.Key.{Key}
 use Rattle.principal_rows.specs.declared.limits.Limits.{Limits}
 use Rattle.krb_fields.specs.NameText.{IsComponentText}
 use Rattle.kdc_script.specs.declared.line.Line.{Line}
-use Rattle.kdc_script.specs.declared.line.Line.TheVariants.{Open, Add, NewKeys, DropKeys, Remove, SetPolicy, Request}
+use Rattle.kdc_script.specs.declared.line.Line.TheVariants.{Open, Add, NewKeys, DropKeys, Remove, SetPolicy, Request, Restart}
 use Rattle.kdc_script.specs.declared.line.Request as requests
 use Rattle.kdc_script.specs.Field.{AreLimitsTexts, IsOctetsText, IsKeysText}
 use Rattle.kdc_script.specs.Line.{word_of, AreOpenFields, AreRequestFields, AreLineFields}
@@ -28,6 +28,7 @@ open_line (DropKeys name version) texts is = absurd (apart _ _ refl is.0)
 open_line (Remove name) texts is = absurd (apart _ _ refl is.0)
 open_line (SetPolicy name setting) texts is = absurd (apart _ _ refl is.0)
 open_line (Request request) texts is = absurd (apart _ _ refl is.0)
+open_line (Restart at) texts is = absurd (apart _ _ refl is.0)
 
 request_line : (line : Line) (texts : List (List ℕ)) → AreLineFields line (codes "request" ∷ texts) → (request : requests.Request) × AreRequestFields request texts
 request_line (Request request) texts is = (request, is.1)
@@ -37,6 +38,7 @@ request_line (NewKeys name keys) texts is = absurd (apart _ _ refl is.0)
 request_line (DropKeys name version) texts is = absurd (apart _ _ refl is.0)
 request_line (Remove name) texts is = absurd (apart _ _ refl is.0)
 request_line (SetPolicy name setting) texts is = absurd (apart _ _ refl is.0)
+request_line (Restart at) texts is = absurd (apart _ _ refl is.0)
 
 -- ---- the fields behind the word
 
@@ -77,9 +79,9 @@ request_octets fields d line is = let o = request_line line (texts_of fields) is
 
 -- where the first field is another word, the fields are those of no line
 pub other_word : (fields rest : List (Bor (List ℕ))) (word : Bor (List ℕ)) → fields ≡ word ∷ rest
-    → (word.now ≡ codes "open" → ⊥) → (word.now ≡ codes "add" → ⊥) → (word.now ≡ codes "keys" → ⊥) → (word.now ≡ codes "drop" → ⊥) → (word.now ≡ codes "remove" → ⊥) → (word.now ≡ codes "policy" → ⊥) → (word.now ≡ codes "request" → ⊥)
+    → (word.now ≡ codes "open" → ⊥) → (word.now ≡ codes "add" → ⊥) → (word.now ≡ codes "keys" → ⊥) → (word.now ≡ codes "drop" → ⊥) → (word.now ≡ codes "remove" → ⊥) → (word.now ≡ codes "policy" → ⊥) → (word.now ≡ codes "request" → ⊥) → (word.now ≡ codes "restart" → ⊥)
     → (line : Line) → ¬ AreLineFields line (texts_of fields)
-other_word fields rest word e not_open not_add not_keys not_drop not_remove not_policy not_request line are =
+other_word fields rest word e not_open not_add not_keys not_drop not_remove not_policy not_request not_restart line are =
     at line (subst (λ (fs : List (Bor (List ℕ))). AreLineFields line (texts_of fs)) e are).0
   where
     at : (line : Line) → word.now ≡ word_of line → ⊥
@@ -90,3 +92,4 @@ other_word fields rest word e not_open not_add not_keys not_drop not_remove not_
     at (Remove name) is = not_remove is
     at (SetPolicy name setting) is = not_policy is
     at (Request request) is = not_request is
+    at (Restart moment) is = not_restart is
