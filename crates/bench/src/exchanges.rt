@@ -4,6 +4,7 @@ ghost use Rattle.std.specs.Prelude.{◌<◌};
 use crate::FAULT;
 use crate::messages::REQUEST;
 use crate::rows::text_of_rows;
+use crate::tgs_requests::tgs_req;
 use enctypes::{Etype, Key};
 use kdc_core::{Kdc, Opening};
 use krb_fields::{Moment, Name};
@@ -11,6 +12,7 @@ use principal_rows::{KeyList, Limits, Policy};
 use principals::{Change, Database};
 use std::alloc::{AllocError, Global};
 use std::io;
+use std::ops::Range;
 use std::process::ExitCode;
 use std::time::CpuClock;
 
@@ -18,7 +20,10 @@ use std::time::CpuClock;
 const ROWS: u32 = 10_000;
 
 /// How many requests it answers.
-const CALLS: u32 = 10_000;
+const CALLS: u32 = 5_000;
+
+/// The microseconds of the authenticators that are answered.
+const ANSWERED: Range<u32> = 500_000..505_000;
 
 /// The most octets of a reply, over UDP.
 const ROOM: u32 = 1_400;
@@ -53,6 +58,14 @@ pub enum Asked {
     As,
     /// The same with a good timestamp, of a client that needs one.
     AsPreauth,
+    /// A TGS-REQ with a new authenticator each time, of a client of which nothing is remembered.
+    Tgs,
+    /// The same TGS-REQ again and again.
+    TgsRepeat,
+    /// As `Tgs`, of a client of which 60,000 authenticators are remembered that are all earlier.
+    TgsFull,
+    /// As `TgsFull`, but those that are remembered are all later.
+    TgsFullEarly,
 }
 
 impl Asked {
@@ -60,15 +73,38 @@ impl Asked {
         match word {
             "as" => Some(Asked::As),
             "as-preauth" => Some(Asked::AsPreauth),
+            "tgs" => Some(Asked::Tgs),
+            "tgs-repeat" => Some(Asked::TgsRepeat),
+            "tgs-full" => Some(Asked::TgsFull),
+            "tgs-full-early" => Some(Asked::TgsFullEarly),
             _ => None,
         }
     }
 
-    /// The octets of every request.
-    fn request(self) -> &'static [u8] {
+    /// The octets of a request, with an authenticator of these microseconds where each has its own.
+    fn request(self, alloc: Global, cusec: u32) -> Result<Vec<u8>, AllocError> {
         match self {
-            Asked::As => REQUEST.as_slice(),
-            Asked::AsPreauth => WITH_TIMESTAMP.as_slice(),
+            Asked::As => Vec::from_slice(alloc, REQUEST),
+            Asked::AsPreauth => Vec::from_slice(alloc, WITH_TIMESTAMP),
+            Asked::Tgs | Asked::TgsFull | Asked::TgsFullEarly => tgs_req(alloc, cusec),
+            Asked::TgsRepeat => tgs_req(alloc, ANSWERED.start),
+        }
+    }
+
+    /// The microseconds of the authenticators that are remembered beforehand.
+    fn remembered(self) -> Range<u32> {
+        match self {
+            Asked::TgsFull => 400_000..460_000,
+            Asked::TgsFullEarly => 600_000..660_000,
+            Asked::As | Asked::AsPreauth | Asked::Tgs | Asked::TgsRepeat => 0..0,
+        }
+    }
+
+    /// The first octet of a reply with a ticket: the tag of an AS-REP or a TGS-REP.
+    fn ticket_tag(self) -> u8 {
+        match self {
+            Asked::As | Asked::AsPreauth => 0x6b,
+            Asked::Tgs | Asked::TgsRepeat | Asked::TgsFull | Asked::TgsFullEarly => 0x6d,
         }
     }
 }
@@ -85,21 +121,75 @@ fn answer_all(rt: &HostRuntime, kdc: &mut Kdc, asked: Asked) -> io::Result<ExitC
     let Some(at) = Moment::new(MIDNIGHT, 0) else {
         return Ok(ExitCode::from(FAULT));
     };
-    let mut len = 0;
+    remember(rt.alloc(), kdc, at, asked)?;
+    let requests = requests(rt.alloc(), asked)?;
     let start = rt.thread_cpu_time()?;
-    for _ in 0..CALLS {
-        len = answer(rt.alloc(), kdc, at, asked.request())?;
-    }
+    let len = answer_each(rt.alloc(), kdc, at, asked, &requests)?;
     let took = rt.thread_cpu_time()?.saturating_sub(start);
+    if len == 0 {
+        println!(rt; "a reply bears no ticket")?;
+        return Ok(ExitCode::from(FAULT));
+    }
     let nanoseconds = took.as_nanos() / u128::from(CALLS);
     println!(rt; "{nanoseconds} ns a call ({ROWS} rows, a reply of {len} octets)")?;
     Ok(ExitCode::SUCCESS)
 }
 
-/// How many octets the reply has; no reply has none.
-fn answer(alloc: Global, kdc: &mut Kdc, at: Moment, request: &[u8]) -> Result<usize, AllocError> {
+/// Has the requests answered whose authenticators are to be remembered beforehand.
+fn remember(alloc: Global, kdc: &mut Kdc, at: Moment, asked: Asked) -> Result<(), AllocError> {
+    for cusec in asked.remembered() {
+        let request = tgs_req(alloc, cusec)?;
+        let _ = answer(alloc, kdc, at, asked, &request)?;
+    }
+    Ok(())
+}
+
+/// All requests that are measured.
+fn requests(alloc: Global, asked: Asked) -> Result<Vec<Vec<u8>>, AllocError> {
+    let mut requests = Vec::with_capacity(alloc, CALLS as usize)?;
+    for cusec in ANSWERED {
+        requests.push(asked.request(alloc, cusec)?)?;
+    }
+    Ok(requests)
+}
+
+/// How many octets the last reply has; 0 as soon as a reply bears no ticket.
+fn answer_each(
+    alloc: Global,
+    kdc: &mut Kdc,
+    at: Moment,
+    asked: Asked,
+    requests: &[Vec<u8>],
+) -> Result<usize, AllocError> {
+    let mut len = 0;
+    for request in requests {
+        len = answer(alloc, kdc, at, asked, request)?;
+        if len == 0 {
+            return Ok(0);
+        }
+    }
+    Ok(len)
+}
+
+/// How many octets the reply has; 0 where it bears no ticket.
+fn answer(
+    alloc: Global,
+    kdc: &mut Kdc,
+    at: Moment,
+    asked: Asked,
+    request: &[u8],
+) -> Result<usize, AllocError> {
     let reply = kdc.handle(alloc, at, &[7; 64], ROOM, request)?;
-    Ok(reply.map_or(0, |octets| octets.len()))
+    Ok(reply.map_or(0, |octets| ticket_len(&octets, asked.ticket_tag())))
+}
+
+/// The length of a reply that begins with this tag, else 0.
+fn ticket_len(octets: &[u8], tag: u8) -> usize {
+    if octets.first() == Some(&tag) {
+        octets.len()
+    } else {
+        0
+    }
 }
 
 /// A KDC of `A.B` with its rows and the client `u`.
@@ -108,7 +198,7 @@ fn opened(alloc: Global, asked: Asked) -> Option<Kdc> {
     let mut database = Database::read(alloc, &text).ok()?;
     database.apply(alloc, &client(alloc)?).ok()?;
     database.apply(alloc, &policy(alloc, asked)?).ok()?;
-    let limits = Limits::new(64, 0, 0, 36_000, 0)?;
+    let limits = Limits::new(65_536, 0, 0, 36_000, 0)?;
     Kdc::open(alloc, database, limits, Opening::First).ok()
 }
 

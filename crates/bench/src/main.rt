@@ -7,6 +7,7 @@ ghost use Rattle.std.specs.Prelude.{◌<◌};
 mod exchanges;
 mod messages;
 mod rows;
+mod tgs_requests;
 
 use crate::exchanges::{Asked, measure_exchange};
 use crate::messages::{measure_error, read_request};
@@ -20,7 +21,7 @@ use std::time::CpuClock;
 use std::{env, io};
 
 const USAGE: &str =
-    "usage: bench block | cts | pbkdf2-sha1 | pbkdf2-sha384 | seal-TYPE | string-TYPE | read-request | write-error | as | as-preauth | read-rows | write-rows, for TYPE 17 to 20";
+    "usage: bench block | cts | pbkdf2-sha1 | pbkdf2-sha384 | seal-TYPE | string-TYPE | read-request | write-error | as | as-preauth | tgs | tgs-repeat | tgs-full | tgs-full-early | read-rows | write-rows, for TYPE 17 to 20";
 
 /// The status of a fault of the command line.
 pub(crate) const FAULT: u8 = 2;
