@@ -2,3 +2,6 @@ pub mod Frame
 pub mod Known
 pub mod Reading
 pub mod Runs
+pub mod Changes
+pub mod Isolation
+pub mod Tickets

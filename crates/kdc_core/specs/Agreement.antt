@@ -19,7 +19,7 @@ use Rattle.kdc_state.specs.State.{memory_of}
 use Rattle.tgs_opening.specs.Opening.{opened}
 use Rattle.kdc_core.specs.Answer.{answer, keep, next}
 use Rattle.kdc_core.specs.Request.{Request, request_of}
-use Rattle.kdc_core.specs.View.{Agrees, client_in, client_of, components_of, memory_named, named, named_by, named_in, row_of, ticket_view, view, view_of}
+use Rattle.kdc_core.specs.View.{Agrees, client_in, client_of, components_of, memory_named, named, named_by, row_of, ticket_view, view, view_of}
 
 same_row : (state other : State) (c : Option Components) → IfSome c (λ c. map.get other.database.rows c ≡ map.get state.database.rows c) → row_of other c ≡ row_of state c
 same_row state other (Some c) h = h

@@ -6,3 +6,5 @@ pub mod After
 pub mod RequestLaws
 pub mod Run
 pub mod PresentedLaws
+pub mod Struck
+pub mod Tickets

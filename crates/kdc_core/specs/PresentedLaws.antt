@@ -18,7 +18,7 @@ use Rattle.kdc_state.specs.declared.state.State.{State}
 use Rattle.kdc_core.specs.After.{after, stamped_of}
 use Rattle.kdc_core.specs.Answer.{Answer, answer_in, answer_presented, keep, stamped, OpensIn, OpensPresented, SpelledIn, SpelledPresented}
 use Rattle.kdc_core.specs.declared.mark.Mark.{Mark}
-use Rattle.kdc_core.specs.View.{client_in, client_of, components_of, names_presented, presented_view, ticket_view, view_in, view_of}
+use Rattle.kdc_core.specs.View.{client_in, client_of, components_of, presented_view, ticket_view, view_in, view_of}
 
 -- ---- what is presented has the client of the ticket that was opened
 
@@ -45,14 +45,14 @@ by_ticket v message (Err refusal) p e = absurd cc
 -- ---- so the answer is made from the view of that client
 
 module _ (state : State) (message : Received) (p : Presented) (is : presented (ticket_view state message) message ≡ Ok p) where
-  client_is : client_in state Tgs message ≡ Some p.ticket.cname.components
+  pub client_is : client_in state Tgs message ≡ Some p.ticket.cname.components
   client_is = by_ticket (ticket_view state message) message (opened (ticket_view state message) message) p is
 
   view_is : view_in state Tgs message ≡ presented_view state message p
   view_is = ap (λ c. view_of state (record { client = c; service = components_of message.body.value.sname })) client_is
 
   module _ (at : Moment) (words bytes : List ℕ) (room : ℕ) where
-    answer_is : answer_in (view_in state Tgs message) at words room bytes Tgs message ≡ answer_presented (presented_view state message p) at words room bytes message (Ok p)
+    pub answer_is : answer_in (view_in state Tgs message) at words room bytes Tgs message ≡ answer_presented (presented_view state message p) at words room bytes message (Ok p)
     answer_is = λ i. answer_presented (view_is i) at words room bytes message (is i)
 
     module _ {A E : Type 0} (r : Result A E) where

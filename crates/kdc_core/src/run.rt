@@ -1,6 +1,8 @@
 //! Runs of a key distribution centre: events in their order.
 ghost use Rattle.std.specs.Prelude.{◌≡◌, ◌<◌, ◌++◌, ◌∷◌, [], length, map, take, IfOk, IfErr, IfSome, IsOk, OnOk, OnErr, option_map};
 ghost use Rattle.kdc_core.specs.Run.{after_change, after_event, event_reply, replies, run};
+ghost use Rattle.kdc_core.specs.Struck.{Isolation};
+ghost use Rattle.kdc_core.specs.Tickets.{OneTicket};
 ghost use Rattle.principals.specs.Change.{refusal};
 
 use crate::kdc::Kdc;
@@ -63,6 +65,13 @@ impl Kdc {
         ensures done { IfErr result (λ fault. fault.done < length events.now) }
         ensures done_replies { IfErr result (λ fault. map (option_map (λ octets. octets.items)) fault.replies.items ≡ replies self.old (take fault.done events.now)) }
         ensures done_state { IfErr result (λ fault. self.new ≡ run self.old (take fault.done events.now)) }
+        // What others ask, and what is changed of others, never changes what a client gets.
+        ensures isolation { Isolation self.old events.now }
+        // No authenticator buys two different tickets, through restarts too.
+        ensures one_ticket { OneTicket self.old events.now }
+        // Both hold of the events that are done, too.
+        ensures done_isolation { IfErr result (λ fault. Isolation self.old (take fault.done events.now)) }
+        ensures done_one_ticket { IfErr result (λ fault. OneTicket self.old (take fault.done events.now)) }
     {
         let mut replies = Vec::new(alloc);
         for event in events {

@@ -1,5 +1,7 @@
-use Rattle.std.proofs.Common.{◌∙◌}
+use Rattle.std.proofs.Common.{take, ◌∙◌}
+use Rattle.kdc_core.proofs.Isolation.{isolation}
 use Rattle.kdc_core.proofs.Runs.{one_more, stopped}
+use Rattle.kdc_core.proofs.Tickets.{one_ticket}
 use Rattle.kdc_core.proofs.kdc.Kdc.run.Goals as goal
 
 pub returns-in-Err-clause-done : goal.returns-in-Err-clause-done
@@ -13,3 +15,21 @@ returns-in-Err-clause-done_state c = (stopped _ c.loop-event.invariant c.loop-ev
 
 pub loop-event-preserved : goal.loop-event-preserved
 loop-event-preserved c = one_more c.loop-event.invariant c.event-item.result c.loop-event-test.true c.event-item.is c.in_default.ensures.reply c.in_default.ensures.state
+
+pub returns-clause-isolation : goal.returns-clause-isolation
+returns-clause-isolation c = isolation c.args.self.now c.args.events.now
+
+pub returns-clause-one_ticket : goal.returns-clause-one_ticket
+returns-clause-one_ticket c = one_ticket c.args.self.now c.args.events.now
+
+pub returns-in-Err-clause-isolation : goal.returns-in-Err-clause-isolation
+returns-in-Err-clause-isolation c = isolation c.args.self.now c.args.events.now
+
+pub returns-in-Err-clause-one_ticket : goal.returns-in-Err-clause-one_ticket
+returns-in-Err-clause-one_ticket c = one_ticket c.args.self.now c.args.events.now
+
+pub returns-in-Err-clause-done_isolation : goal.returns-in-Err-clause-done_isolation
+returns-in-Err-clause-done_isolation c = isolation c.args.self.now (take c.len.result c.args.events.now)
+
+pub returns-in-Err-clause-done_one_ticket : goal.returns-in-Err-clause-done_one_ticket
+returns-in-Err-clause-done_one_ticket c = one_ticket c.args.self.now (take c.len.result c.args.events.now)

@@ -1,0 +1,239 @@
+-- What is left of a run for one client gets it the same replies, from any state that agrees for it.
+use Rattle.std.proofs.Common.{◌≡◌, ◌≢◌, ℕ, Bool, true, false, cond, ◌||◌, if◌then◌else◌, IsTrue, IfSome, ◌⊎◌, inl, inr, List, [], ◌∷◌, Option, Some, None, is_eq, refl, ap, sym, subst, ◌∙◌}
+use Rattle.std.specs.Cmp.{tied_itself}
+use Rattle.std.specs.FinMap as map
+use Rattle.std.specs.FinMap.{get-insert, get-empty}
+use Rattle.std.specs.Option.{unwrap_or}
+use Rattle.std.specs.Ordering.{eq_by_cmp}
+use Rattle.krb_fields.specs.Name.{Components, name_cmp, name_total, same_name}
+use Rattle.krb_fields.specs.declared.moment.Moment.{Moment}
+use Rattle.principals.specs.Change.{changed, refusal}
+use Rattle.principals.specs.Database.{ticket_granter}
+use Rattle.principals.specs.declared.change.Change.{Change as PrincipalChange}
+use Rattle.principals.specs.declared.change.ChangeFault.{ChangeFault}
+use Rattle.replay.specs.declared.keep.Kept.{Kept}
+use Rattle.replay.specs.declared.memory.Memory.{Memory}
+use Rattle.kdc_state.specs.Memory.{opened_memory}
+use Rattle.kdc_state.specs.State.{memory_of, restarted}
+use Rattle.kdc_state.specs.declared.opening.Opening.TheVariants.{Restart as Restarted}
+use Rattle.kdc_state.specs.declared.state.State.{State}
+use Rattle.kdc_core.proofs.Changes.{other_row, realm_stays, same_refusal, same_row_after}
+use Rattle.kdc_core.proofs.Frame.{database_kept, limits_kept, other_kept}
+use Rattle.kdc_core.specs.Agreement.{names_agree, view_agrees}
+use Rattle.kdc_core.specs.Answer.{answer, keep, next}
+use Rattle.kdc_core.specs.Run.{after_change, after_event, run, unless_refused}
+use Rattle.kdc_core.specs.Struck.{AgreesFor, Isolation, Names, ServicesWithin, is_client, is_request, is_request_of, principal_of, replies_to, strike}
+use Rattle.kdc_core.specs.View.{Agrees, named, view}
+use Rattle.kdc_core.specs.declared.run.Event.{Event}
+use Rattle.kdc_core.specs.declared.run.Event.TheVariants.{Request, Change, Restart}
+
+-- ---- names
+
+is_named : (c : Components) (o : Option Components) → is_client c o ≡ true → o ≡ Some c
+is_named c (Some name) e = ap Some (sym (same_name c name e))
+is_named c None e = absurd cc
+
+itself : (c : Components) → eq_by_cmp name_cmp c c ≡ true
+itself c = ap is_eq (tied_itself name_total c)
+
+is_not_named : (c : Components) (o : Option Components) → is_client c o ≡ false → o ≢ Some c
+is_not_named c o e q =
+    let same : is_client c o ≡ true = ap (is_client c) q ∙ itself c in
+    absurd cc
+
+either : (a b : Bool) → (a || b) ≡ true → (a ≡ true) ⊎ (b ≡ true)
+either true b e = inl refl
+either false b e = inr e
+
+neither : (a b : Bool) → (a || b) ≡ false → (a ≡ false) × (b ≡ false)
+neither true b e = absurd cc
+neither false b e = (refl, e)
+
+not_both : (b : Bool) → b ≡ true → b ≡ false → ⊥
+not_both b t f = cc
+
+-- ---- memories
+
+memory_kept : (state : State) (c : Components) (m : Option (Memory Kept)) → memory_of (keep state (Some c) m) c ≡ unwrap_or m (memory_of state c)
+memory_kept state c (Some m) =
+    ap (λ o. unwrap_or o (opened_memory state.opening)) (get-insert name_total state.memories c m c ∙ ap (λ b. cond b (Some m) (map.get state.memories c)) (itself c))
+memory_kept state c None = refl
+
+memory_restarted : (state : State) (at : Moment) (c : Components) → memory_of (restarted state at) c ≡ opened_memory (Restarted at)
+memory_restarted state at c = ap (λ o. unwrap_or o (opened_memory (Restarted at))) (get-empty name_cmp c)
+
+module _ (c : Components) (S : Names) where
+  -- ---- requests
+
+  -- whatever is kept on both sides, where c's memory is then the same
+  kept_agrees : (state other : State) → AgreesFor c S state other → (n o : Option Components) (m k : Option (Memory Kept)) → memory_of (keep other o k) c ≡ memory_of (keep state n m) c
+      → AgreesFor c S (keep state n m) (keep other o k)
+  kept_agrees state other a n o m k same = record {
+    realm = ap (λ d. d.realm) (database_kept other o k) ∙ a.realm ∙ sym (ap (λ d. d.realm) (database_kept state n m));
+    limits = limits_kept other o k ∙ a.limits ∙ sym (limits_kept state n m);
+    row = ap (λ d. map.get d.rows c) (database_kept other o k) ∙ a.row ∙ sym (ap (λ d. map.get d.rows c) (database_kept state n m));
+    memory = same;
+    rows = λ name within. ap (λ d. map.get d.rows name) (database_kept other o k) ∙ a.rows name within ∙ sym (ap (λ d. map.get d.rows name) (database_kept state n m));
+  }
+
+  service_agrees : (state other : State) → AgreesFor c S state other → (o : Option Components) → IfSome o (λ service. IsTrue (S service)) → IfSome o (λ s. map.get other.database.rows s ≡ map.get state.database.rows s)
+  service_agrees state other a (Some service) within = a.rows service within
+  service_agrees state other a None within = tt
+
+  module _ (state other : State) (at : Moment) (words : List ℕ) (room : ℕ) (bytes : List ℕ) (a : AgreesFor c S state other) where
+    -- the request of another client is struck out
+    other_request : is_client c (named state bytes).client ≡ false → AgreesFor c S (next state at words room bytes) other
+    other_request apart =
+        let kept = (answer (view state bytes) at words room bytes).kept in
+        kept_agrees state other a (named state bytes).client None kept None (a.memory ∙ sym (other_kept state (named state bytes).client kept c (is_not_named c (named state bytes).client apart)))
+
+    -- the states agree at what a request of c names
+    agrees_at : IsTrue (S (ticket_granter state.database.realm)) → (named state bytes).client ≡ Some c → IfSome (named state bytes).service (λ service. IsTrue (S service)) → Agrees state other bytes
+    agrees_at granter is within = record {
+      realm = a.realm;
+      limits = a.limits;
+      granter = a.rows (ticket_granter state.database.realm) granter;
+      client = subst (λ o. IfSome o (λ n. (map.get other.database.rows n ≡ map.get state.database.rows n) × (memory_of other n ≡ memory_of state n))) (sym is) (a.row, a.memory);
+      service = service_agrees state other a (named state bytes).service within;
+    }
+
+    own_memory : (named state bytes).client ≡ Some c → Agrees state other bytes → memory_of (next other at words room bytes) c ≡ memory_of (next state at words room bytes) c
+    own_memory is agrees =
+        let kept : (answer (view other bytes) at words room bytes).kept ≡ (answer (view state bytes) at words room bytes).kept = ap (λ v. (answer v at words room bytes).kept) (view_agrees state other bytes agrees) in
+        let client : (named other bytes).client ≡ Some c = ap (λ names. names.client) (names_agree state other bytes agrees) ∙ is in
+        ap (λ o. memory_of (keep other o (answer (view other bytes) at words room bytes).kept) c) client
+        ∙ memory_kept other c (answer (view other bytes) at words room bytes).kept
+        ∙ (λ i. unwrap_or (kept i) (a.memory i))
+        ∙ sym (memory_kept state c (answer (view state bytes) at words room bytes).kept)
+        ∙ sym (ap (λ o. memory_of (keep state o (answer (view state bytes) at words room bytes).kept) c) is)
+
+    -- a request of c changes both alike
+    own_request : (named state bytes).client ≡ Some c → Agrees state other bytes → AgreesFor c S (next state at words room bytes) (next other at words room bytes)
+    own_request is agrees =
+        kept_agrees state other a (named state bytes).client (named other bytes).client (answer (view state bytes) at words room bytes).kept (answer (view other bytes) at words room bytes).kept
+        (own_memory is agrees)
+
+    same_reply : Agrees state other bytes → (answer (view other bytes) at words room bytes).reply ≡ (answer (view state bytes) at words room bytes).reply
+    same_reply agrees = ap (λ v. (answer v at words room bytes).reply) (view_agrees state other bytes agrees)
+
+  -- ---- changes
+
+  module _ (state other : State) (change : PrincipalChange) (a : AgreesFor c S state other) where
+    -- both have the same row of a name that is c or in S
+    same_row : (eq_by_cmp name_cmp c (principal_of change) || S (principal_of change)) ≡ true → map.get other.database.rows (principal_of change) ≡ map.get state.database.rows (principal_of change)
+    same_row left = elim (either (eq_by_cmp name_cmp c (principal_of change)) (S (principal_of change)) left) [
+      | inl same ↦ subst (λ n. map.get other.database.rows n ≡ map.get state.database.rows n) (same_name c (principal_of change) same) a.row
+      | inr within ↦ a.rows (principal_of change) within
+    ]
+
+    changed_alike : map.get other.database.rows (principal_of change) ≡ map.get state.database.rows (principal_of change)
+        → AgreesFor c S (record state { database = changed state.database change }) (record other { database = changed other.database change })
+    changed_alike own = record {
+      realm = realm_stays other.database change ∙ a.realm ∙ sym (realm_stays state.database change);
+      limits = a.limits;
+      row = same_row_after state.database other.database change c own a.row;
+      memory = a.memory;
+      rows = λ name within. same_row_after state.database other.database change name own (a.rows name within);
+    }
+
+    alike_unless : (fault : Option ChangeFault) → map.get other.database.rows (principal_of change) ≡ map.get state.database.rows (principal_of change)
+        → AgreesFor c S (unless_refused fault state (record state { database = changed state.database change })) (unless_refused fault other (record other { database = changed other.database change }))
+    alike_unless (Some fault) own = a
+    alike_unless None own = changed_alike own
+
+    -- a change of such a name is refused in both or in neither, and changes both alike
+    own_change : (eq_by_cmp name_cmp c (principal_of change) || S (principal_of change)) ≡ true → AgreesFor c S (after_change state change) (after_change other change)
+    own_change left =
+        let own = same_row left in
+        let refused : refusal other.database change ≡ refusal state.database change = same_refusal state.database other.database change a.realm own in
+        subst (λ fault. AgreesFor c S (after_change state change) (unless_refused fault other (record other { database = changed other.database change }))) (sym refused)
+        (alike_unless (refusal state.database change) own)
+
+    apart_from : (name : Components) → IsTrue (S name) → S (principal_of change) ≡ false → eq_by_cmp name_cmp name (principal_of change) ≡ false
+    apart_from name within without = by_test (eq_by_cmp name_cmp name (principal_of change)) refl
+      where
+        by_test : (b : Bool) → eq_by_cmp name_cmp name (principal_of change) ≡ b → b ≡ false
+        by_test true same = absurd (not_both (S name) within (ap S (same_name name (principal_of change) same) ∙ without))
+        by_test false apart = refl
+
+    changed_elsewhere : eq_by_cmp name_cmp c (principal_of change) ≡ false → S (principal_of change) ≡ false → AgreesFor c S (record state { database = changed state.database change }) other
+    changed_elsewhere apart without = record {
+      realm = a.realm ∙ sym (realm_stays state.database change);
+      limits = a.limits;
+      row = a.row ∙ sym (other_row state.database change c apart);
+      memory = a.memory;
+      rows = λ name within. a.rows name within ∙ sym (other_row state.database change name (apart_from name within without));
+    }
+
+    elsewhere_unless : (fault : Option ChangeFault) → eq_by_cmp name_cmp c (principal_of change) ≡ false → S (principal_of change) ≡ false
+        → AgreesFor c S (unless_refused fault state (record state { database = changed state.database change })) other
+    elsewhere_unless (Some fault) apart without = a
+    elsewhere_unless None apart without = changed_elsewhere apart without
+
+    -- a change of another name is struck out
+    other_change : (eq_by_cmp name_cmp c (principal_of change) || S (principal_of change)) ≡ false → AgreesFor c S (after_change state change) other
+    other_change struck =
+        let both = neither (eq_by_cmp name_cmp c (principal_of change)) (S (principal_of change)) struck in
+        elsewhere_unless (refusal state.database change) both.0 both.1
+
+  -- ---- restarts
+
+  both_restart : (state other : State) (at : Moment) → AgreesFor c S state other → AgreesFor c S (restarted state at) (restarted other at)
+  both_restart state other at a = record {
+    realm = a.realm;
+    limits = a.limits;
+    row = a.row;
+    memory = memory_restarted other at c ∙ sym (memory_restarted state at c);
+    rows = a.rows;
+  }
+
+  -- ---- runs
+
+  realm_unless : (state : State) (change : PrincipalChange) (fault : Option ChangeFault) → (unless_refused fault state (record state { database = changed state.database change })).database.realm ≡ state.database.realm
+  realm_unless state change (Some fault) = refl
+  realm_unless state change None = realm_stays state.database change
+
+  realm_after : (state : State) (event : Event) → (after_event state event).database.realm ≡ state.database.realm
+  realm_after state (Request at words room request) = ap (λ d. d.realm) (database_kept state (named state request).client (answer (view state request) at words room request).kept)
+  realm_after state (Change change) = realm_unless state change (refusal state.database change)
+  realm_after state (Restart at) = refl
+
+  still_granted : (state : State) (event : Event) → IsTrue (S (ticket_granter state.database.realm)) → IsTrue (S (ticket_granter (after_event state event).database.realm))
+  still_granted state event granter = subst (λ realm. IsTrue (S (ticket_granter realm))) (sym (realm_after state event)) granter
+
+  pub isolated : (events : List Event) (state other : State) → IsTrue (S (ticket_granter state.database.realm)) → ServicesWithin c S state events → AgreesFor c S state other
+      → (replies_to is_request other (strike c S state events) ≡ replies_to (is_request_of c) state events) × AgreesFor c S (run state events) (run other (strike c S state events))
+  isolated [] state other granter within a = (refl, a)
+  isolated (Request at words room bytes ∷ events) state other granter within a =
+      go (λ t b. isolated events (next state at words room bytes) t (still_granted state (Request at words room bytes) granter) within.1 b) (is_client c (named state bytes).client) refl
+    where
+      go : ((t : State) → AgreesFor c S (next state at words room bytes) t
+          → (replies_to is_request t (strike c S (next state at words room bytes) events) ≡ replies_to (is_request_of c) (next state at words room bytes) events)
+          × AgreesFor c S (run (next state at words room bytes) events) (run t (strike c S (next state at words room bytes) events)))
+          → (b : Bool) → is_client c (named state bytes).client ≡ b
+          → (replies_to is_request other (if b then Request at words room bytes ∷ strike c S (next state at words room bytes) events else strike c S (next state at words room bytes) events)
+          ≡ (if b then (answer (view state bytes) at words room bytes).reply ∷ replies_to (is_request_of c) (next state at words room bytes) events else replies_to (is_request_of c) (next state at words room bytes) events))
+          × AgreesFor c S (run (next state at words room bytes) events) (run other (if b then Request at words room bytes ∷ strike c S (next state at words room bytes) events else strike c S (next state at words room bytes) events))
+      go later true p =
+          let is = is_named c (named state bytes).client p in
+          let agrees = agrees_at state other at words room bytes a granter is (within.0 p) in
+          let r = later (next other at words room bytes) (own_request state other at words room bytes a is agrees) in
+          (λ i. same_reply state other at words room bytes a agrees i ∷ r.0 i, r.1)
+      go later false p = later other (other_request state other at words room bytes a p)
+  isolated (Change change ∷ events) state other granter within a =
+      go (λ t b. isolated events (after_change state change) t (still_granted state (Change change) granter) within.1 b) (eq_by_cmp name_cmp c (principal_of change) || S (principal_of change)) refl
+    where
+      go : ((t : State) → AgreesFor c S (after_change state change) t
+          → (replies_to is_request t (strike c S (after_change state change) events) ≡ replies_to (is_request_of c) (after_change state change) events)
+          × AgreesFor c S (run (after_change state change) events) (run t (strike c S (after_change state change) events)))
+          → (b : Bool) → (eq_by_cmp name_cmp c (principal_of change) || S (principal_of change)) ≡ b
+          → (replies_to is_request other (if b then Change change ∷ strike c S (after_change state change) events else strike c S (after_change state change) events)
+          ≡ replies_to (is_request_of c) (after_change state change) events)
+          × AgreesFor c S (run (after_change state change) events) (run other (if b then Change change ∷ strike c S (after_change state change) events else strike c S (after_change state change) events))
+      go later true p = later (after_change other change) (own_change state other change a p)
+      go later false p = later other (other_change state other change a p)
+  isolated (Restart at ∷ events) state other granter within a =
+      isolated events (restarted state at) (restarted other at) granter within.1 (both_restart state other at a)
+
+pub isolation : (state : State) (events : List Event) → Isolation state events
+isolation state events c S other granter within a = isolated c S events state other granter within a

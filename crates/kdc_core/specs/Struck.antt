@@ -1,0 +1,88 @@
+-- Struck runs: what is left of a run for one client, when what others ask and change is struck out of it.
+use Rattle.std.specs.Prelude.{◌≡◌, ℕ, Bool, true, false, ◌||◌, if◌then◌else◌, IsTrue, IfSome, ⊤, List, [], ◌∷◌, Option, Some, None}
+use Rattle.std.specs.FinMap as map
+use Rattle.std.specs.Ordering.{eq_by_cmp}
+use Rattle.krb_fields.specs.Name.{Components, name_cmp}
+use Rattle.principals.specs.Database.{ticket_granter}
+use Rattle.principals.specs.declared.change.Change.{Change as PrincipalChange}
+use Rattle.principals.specs.declared.change.Change.TheVariants.{Add, Remove, NewKeys, DropKeys, SetPolicy}
+use Rattle.kdc_state.specs.State.{memory_of}
+use Rattle.kdc_state.specs.declared.state.State.{State}
+use Rattle.kdc_core.specs.Run.{after_event, event_reply, run}
+use Rattle.kdc_core.specs.View.{named}
+use Rattle.kdc_core.specs.declared.run.Event.{Event}
+use Rattle.kdc_core.specs.declared.run.Event.TheVariants.{Request, Change, Restart}
+
+-- a set of names, as a test
+abbrev pub Names : Type 0
+Names = Components → Bool
+
+-- the principal that a change is about
+abbrev pub principal_of : PrincipalChange → Components
+principal_of (Add name keys) = name.components
+principal_of (Remove name) = name.components
+principal_of (NewKeys name keys) = name.components
+principal_of (DropKeys name version) = name.components
+principal_of (SetPolicy name policy) = name.components
+
+abbrev pub is_client : Components → Option Components → Bool
+is_client c (Some name) = eq_by_cmp name_cmp c name
+is_client c None = false
+
+abbrev pub is_request : State → Event → Bool
+is_request state (Request at words room request) = true
+is_request state (Change change) = false
+is_request state (Restart at) = false
+
+-- a request whose named client is c
+abbrev pub is_request_of : Components → State → Event → Bool
+is_request_of c state (Request at words room request) = is_client c (named state request).client
+is_request_of c state (Change change) = false
+is_request_of c state (Restart at) = false
+
+-- whether an event is left for the client c, where the rows of S count: a request of c, a change of c's row or of one of
+-- S, and a restart
+abbrev pub is_left : Components → Names → State → Event → Bool
+is_left c S state (Request at words room request) = is_client c (named state request).client
+is_left c S state (Change change) = eq_by_cmp name_cmp c (principal_of change) || S (principal_of change)
+is_left c S state (Restart at) = true
+
+-- the events that are left, each judged at its place in the run
+abbrev pub strike : Components → Names → State → List Event → List Event
+strike c S state [] = []
+strike c S state (event ∷ events) =
+    if is_left c S state event then event ∷ strike c S (after_event state event) events else strike c S (after_event state event) events
+
+-- the replies of a run to those events that pass a test at their places, in order
+abbrev pub replies_to : (State → Event → Bool) → State → List Event → List (Option (List ℕ))
+replies_to test state [] = []
+replies_to test state (event ∷ events) =
+    if test state event then event_reply state event ∷ replies_to test (after_event state event) events else replies_to test (after_event state event) events
+
+-- the service that an event names, where it is a request of c, is in S
+abbrev pub NamesWithin : Components → Names → State → Event → Type 0
+NamesWithin c S state (Request at words room request) = IsTrue (is_client c (named state request).client) → IfSome (named state request).service (λ service. IsTrue (S service))
+NamesWithin c S state (Change change) = ⊤
+NamesWithin c S state (Restart at) = ⊤
+
+-- each service that a request of c names at its place in the run is in S
+abbrev pub ServicesWithin : Components → Names → State → List Event → Type 0
+ServicesWithin c S state [] = ⊤
+ServicesWithin c S state (event ∷ events) = NamesWithin c S state event × ServicesWithin c S (after_event state event) events
+
+-- a second state has the same realm and limits, and agrees on c's row and memory, and on the rows of S
+pub record AgreesFor (c : Components) (S : Names) (state other : State) : Type 0 where
+  pub realm : other.database.realm ≡ state.database.realm
+  pub limits : other.limits ≡ state.limits
+  pub row : map.get other.database.rows c ≡ map.get state.database.rows c
+  pub memory : memory_of other c ≡ memory_of state c
+  pub rows : (name : Components) → IsTrue (S name) → map.get other.database.rows name ≡ map.get state.database.rows name
+
+-- The replies to c's requests are, in order, those of the struck run from any second state that agrees for c, and the two
+-- agree for c in the end: for every set S of names that holds the ticket-granting service and each service that c's
+-- requests name. No moment has to follow another.
+abbrev pub Isolation : State → List Event → Type 0
+Isolation state events =
+    (c : Components) (S : Names) (other : State) → IsTrue (S (ticket_granter state.database.realm)) → ServicesWithin c S state events → AgreesFor c S state other
+    → (replies_to is_request other (strike c S state events) ≡ replies_to (is_request_of c) state events)
+    × AgreesFor c S (run state events) (run other (strike c S state events))

@@ -1,0 +1,63 @@
+-- The tickets that are issued in a run, each with the time of the authenticator that bought it.
+use Rattle.std.specs.Prelude.{ℕ, ℤ, ◌≤ℤ◌, ◌&&◌, if◌then◌else◌, ⊤, List, [], ◌∷◌, Option, Some, None}
+use Rattle.std.specs.Result.{result_ok}
+use Rattle.std.specs.Ordering.{eq_by_cmp}
+use Rattle.krb_fields.specs.Name.{Components, name_cmp}
+use Rattle.krb_types.specs.KdcReq.{Received}
+use Rattle.krb_types.specs.declared.kdc_req.Exchange.{Exchange}
+use Rattle.krb_types.specs.declared.kdc_req.Exchange.TheVariants.{As, Tgs}
+use Rattle.replay.specs.Run.{collected, OneForEach}
+use Rattle.replay.specs.Stamp.{Stamp}
+use Rattle.tgs_exchange.specs.Answer.{bears_ticket, stamp_of}
+use Rattle.tgs_opening.specs.Opening.{presented}
+use Rattle.tgs_opening.specs.declared.presented.Presented.{Presented}
+use Rattle.kdc_state.specs.declared.state.State.{State}
+use Rattle.kdc_core.specs.Request.{Request as Read, request_of}
+use Rattle.kdc_core.specs.Run.{after_event, event_reply}
+use Rattle.kdc_core.specs.View.{ticket_view}
+use Rattle.kdc_core.specs.declared.run.Event.{Event}
+use Rattle.kdc_core.specs.declared.run.Event.TheVariants.{Request, Change, Restart}
+
+-- no restart is before this second
+abbrev pub RestartsFrom : ℤ → List Event → Type 0
+RestartsFrom now [] = ⊤
+RestartsFrom now (Request at words room request ∷ events) = RestartsFrom now events
+RestartsFrom now (Change change ∷ events) = RestartsFrom now events
+RestartsFrom now (Restart at ∷ events) = (now ≤ℤ at.sec) × RestartsFrom now events
+
+-- no restart is before the second of a request that came earlier
+abbrev pub RestartsFollow : List Event → Type 0
+RestartsFollow [] = ⊤
+RestartsFollow (Request at words room request ∷ events) = RestartsFrom at.sec events × RestartsFollow events
+RestartsFollow (Change change ∷ events) = RestartsFollow events
+RestartsFollow (Restart at ∷ events) = RestartsFollow events
+
+-- what a TGS-REQ presents, where ticket and authenticator are opened
+abbrev pub presented_in : State → Exchange → Received → Option Presented
+presented_in state As message = None
+presented_in state Tgs message = result_ok (presented (ticket_view state message) message)
+
+abbrev pub presented_by : State → Option Read → Option Presented
+presented_by state (Some request) = presented_in state request.exchange request.message
+presented_by state None = None
+
+-- a reply that bears a ticket to the client c, with the time of the authenticator
+abbrev pub ticket_by : Components → Option Presented → Option (List ℕ) → Option (Stamp × List ℕ)
+ticket_by c (Some p) (Some octets) = if eq_by_cmp name_cmp c p.ticket.cname.components && bears_ticket octets then Some (stamp_of p, octets) else None
+ticket_by c (Some p) None = None
+ticket_by c None reply = None
+
+-- the ticket that an event gets the client c by an authenticator
+abbrev pub ticket_to : Components → State → Event → Option (Stamp × List ℕ)
+ticket_to c state (Request at words room request) = ticket_by c (presented_by state (request_of request)) (event_reply state (Request at words room request))
+ticket_to c state (Change change) = None
+ticket_to c state (Restart at) = None
+
+-- those of a whole run, in order
+abbrev pub tickets_to : Components → State → List Event → List (Stamp × List ℕ)
+tickets_to c = collected after_event (ticket_to c)
+
+-- One ticket per authenticator: where two TGS-REQs of one client have authenticators with the same ctime and cusec, and
+-- both replies bear a ticket, the replies are equal.
+abbrev pub OneTicket : State → List Event → Type 0
+OneTicket state events = RestartsFollow events → (c : Components) → OneForEach (tickets_to c state events)
