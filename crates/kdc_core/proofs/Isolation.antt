@@ -21,8 +21,8 @@ use Rattle.kdc_core.proofs.Changes.{other_row, realm_stays, same_refusal, same_r
 use Rattle.kdc_core.proofs.Frame.{database_kept, limits_kept, other_kept}
 use Rattle.kdc_core.specs.Agreement.{names_agree, view_agrees}
 use Rattle.kdc_core.specs.Answer.{answer, keep, next}
-use Rattle.kdc_core.specs.Run.{after_change, after_event, run, unless_refused}
-use Rattle.kdc_core.specs.Struck.{AgreesFor, Isolation, Names, ServicesWithin, is_client, is_request, is_request_of, principal_of, replies_to, strike}
+use Rattle.kdc_core.specs.Run.{after_change, after_event, event_reply, unless_refused}
+use Rattle.kdc_core.specs.Struck.{AgreesFor, IsIsolated, Isolation, Names, NamesWithin, ServicesWithin, is_client, is_left, is_request, is_request_of, principal_of, replies_to, strike}
 use Rattle.kdc_core.specs.View.{Agrees, named, view}
 use Rattle.kdc_core.specs.declared.run.Event.{Event}
 use Rattle.kdc_core.specs.declared.run.Event.TheVariants.{Request, Change, Restart}
@@ -201,39 +201,63 @@ module _ (c : Components) (S : Names) where
   still_granted : (state : State) (event : Event) → IsTrue (S (ticket_granter state.database.realm)) → IsTrue (S (ticket_granter (after_event state event).database.realm))
   still_granted state event granter = subst (λ realm. IsTrue (S (ticket_granter realm))) (sym (realm_after state event)) granter
 
-  pub isolated : (events : List Event) (state other : State) → IsTrue (S (ticket_granter state.database.realm)) → ServicesWithin c S state events → AgreesFor c S state other
-      → (replies_to is_request other (strike c S state events) ≡ replies_to (is_request_of c) state events) × AgreesFor c S (run state events) (run other (strike c S state events))
-  isolated [] state other granter within a = (refl, a)
-  isolated (Request at words room bytes ∷ events) state other granter within a =
-      go (λ t b. isolated events (next state at words room bytes) t (still_granted state (Request at words room bytes) granter) within.1 b) (is_client c (named state bytes).client) refl
+  -- an event that is left: both run it, and give the same reply
+  record IsLeft (state other : State) (event : Event) : Type 0 where
+    pub reply : event_reply other event ≡ event_reply state event
+    pub is_own : is_request other event ≡ is_request_of c state event
+    pub agrees : AgreesFor c S (after_event state event) (after_event other event)
+
+  event_left : (state other : State) (event : Event) → IsTrue (S (ticket_granter state.database.realm)) → NamesWithin c S state event → AgreesFor c S state other → is_left c S state event ≡ true → IsLeft state other event
+  event_left state other (Request at words room bytes) granter within a left =
+      let is = is_named c (named state bytes).client left in
+      let agrees = agrees_at state other at words room bytes a granter is (within left) in
+      record { reply = same_reply state other at words room bytes a agrees; is_own = sym left; agrees = own_request state other at words room bytes a is agrees }
+  event_left state other (Change change) granter within a left = record { reply = refl; is_own = refl; agrees = own_change state other change a left }
+  event_left state other (Restart at) granter within a left = record { reply = refl; is_own = refl; agrees = both_restart state other at a }
+
+  -- an event that is struck out: no request of c, and the first state alone runs it
+  event_struck : (state other : State) (event : Event) → AgreesFor c S state other → is_left c S state event ≡ false → (is_request_of c state event ≡ false) × AgreesFor c S (after_event state event) other
+  event_struck state other (Request at words room bytes) a struck = (struck, other_request state other at words room bytes a struck)
+  event_struck state other (Change change) a struck = (refl, other_change state other change a struck)
+  event_struck state other (Restart at) a struck = absurd cc
+
+  module _ (state other : State) (event : Event) (events : List Event) where
+    with_left : is_left c S state event ≡ true → IsLeft state other event
+        → IsIsolated c S (after_event state event) (after_event other event) events (strike c S (after_event state event) events) → IsIsolated c S state other (event ∷ events) (strike c S state (event ∷ events))
+    with_left left at rest =
+        let later = strike c S (after_event state event) events in
+        subst (λ struck. IsIsolated c S state other (event ∷ events) struck) (ap (λ b. if b then event ∷ later else later) (sym left)) (record {
+          own = λ i. if at.is_own i then at.reply i ∷ rest.own i else rest.own i;
+          left = (λ i. at.reply i ∷ rest.left i)
+              ∙ ap (λ b. if b then event_reply state event ∷ replies_to (is_left c S) (after_event state event) events else replies_to (is_left c S) (after_event state event) events) (sym left);
+          afterwards = rest.afterwards;
+        })
+
+    with_struck : is_left c S state event ≡ false → is_request_of c state event ≡ false
+        → IsIsolated c S (after_event state event) other events (strike c S (after_event state event) events) → IsIsolated c S state other (event ∷ events) (strike c S state (event ∷ events))
+    with_struck struck not_own rest =
+        let later = strike c S (after_event state event) events in
+        subst (λ l. IsIsolated c S state other (event ∷ events) l) (ap (λ b. if b then event ∷ later else later) (sym struck)) (record {
+          own = rest.own
+              ∙ ap (λ b. if b then event_reply state event ∷ replies_to (is_request_of c) (after_event state event) events else replies_to (is_request_of c) (after_event state event) events) (sym not_own);
+          left = rest.left
+              ∙ ap (λ b. if b then event_reply state event ∷ replies_to (is_left c S) (after_event state event) events else replies_to (is_left c S) (after_event state event) events) (sym struck);
+          afterwards = rest.afterwards;
+        })
+
+  isolated : (events : List Event) (state other : State) → IsTrue (S (ticket_granter state.database.realm)) → ServicesWithin c S state events → AgreesFor c S state other → IsIsolated c S state other events (strike c S state events)
+  isolated [] state other granter within a = record { own = refl; left = refl; afterwards = a }
+  isolated (event ∷ events) state other granter within a =
+      by_test (λ t agrees. isolated events (after_event state event) t (still_granted state event granter) within.1 agrees) (is_left c S state event) refl
     where
-      go : ((t : State) → AgreesFor c S (next state at words room bytes) t
-          → (replies_to is_request t (strike c S (next state at words room bytes) events) ≡ replies_to (is_request_of c) (next state at words room bytes) events)
-          × AgreesFor c S (run (next state at words room bytes) events) (run t (strike c S (next state at words room bytes) events)))
-          → (b : Bool) → is_client c (named state bytes).client ≡ b
-          → (replies_to is_request other (if b then Request at words room bytes ∷ strike c S (next state at words room bytes) events else strike c S (next state at words room bytes) events)
-          ≡ (if b then (answer (view state bytes) at words room bytes).reply ∷ replies_to (is_request_of c) (next state at words room bytes) events else replies_to (is_request_of c) (next state at words room bytes) events))
-          × AgreesFor c S (run (next state at words room bytes) events) (run other (if b then Request at words room bytes ∷ strike c S (next state at words room bytes) events else strike c S (next state at words room bytes) events))
-      go later true p =
-          let is = is_named c (named state bytes).client p in
-          let agrees = agrees_at state other at words room bytes a granter is (within.0 p) in
-          let r = later (next other at words room bytes) (own_request state other at words room bytes a is agrees) in
-          (λ i. same_reply state other at words room bytes a agrees i ∷ r.0 i, r.1)
-      go later false p = later other (other_request state other at words room bytes a p)
-  isolated (Change change ∷ events) state other granter within a =
-      go (λ t b. isolated events (after_change state change) t (still_granted state (Change change) granter) within.1 b) (eq_by_cmp name_cmp c (principal_of change) || S (principal_of change)) refl
-    where
-      go : ((t : State) → AgreesFor c S (after_change state change) t
-          → (replies_to is_request t (strike c S (after_change state change) events) ≡ replies_to (is_request_of c) (after_change state change) events)
-          × AgreesFor c S (run (after_change state change) events) (run t (strike c S (after_change state change) events)))
-          → (b : Bool) → (eq_by_cmp name_cmp c (principal_of change) || S (principal_of change)) ≡ b
-          → (replies_to is_request other (if b then Change change ∷ strike c S (after_change state change) events else strike c S (after_change state change) events)
-          ≡ replies_to (is_request_of c) (after_change state change) events)
-          × AgreesFor c S (run (after_change state change) events) (run other (if b then Change change ∷ strike c S (after_change state change) events else strike c S (after_change state change) events))
-      go later true p = later (after_change other change) (own_change state other change a p)
-      go later false p = later other (other_change state other change a p)
-  isolated (Restart at ∷ events) state other granter within a =
-      isolated events (restarted state at) (restarted other at) granter within.1 (both_restart state other at a)
+      by_test : ((t : State) → AgreesFor c S (after_event state event) t → IsIsolated c S (after_event state event) t events (strike c S (after_event state event) events))
+          → (b : Bool) → is_left c S state event ≡ b → IsIsolated c S state other (event ∷ events) (strike c S state (event ∷ events))
+      by_test later true left =
+          let at = event_left state other event granter within.0 a left in
+          with_left state other event events left at (later (after_event other event) at.agrees)
+      by_test later false struck =
+          let at = event_struck state other event a struck in
+          with_struck state other event events struck at.0 (later other at.1)
 
 pub isolation : (state : State) (events : List Event) → Isolation state events
 isolation state events c S other granter within a = isolated c S events state other granter within a

@@ -43,7 +43,7 @@ use Rattle.principals.specs.Change.{changed, refusal}
 use Rattle.principals.specs.declared.change.Change.{Change as PrincipalChange}
 use Rattle.principals.specs.declared.change.ChangeFault.{ChangeFault}
 use Rattle.kdc_core.specs.Answer.{answer_in, answer_presented, answer_to, counted, keep, stamped}
-use Rattle.kdc_core.specs.PresentedLaws.{answer_is, client_is}
+use Rattle.kdc_core.specs.PresentedLaws.{answer_is, client_is, refused_after}
 use Rattle.kdc_core.specs.Request.{Request as Read, request_of}
 use Rattle.kdc_core.specs.Run.{after_event, unless_refused}
 use Rattle.kdc_core.specs.Tickets.{OneTicket, RestartsFollow, RestartsFrom, presented_by, presented_in, ticket_by, ticket_to}
@@ -193,10 +193,6 @@ memory_kept state c name None = by_test (eq_by_cmp name_cmp c name) refl
     by_test true same = ap (memory_of state) (same_name c name same)
     by_test false apart = refl
 
-keep_none : (state : State) (o : Option Components) → keep state o None ≡ state
-keep_none state (Some name) = refl
-keep_none state None = refl
-
 module _ (c : Components) where
   -- only what happens to the client c
   abbrev for_name : Components → Option (Happening Kept) → Option (Happening Kept)
@@ -258,9 +254,7 @@ module _ (c : Components) where
       (λ i. memory_of (keep state (client_is state message p is i) (answer_is state message p is at words bytes room i).kept) c)
       ∙ moved_for state.limits.remembered state p.ticket.cname.components (answer_presented (presented_view state message p) at words room bytes message (Ok p)).kept _
       (client_moves v at words room bytes message.body.value p (first_holding (client_rules v at.sec p.ticket.authtime)))
-  presented_moves state at words room bytes message (Err refusal) is =
-      ap (λ r. memory_of (keep state (client_in state Tgs message) (answer_presented (view_in state Tgs message) at words room bytes message r).kept) c) is
-      ∙ ap (λ s. memory_of s c) (keep_none state (client_in state Tgs message))
+  presented_moves state at words room bytes message (Err refusal) is = ap (λ s. memory_of s c) (sym (refused_after state message refusal is at words bytes room))
 
   moves_in : (state : State) (at : Moment) (words : List ℕ) (room : ℕ) (bytes : List ℕ) (exchange : Exchange) (message : Received)
       → memory_of (keep state (client_in state exchange message) (answer_in (view_in state exchange message) at words room bytes exchange message).kept) c

@@ -1,5 +1,6 @@
 -- Struck runs: what is left of a run for one client, when what others ask and change is struck out of it.
-use Rattle.std.specs.Prelude.{◌≡◌, ℕ, Bool, true, false, ◌||◌, if◌then◌else◌, IsTrue, IfSome, ⊤, List, [], ◌∷◌, Option, Some, None}
+use Rattle.std.proofs.Common.{◌≡◌, ℕ, Bool, true, false, ◌||◌, if◌then◌else◌, IsTrue, IfSome, List, [], ◌∷◌, Option, Some, None, refl, ap}
+use Rattle.std.specs.Prelude.{⊤}
 use Rattle.std.specs.FinMap as map
 use Rattle.std.specs.Ordering.{eq_by_cmp}
 use Rattle.krb_fields.specs.Name.{Components, name_cmp}
@@ -8,7 +9,7 @@ use Rattle.principals.specs.declared.change.Change.{Change as PrincipalChange}
 use Rattle.principals.specs.declared.change.Change.TheVariants.{Add, Remove, NewKeys, DropKeys, SetPolicy}
 use Rattle.kdc_state.specs.State.{memory_of}
 use Rattle.kdc_state.specs.declared.state.State.{State}
-use Rattle.kdc_core.specs.Run.{after_event, event_reply, run}
+use Rattle.kdc_core.specs.Run.{after_event, event_reply, replies, run}
 use Rattle.kdc_core.specs.View.{named}
 use Rattle.kdc_core.specs.declared.run.Event.{Event}
 use Rattle.kdc_core.specs.declared.run.Event.TheVariants.{Request, Change, Restart}
@@ -53,7 +54,7 @@ strike c S state [] = []
 strike c S state (event ∷ events) =
     if is_left c S state event then event ∷ strike c S (after_event state event) events else strike c S (after_event state event) events
 
--- the replies of a run to those events that pass a test at their places, in order
+-- the replies that a run gives to those events that pass a test at their places, in order
 abbrev pub replies_to : (State → Event → Bool) → State → List Event → List (Option (List ℕ))
 replies_to test state [] = []
 replies_to test state (event ∷ events) =
@@ -78,11 +79,24 @@ pub record AgreesFor (c : Components) (S : Names) (state other : State) : Type 0
   pub memory : memory_of other c ≡ memory_of state c
   pub rows : (name : Components) → IsTrue (S name) → map.get other.database.rows name ≡ map.get state.database.rows name
 
--- The replies to c's requests are, in order, those of the struck run from any second state that agrees for c, and the two
--- agree for c in the end: for every set S of names that holds the ticket-granting service and each service that c's
--- requests name. No moment has to follow another.
+-- what a run and the struck run of a second state have to do with each other
+pub record IsIsolated (c : Components) (S : Names) (state other : State) (events struck : List Event) : Type 0 where
+  -- the replies to c's requests are, in order, those of the struck run to its requests
+  pub own : replies_to is_request other struck ≡ replies_to (is_request_of c) state events
+  -- the struck run gives all that is left the same replies, or none
+  pub left : replies other struck ≡ replies_to (is_left c S) state events
+  -- the two agree for c in the end
+  pub afterwards : AgreesFor c S (run state events) (run other struck)
+
+-- What others ask and change doesn't change what a client gets: for every client c, every set S of names that holds the
+-- ticket-granting service and each service that c's requests name, and every second state that agrees for c. No moment
+-- has to follow another.
 abbrev pub Isolation : State → List Event → Type 0
 Isolation state events =
     (c : Components) (S : Names) (other : State) → IsTrue (S (ticket_granter state.database.realm)) → ServicesWithin c S state events → AgreesFor c S state other
-    → (replies_to is_request other (strike c S state events) ≡ replies_to (is_request_of c) state events)
-    × AgreesFor c S (run state events) (run other (strike c S state events))
+    → IsIsolated c S state other events (strike c S state events)
+
+-- all replies of a run are those to whatever comes
+pub replies_to_all : (state : State) (events : List Event) → replies_to (λ state event. true) state events ≡ replies state events
+replies_to_all state [] = refl
+replies_to_all state (event ∷ events) = ap (λ l. event_reply state event ∷ l) (replies_to_all (after_event state event) events)
