@@ -46,6 +46,7 @@ use Rattle.kdc_core.specs.Answer.{answer_in, answer_presented, answer_to, counte
 use Rattle.kdc_core.specs.PresentedLaws.{answer_is, client_is, refused_after}
 use Rattle.kdc_core.specs.Request.{Request as Read, request_of}
 use Rattle.kdc_core.specs.Run.{after_event, unless_refused}
+use Rattle.kdc_core.specs.Struck.{is_client}
 use Rattle.kdc_core.specs.Tickets.{OneTicket, RestartsFollow, RestartsFrom, presented_by, presented_in, ticket_by, ticket_to}
 use Rattle.kdc_core.specs.View.{as_view, client_in, components_of, named_by, presented_view, tgs_view, ticket_view, view_in, view_of}
 use Rattle.kdc_core.specs.declared.run.Event.{Event}
@@ -281,35 +282,38 @@ module _ (c : Components) where
 
   -- ---- what is handed out is given
 
-  given_for : (limit : ℕ) (state : State) (p : Presented) (octets : List ℕ) (o : Option (Happening Kept))
-      → IfSome (handed (stamp_of p) octets) (IsGiven give limit (memory_of state p.ticket.cname.components) o)
-      → IfSome (ticket_by c (Some p) (Some octets)) (IsGiven give limit (memory_of state c) (for_name p.ticket.cname.components o))
-  given_for limit state p octets o given = by_test (eq_by_cmp name_cmp c p.ticket.cname.components) refl
+  given_for : (limit : ℕ) (state : State) (name : Components) (handed : Option (Stamp × List ℕ)) (o : Option (Happening Kept)) → IfSome handed (IsGiven give limit (memory_of state name) o)
+      → IfSome (if eq_by_cmp name_cmp c name then handed else None) (IsGiven give limit (memory_of state c) (for_name name o))
+  given_for limit state name handed o given = by_test (eq_by_cmp name_cmp c name) refl
     where
-      by_test : (b : Bool) → eq_by_cmp name_cmp c p.ticket.cname.components ≡ b
-          → IfSome (if b && bears_ticket octets then Some (stamp_of p, octets) else None) (IsGiven give limit (memory_of state c) (if b then o else None))
-      by_test true same = subst (λ n. IfSome (handed (stamp_of p) octets) (IsGiven give limit (memory_of state n) o)) (sym (same_name c p.ticket.cname.components same)) given
+      by_test : (b : Bool) → eq_by_cmp name_cmp c name ≡ b → IfSome (if b then handed else None) (IsGiven give limit (memory_of state c) (if b then o else None))
+      by_test true same = subst (λ n. IfSome handed (IsGiven give limit (memory_of state n) o)) (sym (same_name c name same)) given
       by_test false apart = tt
 
+  nothing_given : (b : Bool) (P : Stamp × List ℕ → Type 0) → IfSome (if b then None else None) P
+  nothing_given true P = tt
+  nothing_given false P = tt
+
   presented_gives : (state : State) (at : Moment) (words : List ℕ) (room : ℕ) (bytes : List ℕ) (message : Received) (r : Result Presented TgsRefusal) → presented (ticket_view state message) message ≡ r
-      → IfSome (ticket_by c (result_ok r) (answer_in (view_in state Tgs message) at words room bytes Tgs message).reply)
+      → IfSome (if is_client c (client_in state Tgs message) then ticket_by (result_ok r) (answer_in (view_in state Tgs message) at words room bytes Tgs message).reply else None)
       (IsGiven give state.limits.remembered (memory_of state c) (happens_presented state at words room bytes message r))
   presented_gives state at words room bytes message (Ok p) is =
       let v = tgs_view (presented_view state message p) in
-      let octets = (tgs_answer v at words room bytes message.body.value p).reply in
-      subst (λ a. IfSome (ticket_by c (Some p) a.reply) (IsGiven give state.limits.remembered (memory_of state c) (happens_presented state at words room bytes message (Ok p))))
-      (sym (answer_is state message p is at words bytes room))
-      (given_for state.limits.remembered state p octets _ (client_gives v at words room bytes message.body.value p (first_holding (client_rules v at.sec p.ticket.authtime))))
-  presented_gives state at words room bytes message (Err refusal) is = tt
+      let answered : TgsAnswer = tgs_answer v at words room bytes message.body.value p in
+      subst (λ (h : Option (Stamp × List ℕ)). IfSome h (IsGiven give state.limits.remembered (memory_of state c) (happens_presented state at words room bytes message (Ok p))))
+      (λ i. if is_client c (sym (client_is state message p is) i) then ticket_by (Some p) (sym (answer_is state message p is at words bytes room) i).reply else None)
+      (given_for state.limits.remembered state p.ticket.cname.components (handed (stamp_of p) answered.reply) _
+      (client_gives v at words room bytes message.body.value p (first_holding (client_rules v at.sec p.ticket.authtime))))
+  presented_gives state at words room bytes message (Err refusal) is = nothing_given (is_client c (client_in state Tgs message)) _
 
   gives_in : (state : State) (at : Moment) (words : List ℕ) (room : ℕ) (bytes : List ℕ) (exchange : Exchange) (message : Received)
-      → IfSome (ticket_by c (presented_in state exchange message) (answer_in (view_in state exchange message) at words room bytes exchange message).reply)
+      → IfSome (if is_client c (client_in state exchange message) then ticket_by (presented_in state exchange message) (answer_in (view_in state exchange message) at words room bytes exchange message).reply else None)
       (IsGiven give state.limits.remembered (memory_of state c) (happens_in state at words room bytes exchange message))
-  gives_in state at words room bytes As message = tt
+  gives_in state at words room bytes As message = nothing_given (is_client c (client_in state As message)) _
   gives_in state at words room bytes Tgs message = presented_gives state at words room bytes message (presented (ticket_view state message) message) refl
 
   gives_request : (state : State) (at : Moment) (words : List ℕ) (room : ℕ) (bytes : List ℕ) (o : Option Read)
-      → IfSome (ticket_by c (presented_by state o) (answer_to (view_of state (named_by state o)) at words room bytes o).reply)
+      → IfSome (if is_client c (named_by state o).client then ticket_by (presented_by state o) (answer_to (view_of state (named_by state o)) at words room bytes o).reply else None)
       (IsGiven give state.limits.remembered (memory_of state c) (happens_request state at words room bytes o))
   gives_request state at words room bytes (Some request) = gives_in state at words room bytes request.exchange request.message
   gives_request state at words room bytes None = tt

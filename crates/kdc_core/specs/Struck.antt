@@ -26,6 +26,7 @@ principal_of (NewKeys name keys) = name.components
 principal_of (DropKeys name version) = name.components
 principal_of (SetPolicy name policy) = name.components
 
+-- whether this client is named
 abbrev pub is_client : Components → Option Components → Bool
 is_client c (Some name) = eq_by_cmp name_cmp c name
 is_client c None = false
@@ -83,7 +84,7 @@ pub record AgreesFor (c : Components) (S : Names) (state other : State) : Type 0
 pub record IsIsolated (c : Components) (S : Names) (state other : State) (events struck : List Event) : Type 0 where
   -- the replies to c's requests are, in order, those of the struck run to its requests
   pub own : replies_to is_request other struck ≡ replies_to (is_request_of c) state events
-  -- the struck run gives all that is left the same replies, or none
+  -- the struck run gives each event that is left what the run gives it
   pub left : replies other struck ≡ replies_to (is_left c S) state events
   -- the two agree for c in the end
   pub afterwards : AgreesFor c S (run state events) (run other struck)

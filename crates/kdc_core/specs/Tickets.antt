@@ -1,8 +1,7 @@
 -- The tickets that are issued in a run, each with the time of the authenticator that bought it.
-use Rattle.std.specs.Prelude.{ℕ, ℤ, ◌≤ℤ◌, ◌&&◌, if◌then◌else◌, ⊤, List, [], ◌∷◌, Option, Some, None}
+use Rattle.std.specs.Prelude.{ℕ, ℤ, ◌≤ℤ◌, if◌then◌else◌, ⊤, List, [], ◌∷◌, Option, Some, None}
 use Rattle.std.specs.Result.{result_ok}
-use Rattle.std.specs.Ordering.{eq_by_cmp}
-use Rattle.krb_fields.specs.Name.{Components, name_cmp}
+use Rattle.krb_fields.specs.Name.{Components}
 use Rattle.krb_types.specs.KdcReq.{Received}
 use Rattle.krb_types.specs.declared.kdc_req.Exchange.{Exchange}
 use Rattle.krb_types.specs.declared.kdc_req.Exchange.TheVariants.{As, Tgs}
@@ -14,7 +13,8 @@ use Rattle.tgs_opening.specs.declared.presented.Presented.{Presented}
 use Rattle.kdc_state.specs.declared.state.State.{State}
 use Rattle.kdc_core.specs.Request.{Request as Read, request_of}
 use Rattle.kdc_core.specs.Run.{after_event, event_reply}
-use Rattle.kdc_core.specs.View.{ticket_view}
+use Rattle.kdc_core.specs.Struck.{is_client}
+use Rattle.kdc_core.specs.View.{named, ticket_view}
 use Rattle.kdc_core.specs.declared.run.Event.{Event}
 use Rattle.kdc_core.specs.declared.run.Event.TheVariants.{Request, Change, Restart}
 
@@ -41,15 +41,16 @@ abbrev pub presented_by : State → Option Read → Option Presented
 presented_by state (Some request) = presented_in state request.exchange request.message
 presented_by state None = None
 
--- a reply that bears a ticket to the client c, with the time of the authenticator
-abbrev pub ticket_by : Components → Option Presented → Option (List ℕ) → Option (Stamp × List ℕ)
-ticket_by c (Some p) (Some octets) = if eq_by_cmp name_cmp c p.ticket.cname.components && bears_ticket octets then Some (stamp_of p, octets) else None
-ticket_by c (Some p) None = None
-ticket_by c None reply = None
+-- a reply that bears a ticket, with the time of the authenticator
+abbrev pub ticket_by : Option Presented → Option (List ℕ) → Option (Stamp × List ℕ)
+ticket_by (Some p) (Some octets) = if bears_ticket octets then Some (stamp_of p, octets) else None
+ticket_by (Some p) None = None
+ticket_by None reply = None
 
--- the ticket that an event gets the client c by an authenticator
+-- the ticket that a request of the client c gets by an authenticator
 abbrev pub ticket_to : Components → State → Event → Option (Stamp × List ℕ)
-ticket_to c state (Request at words room request) = ticket_by c (presented_by state (request_of request)) (event_reply state (Request at words room request))
+ticket_to c state (Request at words room request) =
+    if is_client c (named state request).client then ticket_by (presented_by state (request_of request)) (event_reply state (Request at words room request)) else None
 ticket_to c state (Change change) = None
 ticket_to c state (Restart at) = None
 
