@@ -369,16 +369,27 @@ fn restarts() -> Result<Event, Fail> {
     })
 }
 
-/// No request; `u` is added, and again; a restart; `x` asks, and `u`.
-fn events(alloc: Global) -> Result<[Event; 6], Fail> {
-    Ok([
-        asks(Vec::new(alloc))?,
-        adds_user(alloc)?,
-        adds_user(alloc)?,
-        restarts()?,
-        asks(changed(alloc, 42, b'x')?)?,
-        asks(octets(alloc, BASIC)?)?,
-    ])
+/// No request; `u` is added, and again.
+fn push_changes(alloc: Global, events: &mut Vec<Event>) -> Result<(), Fail> {
+    events.push(asks(Vec::new(alloc))?)?;
+    events.push(adds_user(alloc)?)?;
+    events.push(adds_user(alloc)?)?;
+    Ok(())
+}
+
+/// A restart; `x` asks, and `u`.
+fn push_requests(alloc: Global, events: &mut Vec<Event>) -> Result<(), Fail> {
+    events.push(restarts()?)?;
+    events.push(asks(changed(alloc, 42, b'x')?)?)?;
+    events.push(asks(octets(alloc, BASIC)?)?)?;
+    Ok(())
+}
+
+fn events(alloc: Global) -> Result<Vec<Event>, Fail> {
+    let mut events = Vec::new(alloc);
+    push_changes(alloc, &mut events)?;
+    push_requests(alloc, &mut events)?;
+    Ok(events)
 }
 
 fn replies(alloc: Global) -> Result<[Option<Vec<u8>>; 6], Fail> {
