@@ -3,14 +3,14 @@ use Rattle.std.specs.Prelude.{ℕ, ⊤, ◌⊎◌, nat_lt, if◌then◌else◌, 
 use Rattle.krb_elements.specs.Codec.{written}
 use Rattle.krb_fields.specs.PrincipalName.{Name}
 use Rattle.krb_fields.specs.Salt.{default_salt}
-use Rattle.krb_fields.specs.declared.code.Code.TheVariants.{KrbErrResponseTooBig}
 use Rattle.krb_fields.specs.declared.moment.Moment.{Moment}
-use Rattle.krb_replies.specs.KdcRep.{kdc_rep}
+use Rattle.krb_replies.specs.KdcRep.{KdcRep, kdc_rep}
 use Rattle.krb_types.specs.KdcReq.{Received}
 use Rattle.krb_types.specs.KrbError.{KrbError, krb_error}
 use Rattle.krb_types.specs.ReqBody.{ReqBody}
-use Rattle.kdc_replies.specs.ErrorReply.{error_reply}
-use Rattle.kdc_replies.specs.Reply.{OpensAlike}
+use Rattle.kdc_replies.specs.ErrorReply.{error_reply, too_big}
+use Rattle.kdc_replies.specs.Reply.{NamesKey, OpensAlike}
+use Rattle.kdc_replies.specs.ServiceTerms.{current_keys}
 use Rattle.preauth.specs.Keys.{types_of}
 use Rattle.preauth.specs.Lock.{after_failure, after_success}
 use Rattle.preauth.specs.MethodData.{method_data}
@@ -18,7 +18,6 @@ use Rattle.preauth.specs.declared.timestamp.Outcome.{Outcome}
 use Rattle.principal_rows.specs.declared.row.Row.{Row}
 use Rattle.replay.specs.declared.failures.Failures.{Failures}
 use Rattle.as_exchange.specs.View.{View}
-use Rattle.as_exchange.specs.Terms.{current_keys}
 use Rattle.as_exchange.specs.Rules.{is_good, timestamp_of, verdict, code_of}
 use Rattle.as_exchange.specs.Issue.{as_rep}
 use Rattle.as_exchange.specs.declared.refusal.AsRefusal.{AsRefusal}
@@ -81,16 +80,12 @@ e_data_of v body FollowsTimestamp = None
 abbrev pub as_error : View → Moment → ReqBody → AsRefusal → KrbError
 as_error v at body refusal = error_reply v.realm at (code_of refusal) body.sname (e_data_of v body (sequel_of refusal))
 
--- in place of a reply that is too long
-abbrev pub too_big : View → Moment → ReqBody → KrbError
-too_big v at body = error_reply v.realm at KrbErrResponseTooBig body.sname None
-
 -- ---- answers
 
 -- a reply with a ticket that is longer than the room leaves no trace
 abbrev pub within_room : View → Moment → ℕ → ReqBody → List ℕ → Option Failures → Answer
 within_room v at room body octets failures =
-    if nat_lt room (length octets) then record { reply = written krb_error (too_big v at body); failures = None }
+    if nat_lt room (length octets) then record { reply = written krb_error (too_big v.realm at body); failures = None }
     else record { reply = octets; failures = failures }
 
 abbrev pub answer_by : View → Moment → List ℕ → ℕ → ReqBody → Outcome → Result Admission AsRefusal → Answer
@@ -108,15 +103,22 @@ as_answer v at words room message = answer_by v at words room message.body.value
 -- an error where it was refused; else the AS-REP, or the error in its place
 abbrev pub SpelledBy : View → Moment → List ℕ → ReqBody → Outcome → Result Admission AsRefusal → List ℕ → Type 0
 SpelledBy v at words body timestamp (Err refusal) octets = krb_error.Spells (as_error v at body refusal) octets
-SpelledBy v at words body timestamp (Ok admission) octets = (kdc_rep 11).Spells (as_rep v at words body timestamp admission) octets ⊎ krb_error.Spells (too_big v at body) octets
+SpelledBy v at words body timestamp (Ok admission) octets = (kdc_rep 11).Spells (as_rep v at words body timestamp admission) octets ⊎ krb_error.Spells (too_big v.realm at body) octets
 
 abbrev pub Spelled : View → Moment → List ℕ → Received → List ℕ → Type 0
 Spelled v at words message octets = SpelledBy v at words message.body.value (timestamp_of v.client at.sec message) (verdict v at.sec message) octets
 
--- the client's key opens the AS-REP to what the service's key finds in the ticket
+-- The client's key opens the AS-REP to what the service's key finds in the ticket, and both are those that the sealed
+-- parts name in the rows of the client and of the service.
+abbrev pub OpensFor : View → Admission → KdcRep 11 → Type 0
+OpensFor v admission reply =
+    OpensAlike 11 25 admission.terms.reply_key 3 admission.terms.service.key.key reply
+    × NamesKey v.client reply.enc_part admission.terms.reply_key
+    × NamesKey v.service reply.ticket.enc_part admission.terms.service.key.key
+
 abbrev pub OpensBy : View → Moment → List ℕ → ReqBody → Outcome → Result Admission AsRefusal → Type 0
 OpensBy v at words body timestamp (Err refusal) = ⊤
-OpensBy v at words body timestamp (Ok admission) = OpensAlike 11 25 admission.terms.reply_key 3 admission.terms.service_key.key (as_rep v at words body timestamp admission)
+OpensBy v at words body timestamp (Ok admission) = OpensFor v admission (as_rep v at words body timestamp admission)
 
 abbrev pub Opens : View → Moment → List ℕ → Received → Type 0
 Opens v at words message = OpensBy v at words message.body.value (timestamp_of v.client at.sec message) (verdict v at.sec message)

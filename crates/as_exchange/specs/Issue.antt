@@ -23,9 +23,9 @@ abbrev pub grant_by : View → Moment → List ℕ → ReqBody → Outcome → A
 grant_by v at words body timestamp admission = record {
   realm = v.realm;
   client = admission.terms.client_name;
-  service = admission.terms.service_name;
-  session_key = session_key admission.terms.session_type words;
-  flags = as_flags body admission.terms.client admission.terms.service (is_good timestamp) admission.times;
+  service = admission.terms.service.name;
+  session_key = session_key admission.terms.service.session_type words;
+  flags = as_flags body admission.terms.client admission.terms.service.policy (is_good timestamp) admission.times;
   authtime = at.sec;
   times = admission.times;
   authorization_data = None;
@@ -42,5 +42,5 @@ reply_info v terms = etype_info2 (default_salt v.realm terms.client_name.compone
 -- the AS-REP, by what became of the timestamp
 abbrev pub as_rep : View → Moment → List ℕ → ReqBody → Outcome → Admission → KdcRep 11
 as_rep v at words body timestamp admission =
-    reply_of 11 25 (grant_by v at words body timestamp admission) admission.terms.service_key (reply_key_of admission.terms) (Some (reply_info v admission.terms ∷ []))
+    reply_of 11 25 (grant_by v at words body timestamp admission) admission.terms.service.key (reply_key_of admission.terms) (Some (reply_info v admission.terms ∷ []))
     body.nonce at.sec words

@@ -2,8 +2,9 @@
 use Rattle.std.specs.Prelude.{ℤ, pos, Bool, true, false, not, ◌&&◌, ◌||◌, nat_eq, is_none, List, [], ◌∷◌, Option, Some, None, Result}
 use Rattle.std.specs.Ordering.{int_eq}
 use Rattle.std.specs.Cmp.Lexicographic.{pointwise}
+use Rattle.refusals.specs.Optional.{holds_of}
 use Rattle.refusals.specs.Refusals.{Rule, decided}
-use Rattle.kdc_replies.specs.Standing.{holds_of, has_come, is_disabled, is_expired}
+use Rattle.kdc_replies.specs.Standing.{has_come, is_disabled, is_expired}
 use Rattle.krb_fields.specs.declared.code.Code.{Code}
 use Rattle.krb_fields.specs.declared.code.Code as codes
 use Rattle.krb_fields.specs.declared.kdc_option.KdcOption.TheVariants.{Forwarded, Proxy, AllowPostdate, Postdated, EncTktInSkey, Renew, Validate}

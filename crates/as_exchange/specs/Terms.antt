@@ -1,6 +1,8 @@
 -- What the rows have for the types that a request asks for, and the times of the ticket.
-use Rattle.std.specs.Prelude.{ℤ, List, [], ◌∷◌, Option, Some, None, Result, Ok, Err}
+use Rattle.std.specs.Prelude.{ℤ, List, Option, Some, None, Result, Ok, Err}
 use Rattle.enctypes.specs.declared.key.Key.{Key}
+use Rattle.kdc_replies.specs.ServiceTerms.{current_keys, service_terms}
+use Rattle.kdc_replies.specs.declared.services.ServiceTerms.{ServiceTerms}
 use Rattle.krb_fields.specs.PrincipalName.{Name}
 use Rattle.krb_fields.specs.declared.code.Code.{Code}
 use Rattle.krb_types.specs.ReqBody.{ReqBody}
@@ -14,33 +16,20 @@ use Rattle.as_exchange.specs.View.{View}
 use Rattle.as_exchange.specs.declared.terms.Terms.{Terms}
 use Rattle.as_exchange.specs.declared.terms.Admission.{Admission}
 
-abbrev pub current_keys : Row → List Key
-current_keys row = (current row.versions).keys
-
-abbrev pub head_of : {A : Type 0} → List A → Option A
-head_of [] = None
-head_of (x ∷ xs) = Some x
-
--- The reply key is the client's current key of the first type asked for that it has; the session key's type is the
--- first that the service has; the ticket is sealed under the service's first current key.
-abbrev pub terms_by : Name → Name → Row → Row → Option Key → Option Key → Option Key → Option Terms
-terms_by cname sname client service None session first = None
-terms_by cname sname client service (Some reply) None first = None
-terms_by cname sname client service (Some reply) (Some session) None = None
-terms_by cname sname client service (Some reply) (Some session) (Some first) = Some (record {
+-- The reply key is the client's current key of the first type asked for that it has.
+abbrev pub terms_by : Name → Row → Option Key → Option ServiceTerms → Option Terms
+terms_by cname client (Some reply) (Some service) = Some (record {
   client_name = cname;
-  service_name = sname;
   client = client.policy;
-  service = service.policy;
   reply_key = reply;
   reply_version = (current client.versions).number;
-  session_type = session.etype;
-  service_key = record { key = first; version = (current service.versions).number };
+  service = service;
 })
+terms_by cname client (Some reply) None = None
+terms_by cname client None service = None
 
 abbrev pub terms_of : List ℤ → Name → Name → Row → Row → Option Terms
-terms_of types cname sname client service =
-    terms_by cname sname client service (first_key (current_keys client) types) (first_key (current_keys service) types) (head_of (current_keys service))
+terms_of types cname sname client service = terms_by cname client (first_key (current_keys client) types) (service_terms types sname service)
 
 abbrev pub terms_if : List ℤ → Option Name → Option Name → Option Row → Option Row → Option Terms
 terms_if types (Some cname) (Some sname) (Some client) (Some service) = terms_of types cname sname client service
@@ -59,5 +48,5 @@ admission_at t (Err code) = None
 
 -- the terms, with the times of a ticket that ends after it starts
 abbrev pub admission_of : Limits → ℤ → ReqBody → Option Terms → Option Admission
-admission_of limits now body (Some t) = admission_at t (as_times now t.client t.service limits body)
+admission_of limits now body (Some t) = admission_at t (as_times now t.client t.service.policy limits body)
 admission_of limits now body None = None

@@ -1,17 +1,19 @@
 //! From an AS-REQ to its reply, and what becomes of the client's failures.
 ghost use Rattle.std.specs.Prelude.{◌≡◌, ◌⊎◌, length, IfOk};
+ghost use Rattle.kdc_replies.specs.ErrorReply.{too_big};
 ghost use Rattle.krb_types.specs.KrbError.{krb_error};
-ghost use Rattle.as_exchange.specs.Answer.{after_timestamp, after_sequel, answer_by, as_answer, too_big, within_room};
+ghost use Rattle.as_exchange.specs.Answer.{after_timestamp, after_sequel, answer_by, as_answer, within_room};
 ghost use Rattle.as_exchange.specs.Answer.{Opens, OpensBy, Spelled, SpelledBy};
 ghost use Rattle.as_exchange.specs.Known.{IsKnown};
 ghost use Rattle.as_exchange.specs.Named.{IsNamed};
 
-use crate::errors::{as_error, too_big};
+use crate::errors::as_error;
 use crate::issuing::as_rep;
 use crate::refusal::{AsRefusal, Sequel};
 use crate::rules::{is_good, timestamp_of, verdict};
 use crate::terms::{Admission, terms_for};
 use crate::view::AsView;
+use kdc_replies::too_big;
 use krb_fields::Moment;
 use krb_types::{KdcReqRef, ReqBodyRef};
 use preauth::{Outcome, after_failure, after_success};
@@ -61,7 +63,7 @@ fn answer_by(
     verdict: &Result<Admission, AsRefusal>,
 ) -> Result<AsAnswer, AllocError>
     requires known { IsKnown view.now body.now }
-    requires named { IfOk verdict.now (λ admission. IsNamed admission.terms) }
+    requires named { IfOk verdict.now (λ admission. IsNamed view.now.client view.now.service admission.terms) }
     ensures reply { IfOk result (λ answer. answer.reply.items ≡ (answer_by view.now at words.now room body.now timestamp verdict.now).reply) }
     ensures failures { IfOk result (λ answer. answer.failures ≡ (answer_by view.now at words.now room body.now timestamp verdict.now).failures) }
     ensures spelled { IfOk result (λ answer. SpelledBy view.now at words.now body.now timestamp verdict.now answer.reply.items) }
@@ -93,11 +95,11 @@ fn within_room(
     requires { IsKnown view.now body.now }
     ensures reply { IfOk result (λ answer. answer.reply.items ≡ (within_room view.now at room body.now reply.items failures).reply) }
     ensures failures { IfOk result (λ answer. answer.failures ≡ (within_room view.now at room body.now reply.items failures).failures) }
-    ensures spelled { IfOk result (λ answer. (answer.reply.items ≡ reply.items) ⊎ krb_error.Spells (too_big view.now at body.now) answer.reply.items) }
+    ensures spelled { IfOk result (λ answer. (answer.reply.items ≡ reply.items) ⊎ krb_error.Spells (too_big view.now.realm at body.now) answer.reply.items) }
 {
     if reply.len() > room as usize {
         return Ok(AsAnswer {
-            reply: too_big(alloc, view, at, body)?,
+            reply: too_big(alloc, view.realm, at, body)?,
             failures: None,
         });
     }

@@ -4,14 +4,14 @@ ghost use Rattle.krb_elements.specs.Codec.{written};
 ghost use Rattle.krb_fields.specs.NameLimits.{IsWithinLimits};
 ghost use Rattle.krb_fields.specs.Salt.{default_salt};
 ghost use Rattle.krb_types.specs.KrbError.{krb_error};
-ghost use Rattle.as_exchange.specs.Answer.{as_error, e_data_of, methods_for, too_big};
+ghost use Rattle.as_exchange.specs.Answer.{as_error, e_data_of, methods_for};
 ghost use Rattle.as_exchange.specs.Known.{IsKnown};
 
 use crate::refusal::{AsRefusal, Sequel};
 use crate::view::AsView;
 use kdc_replies::error_reply;
 use krb_elements::{KerberosString, Octets};
-use krb_fields::{Code, Moment, NameRef};
+use krb_fields::{Moment, NameRef};
 use krb_types::ReqBodyRef;
 use preauth::{method_data, types_of};
 use principal_rows::Row;
@@ -37,27 +37,6 @@ pub fn as_error(
         refusal.code(),
         body.sname.as_ref(),
         e_data,
-    )
-}
-
-/// The octets of the error in place of a reply that is too long.
-pub fn too_big(
-    alloc: Global,
-    view: &AsView<'_>,
-    at: Moment,
-    body: &ReqBodyRef<'_>,
-) -> Result<Vec<u8>, AllocError>
-    requires { IsKnown view.now body.now }
-    ensures written { IfOk result (λ octets. octets.items ≡ written krb_error (too_big view.now at body.now)) }
-    ensures spelled { IfOk result (λ octets. krb_error.Spells (too_big view.now at body.now) octets.items) }
-{
-    error_reply(
-        alloc,
-        view.realm,
-        at,
-        Code::KrbErrResponseTooBig,
-        body.sname.as_ref(),
-        None,
     )
 }
 

@@ -5,7 +5,7 @@ ghost use Rattle.krb_fields.specs.NameLimits.{IsWithinLimits};
 ghost use Rattle.krb_fields.specs.PaData.{pa_data};
 ghost use Rattle.krb_replies.specs.KdcRep.{kdc_rep};
 ghost use Rattle.kdc_replies.specs.Grant.{IsShort};
-ghost use Rattle.kdc_replies.specs.Reply.{OpensAlike};
+ghost use Rattle.as_exchange.specs.Answer.{OpensFor};
 ghost use Rattle.as_exchange.specs.Issue.{grant_by, reply_key_of, reply_info, as_rep};
 ghost use Rattle.as_exchange.specs.Named.{IsNamed};
 
@@ -33,11 +33,11 @@ pub fn as_rep(
     admission: &Admission,
 ) -> Result<Vec<u8>, AllocError>
     requires realm { length view.now.realm ≤ 255 }
-    requires named { IsNamed admission.now.terms }
+    requires named { IsNamed view.now.client view.now.service admission.now.terms }
     ensures written { IfOk result (λ octets. octets.items ≡ written (kdc_rep 11) (as_rep view.now at words.now body.now timestamp admission.now)) }
     ensures spelled { IfOk result (λ octets. (kdc_rep 11).Spells (as_rep view.now at words.now body.now timestamp admission.now) octets.items) }
-    // The client and the service find the same inside.
-    ensures same { IfOk result (λ octets. OpensAlike 11 25 admission.now.terms.reply_key 3 admission.now.terms.service_key.key (as_rep view.now at words.now body.now timestamp admission.now)) }
+    // The client and the service find the same inside, by the keys that are named there.
+    ensures same { IfOk result (λ octets. OpensFor view.now admission.now (as_rep view.now at words.now body.now timestamp admission.now)) }
 {
     let padata = reply_data(alloc, view, &admission.terms)?;
     let reply_key = reply_key_of(&admission.terms);
@@ -49,7 +49,7 @@ pub fn as_rep(
     ticket_reply::<11, 25>(
         alloc,
         &grant,
-        &admission.terms.service_key,
+        &admission.terms.service.key,
         &reply_key,
         Some(padata),
         asked,
@@ -67,7 +67,7 @@ fn grant_of(
     admission: &Admission,
 ) -> Result<Grant, AllocError>
     requires realm { length view.now.realm ≤ 255 }
-    requires named { IsNamed admission.now.terms }
+    requires named { IsNamed view.now.client view.now.service admission.now.terms }
     ensures value { IfOk result (λ grant. grant ≡ grant_by view.now at words.now body.now timestamp admission.now) }
     ensures short { IfOk result IsShort }
 {
@@ -75,15 +75,15 @@ fn grant_of(
     let flags = as_flags(
         body,
         &terms.client,
-        &terms.service,
+        &terms.service.policy,
         is_good(timestamp),
         times,
     );
     Ok(Grant {
         realm: KerberosString::from_slice(alloc, view.realm)?,
         client: terms.client_name.copy(alloc)?,
-        service: terms.service_name.copy(alloc)?,
-        session_key: session_key(terms.session_type, words),
+        service: terms.service.name.copy(alloc)?,
+        session_key: session_key(terms.service.session_type, words),
         flags,
         authtime: at.time(),
         times: *times,
@@ -106,7 +106,7 @@ fn reply_key_of(terms: &Terms) -> ReplyKey
 #[tactic(auto, using(crate::specs::Named::data_short))]
 fn reply_data(alloc: Global, view: &AsView<'_>, terms: &Terms) -> Result<Seq<PaData>, AllocError>
     requires realm { length view.now.realm ≤ 255 }
-    requires named { IsNamed terms.now }
+    requires named { IsNamed view.now.client view.now.service terms.now }
     ensures value { IfOk result (λ list. list ≡ reply_info view.now terms.now ∷ []) }
     ensures short { IfOk result (λ list. length ((list_of pa_data).text list) ≤ 70000) }
 {
@@ -118,7 +118,7 @@ fn reply_data(alloc: Global, view: &AsView<'_>, terms: &Terms) -> Result<Seq<PaD
 #[tactic(auto, using(crate::specs::Known::salt_short))]
 fn reply_info(alloc: Global, view: &AsView<'_>, terms: &Terms) -> Result<PaData, AllocError>
     requires realm { length view.now.realm ≤ 255 }
-    requires named { IsNamed terms.now }
+    requires named { IsNamed view.now.client view.now.service terms.now }
     ensures value { IfOk result (λ info. info ≡ reply_info view.now terms.now) }
     ensures short { IfOk result (λ info. length info.padata_value ≤ 32926) }
 {

@@ -1,10 +1,10 @@
 //! What the rows have for the types that a request asks for, and the times of the ticket.
-ghost use Rattle.std.specs.Prelude.{◌≡◌, IfOk, IfSome, option_copied};
+ghost use Rattle.std.specs.Prelude.{◌≡◌, IfOk};
 ghost use Rattle.as_exchange.specs.Terms.{admission_of, terms, terms_of};
 
 use crate::view::AsView;
-use enctypes::{Etype, Key};
-use kdc_replies::ServiceKey;
+use enctypes::Key;
+use kdc_replies::{ServiceTerms, service_terms};
 use krb_elements::SeqRef;
 use krb_fields::{Moment, Name, NameRef};
 use krb_types::ReqBodyRef;
@@ -17,17 +17,12 @@ use ticket_times::{Times, as_times};
 #[derive(Debug, Drop)]
 pub struct Terms {
     pub client_name: Name,
-    pub service_name: Name,
     pub client: Policy,
-    pub service: Policy,
     /// The client's current key of the first type asked for that it has.
     pub reply_key: Key,
     /// The number of its version.
     pub reply_version: u32,
-    /// The first type asked for that the service has a current key of.
-    pub session_type: Etype,
-    /// The service's first current key, under which the ticket is sealed.
-    pub service_key: ServiceKey,
+    pub service: ServiceTerms,
 }
 
 /// What a ticket is issued by.
@@ -70,29 +65,19 @@ fn terms_of(
 ) -> Result<Option<Terms>, AllocError>
     ensures { IfOk result (λ found. found ≡ terms_of types.now cname.now sname.now client.now service.now) }
 {
-    let theirs = client.versions.current();
-    let ours = service.versions.current();
-    let Some(reply_key) = first_key(&theirs.keys, types) else {
+    let version = client.versions.current();
+    let Some(reply_key) = first_key(&version.keys, types) else {
         return Ok(None);
     };
-    let Some(session_key) = first_key(&ours.keys, types) else {
-        return Ok(None);
-    };
-    let Some(key) = ours.keys.keys().first() else {
+    let Some(service) = service_terms(alloc, types, sname, service)? else {
         return Ok(None);
     };
     Ok(Some(Terms {
         client_name: cname.to_name(alloc)?,
-        service_name: sname.to_name(alloc)?,
         client: client.policy,
-        service: service.policy,
         reply_key: *reply_key,
-        reply_version: theirs.number,
-        session_type: session_key.etype(),
-        service_key: ServiceKey {
-            key: *key,
-            version: ours.number,
-        },
+        reply_version: version.number,
+        service,
     }))
 }
 
@@ -108,7 +93,7 @@ pub fn admission_of(
     let Some(terms) = terms else {
         return None;
     };
-    let Ok(times) = as_times(at, &terms.client, &terms.service, limits, body) else {
+    let Ok(times) = as_times(at, &terms.client, &terms.service.policy, limits, body) else {
         return None;
     };
     Some(Admission { terms, times })

@@ -8,6 +8,7 @@ use Rattle.std.specs.Option.{unwrap_or}
 use Rattle.std.specs.Ordering.{eq_by_cmp}
 use Rattle.std.specs.Result.{result_ok}
 use Rattle.as_exchange.specs.Answer.{as_answer}
+use Rattle.kdc_replies.specs.ErrorReply.{too_big}
 use Rattle.krb_der.specs.Spelling.{tlv}
 use Rattle.krb_elements.specs.Codec.{written}
 use Rattle.krb_fields.specs.Name.{Components, name_cmp, name_total, same_name}
@@ -27,7 +28,7 @@ use Rattle.replay.specs.declared.keep.Kept.{Kept}
 use Rattle.replay.specs.declared.memory.Memory.{Memory}
 use Rattle.replay.specs.declared.verdict.Verdict.{Verdict}
 use Rattle.replay.specs.declared.verdict.Verdict.TheVariants.{Fresh, Skew, Repeat, Full as NoPlace}
-use Rattle.tgs_exchange.specs.Answer.{Answer as TgsAnswer, bears_ticket, by_client, by_verdict, fresh_by, kept_reply, refused, remembering, stamp_of, tgs_answer, tgs_error, too_big, verdict_on, within_room}
+use Rattle.tgs_exchange.specs.Answer.{Answer as TgsAnswer, bears_ticket, by_client, by_verdict, fresh_by, kept_reply, refused, remembering, stamp_of, tgs_answer, tgs_error, verdict_on, within_room}
 use Rattle.tgs_exchange.specs.Rules.{admitted, client_rules}
 use Rattle.tgs_exchange.specs.View.{View as TgsView}
 use Rattle.tgs_exchange.specs.declared.terms.Admission.{Admission}

@@ -2,10 +2,12 @@
 use Rattle.std.specs.Prelude.{ℕ, List, Option, None}
 use Rattle.std.specs.Option.{unwrap_or}
 use Rattle.krb_fields.specs.declared.code.Code.{Code}
+use Rattle.krb_fields.specs.declared.code.Code.TheVariants.{KrbErrResponseTooBig}
 use Rattle.krb_fields.specs.declared.moment.Moment.{Moment}
 use Rattle.krb_fields.specs.Code.{number_of}
 use Rattle.krb_fields.specs.PrincipalName.{Name}
 use Rattle.krb_types.specs.KrbError.{KrbError}
+use Rattle.krb_types.specs.ReqBody.{ReqBody}
 use Rattle.principals.specs.Database.{granter_name}
 
 -- KRB-ERROR (RFC 4120, section 5.9.1): the moment, the code, our realm, the service asked for, else the ticket-granting
@@ -24,3 +26,7 @@ error_reply realm at code sname e_data = record {
   e_text = None;
   e_data = e_data;
 }
+
+-- in place of a reply that is too long for its room
+abbrev pub too_big : List ℕ → Moment → ReqBody → KrbError
+too_big realm at body = error_reply realm at KrbErrResponseTooBig body.sname None

@@ -1,4 +1,6 @@
 pub mod ErrorReply
+pub mod ServiceTerms
+pub mod ServiceTermsLaws
 pub mod Standing
 pub mod Grant
 pub mod Encrypted

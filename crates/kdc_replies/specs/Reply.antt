@@ -9,6 +9,8 @@ use Rattle.krb_parts.specs.EncTicketPart.{EncTicketPart, enc_ticket_part}
 use Rattle.krb_replies.specs.KdcRep.{KdcRep}
 use Rattle.krb_replies.specs.Under.{under}
 use Rattle.krb_types.specs.Ticket.{Ticket}
+use Rattle.preauth.specs.Keys.{key_named}
+use Rattle.principal_rows.specs.declared.row.Row.{Row}
 use Rattle.kdc_replies.specs.declared.grant.Grant.{Grant}
 use Rattle.kdc_replies.specs.declared.replies.ReplyKey.{ReplyKey}
 use Rattle.kdc_replies.specs.declared.tickets.ServiceKey.{ServiceKey}
@@ -44,6 +46,10 @@ reply_of type tag grant service reply padata nonce now words = record {
   ticket = ticket_of grant service words;
   enc_part = sealed_part tag grant reply nonce now words;
 }
+
+-- the key by which these octets are sealed is the one that they name, by its type and version, in the row
+abbrev pub NamesKey : Option Row → EncryptedData → Key → Type 0
+NamesKey row sealed key = key_named row sealed.etype sealed.kvno ≡ Some key
 
 -- What the two sealed parts hold: the same session key, flags and times.
 pub record SayTheSame (part : EncKdcRepPart) (ticket : EncTicketPart) : Type 0 where

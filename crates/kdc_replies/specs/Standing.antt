@@ -1,11 +1,7 @@
 -- What the row of a principal says of its standing.
 use Rattle.std.specs.Prelude.{ℤ, Bool, false, int_le, Option, Some, None}
 use Rattle.principal_rows.specs.declared.row.Row.{Row}
-
--- what a row says, where there is one
-abbrev pub holds_of : (Row → Bool) → Option Row → Bool
-holds_of test (Some row) = test row
-holds_of test None = false
+use Rattle.refusals.specs.Optional.{holds_of}
 
 -- a time has come
 abbrev pub has_come : Option ℤ → ℤ → Bool

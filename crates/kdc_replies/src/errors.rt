@@ -4,11 +4,11 @@ ghost use Rattle.std.specs.Option.{option_copied};
 ghost use Rattle.krb_elements.specs.Codec.{written};
 ghost use Rattle.krb_fields.specs.PrincipalName.{name};
 ghost use Rattle.krb_types.specs.KrbError.{krb_error};
-ghost use Rattle.kdc_replies.specs.ErrorReply.{error_reply};
+ghost use Rattle.kdc_replies.specs.ErrorReply.{error_reply, too_big};
 
 use krb_elements::{KerberosString, Octets};
 use krb_fields::{Code, Moment, NameRef};
-use krb_types::{KrbError, encode_krb_error};
+use krb_types::{KrbError, ReqBodyRef, encode_krb_error};
 use principals::granter_name;
 use std::alloc::{AllocError, Global};
 
@@ -30,6 +30,28 @@ pub fn error_reply(
 {
     let error = error_of(alloc, realm, at, code, sname, e_data)?;
     encode_krb_error(alloc, &error)
+}
+
+/// The octets of the error in place of a reply that is too long for its room.
+pub fn too_big(
+    alloc: Global,
+    realm: &[u8],
+    at: Moment,
+    body: &ReqBodyRef<'_>,
+) -> Result<Vec<u8>, AllocError>
+    requires realm { length realm.now ≤ 255 }
+    requires sname { IfSome body.now.sname (λ n. length (name.text n) < 2147483648) }
+    ensures written { IfOk result (λ octets. octets.items ≡ written krb_error (too_big realm.now at body.now)) }
+    ensures spelled { IfOk result (λ octets. krb_error.Spells (too_big realm.now at body.now) octets.items) }
+{
+    error_reply(
+        alloc,
+        realm,
+        at,
+        Code::KrbErrResponseTooBig,
+        body.sname.as_ref(),
+        None,
+    )
 }
 
 fn error_of(

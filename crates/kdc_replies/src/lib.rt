@@ -6,14 +6,16 @@ mod errors;
 mod grant;
 mod replies;
 mod sealing;
+mod services;
 mod session_keys;
 mod standing;
 mod tickets;
 
 pub use authorization_data::copy_data;
-pub use errors::error_reply;
+pub use errors::{error_reply, too_big};
 pub use grant::Grant;
 pub use replies::{Asked, ReplyKey, ticket_reply};
+pub use services::{ServiceTerms, service_terms};
 pub use session_keys::session_key;
 pub use standing::{has_come, is_disabled, is_expired};
 pub use tickets::{ServiceKey, version_number};

@@ -10,6 +10,7 @@ pub mod SimpleLaws
 pub mod OneSpelling
 pub mod ShortText
 pub mod TextLengths
+pub mod InsideLaws
 pub mod FieldReading
 pub mod CodecLaws
 pub mod Codec

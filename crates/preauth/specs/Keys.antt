@@ -1,10 +1,13 @@
 -- The keys of a principal by the numbers that messages name their types by.
-use Rattle.std.specs.Prelude.{ℤ, Bool, not, ◌&&◌, List, [], ◌∷◌, Option, None, is_some, find}
+use Rattle.std.specs.Prelude.{ℤ, pos, Bool, not, ◌&&◌, List, [], ◌∷◌, Option, Some, None, is_some, find}
 use Rattle.std.specs.List.{filter, list_any}
 use Rattle.std.specs.Option.{option_or}
 use Rattle.std.specs.Ordering.{int_eq}
 use Rattle.enctypes.specs.declared.key.Key.{Key}
 use Rattle.enctypes.specs.Etype.{number}
+use Rattle.principal_rows.specs.Versions.{current}
+use Rattle.principal_rows.specs.declared.row.KeyVersion.{KeyVersion}
+use Rattle.principal_rows.specs.declared.row.Row.{Row}
 
 -- the key of the type of this number
 abbrev pub key_numbered : List Key → ℤ → Option Key
@@ -14,6 +17,24 @@ key_numbered keys n = find (λ k. int_eq (number k.etype) n) keys
 abbrev pub first_key : List Key → List ℤ → Option Key
 first_key keys [] = None
 first_key keys (n ∷ ns) = option_or (key_numbered keys n) (first_key keys ns)
+
+-- the version of this number
+abbrev pub numbered : List KeyVersion → ℤ → Option KeyVersion
+numbered versions kvno = find (λ v. int_eq (pos v.number) kvno) versions
+
+abbrev pub key_in : Option KeyVersion → ℤ → Option Key
+key_in (Some version) etype = key_numbered version.keys etype
+key_in None etype = None
+
+-- the key of that type in the version that is named, else in the current one
+abbrev pub key_by : List KeyVersion → ℤ → Option ℤ → Option Key
+key_by versions etype (Some kvno) = key_in (numbered versions kvno) etype
+key_by versions etype None = key_numbered (current versions).keys etype
+
+-- that key of a row, if there is a row
+abbrev pub key_named : Option Row → ℤ → Option ℤ → Option Key
+key_named (Some row) etype kvno = key_by row.versions etype kvno
+key_named None etype kvno = None
 
 abbrev pub has_key : List Key → ℤ → Bool
 has_key keys n = is_some (key_numbered keys n)

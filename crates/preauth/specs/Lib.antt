@@ -1,3 +1,4 @@
+pub mod KeyLaws
 pub mod Keys
 pub mod Lengths
 pub mod Lock

@@ -1,10 +1,10 @@
 //! Keys by the numbers of their types, as messages name them.
-ghost use Rattle.std.specs.Prelude.{◌≡◌, ◌≤◌, ◌<◌, All, length, IfOk, IfSome, option_copied};
-ghost use Rattle.preauth.specs.Keys.{key_numbered, first_key, is_new, types_of};
+ghost use Rattle.std.specs.Prelude.{◌≡◌, ◌≤◌, length, IfOk, option_copied};
+ghost use Rattle.preauth.specs.Keys.{key_by, key_numbered, first_key, is_new, numbered, types_of};
 
 use enctypes::Key;
-use krb_elements::SeqRef;
-use principal_rows::KeyList;
+use krb_elements::{SeqRef, UInt32};
+use principal_rows::{KeyList, KeyVersion, Versions};
 use std::alloc::{AllocError, Global};
 
 /// The key of the type that this number names, if there is one.
@@ -14,6 +14,27 @@ pub fn key_numbered(keys: &KeyList, number: i32) -> Option<&Key>
     keys.keys()
         .iter()
         .find(|key| key.etype().number() == number)
+}
+
+/// The key of this type in the version of this number; without a number, that of the current version.
+pub fn key_by(versions: &Versions, etype: i32, kvno: Option<UInt32>) -> Option<&Key>
+    ensures { option_copied result ≡ key_by versions.now etype kvno }
+{
+    match kvno {
+        Some(kvno) => key_numbered(&numbered(versions, kvno)?.keys, etype),
+        None => key_numbered(&versions.current().keys, etype),
+    }
+}
+
+/// The version of this number.
+fn numbered(versions: &Versions, kvno: UInt32) -> Option<&KeyVersion>
+    ensures { option_copied result ≡ numbered versions.now kvno }
+{
+    let number = kvno.get();
+    versions
+        .as_slice()
+        .iter()
+        .find(|version| i64::from(version.number) == number)
 }
 
 /// The key of the first of these types that there is a key of.

@@ -1,7 +1,8 @@
 -- Changes of a database.
-use Rattle.std.specs.Prelude.{ℕ, Bool, false, not, ◌==◌, List, [], ◌∷◌, Option, Some, None, is_none}
+use Rattle.std.specs.Prelude.{ℕ, not, ◌==◌, List, [], ◌∷◌, Option, Some, None, is_none}
 use Rattle.std.specs.Ordering.{eq_by_cmp}
 use Rattle.std.specs.FinMap.{get, contains_key, insert, remove}
+use Rattle.refusals.specs.Optional.{holds_of}
 use Rattle.refusals.specs.Refusals.{Rule, first_holding}
 use Rattle.krb_fields.specs.Name.{Components, name_cmp}
 use Rattle.krb_fields.specs.NameLimits.{is_within_limits}
@@ -13,11 +14,6 @@ use Rattle.principals.specs.declared.change.Change.TheVariants.{Add, Remove, New
 use Rattle.principals.specs.declared.change.ChangeFault.{ChangeFault}
 use Rattle.principals.specs.declared.change.ChangeFault.TheVariants.{BadName, Exists, Protected, Absent, LastVersion, CurrentKeys}
 use Rattle.principals.specs.Database.{Principals, ticket_granter}
-
--- whether a row is there, and passes a test
-abbrev pub holds_of : (Row → Bool) → Option Row → Bool
-holds_of test None = false
-holds_of test (Some row) = test row
 
 abbrev pub add_rules : Principals → Components → List (Rule ChangeFault)
 add_rules p name = (not (is_within_limits name), BadName) ∷ (contains_key p.rows name, Exists) ∷ []

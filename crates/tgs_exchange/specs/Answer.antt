@@ -4,13 +4,12 @@ use Rattle.std.specs.Cmp.Lexicographic.{pointwise}
 use Rattle.refusals.specs.Refusals.{first_holding}
 use Rattle.enctypes.specs.KeyUsage.{usage_number}
 use Rattle.krb_elements.specs.Codec.{written}
-use Rattle.krb_fields.specs.declared.code.Code.TheVariants.{KrbErrResponseTooBig}
 use Rattle.krb_fields.specs.declared.moment.Moment.{Moment}
-use Rattle.krb_replies.specs.KdcRep.{kdc_rep}
+use Rattle.krb_replies.specs.KdcRep.{KdcRep, kdc_rep}
 use Rattle.krb_types.specs.KrbError.{KrbError, krb_error}
 use Rattle.krb_types.specs.ReqBody.{ReqBody}
-use Rattle.kdc_replies.specs.ErrorReply.{error_reply}
-use Rattle.kdc_replies.specs.Reply.{OpensAlike}
+use Rattle.kdc_replies.specs.ErrorReply.{error_reply, too_big}
+use Rattle.kdc_replies.specs.Reply.{NamesKey, OpensAlike}
 use Rattle.replay.specs.Memory.{verdict}
 use Rattle.replay.specs.Stamp.{Stamp}
 use Rattle.replay.specs.declared.keep.Kept.{Kept}
@@ -35,10 +34,6 @@ pub record Answer : Type 0 where
 
 abbrev pub tgs_error : List ℕ → Moment → ReqBody → TgsRefusal → KrbError
 tgs_error realm at body refusal = error_reply realm at (code_of refusal) body.sname None
-
--- in place of a reply that is too long
-abbrev pub too_big : List ℕ → Moment → ReqBody → KrbError
-too_big realm at body = error_reply realm at KrbErrResponseTooBig body.sname None
 
 -- a refusal of which nothing is remembered
 abbrev pub refused : View → Moment → ReqBody → TgsRefusal → Answer
@@ -123,11 +118,16 @@ Spelled v at words body p octets = SpelledByClient v at words body p (first_hold
 
 -- ---- one ticket, two keys
 
--- the reply key opens the TGS-REP to what the service's key finds in the ticket
+-- The reply key opens the TGS-REP to what the service's key finds in the ticket, and that is the one that the ticket
+-- names in the service's row.
+abbrev pub OpensFor : View → Presented → Admission → KdcRep 13 → Type 0
+OpensFor v p admission reply =
+    OpensAlike 13 26 (reply_key_of p).key (usage_number (reply_key_of p).usage) admission.terms.service.key.key reply
+    × NamesKey v.service reply.ticket.enc_part admission.terms.service.key.key
+
 abbrev pub OpensBy : View → Moment → List ℕ → ReqBody → Presented → Result Admission TgsRefusal → Type 0
 OpensBy v at words body p (Err refusal) = ⊤
-OpensBy v at words body p (Ok admission) =
-    OpensAlike 13 26 (reply_key_of p).key (usage_number (reply_key_of p).usage) admission.terms.service_key.key (tgs_rep v at words body p admission)
+OpensBy v at words body p (Ok admission) = OpensFor v p admission (tgs_rep v at words body p admission)
 
 abbrev pub OpensByVerdict : View → Moment → List ℕ → ReqBody → Presented → Verdict Kept → Type 0
 OpensByVerdict v at words body p Skew = ⊤

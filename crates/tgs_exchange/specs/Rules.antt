@@ -2,6 +2,7 @@
 -- order: those of the client, and then, once the authenticator is known to be new, those of what is asked for.
 use Rattle.std.specs.Prelude.{ℤ, pos, ◌-ℤ◌, Bool, false, not, ◌&&◌, ◌||◌, nat_eq, int_lt, is_none, is_some, List, [], ◌∷◌, Option, Some, None, Result}
 use Rattle.std.specs.Cmp.Lexicographic.{pointwise}
+use Rattle.refusals.specs.Optional.{holds_of}
 use Rattle.refusals.specs.Refusals.{Rule, decided}
 use Rattle.krb_fields.specs.PrincipalName.{Name}
 use Rattle.krb_fields.specs.declared.kdc_option.KdcOption.{KdcOption}
@@ -9,9 +10,9 @@ use Rattle.krb_fields.specs.declared.kdc_option.KdcOption as options
 use Rattle.krb_fields.specs.declared.ticket_flag.TicketFlag.{TicketFlag}
 use Rattle.krb_fields.specs.declared.ticket_flag.TicketFlag.TheVariants.{Forwardable, Proxiable, MayPostdate, Invalid, Renewable}
 use Rattle.krb_types.specs.ReqBody.{ReqBody}
-use Rattle.kdc_replies.specs.Standing.{holds_of, is_disabled, is_expired}
+use Rattle.kdc_replies.specs.Standing.{is_disabled, is_expired}
 use Rattle.principal_rows.specs.declared.row.Row.{Row}
-use Rattle.ticket_times.specs.Asked.{asks}
+use Rattle.ticket_times.specs.Asked.{asks, keeps_ticket}
 use Rattle.ticket_times.specs.TicketTerms.{has_flag, start_of_ticket, renewal_of_ticket}
 use Rattle.ticket_times.specs.Times.{later, starts_too_late}
 use Rattle.ticket_times.specs.declared.ticket_terms.TicketTerms.{TicketTerms}
@@ -59,10 +60,6 @@ has_ended ticket now = int_lt ticket.endtime (now -ℤ pos 300)
 -- the realm isn't ours, no service is named, or it has no row
 abbrev pub is_service_unknown : View → ReqBody → Bool
 is_service_unknown v body = not (pointwise nat_eq body.realm v.realm) || is_none body.sname || is_none v.service
-
--- the ticket itself is to be renewed or validated
-abbrev pub keeps_ticket : ReqBody → Bool
-keeps_ticket body = asks body options.TheVariants.Renew || asks body options.TheVariants.Validate
 
 -- it is to be renewed or validated for another service than its own
 abbrev pub is_for_other_service : ReqBody → Name → Bool

@@ -2,22 +2,24 @@
 ghost use Rattle.std.specs.Prelude.{◌≡◌, ◌⊎◌, ◌<◌, ◌≤◌, false, None, length, IfOk, IfSome};
 ghost use Rattle.std.specs.FinMap as map;
 ghost use Rattle.refusals.specs.Refusals.{first_holding};
+ghost use Rattle.kdc_replies.specs.ErrorReply.{too_big};
 ghost use Rattle.krb_elements.specs.Codec.{written};
 ghost use Rattle.krb_fields.specs.PrincipalName.{name};
 ghost use Rattle.krb_types.specs.KrbError.{krb_error};
 ghost use Rattle.replay.specs.Memory.{IfNew, verdict_copied};
 ghost use Rattle.replay.specs.Stamp.{is_skewed};
-ghost use Rattle.tgs_exchange.specs.Answer.{bears_ticket, by_client, by_verdict, fresh_by, kept_reply, remembering, repeated, refused, stamp_of, tgs_answer, tgs_error, too_big, verdict_on, within_room};
+ghost use Rattle.tgs_exchange.specs.Answer.{bears_ticket, by_client, by_verdict, fresh_by, kept_reply, remembering, repeated, refused, stamp_of, tgs_answer, tgs_error, verdict_on, within_room};
 ghost use Rattle.tgs_exchange.specs.Answer.{FreshSpelled, Opens, OpensBy, OpensByClient, OpensByVerdict, RepeatSpelled, Spelled, SpelledByClient, SpelledByVerdict};
 ghost use Rattle.tgs_exchange.specs.Known.{IsKnown};
 ghost use Rattle.tgs_exchange.specs.Named.{IsNamed};
 ghost use Rattle.tgs_exchange.specs.Rules.{admitted, client_rules};
 
-use crate::errors::{tgs_error, too_big};
+use crate::errors::tgs_error;
 use crate::issuing::tgs_rep;
 use crate::rules::{admitted, client_rules};
 use crate::terms::{Admission, terms_for, ticket_terms};
 use crate::view::TgsView;
+use kdc_replies::too_big;
 use krb_elements::Octets;
 use krb_fields::Moment;
 use krb_types::ReqBodyRef;
@@ -256,7 +258,7 @@ fn fresh_by(
     admission: &Result<Admission, TgsRefusal>,
 ) -> Result<TgsAnswer, AllocError>
     requires known { IsKnown view.now body.now presented.now }
-    requires named { IfOk admission.now (λ admission. IsNamed presented.now admission.terms) }
+    requires named { IfOk admission.now (λ admission. IsNamed presented.now view.now.service admission.terms) }
     ensures reply { IfOk result (λ answer. answer.reply.items ≡ (fresh_by view.now at words.now room request.now body.now presented.now admission.now).reply) }
     ensures kept { IfOk result (λ answer. answer.kept ≡ (fresh_by view.now at words.now room request.now body.now presented.now admission.now).kept) }
     ensures spelled { IfOk result (λ answer. FreshSpelled view.now at words.now body.now presented.now admission.now answer.reply.items) }

@@ -3,10 +3,10 @@ ghost use Rattle.std.specs.Prelude.{◌≡◌, ◌<◌, ◌≤◌, length, IfOk,
 ghost use Rattle.krb_elements.specs.Codec.{written};
 ghost use Rattle.krb_fields.specs.PrincipalName.{name};
 ghost use Rattle.krb_types.specs.KrbError.{krb_error};
-ghost use Rattle.tgs_exchange.specs.Answer.{tgs_error, too_big};
+ghost use Rattle.tgs_exchange.specs.Answer.{tgs_error};
 
 use kdc_replies::error_reply;
-use krb_fields::{Code, Moment};
+use krb_fields::Moment;
 use krb_types::ReqBodyRef;
 use std::alloc::{AllocError, Global};
 use tgs_opening::TgsRefusal;
@@ -25,26 +25,4 @@ pub fn tgs_error(
     ensures spelled { IfOk result (λ octets. krb_error.Spells (tgs_error realm.now at body.now refusal) octets.items) }
 {
     error_reply(alloc, realm, at, refusal.code(), body.sname.as_ref(), None)
-}
-
-/// The octets of the error in place of a reply that is too long.
-pub fn too_big(
-    alloc: Global,
-    realm: &[u8],
-    at: Moment,
-    body: &ReqBodyRef<'_>,
-) -> Result<Vec<u8>, AllocError>
-    requires realm { length realm.now ≤ 255 }
-    requires sname { IfSome body.now.sname (λ n. length (name.text n) < 2147483648) }
-    ensures written { IfOk result (λ octets. octets.items ≡ written krb_error (too_big realm.now at body.now)) }
-    ensures spelled { IfOk result (λ octets. krb_error.Spells (too_big realm.now at body.now) octets.items) }
-{
-    error_reply(
-        alloc,
-        realm,
-        at,
-        Code::KrbErrResponseTooBig,
-        body.sname.as_ref(),
-        None,
-    )
 }

@@ -1,10 +1,9 @@
 //! The ticket of an admission, and the reply that bears it (RFC 4120, section 3.3.3).
 ghost use Rattle.std.specs.Prelude.{◌≡◌, ◌≤◌, length, IfOk};
-ghost use Rattle.enctypes.specs.KeyUsage.{usage_number};
 ghost use Rattle.krb_elements.specs.Codec.{written};
 ghost use Rattle.krb_replies.specs.KdcRep.{kdc_rep};
 ghost use Rattle.kdc_replies.specs.Grant.{IsShort};
-ghost use Rattle.kdc_replies.specs.Reply.{OpensAlike};
+ghost use Rattle.tgs_exchange.specs.Answer.{OpensFor};
 ghost use Rattle.tgs_exchange.specs.Issue.{grant_by, reply_key_of, tgs_rep};
 ghost use Rattle.ticket_times.specs.Flags.{tgs_flags};
 ghost use Rattle.tgs_exchange.specs.Known.{IsKnown};
@@ -34,11 +33,11 @@ pub fn tgs_rep(
     admission: &Admission,
 ) -> Result<Vec<u8>, AllocError>
     requires known { IsKnown view.now body.now presented.now }
-    requires named { IsNamed presented.now admission.now.terms }
+    requires named { IsNamed presented.now view.now.service admission.now.terms }
     ensures written { IfOk result (λ octets. octets.items ≡ written (kdc_rep 13) (tgs_rep view.now at words.now body.now presented.now admission.now)) }
     ensures spelled { IfOk result (λ octets. (kdc_rep 13).Spells (tgs_rep view.now at words.now body.now presented.now admission.now) octets.items) }
-    // The client and the service find the same inside.
-    ensures same { IfOk result (λ octets. OpensAlike 13 26 (reply_key_of presented.now).key (usage_number (reply_key_of presented.now).usage) admission.now.terms.service_key.key (tgs_rep view.now at words.now body.now presented.now admission.now)) }
+    // The client and the service find the same inside, the service by the key that is named there.
+    ensures same { IfOk result (λ octets. OpensFor view.now presented.now admission.now (tgs_rep view.now at words.now body.now presented.now admission.now)) }
 {
     let reply_key = reply_key_of(presented);
     let asked = Asked {
@@ -49,7 +48,7 @@ pub fn tgs_rep(
     ticket_reply::<13, 26>(
         alloc,
         &grant,
-        &admission.terms.service_key,
+        &admission.terms.service.key,
         &reply_key,
         None,
         asked,
@@ -66,7 +65,7 @@ fn grant_of(
     admission: &Admission,
 ) -> Result<Grant, AllocError>
     requires known { IsKnown view.now body.now presented.now }
-    requires named { IsNamed presented.now admission.now.terms }
+    requires named { IsNamed presented.now view.now.service admission.now.terms }
     ensures value { IfOk result (λ grant. grant ≡ grant_by view.now words.now body.now presented.now admission.now) }
     ensures short { IfOk result IsShort }
 {
@@ -75,8 +74,8 @@ fn grant_of(
     Ok(Grant {
         realm: KerberosString::from_slice(alloc, view.realm)?,
         client: ticket.cname.copy(alloc)?,
-        service: terms.service_name.copy(alloc)?,
-        session_key: session_key(terms.session_type, words),
+        service: terms.service.name.copy(alloc)?,
+        session_key: session_key(terms.service.session_type, words),
         flags: flags_of(body, presented, admission),
         authtime: ticket.authtime,
         times: *times,
@@ -85,10 +84,15 @@ fn grant_of(
 }
 
 fn flags_of(body: &ReqBodyRef<'_>, presented: &Presented, admission: &Admission) -> Flags
-    ensures { result ≡ tgs_flags body.now (ticket_terms presented.now.ticket) admission.now.terms.service admission.now.times }
+    ensures { result ≡ tgs_flags body.now (ticket_terms presented.now.ticket) admission.now.terms.service.policy admission.now.times }
 {
     let ticket = ticket_terms(&presented.ticket);
-    tgs_flags(body, &ticket, &admission.terms.service, &admission.times)
+    tgs_flags(
+        body,
+        &ticket,
+        &admission.terms.service.policy,
+        &admission.times,
+    )
 }
 
 /// The key that the client chose, else the session key of the ticket that is presented.

@@ -1,7 +1,7 @@
 //! The rules of the TGS exchange for what was opened (RFC 4120, section 3.3.3), one condition each.
 ghost use Rattle.std.specs.Prelude.{◌≡◌, option_copied};
 ghost use Rattle.tgs_exchange.specs.Rules.{admitted_by, asks_bad_option, client_rules, has_ended, has_nothing_to_validate, is_before, is_for_other_service};
-ghost use Rattle.tgs_exchange.specs.Rules.{is_not_yet_valid, is_renewed_too_late, is_service_unknown, is_ticket_revoked, is_validated_too_early, keeps_ticket, lacks_flag, rules_by, starts_late};
+ghost use Rattle.tgs_exchange.specs.Rules.{is_not_yet_valid, is_renewed_too_late, is_service_unknown, is_ticket_revoked, is_validated_too_early, lacks_flag, rules_by, starts_late};
 
 use crate::terms::{Admission, Terms, admission_of};
 use crate::view::TgsView;
@@ -11,7 +11,7 @@ use krb_types::ReqBodyRef;
 use principal_rows::Row;
 use refusals::decide;
 use tgs_opening::{TgsRefusal, is_named};
-use ticket_times::{TicketTerms, asks, starts_too_late};
+use ticket_times::{TicketTerms, asks, keeps_ticket, starts_too_late};
 
 /// The rules of the client, in the order in which they are asked. `authtime` is the second when it was first
 /// authenticated.
@@ -127,13 +127,6 @@ fn is_service_unknown(view: &TgsView<'_>, body: &ReqBodyRef<'_>) -> bool
     ensures { result ≡ is_service_unknown view.now body.now }
 {
     body.realm.as_slice() != view.realm || body.sname.is_none() || view.service.is_none()
-}
-
-/// The ticket itself is to be renewed or validated.
-fn keeps_ticket(body: &ReqBodyRef<'_>) -> bool
-    ensures { result ≡ keeps_ticket body.now }
-{
-    asks(body, KdcOption::Renew) || asks(body, KdcOption::Validate)
 }
 
 /// It is to be renewed or validated for another service than its own.

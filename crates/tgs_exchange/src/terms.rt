@@ -1,29 +1,21 @@
 //! What the service's row has for the types that a request asks for, and the times of the ticket.
-ghost use Rattle.std.specs.Prelude.{◌≡◌, IfOk, option_copied};
-ghost use Rattle.tgs_exchange.specs.Terms.{admission_of, terms, terms_of, ticket_terms};
+ghost use Rattle.std.specs.Prelude.{◌≡◌, IfOk};
+ghost use Rattle.tgs_exchange.specs.Terms.{admission_of, terms, ticket_terms};
 
 use crate::view::TgsView;
-use enctypes::Etype;
-use kdc_replies::ServiceKey;
-use krb_elements::SeqRef;
-use krb_fields::{Moment, Name, NameRef};
+use kdc_replies::{ServiceTerms, service_terms};
+use krb_fields::Moment;
 use krb_parts::EncTicketPart;
 use krb_types::ReqBodyRef;
-use preauth::first_key;
-use principal_rows::{Limits, Policy, Row};
+use principal_rows::{Limits, Policy};
 use std::alloc::{AllocError, Global};
 use ticket_times::{TicketTerms, Times, tgs_times};
 
 /// A client that has a row, and a service that has a key of a type asked for.
 #[derive(Debug, Drop)]
 pub struct Terms {
-    pub service_name: Name,
     pub client: Policy,
-    pub service: Policy,
-    /// The first type asked for that the service has a current key of.
-    pub session_type: Etype,
-    /// The service's first current key, under which the ticket is sealed.
-    pub service_key: ServiceKey,
+    pub service: ServiceTerms,
 }
 
 /// What a ticket is issued by.
@@ -63,34 +55,12 @@ pub fn terms_for(
     let Some(service) = view.service else {
         return Ok(None);
     };
-    terms_of(alloc, &body.etype, sname, client, service)
-}
-
-fn terms_of(
-    alloc: Global,
-    types: &SeqRef<'_, i32>,
-    sname: &NameRef<'_>,
-    client: &Row,
-    service: &Row,
-) -> Result<Option<Terms>, AllocError>
-    ensures { IfOk result (λ found. found ≡ terms_of types.now sname.now client.now service.now) }
-{
-    let version = service.versions.current();
-    let Some(session_key) = first_key(&version.keys, types) else {
-        return Ok(None);
-    };
-    let Some(key) = version.keys.keys().first() else {
+    let Some(service) = service_terms(alloc, &body.etype, sname, service)? else {
         return Ok(None);
     };
     Ok(Some(Terms {
-        service_name: sname.to_name(alloc)?,
         client: client.policy,
-        service: service.policy,
-        session_type: session_key.etype(),
-        service_key: ServiceKey {
-            key: *key,
-            version: version.number,
-        },
+        service,
     }))
 }
 
@@ -107,7 +77,14 @@ pub fn admission_of(
     let Some(terms) = terms else {
         return None;
     };
-    let Ok(times) = tgs_times(at, ticket, &terms.client, &terms.service, limits, body) else {
+    let Ok(times) = tgs_times(
+        at,
+        ticket,
+        &terms.client,
+        &terms.service.policy,
+        limits,
+        body,
+    ) else {
         return None;
     };
     Some(Admission { terms, times })

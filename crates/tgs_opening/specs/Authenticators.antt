@@ -1,7 +1,8 @@
 -- The session key of a presented ticket, and the authenticator under it (RFC 4120, sections 3.2.3 and 5.5.1).
-use Rattle.std.specs.Prelude.{ℕ, pos, Bool, false, not, ◌||◌, nat_eq, if◌then◌else◌, is_some, is_none, List, [], ◌∷◌, Option, Some, None, Result, option_map}
+use Rattle.std.specs.Prelude.{ℕ, Bool, not, ◌||◌, nat_eq, if◌then◌else◌, is_some, is_none, List, [], ◌∷◌, Option, Some, None, Result, option_map}
 use Rattle.std.specs.Ordering.{int_eq}
 use Rattle.std.specs.Cmp.Lexicographic.{pointwise}
+use Rattle.refusals.specs.Optional.{holds_of}
 use Rattle.refusals.specs.Refusals.{Rule, decided}
 use Rattle.enctypes.specs.Etype.{number, checksum_type}
 use Rattle.enctypes.specs.Sealing.{mac}
@@ -42,11 +43,6 @@ authenticator_of key sealed = decided [] (authenticator_in key sealed) Authentic
 -- another client's than the ticket's
 abbrev pub is_mismatched : EncTicketPart → Authenticator → Bool
 is_mismatched part auth = not (pointwise nat_eq auth.crealm part.crealm) || not (is_same auth.cname part.cname)
-
--- what is said of the checksum, where there is one
-abbrev pub holds_of : (Typed → Bool) → Option Typed → Bool
-holds_of test (Some cksum) = test cksum
-holds_of test None = false
 
 abbrev pub is_other_type : Key → Option Typed → Bool
 is_other_type key = holds_of (λ cksum. not (int_eq cksum.number (checksum_type key.etype)))

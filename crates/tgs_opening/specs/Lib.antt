@@ -3,6 +3,5 @@ pub mod Refusal
 pub mod Tickets
 pub mod Authenticators
 pub mod Opening
-pub mod InsideLaws
 pub mod PartLaws
 pub mod RequestLaws

@@ -8,7 +8,7 @@ use Rattle.krb_fields.specs.PrincipalName.{name}
 use Rattle.krb_fields.specs.Typed.{Typed, typed, typed_form}
 use Rattle.krb_parts.specs.EncTicketPart.{EncTicketPart, enc_ticket_part, enc_ticket_part_form}
 use Rattle.sealed_parts.specs.Parts.{IsSpelledWithin}
-use Rattle.tgs_opening.specs.InsideLaws.{IsAtMost, IsInside, in_contents, in_optional, past_field, past_optional, part_of}
+use Rattle.krb_elements.specs.InsideLaws.{IsAtMost, IsInside, in_contents, in_optional, past_field, past_optional, part_of}
 
 abbrev size : List Typed → ℕ
 size list = length ((list_of typed).text list)

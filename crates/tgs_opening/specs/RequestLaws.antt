@@ -11,7 +11,7 @@ use Rattle.krb_fields.specs.PaData.{PaData, pa_data, pa_data_form}
 use Rattle.krb_types.specs.KdcReq.{Received, SpellsReceived, received_form, message_tag}
 use Rattle.krb_types.specs.declared.kdc_req.Exchange.{Exchange}
 use Rattle.preauth.specs.Timestamp.{first_of}
-use Rattle.tgs_opening.specs.InsideLaws.{IsAtMost, IsInside, in_contents, in_field, in_optional, past_field, part_of}
+use Rattle.krb_elements.specs.InsideLaws.{IsAtMost, IsInside, in_contents, in_field, in_optional, past_field, part_of}
 use Rattle.tgs_opening.specs.Tickets.{tgs_data}
 
 octets_inside : IsInside length octets.Spells (λ value. Some value)

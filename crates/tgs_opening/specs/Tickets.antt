@@ -1,5 +1,5 @@
 -- The ticket that a TGS-REQ presents (RFC 4120, sections 3.2.3 and 3.3.3).
-use Rattle.std.specs.Prelude.{ℕ, ℤ, pos, Bool, true, false, not, ◌&&◌, ◌||◌, nat_eq, if◌then◌else◌, is_some, is_none, List, [], ◌∷◌, Option, Some, None, Result, Ok, Err, find}
+use Rattle.std.specs.Prelude.{ℕ, ℤ, pos, Bool, true, false, not, ◌&&◌, ◌||◌, nat_eq, if◌then◌else◌, is_some, is_none, List, [], ◌∷◌, Option, Some, None, Result}
 use Rattle.std.specs.List.{list_any}
 use Rattle.std.specs.Ordering.{int_eq, eq_by_cmp}
 use Rattle.std.specs.Cmp.Lexicographic.{pointwise}
@@ -12,7 +12,6 @@ use Rattle.krb_fields.specs.Flags.{has_bit}
 use Rattle.krb_fields.specs.Name.{name_cmp}
 use Rattle.krb_fields.specs.PrincipalName.{Name}
 use Rattle.krb_fields.specs.declared.ap_option.ApOption.TheVariants.{UseSessionKey}
-use Rattle.krb_fields.specs.declared.kdc_option.KdcOption.TheVariants.{Renew, Validate}
 use Rattle.krb_ap.specs.ApReq.{ApReq, ap_req}
 use Rattle.krb_parts.specs.EncTicketPart.{EncTicketPart, enc_ticket_part}
 use Rattle.krb_types.specs.KdcReq.{Received}
@@ -20,13 +19,12 @@ use Rattle.krb_types.specs.ReqBody.{ReqBody}
 use Rattle.krb_types.specs.Ticket.{Ticket}
 use Rattle.enctypes.specs.declared.key.Key.{Key}
 use Rattle.sealed_parts.specs.Parts.{ok_of, opened_as}
-use Rattle.preauth.specs.Keys.{has_key, key_numbered}
+use Rattle.preauth.specs.Keys.{has_key, key_named}
 use Rattle.preauth.specs.Timestamp.{first_of}
-use Rattle.principal_rows.specs.Versions.{current}
 use Rattle.principal_rows.specs.declared.row.KeyVersion.{KeyVersion}
 use Rattle.principal_rows.specs.declared.row.Row.{Row}
 use Rattle.principals.specs.Database.{ticket_granter}
-use Rattle.ticket_times.specs.Asked.{asks}
+use Rattle.ticket_times.specs.Asked.{keeps_ticket}
 use Rattle.tgs_opening.specs.View.{View}
 use Rattle.tgs_opening.specs.declared.refusal.TgsRefusal.{TgsRefusal}
 use Rattle.tgs_opening.specs.declared.refusal.TgsRefusal.TheVariants.{BadVersion, BadMessageType, NoApReq, MalformedApReq}
@@ -71,7 +69,7 @@ is_named None service = false
 
 -- the service that is asked for, which counts where the ticket is to be renewed or validated
 abbrev pub is_for_asked : ReqBody → Name → Bool
-is_for_asked body service = (asks body Renew || asks body Validate) && is_named body.sname service
+is_for_asked body service = keeps_ticket body && is_named body.sname service
 
 abbrev pub addressee : List ℕ → ReqBody → Name → Addressee
 addressee realm body service =
@@ -96,21 +94,9 @@ is_not_for_us v body ticket = not (pointwise nat_eq ticket.realm v.realm) || is_
 
 -- ---- the key that it is sealed under
 
-abbrev pub numbered : List KeyVersion → ℤ → Option KeyVersion
-numbered versions kvno = find (λ v. int_eq (pos v.number) kvno) versions
-
-abbrev pub key_in : Option KeyVersion → ℤ → Option Key
-key_in (Some version) etype = key_numbered version.keys etype
-key_in None etype = None
-
--- the key of that type in the version that is named, else in the current one
-abbrev pub key_by : List KeyVersion → ℤ → Option ℤ → Option Key
-key_by versions etype (Some kvno) = key_in (numbered versions kvno) etype
-key_by versions etype None = key_numbered (current versions).keys etype
-
+-- the key of the ticket's type in the version that it names, else in the current one
 abbrev pub ticket_key : Option Row → EncryptedData → Option Key
-ticket_key (Some row) sealed = key_by row.versions sealed.etype sealed.kvno
-ticket_key None sealed = None
+ticket_key row sealed = key_named row sealed.etype sealed.kvno
 
 -- whether any version has a key of the type
 abbrev pub holds_type : List KeyVersion → ℤ → Bool

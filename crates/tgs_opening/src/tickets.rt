@@ -4,24 +4,24 @@ ghost use Rattle.std.specs.Cmp.Lexicographic.{pointwise};
 ghost use Rattle.krb_parts.specs.EncTicketPart.{enc_ticket_part};
 ghost use Rattle.sealed_parts.specs.Parts.{IsSpelledWithin};
 ghost use Rattle.tgs_opening.specs.Tickets.{addressee, ap_req_in, ap_req_of, holder, holds_type, is_for_asked, is_named, is_other};
-ghost use Rattle.tgs_opening.specs.Tickets.{lacks_key, numbered, opened_with, request_rules, row_of, tgs_data, ticket_key, ticket_of, ticket_rules};
+ghost use Rattle.tgs_opening.specs.Tickets.{lacks_key, opened_with, request_rules, row_of, tgs_data, ticket_key, ticket_of, ticket_rules};
 
 use crate::refusal::TgsRefusal;
 use crate::view::TicketView;
 use enctypes::{Key, KeyUsage};
 use krb_ap::{AP_REQ, ApReqRef, read_ap_req};
-use krb_elements::{OctetsRef, UInt32};
-use krb_fields::{ApOption, EncryptedDataRef, KdcOption, Name, NameRef};
+use krb_elements::OctetsRef;
+use krb_fields::{ApOption, EncryptedDataRef, Name, NameRef};
 use krb_parts::EncTicketPart;
 use krb_types::{KdcReqRef, PVNO, ReqBodyRef, TGS_REQ, TicketRef};
-use preauth::{PA_TGS_REQ, first_of, key_numbered};
-use principal_rows::{KeyVersion, Row, Versions};
+use preauth::{PA_TGS_REQ, first_of, key_by, key_numbered};
+use principal_rows::{Row, Versions};
 use principals::granter_name;
 use refusals::decide;
 use sealed_parts::open_part;
 use std::alloc::{AllocError, Global};
 use std::cmp::Ordering;
-use ticket_times::asks;
+use ticket_times::keeps_ticket;
 
 /// Whom a ticket is for.
 #[derive(Debug, Clone, Copy, PartialEq, Eq)]
@@ -140,8 +140,7 @@ fn addressee_of(
 fn is_for_asked(body: &ReqBodyRef<'_>, service: &Name) -> bool
     ensures { result ≡ is_for_asked body.now service.now }
 {
-    let kept = asks(body, KdcOption::Renew) || asks(body, KdcOption::Validate);
-    kept && is_named(body.sname.as_ref(), service)
+    keeps_ticket(body) && is_named(body.sname.as_ref(), service)
 }
 
 /// Whether the name is that of this service, by its components.
@@ -206,22 +205,7 @@ fn holds_type(versions: &Versions, etype: i32) -> bool
 fn ticket_key<'r>(row: Option<&'r Row>, sealed: &EncryptedDataRef<'_>) -> Option<&'r Key>
     ensures { option_copied result ≡ ticket_key (option_copied row.entry) sealed.now }
 {
-    let versions = &row?.versions;
-    match sealed.kvno {
-        Some(kvno) => key_numbered(&numbered(versions, kvno)?.keys, sealed.etype),
-        None => key_numbered(&versions.current().keys, sealed.etype),
-    }
-}
-
-/// The version of this number.
-fn numbered(versions: &Versions, kvno: UInt32) -> Option<&KeyVersion>
-    ensures { option_copied result ≡ numbered versions.now kvno }
-{
-    let number = kvno.get();
-    versions
-        .as_slice()
-        .iter()
-        .find(|version| i64::from(version.number) == number)
+    key_by(&row?.versions, sealed.etype, sealed.kvno)
 }
 
 /// What the key opens, if there is one.

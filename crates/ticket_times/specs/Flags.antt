@@ -9,7 +9,7 @@ use Rattle.krb_types.specs.ReqBody.{ReqBody}
 use Rattle.principal_rows.specs.declared.policy.Policy.{Policy}
 use Rattle.ticket_times.specs.declared.ticket_terms.TicketTerms.{TicketTerms}
 use Rattle.ticket_times.specs.declared.times.Times.{Times}
-use Rattle.ticket_times.specs.Asked.{asks}
+use Rattle.ticket_times.specs.Asked.{asks, keeps_ticket}
 use Rattle.ticket_times.specs.TicketTerms.{has_flag}
 use Rattle.ticket_times.specs.FlagSet.{Conditions, flags_where}
 
@@ -51,5 +51,5 @@ kept_flags ticket = without_bit (without_bit ticket.flags (ticket_flag_number In
 
 abbrev pub tgs_flags : ReqBody → TicketTerms → Policy → Times → ℕ
 tgs_flags body ticket service times =
-    if asks body options.TheVariants.Renew || asks body options.TheVariants.Validate then kept_flags ticket
+    if keeps_ticket body then kept_flags ticket
     else flags_where (tgs_conditions body ticket service times)

@@ -1,6 +1,6 @@
 //! What a request asks for.
 ghost use Rattle.std.specs.Prelude.{◌≡◌};
-ghost use Rattle.ticket_times.specs.Asked.{asks};
+ghost use Rattle.ticket_times.specs.Asked.{asks, keeps_ticket};
 
 use krb_fields::KdcOption;
 use krb_types::ReqBodyRef;
@@ -10,4 +10,11 @@ pub fn asks(body: &ReqBodyRef<'_>, option: KdcOption) -> bool
     ensures { result ≡ asks body.now option }
 {
     body.kdc_options.has(option)
+}
+
+/// Whether the ticket that is presented is to be renewed or validated.
+pub fn keeps_ticket(body: &ReqBodyRef<'_>) -> bool
+    ensures { result ≡ keeps_ticket body.now }
+{
+    asks(body, KdcOption::Renew) || asks(body, KdcOption::Validate)
 }

@@ -1,0 +1,49 @@
+//! What the row of a service has for the types that a request asks for.
+ghost use Rattle.std.specs.Prelude.{◌≡◌, IfOk};
+ghost use Rattle.kdc_replies.specs.ServiceTerms.{service_terms};
+
+use crate::tickets::ServiceKey;
+use enctypes::Etype;
+use krb_elements::SeqRef;
+use krb_fields::{Name, NameRef};
+use preauth::first_key;
+use principal_rows::{Policy, Row};
+use std::alloc::{AllocError, Global};
+
+/// A service that has a current key of a type asked for.
+#[derive(Debug, Drop)]
+pub struct ServiceTerms {
+    pub name: Name,
+    pub policy: Policy,
+    /// The first type asked for that it has a current key of.
+    pub session_type: Etype,
+    /// Its first current key, under which the ticket is sealed.
+    pub key: ServiceKey,
+}
+
+/// The terms of the service of this name and row; `None` where it has no current key of these types.
+pub fn service_terms(
+    alloc: Global,
+    types: &SeqRef<'_, i32>,
+    name: &NameRef<'_>,
+    row: &Row,
+) -> Result<Option<ServiceTerms>, AllocError>
+    ensures { IfOk result (λ found. found ≡ service_terms types.now name.now row.now) }
+{
+    let version = row.versions.current();
+    let Some(session_key) = first_key(&version.keys, types) else {
+        return Ok(None);
+    };
+    let Some(key) = version.keys.keys().first() else {
+        return Ok(None);
+    };
+    Ok(Some(ServiceTerms {
+        name: name.to_name(alloc)?,
+        policy: row.policy,
+        session_type: session_key.etype(),
+        key: ServiceKey {
+            key: *key,
+            version: version.number,
+        },
+    }))
+}
