@@ -54,7 +54,7 @@ fn a_request_of_an_unknown_client_is_answered(rt: HostRuntime) -> Result<(), All
 }
 
 #[test]
-fn an_open_of_another_form_is_a_fault(rt: HostRuntime) {
+fn a_line_of_another_form_is_a_fault(rt: HostRuntime) {
     for line in [
         "open",
         "open ",
@@ -86,15 +86,6 @@ fn an_open_of_another_form_is_a_fault(rt: HostRuntime) {
         "open A.B 64 0 0 36000 0 +17:00000000000000000000000000000000",
         "open A.B 64 0 0 36000 0 17:00000000000000000000000000000000,",
         "open A.B 64 0 0 36000 0 17:00000000000000000000000000000000,19:00000000000000000000000000000000,17:00000000000000000000000000000000",
-    ] {
-        expect_run(&rt, line.as_bytes(), "fault 1\n", FAULT);
-        expect_after_open(&rt, line, "fault 2\n", FAULT);
-    }
-}
-
-#[test]
-fn an_add_or_request_of_another_form_is_a_fault(rt: HostRuntime) {
-    for line in [
         "add u",
         "add u v 17:00000000000000000000000000000000",
         "add u 17:00000000000000000000000000000000,",
@@ -134,6 +125,7 @@ fn an_add_or_request_of_another_form_is_a_fault(rt: HostRuntime) {
         "\r",
         " ",
     ] {
+        expect_run(&rt, line.as_bytes(), "fault 1\n", FAULT);
         expect_after_open(&rt, line, "fault 2\n", FAULT);
     }
 }
