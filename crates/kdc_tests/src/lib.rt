@@ -1,7 +1,9 @@
-//! The tests of a KDC and of what stands around it: scripts, and streams cut into messages. They stand apart, since a
-//! crate with tests is proved twice.
+//! The tests of a KDC and of what stands around it: scripts, streams cut into messages, and a hub whose KDC issues
+//! tickets. They stand apart, since a crate with tests is proved twice.
 #![tactic(auto)]
 
+#[cfg(test)]
+mod connections;
 #[cfg(test)]
 mod kdcs;
 #[cfg(test)]

@@ -10,7 +10,7 @@ use std::test::Fail;
 
 /// A TGS-REQ of `u` for `h` in `A.B`, of an independent model of the exchanges in Python: its ticket is sealed under the key
 /// of octets 128 to 159.
-const REQUEST: &[u8] =
+pub const REQUEST: &[u8] =
     b"6c8201f9308201f5a103020105a20302010ca38201a4308201a03082019ca103020101a28201930482018f6e82018b30820187a003020105a10302010ea20703050000000000a381f76181f43081f1a003020105a1051b03412e42a2183016a003020102a10f300d1b066b72627467741b03412e42a381c83081c5a003020112a103020101a281b80481b50c22a315b27e01abc7ce272e018afa3f646b7ff6a67efd102bd7cd58cccfb61c40ecad4b4b0cfa53221a98f669ef111529c23a4945cb595670f7bea3e05922c98c3c635cced4f04c36841e94a2fe24206d8e39e2f7e007841aecc773568257d9fefcd66d1e801bd95badcc572457a0f86e4a34f0fded74d00e5d5eda009a9bfe3ff36099e34fd30178d36e3b8ae17450316ea0369511dcea71cc908d0b0aa9876b1512e96c795f06d1c574c7320b9cc2f42e7a6cb3a4783076a003020112a26f046d27eaf4a46e358fe3985a88a12611bd08cf3d9923092ec67a8c388f34e02a22eb48946e30f1043412940dc5dd697c1489a918c37099e510a0b50c287d4dbfe494965e77447d3f2a440f87784783b1d0263c7b383bf27d98bd0908466ef9240d16aa48bc6e5105b5dca8fb23a4efa441303fa00703050000000000a2051b03412e42a30e300ca003020101a10530031b0168a511180f31393730303130313030303030305aa703020101a8053003020112";
 
 /// The TGS-REP to it, of the same model: the key of `h` is the octets 160 to 191, the random octets are 64 to 127.
@@ -37,7 +37,7 @@ fn add(alloc: Global, kdc: &mut Kdc, component: &[u8], first: u8) -> Result<(), 
 }
 
 /// A KDC with `u` and `h`.
-fn kdc(alloc: Global) -> Result<Kdc, Fail> {
+pub fn kdc(alloc: Global) -> Result<Kdc, Fail> {
     let mut kdc = kdc_of(alloc, key_from(128))?;
     add(alloc, &mut kdc, b"u", 64)?;
     add(alloc, &mut kdc, b"h", 160)?;
