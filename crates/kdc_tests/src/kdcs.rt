@@ -406,7 +406,7 @@ fn replies(alloc: Global) -> Result<[Option<Vec<u8>>; 6], Fail> {
 }
 
 /// How many events are done, and the replies to them.
-fn ran(alloc: Global, kdc: &mut Kdc, events: &[Event]) -> (usize, Vec<Option<Vec<u8>>>) {
+pub fn ran(alloc: Global, kdc: &mut Kdc, events: &[Event]) -> (usize, Vec<Option<Vec<u8>>>) {
     match kdc.run(alloc, events) {
         Ok(replies) => (events.len(), replies),
         Err(RunFault { done, replies }) => (done, replies),

@@ -9,8 +9,12 @@ mod kdcs;
 #[cfg(test)]
 mod lives;
 #[cfg(test)]
+mod requests;
+#[cfg(test)]
 mod scripts;
 #[cfg(test)]
 mod service_tickets;
 #[cfg(test)]
 mod streams;
+#[cfg(test)]
+mod struck_runs;

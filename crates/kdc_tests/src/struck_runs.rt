@@ -1,0 +1,387 @@
+//! Struck runs (`kdc_core`): a client gets the same beside others as where their requests and the changes of their rows are
+//! struck out.
+use crate::kdcs::{name, ran};
+use crate::requests::{AS_HEAD, BAD_TIMESTAMP, as_req, tgs_req};
+use enctypes::{Etype, Key};
+use kdc_core::{Event, Kdc, Opening};
+use krb_elements::Octets;
+use krb_fields::{Moment, Second};
+use principal_rows::{KeyList, Limits, Policy};
+use principals::{Change, Database};
+use std::alloc::{AllocError, Global};
+use std::test::Fail;
+
+const MIDNIGHT: i64 = 1_704_067_200;
+
+/// The octet of which the first keys of `krbtgt/A.B` and `h` are made.
+const FIRST: u8 = 1;
+
+/// What happens in a step of a run.
+#[derive(Clone, Copy)]
+enum Act {
+    /// The client asks.
+    Ask(Asked),
+    /// The client's row is changed.
+    Change(Changed),
+    /// `krbtgt/A.B` gets new keys.
+    GranterKeys,
+    /// `h` gets new keys.
+    ServiceKeys,
+    Restart,
+}
+
+/// What a client asks: a ticket for `krbtgt/A.B`, or one for `h` by a ticket that it has.
+#[derive(Clone, Copy)]
+enum Asked {
+    As,
+    AsBadTimestamp,
+    Tgs,
+    /// The octets of the client's last `Tgs`.
+    TgsAgain,
+    /// Another request with the same authenticator's time.
+    TgsAltered,
+    /// One whose checksum is that of another body.
+    TgsSpoilt,
+}
+
+/// What is changed of a client's row.
+#[derive(Clone, Copy)]
+enum Changed {
+    Add,
+    Remove,
+    NewKeys,
+    /// It needs no preauthentication, and nothing is refused to it.
+    Free,
+    Disable,
+    /// Its tickets from before this step are revoked.
+    Revoke,
+}
+
+#[derive(Clone, Copy)]
+struct Step {
+    act: Act,
+    /// The letter that the client is named by.
+    client: u8,
+    /// When it happens, in seconds after midnight.
+    at: u32,
+    /// When the authenticator was made, in seconds after midnight.
+    stamp: u32,
+    /// Of this octet are its random octets and new keys made.
+    octet: u8,
+}
+
+impl Step {
+    /// Whether the step is left for this client.
+    fn is_left(self, client: u8) -> bool {
+        match self.act {
+            Act::Ask(_) | Act::Change(_) => self.client == client,
+            Act::GranterKeys | Act::ServiceKeys | Act::Restart => true,
+        }
+    }
+}
+
+fn key(etype: Etype, octet: u8) -> Key {
+    Key::from_random(etype, &[octet; 32])
+}
+
+fn service_keys(alloc: Global, octet: u8) -> Result<KeyList, Fail> {
+    let keys = [key(Etype::Aes256CtsHmacSha1_96, octet)];
+    Ok(KeyList::new(alloc, &keys)?)
+}
+
+fn client_keys(alloc: Global, octet: u8) -> Result<KeyList, Fail> {
+    let keys = [
+        key(Etype::Aes256CtsHmacSha1_96, octet),
+        key(Etype::Aes256CtsHmacSha384_192, octet),
+    ];
+    Ok(KeyList::new(alloc, &keys)?)
+}
+
+/// A KDC of `A.B` that has no clients, only the service `h`.
+fn opened(alloc: Global, limits: Limits) -> Result<Kdc, Fail> {
+    let mut database = Database::first(alloc, b"A.B", service_keys(alloc, FIRST)?)?;
+    let add = Change::Add {
+        name: name(alloc, &[b"h"])?,
+        keys: service_keys(alloc, FIRST)?,
+    };
+    database.apply(alloc, &add)?;
+    Ok(Kdc::open(alloc, database, limits, Opening::First)?)
+}
+
+fn request(alloc: Global, asked: Asked, step: Step) -> Result<Vec<u8>, AllocError> {
+    let key = key(Etype::Aes256CtsHmacSha1_96, FIRST);
+    let nonce = match asked {
+        Asked::As => return as_req(alloc, AS_HEAD, step.client),
+        Asked::AsBadTimestamp => return as_req(alloc, BAD_TIMESTAMP, step.client),
+        Asked::Tgs | Asked::TgsAgain | Asked::TgsSpoilt => 1,
+        Asked::TgsAltered => 2,
+    };
+    let mut request = tgs_req(alloc, &key, step.client, step.stamp, nonce)?;
+    if let (Asked::TgsSpoilt, Some(last)) = (asked, request.last_mut()) {
+        *last ^= 1;
+    }
+    Ok(request)
+}
+
+fn policy(changed: Changed, at: u32) -> Policy {
+    let policy = Policy::default();
+    match changed {
+        Changed::Disable => Policy {
+            disabled: true,
+            ..policy
+        },
+        Changed::Revoke => Policy {
+            revoked_before: Second::new(MIDNIGHT + i64::from(at)),
+            ..policy
+        },
+        _ => Policy {
+            preauth: false,
+            ..policy
+        },
+    }
+}
+
+fn change(alloc: Global, changed: Changed, step: Step) -> Result<Change, Fail> {
+    let name = name(alloc, &[&[step.client]])?;
+    let keys = client_keys(alloc, step.octet)?;
+    Ok(match changed {
+        Changed::Add => Change::Add { name, keys },
+        Changed::Remove => Change::Remove { name },
+        Changed::NewKeys => Change::NewKeys { name, keys },
+        Changed::Free | Changed::Disable | Changed::Revoke => Change::SetPolicy {
+            name,
+            policy: policy(changed, step.at),
+        },
+    })
+}
+
+fn new_service_keys(alloc: Global, service: &[&[u8]], octet: u8) -> Result<Event, Fail> {
+    let change = Change::NewKeys {
+        name: name(alloc, service)?,
+        keys: service_keys(alloc, octet)?,
+    };
+    Ok(Event::Change { change })
+}
+
+fn asks(alloc: Global, asked: Asked, at: Moment, step: Step) -> Result<Event, Fail> {
+    Ok(Event::Request {
+        at,
+        words: [step.octet; 64],
+        room: 1400,
+        request: Octets::new(request(alloc, asked, step)?),
+    })
+}
+
+fn event(alloc: Global, step: Step) -> Result<Event, Fail> {
+    let at = Moment::new(MIDNIGHT + i64::from(step.at), 0).ok_or("a moment")?;
+    match step.act {
+        Act::Ask(asked) => asks(alloc, asked, at, step),
+        Act::Change(changed) => Ok(Event::Change {
+            change: change(alloc, changed, step)?,
+        }),
+        Act::GranterKeys => new_service_keys(alloc, &[b"krbtgt", b"A.B"], step.octet),
+        Act::ServiceKeys => new_service_keys(alloc, &[b"h"], step.octet),
+        Act::Restart => Ok(Event::Restart { at }),
+    }
+}
+
+/// The events of the steps that are left for this client, or of all.
+fn events(alloc: Global, steps: &[Step], client: Option<u8>) -> Result<Vec<Event>, Fail> {
+    let mut events = Vec::new(alloc);
+    for step in steps {
+        if client.is_none_or(|client| step.is_left(client)) {
+            events.push(event(alloc, *step)?)?;
+        }
+    }
+    Ok(events)
+}
+
+/// The replies of a KDC that runs through them.
+fn replies(
+    alloc: Global,
+    limits: Limits,
+    steps: &[Step],
+    client: Option<u8>,
+) -> Result<Vec<Option<Vec<u8>>>, Fail> {
+    let events = events(alloc, steps, client)?;
+    let mut kdc = opened(alloc, limits)?;
+    let (_, replies) = ran(alloc, &mut kdc, &events);
+    Ok(replies)
+}
+
+/// Whether it is an AS-REP or a TGS-REP.
+fn bears_ticket(reply: &Option<Vec<u8>>) -> bool {
+    match reply {
+        Some(octets) => matches!(octets.first(), Some(0x6b | 0x6d)),
+        None => false,
+    }
+}
+
+/// How many tickets the client got, where each step that is left for it got in the struck run what it got in the whole one.
+fn tickets(
+    steps: &[Step],
+    whole: &[Option<Vec<u8>>],
+    struck: &[Option<Vec<u8>>],
+    client: u8,
+) -> Option<usize> {
+    let mut struck = struck.iter();
+    let mut tickets = 0usize;
+    for (step, reply) in steps.iter().zip(whole) {
+        if !step.is_left(client) {
+            continue;
+        }
+        if struck.next()? != reply {
+            return None;
+        }
+        if bears_ticket(reply) {
+            tickets = tickets.saturating_add(1);
+        }
+    }
+    match struck.next() {
+        Some(_) => None,
+        None => Some(tickets),
+    }
+}
+
+/// A step whose authenticator, if it has one, is made when it happens.
+fn step_at(at: u32, client: u8, act: Act, octet: u8) -> Step {
+    Step {
+        act,
+        client,
+        at,
+        stamp: at,
+        octet,
+    }
+}
+
+/// `u` and `w` come, and the KDC starts again. 301 seconds later, when authenticators are accepted, `u` asks, and `w` ten
+/// times; `w` and `krbtgt/A.B` get new keys, and `u` asks once more. The first and the last request of `w` have the same
+/// authenticators' times as those of `u`.
+const BESIDE_ANOTHER: [(u32, u8, Act); 18] = [
+    (0, b'u', Act::Change(Changed::Add)),
+    (0, b'u', Act::Change(Changed::Free)),
+    (0, b'w', Act::Change(Changed::Add)),
+    (0, b' ', Act::Restart),
+    (301, b'u', Act::Ask(Asked::Tgs)),
+    (301, b'w', Act::Ask(Asked::Tgs)),
+    (302, b'w', Act::Ask(Asked::Tgs)),
+    (303, b'w', Act::Ask(Asked::Tgs)),
+    (304, b'w', Act::Ask(Asked::Tgs)),
+    (305, b'w', Act::Ask(Asked::Tgs)),
+    (306, b'w', Act::Ask(Asked::Tgs)),
+    (307, b'w', Act::Ask(Asked::Tgs)),
+    (308, b'w', Act::Ask(Asked::Tgs)),
+    (309, b'w', Act::Ask(Asked::Tgs)),
+    (310, b'w', Act::Ask(Asked::Tgs)),
+    (310, b'w', Act::Change(Changed::NewKeys)),
+    (310, b' ', Act::GranterKeys),
+    (310, b'u', Act::Ask(Asked::Tgs)),
+];
+
+#[test]
+fn a_client_gets_the_same_without_another(rt: HostRuntime) -> Result<(), Fail> {
+    let alloc = rt.alloc();
+    let limits = Limits::new(64, 0, 0, 36000, 0).ok_or("limits")?;
+    let mut steps = Vec::new(alloc);
+    for (octet, (at, client, act)) in (2..20).zip(BESIDE_ANOTHER) {
+        steps.push(step_at(at, client, act, octet))?;
+    }
+    let whole = replies(alloc, limits, &steps, None)?;
+    for (client, wanted) in [(b'u', 2), (b'w', 10)] {
+        let struck = replies(alloc, limits, &steps, Some(client))?;
+        assert_eq!(rt; tickets(&steps, &whole, &struck, client), Some(wanted));
+    }
+    Ok(())
+}
+
+/// A linear congruential generator, of whose numbers the highest octet is taken.
+#[derive(Drop)]
+struct Draws {
+    last: u64,
+}
+
+impl Draws {
+    fn draw(&mut self) -> u8 {
+        let product = self.last.wrapping_mul(6_364_136_223_846_793_005);
+        self.last = product.wrapping_add(1_442_695_040_888_963_407);
+        let [highest, ..] = self.last.to_be_bytes();
+        highest
+    }
+
+    fn act(&mut self) -> Act {
+        match self.draw() {
+            0..=53 => Act::Ask(Asked::As),
+            54..=65 => Act::Ask(Asked::AsBadTimestamp),
+            66..=155 => Act::Ask(Asked::Tgs),
+            156..=191 => Act::Ask(Asked::TgsAgain),
+            192..=207 => Act::Ask(Asked::TgsAltered),
+            208..=219 => Act::Ask(Asked::TgsSpoilt),
+            220..=231 => Act::Change(Changed::Add),
+            232..=233 => Act::Change(Changed::Remove),
+            234..=237 => Act::Change(Changed::NewKeys),
+            238..=245 => Act::Change(Changed::Free),
+            246..=247 => Act::Change(Changed::Disable),
+            248..=249 => Act::Change(Changed::Revoke),
+            250..=252 => Act::GranterKeys,
+            253..=254 => Act::ServiceKeys,
+            255 => Act::Restart,
+        }
+    }
+}
+
+/// The stamp of the client's last `Tgs`.
+fn last_stamp(steps: &[Step], client: u8) -> Option<u32> {
+    let mut last = None;
+    for step in steps {
+        if step.client == client && matches!(step.act, Act::Ask(Asked::Tgs)) {
+            last = Some(step.stamp);
+        }
+    }
+    last
+}
+
+/// A step of one of eight clients. It may be half a minute late.
+fn drawn_step(draws: &mut Draws, steps: &[Step], clock: u32) -> Step {
+    let act = draws.act();
+    let client = b'p' + draws.draw() % 8;
+    let at = clock.saturating_sub(u32::from(draws.draw() % 32));
+    let mut step = step_at(at, client, act, draws.draw());
+    if let Act::Ask(Asked::TgsAgain | Asked::TgsAltered) = act {
+        step.stamp = last_stamp(steps, client).unwrap_or(at);
+    }
+    step
+}
+
+/// The clients come, and 1,984 steps follow.
+fn drawn_steps(alloc: Global) -> Result<Vec<Step>, AllocError> {
+    let mut steps = Vec::new(alloc);
+    for client in b'p'..=b'w' {
+        steps.push(step_at(0, client, Act::Change(Changed::Add), client))?;
+        steps.push(step_at(0, client, Act::Change(Changed::Free), client))?;
+    }
+    let mut draws = Draws { last: 0 };
+    let mut clock = 0u32;
+    for _ in 16..2_000 {
+        clock = clock.saturating_add(u32::from(draws.draw() % 11));
+        let step = drawn_step(&mut draws, &steps, clock);
+        steps.push(step)?;
+    }
+    Ok(steps)
+}
+
+#[test]
+fn eight_clients_get_the_same_without_each_other(rt: HostRuntime) -> Result<(), Fail> {
+    let alloc = rt.alloc();
+    let limits = Limits::new(4, 2, 300, 36000, 0).ok_or("limits")?;
+    let steps = drawn_steps(alloc)?;
+    let whole = replies(alloc, limits, &steps, None)?;
+    for client in b'p'..=b'w' {
+        let struck = replies(alloc, limits, &steps, Some(client))?;
+        let tickets = tickets(&steps, &whole, &struck, client);
+        assert!(rt;
+            tickets.is_some_and(|tickets| tickets >= 50),
+            "{client} {tickets:?}"
+        );
+    }
+    Ok(())
+}
