@@ -243,6 +243,18 @@ fn tickets(
     }
 }
 
+/// The same, of the struck run of a KDC that never had other clients.
+fn struck_tickets(
+    alloc: Global,
+    limits: Limits,
+    steps: &[Step],
+    whole: &[Option<Vec<u8>>],
+    client: u8,
+) -> Result<Option<usize>, Fail> {
+    let struck = replies(alloc, limits, steps, Some(client))?;
+    Ok(tickets(steps, whole, &struck, client))
+}
+
 /// A step whose authenticator, if it has one, is made when it happens.
 fn step_at(at: u32, client: u8, act: Act, octet: u8) -> Step {
     Step {
@@ -288,8 +300,8 @@ fn a_client_gets_the_same_without_another(rt: HostRuntime) -> Result<(), Fail> {
     }
     let whole = replies(alloc, limits, &steps, None)?;
     for (client, wanted) in [(b'u', 2), (b'w', 10)] {
-        let struck = replies(alloc, limits, &steps, Some(client))?;
-        assert_eq!(rt; tickets(&steps, &whole, &struck, client), Some(wanted));
+        let tickets = struck_tickets(alloc, limits, &steps, &whole, client)?;
+        assert_eq!(rt; tickets, Some(wanted));
     }
     Ok(())
 }
@@ -376,8 +388,7 @@ fn eight_clients_get_the_same_without_each_other(rt: HostRuntime) -> Result<(), 
     let steps = drawn_steps(alloc)?;
     let whole = replies(alloc, limits, &steps, None)?;
     for client in b'p'..=b'w' {
-        let struck = replies(alloc, limits, &steps, Some(client))?;
-        let tickets = tickets(&steps, &whole, &struck, client);
+        let tickets = struck_tickets(alloc, limits, &steps, &whole, client)?;
         assert!(rt;
             tickets.is_some_and(|tickets| tickets >= 50),
             "{client} {tickets:?}"
