@@ -1,5 +1,6 @@
 pub mod Change
 pub mod Database
+pub mod FaultName
 pub mod NameOf
 pub mod ReadBack
 pub mod ReadFault

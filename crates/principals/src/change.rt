@@ -1,4 +1,7 @@
 //! Changes of a database.
+ghost use Rattle.std.specs.Prelude.{◌≡◌};
+ghost use Rattle.principals.specs.FaultName.{fault_name};
+
 use krb_fields::Name;
 use principal_rows::{KeyList, Policy};
 use std::alloc::AllocError;
@@ -40,7 +43,9 @@ pub enum ChangeFault {
 
 impl ChangeFault {
     /// The word that stands for the fault in what commands print.
-    pub fn name(self) -> &'static str {
+    pub fn name(self) -> &'static str
+        ensures { result.now ≡ fault_name self }
+    {
         match self {
             ChangeFault::BadName => "BadName",
             ChangeFault::Exists => "Exists",
