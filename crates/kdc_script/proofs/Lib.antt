@@ -1,2 +1,6 @@
+mod Faults
 pub mod KeyTexts
 mod LineTexts
+mod Lines
+mod Running
+mod Taken

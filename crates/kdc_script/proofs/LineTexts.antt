@@ -15,7 +15,7 @@ abbrev pub texts_of : List (Bor (List ℕ)) → List (List ℕ)
 texts_of fields = map (λ field. field.now) fields
 
 -- two words that a comparison tells apart
-apart : (v w : List ℕ) → bytes_eq v w ≡ false → v ≡ w → ⊥
+pub apart : (v w : List ℕ) → bytes_eq v w ≡ false → v ≡ w → ⊥
 apart v w other same = true≢false (sym ((bytes_eq-Decides v w).1 same) ∙ other)
 
 -- ---- which line a word is of

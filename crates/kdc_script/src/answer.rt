@@ -1,4 +1,8 @@
 //! What a line prints.
+ghost use Rattle.std.specs.Prelude.{OnOk};
+ghost use Rattle.std.specs.Io.KnownBytes.{Appends};
+ghost use Rattle.kdc_script.specs.Script.{answer_text};
+
 use principals::ChangeFault;
 use std::alloc::Global;
 use std::io;
@@ -15,7 +19,9 @@ pub(crate) enum Answer {
 
 impl Answer {
     /// Writes the answer as a line.
-    pub(crate) fn print<W: Write>(&self, alloc: Global, writer: &mut W) -> io::Result<()> {
+    pub(crate) fn print<W: Write>(&self, alloc: Global, writer: &mut W) -> io::Result<()>
+        ensures { OnOk result (Appends (W.contents writer.old) (W.contents writer.new) (answer_text self.now)) }
+    {
         match self {
             Answer::Done => writeln!(writer, "ok"),
             Answer::Refused(fault) => writeln!(writer, "refused {}", fault.name()),

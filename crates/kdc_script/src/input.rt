@@ -1,10 +1,16 @@
 //! The input of a script, line by line, within its limits.
-ghost use Rattle.std.specs.Prelude.{◌≡◌, ◌≤◌, ◌<◌, ◌+◌, IfOk, OnOk, IsTrue, vec_len};
+ghost use Rattle.std.specs.Prelude.{◌≡◌, ◌⊎◌, true, IsOk, ◌≤◌, ◌<◌, ◌+◌, [], IfOk, IfSome, OnOk, IsTrue, IsFalse, length, take, drop, Some};
+ghost use Rattle.std.specs.Io.BufRead.{take_through, strip_last};
+ghost use Rattle.std.specs.Io.KnownBytes.{IsAtEnd};
+ghost use Rattle.kdc_script.specs.Octets.{octets_of};
+ghost use Rattle.kdc_script.specs.Input.{TakesLine, IsBeyond};
+ghost use Rattle.kdc_script.specs.declared.run.Stop.TheVariants.{Failed, Fault};
 
+use crate::octets::Octets;
 use crate::run::Stop;
 use std::alloc::Global;
 use std::io;
-use std::io::{BufRead, BufReader, Read, Take};
+use std::io::Read;
 
 /// The most octets of a line, its line feed not counted.
 pub(crate) const MAX_LINE: usize = 262_144;
@@ -12,29 +18,36 @@ pub(crate) const MAX_LINE: usize = 262_144;
 /// The most octets of an input.
 pub(crate) const MAX_INPUT: usize = 16_777_216;
 
-/// The lines of a reader. One octet is read past the greatest input, to see that there is one.
+/// The lines of a reader.
 #[derive(Drop)]
 pub(crate) struct Input<R: Read + Drop> {
-    reader: BufReader<Take<R>, Global>,
-    /// How many octets may still be read.
-    left: usize,
+    octets: Octets<R>,
+    /// How many octets were taken.
+    taken: usize,
     /// The number of the line that was read last, from 1 on.
     number: usize,
-    ghost counted: { number + left ≤ 16777217 },
+    ghost counted: { number ≤ taken },
+    ghost within: { taken ≤ 16777217 },
 }
 
 impl<R: Read + Drop> Input<R> {
-    pub(crate) fn new(alloc: Global, reader: R) -> Result<Input<R>, Stop> {
-        let left = MAX_INPUT + 1;
+    pub(crate) fn new(alloc: Global, reader: R) -> Result<Input<R>, Stop>
+        ensures octets { IfOk result (λ input. octets_of R.remaining input.octets ≡ R.remaining reader) }
+        ensures taken { IfOk result (λ input. input.taken ≡ 0) }
+        ensures number { IfOk result (λ input. input.number ≡ 0) }
+        ensures fault { result ≡ Err Failed ⊎ IsOk result }
+    {
         Ok(Input {
-            reader: BufReader::new(alloc, reader.take(left as u64))?,
-            left,
+            octets: Octets::new(alloc, reader)?,
+            taken: 0,
             number: 0,
         })
     }
 
     /// The number of the line that was read last, from 1 on.
-    pub(crate) fn number(&self) -> usize {
+    pub(crate) fn number(&self) -> usize
+        ensures { result ≡ self.now.number }
+    {
         self.number
     }
 
@@ -43,32 +56,58 @@ impl<R: Read + Drop> Input<R> {
     /// A line beyond the greatest length is a fault, and so is the line that holds the first octet past the
     /// greatest input.
     pub(crate) fn next_line(&mut self, line: &mut Vec<u8>) -> Result<bool, Stop>
-        ensures shorter { IfOk result (λ more. IsTrue more → self.new.left < self.old.left) }
-        ensures within { OnOk result (vec_len line.new ≤ 262144) }
+        requires { self.old.taken ≤ 16777216 }
+        ensures line { IfOk result (λ more. IsTrue more → TakesLine (octets_of R.remaining self.old.octets) (octets_of R.remaining self.new.octets) self.old.taken self.new.taken line.new.items) }
+        ensures end { IfOk result (λ more. IsFalse more → IsAtEnd (octets_of R.remaining self.old.octets)) }
+        ensures fault { result ≡ Err Fault → IsBeyond (octets_of R.remaining self.old.octets) self.old.taken }
+        ensures number { (result ≡ Ok true ⊎ result ≡ Err Fault) → self.new.number ≡ self.old.number + 1 }
+        ensures shorter { IfOk result (λ more. IsTrue more → self.old.taken < self.new.taken) }
+        ensures within { OnOk result (self.new.taken ≤ 16777216) }
     {
-        line.clear();
-        if self.left == 0 {
-            return Err(Stop::Fault);
-        }
-        let taken = take_line(&mut self.reader, self.left.min(MAX_LINE + 1), line)?;
+        let most = (MAX_INPUT + 1 - self.taken).min(MAX_LINE + 1);
+        let taken = take_line(&mut self.octets, most, line)?;
         if taken == 0 {
             return Ok(false);
         }
+        self.taken += taken;
         self.number += 1;
-        self.left = self.left.saturating_sub(taken);
-        if line.last() == Some(&b'\n') {
-            line.pop();
-        }
-        if self.left == 0 || line.len() > MAX_LINE {
+        strip_feed(line);
+        if self.taken > MAX_INPUT || line.len() > MAX_LINE {
             return Err(Stop::Fault);
         }
         Ok(true)
     }
 }
 
-/// Adds what comes up to the next line feed, with it, to a line: at most `most` octets, and none at the end.
-fn take_line<B: BufRead>(reader: &mut B, most: usize, line: &mut Vec<u8>) -> io::Result<usize>
-    ensures { IfOk result (λ n. vec_len line.new ≡ vec_len line.old + n) }
+/// Puts what comes up to the next line feed, with it, in place of a line: at most `most` octets, and none at the end.
+fn take_line<R: Read + Drop>(
+    octets: &mut Octets<R>,
+    most: usize,
+    line: &mut Vec<u8>,
+) -> io::Result<usize>
+    ensures line { OnOk result (IfSome (octets_of R.remaining octets.old) (λ xs. line.new.items ≡ take most (take_through 0x0A xs))) }
+    ensures rest { IfOk result (λ n. IfSome (octets_of R.remaining octets.old) (λ xs. octets_of R.remaining octets.new ≡ Some (drop n xs))) }
+    ensures count { IfOk result (λ n. n ≡ length line.new.items) }
+    ensures most { IfOk result (λ n. n ≤ most) }
 {
-    reader.take(most as u64).read_until(b'\n', line)
+    line.clear();
+    for taken in 0..most {
+        let Some(octet) = octets.next()? else {
+            return Ok(taken);
+        };
+        line.push(octet)?;
+        if octet == b'\n' {
+            return Ok(taken + 1);
+        }
+    }
+    Ok(most)
+}
+
+/// Takes the line feed off a line's end.
+fn strip_feed(line: &mut Vec<u8>)
+    ensures { line.new.items ≡ strip_last 0x0A line.old.items }
+{
+    if line.last() == Some(&b'\n') {
+        line.pop();
+    }
 }

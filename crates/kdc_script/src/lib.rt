@@ -21,6 +21,7 @@ mod answer;
 mod field;
 mod input;
 mod line;
+mod octets;
 mod run;
 mod setting;
 

@@ -1,8 +1,11 @@
 //! Runs of a script.
-ghost use Rattle.std.specs.Prelude.{◌≡◌, ◌≢◌, ◌⊎◌, IfOk, Some};
+ghost use Rattle.std.specs.Prelude.{◌≡◌, ◌≢◌, ◌⊎◌, IfOk, IfSome, OnOk, Some};
 ghost use Rattle.std.specs.FinMap as map;
 ghost use Rattle.kdc_script.specs.Setting.{policy_of};
+ghost use Rattle.std.specs.Io.KnownBytes.{Appends};
+ghost use Rattle.kdc_script.specs.Octets.{octets_of};
 ghost use Rattle.kdc_script.specs.Run.{CannotRun, Changes, Runs, stop_of};
+ghost use Rattle.kdc_script.specs.Script.{fault_text, IsFaultText, PrintsScript, PrintsText, PrintsUpToFault};
 ghost use Rattle.kdc_script.specs.declared.line.Line.TheVariants as lines;
 ghost use Rattle.kdc_script.specs.declared.run.Stop.TheVariants.{Failed, Fault};
 ghost use Rattle.krb_fields.specs.NameLimits.{IsComponent};
@@ -70,15 +73,19 @@ impl From<LineFault> for Stop {
 }
 
 /// Runs the script that a reader gives and prints its answers: `DONE`, `FAULT` or `FAILED`.
-pub fn run_script<R: Read + Drop, W: Write + Drop>(alloc: Global, reader: R, mut writer: W) -> u8
-    ensures { (result ≡ 0) ⊎ ((result ≡ 1) ⊎ (result ≡ 3)) }
+///
+/// Where it is not `FAILED`, the writer took what the script prints, and the status is the script's; of a run that failed
+/// nothing is said.
+pub fn run_script<R: Read + Drop, W: Write>(alloc: Global, reader: R, writer: &mut W) -> u8
+    ensures status { (result ≡ 0) ⊎ ((result ≡ 1) ⊎ (result ≡ 3)) }
+    ensures run { result ≢ 3 → IfSome (R.remaining reader) (λ octets. PrintsScript octets (W.contents writer.old) (W.contents writer.new) result) }
 {
     let Ok(mut input) = Input::new(alloc, reader) else {
         return FAILED;
     };
-    match run_lines(alloc, &mut input, &mut writer) {
+    match run_lines(alloc, &mut input, writer) {
         Ok(()) => DONE,
-        Err(Stop::Fault) => match print_fault(&mut writer, input.number()) {
+        Err(Stop::Fault) => match print_fault(writer, input.number()) {
             Ok(()) => FAULT,
             Err(_) => FAILED,
         },
@@ -86,7 +93,9 @@ pub fn run_script<R: Read + Drop, W: Write + Drop>(alloc: Global, reader: R, mut
     }
 }
 
-fn print_fault<W: Write>(writer: &mut W, number: usize) -> io::Result<()> {
+fn print_fault<W: Write>(writer: &mut W, number: usize) -> io::Result<()>
+    ensures { OnOk result (Appends (W.contents writer.old) (W.contents writer.new) (fault_text number)) }
+{
     writeln!(writer, "fault {number}")?;
     writer.flush()
 }
@@ -95,16 +104,38 @@ fn run_lines<R: Read + Drop, W: Write>(
     alloc: Global,
     input: &mut Input<R>,
     writer: &mut W,
-) -> Result<(), Stop> {
+) -> Result<(), Stop>
+    requires octets { input.old.taken ≡ 0 }
+    requires lines { input.old.number ≡ 0 }
+    ensures done { OnOk result (IfSome (octets_of R.remaining input.old.octets) (λ octets. PrintsScript octets (W.contents writer.old) (W.contents writer.new) 0)) }
+    ensures fault { result ≡ Err Fault → IfSome (octets_of R.remaining input.old.octets) (λ octets. PrintsUpToFault octets (W.contents writer.old) (W.contents writer.new) input.new.number) }
+{
     let mut kdc = None;
     let mut line = Vec::new(alloc);
     while input.next_line(&mut line)? {
-        if !line.is_empty() {
-            let answer = run_line(alloc, &mut kdc, Line::parse(alloc, &line)?)?;
-            answer.print(alloc, writer)?;
-        }
+        run_text(alloc, &mut kdc, &line, writer)?;
     }
     writer.flush()?;
+    Ok(())
+}
+
+/// Runs the text of a line and prints its answer; an empty text does nothing.
+fn run_text<W: Write>(
+    alloc: Global,
+    kdc: &mut Option<Kdc>,
+    text: &[u8],
+    writer: &mut W,
+) -> Result<(), Stop>
+    ensures ok { OnOk result (PrintsText kdc.old text.now kdc.new (W.contents writer.old) (W.contents writer.new)) }
+    ensures fault { result ≡ Err Fault → IsFaultText kdc.old text.now }
+    ensures kept { result ≡ Err Fault → W.contents writer.new ≡ W.contents writer.old }
+{
+    if text.is_empty() {
+        return Ok(());
+    }
+    let line = Line::parse(alloc, text)?;
+    let answer = run_line(alloc, kdc, line)?;
+    answer.print(alloc, writer)?;
     Ok(())
 }
 

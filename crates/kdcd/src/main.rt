@@ -45,7 +45,7 @@ fn run(rt: &HostRuntime) -> io::Result<u8> {
 
 fn run_subcommand(rt: &HostRuntime, matches: &ArgMatches<'_>) -> io::Result<u8> {
     match matches.subcommand() {
-        Some(("script", _)) => Ok(run_script(rt.alloc(), rt.stdin(), rt.stdout())),
+        Some(("script", _)) => Ok(run_script(rt.alloc(), rt.stdin(), &mut rt.stdout())),
         Some(("serve", words)) => match serve_options(words) {
             Ok(options) => serve_realm(rt, &options),
             Err(fault) => {
