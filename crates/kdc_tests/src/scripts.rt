@@ -340,11 +340,11 @@ fn a_failed_write_ends_the_run(rt: HostRuntime) {
     let mut failures = 0;
     for calls in 0..64 {
         let mut written = Vec::new(rt.alloc());
-        let writer = FailingWriter {
+        let mut writer = FailingWriter {
             written: &mut written,
             calls,
         };
-        let status = run_script(rt.alloc(), MIXED, writer);
+        let status = run_script(rt.alloc(), MIXED, &mut writer);
         assert!(rt; MIXED_PRINTED.starts_with(&written), "{calls} calls");
         if status == FAILED {
             failures = calls + 1;
