@@ -14,6 +14,14 @@ type TestHub = Hub<ChaCha20Rng>;
 /// The length of `REQUEST`, as it stands before it in a stream.
 const LENGTH: &[u8] = b"\x00\x00\x01\xfd";
 
+/// The octets of a connection that brings `REQUEST`.
+fn stream(alloc: Global) -> Result<Vec<u8>, Fail> {
+    let request = octets(alloc, REQUEST)?;
+    let mut stream = Vec::from_slice(alloc, LENGTH)?;
+    stream.extend_from_slice(&request)?;
+    Ok(stream)
+}
+
 fn step(alloc: Global, hub: &mut TestHub, event: Event) -> Result<Vec<Action>, Fail> {
     let at = Moment::new(1_704_067_200, 0).ok_or("a moment")?;
     match hub.step(alloc, at, event) {
@@ -43,7 +51,7 @@ fn written(
 #[test]
 fn a_repeat_over_another_connection_gets_the_same_reply(rt: HostRuntime) -> Result<(), Fail> {
     let alloc = rt.alloc();
-    let stream = [LENGTH, &octets(alloc, REQUEST)?].concat(alloc)?;
+    let stream = stream(alloc)?;
     let mut hub = Hub::new(alloc, kdc(alloc)?, ChaCha20Rng::from_seed([0; 32]));
     let first = written(alloc, &mut hub, 1, &stream)?.ok_or("a reply")?;
     let second = written(alloc, &mut hub, 2, &stream)?.ok_or("a reply")?;

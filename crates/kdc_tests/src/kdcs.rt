@@ -53,6 +53,18 @@ const TOO_BIG: &[u8] =
 const PREAUTH_REQUIRED: &[u8] =
     b"7e773075a003020105a10302011ea411180f32303234303130313030303030305aa503020100a603020119a9051b03412e42aa183016a003020102a10f300d1b066b72627467741b03412e42ac2b04293027301aa103020113a2130411300f300da003020112a1061b04412e42753009a103020102a2020400";
 
+/// The basic request with a PA-ENC-TIMESTAMP, up to a cipher of a million octets.
+const BEFORE_A_MILLION: &[u8] =
+    b"6a830f42de30830f42d9a103020105a20302010aa3830f426d30830f426830830f4263a103020102a2830f425904830f425430830f424fa003020112a2830f424504830f4240";
+
+/// The body of the basic request, which stands behind it.
+const BODY: &[u8] =
+    b"a45b3059a00703050000000000a10e300ca003020101a10530031b0175a2051b03412e42a3183016a003020102a10f300d1b066b72627467741b03412e42a511180f31393730303130313030303030305aa703020101a8053003020112";
+
+/// KRB-ERROR of 2024-01-01 00:00:00 with code 24.
+const PREAUTH_FAILED: &[u8] =
+    b"7e4a3048a003020105a10302011ea411180f32303234303130313030303030305aa503020100a603020118a9051b03412e42aa183016a003020102a10f300d1b066b72627467741b03412e42";
+
 const MIDNIGHT: i64 = 1_704_067_200;
 
 pub fn octets(alloc: Global, digits: &[u8]) -> Result<Vec<u8>, Fail> {
@@ -313,6 +325,24 @@ fn asks_for_preauthentication(rt: HostRuntime) -> Result<(), Fail> {
     add_user(alloc, &mut kdc)?;
     let reply = asked(alloc, &mut kdc, &octets(alloc, BASIC)?)?.ok_or("a reply")?;
     assert_eq!(rt; reply, octets(alloc, PREAUTH_REQUIRED)?);
+    Ok(())
+}
+
+fn request_of_a_million(alloc: Global) -> Result<Vec<u8>, Fail> {
+    let mut request = octets(alloc, BEFORE_A_MILLION)?;
+    for _ in 0..1_000 {
+        request.extend_from_slice(&[0; 1_000])?;
+    }
+    request.extend_from_slice(&octets(alloc, BODY)?)?;
+    Ok(request)
+}
+
+#[test]
+fn a_timestamp_of_a_million_octets_fails_as_any_other(rt: HostRuntime) -> Result<(), Fail> {
+    let alloc = rt.alloc();
+    let mut kdc = kdc_with_user(alloc)?;
+    let reply = asked(alloc, &mut kdc, &request_of_a_million(alloc)?)?.ok_or("a reply")?;
+    assert_eq!(rt; reply, octets(alloc, PREAUTH_FAILED)?);
     Ok(())
 }
 
