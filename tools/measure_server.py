@@ -1,7 +1,7 @@
 #!/usr/bin/env python3
 """Measures `kdcd serve` on the loopback, and tries it with hostile traffic. Linux and Python 3 alone are needed.
 
-    python3 tools/measure_server.py [--kdcd crates/kdcd/out/kdcd] [--idle SECONDS] [--requests N]
+    python3 tools/measure_server.py [--kdcd crates/kdcd/out/kdcd] [--idle SECONDS] [--requests N] [--tickets N]
 
 It makes a realm of its own in a temporary folder, starts the server on ports that the system gives, and prints what it
 found. It ends with status 1 where a good request got no reply."""
@@ -19,51 +19,14 @@ import tempfile
 import threading
 import time
 
+from kerberos import as_req, tgs_req, ticket_in, timestamp
+
 REALM = b"EXAMPLE.COM"
+KEY = bytes([0x11]) * 32
+SERVICE = (b"host", b"n1")
+# Clients that need no preauthentication. Of each, 1,024 authenticators are remembered.
+CLIENTS = [b"bob%d" % number for number in range(5)]
 TICKS = os.sysconf("SC_CLK_TCK")
-
-
-# The octets of a request (RFC 4120, section 5.4.1), in DER.
-
-
-def tlv(tag, *contents):
-    contents = b"".join(contents)
-    length = len(contents)
-    if length < 128:
-        return bytes([tag, length]) + contents
-    octets = length.to_bytes((length.bit_length() + 7) // 8, "big")
-    return bytes([tag, 0x80 | len(octets)]) + octets + contents
-
-
-def integer(value):
-    return tlv(0x02, value.to_bytes(value.bit_length() // 8 + 1, "big", signed=True))
-
-
-def field(number, *contents):
-    return tlv(0xA0 + number, *contents)
-
-
-def sequence(*contents):
-    return tlv(0x30, *contents)
-
-
-def name(kind, *parts):
-    texts = [tlv(0x1B, part) for part in parts]
-    return sequence(field(0, integer(kind)), field(1, sequence(*texts)))
-
-
-def as_req(client):
-    """An AS-REQ for the ticket-granting service, without padata: till zero, nonce 1, all four encryption types."""
-    body = sequence(
-        field(0, tlv(0x03, bytes(5))),
-        field(1, name(1, client)),
-        field(2, tlv(0x1B, REALM)),
-        field(3, name(2, b"krbtgt", REALM)),
-        field(5, tlv(0x18, b"19700101000000Z")),
-        field(7, integer(1)),
-        field(8, sequence(*[integer(etype) for etype in (18, 17, 20, 19)])),
-    )
-    return tlv(0x6A, sequence(field(1, integer(5)), field(2, integer(10)), field(4, body)))
 
 
 def framed(message):
@@ -73,22 +36,23 @@ def framed(message):
 # The server.
 
 
-def row(key):
+def row(key, preauth=True):
     return {
         "disabled": False, "expires": None, "forwardable": True, "greatest_life": 4294967295,
         "greatest_renewable": 4294967295, "keys": [{"keys": [{"etype": 18, "key": key}], "version": 1}],
-        "ok_as_delegate": False, "password_expires": None, "postdate": False, "preauth": True, "proxiable": True,
+        "ok_as_delegate": False, "password_expires": None, "postdate": False, "preauth": preauth, "proxiable": True,
         "revoked_before": None,
     }
 
 
 class Server:
-    """`kdcd serve` over a realm with one client, `alice`."""
+    """`kdcd serve` over a realm with `alice`, who needs preauthentication, the clients that need none, and a service."""
 
     def __init__(self, kdcd, folder, rounds=4294967295):
         database = os.path.join(folder, "database")
         seed = os.path.join(folder, "seed")
-        rows = {"krbtgt/EXAMPLE.COM": row("00" * 32), "alice": row("11" * 32)}
+        rows = {"krbtgt/EXAMPLE.COM": row("00" * 32), "alice": row(KEY.hex()), "host/n1": row("22" * 32)}
+        rows.update({client.decode(): row(KEY.hex(), preauth=False) for client in CLIENTS})
         with open(database, "w") as file:
             json.dump({"principals": rows, "realm": REALM.decode(), "version": 2}, file)
         with open(seed, "wb") as file:
@@ -134,6 +98,7 @@ class Peer:
         self.socket.connect(server.udp)
         self.socket.settimeout(1)
         self.asked_again = 0
+        self.reply = b""
 
     def ask(self, request):
         """How many seconds the reply took. As stock clients do, it asks again after a second, three times in all: where the
@@ -142,7 +107,7 @@ class Peer:
             start = time.perf_counter()
             self.socket.send(request)
             try:
-                self.socket.recv(65536)
+                self.reply = self.socket.recv(65536)
                 return time.perf_counter() - start
             except TimeoutError:
                 self.asked_again += 1
@@ -155,15 +120,33 @@ def summary(seconds):
     return f"median {at(0.5):.0f} us, 99 of 100 {at(0.99):.0f} us, most {seconds[-1] * 1e6:.0f} us"
 
 
-def measure_datagrams(server, what, request, count):
-    peer = Peer(server)
-    for _ in range(200):
-        peer.ask(request)
-    before, start = server.processor_seconds(), time.perf_counter()
-    taken = [peer.ask(request) for _ in range(count)]
-    passed, used = time.perf_counter() - start, server.processor_seconds() - before
+def measure_datagrams(server, what, requests, tag):
+    """Asks each of the requests. The replies begin with this tag."""
+    peer, taken = Peer(server), []
+    used, passed, odd = 0, 0, 0
+    for place in range(0, len(requests), 100):
+        before, start = server.processor_seconds(), time.perf_counter()
+        for request in requests[place:place + 100]:
+            taken.append(peer.ask(request))
+            odd += peer.reply[0] != tag
+        passed, used = passed + time.perf_counter() - start, used + server.processor_seconds() - before
+    count = len(requests)
     print(f"datagrams, {what}: {used / count * 1e6:.1f} us of processor time each, {count / passed:.0f} a second "
           f"from one client; {summary(taken)}")
+    if odd:
+        print(f"  {odd} replies of another kind")
+    return odd
+
+
+def service_requests(server, count):
+    """TGS-REQs, `count` of each client, each with an authenticator of its own."""
+    peer, requests = Peer(server), []
+    for client in CLIENTS:
+        peer.ask(as_req(REALM, client))
+        ticket, session_key = ticket_in(KEY, peer.reply)
+        now = int(time.time())
+        requests += [tgs_req(REALM, client, SERVICE, ticket, session_key, now, cusec) for cusec in range(count)]
+    return requests
 
 
 def measure_connection(server, request, count):
@@ -325,15 +308,20 @@ def main():
     parser.add_argument("--kdcd", default="crates/kdcd/out/kdcd")
     parser.add_argument("--idle", type=float, default=60)
     parser.add_argument("--requests", type=int, default=20000)
+    parser.add_argument("--tickets", type=int, default=1000)
     parser.add_argument("--datagrams", type=int, default=100000)
     parser.add_argument("--connections", type=int, default=1000)
     words = parser.parse_args()
-    unknown, known = as_req(b"nobody"), as_req(b"alice")
+    unknown, known = as_req(REALM, b"nobody"), as_req(REALM, b"alice")
     lost = 0
     with tempfile.TemporaryDirectory() as folder:
         server = Server(words.kdcd, folder)
-        measure_datagrams(server, "a client that is unknown", unknown, words.requests)
-        measure_datagrams(server, "a client that is known", known, words.requests)
+        lost += measure_datagrams(server, "a client that is unknown", [unknown] * words.requests, 0x7E)
+        lost += measure_datagrams(server, "a client without a timestamp", [known] * words.requests, 0x7E)
+        lost += measure_datagrams(server, "a ticket", [as_req(REALM, CLIENTS[0])] * words.requests, 0x6B)
+        stamped = as_req(REALM, b"alice", timestamp(KEY, time.time()))
+        lost += measure_datagrams(server, "a ticket, with a timestamp", [stamped] * words.requests, 0x6B)
+        lost += measure_datagrams(server, "a ticket for a service", service_requests(server, words.tickets), 0x6D)
         measure_connection(server, unknown, words.requests)
         measure_idle(server, "no connection open", words.idle, unknown)
         idle = [server.connect() for _ in range(256)]
