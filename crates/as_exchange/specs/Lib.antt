@@ -1,7 +1,7 @@
 pub mod View
 pub mod Known
 pub mod Terms
-pub mod Named
+pub mod NamedLaws
 pub mod Rules
 pub mod Issue
 pub mod Answer

@@ -5,7 +5,7 @@ ghost use Rattle.krb_types.specs.KrbError.{krb_error};
 ghost use Rattle.as_exchange.specs.Answer.{after_timestamp, after_sequel, answer_by, as_answer, within_room};
 ghost use Rattle.as_exchange.specs.Answer.{Opens, OpensBy, Spelled, SpelledBy};
 ghost use Rattle.as_exchange.specs.Known.{IsKnown};
-ghost use Rattle.as_exchange.specs.Named.{IsNamed};
+ghost use Rattle.as_exchange.specs.NamedLaws.{IsNamed};
 
 use crate::errors::as_error;
 use crate::issuing::as_rep;

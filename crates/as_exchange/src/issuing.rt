@@ -7,7 +7,7 @@ ghost use Rattle.krb_replies.specs.KdcRep.{kdc_rep};
 ghost use Rattle.kdc_replies.specs.Grant.{IsShort};
 ghost use Rattle.as_exchange.specs.Answer.{OpensFor};
 ghost use Rattle.as_exchange.specs.Issue.{grant_by, reply_key_of, reply_info, as_rep};
-ghost use Rattle.as_exchange.specs.Named.{IsNamed};
+ghost use Rattle.as_exchange.specs.NamedLaws.{IsNamed};
 
 use crate::rules::is_good;
 use crate::terms::{Admission, Terms};
@@ -103,7 +103,7 @@ fn reply_key_of(terms: &Terms) -> ReplyKey
 }
 
 /// PA-ETYPE-INFO2 with how the reply key is made from a password.
-#[tactic(auto, using(crate::specs::Named::data_short))]
+#[tactic(auto, using(crate::specs::NamedLaws::data_short))]
 fn reply_data(alloc: Global, view: &AsView<'_>, terms: &Terms) -> Result<Seq<PaData>, AllocError>
     requires realm { length view.now.realm ≤ 255 }
     requires named { IsNamed view.now.client view.now.service terms.now }

@@ -19,7 +19,7 @@ use Rattle.kdc_state.specs.declared.opening.Opening.TheVariants.{Restart as Rest
 use Rattle.kdc_state.specs.declared.state.State.{State}
 use Rattle.kdc_core.proofs.Changes.{other_row, realm_stays, same_refusal, same_row_after}
 use Rattle.kdc_core.proofs.Frame.{database_kept, limits_kept, other_kept}
-use Rattle.kdc_core.specs.Agreement.{names_agree, view_agrees}
+use Rattle.kdc_core.specs.AgreementLaws.{names_agree, view_agrees}
 use Rattle.kdc_core.specs.Answer.{answer, keep, next}
 use Rattle.kdc_core.specs.Run.{after_change, after_event, event_reply, unless_refused}
 use Rattle.kdc_core.specs.Struck.{AgreesFor, IsIsolated, Isolation, Names, NamesWithin, ServicesWithin, is_client, is_left, is_request, is_request_of, principal_of, replies_to, strike}

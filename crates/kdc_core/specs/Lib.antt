@@ -1,7 +1,7 @@
 pub mod Request
 pub mod View
 pub mod Answer
-pub mod Agreement
+pub mod AgreementLaws
 pub mod After
 pub mod RequestLaws
 pub mod Run

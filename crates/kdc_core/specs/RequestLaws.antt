@@ -3,7 +3,7 @@ use Rattle.std.proofs.Common.{◌≡◌, ◌↔◌, ℕ, ◌≤◌, Bool, true, 
 use Rattle.std.specs.Prelude.{nat_lt}
 use Rattle.std.proofs.lemmas.Bool.{ltb-false, le-ltb}
 use Rattle.krb_der.specs.declared.fault.DerFault.{DerFault}
-use Rattle.krb_der.specs.Steps.{IsBytes}
+use Rattle.krb_der.specs.Spelling.{IsBytes}
 use Rattle.krb_elements.specs.Format.{whole}
 use Rattle.krb_elements.specs.Laws.{IsWhole, whole_ok}
 use Rattle.krb_types.specs.declared.kdc_req.Exchange.{Exchange}

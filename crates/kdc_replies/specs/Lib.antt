@@ -5,4 +5,4 @@ pub mod Standing
 pub mod Grant
 pub mod Encrypted
 pub mod Reply
-pub mod Lengths
+pub mod LengthLaws

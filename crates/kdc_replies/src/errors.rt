@@ -13,7 +13,7 @@ use principals::granter_name;
 use std::alloc::{AllocError, Global};
 
 /// The octets of the error with this code, and what goes with it, for who asked for this service.
-#[tactic(auto, using(crate::specs::Lengths::error_short))]
+#[tactic(auto, using(crate::specs::LengthLaws::error_short))]
 pub fn error_reply(
     alloc: Global,
     realm: &[u8],

@@ -31,7 +31,7 @@ pub struct Grant {
 
 impl Grant {
     /// What the ticket holds under the service's key.
-    #[tactic(auto, using(crate::specs::Lengths::ticket_part_short))]
+    #[tactic(auto, using(crate::specs::LengthLaws::ticket_part_short))]
     pub(crate) fn ticket_part(&self, alloc: Global) -> Result<EncTicketPart, AllocError>
         requires { IsShort self.now }
         ensures value { IfOk result (λ part. part ≡ ticket_part self.now) }
@@ -53,7 +53,7 @@ impl Grant {
     }
 
     /// What the reply holds under the reply key.
-    #[tactic(auto, using(crate::specs::Lengths::reply_text_short))]
+    #[tactic(auto, using(crate::specs::LengthLaws::reply_text_short))]
     pub(crate) fn reply_part(
         &self,
         alloc: Global,

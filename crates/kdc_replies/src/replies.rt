@@ -59,7 +59,7 @@ pub fn ticket_reply<const TYPE: u8, const TAG: u8>(
     write(alloc, &reply)
 }
 
-#[tactic(auto, using(crate::specs::Lengths::reply_short))]
+#[tactic(auto, using(crate::specs::LengthLaws::reply_short))]
 fn whole_reply<const TYPE: u8, const TAG: u8>(
     alloc: Global,
     grant: &Grant,
@@ -86,7 +86,7 @@ fn whole_reply<const TYPE: u8, const TAG: u8>(
     })
 }
 
-#[tactic(auto, using(krb_elements::specs::ShortText::tlv_short))]
+#[tactic(auto, using(krb_elements::specs::ShortTextLaws::tlv_short))]
 fn sealed<const TAG: u8>(
     alloc: Global,
     grant: &Grant,

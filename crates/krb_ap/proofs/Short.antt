@@ -3,11 +3,10 @@ use Rattle.std.proofs.Common.{ℕ, ◌<◌, ◌+◌, ◌*◌, List, [], ◌++◌
 use Rattle.std.specs.Prelude.{IfOk}
 use Rattle.std.proofs.lemmas.List.{length-append}
 use Rattle.krb_der.specs.Int.{int_octets}
-use Rattle.krb_der.specs.Spelling.{tlv}
-use Rattle.krb_der.specs.Steps.{IsBytes}
+use Rattle.krb_der.specs.Spelling.{tlv, IsBytes}
 use Rattle.krb_elements.specs.Codec.{sequence}
 use Rattle.krb_elements.specs.InsideLaws.{IsInside, in_contents, in_field, past_field}
-use Rattle.krb_elements.specs.OneSpelling.{HasOneSpelling}
+use Rattle.krb_elements.specs.OneSpellingLaws.{HasOneSpelling}
 use Rattle.krb_elements.specs.Written.{field_text, maybe_text}
 use Rattle.krb_elements.specs.WrittenLaws.{tlv_longer}
 use Rattle.krb_fields.specs.EncryptedData.{EncryptedData, encrypted_data, encrypted_data_form}

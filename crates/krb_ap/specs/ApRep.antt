@@ -1,7 +1,7 @@
 -- AP-REP (RFC 4120, section 5.5.2).
 use Rattle.std.proofs.Common.{pos, refl}
 use Rattle.krb_elements.specs.Codec.{Codec, Record, field, end, sequence, application, fixed}
-use Rattle.krb_elements.specs.OneSpelling.{HasOneSpelling}
+use Rattle.krb_elements.specs.OneSpellingLaws.{HasOneSpelling}
 use Rattle.krb_fields.specs.EncryptedData.{EncryptedData, encrypted_data, encrypted_data_form}
 use Rattle.krb_ap.specs.declared.ap_rep.ApRep as trees
 

@@ -2,9 +2,9 @@
 use Rattle.std.proofs.Common.{◌≡◌, ℕ, ◌^◌, ◌<◌, List, ◌++◌, length, Result, Ok, Err, sym, ap, ◌∙◌}
 use Rattle.std.specs.Prelude.{IfOk, IsOkAnd}
 use Rattle.krb_der.specs.declared.fault.DerFault.{DerFault}
-use Rattle.krb_der.specs.Spelling.{tlv}
+use Rattle.krb_der.specs.Spelling.{tlv, IsBytes}
 use Rattle.krb_der.specs.Reading.{Gives, tlv_at}
-use Rattle.krb_der.specs.Steps.{IsBytes, ok_is}
+use Rattle.krb_der.specs.StepLaws.{ok_is}
 use Rattle.krb_der.specs.Laws.{tlv_takes, tlv_again}
 
 pub tlv_found : {X : Type 0} (view : X → List ℕ × List ℕ) (r : Result X DerFault) (tag : ℕ) (bytes : List ℕ) → IsBytes bytes → Gives view r (tlv_at tag bytes)

@@ -7,9 +7,9 @@ use Rattle.std.proofs.lemmas.Nat.{be_bytes_4}
 use Rattle.krb_der.specs.declared.fault.DerFault.{DerFault}
 use Rattle.krb_der.specs.declared.fault.DerFault.TheVariants.{Truncated, BadLength}
 use Rattle.std.specs.Prelude.{IfOk, IsOkAnd}
-use Rattle.krb_der.specs.Spelling.{length_octets, tlv, Leaf, Stands}
+use Rattle.krb_der.specs.Spelling.{length_octets, tlv, Leaf, Stands, IsBytes}
 use Rattle.krb_der.specs.Reading.{length_1, length_2, length_3, length_4, length_at, tlv_at, leaf_at, Gives}
-use Rattle.krb_der.specs.Steps.{IsBytes, IsBytes-rest, IsBytes-back, IsBytes-front, bind_ok, guard_ok, chosen, ok_is}
+use Rattle.krb_der.specs.StepLaws.{IsBytes-rest, IsBytes-back, IsBytes-front, bind_ok, guard_ok, chosen, ok_is}
 
 -- what was taken from the front is this text
 abbrev Took : List ℕ → ℕ → List ℕ → Type 0

@@ -6,9 +6,9 @@ pub mod Digits
 pub mod Time
 pub mod Reading
 pub mod Items
-pub mod Steps
+pub mod StepLaws
 pub mod Laws
-pub mod Ints
+pub mod IntLaws
 pub mod BitLaws
-pub mod Leaves
-pub mod Elements
+pub mod LeafLaws
+pub mod ElementLaws

@@ -1,7 +1,11 @@
 -- Which octets spell a value: its tag, its length in the fewest octets, its contents (X.690, sections 8.1 and 10.1).
 -- No word here speaks of a reader.
-use Rattle.std.specs.Prelude.{◌≡◌, ℕ, ◌<◌, ◌^◌, Bool, IsTrue, List, ◌∷◌, [], ◌++◌, length, drop, nat_lt, if◌then◌else◌}
+use Rattle.std.specs.Prelude.{◌≡◌, ℕ, ◌<◌, ◌^◌, Bool, IsTrue, List, ◌∷◌, [], ◌++◌, length, get_or, drop, nat_lt, if◌then◌else◌}
 use Rattle.std.specs.Int.{w32, to_be_bytes}
+
+-- octets, each below 256
+abbrev pub IsBytes : List ℕ → Type 0
+IsBytes bytes = (i : ℕ) → get_or bytes i 0 < 256
 
 -- the length in one octet below 128, else the number of its octets (with 128 added) and these, the greatest first
 unfoldable pub length_octets : ℕ → List ℕ

@@ -14,7 +14,7 @@ use Rattle.krb_elements.specs.FieldReading.{nothing, then_field, then_maybe, the
 use Rattle.krb_elements.specs.Written.{field_then, optional_then, no_more, items_text}
 use Rattle.krb_elements.specs.Simple as simple
 use Rattle.krb_elements.specs.Sent.{WithOctets}
-use Rattle.krb_elements.specs.TextLengths.{as_long, end_bounded, most_maybe, most_items, int_bounded, microseconds_bounded, fixed_bounded, time_bounded, flags_bounded, round_bounded, then_bounded, optional_bounded, sent_bounded, items_bounded}
+use Rattle.krb_elements.specs.TextLengthLaws.{as_long, end_bounded, most_maybe, most_items, int_bounded, microseconds_bounded, fixed_bounded, time_bounded, flags_bounded, round_bounded, then_bounded, optional_bounded, sent_bounded, items_bounded}
 use Rattle.krb_elements.specs.WritableLaws.{Any}
 use Rattle.krb_elements.specs.CodecLaws.{Laws, FieldLaws, ended_onto, field_onto, maybe_onto, sent_then, sent_onto, sent_laws, AllFit, Is32Bits, int32_laws, uint32_laws, microseconds_laws, fixed_laws, time_laws, octets_laws, string_laws, flags_laws, list_laws, end_laws, field_laws, optional_laws, sequence_laws, round_laws}
 

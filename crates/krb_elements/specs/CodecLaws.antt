@@ -5,12 +5,12 @@ use Rattle.std.proofs.lemmas.Bool.{ltb-true, eq-eqb}
 use Rattle.std.proofs.lemmas.Int.{ints}
 use Rattle.std.proofs.lemmas.List.{length-append, append-nil}
 use Rattle.krb_der.specs.declared.fault.DerFault.{DerFault}
-use Rattle.krb_der.specs.Spelling.{tlv}
-use Rattle.krb_der.specs.Steps.{IsBytes, IsBytes-back, IsBytes-front}
+use Rattle.krb_der.specs.Spelling.{tlv, IsBytes}
+use Rattle.krb_der.specs.StepLaws.{IsBytes-back, IsBytes-front}
 use Rattle.krb_der.specs.declared.fault.DerFault.TheVariants.{Trailing}
 use Rattle.krb_der.specs.Reading.{◌>>=◌, time_at}
 use Rattle.krb_der.specs.Int.{int_octets}
-use Rattle.krb_der.specs.Ints.{int_spelled}
+use Rattle.krb_der.specs.IntLaws.{int_spelled}
 use Rattle.krb_der.specs.BitLaws.{bits_spelled}
 use Rattle.krb_der.specs.Civil.{IsCivilSecond}
 use Rattle.krb_der.specs.Time.{Time, time_octets}
@@ -26,8 +26,8 @@ use Rattle.krb_elements.specs.Laws.{IsElement, IsWhole, AreFields, inside_ok, wh
 use Rattle.krb_elements.specs.SimpleLaws.{int32_ok, uint32_ok, microseconds_ok, fixed_ok, octets_ok, string_ok, flags_ok, time_element, flags_fit}
 use Rattle.krb_elements.specs.WrittenLaws.{tlv_longer, inside_fits}
 use Rattle.krb_elements.specs.WritableLaws.{IsWritable, AreWritable, Any, int32_writable, microseconds_writable, fixed_writable, time_writable, octets_writable, string_writable, inside_writable, round_writable, field_writable, optional_writable, end_writable}
-use Rattle.krb_elements.specs.OneSpelling.{HasOneSpelling, HaveOneText, int32_one, uint32_one, microseconds_one, fixed_one, time_one, octets_one, string_one, inside_one, round_one, field_one, optional_one, end_one, list_one}
-use Rattle.krb_elements.specs.ShortText.{IsShort, AreShort, one_short, flags_short, inside_short, round_short, field_short, optional_short, end_short, tlv_short, tlv_long}
+use Rattle.krb_elements.specs.OneSpellingLaws.{HasOneSpelling, HaveOneText, int32_one, uint32_one, microseconds_one, fixed_one, time_one, octets_one, string_one, inside_one, round_one, field_one, optional_one, end_one, list_one}
+use Rattle.krb_elements.specs.ShortTextLaws.{IsShort, AreShort, one_short, flags_short, inside_short, round_short, field_short, optional_short, end_short, tlv_short, tlv_long}
 
 -- what has a spelling is in its range
 pub record AreInRange {A : Type 0} (S : A → List ℕ → Type 0) (Fits : A → Type 0) : Type 0 where

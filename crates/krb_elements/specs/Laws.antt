@@ -5,12 +5,12 @@ use Rattle.std.proofs.lemmas.Bool.{eqb-true, eq-eqb, ne_eqb}
 use Rattle.std.proofs.lemmas.List.{append-nil, nil_from_length, length-append}
 use Rattle.krb_der.specs.declared.fault.DerFault.{DerFault}
 use Rattle.krb_der.specs.declared.fault.DerFault.TheVariants.{Trailing}
-use Rattle.krb_der.specs.Spelling.{tlv, Leaf}
+use Rattle.krb_der.specs.Spelling.{tlv, Leaf, IsBytes}
 use Rattle.krb_der.specs.Reading.{◌>>=◌, tlv_at, leaf_at}
 use Rattle.krb_der.specs.Items.{elements, elements_from}
-use Rattle.krb_der.specs.Steps.{IsBytes, IsBytes-back, bind_ok, ok_is}
+use Rattle.krb_der.specs.StepLaws.{IsBytes-back, bind_ok, ok_is}
 use Rattle.krb_der.specs.Laws.{IsReading, leaf_ok, tlv_takes, tlv_again, tlv_shorter, tlv_some, contents_fit}
-use Rattle.krb_der.specs.Elements.{elements_tlv}
+use Rattle.krb_der.specs.ElementLaws.{elements_tlv}
 use Rattle.krb_elements.specs.declared.fault.Fault.{Fault}
 use Rattle.krb_elements.specs.declared.fault.Fault.TheVariants as faults
 use Rattle.krb_elements.specs.Format.{Decodes, Sees, IsReadUnlessMemory, whole, inside, such, seen_as, starts, end, field_of, field, with_octets, sent, optional, made, items, items_of, list_at, and_then, values}

@@ -7,11 +7,11 @@ pub mod Laws
 pub mod WrittenLaws
 pub mod WritableLaws
 pub mod SimpleLaws
-pub mod OneSpelling
-pub mod ShortText
-pub mod TextLengths
+pub mod OneSpellingLaws
+pub mod ShortTextLaws
+pub mod TextLengthLaws
 pub mod InsideLaws
 pub mod FieldReading
 pub mod CodecLaws
 pub mod Codec
-pub mod Copies
+pub mod CopyLaws

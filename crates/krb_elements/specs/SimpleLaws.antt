@@ -3,8 +3,8 @@ use Rattle.std.proofs.Common.{◌≡◌, ℕ, ℤ, pos, negsuc, ◌^◌, ◌<◌
 use Rattle.std.specs.Prelude.{unsigned_abs}
 use Rattle.std.proofs.lemmas.List.{append-nil}
 use Rattle.krb_der.specs.declared.fault.DerFault.TheVariants.{BadInteger, BadBits, BadTime}
-use Rattle.krb_der.specs.Steps.{IsBytes, IsBytes-rest}
-use Rattle.krb_der.specs.Spelling.{tlv}
+use Rattle.krb_der.specs.StepLaws.{IsBytes-rest}
+use Rattle.krb_der.specs.Spelling.{tlv, IsBytes}
 use Rattle.krb_der.specs.Int.{is_int, int_value, Int, int_octets, int_spelling}
 use Rattle.krb_der.specs.Bits.{is_bits, bits_value, first_bits, Bits}
 use Rattle.krb_der.specs.Reading.{int_at, bits_at, time_at}
@@ -12,7 +12,7 @@ use Rattle.krb_der.specs.Civil.{IsCivilSecond}
 use Rattle.krb_der.specs.Time.{is_time, time_value, time_octets, Time}
 use Rattle.krb_der.proofs.TimeLaws.{time_value_range}
 use Rattle.krb_der.proofs.TimeSpellings.{time_spelled}
-use Rattle.krb_der.specs.Ints.{int_spelled}
+use Rattle.krb_der.specs.IntLaws.{int_spelled}
 use Rattle.krb_der.specs.BitLaws.{bits_spelled}
 use Rattle.krb_der.specs.Laws.{contents_fit}
 use Rattle.std.proofs.lemmas.Int.{ints}

@@ -5,7 +5,7 @@ use Rattle.std.proofs.lemmas.List.{length-append}
 use Rattle.std.proofs.lemmas.Int.{ints}
 use Rattle.krb_der.specs.Spelling.{tlv}
 use Rattle.krb_der.specs.Int.{int_octets}
-use Rattle.krb_der.specs.Ints.{int_spelled}
+use Rattle.krb_der.specs.IntLaws.{int_spelled}
 use Rattle.krb_der.specs.Civil.{IsCivilSecond}
 use Rattle.krb_der.specs.Time.{Time, time_octets}
 use Rattle.krb_der.proofs.TimeSpellings.{time_spelled}

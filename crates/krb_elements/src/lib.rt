@@ -9,20 +9,25 @@ mod fault;
 mod lists;
 mod microseconds;
 mod octets;
+mod reading;
 mod seq;
 mod simple;
 mod string;
 mod uint32;
+mod writing;
 
-pub use codec::{
-    Application, Coded, Decode, DecodeFields, Encode, EncodeFields, Fielded, MakeOwned, ReadOwned,
-    Round, Sent, Untagged, application_tag, end_of, look_either, read, read_owned, take_field,
-    take_fixed, take_optional, take_sent, write, write_field, write_inside, write_optional,
-};
+pub use codec::{Application, Coded, Fielded, MakeOwned, Round, Untagged, application_tag};
 pub use fault::Fault;
 pub use lists::SeqRef;
 pub use microseconds::Microseconds;
 pub use octets::{Octets, OctetsRef};
+pub use reading::{
+    Decode, DecodeFields, ReadOwned, Sent, end_of, look_either, read, read_owned, take_field,
+    take_fixed, take_optional, take_sent,
+};
 pub use seq::Seq;
 pub use string::{KerberosString, KerberosStringRef};
 pub use uint32::UInt32;
+pub use writing::{
+    Encode, EncodeFields, write, write_field, write_inside, write_optional,
+};

@@ -6,7 +6,9 @@ ghost use Rattle.krb_elements.specs.Written.{items_text};
 ghost use Rattle.krb_elements.specs.Codec.{list_of};
 ghost use Rattle.krb_elements.specs.CodecLaws.{AllFit};
 
-use crate::codec::{Coded, Decode, Encode, MakeOwned, look_all};
+use crate::codec::{Coded, MakeOwned};
+use crate::reading::{Decode, look_all};
+use crate::writing::Encode;
 use crate::seq::Seq;
 use krb_der::{DerFault, Items, Reader, Writer};
 use std::alloc::{AllocError, Global};

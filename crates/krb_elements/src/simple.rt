@@ -3,7 +3,9 @@ ghost use Rattle.std.specs.Prelude.{◌≡◌, OnOk, IfOk};
 ghost use Rattle.krb_elements.specs.Format.{Looks};
 ghost use Rattle.krb_elements.specs.Codec as forms;
 
-use crate::codec::{Coded, Decode, Encode, MakeOwned};
+use crate::codec::{Coded, MakeOwned};
+use crate::reading::Decode;
+use crate::writing::Encode;
 use crate::microseconds::Microseconds;
 use crate::octets::{Octets, OctetsRef};
 use crate::string::{KerberosString, KerberosStringRef};

@@ -13,4 +13,4 @@ pub mod PrincipalName
 pub mod EncryptedData
 pub mod PaData
 pub mod Typed
-pub mod NameCopies
+pub mod NameCopyLaws

@@ -1,7 +1,7 @@
 -- PrincipalName (RFC 4120, section 5.2.2).
 use Rattle.std.proofs.Common.{ℕ, List, refl}
 use Rattle.krb_elements.specs.Codec.{Codec, Record, field, end, sequence, list_of, int32, string}
-use Rattle.krb_elements.specs.OneSpelling.{HasOneSpelling}
+use Rattle.krb_elements.specs.OneSpellingLaws.{HasOneSpelling}
 use Rattle.krb_fields.specs.declared.name.Name as trees
 
 abbrev pub Name : Type 0

@@ -1,7 +1,7 @@
 -- PA-ENC-TS-ENC (RFC 4120, section 5.2.7.2).
 use Rattle.std.proofs.Common.{ℕ, ◌+◌, ◌<◌, ◌≤◌, ◌^◌, length, Option, Some, None, refl, arith}
 use Rattle.krb_elements.specs.Codec.{Codec, Record, field, optional, end, sequence, microseconds, time}
-use Rattle.krb_elements.specs.TextLengths.{most_maybe}
+use Rattle.krb_elements.specs.TextLengthLaws.{most_maybe}
 use Rattle.krb_parts.specs.declared.pa_enc_ts_enc.PaEncTsEnc as trees
 
 abbrev pub PaEncTsEnc : Type 0

@@ -2,7 +2,7 @@
 use Rattle.std.proofs.Common.{◌≡◌, ℕ, ◌+◌, ℤ, ◌<◌, ◌*◌, List, length, Option, Some, None, Result, Ok, Err, refl, arith}
 use Rattle.std.specs.Prelude.{IfOk}
 use Rattle.krb_der.specs.declared.fault.DerFault.{DerFault}
-use Rattle.krb_der.specs.Steps.{IsBytes}
+use Rattle.krb_der.specs.Spelling.{IsBytes}
 use Rattle.krb_elements.specs.Codec.{Codec, Record, Fields, SpellsFields, field, optional, sent_field, end, sequence, in_tag, list_of, int32}
 use Rattle.krb_elements.specs.CodecLaws.{either_ok}
 use Rattle.krb_elements.specs.FieldReading.{either_inside}

@@ -1,7 +1,7 @@
 -- KRB-ERROR (RFC 4120, section 5.9.1).
 use Rattle.std.proofs.Common.{ℕ, pos, List, refl}
 use Rattle.krb_elements.specs.Codec.{Codec, Record, field, optional, end, sequence, application, int32, microseconds, fixed, time, octets, string}
-use Rattle.krb_elements.specs.OneSpelling.{HasOneSpelling}
+use Rattle.krb_elements.specs.OneSpellingLaws.{HasOneSpelling}
 use Rattle.krb_fields.specs.PrincipalName.{Name, name, name_form}
 use Rattle.krb_types.specs.declared.krb_error.KrbError as trees
 

@@ -2,6 +2,6 @@ pub mod Ticket
 pub mod ReqBody
 pub mod KdcReq
 pub mod KrbError
-pub mod NameInRequest
-pub mod ShortName
-pub mod Copied
+pub mod NameInRequestLaws
+pub mod ShortNameLaws
+pub mod CopyLaws

@@ -61,12 +61,12 @@ fn numbers_have_their_bounds(rt: HostRuntime) {
     }
 }
 
-#[tactic(auto, using(krb_der::specs::Ints::int_short))]
+#[tactic(auto, using(krb_der::specs::IntLaws::int_short))]
 fn int32_written(alloc: Global, number: i32) -> Result<Vec<u8>, AllocError> {
     write(alloc, &number)
 }
 
-#[tactic(auto, using(krb_der::specs::Ints::int_short))]
+#[tactic(auto, using(krb_der::specs::IntLaws::int_short))]
 fn uint32_written(alloc: Global, number: i64) -> Result<Vec<u8>, Fail> {
     let number = UInt32::new(number).ok_or("a number of the range")?;
     Ok(write(alloc, &number)?)
@@ -272,7 +272,7 @@ fn either_tag_is_read(rt: HostRuntime) {
 }
 
 #[test]
-#[tactic(auto, using(krb_der::specs::Ints::int_short, krb_elements::proofs::TextLengths::field_short, krb_elements::proofs::TextLengths::optional_number_short))]
+#[tactic(auto, using(krb_der::specs::IntLaws::int_short, krb_elements::proofs::TextLengths::field_short, krb_elements::proofs::TextLengths::optional_number_short))]
 fn fields_are_written(rt: HostRuntime) -> Result<(), Fail> {
     let mut out = Writer::new(rt.alloc());
     for (n, number) in [(0, Some(5i32)), (1, None), (2, Some(-1))] {
@@ -289,7 +289,7 @@ fn fields_are_written(rt: HostRuntime) -> Result<(), Fail> {
 }
 
 #[test]
-#[tactic(auto, using(krb_der::specs::Ints::int_short, krb_elements::specs::ShortText::tlv_short))]
+#[tactic(auto, using(krb_der::specs::IntLaws::int_short, krb_elements::specs::ShortTextLaws::tlv_short))]
 fn values_are_written_inside_a_tag(rt: HostRuntime) -> Result<(), Fail> {
     for (n, number, octets) in [
         (1, 5i32, [0x61, 3, 2, 1, 5]),

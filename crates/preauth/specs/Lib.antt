@@ -1,6 +1,6 @@
 pub mod KeyLaws
 pub mod Keys
-pub mod Lengths
+pub mod LengthLaws
 pub mod Lock
 pub mod MethodData
 pub mod Timestamp

@@ -3,7 +3,7 @@ use Rattle.std.proofs.Common.{◌≡◌, ℕ, ◌+◌, ◌≤◌, List, length, 
 use Rattle.krb_der.specs.declared.fault.DerFault.{DerFault}
 use Rattle.krb_elements.specs.Codec.{Codec, written}
 use Rattle.krb_elements.specs.Laws.{whole_ok}
-use Rattle.krb_elements.specs.ShortText.{tlv_short}
+use Rattle.krb_elements.specs.ShortTextLaws.{tlv_short}
 use Rattle.sealed_parts.specs.Parts.{ok_of, read_as}
 
 -- where the opened text spells the value

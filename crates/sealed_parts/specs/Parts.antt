@@ -1,7 +1,7 @@
 -- Values that stand sealed in a message.
 use Rattle.std.specs.Prelude.{ℕ, ◌≤◌, List, length, Option, Some, None, Result, Ok, Err}
 use Rattle.krb_der.specs.declared.fault.DerFault.{DerFault}
-use Rattle.krb_der.specs.Steps.{IsBytes}
+use Rattle.krb_der.specs.Spelling.{IsBytes}
 use Rattle.krb_elements.specs.Codec.{Codec}
 use Rattle.krb_elements.specs.Format.{whole}
 use Rattle.enctypes.specs.declared.etype.Etype.{Etype}

@@ -2,6 +2,6 @@ pub mod View
 pub mod Known
 pub mod Terms
 pub mod Rules
-pub mod Named
+pub mod NamedLaws
 pub mod Issue
 pub mod Answer

@@ -11,7 +11,7 @@ ghost use Rattle.replay.specs.Stamp.{is_skewed};
 ghost use Rattle.tgs_exchange.specs.Answer.{bears_ticket, by_client, by_verdict, fresh_by, kept_reply, remembering, repeated, refused, stamp_of, tgs_answer, tgs_error, verdict_on, within_room};
 ghost use Rattle.tgs_exchange.specs.Answer.{FreshSpelled, Opens, OpensBy, OpensByClient, OpensByVerdict, RepeatSpelled, Spelled, SpelledByClient, SpelledByVerdict};
 ghost use Rattle.tgs_exchange.specs.Known.{IsKnown};
-ghost use Rattle.tgs_exchange.specs.Named.{IsNamed};
+ghost use Rattle.tgs_exchange.specs.NamedLaws.{IsNamed};
 ghost use Rattle.tgs_exchange.specs.Rules.{admitted, client_rules};
 
 use crate::errors::tgs_error;

@@ -7,7 +7,7 @@ ghost use Rattle.tgs_exchange.specs.Answer.{OpensFor};
 ghost use Rattle.tgs_exchange.specs.Issue.{grant_by, reply_key_of, tgs_rep};
 ghost use Rattle.ticket_times.specs.Flags.{tgs_flags};
 ghost use Rattle.tgs_exchange.specs.Known.{IsKnown};
-ghost use Rattle.tgs_exchange.specs.Named.{IsNamed};
+ghost use Rattle.tgs_exchange.specs.NamedLaws.{IsNamed};
 ghost use Rattle.tgs_exchange.specs.Terms.{ticket_terms};
 
 use crate::terms::{Admission, ticket_terms};

@@ -3,7 +3,8 @@ use Rattle.std.proofs.Common.{◌≡◌, ℕ, ℤ, pos, ◌<◌, ◌≤◌, Bool
 use Rattle.std.specs.Prelude.{IfSome, option_map, find}
 use Rattle.std.specs.Ordering.{int_eq}
 use Rattle.std.proofs.lemmas.List.{length-append}
-use Rattle.krb_der.specs.Steps.{IsBytes, IsBytes-back, IsBytes-front}
+use Rattle.krb_der.specs.Spelling.{IsBytes}
+use Rattle.krb_der.specs.StepLaws.{IsBytes-back, IsBytes-front}
 use Rattle.krb_elements.specs.Codec.{sequence, list_of, octets}
 use Rattle.krb_elements.specs.Spells.{Items}
 use Rattle.krb_elements.specs.WrittenLaws.{tlv_longer}

@@ -1,5 +1,5 @@
 use Rattle.std.proofs.Common.{rules, ◌≡◌}
-use Rattle.as_exchange.specs.Named.{verdict_named}
+use Rattle.as_exchange.specs.NamedLaws.{verdict_named}
 use Rattle.as_exchange.specs.Rules.{rules_by}
 use Rattle.as_exchange.specs.Terms.{terms}
 use Rattle.as_exchange.specs.declared.refusal.AsRefusal.TheVariants.{NeverValid}

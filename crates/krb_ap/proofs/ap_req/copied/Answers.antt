@@ -1,7 +1,7 @@
 use Rattle.std.proofs.Common.{◌≡◌, subst}
 use Rattle.std.specs.Prelude.{IfOk}
 use Rattle.krb_ap.specs.ApReq.{ApReq}
-use Rattle.krb_ap.proofs.Copied.{ap_req_copied}
+use Rattle.krb_ap.proofs.CopyLaws.{ap_req_copied}
 use Rattle.krb_ap.proofs.ap_req.copied.Goals as goal
 
 pub returns : goal.returns

@@ -1,5 +1,5 @@
 use Rattle.std.proofs.Common.{sym, ◌∙◌}
-use Rattle.krb_der.specs.Ints.{short_stays}
+use Rattle.krb_der.specs.IntLaws.{short_stays}
 use Rattle.krb_der.proofs.int.shortest.Goals as goal
 
 pub returns-in_default : goal.returns-in_default

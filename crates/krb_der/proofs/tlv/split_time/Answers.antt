@@ -1,6 +1,6 @@
 use Rattle.std.proofs.Common.{arith}
 use Rattle.krb_der.specs.Laws.{is_found, is_only}
-use Rattle.krb_der.specs.Leaves.{time_ok}
+use Rattle.krb_der.specs.LeafLaws.{time_ok}
 use Rattle.krb_der.proofs.tlv.split_time.Goals as goal
 
 pub returns-clause-found : goal.returns-clause-found

@@ -1,7 +1,7 @@
 use Rattle.std.proofs.Common.{◌≡◌, subst}
 use Rattle.std.specs.Prelude.{IfOk}
 use Rattle.krb_parts.specs.Authenticator.{Authenticator}
-use Rattle.krb_parts.proofs.Copied.{authenticator_copied}
+use Rattle.krb_parts.proofs.CopyLaws.{authenticator_copied}
 use Rattle.krb_parts.proofs.authenticator.copied.Goals as goal
 
 pub returns : goal.returns

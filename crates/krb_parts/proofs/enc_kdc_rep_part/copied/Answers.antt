@@ -1,7 +1,7 @@
 use Rattle.std.proofs.Common.{◌≡◌, subst}
 use Rattle.std.specs.Prelude.{IfOk}
 use Rattle.krb_parts.specs.EncKdcRepPart.{EncKdcRepPart}
-use Rattle.krb_parts.proofs.Copied.{enc_kdc_rep_part_copied}
+use Rattle.krb_parts.proofs.CopyLaws.{enc_kdc_rep_part_copied}
 use Rattle.krb_parts.proofs.enc_kdc_rep_part.copied.Goals as goal
 
 pub returns : goal.returns

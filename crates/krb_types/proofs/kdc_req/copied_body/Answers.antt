@@ -1,7 +1,7 @@
 use Rattle.std.proofs.Common.{◌≡◌, subst}
 use Rattle.std.specs.Prelude.{IfOk}
 use Rattle.krb_types.specs.ReqBody.{ReqBody}
-use Rattle.krb_types.specs.Copied.{body_copied}
+use Rattle.krb_types.specs.CopyLaws.{body_copied}
 use Rattle.krb_types.proofs.kdc_req.copied_body.Goals as goal
 
 pub returns : goal.returns

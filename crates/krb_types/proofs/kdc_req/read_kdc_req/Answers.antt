@@ -1,7 +1,7 @@
 use Rattle.std.proofs.Common.{arith}
 use Rattle.krb_elements.specs.Laws.{is_seen, is_seen_only}
 use Rattle.krb_types.specs.KdcReq.{SpellsReceived, received_at, received_ok, request_if}
-use Rattle.krb_types.specs.ShortName.{short_if_read}
+use Rattle.krb_types.specs.ShortNameLaws.{short_if_read}
 use Rattle.krb_types.proofs.kdc_req.read_kdc_req.Goals as goal
 
 pub returns-clause-found : goal.returns-clause-found

@@ -1,7 +1,7 @@
 use Rattle.std.proofs.Common.{◌≡◌, subst}
 use Rattle.std.specs.Prelude.{IfOk}
 use Rattle.krb_types.specs.KrbError.{KrbError}
-use Rattle.krb_types.specs.Copied.{error_copied}
+use Rattle.krb_types.specs.CopyLaws.{error_copied}
 use Rattle.krb_types.proofs.krb_error.copied.Goals as goal
 
 pub returns : goal.returns

@@ -1,5 +1,5 @@
 use Rattle.std.proofs.Common.{◌∙◌, arith}
-use Rattle.preauth.specs.Lengths.{entries_short, info_short}
+use Rattle.preauth.specs.LengthLaws.{entries_short, info_short}
 use Rattle.preauth.proofs.methods.etype_info2.Goals as goal
 
 pub write-requires : goal.write-requires

@@ -1,6 +1,6 @@
 use Rattle.std.proofs.Common.{rules, ◌≡◌, ◌∷◌, [], ◌∙◌, arith}
 use Rattle.preauth.specs.MethodData.{timestamp_wanted}
-use Rattle.preauth.specs.Lengths.{methods_short, method_data_short}
+use Rattle.preauth.specs.LengthLaws.{methods_short, method_data_short}
 use Rattle.preauth.proofs.methods.method_data.Goals as goal
 
 pub write-requires : goal.write-requires

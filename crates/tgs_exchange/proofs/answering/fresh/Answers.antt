@@ -1,6 +1,6 @@
 use Rattle.std.proofs.Common.{rules, ◌≡◌}
 use Rattle.tgs_opening.specs.declared.refusal.TgsRefusal.TheVariants.{NeverValid}
-use Rattle.tgs_exchange.specs.Named.{admitted_named}
+use Rattle.tgs_exchange.specs.NamedLaws.{admitted_named}
 use Rattle.tgs_exchange.specs.Rules.{rules_by}
 use Rattle.tgs_exchange.specs.Terms.{terms}
 use Rattle.tgs_exchange.proofs.answering.fresh.Goals as goal

@@ -2,7 +2,7 @@ use Rattle.std.proofs.Common.{rules, ◌≡◌, ◌≢◌, Some, sym, ap, subst,
 use Rattle.kdc_state.specs.declared.state.State.{State}
 use Rattle.kdc_state.specs.State.{memory_of}
 use Rattle.kdc_core.proofs.Frame.{database_kept, limits_kept, other_kept, of_either}
-use Rattle.kdc_core.specs.Agreement.{names_agree, next_agrees, view_agrees}
+use Rattle.kdc_core.specs.AgreementLaws.{names_agree, next_agrees, view_agrees}
 use Rattle.kdc_core.specs.Answer.{answer, next}
 use Rattle.kdc_core.specs.RequestLaws.{request_is}
 use Rattle.kdc_core.specs.View.{named, view}

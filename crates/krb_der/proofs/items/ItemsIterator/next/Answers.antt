@@ -1,6 +1,6 @@
 use Rattle.std.proofs.Common.{◌≡◌, [], ◌∷◌, length, arith, sym, ap, ◌∙◌}
 use Rattle.krb_der.specs.Items.{elements}
-use Rattle.krb_der.specs.Elements.{elements_none, elements_first}
+use Rattle.krb_der.specs.ElementLaws.{elements_none, elements_first}
 use Rattle.krb_der.proofs.items.ItemsIterator.next.Goals as goal
 
 pub returns-in_default-clause-steps : goal.returns-in_default-clause-steps

@@ -1,6 +1,6 @@
 use Rattle.std.proofs.Common.{◌≡◌, length, ap, arith, rules}
 use Rattle.krb_der.specs.Int.{int_octets}
-use Rattle.krb_der.specs.Ints.{int_short, int_spelled}
+use Rattle.krb_der.specs.IntLaws.{int_short, int_spelled}
 use Rattle.krb_der.proofs.writer.Writer.put_int.Goals as goal
 
 pub put_tlv-requires : goal.put_tlv-requires

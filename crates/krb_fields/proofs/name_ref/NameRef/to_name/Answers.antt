@@ -1,7 +1,7 @@
 use Rattle.std.proofs.Common.{◌≡◌, subst}
 use Rattle.std.specs.Prelude.{IfOk}
 use Rattle.krb_fields.specs.PrincipalName.{Name}
-use Rattle.krb_fields.specs.NameCopies.{name_copied}
+use Rattle.krb_fields.specs.NameCopyLaws.{name_copied}
 use Rattle.krb_fields.proofs.name_ref.NameRef.to_name.Goals as goal
 
 pub returns : goal.returns

@@ -1,6 +1,6 @@
 use Rattle.std.proofs.Common.{arith}
 use Rattle.krb_elements.specs.Laws.{is_found, is_only}
-use Rattle.krb_elements.proofs.codec.read_owned.Goals as goal
+use Rattle.krb_elements.proofs.reading.read_owned.Goals as goal
 
 pub returns-clause-found : goal.returns-clause-found
 returns-clause-found g c =

@@ -1,6 +1,6 @@
 -- A name that is copied component by component is equal.
 use Rattle.std.proofs.Common.{◌≡◌, ℕ, List, map, refl}
-use Rattle.krb_elements.specs.Copies.{map_all}
+use Rattle.krb_elements.specs.CopyLaws.{map_all}
 use Rattle.krb_fields.specs.PrincipalName.{Name}
 
 abbrev pub same_name : Name → Name

@@ -1,12 +1,12 @@
 -- A name inside a request is shorter than the request.
 use Rattle.std.proofs.Common.{ℕ, ◌<◌, List, length, Option, Result, Ok, Err, ap, arith}
 use Rattle.std.specs.Prelude.{IfSome, IfOk}
-use Rattle.krb_der.specs.Steps.{IsBytes}
+use Rattle.krb_der.specs.Spelling.{IsBytes}
 use Rattle.krb_elements.specs.WrittenLaws.{tlv_longer}
 use Rattle.krb_fields.specs.PrincipalName.{Name, name, name_one}
 use Rattle.krb_types.specs.declared.kdc_req.Exchange.{Exchange}
 use Rattle.krb_types.specs.KdcReq.{KdcReq, Received, SpellsKdcReq, SpellsReceived, without_octets, is_request}
-use Rattle.krb_types.specs.NameInRequest.{HoldsOfNames, in_request}
+use Rattle.krb_types.specs.NameInRequestLaws.{HoldsOfNames, in_request}
 
 -- the name's text is shorter than these octets
 abbrev pub IsShorter : List ℕ → Option Name → Type 0

@@ -3,12 +3,12 @@ use Rattle.std.proofs.Common.{ℕ, ℤ, pos, ◌+◌, ◌≤◌, List, [], ◌�
 use Rattle.std.proofs.lemmas.List.{length-append}
 use Rattle.krb_der.specs.Spelling.{tlv}
 use Rattle.krb_der.specs.Int.{int_octets}
-use Rattle.krb_der.specs.Ints.{int_short}
+use Rattle.krb_der.specs.IntLaws.{int_short}
 use Rattle.krb_der.specs.Time.{time_octets}
 use Rattle.krb_der.proofs.TimeLaws.{length-time_octets}
 use Rattle.krb_elements.specs.Simple.{microseconds_text, fixed_text, flags_text}
 use Rattle.krb_elements.specs.Written.{field_text, maybe_text, field_then, optional_then, no_more, items_text}
-use Rattle.krb_elements.specs.ShortText.{tlv_short}
+use Rattle.krb_elements.specs.ShortTextLaws.{tlv_short}
 use Rattle.krb_elements.specs.Sent.{WithOctets}
 
 -- ---- the words: a tag and a length take at most 6 octets

@@ -5,10 +5,10 @@ use Rattle.std.proofs.lemmas.Int.{to_z-of_z, of_z-to_z}
 use Rattle.std.proofs.lemmas.Bool.{and_from, le-leb, not-true, cases_lt, cases_Bool, or_cases, and_parts, eqb-true, ltb-true, leb-true, lt-ltb, le-ltb}
 use Rattle.std.proofs.lemmas.List.{length-append, length-replicate, append-nil}
 use Rattle.std.proofs.lemmas.Nat.{from_be_bytes-to_be_bytes_8, be_bytes_8}
-use Rattle.krb_der.specs.Spelling.{IsContents, tlv}
+use Rattle.krb_der.specs.Spelling.{IsContents, tlv, IsBytes}
 use Rattle.krb_der.specs.Laws.{contents_fit}
 use Rattle.krb_der.specs.Int.{is_shortest, is_redundant, sign_octet, shortest, int_octets, int_spelling, int_value, is_int, Int}
-use Rattle.krb_der.specs.Steps.{IsBytes, IsBytes-append, IsBytes-replicate}
+use Rattle.krb_der.specs.StepLaws.{IsBytes-append, IsBytes-replicate}
 
 -- as long as eight octets
 abbrev extended : List ℕ → List ℕ

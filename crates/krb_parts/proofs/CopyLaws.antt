@@ -1,8 +1,8 @@
 -- A copy is the same value.
 use Rattle.std.proofs.Common.{◌≡◌, ℕ, List, map, refl}
 use Rattle.std.specs.Prelude.{option_map}
-use Rattle.krb_elements.specs.Copies.{map_all, option_all}
-use Rattle.krb_fields.specs.NameCopies.{same_name}
+use Rattle.krb_elements.specs.CopyLaws.{map_all, option_all}
+use Rattle.krb_fields.specs.NameCopyLaws.{same_name}
 use Rattle.krb_fields.specs.Typed.{Typed}
 use Rattle.krb_parts.specs.LastReq.{LastReq}
 use Rattle.krb_parts.specs.EncTicketPart.{EncTicketPart}

@@ -2,7 +2,8 @@
 use Rattle.std.proofs.Common.{ℕ, ◌≤◌, List, length, Option, Some, None, subst, ap, arith}
 use Rattle.std.specs.Prelude.{IfSome}
 use Rattle.std.proofs.lemmas.List.{length-append}
-use Rattle.krb_der.specs.Steps.{IsBytes, IsBytes-back, IsBytes-front}
+use Rattle.krb_der.specs.Spelling.{IsBytes}
+use Rattle.krb_der.specs.StepLaws.{IsBytes-back, IsBytes-front}
 use Rattle.krb_elements.specs.Codec.{sequence, list_of, int32, string}
 use Rattle.krb_elements.specs.Spells.{Inside, Field, Optional, OptionalOf}
 use Rattle.krb_elements.specs.WrittenLaws.{tlv_longer, inside_fits}

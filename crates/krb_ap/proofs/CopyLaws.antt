@@ -1,7 +1,7 @@
 -- A copy is the same value: of the parts of an AP-REQ, the ticket's name is made of copies.
 use Rattle.std.proofs.Common.{◌≡◌, ℕ, List, refl}
-use Rattle.krb_elements.specs.Copies.{map_all}
-use Rattle.krb_types.specs.Copied.{same_ticket}
+use Rattle.krb_elements.specs.CopyLaws.{map_all}
+use Rattle.krb_types.specs.CopyLaws.{same_ticket}
 use Rattle.krb_ap.specs.ApReq.{ApReq}
 
 abbrev pub same_ap_req : ApReq → ApReq

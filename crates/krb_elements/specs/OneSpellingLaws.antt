@@ -1,10 +1,10 @@
 -- What holds no bits has one spelling: the one that is written.
 use Rattle.std.proofs.Common.{◌≡◌, ℕ, ℤ, pos, true, List, [], ◌∷◌, ◌++◌, Option, Some, None, sym, ap, subst, ◌∙◌, arith}
 use Rattle.std.proofs.lemmas.Int.{ints}
-use Rattle.krb_der.specs.Spelling.{tlv}
+use Rattle.krb_der.specs.Spelling.{tlv, IsBytes}
 use Rattle.krb_der.specs.Int.{int_octets}
-use Rattle.krb_der.specs.Ints.{int_unique}
-use Rattle.krb_der.specs.Steps.{IsBytes, IsBytes-back, IsBytes-front}
+use Rattle.krb_der.specs.IntLaws.{int_unique}
+use Rattle.krb_der.specs.StepLaws.{IsBytes-back, IsBytes-front}
 use Rattle.krb_der.specs.Time.{Time, time_octets}
 use Rattle.krb_der.proofs.TimeSpellings.{time_unique}
 use Rattle.krb_elements.specs.Spells.{Inside, End, Field, OptionalOf, Optional, Items, ListOf}

@@ -3,7 +3,7 @@ use Rattle.std.proofs.Common.{◌≡◌, ℕ, ℤ, pos, ◌+◌, ◌*◌, ◌^�
 use Rattle.std.specs.Prelude.{IfSome, All}
 use Rattle.std.proofs.lemmas.List.Elements.{All-head, All-tail}
 use Rattle.krb_elements.specs.Codec.{measured, list_of, octets, string}
-use Rattle.krb_elements.specs.TextLengths.{most_items, most_maybe}
+use Rattle.krb_elements.specs.TextLengthLaws.{most_items, most_maybe}
 use Rattle.krb_fields.specs.declared.code.Code.{Code}
 use Rattle.krb_fields.specs.declared.moment.Moment.{Moment}
 use Rattle.krb_fields.specs.EncryptedData.{encrypted_data, encrypted_data_form}

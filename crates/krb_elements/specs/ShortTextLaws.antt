@@ -3,14 +3,14 @@ use Rattle.std.specs.Prelude.{nat_lt}
 use Rattle.std.proofs.Common.{◌≡◌, ℕ, ◌+◌, ◌*◌, ◌^◌, ◌≤◌, true, List, [], ◌∷◌, ◌++◌, length, Option, Some, None, refl, ap, subst, arith, inl, inr}
 use Rattle.std.proofs.lemmas.Bool.{cases_Bool}
 use Rattle.std.proofs.lemmas.List.{length-append}
-use Rattle.krb_der.specs.Spelling.{tlv, length_octets}
+use Rattle.krb_der.specs.Spelling.{tlv, length_octets, IsBytes}
 use Rattle.krb_der.specs.Bits.{is_bits}
-use Rattle.krb_der.specs.Steps.{IsBytes, IsBytes-back, IsBytes-front}
+use Rattle.krb_der.specs.StepLaws.{IsBytes-back, IsBytes-front}
 use Rattle.krb_elements.specs.Simple.{KerberosFlags, flags_text}
 use Rattle.krb_elements.specs.Spells.{Inside, End, Field, OptionalOf, Optional}
 use Rattle.krb_elements.specs.Written.{field_text, maybe_text, field_then, optional_then, no_more}
 use Rattle.krb_elements.specs.WrittenLaws.{inside_fits}
-use Rattle.krb_elements.specs.OneSpelling.{HasOneSpelling}
+use Rattle.krb_elements.specs.OneSpellingLaws.{HasOneSpelling}
 
 -- a value with its own tag
 pub record IsShort {A : Type 0} (S : A → List ℕ → Type 0) (tag : ℕ) (text : A → List ℕ) : Type 0 where

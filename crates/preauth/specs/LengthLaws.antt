@@ -2,8 +2,8 @@
 use Rattle.std.proofs.Common.{◌≡◌, ℕ, ℤ, ◌+◌, ◌*◌, ◌≤◌, List, [], ◌∷◌, length, map, sym, subst, arith}
 use Rattle.krb_der.specs.Spelling.{tlv}
 use Rattle.krb_elements.specs.Codec.{list_of, written}
-use Rattle.krb_elements.specs.ShortText.{tlv_short}
-use Rattle.krb_elements.specs.TextLengths.{most_items}
+use Rattle.krb_elements.specs.ShortTextLaws.{tlv_short}
+use Rattle.krb_elements.specs.TextLengthLaws.{most_items}
 use Rattle.krb_fields.specs.PaData.{PaData, pa_data, pa_data_form}
 use Rattle.krb_parts.specs.EtypeInfo2Entry.{EtypeInfo2Entry, etype_info2_entry, etype_info2_entry_form}
 use Rattle.preauth.specs.MethodData.{info_entry, timestamp_wanted}

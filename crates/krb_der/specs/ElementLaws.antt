@@ -3,7 +3,7 @@ use Rattle.std.proofs.Common.{◌≡◌, ℕ, zero, suc, ◌^◌, ◌≤◌, ◌
 use Rattle.krb_der.specs.declared.fault.DerFault.{DerFault}
 use Rattle.krb_der.specs.Spelling.{tlv}
 use Rattle.krb_der.specs.Reading.{◌>>=◌, tlv_at}
-use Rattle.krb_der.specs.Steps.{bind_ok, ok_is}
+use Rattle.krb_der.specs.StepLaws.{bind_ok, ok_is}
 use Rattle.krb_der.specs.Laws.{tlv_shorter, tlv_again}
 use Rattle.krb_der.specs.Items.{element_at, first_and, elements_from, elements}
 

@@ -1,10 +1,8 @@
--- Steps of reading that did not fail, and lists of octets.
-use Rattle.std.proofs.Common.{◌≡◌, ℕ, zero, suc, ◌<◌, Bool, true, false, cond, List, [], ◌∷◌, ◌++◌, get_or, replicate, Result, Ok, Err, refl, arith, inl, inr, ◌⊎◌}
+-- Laws of steps of reading that did not fail, and of lists of octets.
+use Rattle.std.proofs.Common.{◌≡◌, ℕ, zero, suc, ◌<◌, Bool, true, false, cond, List, [], ◌∷◌, ◌++◌, replicate, Result, Ok, Err, refl, arith, inl, inr, ◌⊎◌}
 use Rattle.krb_der.specs.declared.fault.DerFault.{DerFault}
+use Rattle.krb_der.specs.Spelling.{IsBytes}
 use Rattle.krb_der.specs.Reading.{◌>>=◌}
-
-abbrev pub IsBytes : List ℕ → Type 0
-IsBytes bytes = (i : ℕ) → get_or bytes i 0 < 256
 
 pub IsBytes-rest : (b : ℕ) (bytes : List ℕ) → IsBytes (b ∷ bytes) → IsBytes bytes
 IsBytes-rest b bytes h i = h (suc i)

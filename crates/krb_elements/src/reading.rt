@@ -1,0 +1,211 @@
+//! How a value of a message is read where it stands: its fields in their order, each by one call.
+ghost use Rattle.std.specs.Prelude.{◌≡◌, ◌<◌, ◌+◌, IfOk, IsOkAnd};
+ghost use Rattle.krb_elements.specs.Format.{Decodes, IsReadUnlessMemory, Looks, Sees, whole, inside, maybe, sent, end};
+ghost use Rattle.krb_elements.specs.Simple.{fixed_at};
+ghost use Rattle.krb_elements.specs.FieldReading.{either_inside};
+ghost use Rattle.krb_elements.specs.Codec.{sequence, in_tag, fields_at};
+
+use crate::codec::{Coded, Fielded, Round};
+use crate::fault::Fault;
+use krb_der::{DerFault, Reader};
+use std::alloc::Global;
+use std::marker::Model;
+
+/// A value that is read where it stands: its strings and lists are those of the octets.
+pub trait Decode<'a>: Coded {
+    /// The value at the front.
+    fn look(reader: &mut Reader<'a>) -> Result<Self, DerFault>
+        ensures { Looks result reader.new (Self.codec.at reader.old) };
+}
+
+/// The same of a type that is made of fields.
+pub trait DecodeFields<'a>: Fielded {
+    /// The fields at the front, in their order.
+    fn look_fields(fields: &mut Reader<'a>) -> Result<Self, DerFault>
+        ensures { Looks result fields.new (fields_at Self.form fields.old) };
+}
+
+impl<'a, T: DecodeFields<'a>> Decode<'a> for T {
+    fn look(reader: &mut Reader<'a>) -> Result<T, DerFault> {
+        look_made(reader)
+    }
+}
+
+/// A value that owns its parts, and is read from all of the octets.
+pub trait ReadOwned: Coded {
+    fn read_parts(alloc: Global, bytes: &[u8]) -> Result<Self, Fault>
+        ensures { Decodes result (whole Self.codec.at bytes.now) };
+}
+
+/// The value that the octets spell.
+pub fn read<'a, T: Decode<'a>>(bytes: &'a [u8]) -> Result<T, DerFault>
+    // What is read is spelled so.
+    ensures found { IfOk result (λ x. T.codec.Spells x bytes.now) }
+    // What is spelled so is read.
+    ensures only { (x : T) → T.codec.Spells x bytes.now → IsOkAnd result (λ y. y ≡ x) }
+    // Which fault it is.
+    ensures exact { Sees result (whole T.codec.at bytes.now) }
+{
+    look_all(bytes)
+}
+
+/// The value that the octets spell.
+pub fn read_owned<T: ReadOwned>(alloc: Global, bytes: &[u8]) -> Result<T, Fault>
+    // What is read is spelled so.
+    ensures found { IfOk result (λ x. T.codec.Spells x bytes.now) }
+    // What is spelled so is read, unless memory runs out.
+    ensures only { (x : T) → T.codec.Spells x bytes.now → IsReadUnlessMemory result x }
+    // Which fault it is.
+    ensures exact { Decodes result (whole T.codec.at bytes.now) }
+{
+    T::read_parts(alloc, bytes)
+}
+
+/// The value that all of the octets are.
+pub(crate) fn look_all<'a, T: Decode<'a>>(bytes: &'a [u8]) -> Result<T, DerFault>
+    ensures { Sees result (whole T.codec.at bytes.now) }
+{
+    let mut reader = Reader::new(bytes);
+    let value = T::look(&mut reader)?;
+    end_of(&reader)?;
+    Ok(value)
+}
+
+/// That nothing is left.
+pub fn end_of(fields: &Reader<'_>) -> Result<(), DerFault>
+    ensures { Sees result (end fields.now) }
+{
+    if !fields.is_empty() {
+        return Err(DerFault::Trailing);
+    }
+    Ok(())
+}
+
+/// The value inside this tag.
+fn look_inside<'a, T: Decode<'a>>(reader: &mut Reader<'a>, tag: u8) -> Result<T, DerFault>
+    ensures { Looks result reader.new (inside tag (whole T.codec.at) reader.old) }
+{
+    let mut contents = Reader::new(reader.read_tlv(tag)?);
+    let value = T::look(&mut contents)?;
+    end_of(&contents)?;
+    Ok(value)
+}
+
+/// The field with this tag.
+pub fn take_field<'a, T: Decode<'a>>(fields: &mut Reader<'a>, n: u8) -> Result<T, DerFault>
+    requires { n < 31 }
+    ensures { Looks result fields.new (inside (160 + n) (whole T.codec.at) fields.old) }
+{
+    look_inside(fields, 0xa0 + n)
+}
+
+/// The field with this tag, if it is there.
+pub fn take_optional<'a, T: Decode<'a>>(
+    fields: &mut Reader<'a>,
+    n: u8,
+) -> Result<Option<T>, DerFault>
+    requires { n < 31 }
+    ensures { Looks result fields.new (maybe (160 + n) T.codec.at fields.old) }
+{
+    match fields.peek_tag() {
+        Some(next) if next == 0xa0 + n => Ok(Some(take_field(fields, n)?)),
+        _ => Ok(None),
+    }
+}
+
+/// The field with this tag, which is this number, as a message's version.
+pub fn take_fixed(fields: &mut Reader<'_>, n: u8, number: i32) -> Result<(), DerFault>
+    requires { n < 31 }
+    ensures { Looks result fields.new (inside (160 + n) (whole (fixed_at number)) fields.old) }
+{
+    let mut contents = Reader::new(fields.read_tlv(0xa0 + n)?);
+    look_fixed(&mut contents, number)?;
+    end_of(&contents)
+}
+
+#[tactic(auto, unfolding(crate::specs::Simple::fixed_at))]
+fn look_fixed(reader: &mut Reader<'_>, number: i32) -> Result<(), DerFault>
+    ensures { Looks result reader.new (fixed_at number reader.old) }
+{
+    if reader.read_int()? != i64::from(number) {
+        return Err(DerFault::BadInteger);
+    }
+    Ok(())
+}
+
+/// A value, and its octets as they were sent.
+#[derive(Debug, Drop)]
+pub struct Sent<'a, T> {
+    pub value: T,
+    pub octets: &'a [u8],
+}
+
+impl<'a, T> Model for Sent<'a, T> {
+    ghost use Rattle.krb_elements.specs.Sent.{WithOctets, with_octets_code};
+
+    ghost Value = { WithOctets T };
+
+    ghost coded = { with_octets_code T.code };
+
+    ghost view = { λ s. record { value = s.value; octets = s.octets.now } };
+}
+
+/// The field with this tag, and its octets as they were sent.
+pub fn take_sent<'a, T: Decode<'a>>(fields: &mut Reader<'a>, n: u8) -> Result<Sent<'a, T>, DerFault>
+    requires { n < 31 }
+    ensures { Looks result fields.new (inside (160 + n) (sent (whole T.codec.at)) fields.old) }
+{
+    let octets = fields.read_tlv(0xa0 + n)?;
+    let value = look_all(octets)?;
+    Ok(Sent { value, octets })
+}
+
+/// A value in either of two tags, and what its tag says.
+pub fn look_either<'a, K: Copy, T: Decode<'a>>(
+    reader: &mut Reader<'a>,
+    first: (u8, K),
+    second: (u8, K),
+) -> Result<(K, T), DerFault>
+    ensures { Looks result reader.new (either_inside first second T.codec.at reader.old) }
+{
+    match reader.peek_tag() {
+        Some(next) if next == second.0 => {
+            let value = look_inside(reader, second.0)?;
+            Ok((second.1, value))
+        }
+        _ => {
+            let value = look_inside(reader, first.0)?;
+            Ok((first.1, value))
+        }
+    }
+}
+
+/// What is made of a type's fields.
+fn look_made<'a, T: DecodeFields<'a>>(reader: &mut Reader<'a>) -> Result<T, DerFault>
+    ensures { Looks result reader.new ((in_tag T.In.TAG (sequence T.form)).at reader.old) }
+{
+    match T::In::TAG {
+        None => look_sequence(reader),
+        Some(tag) => look_tagged(reader, tag),
+    }
+}
+
+/// The SEQUENCE of a type's fields, in this tag.
+fn look_tagged<'a, T: DecodeFields<'a>>(reader: &mut Reader<'a>, tag: u8) -> Result<T, DerFault>
+    ensures { Looks result reader.new (inside tag (whole (sequence T.form).at) reader.old) }
+{
+    let mut contents = Reader::new(reader.read_tlv(tag)?);
+    let value = look_sequence(&mut contents)?;
+    end_of(&contents)?;
+    Ok(value)
+}
+
+/// The SEQUENCE of a type's fields.
+fn look_sequence<'a, T: DecodeFields<'a>>(reader: &mut Reader<'a>) -> Result<T, DerFault>
+    ensures { Looks result reader.new ((sequence T.form).at reader.old) }
+{
+    let mut fields = Reader::new(reader.read_tlv(0x30)?);
+    let value = T::look_fields(&mut fields)?;
+    end_of(&fields)?;
+    Ok(value)
+}

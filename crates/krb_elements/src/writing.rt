@@ -1,0 +1,126 @@
+//! How a value of a message is written: its fields in their order, each by one call.
+ghost use Rattle.std.specs.Prelude.{◌≡◌, ◌<◌, ◌^◌, ◌+◌, ◌++◌, IfOk, IfSome, OnOk, length};
+ghost use Rattle.krb_der.specs.Spelling.{tlv};
+ghost use Rattle.krb_elements.specs.Written.{field_text, maybe_text};
+ghost use Rattle.krb_elements.specs.Codec.{written, sequence, in_tag, fields_text, fields_onto, FitFields};
+ghost use Rattle.krb_elements.specs.Spells.{Inside};
+
+use crate::codec::{Coded, Fielded, Round};
+use krb_der::Writer;
+use std::alloc::{AllocError, Global};
+
+/// A value that is written.
+pub trait Encode: Coded {
+    /// Appends the value. An `Err` may leave a part of it.
+    fn put(&self, out: &mut Writer) -> Result<(), AllocError>
+        requires { length (Self.codec.text self.now) < 2 ^ 32 }
+        ensures ok { OnOk result (out.new ≡ out.old ++ tlv Self.codec.tag (Self.codec.text self.now)) }
+        // Its numbers are in their ranges.
+        ensures fits { OnOk result (Self.codec.Fits self.now) };
+}
+
+/// The same of a type that is made of fields.
+pub trait EncodeFields: Fielded {
+    /// Appends the fields, in their order. An `Err` may leave a part of them.
+    fn put_fields(&self, out: &mut Writer) -> Result<(), AllocError>
+        requires { length (fields_text Self.form self.now) < 2 ^ 32 }
+        ensures ok { OnOk result (out.new ≡ fields_onto Self.form out.old self.now) }
+        ensures fits { OnOk result (FitFields Self.form self.now) };
+}
+
+impl<T: EncodeFields> Encode for T {
+    fn put(&self, out: &mut Writer) -> Result<(), AllocError> {
+        put_made(out, self)
+    }
+}
+
+/// The octets that are written, which spell the value.
+pub fn write<T: Encode>(alloc: Global, value: &T) -> Result<Vec<u8>, AllocError>
+    requires { length (T.codec.text value.now) < 2 ^ 32 }
+    ensures written { IfOk result (λ v. v.items ≡ written T.codec value.now) }
+    ensures spelled { IfOk result (λ v. T.codec.Spells value.now v.items) }
+{
+    let mut out = Writer::new(alloc);
+    value.put(&mut out)?;
+    Ok(out.finish())
+}
+
+/// The octets of the value in this tag, which spell it.
+#[tactic(auto, using(crate::specs::WrittenLaws::tlv_longer))]
+pub fn write_inside<T: Encode>(alloc: Global, tag: u8, value: &T) -> Result<Vec<u8>, AllocError>
+    requires { length (tlv T.codec.tag (T.codec.text value.now)) < 2 ^ 32 }
+    ensures written { IfOk result (λ v. v.items ≡ tlv tag (tlv T.codec.tag (T.codec.text value.now))) }
+    ensures spelled { IfOk result (λ v. Inside tag T.codec.Spells value.now v.items) }
+{
+    let mut out = Writer::new(alloc);
+    value.put(&mut out)?;
+    out.wrap(0, tag)?;
+    Ok(out.finish())
+}
+
+/// Appends the field.
+#[tactic(auto, using(crate::specs::WrittenLaws::tlv_longer))]
+pub fn write_field<T: Encode>(out: &mut Writer, n: u8, value: &T) -> Result<(), AllocError>
+    requires tag { n < 31 }
+    requires short { length (field_text (160 + n) T.codec.tag (T.codec.text value.now)) < 2 ^ 32 }
+    ensures ok { OnOk result (out.new ≡ out.old ++ field_text (160 + n) T.codec.tag (T.codec.text value.now)) }
+    ensures fits { OnOk result (T.codec.Fits value.now) }
+{
+    let start = out.len();
+    value.put(out)?;
+    out.wrap(start, 0xa0 + n)
+}
+
+/// Appends the field, if it is there.
+#[tactic(auto, using(crate::specs::WrittenLaws::tlv_longer))]
+pub fn write_optional<T: Encode>(
+    out: &mut Writer,
+    n: u8,
+    value: &Option<T>,
+) -> Result<(), AllocError>
+    requires tag { n < 31 }
+    requires short { length (maybe_text (160 + n) T.codec.tag T.codec.text value.now) < 2 ^ 32 }
+    ensures ok { OnOk result (out.new ≡ out.old ++ maybe_text (160 + n) T.codec.tag T.codec.text value.now) }
+    ensures fits { OnOk result (IfSome value.now T.codec.Fits) }
+{
+    match value {
+        None => Ok(()),
+        Some(value) => write_field(out, n, value),
+    }
+}
+
+/// Appends what is made of a type's fields.
+fn put_made<T: EncodeFields>(out: &mut Writer, value: &T) -> Result<(), AllocError>
+    requires { length ((in_tag T.In.TAG (sequence T.form)).text value.now) < 2 ^ 32 }
+    ensures ok { OnOk result (out.new ≡ out.old ++ tlv (in_tag T.In.TAG (sequence T.form)).tag ((in_tag T.In.TAG (sequence T.form)).text value.now)) }
+    ensures fits { OnOk result ((in_tag T.In.TAG (sequence T.form)).Fits value.now) }
+{
+    match T::In::TAG {
+        None => put_sequence(out, value),
+        Some(tag) => put_tagged(out, tag, value),
+    }
+}
+
+/// Appends the SEQUENCE of a type's fields, in this tag.
+#[tactic(auto, using(crate::specs::WrittenLaws::tlv_longer))]
+fn put_tagged<T: EncodeFields>(out: &mut Writer, tag: u8, value: &T) -> Result<(), AllocError>
+    requires { length (tlv 48 (fields_text T.form value.now)) < 2 ^ 32 }
+    ensures ok { OnOk result (out.new ≡ out.old ++ tlv tag (tlv 48 (fields_text T.form value.now))) }
+    ensures fits { OnOk result (FitFields T.form value.now) }
+{
+    let start = out.len();
+    put_sequence(out, value)?;
+    out.wrap(start, tag)
+}
+
+/// Appends the SEQUENCE of a type's fields.
+#[tactic(auto, using(crate::specs::Codec::onto_is))]
+fn put_sequence<T: EncodeFields>(out: &mut Writer, value: &T) -> Result<(), AllocError>
+    requires { length (fields_text T.form value.now) < 2 ^ 32 }
+    ensures ok { OnOk result (out.new ≡ out.old ++ tlv 48 (fields_text T.form value.now)) }
+    ensures fits { OnOk result (FitFields T.form value.now) }
+{
+    let start = out.len();
+    value.put_fields(out)?;
+    out.wrap(start, 0x30)
+}
