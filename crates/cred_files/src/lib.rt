@@ -19,6 +19,3 @@ pub use fault::FileFault;
 pub use keytab::{Keytab, Miss};
 pub use keytab_entry::KeytabEntry;
 pub use principal::Principal;
-
-#[cfg(test)]
-mod tests;

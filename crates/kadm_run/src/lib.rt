@@ -7,13 +7,9 @@ mod file_store;
 mod keys;
 mod order;
 mod run;
-mod setting;
 mod store;
 
 pub use file_store::FileStore;
 pub use keys::{password_keys, random_keys};
 pub use run::{DONE, FAILED, REFUSED, USAGE, kadm_run};
 pub use store::{LONGEST_FILE, Store};
-
-#[cfg(test)]
-mod tests;

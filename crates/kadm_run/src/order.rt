@@ -1,11 +1,11 @@
 //! The words of a command line, and what they order.
-use crate::setting::{is_setting, number};
 use clap::error::Error;
 use clap::{Arg, ArgAction, ArgMatches, Command};
 use std::alloc::{AllocError, Global};
 use std::convert::AsStr;
+use text_fields::{Setting, number_u32};
 
-/// What one command line orders, in words that are not looked at yet.
+/// What one command line orders. Paths and names are words that are not looked at yet.
 #[derive(Clone, Copy, Debug)]
 pub(crate) struct Order<'a> {
     /// The path of the database.
@@ -13,42 +13,18 @@ pub(crate) struct Order<'a> {
     pub task: Task<'a>,
 }
 
-/// What is to be done. Paths and names stand as they were given.
+/// What is to be done.
 #[derive(Clone, Copy, Debug)]
 pub(crate) enum Task<'a> {
-    Init {
-        realm: &'a str,
-        seed: &'a str,
-    },
-    Add {
-        name: &'a str,
-        password: &'a str,
-    },
-    Passwd {
-        name: &'a str,
-        password: &'a str,
-    },
-    Random {
-        name: &'a str,
-        seed: &'a str,
-    },
-    Drop {
-        name: &'a str,
-        version: u32,
-    },
-    Policy {
-        name: &'a str,
-        field: &'a str,
-        value: &'a str,
-    },
-    Remove {
-        name: &'a str,
-    },
+    Init { realm: &'a str, seed: &'a str },
+    Add { name: &'a str, password: &'a str },
+    Passwd { name: &'a str, password: &'a str },
+    Random { name: &'a str, seed: &'a str },
+    Drop { name: &'a str, version: u32 },
+    Policy { name: &'a str, setting: Setting },
+    Remove { name: &'a str },
     List,
-    Keytab {
-        name: &'a str,
-        out: &'a str,
-    },
+    Keytab { name: &'a str, out: &'a str },
     Migrate,
 }
 
@@ -104,7 +80,7 @@ pub(crate) fn read_order<'a>(matches: &ArgMatches<'a>) -> Option<Order<'a>> {
         },
         "drop" => Task::Drop {
             name: words.get_str("name")?,
-            version: number(words.get_str("version")?)?,
+            version: number_u32(words.get_str("version")?)?,
         },
         "policy" => policy_task(words)?,
         "remove" => Task::Remove {
@@ -125,15 +101,9 @@ pub(crate) fn read_order<'a>(matches: &ArgMatches<'a>) -> Option<Order<'a>> {
 }
 
 fn policy_task<'a>(words: &ArgMatches<'a>) -> Option<Task<'a>> {
-    let field = words.get_str("field")?;
-    let value = words.get_str("value")?;
-    if !is_setting(field, value) {
-        return None;
-    }
     Some(Task::Policy {
         name: words.get_str("name")?,
-        field,
-        value,
+        setting: Setting::of(words.get_str("field")?, words.get_str("value")?)?,
     })
 }
 

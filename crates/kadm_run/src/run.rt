@@ -3,7 +3,6 @@ ghost use Rattle.std.specs.Prelude.{◌≡◌, ◌⊎◌};
 
 use crate::keys::{password_keys, random_keys};
 use crate::order::{Order, Task, read_order, read_words};
-use crate::setting::with_setting;
 use crate::store::{LONGEST_FILE, Store};
 use clap::error::ErrorKind;
 use cred_files::{FileFault, Keytab, KeytabEntry};
@@ -15,6 +14,7 @@ use std::alloc::{AllocError, AllocFailed, Global};
 use std::convert::AsStr;
 use std::io::{BufWriter, Write};
 use std::{io, str};
+use text_fields::Setting;
 
 /// The status of a command that did what it was to do.
 pub const DONE: u8 = 0;
@@ -194,7 +194,7 @@ fn run_task<T: Store>(alloc: Global, db: &str, task: Task<'_>, store: &mut T) ->
         Task::Passwd { name, password } => set_password(alloc, store, db, name, password),
         Task::Random { name, seed } => give_random_keys(alloc, store, db, name, seed),
         Task::Drop { name, version } => drop_keys(alloc, store, db, name, version),
-        Task::Policy { name, field, value } => set_policy(alloc, store, db, name, field, value),
+        Task::Policy { name, setting } => set_policy(alloc, store, db, name, setting),
         Task::Remove { name } => remove(alloc, store, db, name),
         Task::Keytab { name, out } => write_keytab(alloc, store, db, name, out),
         Task::Migrate => migrate(alloc, store, db),
@@ -306,17 +306,14 @@ fn set_policy<T: Store>(
     store: &mut T,
     db: &str,
     name: &str,
-    field: &str,
-    value: &str,
+    setting: Setting,
 ) -> Result<(), Stop> {
     let name = Name::from_text(alloc, name)?;
     let mut database = read_database(alloc, store, db)?;
     let Some(row) = database.get(&name) else {
         return Err(Stop::Refused(ChangeFault::Absent.name()));
     };
-    let Some(policy) = with_setting(row.policy, field, value) else {
-        return Err(Stop::Usage);
-    };
+    let policy = setting.on(row.policy);
     make_change(
         alloc,
         store,

@@ -19,6 +19,3 @@ pub use laws::any_cutting;
 pub use memory::MemoryWire;
 pub use server::{Served, serve};
 pub use wires::{Did, Wire, WireFault};
-
-#[cfg(test)]
-mod tests;

@@ -10,10 +10,7 @@ use Rattle.krb_elements.specs.Simple.{IsMicrosecond}
 use Rattle.krb_fields.specs.Moment.{IsSecond}
 use Rattle.principal_rows.specs.KeyList.{has_type_twice}
 use Rattle.principal_rows.specs.declared.limits.Limits.{Limits}
-
--- a number is its decimal digits, perhaps with zeros in front
-abbrev pub IsNumberText : ℕ → List ℕ → Type 0
-IsNumberText n text = IsNumeral 10 text × (digits_value 10 text ≡ n)
+use Rattle.text_fields.specs.Numbers.{IsNumberText, IsU32Text}
 
 -- a moment is its whole seconds since 1970 and its microseconds
 pub record IsMomentText (at : Moment) (sec_text usec_text : List ℕ) : Type 0 where
@@ -22,10 +19,6 @@ pub record IsMomentText (at : Moment) (sec_text usec_text : List ℕ) : Type 0 w
   pub sec_fits : IsSecond at.sec
   pub usec : IsNumberText at.usec usec_text
   pub usec_fits : IsMicrosecond at.usec
-
--- a number of 32 bits
-abbrev pub IsU32Text : ℕ → List ℕ → Type 0
-IsU32Text n text = IsNumberText n text × (n < 2 ^ 32)
 
 -- the limits are five numbers; from 1 to 65536 authenticators are remembered
 abbrev pub AreLimitsTexts : Limits → List (List ℕ) → Type 0

@@ -4,4 +4,3 @@ pub mod Line
 pub mod Octets
 pub mod Run
 pub mod Script
-pub mod Setting

@@ -11,9 +11,10 @@ use Rattle.principal_rows.specs.declared.limits.Limits.{Limits}
 use Rattle.kdc_script.specs.declared.line.Line.{Line}
 use Rattle.kdc_script.specs.declared.line.Request as requests
 use Rattle.kdc_script.specs.declared.line.Line.TheVariants.{Open, Add, NewKeys, DropKeys, Remove, SetPolicy, Request, Restart}
-use Rattle.kdc_script.specs.declared.setting.Setting.{Setting}
-use Rattle.kdc_script.specs.Setting.{IsSettingText}
-use Rattle.kdc_script.specs.Field.{IsMomentText, IsU32Text, AreLimitsTexts, IsOctetsText, IsKeysText}
+use Rattle.text_fields.specs.declared.settings.Setting.{Setting}
+use Rattle.text_fields.specs.Numbers.{IsU32Text}
+use Rattle.text_fields.specs.Settings.{IsSettingText}
+use Rattle.kdc_script.specs.Field.{IsMomentText, AreLimitsTexts, IsOctetsText, IsKeysText}
 
 -- a name of name-type 1 (NT-PRINCIPAL), or none where the text is that of no name
 abbrev pub IsNameTextOrNone : Option Name → List ℕ → Type 0

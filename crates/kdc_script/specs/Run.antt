@@ -3,6 +3,9 @@ use Rattle.std.specs.Prelude.{◌≡◌, ℕ, List, Option, Some, None}
 use Rattle.std.specs.FinMap.{get}
 use Rattle.krb_fields.specs.PrincipalName.{Name}
 use Rattle.krb_fields.specs.NameLimits.{IsComponent}
+use Rattle.principal_rows.specs.Policy.{default_policy}
+use Rattle.principal_rows.specs.declared.policy.Policy.{Policy}
+use Rattle.principal_rows.specs.declared.row.Row.{Row}
 use Rattle.principals.specs.declared.change.Change.{Change}
 use Rattle.principals.specs.declared.change.Change.TheVariants as changes
 use Rattle.principals.specs.declared.change.ChangeFault.{ChangeFault}
@@ -14,8 +17,8 @@ use Rattle.kdc_state.specs.declared.state.State.{State}
 use Rattle.kdc_state.specs.State.{opened, restarted}
 use Rattle.kdc_core.specs.View.{view}
 use Rattle.kdc_core.specs.Answer.{answer, next}
-use Rattle.kdc_script.specs.Setting.{with_setting, policy_of}
-use Rattle.kdc_script.specs.declared.setting.Setting.{Setting}
+use Rattle.text_fields.specs.Settings.{with_setting}
+use Rattle.text_fields.specs.declared.settings.Setting.{Setting}
 use Rattle.kdc_script.specs.declared.answer.Answer.{Answer}
 use Rattle.kdc_script.specs.declared.answer.Answer.TheVariants.{Done, Refused, Reply, NoReply}
 use Rattle.kdc_script.specs.declared.line.LineFault.{LineFault}
@@ -44,6 +47,11 @@ Changes kdc change (Some fault) after printed = (after ≡ Some kdc) × (printed
 -- a change of what has no name is refused
 abbrev pub IsNotNamed : State → Option State → Answer → Type 0
 IsNotNamed kdc after printed = (after ≡ Some kdc) × (printed ≡ Refused BadName)
+
+-- the policy of a row, and of a name that has none that of a new principal
+abbrev pub policy_of : Option Row → Policy
+policy_of None = default_policy
+policy_of (Some row) = row.policy
 
 -- a name's policy, with a field set
 abbrev pub policy_change : State → Name → Setting → Change

@@ -18,28 +18,10 @@ use krb_elements::KerberosString;
 use krb_fields::{Moment, Name, NameFault, component_from_text};
 use principal_rows::{KeyList, KeyListFault, Limits};
 use std::alloc::Global;
+use text_fields::{number, number_u32};
 
 /// The most octets that a key has.
 const LONGEST_KEY: usize = 32;
-
-/// A decimal number: digits alone, of which the first may be zeros.
-pub(crate) fn number(text: &str) -> Option<u64>
-    ensures read { IsSome result ↔ (IsNumeral 10 text.now × (digits_value 10 text.now < 2 ^ 64)) }
-    ensures value { IfSome result (λ n. n ≡ digits_value 10 text.now) }
-{
-    // `parse` would take a plus in front
-    if let [b'+', ..] = text.as_bytes() {
-        return None;
-    }
-    text.parse::<u64>().ok()
-}
-
-pub(crate) fn number_u32(text: &str) -> Option<u32>
-    ensures read { IsSome result ↔ (IsNumeral 10 text.now × (digits_value 10 text.now < 2 ^ 32)) }
-    ensures value { IfSome result (λ n. n ≡ digits_value 10 text.now) }
-{
-    u32::try_from(number(text)?).ok()
-}
 
 /// A moment by its whole seconds since the start of 1970 and its microseconds.
 pub(crate) fn moment(sec: &str, usec: &str) -> Option<Moment>

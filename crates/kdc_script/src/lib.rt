@@ -23,6 +23,5 @@ mod input;
 mod line;
 mod octets;
 mod run;
-mod setting;
 
 pub use run::{DONE, FAILED, FAULT, run_script};

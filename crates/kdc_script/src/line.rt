@@ -5,12 +5,12 @@ ghost use Rattle.kdc_script.specs.Line.{IsLineText, AreLineFields};
 ghost use Rattle.kdc_script.specs.declared.line.Line as lines;
 ghost use Rattle.kdc_script.specs.declared.line.LineFault.TheVariants.{Form, Memory};
 
-use crate::field::{keys, limits, moment, name, number_u32, octets, realm, words};
-use crate::setting::Setting;
+use crate::field::{keys, limits, moment, name, octets, realm, words};
 use krb_elements::KerberosString;
 use krb_fields::{Moment, Name};
 use principal_rows::{KeyList, Limits};
 use std::alloc::{AllocError, AllocFailed, Global};
+use text_fields::{Setting, number_u32};
 
 /// A line of a script.
 #[derive(Debug, Drop)]

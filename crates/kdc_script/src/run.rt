@@ -1,10 +1,9 @@
 //! Runs of a script.
 ghost use Rattle.std.specs.Prelude.{◌≡◌, ◌≢◌, ◌⊎◌, IfOk, IfSome, OnOk, Some};
 ghost use Rattle.std.specs.FinMap as map;
-ghost use Rattle.kdc_script.specs.Setting.{policy_of};
 ghost use Rattle.std.specs.Io.KnownBytes.{Appends};
 ghost use Rattle.kdc_script.specs.Octets.{octets_of};
-ghost use Rattle.kdc_script.specs.Run.{CannotRun, Changes, Runs, stop_of};
+ghost use Rattle.kdc_script.specs.Run.{CannotRun, Changes, Runs, policy_of, stop_of};
 ghost use Rattle.kdc_script.specs.Script.{fault_text, IsFaultText, PrintsScript, PrintsText, PrintsUpToFault};
 ghost use Rattle.kdc_script.specs.declared.line.Line.TheVariants as lines;
 ghost use Rattle.kdc_script.specs.declared.run.Stop.TheVariants.{Failed, Fault};
@@ -17,7 +16,6 @@ ghost use Rattle.principals.specs.Database.{first_database};
 use crate::answer::Answer;
 use crate::input::Input;
 use crate::line::{Line, LineFault, Request};
-use crate::setting::Setting;
 use kdc_core::{Kdc, Opening};
 use krb_elements::KerberosString;
 use krb_fields::{Moment, Name};
@@ -26,6 +24,7 @@ use principals::{Change, ChangeFault, Database, FirstFault};
 use std::alloc::{AllocError, Global};
 use std::io;
 use std::io::{Read, Write};
+use text_fields::Setting;
 
 /// The status of a run that came to the end of its input.
 pub const DONE: u8 = 0;

@@ -9,7 +9,7 @@ use std::alloc::Global;
 use std::test::Fail;
 
 /// An AS-REQ of `u` in `A.B` for `krbtgt/A.B`, till zero, nonce 1, encryption type 18.
-const BASIC: &[u8] =
+pub const BASIC: &[u8] =
     b"6a693067a103020105a20302010aa45b3059a00703050000000000a10e300ca003020101a10530031b0175a2051b03412e42a3183016a003020102a10f300d1b066b72627467741b03412e42a511180f31393730303130313030303030305aa703020101a8053003020112";
 
 /// The basic request with its first length spelled in two octets.
@@ -17,7 +17,7 @@ const LONG_FORM: &[u8] =
     b"6a81693067a103020105a20302010aa45b3059a00703050000000000a10e300ca003020101a10530031b0175a2051b03412e42a3183016a003020102a10f300d1b066b72627467741b03412e42a511180f31393730303130313030303030305aa703020101a8053003020112";
 
 /// KRB-ERROR of 2024-01-01 00:00:00 with code 6, realm `A.B` and service `krbtgt/A.B`.
-const CLIENT_UNKNOWN: &[u8] =
+pub const CLIENT_UNKNOWN: &[u8] =
     b"7e4a3048a003020105a10302011ea411180f32303234303130313030303030305aa503020100a603020106a9051b03412e42aa183016a003020102a10f300d1b066b72627467741b03412e42";
 
 /// The basic request without its cname.
@@ -76,14 +76,15 @@ fn keys(alloc: Global) -> Result<KeyList, Fail> {
     Ok(KeyList::new(alloc, &[key])?)
 }
 
-fn kdc(alloc: Global) -> Result<Kdc, Fail> {
+/// A KDC of `A.B`, which has the ticket-granting service alone.
+pub fn kdc(alloc: Global) -> Result<Kdc, Fail> {
     kdc_of(
         alloc,
         Key::from_random(Etype::Aes256CtsHmacSha1_96, &[0; 32]),
     )
 }
 
-/// A KDC of `A.B`, which has the ticket-granting service alone, with this key.
+/// The same, whose ticket-granting service has this key.
 pub fn kdc_of(alloc: Global, key: Key) -> Result<Kdc, Fail> {
     let keys = KeyList::new(alloc, &[key])?;
     let database = Database::first(alloc, b"A.B", keys)?;
@@ -325,6 +326,21 @@ fn asks_for_preauthentication(rt: HostRuntime) -> Result<(), Fail> {
     add_user(alloc, &mut kdc)?;
     let reply = asked(alloc, &mut kdc, &octets(alloc, BASIC)?)?.ok_or("a reply")?;
     assert_eq!(rt; reply, octets(alloc, PREAUTH_REQUIRED)?);
+    Ok(())
+}
+
+// Passes whichever allocation of the first call is refused.
+#[test]
+fn what_a_client_is_told_of_its_keys_is_told_again(rt: HostRuntime) -> Result<(), Fail> {
+    let alloc = rt.alloc();
+    let mut kdc = kdc(alloc)?;
+    add_user(alloc, &mut kdc)?;
+    let basic = octets(alloc, BASIC)?;
+    let wanted = octets(alloc, PREAUTH_REQUIRED)?;
+    let at = Moment::new(MIDNIGHT, 0).ok_or("a moment")?;
+    let _ = kdc.handle(alloc, at, &[0; 64], 1400, &basic);
+    let found = asked(alloc, &mut kdc, &basic)?;
+    assert!(rt; found.is_some_and(|found| found == wanted));
     Ok(())
 }
 

@@ -1,19 +1,25 @@
-//! The tests of a KDC and of what stands around it: scripts, streams cut into messages, and a hub whose KDC issues
-//! tickets. They stand apart, since a crate with tests is proved twice.
+//! The tests of a KDC and of what stands around it: scripts, streams cut into messages, the hub, and the wire over sockets.
+//! They stand apart, since a crate with tests is proved twice.
 #![tactic(auto)]
 
 #[cfg(test)]
-mod connections;
+mod hubs;
 #[cfg(test)]
 mod kdcs;
 #[cfg(test)]
 mod lives;
+#[cfg(test)]
+mod memories;
 #[cfg(test)]
 mod requests;
 #[cfg(test)]
 mod scripts;
 #[cfg(test)]
 mod service_tickets;
+#[cfg(test)]
+mod sockets;
+#[cfg(test)]
+mod steps;
 #[cfg(test)]
 mod streams;
 #[cfg(test)]

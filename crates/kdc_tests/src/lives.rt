@@ -1,7 +1,12 @@
 //! A realm's life from a login to a revoked ticket, each line with what it prints. The octets are those of a model of the
 //! exchanges in Python, which shares no code with this repository.
+use crate::kdcs::octets;
 use crate::scripts::expect_run;
+use crate::service_tickets::kdc;
 use kdc_script::DONE;
+use krb_fields::Moment;
+use std::alloc::Global;
+use std::test::Fail;
 
 /// A login, which preauthentication comes before; a ticket for `h`; the same request again; another request with the same
 /// authenticator; a restart, after which that request is too old, and a newer one is answered; then tickets from before
@@ -74,4 +79,33 @@ fn a_whole_life_is_answered_as_the_rules_say(rt: HostRuntime) {
         printed.push('\n').expect(&rt, "memory");
     }
     expect_run(&rt, script.as_bytes(), &printed, DONE);
+}
+
+/// What the hexadecimal digits in a line's field spell, the first field being 0.
+fn field(alloc: Global, line: &str, place: usize) -> Result<Vec<u8>, Fail> {
+    let mut fields = line.split(' ');
+    for _ in 0..place {
+        let _ = fields.next();
+    }
+    let text = fields.next().ok_or("a field")?;
+    octets(alloc, text.as_bytes())
+}
+
+// Passes whichever allocation of the first call is refused.
+#[test]
+fn a_login_without_memory_is_answered_when_it_comes_again(rt: HostRuntime) -> Result<(), Fail> {
+    let alloc = rt.alloc();
+    let mut kdc = kdc(alloc)?;
+    let (line, answer) = LIFE[4];
+    let mut words = [0; 64];
+    for (word, octet) in words.iter_mut().zip(&field(alloc, line, 3)?) {
+        *word = *octet;
+    }
+    let request = field(alloc, line, 5)?;
+    let reply = field(alloc, answer, 1)?;
+    let at = Moment::new(1_704_067_200, 0).ok_or("a moment")?;
+    let _ = kdc.handle(alloc, at, &[0; 64], 1400, &request);
+    let found = kdc.handle(alloc, at, &words, 1400, &request)?;
+    assert!(rt; found.is_some_and(|found| found == reply));
+    Ok(())
 }

@@ -81,7 +81,7 @@ const PART_REST: &[u8] = b"\xa4\x0b\x30\x09\xa0\x03\x02\x01\x01\xa1\x02\x04\x00\
     \xa6\x11\x18\x0f20240101000000Z\
     \xa7\x11\x18\x0f20240101100000Z";
 
-/// An authenticator up to the client's letter, then up to the checksum, and up to its time, with 0 microseconds.
+/// An authenticator up to the client's letter, then up to the checksum, up to its microseconds, and up to its time.
 const AUTHENTICATOR: &[u8] = b"\x62\x4f\x30\x4d\
     \xa0\x03\x02\x01\x05\
     \xa1\x05\x1b\x03A.B\
@@ -89,57 +89,75 @@ const AUTHENTICATOR: &[u8] = b"\x62\x4f\x30\x4d\
 
 const BEFORE_CHECKSUM: &[u8] = b"\xa3\x17\x30\x15\xa0\x03\x02\x01\x10\xa1\x0e\x04\x0c";
 
-const BEFORE_TIME: &[u8] = b"\xa4\x03\x02\x01\x00\xa5\x11\x18\x0f";
+const BEFORE_CUSEC: &[u8] = b"\xa4\x03\x02\x01";
+
+const BEFORE_TIME: &[u8] = b"\xa5\x11\x18\x0f";
 
 /// The octets of each ticket's session key, which is of type 18.
 const SESSION_KEY: [u8; 32] = [7; 32];
 
-/// A TGS-REQ of this client with a ticket that is sealed under this key. Its authenticator was made so many seconds after the
-/// midnight that 2024 began with, less than a day.
-pub fn tgs_req(
-    alloc: Global,
-    key: &Key,
-    client: u8,
-    second: u32,
-    nonce: u8,
-) -> Result<Vec<u8>, AllocError> {
-    let session_key = Key::from_random(Etype::Aes256CtsHmacSha1_96, &SESSION_KEY);
-    let part = [PART_HEAD, &SESSION_KEY, PART_CLIENT, &[client], PART_REST].concat(alloc)?;
-    let ticket = seal(alloc, key, KeyUsage::Ticket, &[7; 16], &part)?;
-    let body = [TGS_BODY, &[nonce], TGS_REST].concat(alloc)?;
-    let text = authenticator(alloc, &session_key, client, second, &body)?;
-    let usage = KeyUsage::TgsReqAuthenticator;
-    let authenticator = seal(alloc, &session_key, usage, &[7; 16], &text)?;
-    [
-        TGS_HEAD,
-        &ticket,
-        BEFORE_AUTHENTICATOR,
-        &authenticator,
-        BEFORE_BODY,
-        &body,
-    ]
-    .concat(alloc)
+/// What tells TGS-REQs apart.
+#[derive(Clone, Copy)]
+pub struct TgsReq {
+    /// The letter that the client is named by.
+    pub client: u8,
+    /// When the authenticator was made: so many seconds after the midnight that 2024 began with, less than a day.
+    pub second: u32,
+    /// The microseconds of that time, at most 127.
+    pub cusec: u8,
+    /// At most 127.
+    pub nonce: u8,
 }
 
-/// The octets of an authenticator with a checksum of this body.
-fn authenticator(
-    alloc: Global,
-    session_key: &Key,
-    client: u8,
-    second: u32,
-    body: &[u8],
-) -> Result<Vec<u8>, AllocError> {
-    let usage = KeyUsage::TgsReqAuthenticatorChecksum;
-    let sum = checksum(session_key, usage, body);
-    let (hour, minute) = (second / 3600, second / 60 % 60);
-    let time = format!(in alloc; "20240101{hour:02}{minute:02}{:02}Z", second % 60)?;
-    [
-        AUTHENTICATOR,
-        &[client],
-        BEFORE_CHECKSUM,
-        sum.bytes(),
-        BEFORE_TIME,
-        time.as_bytes(),
-    ]
-    .concat(alloc)
+impl TgsReq {
+    /// The request, with a ticket that is sealed under this key.
+    pub fn octets(self, alloc: Global, key: &Key) -> Result<Vec<u8>, AllocError> {
+        let session_key = Key::from_random(Etype::Aes256CtsHmacSha1_96, &SESSION_KEY);
+        let part = [
+            PART_HEAD,
+            &SESSION_KEY,
+            PART_CLIENT,
+            &[self.client],
+            PART_REST,
+        ]
+        .concat(alloc)?;
+        let ticket = seal(alloc, key, KeyUsage::Ticket, &[7; 16], &part)?;
+        let body = [TGS_BODY, &[self.nonce], TGS_REST].concat(alloc)?;
+        let text = self.authenticator(alloc, &session_key, &body)?;
+        let usage = KeyUsage::TgsReqAuthenticator;
+        let authenticator = seal(alloc, &session_key, usage, &[7; 16], &text)?;
+        [
+            TGS_HEAD,
+            &ticket,
+            BEFORE_AUTHENTICATOR,
+            &authenticator,
+            BEFORE_BODY,
+            &body,
+        ]
+        .concat(alloc)
+    }
+
+    /// The octets of its authenticator, with a checksum of this body.
+    fn authenticator(
+        self,
+        alloc: Global,
+        session_key: &Key,
+        body: &[u8],
+    ) -> Result<Vec<u8>, AllocError> {
+        let usage = KeyUsage::TgsReqAuthenticatorChecksum;
+        let sum = checksum(session_key, usage, body);
+        let (hour, minute, second) = (self.second / 3600, self.second / 60 % 60, self.second % 60);
+        let time = format!(in alloc; "20240101{hour:02}{minute:02}{second:02}Z")?;
+        [
+            AUTHENTICATOR,
+            &[self.client],
+            BEFORE_CHECKSUM,
+            sum.bytes(),
+            BEFORE_CUSEC,
+            &[self.cusec],
+            BEFORE_TIME,
+            time.as_bytes(),
+        ]
+        .concat(alloc)
+    }
 }

@@ -12,6 +12,3 @@ mod wire;
 pub use bind_fault::BindFault;
 pub use moment::now;
 pub use wire::SocketWire;
-
-#[cfg(test)]
-mod tests;

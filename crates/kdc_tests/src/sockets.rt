@@ -1,11 +1,8 @@
-//! Clients on the loopback, on ports that the system gives. The KDC has the realm `A.B` and no clients: each request is
-//! answered by an error of code 6. The octets are those of an encoder in Python.
-use super::*;
-use enctypes::{Etype, Key};
-use kdc_core::{Kdc, Opening};
+//! Clients of the wire over sockets (`kdc_wire`) on the loopback, on ports that the system gives. The KDC has the realm
+//! `A.B` and no clients: each request is answered by an error of code 6. The octets are those of an encoder in Python.
+use crate::kdcs::kdc;
 use kdc_hub::{Hub, serve};
-use principal_rows::{KeyList, Limits};
-use principals::Database;
+use kdc_wire::SocketWire;
 use rand_chacha::ChaCha20Rng;
 use rand_core::SeedableRng;
 use std::io::{ErrorKind, Read, Write};
@@ -60,11 +57,7 @@ struct Server {
 
 fn open(rt: &HostRuntime) -> Result<Server, Fail> {
     let alloc = rt.alloc();
-    let key = Key::new(Etype::Aes256CtsHmacSha1_96, &[0; 32]).ok_or("a key")?;
-    let database = Database::first(alloc, b"A.B", KeyList::new(alloc, &[key])?)?;
-    let limits = Limits::new(64, 0, 0, 36000, 0).ok_or("limits")?;
-    let kdc = Kdc::open(alloc, database, limits, Opening::First)?;
-    let hub = Hub::new(alloc, kdc, ChaCha20Rng::from_seed([0; 32]));
+    let hub = Hub::new(alloc, kdc(alloc)?, ChaCha20Rng::from_seed([0; 32]));
     let here = SocketAddr::from((Ipv4Addr::LOCALHOST, 0));
     let wait = Duration::from_millis(1);
     let wire = SocketWire::bind(alloc, Stopped, rt, here, here, wait)?;

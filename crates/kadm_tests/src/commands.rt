@@ -1,9 +1,9 @@
 //! Command lines over files in memory.
-use crate::{
-    DONE, FAILED, LONGEST_FILE, REFUSED, Store, USAGE, kadm_run, password_keys, random_keys,
-};
 use cred_files::Keytab;
 use enctypes::Etype;
+use kadm_run::{
+    DONE, FAILED, LONGEST_FILE, REFUSED, Store, USAGE, kadm_run, password_keys, random_keys,
+};
 use krb_fields::Name;
 use std::alloc::Global;
 use std::io;

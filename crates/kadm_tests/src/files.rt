@@ -3,7 +3,7 @@ ghost use Rattle.std.specs.Prelude.{IfOk, ◌<◌, ◌^◌, length};
 ghost use Rattle.cred_files.specs.Cache.{FitsButForTimes};
 ghost use Rattle.cred_files.specs.Principal as formats;
 
-use crate::{
+use cred_files::{
     Cache, Credential, FileFault, Keytab, KeytabEntry, Miss, Principal, SessionKey, Times,
 };
 use enctypes::{Etype, Key};
@@ -205,7 +205,7 @@ fn tells_where_a_cache_ends(rt: HostRuntime) {
 }
 
 /// A credential of `u` for `h`, with this end.
-#[tactic(auto, unfolding(crate::specs::Credential::credential, crate::specs::Credential::session_key))]
+#[tactic(auto, unfolding(cred_files::specs::Credential::credential, cred_files::specs::Credential::session_key))]
 fn credential(rt: &HostRuntime, end: i64) -> Result<Credential, Fail>
     ensures { IfOk result (λ c. FitsButForTimes c) }
 {
@@ -233,7 +233,7 @@ fn credential(rt: &HostRuntime, end: i64) -> Result<Credential, Fail>
     })
 }
 
-#[tactic(auto, unfolding(crate::specs::Principal::principal))]
+#[tactic(auto, unfolding(cred_files::specs::Principal::principal))]
 fn principal(rt: &HostRuntime, name: &[u8]) -> Result<Principal, Fail>
     requires { length name.now < 2 ^ 32 }
     ensures { IfOk result (λ p. formats.principal.form.Fits p) }
@@ -245,7 +245,7 @@ fn principal(rt: &HostRuntime, name: &[u8]) -> Result<Principal, Fail>
 }
 
 #[test]
-#[tactic(auto, unfolding(crate::specs::Principal::principal))]
+#[tactic(auto, unfolding(cred_files::specs::Principal::principal))]
 fn puts_and_finds_credentials(rt: HostRuntime) -> Result<(), Fail> {
     let u = Name::new(rt.alloc(), 1, &[b"u"])?;
     let mut cache = Cache::new(rt.alloc(), b"A.B", &u)?;

@@ -3,18 +3,16 @@ use Rattle.std.specs.Prelude.{◌≡◌, ◌==◌, ℕ, ℤ, pos, ◌<◌, Bool,
 use Rattle.std.specs.List.{before_first, after_first, position_or_len}
 use Rattle.std.specs.Str.Parse.{IsNumeral, digits_value}
 use Rattle.krb_fields.specs.Moment.{IsSecond}
-use Rattle.principal_rows.specs.Policy.{default_policy}
 use Rattle.principal_rows.specs.declared.policy.Policy.{Policy}
-use Rattle.principal_rows.specs.declared.row.Row.{Row}
-use Rattle.kdc_script.specs.declared.setting.FlagField.{FlagField}
-use Rattle.kdc_script.specs.declared.setting.FlagField.TheVariants.{Disabled, Preauth, Forwardable, Proxiable, Postdate, OkAsDelegate}
-use Rattle.kdc_script.specs.declared.setting.LifeField.{LifeField}
-use Rattle.kdc_script.specs.declared.setting.LifeField.TheVariants.{GreatestLife, GreatestRenewable}
-use Rattle.kdc_script.specs.declared.setting.TimeField.{TimeField}
-use Rattle.kdc_script.specs.declared.setting.TimeField.TheVariants.{Expires, PasswordExpires, RevokedBefore}
-use Rattle.kdc_script.specs.declared.setting.Setting.{Setting}
-use Rattle.kdc_script.specs.declared.setting.Setting.TheVariants.{Flag, Life, Time}
-use Rattle.kdc_script.specs.Field.{IsU32Text}
+use Rattle.text_fields.specs.declared.settings.FlagField.{FlagField}
+use Rattle.text_fields.specs.declared.settings.FlagField.TheVariants.{Disabled, Preauth, Forwardable, Proxiable, Postdate, OkAsDelegate}
+use Rattle.text_fields.specs.declared.settings.LifeField.{LifeField}
+use Rattle.text_fields.specs.declared.settings.LifeField.TheVariants.{GreatestLife, GreatestRenewable}
+use Rattle.text_fields.specs.declared.settings.TimeField.{TimeField}
+use Rattle.text_fields.specs.declared.settings.TimeField.TheVariants.{Expires, PasswordExpires, RevokedBefore}
+use Rattle.text_fields.specs.declared.settings.Setting.{Setting}
+use Rattle.text_fields.specs.declared.settings.Setting.TheVariants.{Flag, Life, Time}
+use Rattle.text_fields.specs.Numbers.{IsU32Text}
 
 -- the field of a name
 abbrev pub flag_of : List ℕ → Option FlagField
@@ -72,8 +70,3 @@ with_setting (Life GreatestRenewable life) policy = record policy { greatest_ren
 with_setting (Time Expires time) policy = record policy { expires = time }
 with_setting (Time PasswordExpires time) policy = record policy { password_expires = time }
 with_setting (Time RevokedBefore time) policy = record policy { revoked_before = time }
-
--- the policy of a row, and of a name that has none that of a new principal
-abbrev pub policy_of : Option Row → Policy
-policy_of None = default_policy
-policy_of (Some row) = row.policy

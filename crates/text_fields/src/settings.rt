@@ -1,19 +1,20 @@
-//! Settings: a field of a policy and the value that it gets.
+//! Settings: a field of a policy and the value that it gets. Names and values are those of the database's text; `never`
+//! stands for null.
 ghost use Rattle.std.specs.Prelude.{◌≡◌, ℤ, ℕ, Bool, Option, IfSome, IfNone};
-ghost use Rattle.kdc_script.specs.Setting.{flag_of, life_of, time_of, IsFlagText, IsTimeText, IsSettingOf, IsSettingText, with_setting};
-ghost use Rattle.kdc_script.specs.declared.setting.FlagField as flags;
-ghost use Rattle.kdc_script.specs.declared.setting.LifeField as lives;
-ghost use Rattle.kdc_script.specs.declared.setting.TimeField as times;
-ghost use Rattle.kdc_script.specs.declared.setting.Setting as settings;
-ghost use Rattle.kdc_script.specs.declared.setting.Setting.TheVariants as kinds;
+ghost use Rattle.text_fields.specs.Settings.{flag_of, life_of, time_of, IsFlagText, IsTimeText, IsSettingOf, IsSettingText, with_setting};
+ghost use Rattle.text_fields.specs.declared.settings.FlagField as flags;
+ghost use Rattle.text_fields.specs.declared.settings.LifeField as lives;
+ghost use Rattle.text_fields.specs.declared.settings.TimeField as times;
+ghost use Rattle.text_fields.specs.declared.settings.Setting as settings;
+ghost use Rattle.text_fields.specs.declared.settings.Setting.TheVariants as kinds;
 
-use crate::field::{number, number_u32};
+use crate::numbers::{number, number_u32};
 use krb_fields::Second;
 use principal_rows::Policy;
 
 /// A field that holds or doesn't.
 #[derive(Clone, Copy, Debug, PartialEq, Eq)]
-pub(crate) enum FlagField {
+pub enum FlagField {
     Disabled,
     Preauth,
     Forwardable,
@@ -24,14 +25,14 @@ pub(crate) enum FlagField {
 
 /// A field of so many seconds.
 #[derive(Clone, Copy, Debug, PartialEq, Eq)]
-pub(crate) enum LifeField {
+pub enum LifeField {
     GreatestLife,
     GreatestRenewable,
 }
 
 /// A field of a second, or of none.
 #[derive(Clone, Copy, Debug, PartialEq, Eq)]
-pub(crate) enum TimeField {
+pub enum TimeField {
     Expires,
     PasswordExpires,
     RevokedBefore,
@@ -39,7 +40,7 @@ pub(crate) enum TimeField {
 
 /// A field of a policy with its value.
 #[derive(Clone, Copy, Debug, PartialEq, Eq)]
-pub(crate) enum Setting {
+pub enum Setting {
     Flag(FlagField, bool),
     Life(LifeField, u32),
     Time(TimeField, Option<Second>),
@@ -47,16 +48,30 @@ pub(crate) enum Setting {
 
 impl Setting {
     /// A field's name and its value, with an equals sign between them.
-    pub(crate) fn parse(text: &str) -> Option<Setting>
+    pub fn parse(text: &str) -> Option<Setting>
         ensures read { IfSome result (λ setting. IsSettingText setting text.now) }
         ensures none { IfNone result ((setting : settings.Setting) → ¬ IsSettingText setting text.now) }
     {
         let (name, value) = text.split_once('=')?;
-        setting_of(name, value)
+        Setting::of(name, value)
+    }
+
+    /// The field of this name with the value that this text spells. `None` for another name, or no value of that field.
+    pub fn of(name: &str, value: &str) -> Option<Setting>
+        ensures read { IfSome result (λ setting. IsSettingOf setting name.now value.now) }
+        ensures none { IfNone result ((setting : settings.Setting) → ¬ IsSettingOf setting name.now value.now) }
+    {
+        if let Some(setting) = flag_setting(name, value) {
+            return Some(setting);
+        }
+        if let Some(setting) = life_setting(name, value) {
+            return Some(setting);
+        }
+        time_setting(name, value)
     }
 
     /// The policy with this field set.
-    pub(crate) fn on(self, policy: Policy) -> Policy
+    pub fn on(self, policy: Policy) -> Policy
         ensures { result ≡ with_setting self policy }
     {
         let mut policy = policy;
@@ -75,19 +90,6 @@ impl Setting {
         }
         policy
     }
-}
-
-fn setting_of(name: &str, value: &str) -> Option<Setting>
-    ensures read { IfSome result (λ setting. IsSettingOf setting name.now value.now) }
-    ensures none { IfNone result ((setting : settings.Setting) → ¬ IsSettingOf setting name.now value.now) }
-{
-    if let Some(setting) = flag_setting(name, value) {
-        return Some(setting);
-    }
-    if let Some(setting) = life_setting(name, value) {
-        return Some(setting);
-    }
-    time_setting(name, value)
 }
 
 fn flag_setting(name: &str, value: &str) -> Option<Setting>

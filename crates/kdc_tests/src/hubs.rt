@@ -1,12 +1,11 @@
-//! Worked cases over a KDC of the realm `A.B` that has no clients: each request is answered by an error of code 6.
-use super::*;
-use enctypes::{Etype, Key};
+//! Worked cases of a hub (`kdc_hub`) over a KDC of the realm `A.B` that has no clients: each request is answered by an error of code 6.
+use crate::kdcs::{BASIC, CLIENT_UNKNOWN, kdc};
+use crate::service_tickets;
 use framing::frame;
-use kdc_core::{Kdc, Opening};
+use kdc_core::Kdc;
+use kdc_hub::{Action, Did, Event, Hub, MemoryWire, Wire, serve};
 use krb_elements::Octets;
 use krb_fields::Moment;
-use principal_rows::{KeyList, Limits};
-use principals::Database;
 use rand_chacha::ChaCha20Rng;
 use rand_core::SeedableRng;
 use std::alloc::Global;
@@ -14,15 +13,7 @@ use std::collections::VecDeque;
 use std::net::{Ipv4Addr, SocketAddr};
 use std::test::Fail;
 
-/// An AS-REQ of `u` in `A.B` for `krbtgt/A.B`, till zero, nonce 1, encryption type 18.
-const REQUEST: &[u8] =
-    b"6a693067a103020105a20302010aa45b3059a00703050000000000a10e300ca003020101a10530031b0175a2051b03412e42a3183016a003020102a10f300d1b066b72627467741b03412e42a511180f31393730303130313030303030305aa703020101a8053003020112";
-
-/// The KRB-ERROR of 2024-01-01 00:00:00 with code 6, of the realm `A.B` and the service `krbtgt/A.B`.
-const CLIENT_UNKNOWN: &[u8] =
-    b"7e4a3048a003020105a10302011ea411180f32303234303130313030303030305aa503020100a603020106a9051b03412e42aa183016a003020102a10f300d1b066b72627467741b03412e42";
-
-/// The request of the same client for the service `krbtgu/A.B`, and its reply.
+/// The basic request for the service `krbtgu/A.B` instead, and its reply.
 const OTHER_REQUEST: &[u8] =
     b"6a693067a103020105a20302010aa45b3059a00703050000000000a10e300ca003020101a10530031b0175a2051b03412e42a3183016a003020102a10f300d1b066b72627467751b03412e42a511180f31393730303130313030303030305aa703020101a8053003020112";
 
@@ -35,12 +26,12 @@ const TOO_LONG: &[u8] =
 
 type TestHub = Hub<ChaCha20Rng>;
 
+fn hub_of(alloc: Global, kdc: Kdc) -> TestHub {
+    Hub::new(alloc, kdc, ChaCha20Rng::from_seed([0; 32]))
+}
+
 fn hub(alloc: Global) -> Result<TestHub, Fail> {
-    let key = Key::new(Etype::Aes256CtsHmacSha1_96, &[0; 32]).ok_or("a key")?;
-    let database = Database::first(alloc, b"A.B", KeyList::new(alloc, &[key])?)?;
-    let limits = Limits::new(64, 0, 0, 36000, 0).ok_or("limits")?;
-    let kdc = Kdc::open(alloc, database, limits, Opening::First)?;
-    Ok(Hub::new(alloc, kdc, ChaCha20Rng::from_seed([0; 32])))
+    Ok(hub_of(alloc, kdc(alloc)?))
 }
 
 /// The first second of 2024.
@@ -67,7 +58,7 @@ fn octets(alloc: Global, digits: &[u8]) -> Result<Octets, Fail> {
 /// A request behind its length, which is given in hexadecimal digits.
 fn framed(alloc: Global, digits: &[u8]) -> Result<Vec<u8>, Fail> {
     let request = octets(alloc, digits)?;
-    if request.as_slice().len() != 107 {
+    if request.as_slice().len() > 1_400 {
         Err("a request")?;
     }
     Ok(frame(alloc, request.as_slice())?)
@@ -75,7 +66,7 @@ fn framed(alloc: Global, digits: &[u8]) -> Result<Vec<u8>, Fail> {
 
 /// Both requests, each behind its length.
 fn two_requests(alloc: Global) -> Result<Vec<u8>, Fail> {
-    let mut stream = framed(alloc, REQUEST)?;
+    let mut stream = framed(alloc, BASIC)?;
     stream.extend_from_slice(&framed(alloc, OTHER_REQUEST)?)?;
     Ok(stream)
 }
@@ -120,7 +111,7 @@ fn brings(
 fn connections_whose_octets_alternate_get_their_own_replies(rt: HostRuntime) -> Result<(), Fail> {
     let alloc = rt.alloc();
     let mut hub = hub(alloc)?;
-    let first = framed(alloc, REQUEST)?;
+    let first = framed(alloc, BASIC)?;
     let second = framed(alloc, OTHER_REQUEST)?;
     for conn in 1..3u64 {
         assert!(rt; step(alloc, &mut hub, Event::Opened { conn })?.is_empty());
@@ -183,11 +174,11 @@ fn a_step_that_is_refused_memory_ends_its_connection_alone(rt: HostRuntime) -> R
             for action in &fault.done {
                 assert!(rt; is_write(alloc, action, 7, CLIENT_UNKNOWN)?);
             }
-            assert!(rt; bring(alloc, &mut hub, 7, &framed(alloc, REQUEST)?)?.is_empty());
+            assert!(rt; bring(alloc, &mut hub, 7, &framed(alloc, BASIC)?)?.is_empty());
         }
     }
     let peer = peer(1001);
-    let request = octets(alloc, REQUEST)?;
+    let request = octets(alloc, BASIC)?;
     let actions = step(alloc, &mut hub, Event::Datagram { peer, request })?;
     assert!(rt; matches!(actions.as_slice(), [Action::SendTo { .. }]));
     Ok(())
@@ -237,7 +228,7 @@ fn peer(port: u16) -> SocketAddr {
 
 /// Requests of two peers and on two connections, one of them in two pieces.
 fn events(alloc: Global) -> Result<VecDeque<(Moment, Event)>, Fail> {
-    let framed = framed(alloc, REQUEST)?;
+    let framed = framed(alloc, BASIC)?;
     let head = Octets::from_slice(alloc, framed.get(..9).ok_or("a head")?)?;
     let rest = Octets::from_slice(alloc, framed.get(9..).ok_or("a rest")?)?;
     let whole = Octets::new(framed);
@@ -245,7 +236,7 @@ fn events(alloc: Global) -> Result<VecDeque<(Moment, Event)>, Fail> {
     for event in [
         Event::Datagram {
             peer: peer(1001),
-            request: octets(alloc, REQUEST)?,
+            request: octets(alloc, BASIC)?,
         },
         Event::Opened { conn: 1 },
         Event::Opened { conn: 2 },
@@ -259,7 +250,7 @@ fn events(alloc: Global) -> Result<VecDeque<(Moment, Event)>, Fail> {
         },
         Event::Datagram {
             peer: peer(1002),
-            request: octets(alloc, REQUEST)?,
+            request: octets(alloc, BASIC)?,
         },
         Event::Bytes {
             conn: 1,
@@ -335,5 +326,35 @@ fn a_failed_call_costs_one_reply_at_most(rt: HostRuntime) -> Result<(), Fail> {
     let (replies, faults) = serve_with_fault(rt.alloc(), 20)?;
     assert_eq!(rt; faults, 0);
     assert_eq!(rt; replies, 4);
+    Ok(())
+}
+
+/// What is written to a new connection when it has brought these octets, if that is all that happens.
+fn written(
+    alloc: Global,
+    hub: &mut TestHub,
+    conn: u64,
+    stream: &[u8],
+) -> Result<Option<Vec<u8>>, Fail> {
+    let _ = step(alloc, hub, Event::Opened { conn })?;
+    let actions = bring(alloc, hub, conn, stream)?;
+    match actions.as_slice() {
+        [Action::Write { conn: to, message }] if *to == conn => {
+            Ok(Some(Vec::from_slice(alloc, message.as_slice())?))
+        }
+        _ => Ok(None),
+    }
+}
+
+#[test]
+fn a_repeat_over_another_connection_gets_the_same_reply(rt: HostRuntime) -> Result<(), Fail> {
+    let alloc = rt.alloc();
+    let stream = framed(alloc, service_tickets::REQUEST)?;
+    let mut hub = hub_of(alloc, service_tickets::kdc(alloc)?);
+    let first = written(alloc, &mut hub, 1, &stream)?.ok_or("a reply")?;
+    let second = written(alloc, &mut hub, 2, &stream)?.ok_or("a reply")?;
+    // A TGS-REP.
+    assert_eq!(rt; first.first(), Some(&0x6d));
+    assert_eq!(rt; first, second);
     Ok(())
 }

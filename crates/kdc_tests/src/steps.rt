@@ -1,0 +1,229 @@
+//! Runs of a KDC (`kdc_core`) of the realm `A.B`, step by step.
+use crate::kdcs::{name, ran};
+use crate::requests::{AS_HEAD, BAD_TIMESTAMP, TgsReq, as_req};
+use enctypes::{Etype, Key};
+use kdc_core::{Event, Kdc, Opening};
+use krb_elements::Octets;
+use krb_fields::{Moment, Second};
+use principal_rows::{KeyList, Limits, Policy};
+use principals::{Change, Database};
+use std::alloc::{AllocError, Global};
+use std::test::Fail;
+
+const MIDNIGHT: i64 = 1_704_067_200;
+
+/// The octet of which the first keys of `krbtgt/A.B` and `h` are made.
+const FIRST: u8 = 1;
+
+/// What happens in a step of a run.
+#[derive(Clone, Copy)]
+pub enum Act {
+    /// The client asks.
+    Ask(Asked),
+    /// The client's row is changed.
+    Change(Changed),
+    /// `krbtgt/A.B` gets new keys.
+    GranterKeys,
+    /// `h` gets new keys.
+    ServiceKeys,
+    Restart,
+}
+
+/// What a client asks: a ticket for `krbtgt/A.B`, or one for `h` by a ticket that it has.
+#[derive(Clone, Copy)]
+pub enum Asked {
+    As,
+    AsBadTimestamp,
+    Tgs,
+    /// The octets of the client's last `Tgs`.
+    TgsAgain,
+    /// Another request with the same authenticator's time.
+    TgsAltered,
+    /// One whose checksum is that of another body.
+    TgsSpoilt,
+}
+
+/// What is changed of a client's row.
+#[derive(Clone, Copy)]
+pub enum Changed {
+    Add,
+    Remove,
+    NewKeys,
+    /// It needs no preauthentication, and nothing is refused to it.
+    Free,
+    Disable,
+    /// Its tickets from before this step are revoked.
+    Revoke,
+}
+
+#[derive(Clone, Copy)]
+pub struct Step {
+    pub act: Act,
+    /// The letter that the client is named by.
+    pub client: u8,
+    /// When it happens, in seconds after midnight.
+    pub at: u32,
+    /// When the authenticator was made, in seconds after midnight.
+    pub stamp: u32,
+    /// The microseconds of that time, at most 127.
+    pub cusec: u8,
+    /// Of this octet are its random octets and new keys made.
+    pub octet: u8,
+}
+
+impl Step {
+    /// Whether the step is left for this client.
+    pub fn is_left(self, client: u8) -> bool {
+        match self.act {
+            Act::Ask(_) | Act::Change(_) => self.client == client,
+            Act::GranterKeys | Act::ServiceKeys | Act::Restart => true,
+        }
+    }
+}
+
+fn key(etype: Etype, octet: u8) -> Key {
+    Key::from_random(etype, &[octet; 32])
+}
+
+fn service_keys(alloc: Global, octet: u8) -> Result<KeyList, Fail> {
+    let keys = [key(Etype::Aes256CtsHmacSha1_96, octet)];
+    Ok(KeyList::new(alloc, &keys)?)
+}
+
+fn client_keys(alloc: Global, octet: u8) -> Result<KeyList, Fail> {
+    let keys = [
+        key(Etype::Aes256CtsHmacSha1_96, octet),
+        key(Etype::Aes256CtsHmacSha384_192, octet),
+    ];
+    Ok(KeyList::new(alloc, &keys)?)
+}
+
+/// A KDC of `A.B` that has no clients, only the service `h`.
+fn opened(alloc: Global, limits: Limits) -> Result<Kdc, Fail> {
+    let mut database = Database::first(alloc, b"A.B", service_keys(alloc, FIRST)?)?;
+    let add = Change::Add {
+        name: name(alloc, &[b"h"])?,
+        keys: service_keys(alloc, FIRST)?,
+    };
+    database.apply(alloc, &add)?;
+    Ok(Kdc::open(alloc, database, limits, Opening::First)?)
+}
+
+fn request(alloc: Global, asked: Asked, step: Step) -> Result<Vec<u8>, AllocError> {
+    let key = key(Etype::Aes256CtsHmacSha1_96, FIRST);
+    let nonce = match asked {
+        Asked::As => return as_req(alloc, AS_HEAD, step.client),
+        Asked::AsBadTimestamp => return as_req(alloc, BAD_TIMESTAMP, step.client),
+        Asked::Tgs | Asked::TgsAgain | Asked::TgsSpoilt => 1,
+        Asked::TgsAltered => 2,
+    };
+    let told = TgsReq {
+        client: step.client,
+        second: step.stamp,
+        cusec: step.cusec,
+        nonce,
+    };
+    let mut request = told.octets(alloc, &key)?;
+    if let (Asked::TgsSpoilt, Some(last)) = (asked, request.last_mut()) {
+        *last ^= 1;
+    }
+    Ok(request)
+}
+
+fn policy(changed: Changed, at: u32) -> Policy {
+    let policy = Policy::default();
+    match changed {
+        Changed::Disable => Policy {
+            disabled: true,
+            ..policy
+        },
+        Changed::Revoke => Policy {
+            revoked_before: Second::new(MIDNIGHT + i64::from(at)),
+            ..policy
+        },
+        _ => Policy {
+            preauth: false,
+            ..policy
+        },
+    }
+}
+
+fn change(alloc: Global, changed: Changed, step: Step) -> Result<Change, Fail> {
+    let name = name(alloc, &[&[step.client]])?;
+    let keys = client_keys(alloc, step.octet)?;
+    Ok(match changed {
+        Changed::Add => Change::Add { name, keys },
+        Changed::Remove => Change::Remove { name },
+        Changed::NewKeys => Change::NewKeys { name, keys },
+        Changed::Free | Changed::Disable | Changed::Revoke => Change::SetPolicy {
+            name,
+            policy: policy(changed, step.at),
+        },
+    })
+}
+
+fn new_service_keys(alloc: Global, service: &[&[u8]], octet: u8) -> Result<Event, Fail> {
+    let change = Change::NewKeys {
+        name: name(alloc, service)?,
+        keys: service_keys(alloc, octet)?,
+    };
+    Ok(Event::Change { change })
+}
+
+fn asks(alloc: Global, asked: Asked, at: Moment, step: Step) -> Result<Event, Fail> {
+    Ok(Event::Request {
+        at,
+        words: [step.octet; 64],
+        room: 1400,
+        request: Octets::new(request(alloc, asked, step)?),
+    })
+}
+
+fn event(alloc: Global, step: Step) -> Result<Event, Fail> {
+    let at = Moment::new(MIDNIGHT + i64::from(step.at), 0).ok_or("a moment")?;
+    match step.act {
+        Act::Ask(asked) => asks(alloc, asked, at, step),
+        Act::Change(changed) => Ok(Event::Change {
+            change: change(alloc, changed, step)?,
+        }),
+        Act::GranterKeys => new_service_keys(alloc, &[b"krbtgt", b"A.B"], step.octet),
+        Act::ServiceKeys => new_service_keys(alloc, &[b"h"], step.octet),
+        Act::Restart => Ok(Event::Restart { at }),
+    }
+}
+
+/// The events of the steps that are left for this client, or of all.
+fn events(alloc: Global, steps: &[Step], client: Option<u8>) -> Result<Vec<Event>, Fail> {
+    let mut events = Vec::new(alloc);
+    for step in steps {
+        if client.is_none_or(|client| step.is_left(client)) {
+            events.push(event(alloc, *step)?)?;
+        }
+    }
+    Ok(events)
+}
+
+/// The replies of a KDC that runs through them.
+pub fn replies(
+    alloc: Global,
+    limits: Limits,
+    steps: &[Step],
+    client: Option<u8>,
+) -> Result<Vec<Option<Vec<u8>>>, Fail> {
+    let events = events(alloc, steps, client)?;
+    let mut kdc = opened(alloc, limits)?;
+    let (_, replies) = ran(alloc, &mut kdc, &events);
+    Ok(replies)
+}
+
+/// A step whose authenticator, if it has one, is made when it happens.
+pub fn step_at(at: u32, client: u8, act: Act, octet: u8) -> Step {
+    Step {
+        act,
+        client,
+        at,
+        stamp: at,
+        cusec: 0,
+        octet,
+    }
+}

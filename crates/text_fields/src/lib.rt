@@ -1,0 +1,8 @@
+//! What the words of a line or of a command spell: decimal numbers, and settings of a policy.
+#![tactic(auto)]
+
+mod numbers;
+mod settings;
+
+pub use numbers::{number, number_u32};
+pub use settings::{FlagField, LifeField, Setting, TimeField};
