@@ -1,0 +1,59 @@
+-- The entries before a second: how many they are, and what is left once they are taken off.
+use Rattle.std.proofs.Common.{◌≡◌, ℕ, ◌-◌, true, false, not, T, List, length, drop, ℤ, ◌≤ℤ◌, ◌<ℤ◌, Less, Equal, Greater, Ordering, refl, sym, ap, ◌∙◌, arith}
+use Rattle.std.specs.Prelude.{int_lt}
+use Rattle.std.specs.Ordering.{nat_cmp, int_cmp, ordering_then, is_le}
+use Rattle.std.proofs.lemmas.Cmp.{int_ranked, ranked}
+use Rattle.std.proofs.lemmas.Int.{ints}
+use Rattle.std.specs.BTreeMap.Range.{range_contains, entries_between}
+use Rattle.std.specs.declared.ops.Bound.TheVariants.{Excluded, Unbounded}
+use Rattle.std.specs.FinMap.{FinMap, from_sorted, is_sorted}
+use Rattle.std.specs.FinMap as map
+use Rattle.replay.specs.Stamp.{Stamp, stamp_cmp, is_from}
+use Rattle.replay.proofs.Stamps.{stamp_total, stamp_exact}
+use Rattle.replay.proofs.Ordered.{retained, count_is}
+
+seconds_rise : (a b : ℤ) (o r : Ordering) → o ≡ int_cmp a b → ordering_then o r ≡ Less → a ≤ℤ b
+seconds_rise a b Less r is e = let h = int_ranked a b Less is in omega (arith, ints)
+seconds_rise a b Equal r is e = let h = int_ranked a b Equal is in omega (arith, ints)
+seconds_rise a b Greater r is e = cc
+
+from_both : (a b start : ℤ) → a ≤ℤ b → not (int_lt a start) ≡ true → not (int_lt b start) ≡ true
+from_both a b start le h = grind (arith, ints)
+
+-- what comes behind a stamp that is not below a second isn't below it either
+rises : (start : ℤ) (a b : Stamp) → stamp_cmp a b ≡ Less → is_from start a ≡ true → is_from start b ≡ true
+rises start a b e h = from_both a.0 b.0 start (seconds_rise a.0 b.0 (int_cmp a.0 b.0) _ refl e) h
+
+from_zero : (n : ℕ) (r : Ordering) → r ≡ nat_cmp 0 n → is_le r ≡ true
+from_zero n Less is = refl
+from_zero n Equal is = refl
+from_zero n Greater is = let h = ranked 0 n Greater is in absurd (omega (arith, h))
+
+not_below : (a b : ℤ) → a ≤ℤ b → int_lt b a ≡ false
+not_below a b le = grind (arith, ints)
+
+below : (a b : ℤ) → b <ℤ a → int_lt b a ≡ true
+below a b lt = grind (arith, ints)
+
+is_from_first : (start : ℤ) (s : Stamp) (r : Ordering) → r ≡ int_cmp start s.0 → is_le (ordering_then r (nat_cmp 0 s.1)) ≡ is_from start s
+is_from_first start s Less is = let h = int_ranked start s.0 Less is in sym (ap not (not_below start s.0 (omega (arith, ints))))
+is_from_first start s Equal is = let h = int_ranked start s.0 Equal is in from_zero s.1 (nat_cmp 0 s.1) refl ∙ sym (ap not (not_below start s.0 (omega (arith, ints))))
+is_from_first start s Greater is = let h = int_ranked start s.0 Greater is in sym (ap not (below start s.0 h))
+
+-- the stamps before the first of a second are those below it
+before_is_not_from : (start : ℤ) (s : Stamp) → range_contains stamp_cmp Unbounded (Excluded (start, 0)) s ≡ not (is_from start s)
+before_is_not_from start s = ap not (is_from_first start s (int_cmp start s.0) refl)
+
+module _ {X : Type 0} where
+  -- the entries whose stamps are before the first of a second
+  abbrev pub before : ℤ → List (Stamp × X) → List (Stamp × X)
+  before start = entries_between stamp_cmp Unbounded (Excluded (start, 0))
+
+  -- as many taken off the front as are before the second
+  pub forgotten : (start : ℤ) (es fs : List (Stamp × X)) (n : ℕ) → T (is_sorted stamp_cmp es) → n ≡ length (before start es) → fs ≡ drop n es
+      → T (is_sorted stamp_cmp fs) × (from_sorted {R = stamp_cmp} fs ≡ map.retain_keys (from_sorted es) (is_from start))
+  forgotten start = retained stamp_cmp stamp_total stamp_exact (is_from start) (range_contains stamp_cmp Unbounded (Excluded (start, 0))) (before_is_not_from start) (rises start)
+
+  -- how many are not before it
+  pub counted : (start : ℤ) (es : List (Stamp × X)) (m : FinMap stamp_cmp X) (n : ℕ) → T (is_sorted stamp_cmp es) → from_sorted es ≡ m → n ≡ length (before start es) → length es - n ≡ map.len (map.retain_keys m (is_from start))
+  counted start = count_is stamp_cmp stamp_total stamp_exact (is_from start) (range_contains stamp_cmp Unbounded (Excluded (start, 0))) (before_is_not_from start) (rises start)
