@@ -5,7 +5,7 @@ use std::alloc::{AllocError, Global};
 use std::convert::AsStr;
 use text_fields::{Setting, number_u32};
 
-/// What one command line orders. Paths and names are words that are not looked at yet.
+/// What one command line orders.
 #[derive(Clone, Copy, Debug)]
 pub(crate) struct Order<'a> {
     /// The path of the database.
@@ -13,18 +13,42 @@ pub(crate) struct Order<'a> {
     pub task: Task<'a>,
 }
 
-/// What is to be done.
+/// What is to be done. Paths and names stand as they were given; a field and its value are a setting.
 #[derive(Clone, Copy, Debug)]
 pub(crate) enum Task<'a> {
-    Init { realm: &'a str, seed: &'a str },
-    Add { name: &'a str, password: &'a str },
-    Passwd { name: &'a str, password: &'a str },
-    Random { name: &'a str, seed: &'a str },
-    Drop { name: &'a str, version: u32 },
-    Policy { name: &'a str, setting: Setting },
-    Remove { name: &'a str },
+    Init {
+        realm: &'a str,
+        seed: &'a str,
+    },
+    Add {
+        name: &'a str,
+        password: &'a str,
+    },
+    Passwd {
+        name: &'a str,
+        password: &'a str,
+    },
+    Random {
+        name: &'a str,
+        seed: &'a str,
+    },
+    Drop {
+        name: &'a str,
+        version: u32,
+    },
+    Policy {
+        name: &'a str,
+        field: &'a str,
+        value: &'a str,
+    },
+    Remove {
+        name: &'a str,
+    },
     List,
-    Keytab { name: &'a str, out: &'a str },
+    Keytab {
+        name: &'a str,
+        out: &'a str,
+    },
     Migrate,
 }
 
@@ -101,9 +125,15 @@ pub(crate) fn read_order<'a>(matches: &ArgMatches<'a>) -> Option<Order<'a>> {
 }
 
 fn policy_task<'a>(words: &ArgMatches<'a>) -> Option<Task<'a>> {
+    let field = words.get_str("field")?;
+    let value = words.get_str("value")?;
+    if Setting::of(field, value).is_none() {
+        return None;
+    }
     Some(Task::Policy {
         name: words.get_str("name")?,
-        setting: Setting::of(words.get_str("field")?, words.get_str("value")?)?,
+        field,
+        value,
     })
 }
 

@@ -194,7 +194,7 @@ fn run_task<T: Store>(alloc: Global, db: &str, task: Task<'_>, store: &mut T) ->
         Task::Passwd { name, password } => set_password(alloc, store, db, name, password),
         Task::Random { name, seed } => give_random_keys(alloc, store, db, name, seed),
         Task::Drop { name, version } => drop_keys(alloc, store, db, name, version),
-        Task::Policy { name, setting } => set_policy(alloc, store, db, name, setting),
+        Task::Policy { name, field, value } => set_policy(alloc, store, db, name, field, value),
         Task::Remove { name } => remove(alloc, store, db, name),
         Task::Keytab { name, out } => write_keytab(alloc, store, db, name, out),
         Task::Migrate => migrate(alloc, store, db),
@@ -306,12 +306,16 @@ fn set_policy<T: Store>(
     store: &mut T,
     db: &str,
     name: &str,
-    setting: Setting,
+    field: &str,
+    value: &str,
 ) -> Result<(), Stop> {
     let name = Name::from_text(alloc, name)?;
     let mut database = read_database(alloc, store, db)?;
     let Some(row) = database.get(&name) else {
         return Err(Stop::Refused(ChangeFault::Absent.name()));
+    };
+    let Some(setting) = Setting::of(field, value) else {
+        return Err(Stop::Usage);
     };
     let policy = setting.on(row.policy);
     make_change(
