@@ -1,9 +1,11 @@
 -- The entries before a second: how many they are, and what is left once they are taken off.
-use Rattle.std.proofs.Common.{◌≡◌, ℕ, ◌-◌, true, false, not, T, List, length, drop, ℤ, ◌≤ℤ◌, ◌<ℤ◌, Less, Equal, Greater, Ordering, refl, sym, ap, ◌∙◌, arith}
+use Rattle.std.proofs.Common.{◌≡◌, ℕ, zero, suc, ◌+◌, ◌-◌, ◌≤◌, nat_le, Bool, true, false, not, T, List, [], ◌∷◌, length, drop, slice_get, Option, Some, None, is_some, option_map, ℤ, ◌≤ℤ◌, ◌<ℤ◌, Less, Equal, Greater, Ordering, refl, sym, ap, ◌∙◌, arith}
 use Rattle.std.specs.Prelude.{int_lt}
 use Rattle.std.specs.Ordering.{nat_cmp, int_cmp, ordering_then, is_le}
 use Rattle.std.proofs.lemmas.Cmp.{int_ranked, ranked}
 use Rattle.std.proofs.lemmas.Int.{ints}
+use Rattle.std.proofs.lemmas.Bool.Decides.{nat_tests}
+use Rattle.std.proofs.lemmas.List.Filters.{length-filter_both}
 use Rattle.std.specs.BTreeMap.Range.{range_contains, entries_between}
 use Rattle.std.specs.declared.ops.Bound.TheVariants.{Excluded, Unbounded}
 use Rattle.std.specs.FinMap.{FinMap, from_sorted, is_sorted}
@@ -44,6 +46,33 @@ is_from_first start s Greater is = let h = int_ranked start s.0 Greater is in sy
 before_is_not_from : (start : ℤ) (s : Stamp) → range_contains stamp_cmp Unbounded (Excluded (start, 0)) s ≡ not (is_from start s)
 before_is_not_from start s = ap not (is_from_first start s (int_cmp start s.0) refl)
 
+fewer : (n before len number : ℕ) → n + before ≡ len → ¬ (number ≤ len) → false ≡ nat_le number n
+fewer n before len number all few = grind (arith, nat_tests)
+
+turned : (n before number beyond : ℕ) → n + before ≡ number + beyond → nat_le before beyond ≡ nat_le number n
+turned n before number beyond all = grind (arith, nat_tests)
+
+le_later : (a b : ℕ) → nat_le a b ≡ nat_le (suc a) (suc b)
+le_later a b = grind (arith, nat_tests)
+
+le_any : (i : ℕ) → true ≡ nat_le 0 i
+le_any i = grind (arith, nat_tests)
+
+not_le : (n : ℕ) → false ≡ nat_le (suc n) 0
+not_le n = grind (arith, nat_tests)
+
+is_past : {B : Type 0} (xs : List B) (i : ℕ) → not (is_some (slice_get xs i)) ≡ nat_le (length xs) i
+is_past [] i = le_any i
+is_past (x ∷ xs) zero = not_le (length xs)
+is_past (x ∷ xs) (suc i) = is_past xs i ∙ le_later (length xs) i
+
+-- nothing stands at i exactly if there are no more than i
+past_all : {A B : Type 0} (shows : A → B) (o : Option A) (xs : List B) (i : ℕ) (absent : Bool) → option_map shows o ≡ slice_get xs i → is_some o ≡ not absent → absent ≡ nat_le (length xs) i
+past_all shows (Some a) xs i false e is = ap (λ o. not (is_some o)) e ∙ is_past xs i
+past_all shows None xs i true e is = ap (λ o. not (is_some o)) e ∙ is_past xs i
+past_all shows (Some a) xs i true e is = cc
+past_all shows None xs i false e is = cc
+
 module _ {X : Type 0} where
   -- the entries whose stamps are before the first of a second
   abbrev pub before : ℤ → List (Stamp × X) → List (Stamp × X)
@@ -57,3 +86,22 @@ module _ {X : Type 0} where
   -- how many are not before it
   pub counted : (start : ℤ) (es : List (Stamp × X)) (m : FinMap stamp_cmp X) (n : ℕ) → T (is_sorted stamp_cmp es) → from_sorted es ≡ m → n ≡ length (before start es) → length es - n ≡ map.len (map.retain_keys m (is_from start))
   counted start = count_is stamp_cmp stamp_total stamp_exact (is_from start) (range_contains stamp_cmp Unbounded (Excluded (start, 0))) (before_is_not_from start) (rises start)
+
+  -- those that are not before it, and those before it
+  all_counted : (start : ℤ) (es : List (Stamp × X)) (m : FinMap stamp_cmp X) → T (is_sorted stamp_cmp es) → from_sorted es ≡ m → map.len (map.retain_keys m (is_from start)) + length (before start es) ≡ length es
+  all_counted start es m s is_map =
+      let from = counted start es m (length (before start es)) s is_map refl in
+      let both = length-filter_both (λ (e : Stamp × X). is_from start e.0) (λ e. range_contains stamp_cmp Unbounded (Excluded (start, 0)) e.0) (λ e. before_is_not_from start e.0) es in
+      omega (arith, from, both)
+
+  -- fewer than the number, where all are fewer
+  pub too_few : (start : ℤ) (es : List (Stamp × X)) (m : FinMap stamp_cmp X) (number : ℕ) → T (is_sorted stamp_cmp es) → from_sorted es ≡ m → ¬ (number ≤ length es) → false ≡ nat_le number (map.len (map.retain_keys m (is_from start)))
+  too_few start es m number s is_map few = fewer (map.len (map.retain_keys m (is_from start))) (length (before start es)) (length es) number (all_counted start es m s is_map) few
+
+  -- as many as the number, or more, where none is before the second behind as many as there are beyond the number
+  pub enough : {A : Type 0} (shows : A → Stamp × X) (start : ℤ) (es : List (Stamp × X)) (m : FinMap stamp_cmp X) (number beyond : ℕ) (next : Option A) (absent : Bool) → T (is_sorted stamp_cmp es) → from_sorted es ≡ m
+      → number ≤ length es → beyond ≡ length es - number → option_map shows next ≡ slice_get (before start es) beyond → is_some next ≡ not absent → absent ≡ nat_le number (map.len (map.retain_keys m (is_from start)))
+  enough shows start es m number beyond next absent s is_map le beyond_is reached is =
+      let all = all_counted start es m s is_map in
+      past_all shows next (before start es) beyond absent reached is
+      ∙ turned (map.len (map.retain_keys m (is_from start))) (length (before start es)) number beyond (omega (arith, all, le, beyond_is))
