@@ -60,7 +60,8 @@ fn a_pair_below_the_floor_is_forgotten(rt: HostRuntime) -> Result<(), AllocError
     assert!(rt; accept(&mut memory, at(301), T + 301, 0, ())?);
     assert!(rt; memory.floor == T + 1);
     assert!(rt; matches!(memory.check(at(0), T, 0, 64), Verdict::Skew));
-    assert!(rt; memory.pairs.count_from(0) == 1);
+    assert!(rt; memory.pairs.has_from(0, 1));
+    assert!(rt; !memory.pairs.has_from(0, 2));
     Ok(())
 }
 

@@ -84,7 +84,7 @@ module _ {X : Type 0} where
   forgotten start = retained stamp_cmp stamp_total stamp_exact (is_from start) (range_contains stamp_cmp Unbounded (Excluded (start, 0))) (before_is_not_from start) (rises start)
 
   -- how many are not before it
-  pub counted : (start : ℤ) (es : List (Stamp × X)) (m : FinMap stamp_cmp X) (n : ℕ) → T (is_sorted stamp_cmp es) → from_sorted es ≡ m → n ≡ length (before start es) → length es - n ≡ map.len (map.retain_keys m (is_from start))
+  counted : (start : ℤ) (es : List (Stamp × X)) (m : FinMap stamp_cmp X) (n : ℕ) → T (is_sorted stamp_cmp es) → from_sorted es ≡ m → n ≡ length (before start es) → length es - n ≡ map.len (map.retain_keys m (is_from start))
   counted start = count_is stamp_cmp stamp_total stamp_exact (is_from start) (range_contains stamp_cmp Unbounded (Excluded (start, 0))) (before_is_not_from start) (rises start)
 
   -- those that are not before it, and those before it
