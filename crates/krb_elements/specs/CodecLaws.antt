@@ -15,7 +15,7 @@ use Rattle.krb_der.specs.BitLaws.{bits_spelled}
 use Rattle.krb_der.specs.Civil.{IsCivilSecond}
 use Rattle.krb_der.specs.Time.{Time, time_octets}
 use Rattle.krb_der.proofs.TimeLaws.{time_value_range}
-use Rattle.krb_elements.specs.Format.{whole, inside, maybe, starts, sent, field, field_of, optional, end, made, seen_as, list_at}
+use Rattle.krb_elements.specs.Format.{whole, inside, maybe, starts, sent, field, field_of, optional, end, seen_as, list_at}
 use Rattle.krb_elements.specs.FieldReading.{then_field, then_maybe, then_sent, either_inside, nothing}
 use Rattle.krb_elements.specs.FieldReading as reading
 use Rattle.krb_elements.specs.Sent.{WithOctets}

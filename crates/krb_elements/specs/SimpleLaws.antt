@@ -1,22 +1,15 @@
 -- The simple types are read where they are spelled.
-use Rattle.std.proofs.Common.{◌≡◌, ℕ, ℤ, pos, negsuc, ◌^◌, ◌<◌, List, [], ◌∷◌, refl, sym, ap, subst, ◌∙◌, arith, true, w64, FitsSigned}
+use Rattle.std.proofs.Common.{◌≡◌, ℕ, ℤ, pos, negsuc, ◌^◌, ◌<◌, List, [], ◌∷◌, refl, subst, arith, true, w64, FitsSigned}
 use Rattle.std.specs.Prelude.{unsigned_abs}
-use Rattle.std.proofs.lemmas.List.{append-nil}
 use Rattle.krb_der.specs.declared.fault.DerFault.TheVariants.{BadInteger, BadBits, BadTime}
 use Rattle.krb_der.specs.StepLaws.{IsBytes-rest}
-use Rattle.krb_der.specs.Spelling.{tlv, IsBytes}
-use Rattle.krb_der.specs.Int.{is_int, int_value, Int, int_octets, int_spelling}
+use Rattle.krb_der.specs.Spelling.{IsBytes}
+use Rattle.krb_der.specs.Int.{is_int, int_value, Int}
 use Rattle.krb_der.specs.Bits.{is_bits, bits_value, first_bits, Bits}
 use Rattle.krb_der.specs.Reading.{int_at, bits_at, time_at}
-use Rattle.krb_der.specs.Civil.{IsCivilSecond}
-use Rattle.krb_der.specs.Time.{is_time, time_value, time_octets, Time}
-use Rattle.krb_der.proofs.TimeLaws.{time_value_range}
-use Rattle.krb_der.proofs.TimeSpellings.{time_spelled}
-use Rattle.krb_der.specs.IntLaws.{int_spelled}
-use Rattle.krb_der.specs.BitLaws.{bits_spelled}
-use Rattle.krb_der.specs.Laws.{contents_fit}
+use Rattle.krb_der.specs.Time.{is_time, time_value, Time}
 use Rattle.std.proofs.lemmas.Int.{ints}
-use Rattle.krb_elements.specs.Simple.{is_within, Int32, int32_at, UInt32, uint32_at, Microseconds, microseconds_at, microseconds_text, Fixed, fixed_at, fixed_text, Octets, octets_at, KerberosString, string_at, as_they_are, first, KerberosFlags, flags_at, flags_text}
+use Rattle.krb_elements.specs.Simple.{is_within, Int32, int32_at, UInt32, uint32_at, Microseconds, microseconds_at, Fixed, fixed_at, Octets, octets_at, KerberosString, string_at, first, KerberosFlags, flags_at}
 use Rattle.krb_elements.specs.Laws.{IsElement, leaf_element, tlv_element, such_ok, seen_ok}
 
 pub int_element : IsElement Int int_at

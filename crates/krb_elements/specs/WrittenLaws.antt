@@ -1,11 +1,9 @@
 -- How long what is written is.
-use Rattle.std.proofs.Common.{◌≡◌, ℕ, ◌^◌, ◌<◌, List, [], ◌∷◌, ◌++◌, length, get_or, drop, suc, drop-cons, Option, Some, None, refl, sym, ap, subst, ◌∙◌, arith}
+use Rattle.std.proofs.Common.{◌≡◌, ℕ, ◌^◌, ◌<◌, List, [], ◌∷◌, length, get_or, drop, suc, drop-cons, sym, ap, subst, ◌∙◌, arith}
 use Rattle.std.proofs.lemmas.List.{append-nil, length-append}
 use Rattle.krb_der.specs.Spelling.{tlv, length_octets, IsBytes}
-use Rattle.krb_der.specs.StepLaws.{IsBytes-back, IsBytes-front}
 use Rattle.krb_der.specs.Laws.{contents_fit}
-use Rattle.krb_elements.specs.Spells.{Inside, End, Field, OptionalOf, Optional, Items, ListOf}
-use Rattle.krb_elements.specs.Written.{field_text, maybe_text, field_then, optional_then, no_more, items_text}
+use Rattle.krb_elements.specs.Written.{items_text}
 
 -- a value is longer than its contents
 pub tlv_longer : (tag : ℕ) (contents : List ℕ) → length contents < length (tlv tag contents)

@@ -28,6 +28,4 @@ pub use reading::{
 pub use seq::Seq;
 pub use string::{KerberosString, KerberosStringRef};
 pub use uint32::UInt32;
-pub use writing::{
-    Encode, EncodeFields, write, write_field, write_inside, write_optional,
-};
+pub use writing::{Encode, EncodeFields, write, write_field, write_inside, write_optional};

@@ -8,8 +8,8 @@ ghost use Rattle.krb_elements.specs.CodecLaws.{AllFit};
 
 use crate::codec::{Coded, MakeOwned};
 use crate::reading::{Decode, look_all};
-use crate::writing::Encode;
 use crate::seq::Seq;
+use crate::writing::Encode;
 use krb_der::{DerFault, Items, Reader, Writer};
 use std::alloc::{AllocError, Global};
 use std::marker::{Model, PhantomData};

@@ -4,12 +4,12 @@ ghost use Rattle.krb_elements.specs.Format.{Looks};
 ghost use Rattle.krb_elements.specs.Codec as forms;
 
 use crate::codec::{Coded, MakeOwned};
-use crate::reading::Decode;
-use crate::writing::Encode;
 use crate::microseconds::Microseconds;
 use crate::octets::{Octets, OctetsRef};
+use crate::reading::Decode;
 use crate::string::{KerberosString, KerberosStringRef};
 use crate::uint32::UInt32;
+use crate::writing::Encode;
 use krb_der::{DerFault, KTime, Reader, Writer};
 use std::alloc::{AllocError, Global};
 

@@ -1,6 +1,5 @@
-use Rattle.std.proofs.Common.{◌≡◌, ◌++◌, ap, ◌∙◌, sym, subst, ℕ, List, length, Option, Some, None, Result, Ok, Err}
+use Rattle.std.proofs.Common.{◌++◌, ap, ◌∙◌, sym, ℕ, List, Result, Ok, Err}
 use Rattle.std.specs.Prelude.{OnOk}
-use Rattle.krb_der.specs.Spelling.{tlv}
 use Rattle.krb_elements.proofs.writing.AnyEncode.put.Goals as goal
 
 weaker : {A E : Type 0} (P Q : Type 0) → (P → Q) → (r : Result A E) → OnOk r P → OnOk r Q
