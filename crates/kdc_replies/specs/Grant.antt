@@ -1,6 +1,6 @@
 -- What is granted, as it stands in the ticket and in the part of the reply that the client reads (RFC 4120, sections 5.3
 -- and 5.4.2).
-use Rattle.std.specs.Prelude.{ℕ, ℤ, pos, ◌<◌, ◌≤◌, IfSome, List, [], ◌∷◌, length, take, Option, Some, None}
+use Rattle.std.specs.Prelude.{ℕ, ℤ, pos, ◌<◌, ◌≤◌, IfSome, List, [], ◌∷◌, length, take, Some, None}
 use Rattle.enctypes.specs.declared.key.Key.{Key}
 use Rattle.enctypes.specs.Etype.{number, key_len}
 use Rattle.enctypes.specs.declared.etype.Etype.{Etype}

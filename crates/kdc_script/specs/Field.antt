@@ -1,5 +1,5 @@
 -- The fields of a script's line, each with the texts that spell it.
-use Rattle.std.specs.Prelude.{◌≡◌, ◌==◌, ℕ, ◌<◌, ◌≤◌, ◌^◌, pos, false, List, [], ◌∷◌, length, Ok, ◌⊎◌, codes}
+use Rattle.std.specs.Prelude.{◌≡◌, ◌==◌, ℕ, ◌<◌, ◌≤◌, pos, false, List, [], ◌∷◌, length, Ok, ◌⊎◌, codes}
 use Rattle.std.specs.List.{before_first, after_first, slice_split, position_or_len}
 use Rattle.std.specs.Str.Parse.{IsNumeral, digits_value}
 use Rattle.hex.specs.Hex.{decode_of, decode_sized}

@@ -1,5 +1,5 @@
 -- EncAPRepPart (RFC 4120, section 5.5.2).
-use Rattle.std.proofs.Common.{ℕ, refl}
+use Rattle.std.proofs.Common.{refl}
 use Rattle.krb_elements.specs.Codec.{Codec, Record, field, optional, end, sequence, application, microseconds, time, uint32}
 use Rattle.krb_fields.specs.Typed.{Typed, typed}
 use Rattle.krb_parts.specs.declared.enc_ap_rep_part.EncApRepPart as trees

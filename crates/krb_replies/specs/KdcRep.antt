@@ -1,6 +1,6 @@
 -- KDC-REP (RFC 4120, section 5.4.2): AS-REP and TGS-REP, which differ in their message type alone. It is also the
 -- number of their tag.
-use Rattle.std.proofs.Common.{◌≡◌, ℕ, ◌<◌, pos, negsuc, List, true, refl, arith}
+use Rattle.std.proofs.Common.{◌≡◌, ℕ, ◌<◌, pos, List, true, refl, arith}
 use Rattle.std.specs.Prelude.{bit_and}
 use Rattle.std.specs.Int.Bits.{mask_lt}
 use Rattle.std.proofs.lemmas.Int.{ints}

@@ -1,8 +1,7 @@
 -- A copy is the same value: the copy of a list, or of what may be absent, is made of copies.
-use Rattle.std.proofs.Common.{◌≡◌, ℕ, ℤ, List, [], ◌∷◌, map, Option, Some, None, refl, ap, ◌∙◌}
+use Rattle.std.proofs.Common.{◌≡◌, ℕ, ℤ, List, map, Option, refl}
 use Rattle.std.specs.Prelude.{option_map}
 use Rattle.krb_elements.specs.CopyLaws.{map_all, option_all}
-use Rattle.krb_fields.specs.PrincipalName.{Name}
 use Rattle.krb_fields.specs.NameCopyLaws.{same_name, name_copied}
 use Rattle.krb_fields.specs.PaData.{PaData}
 use Rattle.krb_types.specs.Ticket.{Ticket}

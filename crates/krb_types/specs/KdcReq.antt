@@ -1,5 +1,5 @@
 -- KDC-REQ (RFC 4120, section 5.4.1): AS-REQ and TGS-REQ, which differ in their tag alone.
-use Rattle.std.proofs.Common.{◌≡◌, ℕ, ◌+◌, ℤ, ◌<◌, ◌*◌, List, length, Option, Some, None, Result, Ok, Err, refl, arith}
+use Rattle.std.proofs.Common.{ℕ, ◌+◌, ℤ, ◌<◌, ◌*◌, List, length, Option, Some, None, Result, Ok, Err, refl, arith}
 use Rattle.std.specs.Prelude.{IfOk}
 use Rattle.krb_der.specs.declared.fault.DerFault.{DerFault}
 use Rattle.krb_der.specs.Spelling.{IsBytes}

@@ -11,7 +11,7 @@ use Rattle.krb_fields.specs.EncryptedData.{encrypted_data}
 use Rattle.krb_fields.specs.PrincipalName.{Name, name}
 use Rattle.krb_fields.specs.Typed.{typed}
 use Rattle.krb_types.specs.Ticket.{ticket}
-use Rattle.krb_types.specs.ReqBody.{ReqBody, req_body, req_body_form}
+use Rattle.krb_types.specs.ReqBody.{req_body, req_body_form}
 use Rattle.krb_types.specs.KdcReq.{KdcReq, SpellsKdcReq, kdc_req_form, message_tag}
 use Rattle.krb_types.specs.declared.kdc_req.Exchange.{Exchange}
 

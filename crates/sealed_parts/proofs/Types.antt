@@ -1,13 +1,12 @@
 -- The type that a number names is found among all types.
-use Rattle.std.proofs.Common.{◌≡◌, ◌≢◌, ℕ, ℤ, Bool, true, false, List, Option, None, refl, sym, ap, ◌∙◌}
+use Rattle.std.proofs.Common.{◌≡◌, ◌≢◌, ℕ, ℤ, Bool, true, false, List, None, refl}
 use Rattle.std.proofs.lemmas.Bool.Decides.{Decides-int_eq}
 use Rattle.std.specs.Ordering.{int_eq}
 use Rattle.enctypes.specs.Etype.{number}
 use Rattle.enctypes.specs.declared.etype.Etype.{Etype}
 use Rattle.enctypes.specs.declared.etype.Etype.TheVariants.{Aes128CtsHmacSha1_96, Aes256CtsHmacSha1_96}
 use Rattle.enctypes.specs.declared.etype.Etype.TheVariants.{Aes128CtsHmacSha256_128, Aes256CtsHmacSha384_192}
-use Rattle.enctypes.specs.declared.key.Key.{Key}
-use Rattle.sealed_parts.specs.Keys.{type_numbered, key_of, key_if}
+use Rattle.sealed_parts.specs.Keys.{key_of}
 
 other : (m n : ℤ) → m ≢ n → int_eq m n ≡ false
 other m n apart = at (int_eq m n) refl

@@ -1,5 +1,5 @@
 -- Keys that stand in messages (EncryptionKey: RFC 4120, section 5.2.9).
-use Rattle.std.specs.Prelude.{ℕ, ℤ, ◌<◌, nat_eq, if◌then◌else◌, List, [], ◌∷◌, length, Option, Some, None, find}
+use Rattle.std.specs.Prelude.{ℕ, ℤ, nat_eq, if◌then◌else◌, List, [], ◌∷◌, length, Option, Some, None, find}
 use Rattle.std.specs.Ordering.{int_eq}
 use Rattle.enctypes.specs.Etype.{number, key_len}
 use Rattle.enctypes.specs.declared.etype.Etype.{Etype}

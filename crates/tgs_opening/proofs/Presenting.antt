@@ -1,5 +1,5 @@
 -- What is presented, where the ticket was opened.
-use Rattle.std.proofs.Common.{◌≡◌, ◌<◌, ◌≤◌, ℕ, List, length, Option, Some, None, Result, Ok, Err, refl, ap, subst, sym, arith}
+use Rattle.std.proofs.Common.{◌≡◌, ◌<◌, ℕ, List, length, Option, Some, None, Result, Ok, Err, refl, ap, subst, sym, arith}
 use Rattle.std.specs.Prelude.{IfOk, IfSome}
 use Rattle.refusals.specs.RefusalLaws.{decided_found}
 use Rattle.krb_ap.specs.ApReq.{ApReq}

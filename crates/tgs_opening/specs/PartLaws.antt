@@ -1,5 +1,5 @@
 -- The authorization data of a ticket are no longer than the octets that spell what the ticket holds.
-use Rattle.std.proofs.Common.{ℕ, ◌<◌, ◌≤◌, List, length, Option, Some, None, refl, ap, arith}
+use Rattle.std.proofs.Common.{ℕ, ◌<◌, List, length, Option, Some, None, refl, ap, arith}
 use Rattle.std.specs.Prelude.{IfSome}
 use Rattle.krb_elements.specs.Codec.{sequence, list_of, string}
 use Rattle.krb_elements.specs.OneSpellingLaws.{HasOneSpelling}

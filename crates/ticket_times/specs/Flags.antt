@@ -3,7 +3,6 @@ use Rattle.std.specs.Prelude.{ℕ, Bool, true, ◌&&◌, ◌||◌, if◌then◌e
 use Rattle.krb_fields.specs.Flags.{without_bit}
 use Rattle.krb_fields.specs.declared.ticket_flag.TicketFlag.TheVariants.{Forwardable, Forwarded, Proxiable, Proxy, MayPostdate, Postdated, Invalid, Renewable, Initial, PreAuthent, OkAsDelegate}
 use Rattle.krb_fields.specs.TicketFlag.{ticket_flag_number}
-use Rattle.krb_fields.specs.declared.kdc_option.KdcOption.{KdcOption}
 use Rattle.krb_fields.specs.declared.kdc_option.KdcOption as options
 use Rattle.krb_types.specs.ReqBody.{ReqBody}
 use Rattle.principal_rows.specs.declared.policy.Policy.{Policy}

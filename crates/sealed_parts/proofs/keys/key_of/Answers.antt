@@ -1,5 +1,4 @@
-use Rattle.std.proofs.Common.{rules, ◌≡◌, ◌∙◌, Option, None, SFits, w32, to_z-of_z}
-use Rattle.enctypes.specs.declared.key.Key.{Key}
+use Rattle.std.proofs.Common.{rules, ◌≡◌, ◌∙◌, None, SFits, w32, to_z-of_z}
 use Rattle.sealed_parts.proofs.Types.{no_type}
 use Rattle.sealed_parts.proofs.keys.key_of.Goals as goal
 

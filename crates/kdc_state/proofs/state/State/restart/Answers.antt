@@ -1,4 +1,4 @@
-use Rattle.std.proofs.Common.{◌≡◌, ap, ◌∙◌}
+use Rattle.std.proofs.Common.{ap, ◌∙◌}
 use Rattle.std.specs.FinMap.{get, get-empty}
 use Rattle.std.specs.Option.{unwrap_or}
 use Rattle.krb_fields.specs.Name.{name_cmp}
