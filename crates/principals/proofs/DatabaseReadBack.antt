@@ -1,5 +1,5 @@
 -- What is written for a database is read as that database, where each row is read as it was written.
-use Rattle.std.proofs.Common.{◌≡◌, ◌≢◌, ℕ, Bool, true, false, cond, T, List, [], ◌∷◌, Option, Some, None, Ok, Less, Equal, Greater, Ordering, is_lt, ◌&&◌, refl, sym, ap, subst, ◌∙◌, nat_cmp, is_eq, is_some, All}
+use Rattle.std.proofs.Common.{◌≡◌, ◌≢◌, ℕ, Bool, true, false, cond, T, List, [], ◌∷◌, Option, Some, None, Ok, Less, Equal, Greater, Ordering, refl, sym, ap, subst, ◌∙◌, nat_cmp, is_eq, is_some, All}
 use Rattle.std.specs.Ordering.{eq_by_cmp, match_ordering}
 use Rattle.std.proofs.lemmas.List.Elements.{All-head, All-tail}
 use Rattle.std.specs.Cmp.Lexicographic.{slice_cmp}
@@ -7,6 +7,7 @@ use Rattle.std.proofs.lemmas.Cmp.{nat_list_cmp_total, tied_itself}
 use Rattle.std.specs.FinMap.{FinMap, find, is_sorted, entries_sorted, get, empty, insert, entries, from_entries, get-insert, get-empty, get-entries, same_map, slice_cmp-IsAntisymmetric, nat_cmp-IsAntisymmetric}
 use Rattle.std.specs.FinMap.Entries.{below_all}
 use Rattle.serde_json.specs.Data.{Data, Members, no_members, member, put}
+use Rattle.sorted_entries.proofs.Entries.{first, second, less}
 use Rattle.krb_fields.specs.Name.{Components, name_cmp, name_total, name_exact, same_name, tied_exactly}
 use Rattle.krb_fields.specs.NameLimits.{IsWithinLimits}
 use Rattle.krb_fields.specs.NameText.{component_text, text_of}
@@ -107,19 +108,6 @@ AreReadBack (e ∷ es) = (name_of (text_of e.0) ≡ Some e.0) × (row_of Version
 rows_put : (es : List (Components × Row)) (ms : Members) (m : FinMap name_cmp Row) → AreReadBack es → map_of (entries_of Version2 ms) ≡ Some m → map_of (entries_of Version2 (with_rows ms es)) ≡ Some (insert_all m es)
 rows_put [] ms m reads is = is
 rows_put (e ∷ es) ms m reads is = rows_put es (put (text_of e.0) (row_value e.1) ms) (insert m e.0 e.1) reads.2 (put_row (text_of e.0) (row_value e.1) e.0 e.1 reads.0 reads.1 ms m is)
-
-first : (a b : Bool) → T (a && b) → T a
-first true b p = tt
-first false b p = p
-
-second : (a b : Bool) → T (a && b) → T b
-second true b p = p
-second false b p = absurd p
-
-less : (o : Ordering) → T (is_lt o) → o ≡ Less
-less Less p = refl
-less Equal p = absurd p
-less Greater p = absurd p
 
 equal : (o : Ordering) → is_eq o ≡ true → o ≡ Equal
 equal Less e = cc

@@ -1,12 +1,12 @@
 -- Sorted entries as finite maps: what a search finds, and what an edit at that place makes.
-use Rattle.std.proofs.Common.{◌≡◌, ℕ, zero, suc, ◌<◌, ◌≤◌, ◌-◌, Bool, true, false, cond, ◌&&◌, T, List, [], ◌∷◌, length, get_or, set, drop, Some, None, Result, Ok, Err, Less, Equal, Greater, Ordering, sym, refl, ap, subst, ◌∙◌, arith, is_eq, is_lt, inl, inr, le_refl, slice_get, IfOk, IfErr, length-drop}
+use Rattle.std.proofs.Common.{◌≡◌, ℕ, zero, suc, ◌<◌, ◌≤◌, ◌-◌, Bool, true, false, ◌&&◌, T, List, [], ◌∷◌, length, get_or, set, Some, None, Result, Ok, Err, Less, Equal, Greater, Ordering, sym, refl, ap, subst, ◌∙◌, arith, is_eq, is_lt, inl, inr, le_refl, slice_get, IfOk, IfErr}
 use Rattle.std.specs.Ordering.{ordering_index, ordering_reverse}
 use Rattle.std.specs.Cmp.{IsTotalOrder, alike_right}
-use Rattle.std.specs.List.{insert, AllWithin}
-use Rattle.std.specs.List.Sorted.{IsNonDecreasingBy, IsBinarySearchResult, IsSearchInRange, IsPartitionedBy}
-use Rattle.std.specs.FinMap.{FinMap, IsAntisymmetric, entries, from_sorted, find, put, is_sorted, get, entries-from_sorted, get-from_sorted, get-retain_keys, entries-insert, len-entries, len-empty, same_entries_map, same_map}
+use Rattle.std.specs.List.{insert}
+use Rattle.std.specs.List.Sorted.{IsNonDecreasingBy, IsBinarySearchResult, IsSearchInRange}
+use Rattle.std.specs.FinMap.{FinMap, entries, from_sorted, find, put, is_sorted, get, entries-from_sorted, get-from_sorted, entries-insert, len-entries, len-empty, same_entries_map}
 use Rattle.std.specs.FinMap as map
-use Rattle.std.specs.FinMap.Entries.{below_all, where_key, find-where_key, is_sorted-put, is_sorted-where_key}
+use Rattle.std.specs.FinMap.Entries.{below_all, is_sorted-put}
 use Rattle.std.proofs.lemmas.Bool.{cases_lt}
 use Rattle.sorted_entries.specs.Entries.{pairs_of, IsAt, IsGap}
 
@@ -177,50 +177,3 @@ module _ {E K V : Type 0} (R : K → K → Ordering) (o : IsTotalOrder R) (key :
 
   pub at_none : (es : List E) (m : FinMap R V) (i : ℕ) → T (is_sorted R (pairs es)) → from_sorted (pairs es) ≡ m → length es ≤ i → None ≡ slice_get (entries m) i
   at_none es m i s is_map le = slice_get-past es i le ∙ ap (λ l. slice_get l i) (entries_are (pairs es) m s is_map)
-
-  -- a test on keys that fails before n and holds from n on keeps what stands from n on
-  kept_from : (p : K → Bool) (es : List E) (n : ℕ) → AllWithin (λ e. p (key e) ≡ false) es 0 n → AllWithin (λ e. p (key e) ≡ true) es n (length es) → pairs (drop n es) ≡ where_key R p (pairs es)
-  kept_from p [] zero before after = refl
-  kept_from p [] (suc n) before after = refl
-  kept_from p (e ∷ es) zero before after =
-      rw (after 0 e (omega arith) (omega arith))
-      (ap (λ l. (key e, value e) ∷ l) (kept_from p es 0 (λ j d a b. absurd (omega (arith, b))) (λ j d a b. after (suc j) d (omega arith) (omega (arith, b)))))
-  kept_from p (e ∷ es) (suc n) before after =
-      rw (before 0 e (omega arith) (omega arith))
-      (kept_from p es n (λ j d a b. before (suc j) d (omega arith) (omega (arith, b))) (λ j d a b. after (suc j) d (omega (arith, a)) (omega (arith, b))))
-
-  -- to keep the entries whose keys pass a test is `retain_keys`
-  where_retains : IsAntisymmetric R → (p : K → Bool) (l m : List (K × V)) → T (is_sorted R l) → m ≡ where_key R p l → T (is_sorted R m) × (from_sorted {R = R} m ≡ map.retain_keys (from_sorted l) p)
-  where_retains exact p l m s e =
-      let sorted : T (is_sorted R m) = subst (λ x. T (is_sorted R x)) (sym e) (is_sorted-where_key R p l s) in
-      let alike = λ (q x : K) (t : R q x ≡ Equal). ap p (sym (exact q x t)) in (
-        sorted,
-        same_map o exact _ _ (λ q.
-            get-from_sorted R m q sorted ∙ ap (find R q) e ∙ find-where_key R p q (alike q) l
-            ∙ ap (λ f. cond (p q) f None) (sym (get-from_sorted R l q s))
-            ∙ sym (get-retain_keys (from_sorted l) p q (alike q))),
-      )
-
-  -- a test on keys that fails before n and holds from n on
-  abbrev pub Parts : (K → Bool) → List E → ℕ → Type 0
-  Parts p es n = AllWithin (λ e. p (key e) ≡ false) es 0 n × AllWithin (λ e. p (key e) ≡ true) es n (length es)
-
-  -- the entries before n dropped
-  pub retained : IsAntisymmetric R → (p : K → Bool) (es m searched : List E) (n : ℕ) → T (is_sorted R (pairs es)) → searched ≡ es → Parts p searched n → m ≡ drop n es → T (is_sorted R (pairs m)) × (from_sorted {R = R} (pairs m) ≡ map.retain_keys (from_sorted (pairs es)) p)
-  retained exact p es m searched n s here parts e =
-      let at : Parts p es n = subst (λ l. Parts p l n) here parts in
-      where_retains exact p (pairs es) (pairs m) s (ap pairs e ∙ kept_from p es n at.0 at.1)
-
-  -- how many there are from n on
-  pub count_is : IsAntisymmetric R → (p : K → Bool) (es searched : List E) (m : FinMap R V) (n : ℕ) → T (is_sorted R (pairs es)) → from_sorted (pairs es) ≡ m → searched ≡ es → Parts p searched n → length es - n ≡ map.len (map.retain_keys m p)
-  count_is exact p es searched m n s is_map here parts =
-      let kept = retained exact p es (drop n es) searched n s here parts refl in
-      sym (length-drop n es) ∙ sym (len-from_sorted (drop n es) kept.0) ∙ ap map.len kept.1 ∙ ap (λ m. map.len (map.retain_keys m p)) is_map
-
-  -- where a test on keys only goes from failing to passing as keys rise, sorted entries are parted by its failing
-  pub parted : (p : K → Bool) (es : List E) → T (is_sorted R (pairs es)) → ((x y : K) → R x y ≡ Less → p y ≡ true → p x ≡ true) → IsPartitionedBy (λ e. p (key e)) es
-  parted p [] s falls i j d le lt h = absurd (omega (arith, lt))
-  parted p (a ∷ es) s falls zero zero d le lt h = h
-  parted p (a ∷ es) s falls (suc i) zero d le lt h = absurd (omega (arith, le))
-  parted p (a ∷ es) s falls zero (suc j) d le lt h = falls (key a) (key (get_or es j d)) (below_at (key a) es j d (first _ _ s) (omega (arith, lt))) h
-  parted p (a ∷ es) s falls (suc i) (suc j) d le lt h = parted p es (second _ _ s) falls i j d (omega (arith, le)) (omega (arith, lt)) h

@@ -1,3 +1,4 @@
 pub mod Entries
 pub mod Exchanges
 pub mod Removed
+pub mod Ordered

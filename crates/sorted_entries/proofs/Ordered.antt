@@ -1,5 +1,5 @@
 -- The entries of an ordered map as finite maps: what an insertion makes, and what is left where the first are taken off.
-use Rattle.std.proofs.Common.{◌≡◌, ℕ, zero, suc, ◌+◌, ◌-◌, ◌<◌, Bool, true, false, cond, not, ◌&&◌, T, List, [], ◌∷◌, ◌++◌, length, drop, Option, Some, None, IfSome, IfNone, IsSome, ◌↔◌, Ordering, Less, Equal, Greater, sym, refl, ap, subst, ◌∙◌, arith, is_lt, length-drop}
+use Rattle.std.proofs.Common.{◌≡◌, ℕ, zero, suc, ◌+◌, ◌-◌, ◌<◌, Bool, true, false, cond, not, T, List, [], ◌∷◌, ◌++◌, length, drop, Option, Some, None, IfSome, IfNone, IsSome, ◌↔◌, Ordering, Less, Equal, Greater, sym, refl, ap, subst, ◌∙◌, arith, length-drop}
 use Rattle.std.proofs.Math.Seq.{drop-nil}
 use Rattle.std.specs.Ordering.{match_ordering, ordering_reverse, eq_by_cmp}
 use Rattle.std.specs.Cmp.{IsTotalOrder}
@@ -9,19 +9,7 @@ use Rattle.std.specs.BTreeMap.{is_at, insert_entry}
 use Rattle.std.specs.FinMap.{FinMap, IsAntisymmetric, entries, from_sorted, find, put, is_sorted, get, entries-from_sorted, get-from_sorted, get-retain_keys, entries-insert, len-entries, len-empty, same_entries_map, same_map}
 use Rattle.std.specs.FinMap as map
 use Rattle.std.specs.FinMap.Entries.{by_order, below_all, where_key, find-where_key, is_sorted-put, is_sorted-where_key}
-
-first : (a b : Bool) → T (a && b) → T a
-first true b p = tt
-first false b p = p
-
-second : (a b : Bool) → T (a && b) → T b
-second true b p = p
-second false b p = absurd p
-
-less : (r : Ordering) → T (is_lt r) → r ≡ Less
-less Less p = refl
-less Equal p = absurd p
-less Greater p = absurd p
+use Rattle.sorted_entries.proofs.Entries.{first, second, less}
 
 fails : {K : Type 0} (p opposite : K → Bool) → ((k : K) → opposite k ≡ not (p k)) → (k : K) (b : Bool) → p k ≡ b → opposite k ≡ not b
 fails p opposite is_opposite k b e = is_opposite k ∙ ap not e
