@@ -55,11 +55,11 @@ pub(crate) enum Task<'a> {
 const EXAMPLE: &str = "\
 A first realm:
   head -c 32 /dev/urandom > seed1; head -c 32 /dev/urandom > seed2
-  kadm init --db realm.json --realm EXAMPLE.ORG --seed seed1
-  kadm add --db realm.json --name alice --password-file alice.password
-  kadm random --db realm.json --name host/www.example.org --seed seed2
-  kadm keytab --db realm.json --name host/www.example.org --out www.keytab
-  kadm list --db realm.json
+  kadm init --db database --realm EXAMPLE.COM --seed seed1
+  kadm add --db database --name alice --password-file alice.password
+  kadm random --db database --name host/www.example.com --seed seed2
+  kadm keytab --db database --name host/www.example.com --out www.keytab
+  kadm list --db database
 
 Each command prints `ok`, but `list`; `refused` and the reason, with status 1; or `failed`, with status 3, where a file, or
 memory, failed. A faulty command line has status 2.
@@ -85,188 +85,176 @@ pub(crate) fn read_words<'a, S: AsStr>(
 /// What the words order; `None` where a number, or a setting, is none.
 pub(crate) fn read_order<'a>(matches: &ArgMatches<'a>) -> Option<Order<'a>> {
     let (sub, words) = matches.subcommand()?;
-    let task = match sub {
+    let db = words.get_str("db")?;
+    let task = match words.get_str("name") {
+        Some(name) => task_on(sub, name, words)?,
+        None => task_on_all(sub, words)?,
+    };
+    Some(Order { db, task })
+}
+
+/// What is to be done to a principal.
+fn task_on<'a>(sub: &str, name: &'a str, words: &ArgMatches<'a>) -> Option<Task<'a>> {
+    Some(match sub {
+        "add" => Task::Add {
+            name,
+            password: words.get_str("password-file")?,
+        },
+        "passwd" => Task::Passwd {
+            name,
+            password: words.get_str("password-file")?,
+        },
+        "random" => Task::Random {
+            name,
+            seed: words.get_str("seed")?,
+        },
+        "drop" => Task::Drop {
+            name,
+            version: number_u32(words.get_str("version")?)?,
+        },
+        "policy" => policy_task(name, words)?,
+        "remove" => Task::Remove { name },
+        "keytab" => Task::Keytab {
+            name,
+            out: words.get_str("out")?,
+        },
+        _ => return None,
+    })
+}
+
+/// What is to be done to a whole database.
+fn task_on_all<'a>(sub: &str, words: &ArgMatches<'a>) -> Option<Task<'a>> {
+    Some(match sub {
         "init" => Task::Init {
             realm: words.get_str("realm")?,
             seed: words.get_str("seed")?,
         },
-        "add" => Task::Add {
-            name: words.get_str("name")?,
-            password: words.get_str("password-file")?,
-        },
-        "passwd" => Task::Passwd {
-            name: words.get_str("name")?,
-            password: words.get_str("password-file")?,
-        },
-        "random" => Task::Random {
-            name: words.get_str("name")?,
-            seed: words.get_str("seed")?,
-        },
-        "drop" => Task::Drop {
-            name: words.get_str("name")?,
-            version: number_u32(words.get_str("version")?)?,
-        },
-        "policy" => policy_task(words)?,
-        "remove" => Task::Remove {
-            name: words.get_str("name")?,
-        },
         "list" => Task::List,
-        "keytab" => Task::Keytab {
-            name: words.get_str("name")?,
-            out: words.get_str("out")?,
-        },
         "migrate" => Task::Migrate,
         _ => return None,
-    };
-    Some(Order {
-        db: words.get_str("db")?,
-        task,
     })
 }
 
-fn policy_task<'a>(words: &ArgMatches<'a>) -> Option<Task<'a>> {
+fn policy_task<'a>(name: &'a str, words: &ArgMatches<'a>) -> Option<Task<'a>> {
     let field = words.get_str("field")?;
     let value = words.get_str("value")?;
     if Setting::of(field, value).is_none() {
         return None;
     }
-    Some(Task::Policy {
-        name: words.get_str("name")?,
-        field,
-        value,
-    })
+    Some(Task::Policy { name, field, value })
 }
 
-fn kadm<'a>(alloc: Global) -> Result<Command<'a>, AllocError> {
-    Command::new(alloc, "kadm")
-        .about("Makes, changes and lists the database of a Kerberos realm")
-        .after_help(EXAMPLE)
-        .subcommand_required(true)
-        .subcommand(init_words(alloc)?)?
-        .subcommand(of_password(
-            alloc,
-            "add",
-            "Adds a principal, whose keys are made of a password",
-        )?)?
-        .subcommand(of_password(
-            alloc,
-            "passwd",
-            "Gives a principal new keys, which are made of a password",
-        )?)?
-        .subcommand(random_words(alloc)?)?
-        .subcommand(drop_words(alloc)?)?
-        .subcommand(policy_words(alloc)?)?
-        .subcommand(of_name(alloc, "remove", "Removes a principal")?)?
-        .subcommand(list_words(alloc)?)?
-        .subcommand(keytab_words(alloc)?)?
-        .subcommand(migrate_words(alloc)?)
-}
+/// An option that has to be there: its name, what stands for its value, and what that is.
+type Asked = (&'static str, &'static str, &'static str);
 
-fn init_words<'a>(alloc: Global) -> Result<Command<'a>, AllocError> {
-    on_db(
-        alloc,
+const DB: Asked = ("db", "FILE", "The database of the realm");
+
+const NAME: Asked = ("name", "NAME", "The principal's name, without its realm");
+
+const PASSWORD: Asked = (
+    "password-file",
+    "FILE",
+    "The password is the first line, without its line feed: at most 1,024 octets",
+);
+
+/// Each subcommand: its name, what it does, and its options.
+const SUBCOMMANDS: &[(&str, &str, &[Asked])] = &[
+    (
         "init",
         "Makes the database of a new realm, where there is no file yet",
-    )?
-    .arg(option(alloc, "realm", "REALM", "The realm's name"))?
-    .arg(option(
-        alloc,
-        "seed",
-        "FILE",
-        "32 random octets, for the keys of krbtgt/REALM alone",
-    ))
-}
-
-fn of_password<'a>(
-    alloc: Global,
-    name: &'a str,
-    about: &'a str,
-) -> Result<Command<'a>, AllocError> {
-    of_name(alloc, name, about)?.arg(option(
-        alloc,
-        "password-file",
-        "FILE",
-        "The password is the first line, without its line feed: at most 1,024 octets",
-    ))
-}
-
-fn random_words<'a>(alloc: Global) -> Result<Command<'a>, AllocError> {
-    of_name(
-        alloc,
+        &[
+            DB,
+            ("realm", "REALM", "The realm's name"),
+            (
+                "seed",
+                "FILE",
+                "32 random octets, for the keys of krbtgt/REALM alone",
+            ),
+        ],
+    ),
+    (
+        "add",
+        "Adds a principal, whose keys are made of a password",
+        &[DB, NAME, PASSWORD],
+    ),
+    (
+        "passwd",
+        "Gives a principal new keys, which are made of a password",
+        &[DB, NAME, PASSWORD],
+    ),
+    (
         "random",
         "Gives a principal random keys; adds it where it is not there",
-    )?
-    .arg(option(
-        alloc,
-        "seed",
-        "FILE",
-        "32 random octets, for these keys alone",
-    ))
-}
-
-fn drop_words<'a>(alloc: Global) -> Result<Command<'a>, AllocError> {
-    of_name(alloc, "drop", "Drops the keys of an old version")?.arg(option(
-        alloc,
-        "version",
-        "N",
-        "The version's number",
-    ))
-}
-
-fn policy_words<'a>(alloc: Global) -> Result<Command<'a>, AllocError> {
-    of_name(alloc, "policy", "Sets a field of a principal's policy")?
-        .arg(option(alloc, "field", "FIELD", FIELD))?
-        .arg(option(alloc, "value", "VALUE", VALUE))
-}
-
-fn list_words<'a>(alloc: Global) -> Result<Command<'a>, AllocError> {
-    on_db(
-        alloc,
+        &[
+            DB,
+            NAME,
+            ("seed", "FILE", "32 random octets, for these keys alone"),
+        ],
+    ),
+    (
+        "drop",
+        "Drops the keys of an old version",
+        &[DB, NAME, ("version", "N", "The version's number")],
+    ),
+    (
+        "policy",
+        "Sets a field of a principal's policy",
+        &[
+            DB,
+            NAME,
+            ("field", "FIELD", FIELD),
+            ("value", "VALUE", VALUE),
+        ],
+    ),
+    ("remove", "Removes a principal", &[DB, NAME]),
+    (
         "list",
         "Prints a line for each principal: its name, its current version, and the types of its keys",
-    )
-}
-
-fn keytab_words<'a>(alloc: Global) -> Result<Command<'a>, AllocError> {
-    of_name(
-        alloc,
+        &[DB],
+    ),
+    (
         "keytab",
         "Writes a keytab of a principal's current keys",
-    )?
-    .arg(option(
-        alloc,
-        "out",
-        "FILE",
-        "The keytab; a file that is there is replaced",
-    ))
-}
-
-fn migrate_words<'a>(alloc: Global) -> Result<Command<'a>, AllocError> {
-    on_db(
-        alloc,
+        &[
+            DB,
+            NAME,
+            (
+                "out",
+                "FILE",
+                "The keytab; a file that is there is replaced",
+            ),
+        ],
+    ),
+    (
         "migrate",
         "Writes a database of version 1 or 2 as version 2",
-    )
+        &[DB],
+    ),
+];
+
+fn kadm<'a>(alloc: Global) -> Result<Command<'a>, AllocError> {
+    let mut kadm = Command::new(alloc, "kadm")
+        .about("Makes, changes and lists the database of a Kerberos realm")
+        .after_help(EXAMPLE)
+        .subcommand_required(true);
+    for (name, about, options) in SUBCOMMANDS {
+        let subcommand = Command::new(alloc, name).about(about);
+        kadm = kadm.subcommand(with_options(alloc, subcommand, options)?)?;
+    }
+    Ok(kadm)
 }
 
-/// A subcommand that names a principal of a database.
-fn of_name<'a>(alloc: Global, name: &'a str, about: &'a str) -> Result<Command<'a>, AllocError> {
-    on_db(alloc, name, about)?.arg(option(
-        alloc,
-        "name",
-        "NAME",
-        "The principal's name, without its realm",
-    ))
+fn with_options<'a>(
+    alloc: Global,
+    mut command: Command<'a>,
+    options: &[Asked],
+) -> Result<Command<'a>, AllocError> {
+    for (name, shape, help) in options {
+        command = command.arg(option(alloc, name, shape, help))?;
+    }
+    Ok(command)
 }
 
-/// A subcommand on a database.
-fn on_db<'a>(alloc: Global, name: &'a str, about: &'a str) -> Result<Command<'a>, AllocError> {
-    Command::new(alloc, name)
-        .about(about)
-        .arg(option(alloc, "db", "FILE", "The database of the realm"))
-}
-
-/// An option that has to be there, with its value.
 fn option<'a>(alloc: Global, name: &'a str, shape: &'a str, help: &'a str) -> Arg<'a> {
     Arg::new(alloc, name)
         .long(name)

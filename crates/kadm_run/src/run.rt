@@ -371,13 +371,18 @@ fn write_keytab<T: Store>(
 ) -> Result<(), Stop> {
     let name = Name::from_text(alloc, name)?;
     let database = read_database(alloc, store, db)?;
-    let Some(row) = database.get(&name) else {
-        return Err(Stop::Refused(ChangeFault::Absent.name()));
-    };
-    let entries = entries_of(alloc, database.realm(), &name, row)?;
-    let octets = Keytab::new(alloc, &entries)?.write(alloc)?;
+    let octets = keytab_of(alloc, &database, &name)?;
     store.write(alloc, path, &octets)?;
     Ok(())
+}
+
+/// A keytab of a principal's current keys.
+fn keytab_of(alloc: Global, database: &Database, name: &Name) -> Result<Vec<u8>, Stop> {
+    let Some(row) = database.get(name) else {
+        return Err(Stop::Refused(ChangeFault::Absent.name()));
+    };
+    let entries = entries_of(alloc, database.realm(), name, row)?;
+    Ok(Keytab::new(alloc, &entries)?.write(alloc)?)
 }
 
 /// The current keys of a row, as entries of a keytab.

@@ -10,6 +10,8 @@ use enctypes::{Etype, Key};
 use krb_der::KTime;
 use krb_elements::{KerberosString, Octets, Seq};
 use krb_fields::{Flags, Name};
+use std::alloc::Global;
+use std::process::Abort;
 use std::test::Fail;
 
 // realm A.B, name h, type 1, version 1, type 17
@@ -182,14 +184,17 @@ fn tells_where_a_keytab_ends(rt: HostRuntime) {
     );
 }
 
+/// What is written of a cache that is read.
+fn written_again(rt: &HostRuntime, octets: &[u8]) -> Result<Vec<u8>, FileFault> {
+    let cache = Cache::read(rt.alloc(), octets)?;
+    Ok(cache.write(rt.alloc())?)
+}
+
 #[test]
 fn reads_and_writes_caches(rt: HostRuntime) -> Result<(), Fail> {
-    let cache = Cache::read(rt.alloc(), &CACHE)?;
-    let written = cache.write(rt.alloc())?;
-    assert_eq!(rt; written.as_slice(), CACHE.as_slice());
-    let stock = Cache::read(rt.alloc(), &STOCK_CACHE)?;
-    let written = stock.write(rt.alloc())?;
-    assert_eq!(rt; written.as_slice(), STOCK_CACHE.as_slice());
+    for octets in [CACHE.as_slice(), STOCK_CACHE.as_slice()] {
+        assert_eq!(rt; written_again(&rt, octets)?.as_slice(), octets);
+    }
     Ok(())
 }
 
@@ -206,18 +211,22 @@ fn tells_where_a_cache_ends(rt: HostRuntime) {
 
 /// A credential of `u` for `h`, with this end.
 #[tactic(auto, unfolding(cred_files::specs::Credential::credential, cred_files::specs::Credential::session_key))]
-fn credential(rt: &HostRuntime, end: i64) -> Result<Credential, Fail>
+fn credential(alloc: Global, end: i64) -> Result<Credential, Fail>
     ensures { IfOk result (λ c. FitsButForTimes c) }
 {
     let (Some(start), Some(end)) = (KTime::new(1_704_067_200), KTime::new(end)) else {
         return Err(Fail::new("a time"));
     };
+    let octets = Octets::from_slice(alloc, &[7; 16])?;
+    let ticket = Octets::from_slice(alloc, &[0x61, 0x00])?;
+    let client = principal(alloc, b"u")?;
+    let server = principal(alloc, b"h")?;
     Ok(Credential {
-        client: principal(rt, b"u")?,
-        server: principal(rt, b"h")?,
+        client,
+        server,
         key: SessionKey {
             key_type: 17,
-            octets: Octets::from_slice(rt.alloc(), &[7; 16])?,
+            octets,
         },
         times: Times {
             auth_time: start,
@@ -226,41 +235,81 @@ fn credential(rt: &HostRuntime, end: i64) -> Result<Credential, Fail>
             renew_till: start,
         },
         flags: Flags::from_bits(0x40e0_0000),
-        addresses: Seq::new(rt.alloc()),
-        authorization: Seq::new(rt.alloc()),
-        ticket: Octets::from_slice(rt.alloc(), &[0x61, 0x00])?,
-        second_ticket: Octets::from_slice(rt.alloc(), &[])?,
+        addresses: Seq::new(alloc),
+        authorization: Seq::new(alloc),
+        ticket,
+        second_ticket: Octets::new(Vec::new(alloc)),
     })
 }
 
 #[tactic(auto, unfolding(cred_files::specs::Principal::principal))]
-fn principal(rt: &HostRuntime, name: &[u8]) -> Result<Principal, Fail>
+fn principal(alloc: Global, name: &[u8]) -> Result<Principal, Fail>
     requires { length name.now < 2 ^ 32 }
     ensures { IfOk result (λ p. formats.principal.form.Fits p) }
 {
     Ok(Principal {
-        realm: KerberosString::from_slice(rt.alloc(), b"A.B")?,
-        name: Name::new(rt.alloc(), 1, &[name])?,
+        realm: KerberosString::from_slice(alloc, b"A.B")?,
+        name: Name::new(alloc, 1, &[name])?,
     })
 }
 
-#[test]
+/// An empty cache of `u`.
 #[tactic(auto, unfolding(cred_files::specs::Principal::principal))]
-fn puts_and_finds_credentials(rt: HostRuntime) -> Result<(), Fail> {
-    let u = Name::new(rt.alloc(), 1, &[b"u"])?;
-    let mut cache = Cache::new(rt.alloc(), b"A.B", &u)?;
+fn cache(alloc: Global) -> Result<Cache, Fail> {
+    let u = Name::new(alloc, 1, &[b"u"])?;
+    Ok(Cache::new(alloc, b"A.B", &u)?)
+}
+
+#[test]
+fn writes_an_empty_cache(rt: HostRuntime) -> Result<(), Fail> {
+    let cache = cache(rt.alloc())?;
     assert_eq!(rt; cache.write(rt.alloc())?.as_slice(), CACHE.as_slice());
-    let ends = [
-        (1_704_103_200, None),
-        (4_294_967_296, Some(FileFault::TooLate)),
-        (1_704_103_201, None),
-    ];
-    for (end, wanted) in ends {
-        assert_eq!(rt; cache.put(rt.alloc(), &credential(&rt, end)?).err(), wanted);
-    }
-    let h = Name::new(rt.alloc(), 2, &[b"h"])?;
-    let found = cache.find(&h).ok();
-    assert!(rt; found.is_some_and(|c| c.times.end_time.seconds() == 1_704_103_201));
-    assert_eq!(rt; cache.find(&u).err(), Some(FileFault::Absent));
     Ok(())
+}
+
+/// Puts a credential with this end.
+fn expect_put(
+    rt: &impl Abort,
+    alloc: Global,
+    cache: &mut Cache,
+    end: i64,
+    wanted: Option<FileFault>,
+) -> Result<(), Fail> {
+    let credential = credential(alloc, end)?;
+    assert_eq!(rt; cache.put(alloc, &credential).err(), wanted);
+    Ok(())
+}
+
+/// Finds the credential for a service, by its end.
+fn expect_end(
+    rt: &impl Abort,
+    alloc: Global,
+    cache: &Cache,
+    service: &[u8],
+    wanted: Result<i64, FileFault>,
+) -> Result<(), Fail> {
+    let service = Name::new(alloc, 2, &[service])?;
+    let found = match cache.find(&service) {
+        Ok(found) => Ok(found.times.end_time.seconds()),
+        Err(fault) => Err(fault),
+    };
+    assert_eq!(rt; found, wanted);
+    Ok(())
+}
+
+#[test]
+fn puts_and_finds_credentials(rt: HostRuntime) -> Result<(), Fail> {
+    let alloc = rt.alloc();
+    let mut cache = cache(alloc)?;
+    expect_put(&rt, alloc, &mut cache, 1_704_103_200, None)?;
+    expect_put(
+        &rt,
+        alloc,
+        &mut cache,
+        4_294_967_296,
+        Some(FileFault::TooLate),
+    )?;
+    expect_put(&rt, alloc, &mut cache, 1_704_103_201, None)?;
+    expect_end(&rt, alloc, &cache, b"h", Ok(1_704_103_201))?;
+    expect_end(&rt, alloc, &cache, b"u", Err(FileFault::Absent))
 }
