@@ -25,59 +25,61 @@ const AND_VERSION_2: &str =
 #[test]
 fn a_text_is_read_and_written_in_version_2(rt: HostRuntime) -> Result<(), Fail> {
     for text in [VERSION_1, VERSION_2] {
-        let database = read(rt.alloc(), text)?;
-        assert!(rt; database.len() == 1);
-        assert!(rt; is_written_as(rt.alloc(), &database, VERSION_2)?);
-        let copy = database.copy(rt.alloc())?;
-        assert!(rt; is_written_as(rt.alloc(), &copy, VERSION_2)?);
+        let database = Database::read(rt.alloc(), text)?;
+        assert!(rt; is_that_of_version_2(rt.alloc(), &database) == Ok(true));
+        assert!(rt; is_copied(rt.alloc(), &database) == Ok(true));
     }
     Ok(())
 }
 
-fn read(alloc: Global, text: &str) -> Result<Database, Fail> {
-    Ok(Database::read(alloc, text)?)
+/// Whether the database has one row, and is written as `VERSION_2`.
+fn is_that_of_version_2(alloc: Global, database: &Database) -> Result<bool, AllocError> {
+    Ok(database.len() == 1 && database.write(alloc)?.as_str() == VERSION_2)
 }
 
-fn is_written_as(alloc: Global, database: &Database, text: &str) -> Result<bool, AllocError> {
-    Ok(database.write(alloc)?.as_str() == text)
+fn is_copied(alloc: Global, database: &Database) -> Result<bool, AllocError> {
+    is_that_of_version_2(alloc, &database.copy(alloc)?)
 }
 
 fn is_refused(alloc: Global, text: &str, fault: ReadFault) -> bool {
     Database::read(alloc, text).is_err_and(|found| found == fault)
 }
 
+/// What stands in the place of what, and the fault that this makes.
+const FAULTS: &[(&str, &str, ReadFault)] = &[
+    ("\"version\":2}", "\"version\":3}", ReadFault::BadVersion),
+    ("\"version\":2}", "\"version\":2.0}", ReadFault::BadVersion),
+    (",\"version\":2}", "}", ReadFault::BadVersion),
+    ("\"version\":2}", "\"version\":1}", ReadFault::BadRow),
+    ("krbtgt/A.B", "krbtgt/A.C", ReadFault::NoTicketGranter),
+    ("krbtgt/A.B", "krbtgt/", ReadFault::BadRow),
+    ("\"A.B\"", "\"A/B\"", ReadFault::BadRow),
+    ("null", "253402300800", ReadFault::BadRow),
+    ("4294967295", "4294967296", ReadFault::BadRow),
+    ("\"version\":1", "\"version\":0", ReadFault::BadRow),
+    ("\"etype\":17", "\"etype\":18", ReadFault::BadRow),
+    ("0f\"", "0g\"", ReadFault::BadRow),
+    ("true,", "true,\"a\":1,", ReadFault::BadRow),
+    ("\"preauth\":true,", "", ReadFault::BadRow),
+    ("\"disabled\":false", "\"disabled\":0", ReadFault::BadRow),
+    ("\"realm\":\"A.B\",", "", ReadFault::BadRow),
+    ("\"realm\":\"A.B\"", "\"realm\":1", ReadFault::BadRow),
+    (KEYS, "[]", ReadFault::BadRow),
+    (VERSIONS, "[]", ReadFault::BadRow),
+    ("1}],", AND_VERSION_1, ReadFault::BadRow),
+    ("1}],", AND_VERSION_2, ReadFault::BadRow),
+    (
+        "\"disabled\":false",
+        "\"disabled\":false,\"disabled\":0",
+        ReadFault::BadRow,
+    ),
+    ("{\"principals\"", "[{\"principals\"", ReadFault::NotJson),
+];
+
 #[test]
 fn a_text_is_refused_by_its_first_fault(rt: HostRuntime) -> Result<(), AllocError> {
     let alloc = rt.alloc();
-    for (old, new, fault) in [
-        ("\"version\":2}", "\"version\":3}", ReadFault::BadVersion),
-        ("\"version\":2}", "\"version\":2.0}", ReadFault::BadVersion),
-        (",\"version\":2}", "}", ReadFault::BadVersion),
-        ("\"version\":2}", "\"version\":1}", ReadFault::BadRow),
-        ("krbtgt/A.B", "krbtgt/A.C", ReadFault::NoTicketGranter),
-        ("krbtgt/A.B", "krbtgt/", ReadFault::BadRow),
-        ("\"A.B\"", "\"A/B\"", ReadFault::BadRow),
-        ("null", "253402300800", ReadFault::BadRow),
-        ("4294967295", "4294967296", ReadFault::BadRow),
-        ("\"version\":1", "\"version\":0", ReadFault::BadRow),
-        ("\"etype\":17", "\"etype\":18", ReadFault::BadRow),
-        ("0f\"", "0g\"", ReadFault::BadRow),
-        ("true,", "true,\"a\":1,", ReadFault::BadRow),
-        ("\"preauth\":true,", "", ReadFault::BadRow),
-        ("\"disabled\":false", "\"disabled\":0", ReadFault::BadRow),
-        ("\"realm\":\"A.B\",", "", ReadFault::BadRow),
-        ("\"realm\":\"A.B\"", "\"realm\":1", ReadFault::BadRow),
-        (KEYS, "[]", ReadFault::BadRow),
-        (VERSIONS, "[]", ReadFault::BadRow),
-        ("1}],", AND_VERSION_1, ReadFault::BadRow),
-        ("1}],", AND_VERSION_2, ReadFault::BadRow),
-        (
-            "\"disabled\":false",
-            "\"disabled\":false,\"disabled\":0",
-            ReadFault::BadRow,
-        ),
-        ("{\"principals\"", "[{\"principals\"", ReadFault::NotJson),
-    ] {
+    for &(old, new, fault) in FAULTS {
         let text = VERSION_2.replace(alloc, old, new)?;
         assert!(rt; is_refused(alloc, text.as_str(), fault), "{old} {new}");
     }
@@ -103,8 +105,8 @@ fn the_last_of_two_members_counts(rt: HostRuntime) -> Result<(), Fail> {
         "\"disabled\":false",
         "\"disabled\":0,\"disabled\":false",
     )?;
-    let database = read(rt.alloc(), text.as_str())?;
-    assert!(rt; is_written_as(rt.alloc(), &database, VERSION_2)?);
+    let database = Database::read(rt.alloc(), text.as_str())?;
+    assert!(rt; is_that_of_version_2(rt.alloc(), &database) == Ok(true));
     Ok(())
 }
 
@@ -121,10 +123,12 @@ fn with_realm(alloc: Global, quote: &str, fill: char, count: usize) -> Result<St
 
 #[test]
 fn deep_and_long_texts_are_refused(rt: HostRuntime) -> Result<(), AllocError> {
-    let alloc = rt.alloc();
-    let deep = with_realm(alloc, "", '[', 10_000)?;
-    assert!(rt; is_refused(alloc, deep.as_str(), ReadFault::NotJson));
-    let long = with_realm(alloc, "\"", 'x', 1_000_000)?;
-    assert!(rt; is_refused(alloc, long.as_str(), ReadFault::BadRow));
+    for (quote, fill, count, fault) in [
+        ("", '[', 10_000, ReadFault::NotJson),
+        ("\"", 'x', 1_000_000, ReadFault::BadRow),
+    ] {
+        let text = with_realm(rt.alloc(), quote, fill, count)?;
+        assert!(rt; is_refused(rt.alloc(), text.as_str(), fault), "{count}");
+    }
     Ok(())
 }

@@ -1,12 +1,14 @@
 //! Names, keys and databases that several modules take. They have no contracts, so that tests over them are short to prove.
 use enctypes::{Etype, Key};
 use krb_fields::Name;
-use principal_rows::{KeyList, Row};
+use principal_rows::KeyList;
 use principals::{Change, ChangeFault, Database, FirstFault};
 use std::alloc::{AllocError, Global};
-use std::test::Fail;
 
-pub const LONG: [u8; 256] = [b'x'; 256];
+/// As many octets as a realm, and a component of a name, has at most.
+pub const LONGEST: &[u8] = &[b'x'; 255];
+
+pub const TOO_LONG: &[u8] = &[b'x'; 256];
 
 pub fn keys(alloc: Global) -> Result<KeyList, AllocError> {
     let key = Key::from_random(Etype::Aes256CtsHmacSha1_96, &[7; 32]);
@@ -15,13 +17,6 @@ pub fn keys(alloc: Global) -> Result<KeyList, AllocError> {
 
 pub fn name(alloc: Global, components: &[&[u8]]) -> Result<Name, AllocError> {
     Name::new(alloc, 1, components)
-}
-
-pub fn adding(alloc: Global, components: &[&[u8]]) -> Result<Change, AllocError> {
-    Ok(Change::Add {
-        name: name(alloc, components)?,
-        keys: keys(alloc)?,
-    })
 }
 
 /// A first database of this realm.
@@ -34,27 +29,19 @@ pub fn database(alloc: Global) -> Result<Database, FirstFault> {
     first(alloc, b"A.B")
 }
 
-pub fn apply(alloc: Global, database: &mut Database, change: &Change) -> Result<(), ChangeFault> {
-    database.apply(alloc, change)
-}
-
-/// Adds a principal of one component.
-pub fn add(alloc: Global, database: &mut Database, component: &[u8]) -> Result<(), ChangeFault> {
-    apply(alloc, database, &adding(alloc, &[component])?)
+/// Adds a principal with a row of these keys.
+pub fn add(
+    alloc: Global,
+    database: &mut Database,
+    components: &[&[u8]],
+) -> Result<(), ChangeFault> {
+    let name = name(alloc, components)?;
+    let keys = keys(alloc)?;
+    database.apply(alloc, &Change::Add { name, keys })
 }
 
 pub fn has(alloc: Global, database: &Database, components: &[&[u8]]) -> Result<bool, AllocError> {
     Ok(database.get(&name(alloc, components)?).is_some())
-}
-
-/// The row of a principal of one component.
-pub fn row_of<'a>(
-    alloc: Global,
-    database: &'a Database,
-    component: &[u8],
-) -> Result<&'a Row, Fail> {
-    let name = name(alloc, &[component])?;
-    Ok(database.get(&name).ok_or("a row")?)
 }
 
 pub fn is(name: &Name, components: &[&[u8]]) -> bool {

@@ -22,28 +22,33 @@ fn name(alloc: Global, name_type: i32, component: &[u8]) -> Result<Name, AllocEr
 }
 
 #[test]
-fn a_key_list_holds_each_type_once(rt: HostRuntime) -> Result<(), KeyListFault> {
+fn a_key_list_holds_each_type_once(rt: HostRuntime) {
     let first = key(Etype::Aes256CtsHmacSha1_96);
     let second = key(Etype::Aes256CtsHmacSha384_192);
     let third = key(Etype::Aes128CtsHmacSha1_96);
-    let alloc = rt.alloc();
-    assert!(rt; KeyList::new(alloc, &[]).is_err_and(|fault| fault == KeyListFault::Empty));
-    assert!(rt;
-        KeyList::new(alloc, &[first, first]).is_err_and(|fault| fault == KeyListFault::Doubled)
-    );
-    assert!(rt;
-        KeyList::new(alloc, &[third, first, second, first]).is_err_and(|fault| fault
-            == KeyListFault::Doubled)
-    );
+    let doubled = Some(KeyListFault::Doubled);
+    assert!(rt; fault_of(rt.alloc(), &[]) == Some(KeyListFault::Empty));
+    assert!(rt; fault_of(rt.alloc(), &[first, first]) == doubled);
+    assert!(rt; fault_of(rt.alloc(), &[third, first, second, first]) == doubled);
+}
 
-    let keys = KeyList::new(alloc, &[first, second])?.copy(alloc)?;
+fn fault_of(alloc: Global, keys: &[Key]) -> Option<KeyListFault> {
+    KeyList::new(alloc, keys).err()
+}
+
+#[test]
+fn a_key_list_finds_keys_by_their_types(rt: HostRuntime) -> Result<(), KeyListFault> {
+    let first = key(Etype::Aes256CtsHmacSha1_96);
+    let second = key(Etype::Aes256CtsHmacSha384_192);
+    let keys = KeyList::new(rt.alloc(), &[first, second])?.copy(rt.alloc())?;
     assert!(rt; keys.keys().len() == 2);
-    assert!(rt;
-        keys.find(Etype::Aes256CtsHmacSha384_192)
-            .is_some_and(|found| found.bytes() == second.bytes())
-    );
-    assert!(rt; keys.find(Etype::Aes128CtsHmacSha1_96).is_none());
+    assert!(rt; bytes_of(&keys, Etype::Aes256CtsHmacSha384_192) == Some(second.bytes()));
+    assert!(rt; bytes_of(&keys, Etype::Aes128CtsHmacSha1_96).is_none());
     Ok(())
+}
+
+fn bytes_of(keys: &KeyList, etype: Etype) -> Option<&[u8]> {
+    Some(keys.find(etype)?.bytes())
 }
 
 #[test]
@@ -89,32 +94,67 @@ impl<'a> NameKey for Borrowed<'a> {
     }
 }
 
+/// The letters, each with the value that was put last.
+fn letters(alloc: Global) -> Result<NameMap<i32>, AllocError> {
+    let mut map = NameMap::new(alloc);
+    for (name_type, component, value) in [(1, b"u", 1), (1, b"b", 2), (1, b"h", 3), (2, b"b", 4)] {
+        map.put(name(alloc, name_type, component)?, value)?;
+    }
+    Ok(map)
+}
+
+fn get(
+    alloc: Global,
+    map: &NameMap<i32>,
+    name_type: i32,
+    component: &[u8],
+) -> Result<Option<i32>, AllocError> {
+    Ok(map.get(&name(alloc, name_type, component)?).copied())
+}
+
 #[test]
 fn a_map_is_searched_by_components(rt: HostRuntime) -> Result<(), AllocError> {
-    let alloc = rt.alloc();
-    let mut map = NameMap::new(alloc);
-    for (component, value) in [(b"u", 1), (b"b", 2), (b"h", 3)] {
-        map.put(name(alloc, 1, component)?, value)?;
-    }
-    map.put(name(alloc, 2, b"b")?, 4)?;
+    let map = letters(rt.alloc())?;
     assert!(rt; map.len() == 3);
-    assert!(rt; map.get(&name(alloc, 0, b"b")?) == Some(&4));
-    assert!(rt; map.get(&name(alloc, 1, b"uu")?).is_none());
+    assert!(rt; get(rt.alloc(), &map, 0, b"b") == Ok(Some(4)));
+    assert!(rt; get(rt.alloc(), &map, 1, b"uu") == Ok(None));
+    Ok(())
+}
 
-    let held = name(alloc, 1, b"h")?;
+/// The values at the first four places.
+fn values(map: &NameMap<i32>) -> [Option<i32>; 4] {
+    [
+        value_at(map, 0),
+        value_at(map, 1),
+        value_at(map, 2),
+        value_at(map, 3),
+    ]
+}
+
+fn value_at(map: &NameMap<i32>, place: usize) -> Option<i32> {
+    let (_, value) = map.at(place)?;
+    Some(*value)
+}
+
+#[test]
+fn a_borrowed_name_finds_a_value_and_exchanges_it(rt: HostRuntime) -> Result<(), AllocError> {
+    let held = name(rt.alloc(), 1, b"h")?;
     let borrowed = Borrowed {
         components: held.components.as_slice(),
     };
+    let mut map = letters(rt.alloc())?;
     assert!(rt; map.get(&borrowed) == Some(&3));
     let mut value = 5;
     assert!(rt; map.exchange(&borrowed, &mut value));
     assert!(rt; value == 3);
     assert!(rt; !map.exchange(&Borrowed { components: &[] }, &mut value));
+    assert!(rt; values(&map) == [Some(4), Some(5), Some(1), None]);
+    Ok(())
+}
 
-    for (place, value) in [(0, 4), (1, 5), (2, 1)] {
-        assert!(rt; map.at(place).is_some_and(|(_, held)| *held == value));
-    }
-    assert!(rt; map.at(3).is_none());
+#[test]
+fn a_map_is_cleared(rt: HostRuntime) -> Result<(), AllocError> {
+    let mut map = letters(rt.alloc())?;
     map.clear();
     assert!(rt; map.len() == 0 && map.at(0).is_none());
     Ok(())

@@ -1,10 +1,9 @@
 //! The times and flags of tickets (`ticket_times`).
-use krb_der::KTime;
+use krb_der::{DerFault, KTime};
 use krb_elements::read;
 use krb_fields::{Code, Flags, Moment};
 use krb_types::ReqBodyRef;
 use principal_rows::{Limits, Policy};
-use std::test::Fail;
 use ticket_times::{TicketTerms, Times, as_flags, as_times, tgs_flags, tgs_times};
 
 /// 2024-01-01 00:00:00.
@@ -54,31 +53,37 @@ fn body_from(options: u32) -> [u8; 68] {
     body
 }
 
-fn body_of(octets: &[u8]) -> Result<ReqBodyRef<'_>, Fail> {
-    Ok(read(octets)?)
+/// The time so many seconds after midnight.
+fn time(later: u32) -> KTime {
+    KTime::new(MIDNIGHT + i64::from(later)).unwrap()
 }
 
-fn time(seconds: i64) -> Result<KTime, Fail> {
-    Ok(KTime::new(seconds).ok_or("a time")?)
+/// The limits of a realm whose tickets live for 36,000 seconds.
+fn limits(renewable: u32) -> Limits {
+    Limits::new(64, 0, 0, 36_000, renewable).unwrap()
 }
 
 /// The times and flags by the AS exchange at midnight, with lives of 36,000 seconds.
-fn granted(octets: &[u8], renewable: u32) -> Result<Result<(Times, Flags), Code>, Fail> {
+fn granted(octets: &[u8], renewable: u32) -> Result<Result<(Times, Flags), Code>, DerFault> {
     let policy = Policy::default();
-    let limits = Limits::new(64, 0, 0, 36_000, renewable).ok_or("limits")?;
-    let at = Moment::new(MIDNIGHT, 0).ok_or("a moment")?;
-    let body = body_of(octets)?;
-    Ok(match as_times(at, &policy, &policy, &limits, &body) {
-        Ok(times) => Ok((times, as_flags(&body, &policy, &policy, false, &times))),
-        Err(code) => Err(code),
-    })
+    let at = Moment {
+        sec: MIDNIGHT,
+        usec: 0,
+    };
+    let body: ReqBodyRef<'_> = read(octets)?;
+    Ok(
+        match as_times(at, &policy, &policy, &limits(renewable), &body) {
+            Ok(times) => Ok((times, as_flags(&body, &policy, &policy, false, &times))),
+            Err(code) => Err(code),
+        },
+    )
 }
 
 #[test]
-fn a_ticket_lives_as_long_as_the_realm_allows(rt: HostRuntime) -> Result<(), Fail> {
+fn a_ticket_lives_as_long_as_the_realm_allows(rt: HostRuntime) -> Result<(), DerFault> {
     let times = Times {
-        start: time(MIDNIGHT)?,
-        end: time(MIDNIGHT + 36_000)?,
+        start: time(0),
+        end: time(36_000),
         renew_till: None,
     };
     let initial = Flags::from_bits(0x0040_0000);
@@ -88,11 +93,11 @@ fn a_ticket_lives_as_long_as_the_realm_allows(rt: HostRuntime) -> Result<(), Fai
 }
 
 #[test]
-fn a_ticket_that_ends_early_is_renewable(rt: HostRuntime) -> Result<(), Fail> {
+fn a_ticket_that_ends_early_is_renewable(rt: HostRuntime) -> Result<(), DerFault> {
     let times = Times {
-        start: time(MIDNIGHT)?,
-        end: time(MIDNIGHT + 36_000)?,
-        renew_till: Some(time(MIDNIGHT + 86_400)?),
+        start: time(0),
+        end: time(36_000),
+        renew_till: Some(time(86_400)),
     };
     let flags = Flags::from_bits(0x00c0_0000);
     assert!(rt; granted(&body(RENEWABLE_OK, NEXT_DAY), 604_800)? == Ok((times, flags)));
@@ -102,10 +107,10 @@ fn a_ticket_that_ends_early_is_renewable(rt: HostRuntime) -> Result<(), Fail> {
 #[test]
 fn a_later_start_is_for_postdated_tickets_and_an_early_end_for_none(
     rt: HostRuntime,
-) -> Result<(), Fail> {
+) -> Result<(), DerFault> {
     let times = Times {
-        start: time(MIDNIGHT + 3_600)?,
-        end: time(MIDNIGHT + 39_600)?,
+        start: time(3_600),
+        end: time(39_600),
         renew_till: None,
     };
     let flags = Flags::from_bits(0x0740_0000);
@@ -116,14 +121,14 @@ fn a_later_start_is_for_postdated_tickets_and_an_early_end_for_none(
 }
 
 /// A ticket of midnight that is renewable until the next day.
-fn renewable_ticket() -> Result<TicketTerms, Fail> {
-    Ok(TicketTerms {
+fn renewable_ticket() -> TicketTerms {
+    TicketTerms {
         flags: Flags::from_bits(0x00c0_0000),
-        authtime: time(MIDNIGHT)?,
-        starttime: Some(time(MIDNIGHT)?),
-        endtime: time(MIDNIGHT + 36_000)?,
-        renew_till: Some(time(MIDNIGHT + 86_400)?),
-    })
+        authtime: time(0),
+        starttime: Some(time(0)),
+        endtime: time(36_000),
+        renew_till: Some(time(86_400)),
+    }
 }
 
 /// The times and flags by the TGS exchange, so many seconds after midnight.
@@ -131,13 +136,15 @@ fn exchanged(
     octets: &[u8],
     ticket: &TicketTerms,
     later: u32,
-) -> Result<Result<(Times, Flags), Code>, Fail> {
+) -> Result<Result<(Times, Flags), Code>, DerFault> {
     let policy = Policy::default();
-    let limits = Limits::new(64, 0, 0, 36_000, 0).ok_or("limits")?;
-    let at = Moment::new(MIDNIGHT + i64::from(later), 0).ok_or("a moment")?;
-    let body = body_of(octets)?;
+    let at = Moment {
+        sec: MIDNIGHT + i64::from(later),
+        usec: 0,
+    };
+    let body: ReqBodyRef<'_> = read(octets)?;
     Ok(
-        match tgs_times(at, ticket, &policy, &policy, &limits, &body) {
+        match tgs_times(at, ticket, &policy, &policy, &limits(0), &body) {
             Ok(times) => Ok((times, tgs_flags(&body, ticket, &policy, &times))),
             Err(code) => Err(code),
         },
@@ -145,30 +152,30 @@ fn exchanged(
 }
 
 #[test]
-fn a_renewed_ticket_lives_as_long_again(rt: HostRuntime) -> Result<(), Fail> {
+fn a_renewed_ticket_lives_as_long_again(rt: HostRuntime) -> Result<(), DerFault> {
     let times = Times {
-        start: time(MIDNIGHT + 36_300)?,
-        end: time(MIDNIGHT + 72_300)?,
-        renew_till: Some(time(MIDNIGHT + 86_400)?),
+        start: time(36_300),
+        end: time(72_300),
+        renew_till: Some(time(86_400)),
     };
     let flags = Flags::from_bits(0x0080_0000);
-    let ticket = renewable_ticket()?;
+    let ticket = renewable_ticket();
     assert!(rt; exchanged(&body(RENEW, NO_BOUND), &ticket, 36_300)? == Ok((times, flags)));
     Ok(())
 }
 
 #[test]
-fn a_validated_ticket_keeps_its_times(rt: HostRuntime) -> Result<(), Fail> {
+fn a_validated_ticket_keeps_its_times(rt: HostRuntime) -> Result<(), DerFault> {
     let ticket = TicketTerms {
         flags: Flags::from_bits(0x0740_0000),
-        authtime: time(MIDNIGHT)?,
-        starttime: Some(time(MIDNIGHT + 3_600)?),
-        endtime: time(MIDNIGHT + 39_600)?,
+        authtime: time(0),
+        starttime: Some(time(3_600)),
+        endtime: time(39_600),
         renew_till: None,
     };
     let times = Times {
-        start: time(MIDNIGHT + 3_600)?,
-        end: time(MIDNIGHT + 39_600)?,
+        start: time(3_600),
+        end: time(39_600),
         renew_till: None,
     };
     let flags = Flags::from_bits(0x0600_0000);
@@ -177,11 +184,11 @@ fn a_validated_ticket_keeps_its_times(rt: HostRuntime) -> Result<(), Fail> {
 }
 
 #[test]
-fn a_new_ticket_ends_with_the_old_one(rt: HostRuntime) -> Result<(), Fail> {
-    let ticket = renewable_ticket()?;
+fn a_new_ticket_ends_with_the_old_one(rt: HostRuntime) -> Result<(), DerFault> {
+    let ticket = renewable_ticket();
     let times = Times {
-        start: time(MIDNIGHT + 35_000)?,
-        end: time(MIDNIGHT + 36_000)?,
+        start: time(35_000),
+        end: time(36_000),
         renew_till: None,
     };
     let no_flags = Flags::from_bits(0);

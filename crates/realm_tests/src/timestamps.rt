@@ -58,8 +58,8 @@ const NO_ENCRYPTED_DATA: &[u8] =
 /// PA-PAC-REQUEST alone.
 const NONE: &[u8] = b"30133011a10402020080a20904073005a0030101ff";
 
-/// The types 23, 20, 18, 20 and 17.
-const ETYPES: &[u8] = b"300f020117020114020112020114020111";
+/// The types 23, 20, 18, 20 and 17, as octets.
+const ETYPES: &[u8] = b"\x30\x0f\x02\x01\x17\x02\x01\x14\x02\x01\x12\x02\x01\x14\x02\x01\x11";
 
 /// PA-ETYPE-INFO2 of types 20 and 18 with the salt `A.Bu`, and an empty PA-ENC-TIMESTAMP.
 const METHOD_DATA: &[u8] =
@@ -68,10 +68,6 @@ const METHOD_DATA: &[u8] =
 
 /// 2024-01-01 00:00:00.
 const T: i64 = 1_704_067_200;
-
-fn octets(alloc: Global, digits: &[u8]) -> Result<Vec<u8>, Fail> {
-    Ok(hex::decode(alloc, digits)?)
-}
 
 /// A key of octets that count up from this one.
 fn key(etype: Etype, first: u8) -> Key {
@@ -88,17 +84,21 @@ fn keys(alloc: Global) -> Result<KeyList, Fail> {
     Ok(KeyList::new(alloc, &[first, second])?)
 }
 
-fn shown(alloc: Global, client: &Row, sec: i64, digits: &[u8]) -> Result<Outcome, Fail> {
-    let at = Moment::new(sec, 0).ok_or("a moment")?;
-    let octets = octets(alloc, digits)?;
-    let padata: SeqRef<'_, PaDataRef<'_>> = read(&octets)?;
-    Ok(check_timestamp(alloc, client, at, Some(&padata))?)
+fn client(alloc: Global) -> Result<Row, Fail> {
+    Ok(Row::first(alloc, keys(alloc)?)?)
+}
+
+/// What the padata of these digits show at this second.
+fn shown(alloc: Global, client: &Row, sec: i64, digits: &[u8]) -> Option<Outcome> {
+    let at = Moment::new(sec, 0)?;
+    let octets = hex::decode(alloc, digits).ok()?;
+    let padata: SeqRef<'_, PaDataRef<'_>> = read(&octets).ok()?;
+    check_timestamp(alloc, client, at, Some(&padata)).ok()
 }
 
 #[test]
 fn a_timestamp_is_good_within_300_seconds(rt: HostRuntime) -> Result<(), Fail> {
-    let alloc = rt.alloc();
-    let client = Row::first(alloc, keys(alloc)?)?;
+    let client = client(rt.alloc())?;
     for digits in [OF_TYPE_18, OF_TYPE_20] {
         for (sec, outcome) in [
             (T, Outcome::Good),
@@ -107,7 +107,11 @@ fn a_timestamp_is_good_within_300_seconds(rt: HostRuntime) -> Result<(), Fail> {
             (T - 301, Outcome::Skewed),
             (T + 301, Outcome::Skewed),
         ] {
-            assert_eq!(rt; shown(alloc, &client, sec, digits)?, outcome, "at {sec}");
+            assert_eq!(rt;
+                shown(rt.alloc(), &client, sec, digits),
+                Some(outcome),
+                "at {sec}"
+            );
         }
     }
     Ok(())
@@ -115,32 +119,34 @@ fn a_timestamp_is_good_within_300_seconds(rt: HostRuntime) -> Result<(), Fail> {
 
 #[test]
 fn the_first_timestamp_counts_under_the_key_of_its_type(rt: HostRuntime) -> Result<(), Fail> {
-    let alloc = rt.alloc();
-    let client = Row::first(alloc, keys(alloc)?)?;
-    for digits in [
-        OTHER_KEY,
-        OTHER_USAGE,
-        OTHER_TYPE,
-        NO_KEY,
-        NO_TIMESTAMP,
-        NO_ENCRYPTED_DATA,
+    let client = client(rt.alloc())?;
+    for (digits, outcome) in [
+        (OTHER_KEY, Outcome::Bad),
+        (OTHER_USAGE, Outcome::Bad),
+        (OTHER_TYPE, Outcome::Bad),
+        (NO_KEY, Outcome::Bad),
+        (NO_TIMESTAMP, Outcome::Bad),
+        (NO_ENCRYPTED_DATA, Outcome::Bad),
+        (NONE, Outcome::Absent),
     ] {
-        assert_eq!(rt; shown(alloc, &client, T, digits)?, Outcome::Bad);
+        assert_eq!(rt; shown(rt.alloc(), &client, T, digits), Some(outcome));
     }
-    assert_eq!(rt; shown(alloc, &client, T, NONE)?, Outcome::Absent);
     Ok(())
 }
 
 #[test]
 fn types_are_told_in_the_order_asked_for(rt: HostRuntime) -> Result<(), Fail> {
-    let alloc = rt.alloc();
-    let octets = octets(alloc, ETYPES)?;
-    let asked: SeqRef<'_, i32> = read(&octets)?;
-    let keys = keys(alloc)?;
-    assert_eq!(rt;
-        types_of(alloc, &keys, &asked)?.as_slice(),
-        [20, 18].as_slice()
-    );
+    let asked: SeqRef<'_, i32> = read(ETYPES)?;
+    let keys = keys(rt.alloc())?;
+    let told = types_of(rt.alloc(), &keys, &asked)?;
+    assert_eq!(rt; told.as_slice(), [20, 18].as_slice());
+    Ok(())
+}
+
+#[test]
+fn a_key_is_found_by_its_type(rt: HostRuntime) -> Result<(), Fail> {
+    let asked: SeqRef<'_, i32> = read(ETYPES)?;
+    let keys = keys(rt.alloc())?;
     assert_eq!(rt;
         first_key(&keys, &asked).map(|key| key.etype()),
         Some(Etype::Aes256CtsHmacSha384_192)
@@ -153,37 +159,48 @@ fn types_are_told_in_the_order_asked_for(rt: HostRuntime) -> Result<(), Fail> {
 #[test]
 fn method_data_tells_types_and_salt(rt: HostRuntime) -> Result<(), Fail> {
     let alloc = rt.alloc();
+    let octets = hex::decode(alloc, METHOD_DATA)?;
     let told = method_data(alloc, b"A.Bu", &[20, 18])?;
-    assert_eq!(rt; told.as_slice(), octets(alloc, METHOD_DATA)?.as_slice());
+    assert_eq!(rt; told.as_slice(), octets.as_slice());
     Ok(())
 }
 
+fn at(later: u8, usec: u16) -> Moment {
+    Moment {
+        sec: T + i64::from(later),
+        usec: u32::from(usec),
+    }
+}
+
+fn locking(lock_after: u32) -> Limits {
+    Limits::new(64, lock_after, 60, 36000, 0).unwrap()
+}
+
 #[test]
-fn a_client_is_locked_until_lock_seconds_are_over(rt: HostRuntime) -> Result<(), Fail> {
-    let last = Moment::new(T, 999_999).ok_or("a moment")?;
-    for (count, lock_after, sec, locked) in [
-        (2, 2, T, true),
-        (2, 2, T + 59, true),
-        (2, 2, T + 60, false),
-        (1, 2, T, false),
-        (3, 2, T, true),
-        (3, 0, T, false),
+fn a_client_is_locked_until_lock_seconds_are_over(rt: HostRuntime) {
+    let last = Moment {
+        sec: T,
+        usec: 999_999,
+    };
+    for (count, lock_after, later, locked) in [
+        (2, 2, 0, true),
+        (2, 2, 59, true),
+        (2, 2, 60, false),
+        (1, 2, 0, false),
+        (3, 2, 0, true),
+        (3, 0, 0, false),
     ] {
-        let limits = Limits::new(64, lock_after, 60, 36000, 0).ok_or("limits")?;
-        let at = Moment::new(sec, 0).ok_or("a moment")?;
         assert_eq!(rt;
-            is_locked(Failures { count, last }, &limits, at),
+            is_locked(Failures { count, last }, &locking(lock_after), at(later, 0)),
             locked,
-            "{count} at {sec}"
+            "{count} at {later}"
         );
     }
-    Ok(())
 }
 
 #[test]
-fn failures_are_counted_to_the_greatest_count(rt: HostRuntime) -> Result<(), Fail> {
-    let (last, at) = (Moment::new(T, 7), Moment::new(T + 1, 0));
-    let (last, at) = (last.ok_or("a moment")?, at.ok_or("a moment")?);
+fn failures_are_counted_to_the_greatest_count(rt: HostRuntime) {
+    let (last, at) = (at(0, 7), at(1, 0));
     for (count, next) in [(0, 1), (u32::MAX - 1, u32::MAX), (u32::MAX, u32::MAX)] {
         let failures = Failures { count, last };
         assert_eq!(rt;
@@ -195,5 +212,4 @@ fn failures_are_counted_to_the_greatest_count(rt: HostRuntime) -> Result<(), Fai
         );
         assert_eq!(rt; after_success(failures), Failures { count: 0, last });
     }
-    Ok(())
 }
