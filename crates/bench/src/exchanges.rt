@@ -179,8 +179,10 @@ fn answer(
     asked: Asked,
     request: &[u8],
 ) -> Result<usize, AllocError> {
-    let reply = kdc.handle(alloc, at, &[7; 64], ROOM, request)?;
-    Ok(reply.map_or(0, |octets| ticket_len(&octets, asked.ticket_tag())))
+    Ok(match kdc.handle(alloc, at, &[7; 64], ROOM, request)? {
+        Some(reply) => ticket_len(&reply, asked.ticket_tag()),
+        None => 0,
+    })
 }
 
 /// The length of a reply that begins with this tag, else 0.
