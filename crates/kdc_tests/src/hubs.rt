@@ -3,7 +3,7 @@ use crate::kdcs::{BASIC, CLIENT_UNKNOWN, kdc};
 use crate::service_tickets;
 use framing::frame;
 use kdc_core::Kdc;
-use kdc_hub::{Action, Did, Event, Hub, MemoryWire, Wire, serve};
+use kdc_hub::{Action, Did, Event, Hub, HubFault, MemoryWire, Wire, serve};
 use krb_elements::Octets;
 use krb_fields::Moment;
 use rand_chacha::ChaCha20Rng;
@@ -30,8 +30,40 @@ fn hub_of(alloc: Global, kdc: Kdc) -> TestHub {
     Hub::new(alloc, kdc, ChaCha20Rng::from_seed([0; 32]))
 }
 
-fn hub(alloc: Global) -> Result<TestHub, Fail> {
-    Ok(hub_of(alloc, kdc(alloc)?))
+/// What a test does with a hub, and whether what it saw is right. A hub is let go in `run` alone: proofs about it end take
+/// long for each place.
+#[derive(Clone, Copy, Debug)]
+enum Scenario {
+    Alternating,
+    CutAnywhere,
+    WantOfMemory,
+    FaultyLength,
+    EndedConnection,
+    FullTable,
+    OwnReplies,
+    /// A call of the wire fails, after so many others.
+    FailedCall(u64),
+    /// No call fails.
+    NoFailedCall,
+}
+
+fn run(alloc: Global, scenario: Scenario) -> Result<bool, Fail> {
+    let mut hub = hub_of(alloc, kdc(alloc)?);
+    play(alloc, &mut hub, scenario)
+}
+
+fn play(alloc: Global, hub: &mut TestHub, scenario: Scenario) -> Result<bool, Fail> {
+    match scenario {
+        Scenario::Alternating => octets_alternate(alloc, hub),
+        Scenario::CutAnywhere => requests_are_cut(alloc, hub),
+        Scenario::WantOfMemory => a_step_is_refused_memory(alloc, hub),
+        Scenario::FaultyLength => a_length_is_at_fault(alloc, hub),
+        Scenario::EndedConnection => a_connection_ends(alloc, hub),
+        Scenario::FullTable => a_table_is_full(alloc, hub),
+        Scenario::OwnReplies => each_gets_its_own(alloc, hub),
+        Scenario::FailedCall(calls) => a_call_fails(alloc, hub, calls),
+        Scenario::NoFailedCall => no_call_fails(alloc, hub),
+    }
 }
 
 /// The first second of 2024.
@@ -107,23 +139,41 @@ fn brings(
     }
 }
 
-#[test]
-fn connections_whose_octets_alternate_get_their_own_replies(rt: HostRuntime) -> Result<(), Fail> {
-    let alloc = rt.alloc();
-    let mut hub = hub(alloc)?;
-    let first = framed(alloc, BASIC)?;
-    let second = framed(alloc, OTHER_REQUEST)?;
-    for conn in 1..3u64 {
-        assert!(rt; step(alloc, &mut hub, Event::Opened { conn })?.is_empty());
-    }
-    for (place, octet) in first.iter().enumerate() {
-        let other = *second.get(place).ok_or("an octet")?;
+fn is_opened(alloc: Global, hub: &mut TestHub, conn: u64) -> Result<bool, Fail> {
+    Ok(step(alloc, hub, Event::Opened { conn })?.is_empty())
+}
+
+/// Whether each octet of both requests brings nothing, but the last one of each its reply.
+fn bring_in_turn(
+    alloc: Global,
+    hub: &mut TestHub,
+    first: &[u8],
+    second: &[u8],
+) -> Result<bool, Fail> {
+    for (place, (octet, other)) in first.iter().zip(second).enumerate() {
         let is_last = place == 110;
         let reply = is_last.then_some(CLIENT_UNKNOWN);
         let other_reply = is_last.then_some(OTHER_CLIENT_UNKNOWN);
-        assert!(rt; brings(alloc, &mut hub, 1, *octet, reply)?);
-        assert!(rt; brings(alloc, &mut hub, 2, other, other_reply)?);
+        if !brings(alloc, hub, 1, *octet, reply)? || !brings(alloc, hub, 2, *other, other_reply)? {
+            return Ok(false);
+        }
     }
+    Ok(first.len() == 111 && second.len() == 111)
+}
+
+fn octets_alternate(alloc: Global, hub: &mut TestHub) -> Result<bool, Fail> {
+    let first = framed(alloc, BASIC)?;
+    let second = framed(alloc, OTHER_REQUEST)?;
+    Ok(
+        is_opened(alloc, hub, 1)?
+            && is_opened(alloc, hub, 2)?
+            && bring_in_turn(alloc, hub, &first, &second)?,
+    )
+}
+
+#[test]
+fn connections_whose_octets_alternate_get_their_own_replies(rt: HostRuntime) -> Result<(), Fail> {
+    assert!(rt; run(rt.alloc(), Scenario::Alternating)?);
     Ok(())
 }
 
@@ -144,81 +194,135 @@ fn bring_two(
     Ok(actions)
 }
 
-#[test]
-fn requests_that_are_cut_anywhere_get_the_same_replies(rt: HostRuntime) -> Result<(), Fail> {
-    let alloc = rt.alloc();
-    let mut hub = hub(alloc)?;
+/// Whether both replies come where the stream is cut at this place.
+fn is_cut_well(
+    alloc: Global,
+    hub: &mut TestHub,
+    stream: &[u8],
+    place: usize,
+) -> Result<bool, Fail> {
+    let (head, rest) = stream.split_at_checked(place).ok_or("a place")?;
+    let actions = bring_two(alloc, hub, 7, head, rest)?;
+    are_both_replies(alloc, &actions, 7)
+}
+
+fn requests_are_cut(alloc: Global, hub: &mut TestHub) -> Result<bool, Fail> {
     let stream = two_requests(alloc)?;
     for place in 0..=222usize {
-        let head = stream.get(..place).ok_or("a head")?;
-        let rest = stream.get(place..).ok_or("a rest")?;
-        let actions = bring_two(alloc, &mut hub, 7, head, rest)?;
-        assert!(rt; are_both_replies(alloc, &actions, 7)?);
+        if !is_cut_well(alloc, hub, &stream, place)? {
+            return Ok(false);
+        }
     }
+    Ok(stream.len() == 222)
+}
+
+#[test]
+fn requests_that_are_cut_anywhere_get_the_same_replies(rt: HostRuntime) -> Result<(), Fail> {
+    assert!(rt; run(rt.alloc(), Scenario::CutAnywhere)?);
     Ok(())
 }
 
-/// One allocation may be refused, by `rt try --test --fail-alloc N`. Where that is one of the step, the step has the replies
-/// before it, and ends its own connection.
-#[test]
-fn a_step_that_is_refused_memory_ends_its_connection_alone(rt: HostRuntime) -> Result<(), Fail> {
-    let alloc = rt.alloc();
-    let mut hub = hub(alloc)?;
-    step(alloc, &mut hub, Event::Opened { conn: 7 })?;
-    let piece = Octets::new(two_requests(alloc)?);
-    match hub.step(alloc, now()?, Event::Bytes { conn: 7, piece }) {
-        Ok(actions) => assert!(rt; are_both_replies(alloc, &actions, 7)?),
-        Err(fault) => {
-            assert_eq!(rt; fault.conn, Some(7));
-            assert!(rt; fault.done.len() < 2);
-            for action in &fault.done {
-                assert!(rt; is_write(alloc, action, 7, CLIENT_UNKNOWN)?);
-            }
-            assert!(rt; bring(alloc, &mut hub, 7, &framed(alloc, BASIC)?)?.is_empty());
+/// Whether a step that wanted memory has the replies before it and has ended connection 7, its own.
+fn is_ended(alloc: Global, hub: &mut TestHub, fault: &HubFault) -> Result<bool, Fail> {
+    for action in &fault.done {
+        if !is_write(alloc, action, 7, CLIENT_UNKNOWN)? {
+            return Ok(false);
         }
     }
+    let later = bring(alloc, hub, 7, &framed(alloc, BASIC)?)?;
+    Ok(fault.conn == Some(7) && fault.done.len() < 2 && later.is_empty())
+}
+
+/// Whether both requests get their replies in one step, or it wants memory.
+fn is_stepped(alloc: Global, hub: &mut TestHub) -> Result<bool, Fail> {
+    let piece = Octets::new(two_requests(alloc)?);
+    match hub.step(alloc, now()?, Event::Bytes { conn: 7, piece }) {
+        Ok(actions) => are_both_replies(alloc, &actions, 7),
+        Err(fault) => is_ended(alloc, hub, &fault),
+    }
+}
+
+fn a_datagram_is_answered(alloc: Global, hub: &mut TestHub) -> Result<bool, Fail> {
     let peer = peer(1001);
     let request = octets(alloc, BASIC)?;
-    let actions = step(alloc, &mut hub, Event::Datagram { peer, request })?;
-    assert!(rt; matches!(actions.as_slice(), [Action::SendTo { .. }]));
+    let actions = step(alloc, hub, Event::Datagram { peer, request })?;
+    Ok(matches!(actions.as_slice(), [Action::SendTo { .. }]))
+}
+
+fn a_step_is_refused_memory(alloc: Global, hub: &mut TestHub) -> Result<bool, Fail> {
+    Ok(is_opened(alloc, hub, 7)? && is_stepped(alloc, hub)? && a_datagram_is_answered(alloc, hub)?)
+}
+
+// One allocation may be refused, by `rt try --test --fail-alloc N`.
+#[test]
+fn a_step_that_is_refused_memory_ends_its_connection_alone(rt: HostRuntime) -> Result<(), Fail> {
+    assert!(rt; run(rt.alloc(), Scenario::WantOfMemory)?);
     Ok(())
+}
+
+fn is_refused(alloc: Global, hub: &mut TestHub) -> Result<bool, Fail> {
+    let actions = bring(alloc, hub, 7, &[0x80, 0, 0, 0])?;
+    Ok(match actions.as_slice() {
+        [refusal, Action::Close { conn: 7 }] => is_write(alloc, refusal, 7, TOO_LONG)?,
+        _ => false,
+    })
+}
+
+fn a_length_is_at_fault(alloc: Global, hub: &mut TestHub) -> Result<bool, Fail> {
+    Ok(
+        is_opened(alloc, hub, 7)?
+            && is_refused(alloc, hub)?
+            && bring(alloc, hub, 7, &[0])?.is_empty(),
+    )
 }
 
 #[test]
 fn a_length_at_fault_is_answered_and_ends_the_connection(rt: HostRuntime) -> Result<(), Fail> {
-    let alloc = rt.alloc();
-    let mut hub = hub(alloc)?;
-    step(alloc, &mut hub, Event::Opened { conn: 7 })?;
-    let actions = bring(alloc, &mut hub, 7, &[0x80, 0, 0, 0])?;
-    assert_eq!(rt; actions.len(), 2);
-    assert!(rt; is_write(alloc, &actions[0], 7, TOO_LONG)?);
-    assert!(rt; matches!(&actions[1], Action::Close { conn: 7 }));
-    assert!(rt; bring(alloc, &mut hub, 7, &[0])?.is_empty());
+    assert!(rt; run(rt.alloc(), Scenario::FaultyLength)?);
     Ok(())
+}
+
+fn a_connection_ends(alloc: Global, hub: &mut TestHub) -> Result<bool, Fail> {
+    Ok(
+        is_opened(alloc, hub, 7)?
+            && bring(alloc, hub, 7, &[0, 0])?.is_empty()
+            && step(alloc, hub, Event::Closed { conn: 7 })?.is_empty(),
+    )
 }
 
 #[test]
 fn the_end_of_a_connection_gives_no_action(rt: HostRuntime) -> Result<(), Fail> {
-    let alloc = rt.alloc();
-    let mut hub = hub(alloc)?;
-    step(alloc, &mut hub, Event::Opened { conn: 7 })?;
-    assert!(rt; bring(alloc, &mut hub, 7, &[0, 0])?.is_empty());
-    assert!(rt; step(alloc, &mut hub, Event::Closed { conn: 7 })?.is_empty());
+    assert!(rt; run(rt.alloc(), Scenario::EndedConnection)?);
     Ok(())
+}
+
+/// Whether connections 0 to 255 are opened, and 5 again.
+fn fill(alloc: Global, hub: &mut TestHub) -> Result<bool, Fail> {
+    for conn in 0..256u64 {
+        if !is_opened(alloc, hub, conn)? {
+            return Ok(false);
+        }
+    }
+    is_opened(alloc, hub, 5)
+}
+
+fn is_closed_at_once(alloc: Global, hub: &mut TestHub) -> Result<bool, Fail> {
+    let actions = step(alloc, hub, Event::Opened { conn: 256 })?;
+    Ok(matches!(actions.as_slice(), [Action::Close { conn: 256 }]))
+}
+
+fn a_table_is_full(alloc: Global, hub: &mut TestHub) -> Result<bool, Fail> {
+    Ok(
+        fill(alloc, hub)?
+            && is_closed_at_once(alloc, hub)?
+            && step(alloc, hub, Event::Closed { conn: 5 })?.is_empty()
+            && is_opened(alloc, hub, 256)?,
+    )
 }
 
 #[test]
 fn a_full_table_closes_what_comes_new(rt: HostRuntime) -> Result<(), Fail> {
-    let alloc = rt.alloc();
-    let mut hub = hub(alloc)?;
-    for conn in 0..256u64 {
-        assert!(rt; step(alloc, &mut hub, Event::Opened { conn })?.is_empty());
-    }
-    assert!(rt; step(alloc, &mut hub, Event::Opened { conn: 5 })?.is_empty());
-    let refused = step(alloc, &mut hub, Event::Opened { conn: 256 })?;
-    assert!(rt; matches!(refused.as_slice(), [Action::Close { conn: 256 }]));
-    step(alloc, &mut hub, Event::Closed { conn: 5 })?;
-    assert!(rt; step(alloc, &mut hub, Event::Opened { conn: 256 })?.is_empty());
+    assert!(rt; run(rt.alloc(), Scenario::FullTable)?);
     Ok(())
 }
 
@@ -282,31 +386,33 @@ fn replies(did: &[Did], port: u16, number: u64) -> u64 {
     replies
 }
 
+/// Whether each of the four got one reply, after 64 polls.
+fn are_served(did: &[Did]) -> bool {
+    did.len() == 68
+        && replies(did, 0, 1) == 1
+        && replies(did, 0, 2) == 1
+        && replies(did, 1001, 0) == 1
+        && replies(did, 1002, 0) == 1
+}
+
+fn each_gets_its_own(alloc: Global, hub: &mut TestHub) -> Result<bool, Fail> {
+    let mut wire = MemoryWire::new(alloc, events(alloc)?, None);
+    let served = serve(alloc, &mut wire, hub, 64);
+    let is_whole = served.events == 8 && served.faults == 0 && served.refused == 0;
+    Ok(is_whole && are_served(wire.did().ok_or("memory")?))
+}
+
 #[test]
 fn each_gets_its_own_reply(rt: HostRuntime) -> Result<(), Fail> {
-    let alloc = rt.alloc();
-    let mut hub = hub(alloc)?;
-    let mut wire = MemoryWire::new(alloc, events(alloc)?, None);
-    let served = serve(alloc, &mut wire, &mut hub, 64);
-    assert_eq!(rt; served.events, 8);
-    assert_eq!(rt; served.faults, 0);
-    assert_eq!(rt; served.refused, 0);
-    let did = wire.did().ok_or("memory")?;
-    // 64 polls and four replies.
-    assert_eq!(rt; did.len(), 68);
-    for number in 1..3u64 {
-        assert_eq!(rt; replies(did, 0, number), 1);
-    }
-    assert_eq!(rt; replies(did, 1001, 0), 1);
-    assert_eq!(rt; replies(did, 1002, 0), 1);
+    assert!(rt; run(rt.alloc(), Scenario::OwnReplies)?);
     Ok(())
 }
 
-/// How many of the four get their reply, and how many faults are counted, where a call fails after so many.
-fn serve_with_fault(alloc: Global, calls: u64) -> Result<(u64, u64), Fail> {
-    let mut hub = hub(alloc)?;
+/// How many of the four get their reply, and how many faults are counted, in a run of 16 rounds, which polls 16 times and
+/// acts four times.
+fn serve_with_fault(alloc: Global, hub: &mut TestHub, calls: u64) -> Result<(u64, u64), Fail> {
     let mut wire = MemoryWire::new(alloc, events(alloc)?, Some(calls));
-    let served = serve(alloc, &mut wire, &mut hub, 16);
+    let served = serve(alloc, &mut wire, hub, 16);
     if served.faults > wire.faults() {
         Err("more faults than the wire counts")?;
     }
@@ -315,17 +421,24 @@ fn serve_with_fault(alloc: Global, calls: u64) -> Result<(u64, u64), Fail> {
     Ok((replies, served.faults))
 }
 
-/// A run of 16 rounds polls 16 times and acts four times.
+fn a_call_fails(alloc: Global, hub: &mut TestHub, calls: u64) -> Result<bool, Fail> {
+    let (replies, faults) = serve_with_fault(alloc, hub, calls)?;
+    Ok(replies >= 3 && faults == 1)
+}
+
+fn no_call_fails(alloc: Global, hub: &mut TestHub) -> Result<bool, Fail> {
+    Ok(serve_with_fault(alloc, hub, 20)? == (4, 0))
+}
+
 #[test]
 fn a_failed_call_costs_one_reply_at_most(rt: HostRuntime) -> Result<(), Fail> {
     for calls in 0..20u64 {
-        let (replies, faults) = serve_with_fault(rt.alloc(), calls)?;
-        assert_eq!(rt; faults, 1);
-        assert!(rt; replies >= 3);
+        assert!(rt;
+            run(rt.alloc(), Scenario::FailedCall(calls))?,
+            "after {calls} calls"
+        );
     }
-    let (replies, faults) = serve_with_fault(rt.alloc(), 20)?;
-    assert_eq!(rt; faults, 0);
-    assert_eq!(rt; replies, 4);
+    assert!(rt; run(rt.alloc(), Scenario::NoFailedCall)?);
     Ok(())
 }
 
@@ -346,15 +459,18 @@ fn written(
     }
 }
 
+/// Whether a stream gets the same TGS-REP on one connection and on another.
+fn is_repeated(alloc: Global, hub: &mut TestHub, stream: &[u8]) -> Result<bool, Fail> {
+    let first = written(alloc, hub, 1, stream)?.ok_or("a reply")?;
+    let second = written(alloc, hub, 2, stream)?.ok_or("a reply")?;
+    Ok(first.first() == Some(&0x6d) && first == second)
+}
+
 #[test]
 fn a_repeat_over_another_connection_gets_the_same_reply(rt: HostRuntime) -> Result<(), Fail> {
     let alloc = rt.alloc();
     let stream = framed(alloc, service_tickets::REQUEST)?;
     let mut hub = hub_of(alloc, service_tickets::kdc(alloc)?);
-    let first = written(alloc, &mut hub, 1, &stream)?.ok_or("a reply")?;
-    let second = written(alloc, &mut hub, 2, &stream)?.ok_or("a reply")?;
-    // A TGS-REP.
-    assert_eq!(rt; first.first(), Some(&0x6d));
-    assert_eq!(rt; first, second);
+    assert!(rt; is_repeated(alloc, &mut hub, &stream)?);
     Ok(())
 }

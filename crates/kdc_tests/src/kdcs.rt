@@ -5,7 +5,7 @@ use krb_elements::{KerberosString, Octets, Seq};
 use krb_fields::{Moment, Name};
 use principal_rows::{KeyList, Limits, Policy};
 use principals::{Change, ChangeFault, Database};
-use std::alloc::Global;
+use std::alloc::{AllocError, Global};
 use std::test::Fail;
 
 /// An AS-REQ of `u` in `A.B` for `krbtgt/A.B`, till zero, nonce 1, encryption type 18.
@@ -15,6 +15,10 @@ pub const BASIC: &[u8] =
 /// The basic request with its first length spelled in two octets.
 const LONG_FORM: &[u8] =
     b"6a81693067a103020105a20302010aa45b3059a00703050000000000a10e300ca003020101a10530031b0175a2051b03412e42a3183016a003020102a10f300d1b066b72627467741b03412e42a511180f31393730303130313030303030305aa703020101a8053003020112";
+
+/// The basic request with an octet behind it.
+const LONGER: &[u8] =
+    b"6a693067a103020105a20302010aa45b3059a00703050000000000a10e300ca003020101a10530031b0175a2051b03412e42a3183016a003020102a10f300d1b066b72627467741b03412e42a511180f31393730303130313030303030305aa703020101a805300302011200";
 
 /// KRB-ERROR of 2024-01-01 00:00:00 with code 6, realm `A.B` and service `krbtgt/A.B`.
 pub const CLIENT_UNKNOWN: &[u8] =
@@ -67,6 +71,7 @@ const PREAUTH_FAILED: &[u8] =
 
 const MIDNIGHT: i64 = 1_704_067_200;
 
+/// The octets that hexadecimal digits spell.
 pub fn octets(alloc: Global, digits: &[u8]) -> Result<Vec<u8>, Fail> {
     Ok(hex::decode(alloc, digits)?)
 }
@@ -74,6 +79,37 @@ pub fn octets(alloc: Global, digits: &[u8]) -> Result<Vec<u8>, Fail> {
 fn keys(alloc: Global) -> Result<KeyList, Fail> {
     let key = Key::new(Etype::Aes256CtsHmacSha1_96, &[0; 32]).ok_or("a key")?;
     Ok(KeyList::new(alloc, &[key])?)
+}
+
+pub fn name(alloc: Global, components: &[&[u8]]) -> Result<Name, Fail> {
+    let mut owned = Seq::new(alloc);
+    for component in components {
+        owned.push(KerberosString::from_slice(alloc, *component)?)?;
+    }
+    Ok(Name {
+        name_type: 1,
+        components: owned,
+    })
+}
+
+/// `u` comes to be.
+fn addition(alloc: Global) -> Result<Change, Fail> {
+    Ok(Change::Add {
+        name: name(alloc, &[b"u"])?,
+        keys: keys(alloc)?,
+    })
+}
+
+/// `u` needs no preauthentication.
+fn leniency(alloc: Global) -> Result<Change, Fail> {
+    let policy = Policy {
+        preauth: false,
+        ..Policy::default()
+    };
+    Ok(Change::SetPolicy {
+        name: name(alloc, &[b"u"])?,
+        policy,
+    })
 }
 
 /// A KDC of `A.B`, which has the ticket-granting service alone.
@@ -92,255 +128,319 @@ pub fn kdc_of(alloc: Global, key: Key) -> Result<Kdc, Fail> {
     Ok(Kdc::open(alloc, database, limits, Opening::First)?)
 }
 
-fn asked(alloc: Global, kdc: &mut Kdc, request: &[u8]) -> Result<Option<Vec<u8>>, Fail> {
-    let at = Moment::new(MIDNIGHT, 0).ok_or("a moment")?;
-    Ok(kdc.handle(alloc, at, &[0; 64], 1400, request)?)
+/// The KDC after a change.
+fn after(alloc: Global, mut kdc: Kdc, change: &Change) -> Result<Kdc, Fail> {
+    kdc.apply(alloc, change)?;
+    Ok(kdc)
 }
 
-pub fn name(alloc: Global, components: &[&[u8]]) -> Result<Name, Fail> {
-    let mut owned = Seq::new(alloc);
-    for component in components {
-        owned.push(KerberosString::from_slice(alloc, *component)?)?;
+/// The KDC with `u`.
+fn kdc_with_user(alloc: Global) -> Result<Kdc, Fail> {
+    let addition = addition(alloc)?;
+    after(alloc, kdc(alloc)?, &addition)
+}
+
+/// The KDC with `u`, which needs no preauthentication.
+fn kdc_with_lenient_user(alloc: Global) -> Result<Kdc, Fail> {
+    let leniency = leniency(alloc)?;
+    after(alloc, kdc_with_user(alloc)?, &leniency)
+}
+
+/// What a KDC is asked: when, with which random octets, with room for how many octets, and in which octets.
+#[derive(Clone, Copy)]
+pub struct Asked<'a> {
+    pub at: Moment,
+    pub words: [u8; 64],
+    pub room: u32,
+    pub request: &'a [u8],
+}
+
+impl<'a> Asked<'a> {
+    /// At midnight, with the random octets 0 to 63, and room for 1,400 octets.
+    pub fn at_midnight(request: &'a [u8]) -> Result<Asked<'a>, Fail> {
+        let mut words = [0; 64];
+        for (place, word) in (0..64).zip(&mut words) {
+            *word = place;
+        }
+        Ok(Asked {
+            at: Moment::new(MIDNIGHT, 0).ok_or("a moment")?,
+            words,
+            room: 1400,
+            request,
+        })
     }
-    Ok(Name {
-        name_type: 1,
-        components: owned,
+
+    pub fn reply(self, alloc: Global, kdc: &mut Kdc) -> Result<Option<Vec<u8>>, AllocError> {
+        kdc.handle(alloc, self.at, &self.words, self.room, self.request)
+    }
+
+    /// Whether the reply is this one.
+    pub fn gets(self, alloc: Global, kdc: &mut Kdc, reply: &[u8]) -> Result<bool, AllocError> {
+        Ok(match self.reply(alloc, kdc)? {
+            Some(found) => found.as_slice() == reply,
+            None => false,
+        })
+    }
+}
+
+/// Whether it gets this reply the second time. It passes whichever allocation of the first call is refused.
+pub fn gets_again(
+    alloc: Global,
+    mut kdc: Kdc,
+    asked: Asked<'_>,
+    reply: &[u8],
+) -> Result<bool, AllocError> {
+    let _ = asked.reply(alloc, &mut kdc);
+    asked.gets(alloc, &mut kdc, reply)
+}
+
+/// Whether a request gets this reply, or none; both are given in hexadecimal digits.
+fn is_answered(
+    alloc: Global,
+    kdc: &mut Kdc,
+    request: &[u8],
+    reply: Option<&[u8]>,
+) -> Result<bool, Fail> {
+    let request = octets(alloc, request)?;
+    let asked = Asked::at_midnight(&request)?;
+    Ok(match reply {
+        Some(digits) => asked.gets(alloc, kdc, &octets(alloc, digits)?)?,
+        None => asked.reply(alloc, kdc)?.is_none(),
     })
 }
 
-/// The basic request with one octet changed.
-fn changed(alloc: Global, place: usize, octet: u8) -> Result<Vec<u8>, Fail> {
-    let mut request = octets(alloc, BASIC)?;
-    let at = request.get_mut(place).ok_or("a place")?;
-    *at = octet;
-    Ok(request)
+/// The first of these requests that does not get the reply beside it.
+fn first_other(
+    alloc: Global,
+    mut kdc: Kdc,
+    exchanges: &[(&[u8], Option<&[u8]>)],
+) -> Result<Option<usize>, Fail> {
+    for (place, (request, reply)) in exchanges.iter().enumerate() {
+        if !is_answered(alloc, &mut kdc, request, *reply)? {
+            return Ok(Some(place));
+        }
+    }
+    Ok(None)
 }
 
 #[test]
 fn refuses_an_unknown_client(rt: HostRuntime) -> Result<(), Fail> {
     let alloc = rt.alloc();
-    let mut kdc = kdc(alloc)?;
-    let reply = asked(alloc, &mut kdc, &octets(alloc, BASIC)?)?.ok_or("a reply")?;
-    assert_eq!(rt; reply, octets(alloc, CLIENT_UNKNOWN)?);
+    let exchanges = [(BASIC, Some(CLIENT_UNKNOWN))];
+    assert_eq!(rt; first_other(alloc, kdc(alloc)?, &exchanges)?, None);
     Ok(())
-}
-
-fn add_user(alloc: Global, kdc: &mut Kdc) -> Result<(), Fail> {
-    let add = Change::Add {
-        name: name(alloc, &[b"u"])?,
-        keys: keys(alloc)?,
-    };
-    Ok(kdc.apply(alloc, &add)?)
 }
 
 #[test]
 fn refuses_where_no_client_or_no_service_is_named(rt: HostRuntime) -> Result<(), Fail> {
     let alloc = rt.alloc();
-    let mut kdc = kdc(alloc)?;
-    add_user(alloc, &mut kdc)?;
-    for (request, error) in [(NO_CLIENT, CLIENT_UNKNOWN), (NO_SERVICE, SERVICE_UNKNOWN)] {
-        let reply = asked(alloc, &mut kdc, &octets(alloc, request)?)?.ok_or("a reply")?;
-        assert_eq!(rt; reply, octets(alloc, error)?);
-    }
+    let exchanges = [
+        (NO_CLIENT, Some(CLIENT_UNKNOWN)),
+        (NO_SERVICE, Some(SERVICE_UNKNOWN)),
+    ];
+    assert_eq!(rt;
+        first_other(alloc, kdc_with_user(alloc)?, &exchanges)?,
+        None
+    );
     Ok(())
 }
 
 #[test]
 fn names_the_service_and_the_moment_as_they_are(rt: HostRuntime) -> Result<(), Fail> {
     let alloc = rt.alloc();
-    let mut kdc = kdc(alloc)?;
-    add_user(alloc, &mut kdc)?;
-    let at = Moment::new(MIDNIGHT, 999_999).ok_or("a moment")?;
     let request = octets(alloc, STRANGE_SERVICE)?;
-    let reply = kdc
-        .handle(alloc, at, &[0; 64], 1400, &request)?
-        .ok_or("a reply")?;
-    assert_eq!(rt; reply, octets(alloc, STRANGE_SERVICE_UNKNOWN)?);
+    let reply = octets(alloc, STRANGE_SERVICE_UNKNOWN)?;
+    let asked = Asked {
+        at: Moment::new(MIDNIGHT, 999_999).ok_or("a moment")?,
+        ..Asked::at_midnight(&request)?
+    };
+    let mut kdc = kdc_with_user(alloc)?;
+    assert!(rt; asked.gets(alloc, &mut kdc, &reply)?);
     Ok(())
+}
+
+/// The first of these octets' beginnings that gets a reply, by its length.
+fn first_answered(alloc: Global, mut kdc: Kdc, octets: &[u8]) -> Result<Option<usize>, Fail> {
+    for end in 0..octets.len() {
+        let asked = Asked::at_midnight(&octets[..end])?;
+        if asked.reply(alloc, &mut kdc)?.is_some() {
+            return Ok(Some(end));
+        }
+    }
+    Ok(None)
 }
 
 #[test]
 fn gives_no_reply_to_part_of_a_request(rt: HostRuntime) -> Result<(), Fail> {
     let alloc = rt.alloc();
-    let mut kdc = kdc(alloc)?;
     let basic = octets(alloc, BASIC)?;
-    for end in 0..basic.len() {
-        assert!(rt;
-            asked(alloc, &mut kdc, &basic[..end])?.is_none(),
-            "{end} octets"
-        );
-    }
+    assert_eq!(rt; first_answered(alloc, kdc(alloc)?, &basic)?, None);
     Ok(())
 }
 
 #[test]
 fn gives_no_reply_to_what_is_no_request(rt: HostRuntime) -> Result<(), Fail> {
     let alloc = rt.alloc();
-    let mut kdc = kdc(alloc)?;
-    let mut longer = octets(alloc, BASIC)?;
-    longer.push(0)?;
-    assert!(rt; asked(alloc, &mut kdc, &longer)?.is_none());
-    // The basic request with its first length in two octets, where one would do.
-    let long_form = octets(alloc, LONG_FORM)?;
-    assert!(rt; asked(alloc, &mut kdc, &long_form)?.is_none());
+    let exchanges = [(LONGER, None), (LONG_FORM, None)];
+    assert_eq!(rt; first_other(alloc, kdc(alloc)?, &exchanges)?, None);
     Ok(())
+}
+
+/// The basic request with one octet changed.
+fn changed(alloc: Global, place: usize, octet: u8) -> Result<Vec<u8>, Fail> {
+    let mut request = octets(alloc, BASIC)?;
+    *request.get_mut(place).ok_or("a place")? = octet;
+    Ok(request)
 }
 
 /// The error code in the reply to the basic request with one octet changed.
 fn code_for(alloc: Global, kdc: &mut Kdc, place: usize, octet: u8) -> Result<Option<u8>, Fail> {
     let request = changed(alloc, place, octet)?;
-    let reply = asked(alloc, kdc, &request)?.ok_or("a reply")?;
+    let reply = Asked::at_midnight(&request)?.reply(alloc, kdc)?;
     // A reply without ctime and cusec has its code, of one octet, at this place.
-    Ok(reply.get(42).copied())
+    Ok(reply.ok_or("a reply")?.get(42).copied())
+}
+
+/// The first of these changes of the basic request, each a place and an octet, that does not get the code beside it.
+fn first_other_code(
+    alloc: Global,
+    mut kdc: Kdc,
+    changes: &[(usize, u8, u8)],
+) -> Result<Option<usize>, Fail> {
+    for (place, octet, code) in changes {
+        if code_for(alloc, &mut kdc, *place, *octet)? != Some(*code) {
+            return Ok(Some(*place));
+        }
+    }
+    Ok(None)
 }
 
 #[test]
 fn refuses_by_version_type_and_exchange(rt: HostRuntime) -> Result<(), Fail> {
     let alloc = rt.alloc();
-    let mut kdc = kdc(alloc)?;
     // pvno 4; the message type of a TGS-REQ; the tag of a TGS-REQ, whose message type is 12.
-    for (place, octet, code) in [(8, 4, 3), (13, 12, 40), (0, 0x6c, 40)] {
-        assert_eq!(rt; code_for(alloc, &mut kdc, place, octet)?, Some(code));
-    }
+    let changes = [(8, 4, 3), (13, 12, 40), (0, 0x6c, 40)];
+    assert_eq!(rt; first_other_code(alloc, kdc(alloc)?, &changes)?, None);
     Ok(())
 }
 
 #[test]
 fn refuses_what_the_database_lacks(rt: HostRuntime) -> Result<(), Fail> {
     let alloc = rt.alloc();
-    let mut kdc = kdc(alloc)?;
-    add_user(alloc, &mut kdc)?;
     // Another realm; another instance of the service.
-    for (place, octet, code) in [(49, b'C', 6), (75, b'C', 7)] {
-        assert_eq!(rt; code_for(alloc, &mut kdc, place, octet)?, Some(code));
-    }
+    let changes = [(49, b'C', 6), (75, b'C', 7)];
+    assert_eq!(rt;
+        first_other_code(alloc, kdc_with_user(alloc)?, &changes)?,
+        None
+    );
     Ok(())
 }
 
 #[test]
 fn gets_the_rows_that_there_are(rt: HostRuntime) -> Result<(), Fail> {
     let alloc = rt.alloc();
+    let user = name(alloc, &[b"u"])?;
+    let granter = name(alloc, &[b"krbtgt", b"A.B"])?;
     let kdc = kdc(alloc)?;
-    assert_eq!(rt; kdc.realm(), b"A.B".as_slice());
-    assert!(rt; kdc.get(&name(alloc, &[b"u"])?).is_none());
-    assert!(rt; kdc.get(&name(alloc, &[b"krbtgt", b"A.B"])?).is_some());
+    assert!(rt;
+        kdc.realm() == b"A.B".as_slice() && kdc.get(&user).is_none() && kdc.get(&granter).is_some()
+    );
     Ok(())
 }
 
 #[test]
 fn adds_a_row_once(rt: HostRuntime) -> Result<(), Fail> {
     let alloc = rt.alloc();
-    let mut kdc = kdc(alloc)?;
-    let add = Change::Add {
-        name: name(alloc, &[b"u"])?,
-        keys: keys(alloc)?,
-    };
-    kdc.apply(alloc, &add)?;
-    assert_eq!(rt; kdc.apply(alloc, &add), Err(ChangeFault::Exists));
+    let addition = addition(alloc)?;
+    let mut kdc = kdc_with_user(alloc)?;
+    assert_eq!(rt; kdc.apply(alloc, &addition), Err(ChangeFault::Exists));
     Ok(())
 }
 
-// Passes whichever allocation of the call is refused.
 #[test]
 fn a_request_without_memory_is_answered_when_it_comes_again(rt: HostRuntime) -> Result<(), Fail> {
     let alloc = rt.alloc();
-    let mut kdc = kdc(alloc)?;
     let request = octets(alloc, BASIC)?;
     let error = octets(alloc, CLIENT_UNKNOWN)?;
-    let at = Moment::new(MIDNIGHT, 0).ok_or("a moment")?;
-    let mut reply = kdc.handle(alloc, at, &[0; 64], 1400, &request);
-    if reply.is_err() {
-        reply = kdc.handle(alloc, at, &[0; 64], 1400, &request);
-    }
-    assert!(rt; reply.is_ok_and(|reply| reply == Some(error)));
+    let asked = Asked::at_midnight(&request)?;
+    assert!(rt; gets_again(alloc, kdc(alloc)?, asked, &error)?);
     Ok(())
+}
+
+/// What comes of a change the first time, and the second.
+fn applied_twice(alloc: Global, mut kdc: Kdc, change: &Change) -> [Result<(), ChangeFault>; 2] {
+    [kdc.apply(alloc, change), kdc.apply(alloc, change)]
 }
 
 // Passes whichever allocation of the first change is refused.
 #[test]
 fn a_change_without_memory_leaves_the_kdc(rt: HostRuntime) -> Result<(), Fail> {
     let alloc = rt.alloc();
-    let mut kdc = kdc(alloc)?;
-    let add = Change::Add {
-        name: name(alloc, &[b"u"])?,
-        keys: keys(alloc)?,
-    };
-    let again = match kdc.apply(alloc, &add) {
+    let addition = addition(alloc)?;
+    let [first, second] = applied_twice(alloc, kdc(alloc)?, &addition);
+    let wanted = match first {
         Ok(()) => Err(ChangeFault::Exists),
-        Err(fault) => {
-            assert_eq!(rt; fault, ChangeFault::Memory);
-            Ok(())
-        }
+        Err(_) => Ok(()),
     };
-    assert_eq!(rt; kdc.apply(alloc, &add), again);
+    assert!(rt; first.is_ok() || first == Err(ChangeFault::Memory));
+    assert_eq!(rt; second, wanted);
     Ok(())
 }
 
-/// The KDC with `u`, which needs no preauthentication.
-fn kdc_with_user(alloc: Global) -> Result<Kdc, Fail> {
-    let mut kdc = kdc(alloc)?;
-    add_user(alloc, &mut kdc)?;
-    let policy = Policy {
-        preauth: false,
-        ..Policy::default()
+/// Whether the basic request gets this reply where there is so much room.
+fn fits(alloc: Global, kdc: &mut Kdc, room: u32, reply: &[u8]) -> Result<bool, Fail> {
+    let basic = octets(alloc, BASIC)?;
+    let reply = octets(alloc, reply)?;
+    let asked = Asked {
+        room,
+        ..Asked::at_midnight(&basic)?
     };
-    let change = Change::SetPolicy {
-        name: name(alloc, &[b"u"])?,
-        policy,
-    };
-    kdc.apply(alloc, &change)?;
-    Ok(kdc)
+    Ok(asked.gets(alloc, kdc, &reply)?)
 }
 
-/// The reply with the random octets 0 to 63.
-fn issued(
+/// The first of these rooms in which it does not get the reply beside it.
+fn first_other_room(
     alloc: Global,
-    kdc: &mut Kdc,
-    room: u32,
-    request: &[u8],
-) -> Result<Option<Vec<u8>>, Fail> {
-    let at = Moment::new(MIDNIGHT, 0).ok_or("a moment")?;
-    let mut words = [0; 64];
-    for (place, word) in words.iter_mut().enumerate() {
-        *word = place as u8;
+    mut kdc: Kdc,
+    replies: &[(u32, &[u8])],
+) -> Result<Option<u32>, Fail> {
+    for (room, reply) in replies {
+        if !fits(alloc, &mut kdc, *room, reply)? {
+            return Ok(Some(*room));
+        }
     }
-    Ok(kdc.handle(alloc, at, &words, room, request)?)
+    Ok(None)
 }
 
 #[test]
 fn issues_a_ticket_within_the_room(rt: HostRuntime) -> Result<(), Fail> {
     let alloc = rt.alloc();
-    let mut kdc = kdc_with_user(alloc)?;
-    let basic = octets(alloc, BASIC)?;
-    for (room, reply) in [(558, TICKET), (557, TOO_BIG)] {
-        let found = issued(alloc, &mut kdc, room, &basic)?;
-        assert!(rt; found == Some(octets(alloc, reply)?));
-    }
+    let replies = [(558, TICKET), (557, TOO_BIG)];
+    assert_eq!(rt;
+        first_other_room(alloc, kdc_with_lenient_user(alloc)?, &replies)?,
+        None
+    );
     Ok(())
 }
 
 #[test]
 fn asks_for_preauthentication(rt: HostRuntime) -> Result<(), Fail> {
     let alloc = rt.alloc();
-    let mut kdc = kdc(alloc)?;
-    add_user(alloc, &mut kdc)?;
-    let reply = asked(alloc, &mut kdc, &octets(alloc, BASIC)?)?.ok_or("a reply")?;
-    assert_eq!(rt; reply, octets(alloc, PREAUTH_REQUIRED)?);
+    let exchanges = [(BASIC, Some(PREAUTH_REQUIRED))];
+    assert_eq!(rt;
+        first_other(alloc, kdc_with_user(alloc)?, &exchanges)?,
+        None
+    );
     Ok(())
 }
 
-// Passes whichever allocation of the first call is refused.
 #[test]
 fn what_a_client_is_told_of_its_keys_is_told_again(rt: HostRuntime) -> Result<(), Fail> {
     let alloc = rt.alloc();
-    let mut kdc = kdc(alloc)?;
-    add_user(alloc, &mut kdc)?;
     let basic = octets(alloc, BASIC)?;
     let wanted = octets(alloc, PREAUTH_REQUIRED)?;
-    let at = Moment::new(MIDNIGHT, 0).ok_or("a moment")?;
-    let _ = kdc.handle(alloc, at, &[0; 64], 1400, &basic);
-    let found = asked(alloc, &mut kdc, &basic)?;
-    assert!(rt; found.is_some_and(|found| found == wanted));
+    let asked = Asked::at_midnight(&basic)?;
+    assert!(rt; gets_again(alloc, kdc_with_user(alloc)?, asked, &wanted)?);
     Ok(())
 }
 
@@ -356,38 +456,47 @@ fn request_of_a_million(alloc: Global) -> Result<Vec<u8>, Fail> {
 #[test]
 fn a_timestamp_of_a_million_octets_fails_as_any_other(rt: HostRuntime) -> Result<(), Fail> {
     let alloc = rt.alloc();
-    let mut kdc = kdc_with_user(alloc)?;
-    let reply = asked(alloc, &mut kdc, &request_of_a_million(alloc)?)?.ok_or("a reply")?;
-    assert_eq!(rt; reply, octets(alloc, PREAUTH_FAILED)?);
+    let request = request_of_a_million(alloc)?;
+    let error = octets(alloc, PREAUTH_FAILED)?;
+    let asked = Asked::at_midnight(&request)?;
+    let mut kdc = kdc_with_lenient_user(alloc)?;
+    assert!(rt; asked.gets(alloc, &mut kdc, &error)?);
     Ok(())
+}
+
+/// Whether the basic request gets the ticket after one that has another octet at this place.
+fn is_unspoilt(alloc: Global, kdc: &mut Kdc, place: usize, octet: u8) -> Result<bool, Fail> {
+    let request = changed(alloc, place, octet)?;
+    let _ = Asked::at_midnight(&request)?.reply(alloc, kdc)?;
+    is_answered(alloc, kdc, BASIC, Some(TICKET))
+}
+
+/// The first place where it is not.
+fn first_spoilt(alloc: Global, mut kdc: Kdc, basic: &[u8]) -> Result<Option<usize>, Fail> {
+    for (place, octet) in basic.iter().enumerate() {
+        if !is_unspoilt(alloc, &mut kdc, place, octet ^ 1)? {
+            return Ok(Some(place));
+        }
+    }
+    Ok(None)
 }
 
 #[test]
 fn a_changed_request_changes_no_later_answer(rt: HostRuntime) -> Result<(), Fail> {
     let alloc = rt.alloc();
-    let mut kdc = kdc_with_user(alloc)?;
     let basic = octets(alloc, BASIC)?;
-    let ticket = octets(alloc, TICKET)?;
-    for (place, octet) in basic.iter().enumerate() {
-        let request = changed(alloc, place, octet ^ 1)?;
-        let _ = issued(alloc, &mut kdc, 1400, &request)?;
-        let found = issued(alloc, &mut kdc, 1400, &basic)?;
-        assert!(rt; found.is_some_and(|found| found == ticket), "{place}");
-    }
+    let kdc = kdc_with_lenient_user(alloc)?;
+    assert_eq!(rt; first_spoilt(alloc, kdc, &basic)?, None);
     Ok(())
 }
 
-// Passes whichever allocation of the first call is refused.
 #[test]
 fn a_ticket_without_memory_is_issued_when_asked_again(rt: HostRuntime) -> Result<(), Fail> {
     let alloc = rt.alloc();
-    let mut kdc = kdc_with_user(alloc)?;
     let basic = octets(alloc, BASIC)?;
     let ticket = octets(alloc, TICKET)?;
-    let at = Moment::new(MIDNIGHT, 0).ok_or("a moment")?;
-    let _ = kdc.handle(alloc, at, &[0; 64], 1400, &basic);
-    let found = issued(alloc, &mut kdc, 1400, &basic)?;
-    assert!(rt; found.is_some_and(|found| found == ticket));
+    let asked = Asked::at_midnight(&basic)?;
+    assert!(rt; gets_again(alloc, kdc_with_lenient_user(alloc)?, asked, &ticket)?);
     Ok(())
 }
 
@@ -402,11 +511,9 @@ fn asks(request: Vec<u8>) -> Result<Event, Fail> {
 }
 
 fn adds_user(alloc: Global) -> Result<Event, Fail> {
-    let change = Change::Add {
-        name: name(alloc, &[b"u"])?,
-        keys: keys(alloc)?,
-    };
-    Ok(Event::Change { change })
+    Ok(Event::Change {
+        change: addition(alloc)?,
+    })
 }
 
 fn restarts() -> Result<Event, Fail> {
@@ -459,17 +566,25 @@ pub fn ran(alloc: Global, kdc: &mut Kdc, events: &[Event]) -> (usize, Vec<Option
     }
 }
 
+/// Whether the replies of a run are these, also where it goes on behind the event at which it stopped first.
+fn runs_on(
+    alloc: Global,
+    mut kdc: Kdc,
+    events: &[Event],
+    wanted: &[Option<Vec<u8>>],
+) -> Result<bool, Fail> {
+    let (done, first) = ran(alloc, &mut kdc, events);
+    let later = events.get(done..).ok_or("later events")?;
+    let (_, rest) = ran(alloc, &mut kdc, later);
+    Ok(wanted.get(..done) == Some(first.as_slice()) && wanted.get(done..) == Some(rest.as_slice()))
+}
+
 // Passes whichever allocation of the first run is refused.
 #[test]
 fn a_run_goes_on_where_it_stopped(rt: HostRuntime) -> Result<(), Fail> {
     let alloc = rt.alloc();
-    let mut kdc = kdc(alloc)?;
     let events = events(alloc)?;
     let wanted = replies(alloc)?;
-    let (done, first) = ran(alloc, &mut kdc, events.as_slice());
-    let later = events.get(done..).ok_or("later events")?;
-    let (_, rest) = ran(alloc, &mut kdc, later);
-    assert!(rt; wanted.get(..done) == Some(first.as_slice()));
-    assert!(rt; wanted.get(done..) == Some(rest.as_slice()));
+    assert!(rt; runs_on(alloc, kdc(alloc)?, events.as_slice(), &wanted)?);
     Ok(())
 }

@@ -1,8 +1,7 @@
 //! Service tickets (`kdc_core`).
-use crate::kdcs::{kdc_of, name, octets};
+use crate::kdcs::{Asked, gets_again, kdc_of, name, octets};
 use enctypes::{Etype, Key};
 use kdc_core::Kdc;
-use krb_fields::Moment;
 use principal_rows::KeyList;
 use principals::Change;
 use std::alloc::{AllocError, Global};
@@ -16,8 +15,6 @@ pub const REQUEST: &[u8] =
 /// The TGS-REP to it, of the same model: the key of `h` is the octets 160 to 191, the random octets are 64 to 127.
 const REPLY: &[u8] =
     b"6d8201f1308201eda003020105a10302010da3051b03412e42a40e300ca003020101a10530031b0175a581ed6181ea3081e7a003020105a1051b03412e42a20e300ca003020101a10530031b0168a381c83081c5a003020112a103020101a281b80481b5666a5e762c38b2899c6bfab2d530b6ae2120eb07d169f4252e140d57b54be74953ad1171976f313ecadecb89da95aee7fa042231a9ecbdac63bb3ace61c237143ff01d7940117718d06c28e13161b37f7ffcd8eb6b5f1a830ab0ca838329649e19f89b6a3675042d2329b93e30876c2f7287795650f4ea4af229bf0e23854237a6729935b8b3ad08c01eff88dcc329de23da7b46549df8b9bfc3620f1058cca5230c7f77382d6d1497508b0b1791a87d1cddd8ee8fa681d93081d6a003020112a281ce0481cb5048015f0cf86abc3356a8c76d5d3b4c7c203c506543c24f2824388dd04ca4cf3379e19599e8d394a8af542ee7129e6f8dcf9aed46e110186d484e73d72003e2358e0a2b05d4ba025361a40d0f573b6323eaca33ae994904589d6c835aaef46c9bfbd6093f2c301f59769866f46169c1d79c1ee60e76f68393b2bb3634d37d41a78d8b3dda7ebd7d03f5d2ee0477a7d13630002b4d2806f9c3085cdc6962daed1666eea56b0d65ebf44471efa74a035e24420b3defb6e971391dd265f851990d8fee43fe39041a1ab2ef56";
-
-const MIDNIGHT: i64 = 1_704_067_200;
 
 /// A key of encryption type 18, whose octets count up from this one.
 fn key_from(first: u8) -> Key {
@@ -44,45 +41,51 @@ pub fn kdc(alloc: Global) -> Result<Kdc, Fail> {
     Ok(kdc)
 }
 
-/// The reply with random octets that count up from this one.
-fn asked(
-    kdc: &mut Kdc,
-    alloc: Global,
-    first: u8,
-    request: &[u8],
-) -> Result<Option<Vec<u8>>, AllocError> {
-    let Some(at) = Moment::new(MIDNIGHT, 0) else {
-        return Ok(None);
-    };
+/// Random octets that count up from this one.
+fn words_from(first: u8) -> [u8; 64] {
     let mut words = [first; 64];
     for (place, word) in (0..64).zip(&mut words) {
         *word = word.wrapping_add(place);
     }
-    kdc.handle(alloc, at, &words, 1400, request)
+    words
 }
 
-// Passes whichever allocation of the first call is refused.
 #[test]
 fn a_service_ticket_without_memory_is_issued_when_asked_again(rt: HostRuntime) -> Result<(), Fail> {
     let alloc = rt.alloc();
-    let mut kdc = kdc(alloc)?;
     let request = octets(alloc, REQUEST)?;
     let reply = octets(alloc, REPLY)?;
-    let _ = asked(&mut kdc, alloc, 64, &request);
-    let found = asked(&mut kdc, alloc, 64, &request)?;
-    assert!(rt; found.is_some_and(|found| found == reply));
+    let asked = Asked {
+        words: words_from(64),
+        ..Asked::at_midnight(&request)?
+    };
+    assert!(rt; gets_again(alloc, kdc(alloc)?, asked, &reply)?);
     Ok(())
+}
+
+/// Whether it gets this reply, and again with other random octets.
+fn is_kept(
+    alloc: Global,
+    mut kdc: Kdc,
+    asked: Asked<'_>,
+    reply: &[u8],
+) -> Result<bool, AllocError> {
+    let again = Asked {
+        words: [0; 64],
+        ..asked
+    };
+    Ok(asked.gets(alloc, &mut kdc, reply)? && again.gets(alloc, &mut kdc, reply)?)
 }
 
 #[test]
 fn the_same_request_gets_the_reply_that_is_kept(rt: HostRuntime) -> Result<(), Fail> {
     let alloc = rt.alloc();
-    let mut kdc = kdc(alloc)?;
     let request = octets(alloc, REQUEST)?;
     let reply = octets(alloc, REPLY)?;
-    for first in [64, 0] {
-        let found = asked(&mut kdc, alloc, first, &request)?;
-        assert!(rt; found.is_some_and(|found| found == reply));
-    }
+    let asked = Asked {
+        words: words_from(64),
+        ..Asked::at_midnight(&request)?
+    };
+    assert!(rt; is_kept(alloc, kdc(alloc)?, asked, &reply)?);
     Ok(())
 }

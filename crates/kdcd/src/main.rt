@@ -2,16 +2,13 @@
 //! over UDP and TCP.
 #![tactic(auto)]
 
-mod files;
-mod options;
 mod serving;
 
-use crate::options::{serve_command, serve_options};
 use crate::serving::serve_realm;
-use clap::error::{Error, ErrorKind};
-use clap::{ArgMatches, Command};
+use clap::ArgMatches;
+use clap::error::ErrorKind;
 use kdc_script::{FAILED, run_script};
-use std::alloc::Global;
+use kdcd_start::{read_words, serve_options};
 use std::process::ExitCode;
 use std::{env, io};
 
@@ -31,7 +28,7 @@ fn main(rt: HostRuntime) -> ExitCode {
 fn run(rt: &HostRuntime) -> io::Result<u8> {
     let alloc = rt.alloc();
     let words: Vec<String> = env::args(rt)?.collect(alloc)?;
-    match parse(alloc, &words) {
+    match read_words(alloc, &words) {
         Ok(matches) => run_subcommand(rt, &matches),
         Err(error) if error.kind() == ErrorKind::OutOfMemory => {
             Err(io::Error::from(io::ErrorKind::OutOfMemory))
@@ -56,17 +53,3 @@ fn run_subcommand(rt: &HostRuntime, matches: &ArgMatches<'_>) -> io::Result<u8> 
         _ => Ok(USAGE),
     }
 }
-
-/// Reads the command line, the program's name in front.
-fn parse<'a>(alloc: Global, words: &'a [String]) -> Result<ArgMatches<'a>, Error> {
-    let script = Command::new(alloc, "script").about("Runs a script from standard input");
-    let kdcd = Command::new(alloc, "kdcd")
-        .about("A Kerberos KDC")
-        .subcommand_required(true)
-        .subcommand(script)?
-        .subcommand(serve_command(alloc)?)?;
-    kdcd.try_get_matches_from(words)
-}
-
-#[cfg(test)]
-mod tests;

@@ -1,9 +1,8 @@
 //! Serving a realm: `kdcd serve`.
-use crate::files::{FileFault, database_of, read_whole, seed_of};
-use crate::options::ServeOptions;
 use kdc_core::{Kdc, Opening};
 use kdc_hub::{Hub, serve};
 use kdc_wire::{BindFault, SocketWire, now};
+use kdcd_start::{FileFault, ServeOptions, database_of, read_whole, seed_of};
 use principal_rows::Limits;
 use principals::Database;
 use rand_chacha::ChaCha20Rng;

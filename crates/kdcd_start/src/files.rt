@@ -1,5 +1,5 @@
 //! The files that a server is opened with.
-ghost use Rattle.std.specs.Prelude.{◌≤◌, IfOk, vec_len};
+ghost use Rattle.std.specs.Prelude.{◌≡◌, ◌≤◌, IfOk, take, vec_len};
 
 use principals::{Database, ReadFault};
 use std::alloc::{AllocError, Global};
@@ -84,7 +84,9 @@ pub fn database_of(alloc: Global, octets: &[u8]) -> Result<Database, FileFault> 
 }
 
 /// The seed that a file holds: its first 32 octets.
-pub fn seed_of(octets: &[u8]) -> Result<[u8; 32], FileFault> {
+pub fn seed_of(octets: &[u8]) -> Result<[u8; 32], FileFault>
+    ensures { IfOk result (λ seed. seed ≡ take 32 octets.now) }
+{
     match octets.first_chunk::<32>() {
         Some(seed) => Ok(*seed),
         None => Err(FileFault::ShortSeed),

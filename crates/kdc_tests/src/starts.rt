@@ -1,62 +1,69 @@
-//! What the words of `kdcd serve` stand for, and which files are taken.
-use super::*;
-use crate::files::{FileFault, database_of, read_whole, seed_of};
+//! What the words of `kdcd serve` stand for, and which files are taken (`kdcd_start`).
+use kdcd_start::{FileFault, database_of, read_whole, read_words, seed_of, serve_options};
+use std::alloc::{AllocError, Global};
 use std::io::Read;
 use std::test::Fail;
 
-/// The status of these words where they are a fault of the command line, and none where they can be served.
-fn fault_of(alloc: Global, words: &str) -> Result<bool, Fail> {
-    let mut list = Vec::new(alloc);
-    for word in words.split(' ') {
-        list.push(String::from_str(alloc, word)?)?;
+/// Command lines, and whether each is at fault.
+const LINES: &[(&str, bool)] = &[
+    (
+        "kdcd serve --db d --udp 127.0.0.1:88 --tcp [::1]:88 --rounds 007 --seed s",
+        false,
+    ),
+    (
+        "kdcd serve --db d --udp 127.0.0.1:88 --tcp [::1]:88 --rounds 4294967295 --seed s --first",
+        false,
+    ),
+    (
+        "kdcd serve --db d --udp 127.0.0.1:88 --tcp [::1]:88 --rounds 4294967296 --seed s",
+        true,
+    ),
+    (
+        "kdcd serve --db d --udp 127.0.0.1:88 --tcp [::1]:88 --rounds +7 --seed s",
+        true,
+    ),
+    (
+        "kdcd serve --db d --udp 127.0.0.1:88 --tcp [::1]:88 --seed s",
+        true,
+    ),
+    (
+        "kdcd serve --db d --udp 127.0.0.1 --tcp [::1]:88 --rounds 7 --seed s",
+        true,
+    ),
+    (
+        "kdcd serve --db d --udp localhost:88 --tcp [::1]:88 --rounds 7 --seed s",
+        true,
+    ),
+    (
+        "kdcd serve --udp 127.0.0.1:88 --tcp [::1]:88 --rounds 7 --seed s",
+        true,
+    ),
+];
+
+fn words_of(alloc: Global, line: &str) -> Result<Vec<String>, AllocError> {
+    let mut words = Vec::new(alloc);
+    for word in line.split(' ') {
+        words.push(String::from_str(alloc, word)?)?;
     }
-    Ok(match parse(alloc, &list) {
+    Ok(words)
+}
+
+/// Whether the words are at fault.
+fn is_fault(alloc: Global, words: &[String]) -> bool {
+    match read_words(alloc, words) {
         Ok(matches) => match matches.subcommand() {
             Some((_, words)) => serve_options(words).is_err(),
             None => true,
         },
         Err(_) => true,
-    })
+    }
 }
 
 #[test]
 fn words_that_are_read(rt: HostRuntime) -> Result<(), Fail> {
-    let alloc = rt.alloc();
-    for (words, is_fault) in [
-        (
-            "kdcd serve --db d --udp 127.0.0.1:88 --tcp [::1]:88 --rounds 007 --seed s",
-            false,
-        ),
-        (
-            "kdcd serve --db d --udp 127.0.0.1:88 --tcp [::1]:88 --rounds 4294967295 --seed s --first",
-            false,
-        ),
-        (
-            "kdcd serve --db d --udp 127.0.0.1:88 --tcp [::1]:88 --rounds 4294967296 --seed s",
-            true,
-        ),
-        (
-            "kdcd serve --db d --udp 127.0.0.1:88 --tcp [::1]:88 --rounds +7 --seed s",
-            true,
-        ),
-        (
-            "kdcd serve --db d --udp 127.0.0.1:88 --tcp [::1]:88 --seed s",
-            true,
-        ),
-        (
-            "kdcd serve --db d --udp 127.0.0.1 --tcp [::1]:88 --rounds 7 --seed s",
-            true,
-        ),
-        (
-            "kdcd serve --db d --udp localhost:88 --tcp [::1]:88 --rounds 7 --seed s",
-            true,
-        ),
-        (
-            "kdcd serve --udp 127.0.0.1:88 --tcp [::1]:88 --rounds 7 --seed s",
-            true,
-        ),
-    ] {
-        assert_eq!(rt; fault_of(alloc, words)?, is_fault, "{words}");
+    for (line, wanted) in LINES {
+        let words = words_of(rt.alloc(), line)?;
+        assert!(rt; is_fault(rt.alloc(), &words) == *wanted, "{line}");
     }
     Ok(())
 }

@@ -1,0 +1,8 @@
+//! What `kdcd` is started with: its words, and the files of a server.
+#![tactic(auto)]
+
+mod files;
+mod words;
+
+pub use crate::files::{FileFault, database_of, read_whole, seed_of};
+pub use crate::words::{ServeOptions, read_words, serve_options};

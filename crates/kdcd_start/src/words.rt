@@ -1,0 +1,109 @@
+//! The words of a command line.
+use clap::error::Error;
+use clap::{Arg, ArgAction, ArgMatches, Command};
+use std::alloc::{AllocError, Global};
+use std::net::SocketAddr;
+use text_fields::number_u32;
+
+/// What a server is started with.
+#[derive(Clone, Copy, Debug)]
+pub struct ServeOptions<'a> {
+    /// The path of the database's file.
+    pub db: &'a str,
+    pub udp: SocketAddr,
+    pub tcp: SocketAddr,
+    pub rounds: u32,
+    /// The path of the seed's file.
+    pub seed: &'a str,
+    /// Whether no request was ever answered with this database.
+    pub is_first: bool,
+}
+
+const ABOUT: &str = "Serves a realm over UDP and TCP";
+
+const AFTER_HELP: &str = "\
+A round takes one event at most: a datagram, a new connection, a piece of what comes on one, or its end. Where nothing
+comes it waits a tenth of a second. After the last round it prints `served EVENTS FAULTS REFUSED`: the events, the calls
+of the sockets that failed, and the events that were refused memory. With --rounds 4294967295 it serves for thirteen years
+where nothing comes, and for three to seven weeks at a thousand events a second; let the system start it anew. With
+--rounds 0 it opens everything, and ends.
+
+Once it listens it says so on standard error, with the addresses. A port 0 is one that the system gives.
+
+Status: 0 after the last round; 1 where a file is refused (`refused NAME`: NotJson, BadVersion, BadRow, NoTicketGranter,
+ShortSeed, LongFile); 2 for these words; 3 where a file, a socket, the clock or memory failed (`failed`). Why it could not
+start stands on standard error.";
+
+/// The options of `kdcd serve` that have to be there: the name, what stands for the value, and what that is.
+const OPTIONS: &[(&str, &str, &str)] = &[
+    ("db", "FILE", "The database, as `kadm` writes it"),
+    (
+        "udp",
+        "ADDRESS:PORT",
+        "Where datagrams are taken, as 127.0.0.1:88 or [::]:88",
+    ),
+    ("tcp", "ADDRESS:PORT", "Where connections are taken"),
+    ("rounds", "N", "How many rounds it serves, 0 to 4294967295"),
+    (
+        "seed",
+        "FILE",
+        "32 random octets, others at each start: all keys of tickets are made of them",
+    ),
+];
+
+const FIRST: &str =
+    "No request was ever answered with this database. Else every TGS-REQ is refused as skewed for 301 seconds";
+
+/// Reads the words, the program's name in front.
+pub fn read_words<'a>(alloc: Global, words: &'a [String]) -> Result<ArgMatches<'a>, Error> {
+    let script = Command::new(alloc, "script").about("Runs a script from standard input");
+    let kdcd = Command::new(alloc, "kdcd")
+        .about("A Kerberos KDC")
+        .subcommand_required(true)
+        .subcommand(script)?
+        .subcommand(serve_command(alloc)?)?;
+    kdcd.try_get_matches_from(words)
+}
+
+fn serve_command<'a>(alloc: Global) -> Result<Command<'a>, AllocError> {
+    let mut command = Command::new(alloc, "serve")
+        .about(ABOUT)
+        .after_help(AFTER_HELP);
+    for (name, shape, help) in OPTIONS {
+        command = command.arg(option(alloc, name, shape, help))?;
+    }
+    let first = Arg::new(alloc, "first")
+        .long("first")
+        .action(ArgAction::SetTrue)
+        .help(FIRST);
+    command.arg(first)
+}
+
+fn option<'a>(alloc: Global, name: &'a str, shape: &'a str, help: &'a str) -> Arg<'a> {
+    Arg::new(alloc, name)
+        .long(name)
+        .value_name(shape)
+        .action(ArgAction::Set)
+        .required(true)
+        .help(help)
+}
+
+/// The options that the words behind `serve` stand for; else what is wrong with them.
+pub fn serve_options<'a>(words: &ArgMatches<'a>) -> Result<ServeOptions<'a>, &'static str> {
+    Ok(ServeOptions {
+        db: words.get_str("db").ok_or("--db is missing")?,
+        udp: address(words, "udp").ok_or("--udp takes an address and a port, as 127.0.0.1:88")?,
+        tcp: address(words, "tcp").ok_or("--tcp takes an address and a port, as 127.0.0.1:88")?,
+        rounds: rounds(words).ok_or("--rounds takes a number from 0 to 4294967295")?,
+        seed: words.get_str("seed").ok_or("--seed is missing")?,
+        is_first: words.get_flag("first"),
+    })
+}
+
+fn address(words: &ArgMatches<'_>, name: &str) -> Option<SocketAddr> {
+    words.get_str(name)?.parse().ok()
+}
+
+fn rounds(words: &ArgMatches<'_>) -> Option<u32> {
+    number_u32(words.get_str("rounds")?)
+}
