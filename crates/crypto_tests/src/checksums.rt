@@ -6,7 +6,7 @@ use enctypes::{Etype, checksum, verify};
 // RFC 8009, appendix A, for types 19 and 20; the others are from the independent implementation.
 #[test]
 fn checksums_of_the_standards(rt: HostRuntime) {
-    let rows: [(Etype, &[u8]); 4] = [
+    const ROWS: &[(Etype, &[u8])] = &[
         (Etype::Aes128CtsHmacSha1_96, b"630f8e7641d9da5393ea21d7"),
         (Etype::Aes256CtsHmacSha1_96, b"275ad015bf35a96589f74aa0"),
         (
@@ -18,7 +18,7 @@ fn checksums_of_the_standards(rt: HostRuntime) {
             b"45ee791567eefca37f4ac1e0222de80d43c3bfa06699672a",
         ),
     ];
-    for (etype, hex) in rows {
+    for &(etype, hex) in ROWS {
         let key = base_key(etype);
         let mac = checksum(&key, USAGE, &TEXT);
         assert!(rt; in_hex(mac.bytes(), hex));

@@ -16,7 +16,7 @@ const BASE_KEY_256: [u8; 32] = [
 // RFC 6070, section 2, but for the case of 16,777,216 iterations.
 #[test]
 fn pbkdf2_sha1_of_rfc_6070(rt: HostRuntime) {
-    let rows: [(&[u8], &[u8], u32, &[u8]); 5] = [
+    const ROWS: &[(&[u8], &[u8], u32, &[u8])] = &[
         (
             b"password",
             b"salt",
@@ -48,7 +48,7 @@ fn pbkdf2_sha1_of_rfc_6070(rt: HostRuntime) {
             b"56fa6aa75548099dcc37d7f03425e0c3",
         ),
     ];
-    for (password, salt, count, key) in rows {
+    for &(password, salt, count, key) in ROWS {
         let mut out = [0; 25];
         assert!(rt; count >= 1 && key.len() <= 50);
         let out = &mut out[..key.len() / 2];
@@ -60,7 +60,7 @@ fn pbkdf2_sha1_of_rfc_6070(rt: HostRuntime) {
 // RFC 3962, appendix B: the keys of 256 bits, and one of 128.
 #[test]
 fn pbkdf2_sha1_of_rfc_3962(rt: HostRuntime) {
-    let rows: [(&[u8], &[u8], u32, &[u8]); 8] = [
+    const ROWS: &[(&[u8], &[u8], u32, &[u8])] = &[
         (
             b"password",
             b"ATHENA.MIT.EDUraeburn",
@@ -110,7 +110,7 @@ fn pbkdf2_sha1_of_rfc_3962(rt: HostRuntime) {
             b"cdedb5281bb2f801565a1122b2563515",
         ),
     ];
-    for (password, salt, count, key) in rows {
+    for &(password, salt, count, key) in ROWS {
         let mut out = [0; 32];
         assert!(rt; count >= 1 && key.len() <= 64);
         let out = &mut out[..key.len() / 2];
@@ -122,7 +122,7 @@ fn pbkdf2_sha1_of_rfc_3962(rt: HostRuntime) {
 // By Python's hashlib: one block, less than one, more than two, and none.
 #[test]
 fn pbkdf2_sha256_of_hashlib(rt: HostRuntime) {
-    let rows: [(&[u8], &[u8], u32, &[u8]); 4] = [
+    const ROWS: &[(&[u8], &[u8], u32, &[u8])] = &[
         (
             b"password",
             b"salt",
@@ -143,7 +143,7 @@ fn pbkdf2_sha256_of_hashlib(rt: HostRuntime) {
         ),
         (b"password", b"salt", 3, b""),
     ];
-    for (password, salt, count, key) in rows {
+    for &(password, salt, count, key) in ROWS {
         let mut out = [0; 65];
         assert!(rt; count >= 1 && key.len() <= 130);
         let out = &mut out[..key.len() / 2];
@@ -155,7 +155,7 @@ fn pbkdf2_sha256_of_hashlib(rt: HostRuntime) {
 // By Python's hashlib: one block, less than one, more than two, and none.
 #[test]
 fn pbkdf2_sha384_of_hashlib(rt: HostRuntime) {
-    let rows: [(&[u8], &[u8], u32, &[u8]); 4] = [
+    const ROWS: &[(&[u8], &[u8], u32, &[u8])] = &[
         (
             b"password",
             b"salt",
@@ -176,7 +176,7 @@ fn pbkdf2_sha384_of_hashlib(rt: HostRuntime) {
         ),
         (b"password", b"salt", 3, b""),
     ];
-    for (password, salt, count, key) in rows {
+    for &(password, salt, count, key) in ROWS {
         let mut out = [0; 97];
         assert!(rt; count >= 1 && key.len() <= 194);
         let out = &mut out[..key.len() / 2];
@@ -188,7 +188,7 @@ fn pbkdf2_sha384_of_hashlib(rt: HostRuntime) {
 // RFC 3961, appendix A.1.
 #[test]
 fn n_folds_of_the_standard(rt: HostRuntime) {
-    let rows: [(&[u8], &[u8]); 11] = [
+    const ROWS: &[(&[u8], &[u8])] = &[
         (b"012345", b"be072631276b1955"),
         (b"password", b"78a07b6caf85fa"),
         (b"Rough Consensus, and Running Code", b"bb6ed30870b7f0e0"),
@@ -207,7 +207,7 @@ fn n_folds_of_the_standard(rt: HostRuntime) {
             b"6b65726265726f737b9b5b2b93132b935c9bdcdad95c9899c4cae4dee6d6cae4",
         ),
     ];
-    for (input, folded) in rows {
+    for &(input, folded) in ROWS {
         let mut out = [0xff; 32];
         assert!(rt; !input.is_empty() && folded.len() >= 2 && folded.len() <= 64);
         let out = &mut out[..folded.len() / 2];
@@ -219,7 +219,7 @@ fn n_folds_of_the_standard(rt: HostRuntime) {
 // RFC 8009, appendix A: Kc, Ke and Ki of usage 2; the last row by Python's hmac.
 #[test]
 fn kdf_sha256_of_rfc_8009(rt: HostRuntime) {
-    let rows: [(&[u8], &[u8]); 4] = [
+    const ROWS: &[(&[u8], &[u8])] = &[
         (b"\x00\x00\x00\x02\x99", b"b31a018a48f54776f403e9a396325dc3"),
         (b"\x00\x00\x00\x02\xaa", b"9b197dd1e8c5609d6e67c3e37c62c72e"),
         (b"\x00\x00\x00\x02U", b"9fda0e56ab2d85e1569a688696c26a6c"),
@@ -228,7 +228,7 @@ fn kdf_sha256_of_rfc_8009(rt: HostRuntime) {
             b"3e1e4a3d2f5a5d72c0d51b0ebf0c2b7f442b4c1ea020b7a4ed927f24a694a618",
         ),
     ];
-    for (label, key) in rows {
+    for &(label, key) in ROWS {
         let mut out = [0; 32];
         assert!(rt; key.len() <= 64);
         let out = &mut out[..key.len() / 2];
@@ -240,7 +240,7 @@ fn kdf_sha256_of_rfc_8009(rt: HostRuntime) {
 // RFC 8009, appendix A: Kc, Ke and Ki of usage 2; the last row by Python's hmac.
 #[test]
 fn kdf_sha384_of_rfc_8009(rt: HostRuntime) {
-    let rows: [(&[u8], &[u8]); 4] = [
+    const ROWS: &[(&[u8], &[u8])] = &[
         (
             b"\x00\x00\x00\x02\x99",
             b"ef5718be86cc84963d8bbb5031e9f5c4ba41f28faf69e73d",
@@ -258,7 +258,7 @@ fn kdf_sha384_of_rfc_8009(rt: HostRuntime) {
             b"65172ef4e205b88bc7a83be040aabd54f4b53dcdfe1e037beacc3e6e5cccbeee3bdf1cc962875ff44cf36cb2bada3e94",
         ),
     ];
-    for (label, key) in rows {
+    for &(label, key) in ROWS {
         let mut out = [0; 48];
         assert!(rt; key.len() <= 96);
         let out = &mut out[..key.len() / 2];

@@ -11,7 +11,7 @@ const COUNTING: [u8; 25] = [
 // RFC 2202, section 3.
 #[test]
 fn hmac_sha1_of_the_standard(rt: HostRuntime) {
-    let rows: [(&[u8], &[u8], &[u8]); 7] = [
+    const ROWS: &[(&[u8], &[u8], &[u8])] = &[
         (
             &[0x0b; 20],
             b"Hi There",
@@ -48,7 +48,7 @@ fn hmac_sha1_of_the_standard(rt: HostRuntime) {
             b"e8e99d0f45237d786d6bbaa7965c7808bbff1a91",
         ),
     ];
-    for (key, text, mac) in rows {
+    for &(key, text, mac) in ROWS {
         assert!(rt;
             in_hex(&hmac_sha1(key, &[text]), mac),
             "{} octets of key",
@@ -60,7 +60,7 @@ fn hmac_sha1_of_the_standard(rt: HostRuntime) {
 // RFC 4231, section 4.
 #[test]
 fn hmac_sha256_of_the_standard(rt: HostRuntime) {
-    let rows: [(&[u8], &[u8], &[u8]); 6] = [
+    const ROWS: &[(&[u8], &[u8], &[u8])] = &[
         (
             &[0x0b; 20],
             b"Hi There",
@@ -92,7 +92,7 @@ fn hmac_sha256_of_the_standard(rt: HostRuntime) {
             b"9b09ffa71b942fcb27635fbcd5b0e944bfdc63644f0713938a7f51535c3a35e2",
         ),
     ];
-    for (key, text, mac) in rows {
+    for &(key, text, mac) in ROWS {
         assert!(rt;
             in_hex(&hmac_sha256(key, &[text]), mac),
             "{} octets of key",
@@ -107,7 +107,7 @@ fn hmac_sha256_of_the_standard(rt: HostRuntime) {
 // RFC 4231, section 4.
 #[test]
 fn hmac_sha384_of_the_standard(rt: HostRuntime) {
-    let rows: [(&[u8], &[u8], &[u8]); 6] = [
+    const ROWS: &[(&[u8], &[u8], &[u8])] = &[
         (
             &[0x0b; 20],
             b"Hi There",
@@ -139,7 +139,7 @@ fn hmac_sha384_of_the_standard(rt: HostRuntime) {
             b"6617178e941f020d351e2f254e8fd32c602420feb0b8fb9adccebb82461e99c5a678cc31e799176d3860e6110c46523e",
         ),
     ];
-    for (key, text, mac) in rows {
+    for &(key, text, mac) in ROWS {
         assert!(rt;
             in_hex(&hmac_sha384(key, &[text]), mac),
             "{} octets of key",

@@ -7,7 +7,7 @@ use std::test::Fail;
 // RFC 3962, appendix B.
 #[test]
 fn keys_of_rfc_3962(rt: HostRuntime) -> Result<(), Fail> {
-    let rows: [(Etype, &[u8], &[u8], u32, &[u8]); 14] = [
+    const ROWS: &[(Etype, &[u8], &[u8], u32, &[u8])] = &[
         (
             Etype::Aes128CtsHmacSha1_96,
             b"password",
@@ -107,7 +107,7 @@ fn keys_of_rfc_3962(rt: HostRuntime) -> Result<(), Fail> {
             b"4b6d9839f84406df1f09cc166db4b83c571848b784a3d6bdc346589a3e393f9e",
         ),
     ];
-    for (etype, pass, salt, count, hex) in rows {
+    for &(etype, pass, salt, count, hex) in ROWS {
         assert!(rt; count >= 1);
         let key = string_to_key(rt.alloc(), etype, pass, salt, count)?;
         assert!(rt;
@@ -123,7 +123,7 @@ fn keys_of_rfc_3962(rt: HostRuntime) -> Result<(), Fail> {
 fn keys_of_rfc_8009(rt: HostRuntime) -> Result<(), Fail> {
     const SALT: &[u8; 37] =
         b"\x10\xdf\x9d\xd7\x83\xe5\xbc\x8a\xce\xa1s\x0et5_aATHENA.MIT.EDUraeburn";
-    let rows: [(Etype, &[u8]); 2] = [
+    const ROWS: &[(Etype, &[u8])] = &[
         (
             Etype::Aes128CtsHmacSha256_128,
             b"089bca48b105ea6ea77ca5d2f39dc5e7",
@@ -133,7 +133,7 @@ fn keys_of_rfc_8009(rt: HostRuntime) -> Result<(), Fail> {
             b"45bd806dbf6a833a9cffc1c94589a222367a79bc21c413718906e9f578a78467",
         ),
     ];
-    for (etype, hex) in rows {
+    for &(etype, hex) in ROWS {
         let count = etype.default_count();
         assert!(rt; count >= 1);
         let key = string_to_key(rt.alloc(), etype, b"password", SALT, count)?;

@@ -1,14 +1,14 @@
 //! Sealing and opening (`enctypes`).
 
 use crate::given::{TEXT, USAGE, base_key, in_hex};
-use enctypes::{Etype, KeyUsage, open, seal, string_to_key};
-use std::alloc::AllocError;
+use enctypes::{Etype, Key, KeyUsage, open, seal, string_to_key};
+use std::alloc::{AllocError, Global};
 use std::test::Fail;
 
 // RFC 8009, appendix A, for types 19 and 20; the others are from the independent implementation.
 #[test]
 fn sealed_texts_of_the_standards(rt: HostRuntime) -> Result<(), Fail> {
-    let rows: [(Etype, [u8; 16], usize, &[u8]); 14] = [
+    const ROWS: &[(Etype, [u8; 16], usize, &[u8])] = &[
         (
             Etype::Aes128CtsHmacSha1_96,
             [
@@ -136,18 +136,20 @@ fn sealed_texts_of_the_standards(rt: HostRuntime) -> Result<(), Fail> {
             b"40013e2df58e8751957d2878bcd2d6fe101ccfd556cb1eae79db3c3ee86429f2b2a602ac86fef6ecb647d6295fae077a1feb517508d2c16b4192e01f62",
         ),
     ];
-    for (etype, confounder, len, hex) in rows {
+    for &(etype, confounder, len, hex) in ROWS {
         assert!(rt; len <= TEXT.len());
         let (key, text) = (base_key(etype), &TEXT[..len]);
         let sealed = seal(rt.alloc(), &key, USAGE, &confounder, text)?;
         assert!(rt; in_hex(&sealed, hex), "{len} octets");
-        let opened = open(rt.alloc(), &key, USAGE, &sealed)?;
-        assert!(rt;
-            opened.is_some_and(|opened| opened.as_slice() == text),
-            "{len} octets"
-        );
+        assert!(rt; is_opened(rt.alloc(), &key, &sealed, text)?, "{len} octets");
     }
     Ok(())
+}
+
+/// Whether the octets are opened, and this text is in them.
+fn is_opened(alloc: Global, key: &Key, sealed: &[u8], text: &[u8]) -> Result<bool, AllocError> {
+    let opened = open(alloc, key, USAGE, sealed)?;
+    Ok(opened.is_some_and(|opened| opened.as_slice() == text))
 }
 
 #[test]
@@ -161,13 +163,18 @@ fn a_changed_cipher_is_not_opened(rt: HostRuntime) -> Result<(), Fail> {
         let key = base_key(etype);
         let mut sealed = seal(rt.alloc(), &key, USAGE, &[7; 16], &[])?;
         assert!(rt; sealed.len() == len && len >= 1);
-        assert!(rt; open(rt.alloc(), &key, KeyUsage::ApReqAuthenticator, &sealed)?.is_none());
+        assert!(rt; is_refused(rt.alloc(), &key, KeyUsage::ApReqAuthenticator, &sealed));
         sealed[len - 1] ^= 1;
-        assert!(rt; open(rt.alloc(), &key, USAGE, &sealed)?.is_none());
-        assert!(rt; open(rt.alloc(), &key, USAGE, &sealed[..len - 1])?.is_none());
-        assert!(rt; open(rt.alloc(), &key, USAGE, &[])?.is_none());
+        assert!(rt; is_refused(rt.alloc(), &key, USAGE, &sealed));
+        assert!(rt; is_refused(rt.alloc(), &key, USAGE, &sealed[..len - 1]));
+        assert!(rt; is_refused(rt.alloc(), &key, USAGE, &[]));
     }
     Ok(())
+}
+
+/// Whether the octets are refused, and not for want of memory.
+fn is_refused(alloc: Global, key: &Key, usage: KeyUsage, sealed: &[u8]) -> bool {
+    open(alloc, key, usage, sealed).is_ok_and(|opened| opened.is_none())
 }
 
 // Passes whichever allocation is refused.

@@ -40,8 +40,8 @@ const OTHER_REP: &[u8; 36] = b"\x6f\x22\x30\x20\
     \xa1\x03\x02\x01\x0f\
     \xa2\x14\x30\x12\xa0\x03\x02\x01\xff\xa1\x07\x02\x05\x00\x80\x00\x00\x00\xa2\x02\x04\x00";
 
-fn request(octets: &[u8]) -> Result<ApReqRef<'_>, Fail> {
-    Ok(read_ap_req(octets)?)
+fn request(octets: &[u8]) -> Result<ApReqRef<'_>, DerFault> {
+    read_ap_req(octets)
 }
 
 fn kvno(sealed: &EncryptedDataRef<'_>) -> Option<i64> {
@@ -73,13 +73,22 @@ fn is_ticket(ticket: &TicketRef<'_>) -> bool {
 #[test]
 fn requests_are_read(rt: HostRuntime) -> Result<(), Fail> {
     let request = request(AP_REQ)?;
-    assert_eq!(rt; (request.pvno, request.msg_type), (5, 14));
-    assert_eq!(rt; request.ap_options.bits(), 0x2000_0000);
-    assert!(rt; request.ap_options.has(ApOption::MutualRequired));
-    assert!(rt; !request.ap_options.has(ApOption::UseSessionKey));
-    assert!(rt; is_ticket(&request.ticket));
-    assert!(rt; is_sealed(&request.authenticator, 17, None, &[4, 5]));
+    assert!(rt; asks_for_an_answer(&request) && has_ticket_and_authenticator(&request));
     Ok(())
+}
+
+/// Whether this is of version 5, and wants an answer alone.
+fn asks_for_an_answer(request: &ApReqRef<'_>) -> bool {
+    request.pvno == 5
+        && request.msg_type == 14
+        && request.ap_options.bits() == 0x2000_0000
+        && request.ap_options.has(ApOption::MutualRequired)
+        && !request.ap_options.has(ApOption::UseSessionKey)
+}
+
+/// Whether the ticket and the authenticator are those of `AP_REQ`.
+fn has_ticket_and_authenticator(request: &ApReqRef<'_>) -> bool {
+    is_ticket(&request.ticket) && is_sealed(&request.authenticator, 17, None, &[4, 5])
 }
 
 /// Whether the octets count from 0, and are so many.
@@ -95,46 +104,79 @@ fn count(octets: &[u8], len: usize) -> bool {
 #[test]
 fn requests_of_any_version_are_read(rt: HostRuntime) -> Result<(), Fail> {
     let octets = hex::decode(rt.alloc(), LONG_REQ)?;
-    let request = request(&octets)?;
-    assert_eq!(rt; (request.pvno, request.msg_type), (4, 15));
-    assert_eq!(rt; request.ap_options.bits(), 0x4001_0001);
-    assert!(rt; request.ap_options.has(ApOption::UseSessionKey));
-    assert!(rt; !request.ap_options.has(ApOption::MutualRequired));
-    assert!(rt; is_name(&request.ticket.sname, 3, &[b"host", b"b"]));
-    assert!(rt; count(request.ticket.enc_part.cipher.as_slice(), 200));
-    assert_eq!(rt; kvno(&request.authenticator), Some(9));
-    assert!(rt; count(request.authenticator.cipher.as_slice(), 130));
+    match request(&octets) {
+        Ok(request) => {
+            assert!(rt; has_other_version(&request) && has_long_ciphers(&request));
+        }
+        Err(fault) => panic!(rt; "{fault:?}"),
+    }
     Ok(())
+}
+
+/// Whether this is of version 4 and type 15, with the options of `LONG_REQ`.
+fn has_other_version(request: &ApReqRef<'_>) -> bool {
+    request.pvno == 4
+        && request.msg_type == 15
+        && request.ap_options.bits() == 0x4001_0001
+        && request.ap_options.has(ApOption::UseSessionKey)
+        && !request.ap_options.has(ApOption::MutualRequired)
+}
+
+/// Whether the service and the ciphers are those of `LONG_REQ`.
+fn has_long_ciphers(request: &ApReqRef<'_>) -> bool {
+    is_name(&request.ticket.sname, 3, &[b"host", b"b"])
+        && count(request.ticket.enc_part.cipher.as_slice(), 200)
+        && kvno(&request.authenticator) == Some(9)
+        && count(request.authenticator.cipher.as_slice(), 130)
 }
 
 #[test]
 fn other_octets_are_no_request(rt: HostRuntime) {
     let octets = AP_REQ.as_slice();
-    let mut followed = [0; 104];
-    followed[..103].copy_from_slice(octets);
-    let mut other_tag = *AP_REQ;
-    other_tag[0] = 0x6f;
-    let mut no_ticket = *AP_REQ;
-    no_ticket[25] = 0x62;
-    // Without its last field, the authenticator.
-    let mut shorter = [0; 88];
-    shorter.copy_from_slice(&octets[..88]);
-    shorter[1] = 0x56;
-    shorter[3] = 0x54;
-    let faults: [(&[u8], DerFault); 5] = [
-        (AP_REP, DerFault::BadTag),
-        (&other_tag, DerFault::BadTag),
-        (&no_ticket, DerFault::BadTag),
-        (&shorter, DerFault::Truncated),
-        (&followed, DerFault::Trailing),
-    ];
-    for (faulty, fault) in faults {
-        assert_eq!(rt; read_ap_req(faulty).err(), Some(fault));
-    }
+    assert!(rt; fault_of(AP_REP) == Some(DerFault::BadTag));
+    assert!(rt; fault_of(&with_other_tag()) == Some(DerFault::BadTag));
+    assert!(rt; fault_of(&without_ticket()) == Some(DerFault::BadTag));
+    assert!(rt; fault_of(&without_authenticator()) == Some(DerFault::Truncated));
+    assert!(rt; fault_of(&followed()) == Some(DerFault::Trailing));
     for len in 0..103 {
-        let read = read_ap_req(&octets[..len]);
-        assert_eq!(rt; read.err(), Some(DerFault::Truncated), "at {len}");
+        let fault = fault_of(&octets[..len]);
+        assert_eq!(rt; fault, Some(DerFault::Truncated), "at {len}");
     }
+}
+
+/// The request with the tag of a reply.
+fn with_other_tag() -> [u8; 103] {
+    let mut octets = *AP_REQ;
+    octets[0] = 0x6f;
+    octets
+}
+
+/// The request with another tag where the ticket's should be.
+fn without_ticket() -> [u8; 103] {
+    let mut octets = *AP_REQ;
+    octets[25] = 0x62;
+    octets
+}
+
+fn fault_of(octets: &[u8]) -> Option<DerFault> {
+    read_ap_req(octets).err()
+}
+
+/// The request, and an octet behind it.
+fn followed() -> [u8; 104] {
+    let mut octets = [0; 104];
+    octets[..103].copy_from_slice(AP_REQ);
+    octets
+}
+
+/// The request without its last field, the authenticator.
+fn without_authenticator() -> [u8; 88] {
+    let request = AP_REQ.as_slice();
+    let mut octets = [0; 88];
+    octets.copy_from_slice(&request[..88]);
+    octets[1] = 0x56;
+    octets[3] = 0x54;
+    octets
 }
 
 /// What is written of the request that the octets spell.
@@ -163,15 +205,18 @@ fn reply(alloc: Global, octets: &[u8]) -> Result<ApRep, Fault> {
 
 #[test]
 fn replies_are_read(rt: HostRuntime) -> Result<(), Fail> {
-    let sealed = reply(rt.alloc(), AP_REP)?.enc_part;
-    assert_eq!(rt; sealed.etype, 18);
-    assert!(rt; sealed.kvno.is_none());
-    assert_eq!(rt; sealed.cipher.as_slice(), [6, 7, 8].as_slice());
-    let other = reply(rt.alloc(), OTHER_REP)?.enc_part;
-    assert_eq!(rt; other.etype, -1);
-    assert!(rt; other.kvno.is_some_and(|n| n.get() == 2_147_483_648));
-    assert!(rt; other.cipher.as_slice().is_empty());
+    let alloc = rt.alloc();
+    assert!(rt; is_reply(&reply(alloc, AP_REP)?, 18, None, &[6, 7, 8]));
+    assert!(rt; is_reply(&reply(alloc, OTHER_REP)?, -1, Some(2_147_483_648), &[]));
     Ok(())
+}
+
+/// Whether the reply has this cipher, with the number of its type and its kvno.
+fn is_reply(reply: &ApRep, etype: i32, version: Option<i64>, cipher: &[u8]) -> bool {
+    let sealed = &reply.enc_part;
+    sealed.etype == etype
+        && sealed.kvno.map(|n| n.get()) == version
+        && sealed.cipher.as_slice() == cipher
 }
 
 #[test]

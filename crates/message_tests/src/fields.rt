@@ -5,6 +5,7 @@ use krb_fields::{
     component_from_text, component_to_text, is_component,
 };
 use std::alloc::{AllocError, Global};
+use std::cmp::Ordering;
 use std::test::Fail;
 
 /// A name of these components.
@@ -20,19 +21,9 @@ fn name_of(alloc: Global, name_type: i32, components: &[&[u8]]) -> Result<Name, 
     Ok(name)
 }
 
-/// The name of a text, which is within the limits and is written as that text.
-fn name_of_text(alloc: Global, text: &str) -> Result<Name, Fail> {
-    let name = Name::from_text(alloc, text)?;
-    if name.to_text(alloc)?.as_str() != text || !name.is_within_limits() {
-        Err("another text, or a name beyond the limits")?;
-    }
-    Ok(name)
-}
-
 #[test]
 fn names_are_read_and_written(rt: HostRuntime) -> Result<(), Fail> {
-    let alloc = rt.alloc();
-    let texts: [(&str, &[&[u8]]); 5] = [
+    const NAMES: &[(&str, &[&[u8]])] = &[
         ("u\\40x", &[&[0x75, 0x40, 0x78]]),
         ("krbtgt/A.B", &[b"krbtgt", b"A.B"]),
         ("host/a\\2fb\\5c\\20!~", &[b"host", b"a/b\\ !~"]),
@@ -48,18 +39,28 @@ fn names_are_read_and_written(rt: HostRuntime) -> Result<(), Fail> {
             ],
         ),
     ];
-    for (text, components) in texts {
-        let name = name_of_text(alloc, text)?;
-        assert_eq!(rt; name.name_type, NT_PRINCIPAL);
-        assert!(rt; name.is_same(&name_of(alloc, 2, components)?), "{text}");
+    for &(text, components) in NAMES {
+        assert!(rt; is_text_of(rt.alloc(), text, components)?, "{text}");
     }
     Ok(())
 }
 
+/// Whether the text is read as a name of these components, which is within the limits, and is written of it.
+fn is_text_of(alloc: Global, text: &str, components: &[&[u8]]) -> Result<bool, Fail> {
+    let name = Name::from_text(alloc, text)?;
+    let same = name_of(alloc, 2, components)?;
+    let written = name.to_text(alloc)?;
+    Ok(
+        name.name_type == NT_PRINCIPAL
+            && name.is_same(&same)
+            && name.is_within_limits()
+            && written.as_str() == text,
+    )
+}
+
 #[test]
-fn other_texts_are_no_names(rt: HostRuntime) -> Result<(), Fail> {
-    let alloc = rt.alloc();
-    let texts = [
+fn other_texts_are_no_names(rt: HostRuntime) {
+    const TEXTS: &[&str] = &[
         "",
         "/",
         "a/",
@@ -77,31 +78,36 @@ fn other_texts_are_no_names(rt: HostRuntime) -> Result<(), Fail> {
         "\\4g",
         "a/b/c/d/e/f/g/h/i/j/k/l/m/n/o/p/q",
     ];
-    for text in texts {
-        assert_eq!(rt;
-            Name::from_text(alloc, text).map(|_| ()),
-            Err(NameFault::BadName),
-            "{text}"
-        );
+    for &text in TEXTS {
+        let fault = Name::from_text(rt.alloc(), text).err();
+        assert_eq!(rt; fault, Some(NameFault::BadName), "{text}");
     }
-    Ok(())
 }
 
 #[test]
 fn components_have_at_most_255_octets(rt: HostRuntime) -> Result<(), Fail> {
     let alloc = rt.alloc();
+    let mut text = longest_text(alloc)?;
+    assert!(rt; spells(alloc, text.as_str(), &[0xff; 255])?);
+    text.push('a')?;
+    assert!(rt; is_no_component(alloc, text.as_str()));
+    Ok(())
+}
+
+/// The text of a component of 255 octets.
+fn longest_text(alloc: Global) -> Result<String, AllocError> {
     let mut text = String::new(alloc);
     for _ in 0..255 {
         text.push_str("\\ff")?;
     }
-    let realm = component_from_text(alloc, text.as_str())?;
-    assert_eq!(rt; realm.as_slice().len(), 255);
-    assert!(rt; is_component(realm.as_slice()));
-    let written = component_to_text(alloc, realm.as_slice())?;
-    assert_eq!(rt; written.as_str(), text.as_str());
-    text.push('a')?;
-    assert!(rt; is_no_component(alloc, text.as_str()));
-    Ok(())
+    Ok(text)
+}
+
+/// Whether the text is read as the component of these octets, and is written of it.
+fn spells(alloc: Global, text: &str, octets: &[u8]) -> Result<bool, Fail> {
+    let component = component_from_text(alloc, text)?;
+    let written = component_to_text(alloc, component.as_slice())?;
+    Ok(component.as_slice() == octets && is_component(octets) && written.as_str() == text)
 }
 
 fn is_no_component(alloc: Global, text: &str) -> bool {
@@ -110,12 +116,17 @@ fn is_no_component(alloc: Global, text: &str) -> bool {
 
 #[test]
 fn names_have_1_to_16_components_of_1_to_255_octets(rt: HostRuntime) -> Result<(), Fail> {
-    let alloc = rt.alloc();
-    assert!(rt; !is_component(&[1; 256]));
-    assert!(rt; !is_component(&[]));
-    let names: [&[&[u8]]; 3] = [&[], &[b"a", b""], &[b"a".as_slice(); 17]];
-    for components in names {
-        assert!(rt; !name_of(alloc, 1, components)?.is_within_limits());
+    const NAMES: &[&[&[u8]]] = &[
+        &[],
+        &[b"a", b""],
+        &[
+            b"a", b"a", b"a", b"a", b"a", b"a", b"a", b"a", b"a", b"a", b"a", b"a", b"a", b"a",
+            b"a", b"a", b"a",
+        ],
+    ];
+    assert!(rt; !is_component(&[1; 256]) && !is_component(&[]));
+    for &components in NAMES {
+        assert!(rt; !name_of(rt.alloc(), 1, components)?.is_within_limits());
     }
     Ok(())
 }
@@ -124,8 +135,7 @@ fn names_have_1_to_16_components_of_1_to_255_octets(rt: HostRuntime) -> Result<(
 #[test]
 fn realms_are_read(rt: HostRuntime) -> Result<(), Fail> {
     let alloc = rt.alloc();
-    let realm = component_from_text(alloc, "A.B")?;
-    assert_eq!(rt; realm.as_slice(), b"A.B".as_slice());
+    assert!(rt; spells(alloc, "A.B", b"A.B")?);
     for text in ["", "A/B", "A@B"] {
         assert!(rt; is_no_component(alloc, text), "{text}");
     }
@@ -135,28 +145,32 @@ fn realms_are_read(rt: HostRuntime) -> Result<(), Fail> {
 /// The salt of raeburn in ATHENA.MIT.EDU is that of RFC 3962 appendix B.
 #[test]
 fn salts_join_realm_and_components(rt: HostRuntime) -> Result<(), Fail> {
-    let alloc = rt.alloc();
-    let names: [(&[u8], &[&[u8]], &[u8]); 4] = [
+    const SALTS: &[(&[u8], &[&[u8]], &[u8])] = &[
         (b"A.B", &[b"u"], b"A.Bu"),
         (b"ATHENA.MIT.EDU", &[b"raeburn"], b"ATHENA.MIT.EDUraeburn"),
         (b"A.B", &[b"krbtgt", b"A.B"], b"A.BkrbtgtA.B"),
         (b"A.B", &[], b"A.B"),
     ];
-    for (realm, components, salt) in names {
-        assert_eq!(rt;
-            name_of(alloc, 1, components)?
-                .salt(alloc, realm)?
-                .as_slice(),
-            salt
-        );
+    for &(realm, components, salt) in SALTS {
+        let found = salt_of(rt.alloc(), realm, components)?;
+        assert_eq!(rt; found.as_slice(), salt);
     }
     Ok(())
 }
 
+/// The salt of the name of these components in the realm.
+fn salt_of(
+    alloc: Global,
+    realm: &[u8],
+    components: &[&[u8]],
+) -> Result<KerberosString, AllocError> {
+    let name = name_of(alloc, 1, components)?;
+    name.salt(alloc, realm)
+}
+
 #[test]
 fn names_are_ordered_by_components(rt: HostRuntime) -> Result<(), Fail> {
-    let alloc = rt.alloc();
-    let texts = [
+    const TEXTS: &[&str] = &[
         "a",
         "b",
         "h",
@@ -166,15 +180,20 @@ fn names_are_ordered_by_components(rt: HostRuntime) -> Result<(), Fail> {
         "u",
         "u/a",
     ];
-    for (i, text) in texts.iter().enumerate() {
-        let name = Name::from_text(alloc, *text)?;
-        for (j, other) in texts.iter().enumerate() {
-            let other = Name::from_text(alloc, *other)?;
-            assert_eq!(rt; name.order(&other), i.cmp(&j));
-            assert_eq!(rt; name.is_same(&other), i == j);
+    for (i, one) in TEXTS.iter().enumerate() {
+        for (j, other) in TEXTS.iter().enumerate() {
+            let order = order_of(rt.alloc(), *one, *other)?;
+            assert_eq!(rt; order, (i.cmp(&j), i == j));
         }
     }
     Ok(())
+}
+
+/// The order of the names of two texts, and whether they are the same.
+fn order_of(alloc: Global, one: &str, other: &str) -> Result<(Ordering, bool), NameFault> {
+    let one = Name::from_text(alloc, one)?;
+    let other = Name::from_text(alloc, other)?;
+    Ok((one.order(&other), one.is_same(&other)))
 }
 
 #[test]
@@ -190,18 +209,17 @@ fn a_copy_of_a_name_is_the_same(rt: HostRuntime) -> Result<(), Fail> {
 fn moments_are_in_range(rt: HostRuntime) {
     for (sec, usec) in [(0, 0), (253402300799, 999999)] {
         let at = Moment::new(sec, usec);
-        assert_eq!(rt; at.map(|at| (at.sec, at.usec)), Some((sec, usec)));
+        assert!(rt; at.is_some_and(|at| at.sec == sec && at.usec == usec));
     }
     for (sec, usec) in [(-1, 0), (253402300800, 0), (0, 1000000)] {
-        assert_eq!(rt; Moment::new(sec, usec), None);
+        assert!(rt; Moment::new(sec, usec).is_none());
     }
 }
 
 /// The masks are those of krb5.h of MIT Kerberos.
 #[test]
 fn flags_have_their_bits(rt: HostRuntime) {
-    let none = Flags::from_bits(0);
-    let ticket = [
+    const TICKET: &[(TicketFlag, u32)] = &[
         (TicketFlag::Forwardable, 0x4000_0000),
         (TicketFlag::Forwarded, 0x2000_0000),
         (TicketFlag::Proxiable, 0x1000_0000),
@@ -216,10 +234,7 @@ fn flags_have_their_bits(rt: HostRuntime) {
         (TicketFlag::TransitedPolicyChecked, 0x0008_0000),
         (TicketFlag::OkAsDelegate, 0x0004_0000),
     ];
-    for (flag, mask) in ticket {
-        assert_eq!(rt; none.with(flag).bits(), mask);
-    }
-    let options = [
+    const OPTIONS: &[(KdcOption, u32)] = &[
         (KdcOption::Forwardable, 0x4000_0000),
         (KdcOption::Forwarded, 0x2000_0000),
         (KdcOption::Proxiable, 0x1000_0000),
@@ -233,7 +248,11 @@ fn flags_have_their_bits(rt: HostRuntime) {
         (KdcOption::Renew, 0x02),
         (KdcOption::Validate, 0x01),
     ];
-    for (option, mask) in options {
+    let none = Flags::from_bits(0);
+    for &(flag, mask) in TICKET {
+        assert_eq!(rt; none.with(flag).bits(), mask);
+    }
+    for &(option, mask) in OPTIONS {
         assert_eq!(rt; none.with(option).bits(), mask);
     }
     assert_eq!(rt; none.with(ApOption::UseSessionKey).bits(), 0x4000_0000);
@@ -244,16 +263,15 @@ fn flags_have_their_bits(rt: HostRuntime) {
 fn flags_are_set_and_cleared(rt: HostRuntime) {
     let flags = Flags::from_bits(0x8080_0001);
     assert!(rt; flags.has(TicketFlag::Renewable) && !flags.has(TicketFlag::Invalid));
-    assert_eq!(rt; flags.without(TicketFlag::Renewable).bits(), 0x8000_0001);
-    assert_eq!(rt; flags.without(TicketFlag::Invalid), flags);
-    assert_eq!(rt; flags.with(TicketFlag::Renewable), flags);
+    assert!(rt; flags.without(TicketFlag::Renewable).bits() == 0x8000_0001);
+    assert!(rt; flags.without(TicketFlag::Invalid) == flags);
+    assert!(rt; flags.with(TicketFlag::Renewable) == flags);
 }
 
 /// Each number is read off the table of RFC 4120 section 7.5.9.
 #[test]
 fn codes_have_their_names(rt: HostRuntime) -> Result<(), Fail> {
-    let alloc = rt.alloc();
-    let codes = [
+    const CODES: &[(Code, i32, &str)] = &[
         (Code::KdcErrNameExp, 1, "KDC_ERR_NAME_EXP"),
         (Code::KdcErrServiceExp, 2, "KDC_ERR_SERVICE_EXP"),
         (Code::KdcErrBadPvno, 3, "KDC_ERR_BAD_PVNO"),
@@ -305,9 +323,9 @@ fn codes_have_their_names(rt: HostRuntime) -> Result<(), Fail> {
         (Code::KrbErrGeneric, 60, "KRB_ERR_GENERIC"),
         (Code::KrbErrFieldToolong, 61, "KRB_ERR_FIELD_TOOLONG"),
     ];
-    for (code, number, name) in codes {
-        assert_eq!(rt; code.number(), number);
-        assert_eq!(rt; format!(in alloc; "{code}")?.as_str(), name);
+    for &(code, number, name) in CODES {
+        let text = format!(in rt.alloc(); "{code}")?;
+        assert_eq!(rt; (code.number(), text.as_str()), (number, name));
     }
     Ok(())
 }
@@ -325,21 +343,15 @@ fn want_of_memory_is_answered(rt: HostRuntime) -> Result<(), Fail> {
             Name::from_text(alloc, text)?
         }
     };
-    assert_eq!(rt; text_of(alloc, &name)?.as_str(), text);
-    assert_eq!(rt;
-        salt_of(alloc, &name)?.as_slice(),
-        b"A.Bhost ofa.b".as_slice()
-    );
+    assert!(rt; is_written_as(alloc, &name, text, b"A.Bhost ofa.b")?);
     Ok(())
 }
 
-/// The text of a name, asked for again where an allocation is refused.
-fn text_of(alloc: Global, name: &Name) -> Result<String, AllocError> {
-    name.to_text(alloc).or_else(|_| name.to_text(alloc))
-}
-
-/// The salt of a name in `A.B`, asked for again where an allocation is refused.
-fn salt_of(alloc: Global, name: &Name) -> Result<KerberosString, AllocError> {
-    name.salt(alloc, b"A.B")
-        .or_else(|_| name.salt(alloc, b"A.B"))
+/// Whether the name has this text, and in `A.B` this salt; each is asked for again where an allocation is refused.
+fn is_written_as(alloc: Global, name: &Name, text: &str, salt: &[u8]) -> Result<bool, AllocError> {
+    let found = name.to_text(alloc).or_else(|_| name.to_text(alloc))?;
+    let joined = name
+        .salt(alloc, b"A.B")
+        .or_else(|_| name.salt(alloc, b"A.B"))?;
+    Ok(found.as_str() == text && joined.as_slice() == salt)
 }

@@ -93,21 +93,30 @@ fn has_lists(part: &EncTicketPart) -> bool {
 #[test]
 fn parts_of_tickets_are_read(rt: HostRuntime) -> Result<(), Fail> {
     let part = ticket_part(rt.alloc(), TICKET)?;
-    assert_eq!(rt; part.flags.bits(), 0x40c1_0000);
-    assert_eq!(rt; (part.key.number, part.transited.number), (18, 1));
-    assert_eq!(rt; part.key.octets.as_slice().len(), 32);
-    assert_eq!(rt; part.crealm.as_slice(), b"A.B".as_slice());
-    assert!(rt; has_times(&part));
-    assert!(rt; has_lists(&part));
+    assert!(rt; has_numbers(&part) && has_times(&part) && has_lists(&part));
     Ok(())
+}
+
+fn has_numbers(part: &EncTicketPart) -> bool {
+    part.flags.bits() == 0x40c1_0000
+        && part.key.number == 18
+        && part.key.octets.as_slice().len() == 32
+        && part.transited.number == 1
+        && part.crealm.as_slice() == b"A.B".as_slice()
 }
 
 #[test]
 fn what_may_be_absent_is_absent(rt: HostRuntime) -> Result<(), Fail> {
     let part = ticket_part(rt.alloc(), LEAST_TICKET)?;
-    assert!(rt; part.starttime.is_none() && part.renew_till.is_none());
-    assert!(rt; part.caddr.is_none() && part.authorization_data.is_none());
+    assert!(rt; has_no_optional_field(&part));
     Ok(())
+}
+
+fn has_no_optional_field(part: &EncTicketPart) -> bool {
+    part.starttime.is_none()
+        && part.renew_till.is_none()
+        && part.caddr.is_none()
+        && part.authorization_data.is_none()
 }
 
 fn authenticator(alloc: Global, digits: &[u8]) -> Result<Authenticator, Fail> {
@@ -117,13 +126,23 @@ fn authenticator(alloc: Global, digits: &[u8]) -> Result<Authenticator, Fail> {
 #[test]
 fn authenticators_are_read(rt: HostRuntime) -> Result<(), Fail> {
     let found = authenticator(rt.alloc(), AUTHENTICATOR)?;
-    assert!(rt; is_at(found.ctime, 0));
-    assert_eq!(rt; found.cusec.get(), 7);
-    assert!(rt; found.cksum.is_some_and(|sum| sum.number == 16));
-    assert!(rt; found.subkey.is_some_and(|key| key.number == 18));
-    assert!(rt; found.seq_number.is_some_and(|n| n.get() == 4_294_967_295));
-    assert!(rt; found.authorization_data.is_some_and(|list| list.is_empty()));
+    assert!(rt; has_time_and_number(&found) && has_key_and_data(&found));
     Ok(())
+}
+
+fn has_time_and_number(found: &Authenticator) -> bool {
+    is_at(found.ctime, 0)
+        && found.cusec.get() == 7
+        && found.seq_number.is_some_and(|n| n.get() == 4_294_967_295)
+}
+
+fn has_key_and_data(found: &Authenticator) -> bool {
+    match (&found.cksum, &found.subkey, &found.authorization_data) {
+        (Some(sum), Some(key), Some(list)) => {
+            sum.number == 16 && key.number == 18 && list.is_empty()
+        }
+        _ => false,
+    }
 }
 
 #[test]
@@ -135,21 +154,35 @@ fn authenticators_have_version_5(rt: HostRuntime) -> Result<(), Fail> {
     Ok(())
 }
 
-fn reply_part(octets: &[u8]) -> Result<EncKdcRepPartRef<'_>, Fail> {
-    Ok(read(octets)?)
+fn reply_part(octets: &[u8]) -> Result<EncKdcRepPartRef<'_>, DerFault> {
+    read(octets)
 }
 
 #[test]
 fn parts_of_replies_are_read_where_they_stand(rt: HostRuntime) -> Result<(), Fail> {
-    let reply = octets(rt.alloc(), REPLY)?;
-    let part = reply_part(&reply)?;
-    assert_eq!(rt; (part.key.number, part.nonce.get()), (18, -1));
-    let last = part.last_req.iter().next().ok_or("an entry")?;
-    assert!(rt; last.lr_type == 0 && is_at(last.lr_value, 0));
-    assert!(rt; was_sent_at(part.key_expiration, 31_622_400));
-    assert_eq!(rt; part.srealm.as_slice(), b"A.B".as_slice());
-    assert_eq!(rt; part.sname.name_type, 2);
+    let octets = octets(rt.alloc(), REPLY)?;
+    match reply_part(&octets) {
+        Ok(part) => assert!(rt; is_for_a_ticket(&part) && has_entry(&part)),
+        Err(fault) => panic!(rt; "{fault:?}"),
+    }
     Ok(())
+}
+
+/// Whether the key, the nonce, the end of the client's key and the service are those of `REPLY`.
+fn is_for_a_ticket(part: &EncKdcRepPartRef<'_>) -> bool {
+    part.key.number == 18
+        && part.nonce.get() == -1
+        && was_sent_at(part.key_expiration, 31_622_400)
+        && part.srealm.as_slice() == b"A.B".as_slice()
+        && part.sname.name_type == 2
+}
+
+/// Whether the first request is at midnight.
+fn has_entry(part: &EncKdcRepPartRef<'_>) -> bool {
+    match part.last_req.iter().next() {
+        Some(last) => last.lr_type == 0 && is_at(last.lr_value, 0),
+        None => false,
+    }
 }
 
 fn service_answer(alloc: Global, digits: &[u8]) -> Result<EncApRepPart, Fail> {
@@ -159,26 +192,43 @@ fn service_answer(alloc: Global, digits: &[u8]) -> Result<EncApRepPart, Fail> {
 #[test]
 fn a_service_s_answer_is_read(rt: HostRuntime) -> Result<(), Fail> {
     let part = service_answer(rt.alloc(), AP_REPLY)?;
-    assert!(rt; is_at(part.ctime, 0) && part.cusec.get() == 7);
-    assert!(rt; part.subkey.is_some_and(|key| key.number == 18));
-    assert!(rt; part.seq_number.is_some_and(|n| n.get() == 1));
+    assert!(rt; is_service_answer(&part));
     Ok(())
 }
 
-fn etype_info2_entry(octets: &[u8]) -> Result<EtypeInfo2EntryRef<'_>, Fail> {
-    Ok(read(octets)?)
+/// Whether the fields are those of `AP_REPLY`.
+fn is_service_answer(part: &EncApRepPart) -> bool {
+    let has_key = match &part.subkey {
+        Some(key) => key.number == 18,
+        None => false,
+    };
+    is_at(part.ctime, 0)
+        && part.cusec.get() == 7
+        && has_key
+        && part.seq_number.is_some_and(|n| n.get() == 1)
+}
+
+fn etype_info2_entry(octets: &[u8]) -> Result<EtypeInfo2EntryRef<'_>, DerFault> {
+    read(octets)
 }
 
 #[test]
 fn entries_of_etype_info2_are_read(rt: HostRuntime) -> Result<(), Fail> {
     let octets = octets(rt.alloc(), ETYPE_INFO2_ENTRY)?;
-    let entry = etype_info2_entry(&octets)?;
-    assert_eq!(rt; entry.etype, 18);
-    let salt = entry.salt.ok_or("a salt")?;
-    assert_eq!(rt; salt.as_slice(), b"A.Bu".as_slice());
-    let count = entry.s2kparams.ok_or("a count")?;
-    assert_eq!(rt; count.as_slice(), [0, 0, 16, 0].as_slice());
+    match etype_info2_entry(&octets) {
+        Ok(entry) => assert!(rt; is_entry(&entry, 18, b"A.Bu", &[0, 0, 16, 0])),
+        Err(fault) => panic!(rt; "{fault:?}"),
+    }
     Ok(())
+}
+
+fn is_entry(entry: &EtypeInfo2EntryRef<'_>, etype: i32, salt: &[u8], count: &[u8]) -> bool {
+    match (&entry.salt, &entry.s2kparams) {
+        (Some(found), Some(params)) => {
+            entry.etype == etype && found.as_slice() == salt && params.as_slice() == count
+        }
+        _ => false,
+    }
 }
 
 fn timestamp(alloc: Global, octets: &[u8]) -> Result<PaEncTsEnc, Fail> {

@@ -11,16 +11,26 @@ const AS_REP: &[u8] =
 #[test]
 fn a_reply_is_read_where_it_stands(rt: HostRuntime) -> Result<(), Fail> {
     let octets = hex::decode(rt.alloc(), AS_REP)?;
-    let reply: KdcRepRef<'_, 11> = read(&octets)?;
-    assert_eq!(rt; reply.crealm.as_slice(), b"A.B".as_slice());
-    assert_eq!(rt; (reply.ticket.tkt_vno, reply.enc_part.etype), (5, 18));
+    assert!(rt; is_as_rep(&octets));
     Ok(())
+}
+
+/// Whether these are the octets of `AS_REP`.
+fn is_as_rep(octets: &[u8]) -> bool {
+    match read::<KdcRepRef<'_, 11>>(octets) {
+        Ok(reply) => {
+            reply.crealm.as_slice() == b"A.B".as_slice()
+                && reply.ticket.tkt_vno == 5
+                && reply.enc_part.etype == 18
+        }
+        Err(_) => false,
+    }
 }
 
 #[test]
 fn a_reply_of_the_other_exchange_is_refused(rt: HostRuntime) -> Result<(), Fail> {
     let octets = hex::decode(rt.alloc(), AS_REP)?;
     let found: Result<KdcRepRef<'_, 13>, DerFault> = read(&octets);
-    assert_eq!(rt; found.err(), Some(DerFault::BadTag));
+    assert!(rt; found.err() == Some(DerFault::BadTag));
     Ok(())
 }

@@ -2,7 +2,7 @@
 use krb_der::KTime;
 
 // By Python's datetime, whose first year is 0001: the year 0000 has 366 days before that.
-const TIMES: [(&[u8; 15], i64); 14] = [
+const TIMES: &[(&[u8; 15], i64)] = &[
     (b"00000101000000Z", -62_167_219_200),
     (b"00000229120000Z", -62_162_078_400),
     (b"00010101000000Z", -62_135_596_800),
@@ -21,17 +21,24 @@ const TIMES: [(&[u8; 15], i64); 14] = [
 
 #[test]
 fn reads_and_writes(rt: HostRuntime) {
-    for (octets, seconds) in TIMES {
-        let time = KTime::new(seconds);
-        assert_eq!(rt; KTime::from_octets(octets), time, "at {seconds}");
-        assert_eq!(rt; time.map(|t| t.to_octets()), Some(*octets), "at {seconds}");
-        assert_eq!(rt; time.map(|t| t.seconds()), Some(seconds));
+    for &(octets, seconds) in TIMES {
+        assert!(rt; is_spelled(octets, seconds), "at {seconds}");
     }
+}
+
+/// Whether the octets are read as this time, and are written of it.
+fn is_spelled(octets: &[u8; 15], seconds: i64) -> bool {
+    let Some(time) = KTime::new(seconds) else {
+        return false;
+    };
+    KTime::from_octets(octets) == Some(time)
+        && time.to_octets() == *octets
+        && time.seconds() == seconds
 }
 
 #[test]
 fn refuses_what_is_no_time(rt: HostRuntime) {
-    let refused: [&[u8]; 22] = [
+    const REFUSED: &[&[u8]] = &[
         b"",
         b"2024010100000Z",
         b"202401010000000Z",
@@ -54,12 +61,12 @@ fn refuses_what_is_no_time(rt: HostRuntime) {
         b"20240101240000Z",
         b"20240101006000Z",
         b"20161231235960Z",
+        b"20240230000000Z",
+        b"20230229000000Z",
     ];
-    for octets in refused {
-        assert_eq!(rt; KTime::from_octets(octets), None, "{octets:?}");
+    for octets in REFUSED {
+        assert_eq!(rt; KTime::from_octets(*octets), None, "{octets:?}");
     }
-    assert_eq!(rt; KTime::from_octets(b"20240230000000Z"), None);
-    assert_eq!(rt; KTime::from_octets(b"20230229000000Z"), None);
 }
 
 #[test]

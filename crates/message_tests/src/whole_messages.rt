@@ -97,8 +97,8 @@ fn is_at(time: Option<KTime>, seconds: i64) -> bool {
     time.is_some_and(|time| time.seconds() == seconds)
 }
 
-fn request(octets: &[u8]) -> Result<(Exchange, KdcReqRef<'_>), Fail> {
-    Ok(read_kdc_req(octets)?)
+fn request(octets: &[u8]) -> Result<(Exchange, KdcReqRef<'_>), DerFault> {
+    read_kdc_req(octets)
 }
 
 fn has_no_optional_field(body: &ReqBodyRef<'_>) -> bool {
@@ -123,27 +123,29 @@ fn asks_for(body: &ReqBodyRef<'_>, etypes: &[i32]) -> bool {
 /// Reading takes no allocator, so no test has to refuse it memory.
 #[test]
 fn requests_are_read(rt: HostRuntime) -> Result<(), Fail> {
-    let octets = AS_REQ.as_slice();
-    let (exchange, request) = request(octets)?;
-    assert_eq!(rt; exchange, Exchange::As);
-    assert_eq!(rt; (request.pvno, request.msg_type), (5, 10));
-    assert!(rt; request.padata.is_none());
-    assert_eq!(rt; request.body.octets, &octets[16..]);
+    let (exchange, request) = request(AS_REQ)?;
+    assert!(rt; exchange == Exchange::As && is_as_req(&request));
     Ok(())
 }
 
-#[test]
-fn bodies_of_requests_are_read(rt: HostRuntime) -> Result<(), Fail> {
-    let (_, request) = request(AS_REQ)?;
-    let body = &request.body.value;
-    assert_eq!(rt; body.kdc_options.bits(), 0);
-    assert!(rt; has_name(&body.cname, 1, &[b"u"]));
-    assert_eq!(rt; body.realm.as_slice(), b"A.B".as_slice());
-    assert!(rt; has_name(&body.sname, 2, &[b"krbtgt", b"A.B"]));
-    assert_eq!(rt; (body.till.seconds(), body.nonce.get()), (0, 1));
-    assert!(rt; asks_for(body, &[18]));
-    assert!(rt; has_no_optional_field(body));
-    Ok(())
+fn is_as_req(request: &KdcReqRef<'_>) -> bool {
+    let octets = AS_REQ.as_slice();
+    request.pvno == 5
+        && request.msg_type == 10
+        && request.padata.is_none()
+        && request.body.octets == &octets[16..]
+        && is_body_of_as_req(&request.body.value)
+}
+
+fn is_body_of_as_req(body: &ReqBodyRef<'_>) -> bool {
+    body.kdc_options.bits() == 0
+        && has_name(&body.cname, 1, &[b"u"])
+        && body.realm.as_slice() == b"A.B".as_slice()
+        && has_name(&body.sname, 2, &[b"krbtgt", b"A.B"])
+        && body.till.seconds() == 0
+        && body.nonce.get() == 1
+        && asks_for(body, &[18])
+        && has_no_optional_field(body)
 }
 
 /// Whether the request has this element of data alone.
@@ -161,28 +163,30 @@ fn has_data(request: &KdcReqRef<'_>, padata_type: i32, value: &[u8]) -> bool {
 }
 
 #[test]
-fn requests_with_data_are_read(rt: HostRuntime) -> Result<(), Fail> {
+fn requests_with_each_field_are_read(rt: HostRuntime) -> Result<(), Fail> {
     let (exchange, request) = request(TGS_REQ)?;
-    assert_eq!(rt; exchange, Exchange::Tgs);
-    assert_eq!(rt; (request.pvno, request.msg_type), (5, 12));
-    assert!(rt; has_data(&request, 1, &[1, 2]));
+    assert!(rt; exchange == Exchange::Tgs && is_tgs_req(&request));
     Ok(())
 }
 
+fn is_tgs_req(request: &KdcReqRef<'_>) -> bool {
+    request.pvno == 5
+        && request.msg_type == 12
+        && has_data(request, 1, &[1, 2])
+        && has_numbers_and_times(&request.body.value)
+        && has_parts(&request.body.value)
+}
+
 /// The seconds are those of Python's datetime.
-#[test]
-fn numbers_and_times_are_read(rt: HostRuntime) -> Result<(), Fail> {
-    let (_, request) = request(TGS_REQ)?;
-    let body = &request.body.value;
-    assert_eq!(rt; body.kdc_options.bits(), 0x4081_0010);
-    assert!(rt; body.cname.is_none());
-    assert!(rt; has_name(&body.sname, 3, &[b"host", b"b"]));
-    assert!(rt; is_at(body.from, 1_704_067_200));
-    assert_eq!(rt; body.till.seconds(), 1_704_153_600);
-    assert!(rt; is_at(body.rtime, 1_704_240_000));
-    assert_eq!(rt; body.nonce.get(), 2_147_483_648);
-    assert!(rt; asks_for(body, &[18, 17]));
-    Ok(())
+fn has_numbers_and_times(body: &ReqBodyRef<'_>) -> bool {
+    body.kdc_options.bits() == 0x4081_0010
+        && body.cname.is_none()
+        && has_name(&body.sname, 3, &[b"host", b"b"])
+        && is_at(body.from, 1_704_067_200)
+        && body.till.seconds() == 1_704_153_600
+        && is_at(body.rtime, 1_704_240_000)
+        && body.nonce.get() == 2_147_483_648
+        && asks_for(body, &[18, 17])
 }
 
 /// Whether this is the first address.
@@ -223,40 +227,41 @@ fn is_ticket(ticket: &TicketRef<'_>) -> bool {
         && ticket.enc_part.cipher.as_slice() == [5].as_slice()
 }
 
-#[test]
-fn parts_of_requests_are_read(rt: HostRuntime) -> Result<(), Fail> {
-    let (_, request) = request(TGS_REQ)?;
-    let body = &request.body.value;
-    assert!(rt; has_address(body, 2, &[10, 0, 0, 1]));
-    assert!(rt; has_sealed_data(body, &[3, 4]));
-    assert!(rt; has_ticket(body));
-    Ok(())
+fn has_parts(body: &ReqBodyRef<'_>) -> bool {
+    has_address(body, 2, &[10, 0, 0, 1]) && has_sealed_data(body, &[3, 4]) && has_ticket(body)
 }
 
 /// The order of faults: no octet, tag, length, contents cut, contents, what follows.
 #[test]
 fn faults_are_told_apart(rt: HostRuntime) {
+    assert!(rt; fault_of(&[0x6b]) == Some(DerFault::BadTag));
+    assert!(rt; fault_of(&followed()) == Some(DerFault::Trailing));
+    assert!(rt; fault_of(&in_long_form()) == Some(DerFault::BadLength));
     let octets = AS_REQ.as_slice();
-    let mut followed = [0; 108];
-    followed[..107].copy_from_slice(octets);
-    let mut long_length = [0x81; 108];
-    long_length[0] = 0x6a;
-    long_length[2..].copy_from_slice(&octets[1..]);
-    let faults: [(&[u8], DerFault); 6] = [
-        (&[], DerFault::Truncated),
-        (&[0x6a], DerFault::Truncated),
-        (&[0x6b], DerFault::BadTag),
-        (&octets[..106], DerFault::Truncated),
-        (&followed, DerFault::Trailing),
-        (&long_length, DerFault::BadLength),
-    ];
-    for (faulty, fault) in faults {
-        assert_eq!(rt; read_kdc_req(faulty).err(), Some(fault));
-    }
     for len in 0..107 {
-        let read = read_kdc_req(&octets[..len]);
-        assert_eq!(rt; read.err(), Some(DerFault::Truncated), "at {len}");
+        let fault = fault_of(&octets[..len]);
+        assert_eq!(rt; fault, Some(DerFault::Truncated), "at {len}");
     }
+}
+
+fn fault_of(octets: &[u8]) -> Option<DerFault> {
+    read_kdc_req(octets).err()
+}
+
+/// The request, and an octet behind it.
+fn followed() -> [u8; 108] {
+    let mut octets = [0; 108];
+    octets[..107].copy_from_slice(AS_REQ);
+    octets
+}
+
+/// The request, whose length has an octet more than it needs.
+fn in_long_form() -> [u8; 108] {
+    let request = AS_REQ.as_slice();
+    let mut octets = [0x81; 108];
+    octets[0] = 0x6a;
+    octets[2..].copy_from_slice(&request[1..]);
+    octets
 }
 
 /// What is written of the request that the octets spell.
@@ -308,18 +313,23 @@ fn error(alloc: Global, octets: &[u8]) -> Result<KrbError, Fault> {
 #[test]
 fn errors_are_read(rt: HostRuntime) -> Result<(), Fail> {
     let error = error(rt.alloc(), LONG_ERROR)?;
-    assert!(rt; is_at(error.ctime, 1_704_067_199));
-    assert!(rt; error.cusec.is_some_and(|n| n.get() == 999_999));
-    assert_eq!(rt;
-        (error.stime.seconds(), error.susec.get()),
-        (1_704_067_200, 1)
-    );
-    assert_eq!(rt; error.error_code, 25);
-    let text = error.e_text.ok_or("a text")?;
-    assert_eq!(rt; text.as_slice(), b"no".as_slice());
-    let data = error.e_data.ok_or("data")?;
-    assert_eq!(rt; data.as_slice(), [0x30, 0].as_slice());
+    assert!(rt; has_time_and_code(&error) && has_text_and_data(&error, b"no", &[0x30, 0]));
     Ok(())
+}
+
+fn has_time_and_code(error: &KrbError) -> bool {
+    is_at(error.ctime, 1_704_067_199)
+        && error.cusec.is_some_and(|n| n.get() == 999_999)
+        && error.stime.seconds() == 1_704_067_200
+        && error.susec.get() == 1
+        && error.error_code == 25
+}
+
+fn has_text_and_data(error: &KrbError, text: &[u8], data: &[u8]) -> bool {
+    match (&error.e_text, &error.e_data) {
+        (Some(e_text), Some(e_data)) => e_text.as_slice() == text && e_data.as_slice() == data,
+        _ => false,
+    }
 }
 
 #[test]
