@@ -1,5 +1,8 @@
 //! The files that a server is opened with.
-ghost use Rattle.std.specs.Prelude.{◌≡◌, ◌≤◌, IfOk, take, vec_len};
+ghost use Rattle.std.specs.Prelude.{◌≡◌, ◌≤◌, ◌<◌, IfErr, IfOk, Ok, length, option_map, take, vec_len};
+ghost use Rattle.principals.specs.Value.{text_database};
+ghost use Rattle.kdcd_start.specs.Refusal.{refusal};
+ghost use Rattle.kdcd_start.specs.declared.files.FileFault.TheVariants.{Failed, ShortSeed};
 
 use principals::{Database, ReadFault};
 use std::alloc::{AllocError, Global};
@@ -24,7 +27,9 @@ pub enum FileFault {
 
 impl FileFault {
     /// The word for it, where the file was read and is refused.
-    pub fn refusal(&self) -> Option<&'static str> {
+    pub fn refusal(&self) -> Option<&'static str>
+        ensures { option_map (λ word. word.now) result ≡ refusal self.now }
+    {
         match self {
             FileFault::LongFile => Some("LongFile"),
             FileFault::ShortSeed => Some("ShortSeed"),
@@ -52,6 +57,8 @@ impl fmt::Display for FileFault {
 }
 
 impl From<io::Error> for FileFault {
+    ghost from_gives = { λ error fault. fault ≡ Failed error };
+
     fn from(error: io::Error) -> FileFault {
         FileFault::Failed(error)
     }
@@ -76,16 +83,22 @@ pub fn read_whole<R: Read + Drop>(alloc: Global, file: R) -> Result<Vec<u8>, Fil
 }
 
 /// The database that a file holds. One that is no UTF-8 is no JSON.
-pub fn database_of(alloc: Global, octets: &[u8]) -> Result<Database, FileFault> {
+pub fn database_of(alloc: Global, octets: &[u8]) -> Result<Database, FileFault>
+    ensures { IfOk result (λ database. text_database octets.now ≡ Ok database) }
+{
     let Ok(text) = str::from_utf8(octets) else {
         return Err(FileFault::Database(ReadFault::NotJson));
     };
-    Database::read(alloc, text).map_err(FileFault::Database)
+    match Database::read(alloc, text) {
+        Ok(database) => Ok(database),
+        Err(fault) => Err(FileFault::Database(fault)),
+    }
 }
 
 /// The seed that a file holds: its first 32 octets.
 pub fn seed_of(octets: &[u8]) -> Result<[u8; 32], FileFault>
-    ensures { IfOk result (λ seed. seed ≡ take 32 octets.now) }
+    ensures seed { IfOk result (λ seed. (32 ≤ length octets.now) × (seed ≡ take 32 octets.now)) }
+    ensures short { IfErr result (λ fault. (length octets.now < 32) × (fault ≡ ShortSeed)) }
 {
     match octets.first_chunk::<32>() {
         Some(seed) => Ok(*seed),

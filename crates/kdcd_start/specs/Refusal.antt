@@ -1,0 +1,19 @@
+-- The words for the faults of a file that was read.
+use Rattle.std.specs.Prelude.{ℕ, List, Option, Some, None, codes}
+use Rattle.principals.specs.declared.read_fault.ReadFault.{ReadFault}
+use Rattle.principals.specs.declared.read_fault.ReadFault.TheVariants.{NotJson, BadVersion, BadRow, NoTicketGranter, Memory}
+use Rattle.kdcd_start.specs.declared.files.FileFault.{FileFault}
+use Rattle.kdcd_start.specs.declared.files.FileFault.TheVariants.{LongFile, ShortSeed, Database, Failed}
+
+abbrev pub read_refusal : ReadFault → Option (List ℕ)
+read_refusal NotJson = Some (codes "NotJson")
+read_refusal BadVersion = Some (codes "BadVersion")
+read_refusal BadRow = Some (codes "BadRow")
+read_refusal NoTicketGranter = Some (codes "NoTicketGranter")
+read_refusal Memory = None
+
+abbrev pub refusal : FileFault → Option (List ℕ)
+refusal LongFile = Some (codes "LongFile")
+refusal ShortSeed = Some (codes "ShortSeed")
+refusal (Database fault) = read_refusal fault
+refusal (Failed error) = None
