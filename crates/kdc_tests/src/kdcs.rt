@@ -471,7 +471,7 @@ fn is_unspoilt(alloc: Global, kdc: &mut Kdc, place: usize, octet: u8) -> Result<
     is_answered(alloc, kdc, BASIC, Some(TICKET))
 }
 
-/// The first place where it is not.
+/// The first place of the basic request where another octet, asked before it, takes its ticket away.
 fn first_spoilt(alloc: Global, mut kdc: Kdc, basic: &[u8]) -> Result<Option<usize>, Fail> {
     for (place, octet) in basic.iter().enumerate() {
         if !is_unspoilt(alloc, &mut kdc, place, octet ^ 1)? {

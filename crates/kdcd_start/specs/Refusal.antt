@@ -1,5 +1,6 @@
 -- The words for the faults of a file that was read.
-use Rattle.std.specs.Prelude.{ℕ, List, Option, Some, None, codes}
+use Rattle.std.specs.Prelude.{◌≡◌, ◌≢◌, IsUtf8, ℕ, List, Option, Some, None, Err, codes}
+use Rattle.principals.specs.Value.{text_database}
 use Rattle.principals.specs.declared.read_fault.ReadFault.{ReadFault}
 use Rattle.principals.specs.declared.read_fault.ReadFault.TheVariants.{NotJson, BadVersion, BadRow, NoTicketGranter, Memory}
 use Rattle.kdcd_start.specs.declared.files.FileFault.{FileFault}
@@ -17,3 +18,11 @@ refusal LongFile = Some (codes "LongFile")
 refusal ShortSeed = Some (codes "ShortSeed")
 refusal (Database fault) = read_refusal fault
 refusal (Failed error) = None
+
+-- Why octets are taken for no database: they are no UTF-8, or their text is at fault, or memory is wanting.
+abbrev pub RefusesDatabase : List ℕ → FileFault → Type 0
+RefusesDatabase octets (Database fault) =
+    (IsUtf8 octets → fault ≢ Memory → text_database octets ≡ Err fault) × (¬ (IsUtf8 octets) → fault ≡ NotJson)
+RefusesDatabase octets LongFile = ⊥
+RefusesDatabase octets ShortSeed = ⊥
+RefusesDatabase octets (Failed error) = ⊥

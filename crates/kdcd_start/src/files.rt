@@ -1,7 +1,7 @@
 //! The files that a server is opened with.
 ghost use Rattle.std.specs.Prelude.{◌≡◌, ◌≤◌, ◌<◌, IfErr, IfOk, Ok, length, option_map, take, vec_len};
 ghost use Rattle.principals.specs.Value.{text_database};
-ghost use Rattle.kdcd_start.specs.Refusal.{refusal};
+ghost use Rattle.kdcd_start.specs.Refusal.{RefusesDatabase, refusal};
 ghost use Rattle.kdcd_start.specs.declared.files.FileFault.TheVariants.{Failed, ShortSeed};
 
 use principals::{Database, ReadFault};
@@ -84,7 +84,8 @@ pub fn read_whole<R: Read + Drop>(alloc: Global, file: R) -> Result<Vec<u8>, Fil
 
 /// The database that a file holds. One that is no UTF-8 is no JSON.
 pub fn database_of(alloc: Global, octets: &[u8]) -> Result<Database, FileFault>
-    ensures { IfOk result (λ database. text_database octets.now ≡ Ok database) }
+    ensures ok { IfOk result (λ database. text_database octets.now ≡ Ok database) }
+    ensures fault { IfErr result (λ fault. RefusesDatabase octets.now fault) }
 {
     let Ok(text) = str::from_utf8(octets) else {
         return Err(FileFault::Database(ReadFault::NotJson));
