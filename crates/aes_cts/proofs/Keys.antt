@@ -6,7 +6,7 @@ use Rattle.std.proofs.lemmas.List.{length-take-le, take-take}
 use Rattle.aes_cts.specs.Field.{power_of_x}
 use Rattle.aes_cts.specs.KeyExpansion.{word_at, xor_words, rot_word, sub_word, round_constant, passed_on}
 use Rattle.aes_cts.specs.KeyExpansion.{expanded, nk_of, nr_of, key_expansion, IsSchedule}
-use Rattle.aes_cts.specs.Cipher.{cipher, inverse_cipher, aes, aes_inverse, IsBlock, PermutesBlocks}
+use Rattle.aes_cts.specs.Cipher.{cipher, aes, aes_inverse, IsBlock, PermutesBlocks}
 use Rattle.aes_cts.proofs.FieldLaws.{times_x-lt}
 use Rattle.aes_cts.proofs.Expansion.{take-key_expansion}
 use Rattle.aes_cts.proofs.Tables.{s_box-lt}
@@ -14,7 +14,7 @@ use Rattle.aes_cts.proofs.States.{AreOctets, IsState}
 use Rattle.aes_cts.proofs.Lists.{octets-append, octets-All, All-octets}
 use Rattle.aes_cts.proofs.Inverses.{cipher-is, inverse_cipher-is, inverse_cipher-cipher, cipher-inverse_cipher}
 
-power_of_x-lt : (n : ℕ) → power_of_x n < 256
+pub power_of_x-lt : (n : ℕ) → power_of_x n < 256
 unfolding power_of_x
 power_of_x-lt zero = omega arith
 power_of_x-lt (suc n) = times_x-lt (power_of_x n) (power_of_x-lt n)
@@ -93,7 +93,7 @@ permutes_blocks key octets =
 
 -- ---- a key with its schedule
 
-key_words : (w key : List ℕ) (nk : ℕ) → length w ≡ 240 → IsSchedule w nk → take (4 * nk) w ≡ key → nr_of key ≡ nk + 6
+pub key_words : (w key : List ℕ) (nk : ℕ) → length w ≡ 240 → IsSchedule w nk → take (4 * nk) w ≡ key → nr_of key ≡ nk + 6
 key_words w key nk len h is = omega (arith, length-take-le (4 * nk) w (omega (arith, h.most)), ap length is)
 
 pub aes_is : (w key : List ℕ) (nk : ℕ) → length w ≡ 240 → IsSchedule w nk → take (4 * nk) w ≡ key
@@ -102,13 +102,6 @@ unfolding aes
 aes_is w key nk len h is block =
     ap (λ (n : ℕ). cipher n (take (16 * (nk + 6 + 1)) w) block) (sym (key_words w key nk len h is))
     ∙ ap (λ (l : List ℕ). cipher (nr_of key) l block) (h.expands ∙ ap key_expansion is)
-
-pub aes_inverse_is : (w key : List ℕ) (nk : ℕ) → length w ≡ 240 → IsSchedule w nk → take (4 * nk) w ≡ key
-    → (block : List ℕ) → inverse_cipher (nk + 6) (take (16 * (nk + 6 + 1)) w) block ≡ aes_inverse key block
-unfolding aes_inverse
-aes_inverse_is w key nk len h is block =
-    ap (λ (n : ℕ). inverse_cipher n (take (16 * (nk + 6 + 1)) w) block) (sym (key_words w key nk len h is))
-    ∙ ap (λ (l : List ℕ). inverse_cipher (nr_of key) l block) (h.expands ∙ ap key_expansion is)
 
 pub view_is : (w key : List ℕ) → 16 ≤ length key → length key % 4 ≡ 0
     → take (16 * (nr_of key + 1)) w ≡ key_expansion key → take (4 * (length key / 4)) w ≡ key

@@ -4,14 +4,14 @@ use Rattle.std.proofs.Common.{drop, length, refl, sym, ap, subst, ◌∙◌, ari
 use Rattle.std.specs.Int.{w32, to_be_bytes}
 use Rattle.std.proofs.lemmas.List.{get_or-take, get_or-drop, drop-take, take-take}
 use Rattle.aes_cts.specs.State.{inverse_mix_columns}
-use Rattle.aes_cts.specs.KeyExpansion.{round_key, IsSchedule}
+use Rattle.aes_cts.specs.KeyExpansion.{round_key, key_expansion, nr_of, IsSchedule}
 use Rattle.aes_cts.specs.Cipher.{cipher, aes, aes_inverse, IsBlock, IsInverseSchedule, equivalent_inverse_cipher}
 use Rattle.aes_cts.specs.Words.{octets, unmixed_cells}
 use Rattle.aes_cts.proofs.States.{AreOctets}
 use Rattle.aes_cts.proofs.Lists.{octets-All}
 use Rattle.aes_cts.proofs.WordLaws.{octets-take, length-octets, key_words_is, four_cells, columns_join}
 use Rattle.aes_cts.proofs.Equivalent.{equivalent_inverse_cipher-is}
-use Rattle.aes_cts.proofs.Keys.{aes_is, aes_inverse_is, schedule_octets, state_of_block}
+use Rattle.aes_cts.proofs.Keys.{aes_is, key_words, schedule_octets, state_of_block}
 
 four : (a b c d e f g h : ℕ) → a ≡ e → b ≡ f → c ≡ g → d ≡ h → (a ∷ b ∷ c ∷ d ∷ []) ≡ (e ∷ f ∷ g ∷ h ∷ [])
 four a b c d e f g h i j k l = cc
@@ -78,16 +78,23 @@ key-take w n r h =
     ∙ ap (take 16) (drop-take (16 * r) (16 * (n + 1) - 16 * r) w)
     ∙ take-take 16 (16 * (n + 1) - 16 * r) (drop (16 * r) w) (omega arith)
 
-inverse_schedule-take : (w v : List ℕ) (nr : ℕ) → IsInverseSchedule w v nr
-    → IsInverseSchedule (take (16 * (nr + 1)) w) (take (16 * (nr + 1)) v) nr
-inverse_schedule-take w v nr h = record {
-  first = key-take v nr 0 (omega arith) ∙ h.first ∙ sym (key-take w nr 0 (omega arith));
-  last = key-take v nr nr (omega arith) ∙ h.last ∙ sym (key-take w nr nr (omega arith));
-  middle = λ r least most. key-take v nr r (omega arith) ∙ h.middle r least most
-      ∙ ap inverse_mix_columns (sym (key-take w nr r (omega arith)));
+inverse_schedule-front : (w v : List ℕ) (nr : ℕ) → IsInverseSchedule w v nr
+    → IsInverseSchedule (take (16 * (nr + 1)) w) v nr
+inverse_schedule-front w v nr h = record {
+  first = h.first ∙ sym (key-take w nr 0 (omega arith));
+  last = h.last ∙ sym (key-take w nr nr (omega arith));
+  middle = λ r least most. h.middle r least most ∙ ap inverse_mix_columns (sym (key-take w nr r (omega arith)));
 }
 
--- ---- a key with its schedules
+inverse_schedule-back : (w v : List ℕ) (nr : ℕ) → IsInverseSchedule w v nr
+    → IsInverseSchedule w (take (16 * (nr + 1)) v) nr
+inverse_schedule-back w v nr h = record {
+  first = key-take v nr 0 (omega arith) ∙ h.first;
+  last = key-take v nr nr (omega arith) ∙ h.last;
+  middle = λ r least most. key-take v nr r (omega arith) ∙ h.middle r least most;
+}
+
+-- ---- a key with its schedule
 
 cut_words : (s : List ℕ) (n : ℕ) → octets (take (4 * n) s) ≡ take (16 * n) (octets s)
 cut_words s n =
@@ -100,15 +107,27 @@ encrypted_is s key nk size h is block =
     ap (λ (l : List ℕ). cipher (nk + 6) l block) (cut_words s (nk + 6 + 1))
     ∙ aes_is (octets s) key nk (omega (arith, length-octets s)) h is block
 
-pub decrypted_is : (s v key : List ℕ) (nk : ℕ) → length s ≡ 60 → IsSchedule (octets s) nk
-    → IsInverseSchedule (octets s) (octets v) (nk + 6) → take (4 * nk) (octets s) ≡ key
+-- the schedule for deciphering, that of the schedule of the key
+pub inverse_schedule_of : (s v key : List ℕ) (nk : ℕ) → length s ≡ 60 → IsSchedule (octets s) nk
+    → take (4 * nk) (octets s) ≡ key → IsInverseSchedule (octets s) (octets v) (nk + 6)
+    → IsInverseSchedule (key_expansion key) (octets v) (nr_of key)
+inverse_schedule_of s v key nk size h is inverse =
+    let rounds : nr_of key ≡ nk + 6 = key_words (octets s) key nk (omega (arith, length-octets s)) h is in
+    let whole : take (16 * (nk + 6 + 1)) (octets s) ≡ key_expansion key = h.expands ∙ ap key_expansion is in
+    subst (λ (n : ℕ). IsInverseSchedule (key_expansion key) (octets v) n) (sym rounds)
+    (subst (λ (l : List ℕ). IsInverseSchedule l (octets v) (nk + 6)) whole
+    (inverse_schedule-front (octets s) (octets v) (nk + 6) inverse))
+
+pub decrypted_is : (s v key : List ℕ) (nk : ℕ) → length s ≡ 60 → IsSchedule (octets s) nk → take (4 * nk) (octets s) ≡ key
+    → IsInverseSchedule (key_expansion key) (octets v) (nr_of key)
     → (block : List ℕ) → IsBlock block → equivalent_inverse_cipher (nk + 6) (octets (take (4 * (nk + 6 + 1)) v)) block
     ≡ aes_inverse key block
-decrypted_is s v key nk size h inverse is block hb =
-    let w : List ℕ = take (16 * (nk + 6 + 1)) (octets s) in
-    let hw : AreOctets w =
-    subst (λ (l : List ℕ). AreOctets l) (sym h.expands) (schedule_octets _ (octets-All _ h.octets)) in
-    ap (λ (l : List ℕ). equivalent_inverse_cipher (nk + 6) l block) (cut_words v (nk + 6 + 1))
-    ∙ equivalent_inverse_cipher-is (nk + 6) w (take (16 * (nk + 6 + 1)) (octets v)) block (omega arith)
-    (inverse_schedule-take (octets s) (octets v) (nk + 6) inverse) hw (state_of_block block hb)
-    ∙ aes_inverse_is (octets s) key nk (omega (arith, length-octets s)) h is block
+unfolding aes_inverse
+decrypted_is s v key nk size h is inverse block hb =
+    let rounds : nr_of key ≡ nk + 6 = key_words (octets s) key nk (omega (arith, length-octets s)) h is in
+    let octets_of_key : AreOctets key = subst (λ (l : List ℕ). AreOctets l) is (octets-All _ h.octets) in
+    ap (λ (n : ℕ). equivalent_inverse_cipher n (octets (take (4 * (n + 1)) v)) block) (sym rounds)
+    ∙ ap (λ (l : List ℕ). equivalent_inverse_cipher (nr_of key) l block) (cut_words v (nr_of key + 1))
+    ∙ equivalent_inverse_cipher-is (nr_of key) (key_expansion key) (take (16 * (nr_of key + 1)) (octets v)) block
+    (omega arith) (inverse_schedule-back (key_expansion key) (octets v) (nr_of key) inverse)
+    (schedule_octets key octets_of_key) (state_of_block block hb)

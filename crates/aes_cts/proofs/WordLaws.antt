@@ -1,19 +1,19 @@
 -- Words of four octets: the tables against the field, and the product of a column with a matrix.
 use Rattle.std.proofs.Common.{◌≡◌, ℕ, ◌+◌, ◌*◌, ◌/◌, ◌%◌, ◌^◌, ◌<◌, List, []}
 use Rattle.std.proofs.Common.{◌∷◌, ◌++◌, ◌-◌, length, take, drop, zero, suc, map, refl}
-use Rattle.std.proofs.Common.{sym, ap, ◌∙◌, arith, length-drop, get_or, bit_xor, bit_or, nat_lt, if◌then◌else◌}
+use Rattle.std.proofs.Common.{sym, ap, ◌∙◌, arith, length-drop, get_or, bit_and, bit_xor, bit_or, nat_lt, if◌then◌else◌}
 use Rattle.std.specs.List.{range_with_len}
 use Rattle.std.specs.Int.{w32, rotate_right, to_be_bytes, from_be_bytes}
 use Rattle.std.specs.Int.Bits.{xor_assoc, xor_zero_r}
 use Rattle.std.proofs.Math.Seq.{take-nil, drop-nil}
 use Rattle.std.proofs.lemmas.List.{take-append-drop, drop-drop}
-use Rattle.std.proofs.lemmas.Nat.{xor_block, or_comm, or_shifted, xor_of_8, xor_comm}
+use Rattle.std.proofs.lemmas.Nat.{and_mask, xor_block, or_comm, or_shifted, xor_of_8, xor_comm}
 use Rattle.std.proofs.lemmas.List.FromFn.{get_or-map-range_with_len, fill_by_all}
 use Rattle.aes_cts.specs.Field.{times_low, times, square, power_of_twos, inverse}
 use Rattle.aes_cts.specs.SBox.{affine, inverse_affine, s_box, inverse_s_box}
 use Rattle.aes_cts.specs.State.{row_times, sub_bytes, shift_rows, mix_columns}
 use Rattle.aes_cts.specs.State.{add_round_key, inverse_sub_bytes, inverse_shift_rows, inverse_mix_columns}
-use Rattle.aes_cts.specs.Words.{word, octets, turned_column, mixed_cells}
+use Rattle.aes_cts.specs.Words.{word, octets, turned_column, turned_by, mixed_cells}
 use Rattle.aes_cts.specs.Words.{added_cells, mix_column, inverse_mix_column, unmixed_cells}
 use Rattle.aes_cts.specs.declared.words.TheConstants.{COLUMNS, INVERSE_COLUMNS}
 use Rattle.aes_cts.proofs.FieldLaws.{times-lt}
@@ -23,22 +23,26 @@ use Rattle.aes_cts.specs.KeyExpansion.{round_key}
 
 -- ---- the tables
 
-columns : map (λ j. turned_column 2 3 1 1 (s_box j)) (range_with_len 0 256) ≡ COLUMNS
+-- a word twice over
+abbrev pub twice : ℕ → ℕ
+twice w = w * 4294967296 + w
+
+columns : map (λ j. twice (turned_column 2 3 1 1 (s_box j))) (range_with_len 0 256) ≡ COLUMNS
 unfolding times_low times square power_of_twos inverse affine s_box word turned_column
 columns = refl
 
-inverse_columns : map (λ j. turned_column 14 11 13 9 (inverse_s_box j)) (range_with_len 0 256) ≡ INVERSE_COLUMNS
+inverse_columns : map (λ j. twice (turned_column 14 11 13 9 (inverse_s_box j))) (range_with_len 0 256) ≡ INVERSE_COLUMNS
 unfolding times_low times square power_of_twos inverse inverse_affine inverse_s_box word turned_column
 inverse_columns = refl
 
-pub column_at : (j : ℕ) → j < 256 → get_or COLUMNS j 0 ≡ turned_column 2 3 1 1 (s_box j)
+pub column_at : (j : ℕ) → j < 256 → get_or COLUMNS j 0 ≡ twice (turned_column 2 3 1 1 (s_box j))
 column_at j h = ap (λ (l : List ℕ). get_or l j 0) (sym columns)
-    ∙ get_or-map-range_with_len (λ j. turned_column 2 3 1 1 (s_box j)) 0 256 j j 0 h (omega arith)
+    ∙ get_or-map-range_with_len (λ j. twice (turned_column 2 3 1 1 (s_box j))) 0 256 j j 0 h (omega arith)
 
-pub inverse_column_at : (j : ℕ) → j < 256 → get_or INVERSE_COLUMNS j 0 ≡ turned_column 14 11 13 9 (inverse_s_box j)
+pub inverse_column_at : (j : ℕ) → j < 256 → get_or INVERSE_COLUMNS j 0 ≡ twice (turned_column 14 11 13 9 (inverse_s_box j))
 inverse_column_at j h =
     ap (λ (l : List ℕ). get_or l j 0) (sym inverse_columns)
-    ∙ get_or-map-range_with_len (λ j. turned_column 14 11 13 9 (inverse_s_box j)) 0 256 j j 0 h (omega arith)
+    ∙ get_or-map-range_with_len (λ j. twice (turned_column 14 11 13 9 (inverse_s_box j))) 0 256 j j 0 h (omega arith)
 
 -- ---- words
 
@@ -54,6 +58,34 @@ word-xor a b c d e f g h ha hb hc hd he hf hg hh =
 turned : (n high low k j : ℕ) → high < 2 ^ j → n / 2 ^ k ≡ high → n * 2 ^ j % 2 ^ 32 ≡ low * 2 ^ j
     → bit_or (n / 2 ^ k) (n * 2 ^ j % 2 ^ 32) ≡ low * 2 ^ j + high
 turned n high low k j h e f = rw (e, f) (or_comm high (low * 2 ^ j) ∙ or_shifted low j high h)
+
+-- a word that stands twice over, shifted by whole octets
+twice_turned : (row w : ℕ) → row < 4 → w < 2 ^ 32 → twice w / 2 ^ (8 * row) % 2 ^ 32 ≡ turned_by row w
+twice_turned zero w few below = omega arith
+twice_turned (suc zero) w few below =
+    let is : rotate_right w32 w 8 ≡ w % 256 * 2 ^ 24 + w / 256 =
+    turned w (w / 256) (w % 256) 8 24 (omega arith) (omega arith) (omega arith) in
+    omega (arith, is)
+twice_turned (suc (suc zero)) w few below =
+    let is : rotate_right w32 w 16 ≡ w % 65536 * 2 ^ 16 + w / 65536 =
+    turned w (w / 65536) (w % 65536) 16 16 (omega arith) (omega arith) (omega arith) in
+    omega (arith, is)
+twice_turned (suc (suc (suc zero))) w few below =
+    let is : rotate_right w32 w 24 ≡ w % 16777216 * 2 ^ 8 + w / 16777216 =
+    turned w (w / 16777216) (w % 16777216) 24 8 (omega arith) (omega arith) (omega arith) in
+    omega (arith, is)
+twice_turned (suc (suc (suc (suc row)))) w few below = absurd (omega arith)
+
+turned_column-lt : (p q r u a : ℕ) → a < 256 → turned_column p q r u a < 2 ^ 32
+unfolding turned_column word
+turned_column-lt p q r u a h = omega (arith, times-lt a p h, times-lt a u h, times-lt a r h, times-lt a q h)
+
+-- a word of a table, shifted
+pub shifted_is : (p q r u a row n : ℕ) → row < 4 → a < 256 → n ≡ twice (turned_column p q r u a)
+    → bit_and (n / 2 ^ (8 * row)) 4294967295 ≡ turned_by row (turned_column p q r u a)
+shifted_is p q r u a row n few small is =
+    and_mask (n / 2 ^ (8 * row)) 32 ∙ ap (λ (m : ℕ). m / 2 ^ (8 * row) % 2 ^ 32) is
+    ∙ twice_turned row (turned_column p q r u a) few (turned_column-lt p q r u a small)
 
 pub word-turned : (a b c d : ℕ) → a < 256 → b < 256 → c < 256 → d < 256
     → rotate_right w32 (word a b c d) 8 ≡ word d a b c

@@ -1,8 +1,8 @@
 -- Words of four octets, the first the most significant, and the columns of the matrices by which a
 -- round by words looks its octets up.
-use Rattle.std.specs.Prelude.{ℕ, ◌+◌, ◌-◌, ◌*◌, ◌%◌, List, [], ◌∷◌, map, bit_xor, slice_index}
+use Rattle.std.specs.Prelude.{ℕ, zero, suc, ◌+◌, ◌-◌, ◌*◌, ◌%◌, List, [], ◌∷◌, map, bit_xor, slice_index}
 use Rattle.std.specs.List.{range_with_len, flat_map}
-use Rattle.std.specs.Int.{w32, to_be_bytes}
+use Rattle.std.specs.Int.{w32, to_be_bytes, rotate_right}
 use Rattle.aes_cts.specs.Field.{times}
 use Rattle.aes_cts.specs.State.{row_times}
 
@@ -29,6 +29,11 @@ inverse_mix_column c a = column_times (0x0e ∷ 0x0b ∷ 0x0d ∷ 0x09 ∷ []) c
 -- the word of the first column of the matrix whose first row is (p q r s), times a
 unfoldable pub turned_column : ℕ → ℕ → ℕ → ℕ → ℕ → ℕ
 turned_column p q r s a = word (times a p) (times a s) (times a r) (times a q)
+
+-- a word turned right by so many octets
+abbrev pub turned_by : ℕ → ℕ → ℕ
+turned_by zero w = w
+turned_by (suc k) w = rotate_right w32 w (8 * suc k)
 
 -- the product of that matrix with the column (a b c d), added to the octets of a key's word
 abbrev pub mixed_cells : ℕ → ℕ → ℕ → ℕ → List ℕ → ℕ → ℕ → ℕ → ℕ → List ℕ

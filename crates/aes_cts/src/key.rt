@@ -1,23 +1,20 @@
 //! AES keys, and the block cipher.
 
-ghost use Rattle.std.specs.Prelude.{◌≡◌, ◌⊎◌, ◌↔◌, IsSome, IfSome, length};
-ghost use Rattle.aes_cts.specs.Cipher.{aes, aes_inverse, PermutesBlocks};
+ghost use Rattle.std.specs.Prelude.{◌≡◌, ◌≤◌, ◌⊎◌, ◌↔◌, ◌*◌, ◌%◌, IsSome, IfSome, length};
+ghost use Rattle.aes_cts.specs.Cipher.{aes, aes_inverse, IsInverseSchedule, PermutesBlocks};
+ghost use Rattle.aes_cts.specs.KeyExpansion.{key_expansion, nr_of};
+ghost use Rattle.aes_cts.specs.Words.{octets};
 
 use crate::cipher::{cipher, inverse_cipher};
-use crate::key_expansion::{expand, inverse_schedule, schedule_words};
+use crate::key_expansion::{expand, inverse_schedule};
 use crate::words::{octets_of, words_of};
 use std::marker::Model;
 
-// The words of the longest schedule, that of a key of 32 octets: 15 round keys.
-const SCHEDULE_LEN: usize = 60;
-
-/// A key of AES-128 or AES-256, with its schedules of round keys for enciphering and deciphering.
-/// Contracts see the key's octets.
+/// A key of AES-128 or AES-256, with its schedule of round keys. Contracts see the key's octets.
 #[derive(Drop)]
 pub struct AesKey {
-    // What stands behind the round keys of a key of 16 octets is not used, here and below.
-    schedule: [u32; SCHEDULE_LEN],
-    inverse_schedule: [u32; SCHEDULE_LEN],
+    // What stands behind the round keys of a key of 16 octets is not used.
+    schedule: [u32; 60],
     key_words: usize,
 }
 
@@ -26,14 +23,12 @@ impl Model for AesKey {
 
     ghost Value = { List ℕ };
 
-    ghost use Rattle.aes_cts.specs.Cipher.{IsInverseSchedule};
     ghost use Rattle.aes_cts.specs.KeyExpansion.{IsSchedule};
     ghost use Rattle.aes_cts.specs.Words.{octets};
 
     ghost view = { λ k. take (4 * k.key_words) (octets k.schedule) };
 
-    ghost invariant = { λ k. IsSchedule (octets k.schedule) k.key_words
-        × IsInverseSchedule (octets k.schedule) (octets k.inverse_schedule) (k.key_words + 6) };
+    ghost invariant = { λ k. IsSchedule (octets k.schedule) k.key_words };
 }
 
 impl AesKey {
@@ -42,19 +37,25 @@ impl AesKey {
         ensures some { IsSome result ↔ ((length octets.now ≡ 16) ⊎ (length octets.now ≡ 32)) }
         ensures key { IfSome result (λ key. key ≡ octets.now) }
     {
-        if octets.len() != 16 && octets.len() != 32 {
-            return None;
+        match octets.len() {
+            16 => Some(AesKey::of_words::<4>(octets)),
+            32 => Some(AesKey::of_words::<8>(octets)),
+            _ => None,
         }
-        let mut expanded = [0; 4 * SCHEDULE_LEN];
-        expand(octets, &mut expanded);
-        let schedule = schedule_words(&expanded);
-        let key_words = octets.len() / 4;
-        let inverse_schedule = inverse_schedule(&schedule, key_words + 6);
-        Some(AesKey {
-            schedule,
-            inverse_schedule,
-            key_words,
-        })
+    }
+
+    // The key of these octets, N words.
+    fn of_words<const N: usize>(octets: &[u8]) -> AesKey
+        requires some { 4 ≤ N }
+        requires few { N ≤ 8 }
+        requires even { N % 4 ≡ 0 }
+        requires octets { length octets.now ≡ 4 * N }
+        ensures { result ≡ octets.now }
+    {
+        AesKey {
+            schedule: expand::<N>(octets),
+            key_words: N,
+        }
     }
 
     /// The block enciphered (FIPS 197, section 5.1).
@@ -79,11 +80,28 @@ impl AesKey {
         ensures inverse { aes self.now result ≡ block.now }
         ensures permutes { PermutesBlocks self.now }
     {
+        self.decrypt_under(&self.inverse_schedule(), block)
+    }
+
+    // The schedule for deciphering.
+    pub(crate) fn inverse_schedule(&self) -> [u32; 60]
+        ensures { IsInverseSchedule (key_expansion self.now) (octets result) (nr_of self.now) }
+    {
+        inverse_schedule(&self.schedule, self.key_words + 6)
+    }
+
+    // The block deciphered under the schedule for that.
+    pub(crate) fn decrypt_under(&self, inverse_schedule: &[u32; 60], block: &[u8; 16]) -> [u8; 16]
+        requires { IsInverseSchedule (key_expansion self.now) (octets inverse_schedule.now) (nr_of self.now) }
+        ensures value { result ≡ aes_inverse self.now block.now }
+        ensures inverse { aes self.now result ≡ block.now }
+        ensures permutes { PermutesBlocks self.now }
+    {
         let mut deciphered = words_of(block);
         let round_count = self.key_words + 6;
         inverse_cipher(
             &mut deciphered,
-            &self.inverse_schedule[..4 * (round_count + 1)],
+            &inverse_schedule[..4 * (round_count + 1)],
             round_count,
         );
         octets_of(&deciphered)

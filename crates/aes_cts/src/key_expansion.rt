@@ -1,14 +1,14 @@
 //! The key expansion of FIPS 197, section 5.2.
 
-ghost use Rattle.std.specs.Prelude.{◌≡◌, ◌≤◌, ◌<◌, ◌+◌, ◌-◌, ◌*◌, ◌%◌, length, take, drop};
+ghost use Rattle.std.specs.Prelude.{◌≡◌, ◌≤◌, ◌<◌, ◌+◌, ◌*◌, length, take, drop};
 ghost use Rattle.aes_cts.specs.Cipher.{IsInverseSchedule};
 ghost use Rattle.aes_cts.specs.Field.{power_of_x};
-ghost use Rattle.aes_cts.specs.KeyExpansion.{key_expansion, nr_of, passed_on, word_at, xor_words};
+ghost use Rattle.aes_cts.specs.KeyExpansion.{key_expansion, nr_of, passed_on};
 ghost use Rattle.aes_cts.specs.Words.{octets};
 ghost use Rattle.std.specs.Int.{w32, to_be_bytes};
 
 use crate::s_box::substitute;
-use crate::words::unmixed;
+use crate::words::{added, unmixed};
 
 // The powers of x in the field, from x^0 on: the first octets of the round constants.
 const POWERS_OF_X: [u8; 14] = [
@@ -22,75 +22,48 @@ fn power_of_x(exponent: usize) -> u8
     POWERS_OF_X[exponent]
 }
 
-// What the word before word i gives to word i, for a key of key_words words.
-fn passed_on(word: [u8; 4], key_words: usize, i: usize) -> [u8; 4]
-    requires some { 4 ≤ key_words }
-    requires after { key_words ≤ i }
+// What the word before word i gives to word i, for a key of N words.
+fn passed_on<const N: usize>(word: u32, i: usize) -> u32
+    requires some { 4 ≤ N }
+    requires after { N ≤ i }
     requires few { i < 60 }
-    ensures { result ≡ passed_on key_words i word }
+    ensures { to_be_bytes w32 result ≡ passed_on N i (to_be_bytes w32 word) }
 {
-    let [a, b, c, d] = word;
-    if i % key_words == 0 {
-        [
-            substitute(b) ^ power_of_x(i / key_words - 1),
-            substitute(c),
-            substitute(d),
-            substitute(a),
-        ]
-    } else if key_words > 6 && i % key_words == 4 {
-        [substitute(a), substitute(b), substitute(c), substitute(d)]
+    let [a, b, c, d] = word.to_be_bytes();
+    if i % N == 0 {
+        let first = substitute(b) ^ power_of_x(i / N - 1);
+        u32::from_be_bytes([first, substitute(c), substitute(d), substitute(a)])
+    } else if N > 6 && i % N == 4 {
+        u32::from_be_bytes([substitute(a), substitute(b), substitute(c), substitute(d)])
     } else {
         word
     }
 }
 
-// Word i, from the words before it.
-fn next_word(words: &[u8], key_words: usize, i: usize) -> [u8; 4]
-    requires some { 4 ≤ key_words }
-    requires after { key_words ≤ i }
-    requires few { i < 60 }
-    requires there { 4 * i ≤ length words.now }
-    ensures { result
-        ≡ xor_words (word_at words.now (i - key_words)) (passed_on key_words i (word_at words.now (i - 1))) }
+/// The schedule of a key of N words, with zeros behind it.
+// N is a constant, so that no place in the schedule is divided by it.
+pub fn expand<const N: usize>(key: &[u8]) -> [u32; 60]
+    requires some { 4 ≤ N }
+    requires few { N ≤ 8 }
+    requires key { length key.now ≡ 4 * N }
+    ensures { take (16 * (nr_of key.now + 1)) (octets result) ≡ key_expansion key.now }
 {
-    let at = 4 * (i - 1);
-    let [a, b, c, d] = passed_on(
-        [words[at], words[at + 1], words[at + 2], words[at + 3]],
-        key_words,
-        i,
-    );
-    let from = 4 * (i - key_words);
-    [
-        words[from] ^ a,
-        words[from + 1] ^ b,
-        words[from + 2] ^ c,
-        words[from + 3] ^ d,
-    ]
-}
-
-/// Writes the schedule of a key of 4 to 8 words at the beginning of `words`.
-pub fn expand(key: &[u8], words: &mut [u8])
-    requires least { 16 ≤ length key.now }
-    requires most { length key.now ≤ 32 }
-    requires whole { length key.now % 4 ≡ 0 }
-    requires room { 16 * (nr_of key.now + 1) ≤ length words.old }
-    ensures { take (16 * (nr_of key.now + 1)) words.new ≡ key_expansion key.now }
-{
-    let key_words = key.len() / 4;
-    words[..key.len()].copy_from_slice(key);
-    for i in key_words..4 * (key_words + 7) {
-        let word = next_word(words, key_words, i);
-        words[4 * i..4 * i + 4].copy_from_slice(&word);
+    let mut words = key_words::<N>(key);
+    for i in N..4 * (N + 7) {
+        words[i] = added(words[i - N], passed_on::<N>(words[i - 1], i));
     }
+    words
 }
 
-/// The words of the longest schedule, from its octets.
-pub fn schedule_words(schedule: &[u8; 240]) -> [u32; 60]
-    ensures { octets result ≡ schedule.now }
+// The words of the key, with zeros behind them.
+fn key_words<const N: usize>(key: &[u8]) -> [u32; 60]
+    requires few { N ≤ 8 }
+    requires key { length key.now ≡ 4 * N }
+    ensures { take (4 * N) (octets result) ≡ key.now }
 {
     let mut words = [0; 60];
-    for i in 0..60 {
-        words[i] = word_at(schedule, 4 * i);
+    for i in 0..N {
+        words[i] = word_at(key, 4 * i);
     }
     words
 }

@@ -12,3 +12,4 @@ pub mod IntLaws
 pub mod BitLaws
 pub mod LeafLaws
 pub mod ElementLaws
+pub mod Ended

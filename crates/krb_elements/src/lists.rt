@@ -136,7 +136,8 @@ impl<T: Coded> Coded for Seq<T> {
 impl<T: Encode> Encode for Seq<T> {
     fn put(&self, out: &mut Writer) -> Result<(), AllocError> {
         let start = out.len();
+        out.begin(0x30)?;
         write_items(out, self.as_slice())?;
-        out.wrap(start, 0x30)
+        out.end(start)
     }
 }

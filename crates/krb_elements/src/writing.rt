@@ -9,6 +9,9 @@ use crate::codec::{Coded, Fielded, Round};
 use krb_der::Writer;
 use std::alloc::{AllocError, Global};
 
+/// The most octets that most messages have, and what is sealed in them.
+const USUAL_LEN: usize = 512;
+
 /// A value that is written.
 pub trait Encode: Coded {
     /// Appends the value. An `Err` may leave a part of it.
@@ -40,7 +43,7 @@ pub fn write<T: Encode>(alloc: Global, value: &T) -> Result<Vec<u8>, AllocError>
     ensures written { IfOk result (λ v. v.items ≡ written T.codec value.now) }
     ensures spelled { IfOk result (λ v. T.codec.Spells value.now v.items) }
 {
-    let mut out = Writer::new(alloc);
+    let mut out = Writer::with_capacity(alloc, USUAL_LEN)?;
     value.put(&mut out)?;
     Ok(out.finish())
 }
@@ -67,8 +70,9 @@ pub fn write_field<T: Encode>(out: &mut Writer, n: u8, value: &T) -> Result<(), 
     ensures fits { OnOk result (T.codec.Fits value.now) }
 {
     let start = out.len();
+    out.begin(0xa0 + n)?;
     value.put(out)?;
-    out.wrap(start, 0xa0 + n)
+    out.end(start)
 }
 
 /// Appends the field, if it is there.
@@ -109,8 +113,9 @@ fn put_tagged<T: EncodeFields>(out: &mut Writer, tag: u8, value: &T) -> Result<(
     ensures fits { OnOk result (FitFields T.form value.now) }
 {
     let start = out.len();
+    out.begin(tag)?;
     put_sequence(out, value)?;
-    out.wrap(start, tag)
+    out.end(start)
 }
 
 /// Appends the SEQUENCE of a type's fields.
@@ -121,6 +126,7 @@ fn put_sequence<T: EncodeFields>(out: &mut Writer, value: &T) -> Result<(), Allo
     ensures fits { OnOk result (FitFields T.form value.now) }
 {
     let start = out.len();
+    out.begin(0x30)?;
     value.put_fields(out)?;
-    out.wrap(start, 0x30)
+    out.end(start)
 }

@@ -45,7 +45,8 @@ impl<const N: u8, T: Encode> Encode for Under<N, T> {
     #[tactic(auto, using(krb_elements::specs::WrittenLaws::tlv_longer))]
     fn put(&self, out: &mut Writer) -> Result<(), AllocError> {
         let start = out.len();
+        out.begin(0x60 | (N & 0x1f))?;
         self.value.put(out)?;
-        out.wrap(start, 0x60 | (N & 0x1f))
+        out.end(start)
     }
 }

@@ -8,10 +8,10 @@ use Rattle.std.proofs.lemmas.Nat.{div-mul-add, mod-mul-add, mod_below}
 use Rattle.prf_kdf.specs.Fold.{number, octets_of, rotated_copy, rotated_copies, octet_of_copies, piece_of_copies}
 use Rattle.prf_kdf.proofs.Numbers.{length-octets_of, number-lt}
 
-length-rotated_copy : (bs : List ℕ) (i : ℕ) → length (rotated_copy bs i) ≡ length bs
+pub length-rotated_copy : (bs : List ℕ) (i : ℕ) → length (rotated_copy bs i) ≡ length bs
 length-rotated_copy bs i = length-octets_of (length bs) _
 
-length-rotated_copies : (bs : List ℕ) (n : ℕ) → length (rotated_copies bs n) ≡ length bs * n
+pub length-rotated_copies : (bs : List ℕ) (n : ℕ) → length (rotated_copies bs n) ≡ length bs * n
 unfolding rotated_copies
 length-rotated_copies bs zero = omega arith
 length-rotated_copies bs (suc n) =

@@ -9,6 +9,7 @@ pub mod EndAround
 pub mod Turns
 pub mod Copies
 pub mod Multiples
+pub mod BlockFolds
 pub mod FactsOfFold
 pub mod FactsOfSha1
 pub mod FactsOfSha256

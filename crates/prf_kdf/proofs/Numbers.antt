@@ -3,7 +3,7 @@ use Rattle.std.proofs.Common.{◌≡◌, ℕ, zero, suc, ◌+◌, ◌-◌, ◌*�
 use Rattle.std.proofs.Common.{◌≤◌, ◌<◌, List, [], ◌∷◌, ◌++◌, take, drop, length, replicate}
 use Rattle.std.proofs.Common.{get_or, set, refl, sym, ap, ◌∙◌, arith, length-append, length-drop, take-append-drop}
 use Rattle.std.proofs.lemmas.List.{drop_all, drop_more, take_more, get_or-drop, ext_get_or}
-use Rattle.std.proofs.lemmas.Nat.{pow-add, pow_pos, mul-add-lt, shr_high, mod_low}
+use Rattle.std.proofs.lemmas.Nat.{pow-add, pow_pos, mod-pow-add, mul-add-lt, shr_high, mod_low}
 use Rattle.prf_kdf.specs.Fold.{number, octets_of}
 
 pub next_power : (k : ℕ) → 2 ^ (8 * (k + 1)) ≡ 256 * 2 ^ (8 * k)
@@ -86,6 +86,14 @@ unfolding octets_of
 get_or-octets_of zero x i k len = absurd (omega arith)
 get_or-octets_of (suc n) x zero k len = let e : n ≡ k = omega arith in rw e refl
 get_or-octets_of (suc n) x (suc i) k len = get_or-octets_of n x i k (omega arith)
+
+-- the number that the octets of a number spell
+pub number-octets_of : (n x : ℕ) → number (octets_of n x) ≡ x % 2 ^ (8 * n)
+unfolding number octets_of
+number-octets_of zero x = omega arith
+number-octets_of (suc n) x =
+    let e : 8 * suc n ≡ 8 + 8 * n = omega arith in
+    rw (length-octets_of n x, number-octets_of n x, e) (sym (mod-pow-add x 8 (8 * n)))
 
 -- the octets of the number that octets spell
 pub octets_of-number : (xs : List ℕ) → ((i : ℕ) → get_or xs i 0 < 256) → octets_of (length xs) (number xs) ≡ xs

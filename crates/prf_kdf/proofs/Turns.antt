@@ -17,7 +17,7 @@ high_split : (x P W R A B : ℕ) → P ≡ W * R → A * R + B ≡ x → x * W +
 high_split x P W R A B power split = omega (arith, ap (λ m. A * m) power, ap (λ m. m * W) split)
 
 -- a number of n bits turned right: n bits of the number written twice
-turned : (n r x : ℕ) → r ≤ n → x < 2 ^ n → x / 2 ^ r + x % 2 ^ r * 2 ^ (n - r) ≡ (x * 2 ^ n + x) / 2 ^ r % 2 ^ n
+pub turned : (n r x : ℕ) → r ≤ n → x < 2 ^ n → x / 2 ^ r + x % 2 ^ r * 2 ^ (n - r) ≡ (x * 2 ^ n + x) / 2 ^ r % 2 ^ n
 turned n r x fits below =
     let A : ℕ = x / 2 ^ r in
     let B : ℕ = x % 2 ^ r in

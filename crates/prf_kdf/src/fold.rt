@@ -1,17 +1,98 @@
 //! The n-fold of RFC 3961, section 5.1.
 //!
-//! The copies of the input are never written down: each of their octets is cut out of the input when
-//! it is added. Places in them are `u128`, since there may be more than a `usize` counts.
+//! The constants of Kerberos are at most a word, and are folded to a block: their copies are numbers, added as they stand.
+//! Otherwise the copies of the input are never written down: each of their octets is cut out of the input when it is
+//! added. Places in them are `u128`, since there may be more than a `usize` counts.
 
-ghost use Rattle.std.specs.Prelude.{◌≡◌, ◌<◌, ◌≤◌, ◌+◌, ◌*◌, ◌^◌, length};
+ghost use Rattle.std.specs.Prelude.{◌≡◌, ◌<◌, ◌≤◌, ◌+◌, ◌*◌, ◌%◌, ◌^◌, length};
 ghost use Rattle.std.specs.Int.{IsGcd};
-ghost use Rattle.prf_kdf.specs.Fold.{number, octet_of_copies, piece_of_copies, n_fold};
+ghost use Rattle.prf_kdf.specs.Fold.{number, octets_of, octet_of_copies, piece_of_copies, n_fold};
+ghost use Rattle.prf_kdf.specs.Fold.{rotate_right, end_around_carry};
+
+// The octets of a word and of a block.
+const WORD_LEN: usize = 8;
+
+const BLOCK_LEN: usize = 16;
 
 /// Fills `out` with the n-fold of the input, for n the bits of `out` (RFC 3961, section 5.1): copies of
 /// the input, each rotated right by 13 bits more than the one before, up to the least common
 /// multiple of both lengths, are cut into pieces as long as `out` and added as big-endian numbers with
 /// end-around carry.
 pub fn n_fold(input: &[u8], out: &mut [u8])
+    requires input { 0 < length input.now }
+    requires out { 0 < length out.old }
+    ensures { out.new ≡ n_fold input.now (length out.old) }
+{
+    if input.len() <= WORD_LEN && out.len() == BLOCK_LEN {
+        out.copy_from_slice(&fold_to_block(input).to_be_bytes());
+    } else {
+        fold_by_pieces(input, out);
+    }
+}
+
+// The n-fold of at most a word to a block, as a number. Under end-around carry 2^128 counts as 1, so that the copies need
+// not be cut into pieces: what stands before a copy is turned left by the copy's bits, and the copy is added.
+fn fold_to_block(input: &[u8]) -> u128
+    requires some { 0 < length input.now }
+    requires few { length input.now ≤ 8 }
+    ensures { octets_of 16 result ≡ n_fold input.now 16 }
+{
+    let bits = 8 * input.len() as u32;
+    let word = word_of(input);
+    let mut total = 0;
+    let mut turn = 0;
+    for copy in 0..BLOCK_LEN / gcd(input.len(), BLOCK_LEN) {
+        total = sum_around(u128::rotate_left(total, bits), turned_right(word, bits, turn));
+        turn = next_turn(turn, bits);
+    }
+    total
+}
+
+// The number that the octets spell.
+fn word_of(octets: &[u8]) -> u64
+    requires { length octets.now ≤ 8 }
+    ensures value { result ≡ number octets.now }
+    ensures below { number octets.now < 2 ^ (8 * length octets.now) }
+{
+    let mut word = 0;
+    for i in 0..octets.len() {
+        word = word * 256 + u64::from(octets[i]);
+    }
+    word
+}
+
+// A number of so many bits, turned right.
+fn turned_right(word: u64, bits: u32, turn: u32) -> u128
+    requires bits { bits ≤ 64 }
+    requires turn { turn < bits }
+    requires word { word < 2 ^ bits }
+    ensures { result ≡ rotate_right bits turn word }
+{
+    let word = u128::from(word);
+    let twice = word << bits | word;
+    twice >> turn & ((1 << bits) - 1)
+}
+
+// How far the next copy is turned.
+fn next_turn(turn: u32, bits: u32) -> u32
+    requires bits { bits ≤ 64 }
+    requires turn { turn < bits }
+    ensures { result ≡ (turn + 13) % bits }
+{
+    let sum = turn + 13 % bits;
+    if sum < bits { sum } else { sum - bits }
+}
+
+// The sum with end-around carry.
+fn sum_around(a: u128, b: u128) -> u128
+    ensures { result ≡ end_around_carry 128 (a + b) }
+{
+    let (sum, carry) = a.overflowing_add(b);
+    if carry { sum + 1 } else { sum }
+}
+
+// The n-fold of an input of any length to any length.
+fn fold_by_pieces(input: &[u8], out: &mut [u8])
     requires input { 0 < length input.now }
     requires out { 0 < length out.old }
     ensures { out.new ≡ n_fold input.now (length out.old) }

@@ -7,9 +7,6 @@ use Rattle.aes_cts.proofs.words.mixed_column.Goals as goal
 pub returns : goal.returns
 returns c =
     rw (
-      c.rotate_right.ensures,
-      c.rotate_right-2.ensures,
-      c.rotate_right-3.ensures,
       c.mixing.ensures,
       c.mixing-2.ensures,
       c.mixing-3.ensures,

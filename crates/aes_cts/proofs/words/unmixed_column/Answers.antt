@@ -7,9 +7,6 @@ use Rattle.aes_cts.proofs.words.unmixed_column.Goals as goal
 pub returns : goal.returns
 returns c =
     rw (
-      c.rotate_right.ensures,
-      c.rotate_right-2.ensures,
-      c.rotate_right-3.ensures,
       c.unmixing.ensures,
       c.unmixing-2.ensures,
       c.unmixing-3.ensures,

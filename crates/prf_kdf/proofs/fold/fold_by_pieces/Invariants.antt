@@ -1,6 +1,6 @@
 use Rattle.std.proofs.Common.{◌≡◌, ℕ, ◌*◌, ◌/◌, ◌<◌, length, get_or}
 use Rattle.prf_kdf.specs.Fold.{number, lcm, rotated_copies, pieces_sum, end_around_carry}
-use Rattle.prf_kdf.proofs.fold.n_fold.Given as goal
+use Rattle.prf_kdf.proofs.fold.fold_by_pieces.Given as goal
 
 -- the output is the sum of the pieces so far, with end-around carry
 abbrev pub invariant-loop-piece : goal.invariant-loop-piece

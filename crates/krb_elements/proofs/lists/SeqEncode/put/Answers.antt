@@ -1,0 +1,8 @@
+use Rattle.krb_der.specs.Ended.{ended_value}
+use Rattle.krb_elements.proofs.lists.SeqEncode.put.Goals as goal
+
+pub returns-clause-ok : goal.returns-clause-ok
+returns-clause-ok g c =
+    rw (← c.as_slice.ensures)
+    (ended_value c.end.result _ c.write_items.new.out c.begin.new.self c.args.out.now _ c.len-start.result 48
+    c.len-start.ensures c.in_ok-begin.ensures.ok c.in_ok-write_items.ensures.ok c.end.ensures)

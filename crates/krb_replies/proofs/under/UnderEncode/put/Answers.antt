@@ -1,0 +1,8 @@
+use Rattle.krb_der.specs.Ended.{ended_value}
+use Rattle.krb_replies.proofs.under.UnderEncode.put.Goals as goal
+
+pub returns-clause-ok : goal.returns-clause-ok
+returns-clause-ok g c =
+    rw (← c.self.view_is)
+    (ended_value c.end.result _ c.put.new.out c.begin.new.self c.args.out.now _ c.len-start.result _ c.len-start.ensures
+    c.in_ok-begin.ensures.ok c.in_ok-put.ensures.ok c.end.ensures)
