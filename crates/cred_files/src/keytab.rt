@@ -1,5 +1,5 @@
 //! Keytabs: the keys of services.
-ghost use Rattle.std.specs.Prelude.{◌≡◌, ◌++◌, ◌∷◌, List, All, IfOk, IfErr, IfSome, IfNone, OnOk, Some, None, flat_map, length, option_map};
+ghost use Rattle.std.specs.Prelude.{◌≡◌, ◌++◌, ◌∷◌, List, All, IfOk, IfErr, IfSome, IfNone, OnOk, Some, None, flat_map, is_some, length, option_map};
 ghost use Rattle.cred_files.specs.Keytab.{HasRoom, IsKeytab, IsNotWritten, IsPart, keytab_text, missing, newer, newest, part_text, passes};
 ghost use Rattle.cred_files.specs.KeytabReading.{Gives, GivesBy, GivesNext, entries_at, keytab_at, next_at};
 ghost use Rattle.cred_files.specs.Reading.{IsReadUnlessMemory};
@@ -225,6 +225,13 @@ impl Keytab {
             Some(entry) => Ok(&entry.key),
             None => Err(self.miss(realm, name, etype)),
         }
+    }
+
+    /// Whether it has a key of the service, and of the encryption type, where one is asked for.
+    pub fn has(&self, realm: &[u8], name: &Name, etype: Option<Etype>) -> bool
+        ensures { result ≡ is_some (newest (passes (realm.now ∷ name.now.components) etype None) self.now) }
+    {
+        newest(&self.entries, realm, name, etype, None).is_some()
     }
 
     /// What lacks, where there is no such key.

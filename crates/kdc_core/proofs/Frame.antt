@@ -7,7 +7,7 @@ use Rattle.krb_fields.specs.Name.{Components, name_total, same_name}
 use Rattle.replay.specs.declared.keep.Kept.{Kept}
 use Rattle.replay.specs.declared.memory.Memory.{Memory}
 use Rattle.kdc_state.specs.declared.state.State.{State}
-use Rattle.kdc_state.specs.Memory.{opened_memory}
+use Rattle.replay.specs.Opening.{opened_memory}
 use Rattle.kdc_state.specs.State.{memory_of}
 use Rattle.kdc_core.specs.Answer.{keep}
 

@@ -13,9 +13,9 @@ use Rattle.principals.specs.declared.change.Change.{Change as PrincipalChange}
 use Rattle.principals.specs.declared.change.ChangeFault.{ChangeFault}
 use Rattle.replay.specs.declared.keep.Kept.{Kept}
 use Rattle.replay.specs.declared.memory.Memory.{Memory}
-use Rattle.kdc_state.specs.Memory.{opened_memory}
+use Rattle.replay.specs.Opening.{opened_memory}
 use Rattle.kdc_state.specs.State.{memory_of, restarted}
-use Rattle.kdc_state.specs.declared.opening.Opening.TheVariants.{Restart as Restarted}
+use Rattle.replay.specs.declared.opening.Opening.TheVariants.{Restart as Restarted}
 use Rattle.kdc_state.specs.declared.state.State.{State}
 use Rattle.kdc_core.proofs.Changes.{other_row, realm_stays, same_refusal, same_row_after}
 use Rattle.kdc_core.proofs.Frame.{database_kept, limits_kept, other_kept}

@@ -36,9 +36,9 @@ use Rattle.tgs_opening.specs.Opening.{presented}
 use Rattle.tgs_opening.specs.declared.presented.Presented.{Presented}
 use Rattle.tgs_opening.specs.declared.refusal.TgsRefusal.{TgsRefusal}
 use Rattle.tgs_opening.specs.declared.refusal.TgsRefusal.TheVariants.{Repeated}
-use Rattle.kdc_state.specs.Memory.{opened_memory}
+use Rattle.replay.specs.Opening.{opened_memory}
 use Rattle.kdc_state.specs.State.{memory_of}
-use Rattle.kdc_state.specs.declared.opening.Opening.TheVariants.{Restart as OpenedAgain}
+use Rattle.replay.specs.declared.opening.Opening.TheVariants.{Restart as OpenedAgain}
 use Rattle.kdc_state.specs.declared.state.State.{State}
 use Rattle.principals.specs.Change.{changed, refusal}
 use Rattle.principals.specs.declared.change.Change.{Change as PrincipalChange}

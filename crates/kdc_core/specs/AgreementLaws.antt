@@ -13,7 +13,7 @@ use Rattle.krb_types.specs.KdcReq.{Received}
 use Rattle.principals.specs.Database.{ticket_granter}
 use Rattle.replay.specs.declared.keep.Kept.{Kept}
 use Rattle.replay.specs.declared.memory.Memory.{Memory}
-use Rattle.kdc_state.specs.Memory.{opened_memory}
+use Rattle.replay.specs.Opening.{opened_memory}
 use Rattle.kdc_state.specs.declared.state.State.{State}
 use Rattle.kdc_state.specs.State.{memory_of}
 use Rattle.tgs_opening.specs.Opening.{opened}

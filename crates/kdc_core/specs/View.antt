@@ -11,9 +11,9 @@ use Rattle.principal_rows.specs.declared.row.Row.{Row}
 use Rattle.principals.specs.Database.{ticket_granter}
 use Rattle.replay.specs.declared.keep.Kept.{Kept}
 use Rattle.replay.specs.declared.memory.Memory.{Memory}
-use Rattle.kdc_state.specs.declared.opening.Opening.TheVariants.{First}
+use Rattle.replay.specs.declared.opening.Opening.TheVariants.{First}
 use Rattle.kdc_state.specs.declared.state.State.{State}
-use Rattle.kdc_state.specs.Memory.{opened_memory}
+use Rattle.replay.specs.Opening.{opened_memory}
 use Rattle.kdc_state.specs.State.{memory_of}
 use Rattle.as_exchange.specs.View as as_exchange
 use Rattle.tgs_exchange.specs.View as tgs_exchange

@@ -7,7 +7,7 @@ ghost use Rattle.krb_types.specs.declared.kdc_req.Exchange.TheVariants.{Tgs};
 ghost use Rattle.tgs_exchange.specs.Known.{IsKnown};
 ghost use Rattle.tgs_opening.specs.Opening.{presented};
 ghost use Rattle.tgs_opening.specs.Tickets.{tgs_data};
-ghost use Rattle.kdc_state.specs.Memory.{opened_memory};
+ghost use Rattle.replay.specs.Opening.{opened_memory};
 ghost use Rattle.kdc_state.specs.State.{memory_of};
 ghost use Rattle.kdc_core.specs.After.{after, stamped_of, MayStay};
 ghost use Rattle.kdc_core.specs.Answer.{answer_in, answer_presented, keep, OpensIn, OpensPresented, SpelledIn, SpelledPresented};
@@ -15,7 +15,7 @@ ghost use Rattle.kdc_core.specs.View.{client_in, presented_view, tgs_view, ticke
 
 use crate::answering::{Answered, row_of};
 use crate::mark::Mark;
-use kdc_state::{State, opened};
+use kdc_state::State;
 use krb_fields::{Moment, Name};
 use krb_types::KdcReqRef;
 use principals::granter_name;
@@ -98,7 +98,7 @@ fn presented_reply(
     ensures keys { IfOk result (λ reply. OpensPresented (presented_view state.now message.now presented.now) at words.now message.now (Ok presented.now)) }
     ensures stays { IfOk result (λ reply. IfSome reply.mark (MayStay state.now)) }
 {
-    let opened = opened(alloc, state.opening);
+    let opened = Memory::opened(alloc, state.opening);
     let view = tgs_view(state, message, presented, &opened);
     let body = &message.body.value;
     let TgsAnswer { reply, kept } = tgs_answer(

@@ -12,7 +12,7 @@ use Rattle.principals.specs.declared.change.ChangeFault.{ChangeFault}
 use Rattle.principals.specs.declared.change.ChangeFault.TheVariants.{BadName}
 use Rattle.principals.specs.Change.{refusal, changed}
 use Rattle.principals.specs.Database.{first_database}
-use Rattle.kdc_state.specs.declared.opening.Opening.TheVariants.{First}
+use Rattle.replay.specs.declared.opening.Opening.TheVariants.{First}
 use Rattle.kdc_state.specs.declared.state.State.{State}
 use Rattle.kdc_state.specs.State.{opened, restarted}
 use Rattle.kdc_core.specs.View.{view}

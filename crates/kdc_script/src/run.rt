@@ -9,7 +9,7 @@ ghost use Rattle.kdc_script.specs.declared.line.Line.TheVariants as lines;
 ghost use Rattle.kdc_script.specs.declared.run.Stop.TheVariants.{Failed, Fault};
 ghost use Rattle.krb_fields.specs.NameLimits.{IsComponent};
 ghost use Rattle.kdc_state.specs.State.{opened};
-ghost use Rattle.kdc_state.specs.declared.opening.Opening.TheVariants.{First};
+ghost use Rattle.replay.specs.declared.opening.Opening.TheVariants.{First};
 ghost use Rattle.principals.specs.Change.{refusal};
 ghost use Rattle.principals.specs.Database.{first_database};
 

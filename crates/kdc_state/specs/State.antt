@@ -7,10 +7,10 @@ use Rattle.principal_rows.specs.declared.limits.Limits.{Limits}
 use Rattle.principals.specs.Database.{Principals}
 use Rattle.replay.specs.declared.keep.Kept.{Kept}
 use Rattle.replay.specs.declared.memory.Memory.{Memory}
-use Rattle.kdc_state.specs.declared.opening.Opening.{Opening}
-use Rattle.kdc_state.specs.declared.opening.Opening.TheVariants.{Restart}
+use Rattle.replay.specs.declared.opening.Opening.{Opening}
+use Rattle.replay.specs.declared.opening.Opening.TheVariants.{Restart}
 use Rattle.kdc_state.specs.declared.state.State.{State}
-use Rattle.kdc_state.specs.Memory.{opened_memory}
+use Rattle.replay.specs.Opening.{opened_memory}
 
 abbrev pub opened : Principals → Limits → Opening → State
 opened database limits opening = record { database = database; limits = limits; opening = opening; memories = map.empty }

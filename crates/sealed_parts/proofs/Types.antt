@@ -1,12 +1,13 @@
 -- The type that a number names is found among all types.
-use Rattle.std.proofs.Common.{◌≡◌, ◌≢◌, ℕ, ℤ, Bool, true, false, List, None, refl}
+use Rattle.std.proofs.Common.{◌≡◌, ◌≢◌, ℤ, Bool, true, false, Option, Some, None, refl, ap, ◌∙◌}
+use Rattle.std.specs.Prelude.{IfSome, IfNone}
 use Rattle.std.proofs.lemmas.Bool.Decides.{Decides-int_eq}
 use Rattle.std.specs.Ordering.{int_eq}
 use Rattle.enctypes.specs.Etype.{number}
 use Rattle.enctypes.specs.declared.etype.Etype.{Etype}
 use Rattle.enctypes.specs.declared.etype.Etype.TheVariants.{Aes128CtsHmacSha1_96, Aes256CtsHmacSha1_96}
 use Rattle.enctypes.specs.declared.etype.Etype.TheVariants.{Aes128CtsHmacSha256_128, Aes256CtsHmacSha384_192}
-use Rattle.sealed_parts.specs.Keys.{key_of}
+use Rattle.sealed_parts.specs.Keys.{type_numbered}
 
 other : (m n : ℤ) → m ≢ n → int_eq m n ≡ false
 other m n apart = at (int_eq m n) refl
@@ -15,12 +16,23 @@ other m n apart = at (int_eq m n) refl
     at true e = absurd (apart ((Decides-int_eq m n).0 e))
     at false e = e
 
--- a number that is no type's names no key
-pub no_type : (n : ℤ) (octets : List ℕ) → ((e : Etype) → number e ≢ n) → None ≡ key_of n octets
-no_type n octets none =
+-- a number that is no type's
+no_type : (n : ℤ) → ((e : Etype) → number e ≢ n) → None ≡ type_numbered n
+no_type n none =
     rw (
       other (number Aes128CtsHmacSha1_96) n (none Aes128CtsHmacSha1_96),
       other (number Aes256CtsHmacSha1_96) n (none Aes256CtsHmacSha1_96),
       other (number Aes128CtsHmacSha256_128) n (none Aes128CtsHmacSha256_128),
       other (number Aes256CtsHmacSha384_192) n (none Aes256CtsHmacSha384_192),
     ) refl
+
+numbered : (e : Etype) → Some e ≡ type_numbered (number e)
+numbered Aes128CtsHmacSha1_96 = refl
+numbered Aes256CtsHmacSha1_96 = refl
+numbered Aes128CtsHmacSha256_128 = refl
+numbered Aes256CtsHmacSha384_192 = refl
+
+-- what is found by its number
+pub type_is : (n : ℤ) (found : Option Etype) → IfSome found (λ e. number e ≡ n) → IfNone found ((e : Etype) → number e ≢ n) → found ≡ type_numbered n
+type_is n (Some e) named none = numbered e ∙ ap type_numbered named
+type_is n None named none = no_type n none

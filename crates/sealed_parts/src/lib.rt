@@ -10,7 +10,7 @@ ghost use Rattle.enctypes.specs.Sealing.{seal};
 ghost use Rattle.sealed_parts.specs.Parts.{IsSpelledWithin, opened_as};
 
 use enctypes::{Key, KeyUsage, open, seal};
-pub use keys::key_of;
+pub use keys::{etype_of, key_of};
 use krb_elements::{Encode, Fault, ReadOwned, read_owned, write};
 use std::alloc::{AllocError, Global};
 

@@ -1,0 +1,4 @@
+pub mod Storing
+pub mod Frame
+pub mod Once
+pub mod Ruling

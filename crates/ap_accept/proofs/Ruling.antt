@@ -1,0 +1,47 @@
+-- What is ruled on octets that spell an AP-REQ whose ticket and authenticator are opened; and which octets spell one.
+use Rattle.std.proofs.Common.{◌≡◌, ◌↔◌, ℕ, Bool, List, Option, Some, None, Result, Ok, Err, refl, ap, sym, subst, ◌∙◌}
+use Rattle.std.specs.Prelude.{IfOk, IfSome}
+use Rattle.std.specs.Result.{result_ok}
+use Rattle.krb_ap.specs.ApReq.{ApReq, ap_req}
+use Rattle.krb_der.specs.Spelling.{IsBytes}
+use Rattle.krb_der.specs.declared.fault.DerFault.{DerFault}
+use Rattle.krb_elements.specs.Format.{whole}
+use Rattle.krb_elements.specs.Laws.{IsWhole, whole_ok}
+use Rattle.krb_fields.specs.declared.moment.Moment.{Moment}
+use Rattle.sealed_parts.specs.Parts.{ok_of}
+use Rattle.ap_accept.specs.Accepts.{accepts, memory_refusal, presented_by, presented_if, request_of, unless_seen}
+use Rattle.ap_accept.specs.Presented.{presented}
+use Rattle.ap_accept.specs.Reply.{IsApReply, asks_reply}
+use Rattle.ap_accept.specs.declared.accepted.Accepted.{Accepted}
+use Rattle.ap_accept.specs.declared.fault.ApFault.{ApFault}
+use Rattle.ap_accept.specs.declared.presented.Presented.{Presented}
+use Rattle.ap_accept.specs.declared.state.State.{State}
+
+pub ruled : (state : State) (at : Moment) (confounder octets : List ℕ) (ap : ApReq) (wanted : Bool) (p : Presented) → request_of octets ≡ Some ap → wanted ≡ asks_reply ap → presented state.keytab ap ≡ Ok p
+    → accepts state at confounder octets ≡ unless_seen state at.sec confounder wanted p (memory_refusal state at.sec p)
+ruled state at confounder octets ap wanted p read asks opened = rw (read, opened, asks) refl
+
+-- the AP-REP to what is presented is the one to what the octets present
+pub answered : (state : State) (confounder octets : List ℕ) (ap : ApReq) (p : Presented) (r : Result Accepted ApFault) → request_of octets ≡ Some ap → presented state.keytab ap ≡ Ok p
+    → IfOk r (λ a. IfSome a.ap_rep (λ reply. IsApReply p.session_key confounder p.authenticator reply))
+    → IfOk r (λ a. IfSome (presented_by state octets) (λ p. IfSome a.ap_rep (λ reply. IsApReply p.session_key confounder p.authenticator reply)))
+answered state confounder octets request p (Ok a) read opened h =
+    let found : presented_by state octets ≡ Some p = ap (presented_if state) read ∙ ap result_ok opened in
+    subst (λ (o : Option Presented). IfSome o (λ p. IfSome a.ap_rep (λ reply. IsApReply p.session_key confounder p.authenticator reply))) (sym found) h
+answered state confounder octets request p (Err fault) read opened h = tt
+
+-- ---- the AP-REQ that octets spell
+
+all_read : IsWhole ap_req.Spells (whole ap_req.at)
+all_read = whole_ok ap_req.Spells ap_req.at ap_req.laws.element.reading
+
+was_read : (read : Result ApReq DerFault) (r : ApReq) → ok_of read ≡ Some r → read ≡ Ok r
+was_read (Ok x) r e = ap (λ (o : Option ApReq). again o) e
+  where
+    again : Option ApReq → Result ApReq DerFault
+    again (Some q) = Ok q
+    again None = Ok x
+was_read (Err fault) r e = absurd cc
+
+pub request_is : (bytes : List ℕ) (r : ApReq) → IsBytes bytes → (request_of bytes ≡ Some r) ↔ ap_req.Spells r bytes
+request_is bytes r fits = (λ e. all_read.takes bytes r fits (was_read (whole ap_req.at bytes) r e), λ s. ap ok_of (all_read.again r bytes s))

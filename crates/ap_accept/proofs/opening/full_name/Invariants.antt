@@ -1,0 +1,6 @@
+use Rattle.std.proofs.Common.{◌≡◌, ◌++◌, ◌∷◌}
+use Rattle.ap_accept.proofs.opening.full_name.Given as goal
+
+-- what is copied, with what is left, is the whole name
+abbrev pub invariant-loop-component : goal.invariant-loop-component
+invariant-loop-component l = l.components ++ l.component-iterator ≡ l.realm ∷ l.name.components

@@ -1,0 +1,131 @@
+-- What an acceptor answers to the octets of an AP-REQ, and what it remembers afterwards (RFC 4120, section 3.2.3).
+use Rattle.std.specs.Prelude.{◌≡◌, ℕ, ℤ, ⊤, Bool, List, Option, Some, None, Result, Ok, Err}
+use Rattle.std.specs.Result.{result_ok}
+use Rattle.krb_ap.specs.ApReq.{ApReq, ap_req}
+use Rattle.krb_elements.specs.Format.{whole}
+use Rattle.krb_fields.specs.Name.{Components}
+use Rattle.krb_fields.specs.declared.moment.Moment.{Moment}
+use Rattle.sealed_parts.specs.Parts.{ok_of}
+use Rattle.refusals.specs.Refusals.{first_holding}
+use Rattle.replay.specs.Memory.{remembered, verdict}
+use Rattle.replay.specs.Stamp.{Stamp}
+use Rattle.replay.specs.declared.memory.Memory.{Memory}
+use Rattle.replay.specs.declared.verdict.Verdict.{Verdict}
+use Rattle.replay.specs.declared.verdict.Verdict.TheVariants as verdicts
+use Rattle.ap_accept.specs.Presented.{presented}
+use Rattle.ap_accept.specs.Reply.{asks_reply, reply_if}
+use Rattle.ap_accept.specs.State.{memory_of, with_memory}
+use Rattle.ap_accept.specs.Validity.{terms_of, validity_rules}
+use Rattle.ap_accept.specs.declared.accepted.Accepted.{Accepted}
+use Rattle.ap_accept.specs.declared.fault.ApFault.{ApFault}
+use Rattle.ap_accept.specs.declared.fault.ApFault.TheVariants.{NotAnApReq, Refused, Memory as NoMemory}
+use Rattle.ap_accept.specs.declared.presented.Presented.{Presented}
+use Rattle.ap_accept.specs.declared.refusal.ApRefusal.{ApRefusal}
+use Rattle.ap_accept.specs.declared.refusal.ApRefusal.TheVariants.{Skewed, Repeated, Full}
+use Rattle.ap_accept.specs.declared.state.State.{State}
+
+-- what is answered, and the state afterwards
+pub record Answer : Type 0 where
+  pub answer : Result Accepted ApFault
+  pub state : State
+
+-- nothing is remembered
+abbrev pub refused : State → ApRefusal → Answer
+refused state refusal = record { answer = Err (Refused refusal); state = state }
+
+-- ---- whether it came before
+
+-- the time by which an authenticator is remembered
+abbrev pub stamp_of : Presented → Stamp
+stamp_of p = (p.authenticator.ctime, p.authenticator.cusec)
+
+abbrev pub memory_for : State → Presented → Memory ⊤
+memory_for state p = memory_of state p.service.components p.ticket.cname.components
+
+abbrev pub refusal_by : Verdict ⊤ → Option ApRefusal
+refusal_by verdicts.Fresh = None
+refusal_by verdicts.Skew = Some Skewed
+refusal_by (verdicts.Repeat kept) = Some Repeated
+refusal_by verdicts.Full = Some Full
+
+abbrev pub memory_refusal : State → ℤ → Presented → Option ApRefusal
+memory_refusal state now p = refusal_by (verdict (memory_for state p) now (stamp_of p) state.limits.remembered)
+
+-- the state in which the authenticator is remembered
+abbrev pub remembering : State → ℤ → Presented → State
+remembering state now p = with_memory state p.service.components p.ticket.cname.components (remembered (memory_for state p) now (stamp_of p) tt)
+
+-- ---- what is accepted
+
+-- client, key, flags and times are the ticket's; subkey, number and checksum the authenticator's
+abbrev pub accepted_with : Option (List ℕ) → Presented → Accepted
+accepted_with reply p = record {
+  client = record { realm = p.ticket.crealm; name = p.ticket.cname };
+  session_key = p.session_key;
+  ticket = terms_of p.ticket;
+  subkey = p.subkey;
+  seq_number = p.authenticator.seq_number;
+  cksum = p.authenticator.cksum;
+  ap_rep = reply;
+}
+
+abbrev pub accepted : List ℕ → Bool → Presented → Accepted
+accepted confounder wanted p = accepted_with (reply_if wanted p.session_key confounder p.authenticator) p
+
+abbrev pub unless_invalid : List ℕ → Bool → Presented → Option ApRefusal → Result Accepted ApFault
+unless_invalid confounder wanted p (Some refusal) = Err (Refused refusal)
+unless_invalid confounder wanted p None = Ok (accepted confounder wanted p)
+
+-- ---- in their order
+
+-- once it is remembered, only the ticket's validity decides
+abbrev pub unless_seen : State → ℤ → List ℕ → Bool → Presented → Option ApRefusal → Answer
+unless_seen state now confounder wanted p (Some refusal) = refused state refusal
+unless_seen state now confounder wanted p None = record { answer = unless_invalid confounder wanted p (first_holding (validity_rules (terms_of p.ticket) now)); state = remembering state now p }
+
+abbrev pub if_presented : State → ℤ → List ℕ → Bool → Result Presented ApRefusal → Answer
+if_presented state now confounder wanted (Ok p) = unless_seen state now confounder wanted p (memory_refusal state now p)
+if_presented state now confounder wanted (Err refusal) = refused state refusal
+
+-- the AP-REQ that the octets spell
+abbrev pub request_of : List ℕ → Option ApReq
+request_of octets = ok_of (whole ap_req.at octets)
+
+abbrev pub if_request : State → ℤ → List ℕ → Option ApReq → Answer
+if_request state now confounder (Some ap) = if_presented state now confounder (asks_reply ap) (presented state.keytab ap)
+if_request state now confounder None = record { answer = Err NotAnApReq; state = state }
+
+-- `confounder` are the 16 random octets of the AP-REP
+abbrev pub accepts : State → Moment → List ℕ → List ℕ → Answer
+accepts state at confounder octets = if_request state at.sec confounder (request_of octets)
+
+-- ---- what a call gave
+
+-- it is what is ruled, unless memory ran out
+abbrev pub IsAnswer : Result Accepted ApFault → Result Accepted ApFault → Type 0
+IsAnswer (Ok accepted) ruled = ruled ≡ Ok accepted
+IsAnswer (Err NotAnApReq) ruled = ruled ≡ Err NotAnApReq
+IsAnswer (Err (Refused refusal)) ruled = ruled ≡ Err (Refused refusal)
+IsAnswer (Err NoMemory) ruled = ⊤
+
+-- the state afterwards is this one, or where memory ran out the one before
+abbrev pub IsAfter : Result Accepted ApFault → State → State → State → Type 0
+IsAfter (Err NoMemory) old new ruled = new ≡ old
+IsAfter (Err NotAnApReq) old new ruled = new ≡ ruled
+IsAfter (Err (Refused refusal)) old new ruled = new ≡ ruled
+IsAfter (Ok accepted) old new ruled = new ≡ ruled
+
+-- ---- whom it is about
+
+-- what the octets present, where ticket and authenticator are opened
+abbrev pub presented_if : State → Option ApReq → Option Presented
+presented_if state (Some ap) = result_ok (presented state.keytab ap)
+presented_if state None = None
+
+abbrev pub presented_by : State → List ℕ → Option Presented
+presented_by state octets = presented_if state (request_of octets)
+
+-- whose memory may change: a service and its client
+abbrev pub IsParty : Components → Components → Option Presented → Type 0
+IsParty service client (Some p) = (p.service.components ≡ service) × (p.ticket.cname.components ≡ client)
+IsParty service client None = ⊥

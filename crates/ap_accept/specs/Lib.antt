@@ -1,0 +1,10 @@
+pub mod Refusal
+pub mod Tickets
+pub mod Authenticators
+pub mod Presented
+pub mod State
+pub mod Validity
+pub mod Reply
+pub mod Accepts
+pub mod Run
+pub mod LengthLaws

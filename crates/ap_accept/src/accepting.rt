@@ -1,0 +1,150 @@
+//! From the octets of an AP-REQ to what is accepted, and to what is remembered.
+ghost use Rattle.std.specs.Prelude.{◌≡◌, false, None, IfOk, IfNone, IfSome, OnOk, OnErr};
+ghost use Rattle.std.specs.FinMap as map;
+ghost use Rattle.replay.specs.Memory.{verdict_copied};
+ghost use Rattle.replay.specs.Stamp.{is_skewed};
+ghost use Rattle.ap_accept.specs.Accepts.{accepted_with, accepts, memory_for, memory_refusal, presented_by, refusal_by, remembering, stamp_of, unless_seen, IsAfter, IsAnswer};
+ghost use Rattle.ap_accept.specs.Reply.{IsApReply};
+
+use crate::accepted::Accepted;
+use crate::fault::ApFault;
+use crate::opening::open_request;
+use crate::presented::Presented;
+use crate::refusal::ApRefusal;
+use crate::replies::reply_if;
+use crate::state::State;
+use crate::validity::{terms_of, ticket_refusal};
+use cred_files::Principal;
+use krb_ap::read_ap_req;
+use krb_elements::Octets;
+use krb_fields::{ApOption, Moment};
+use krb_parts::{Authenticator, EncTicketPart};
+use replay::{Memory, Verdict};
+use std::alloc::{AllocError, Global};
+
+/// Accepts the octets of an AP-REQ or refuses them, and remembers an authenticator that is new.
+pub fn accept(
+    state: &mut State,
+    alloc: Global,
+    at: Moment,
+    confounder: &[u8; 16],
+    ap_req: &[u8],
+) -> Result<Accepted, ApFault>
+    ensures answer { IsAnswer result (accepts state.old at confounder.now ap_req.now).answer }
+    ensures state { IsAfter result state.old state.new (accepts state.old at confounder.now ap_req.now).state }
+    ensures reply { IfOk result (λ accepted. IfSome (presented_by state.old ap_req.now) (λ p. IfSome accepted.ap_rep (λ octets. IsApReply p.session_key confounder.now p.authenticator octets))) }
+{
+    let Ok(request) = read_ap_req(ap_req) else {
+        return Err(ApFault::NotAnApReq);
+    };
+    let wanted = request.ap_options.has(ApOption::MutualRequired);
+    match open_request(alloc, &state.keytab, &request)? {
+        Ok(presented) => judge(state, alloc, at, confounder, wanted, presented),
+        Err(refusal) => Err(ApFault::Refused(refusal)),
+    }
+}
+
+/// Accepts what is presented or refuses it.
+fn judge(
+    state: &mut State,
+    alloc: Global,
+    at: Moment,
+    confounder: &[u8; 16],
+    wanted: bool,
+    presented: Presented,
+) -> Result<Accepted, ApFault>
+    ensures answer { IsAnswer result (unless_seen state.old at.sec confounder.now wanted presented (memory_refusal state.old at.sec presented)).answer }
+    ensures state { IsAfter result state.old state.new (unless_seen state.old at.sec confounder.now wanted presented (memory_refusal state.old at.sec presented)).state }
+    ensures reply { IfOk result (λ accepted. IfSome accepted.ap_rep (λ octets. IsApReply presented.session_key confounder.now presented.authenticator octets)) }
+{
+    if let Some(refusal) = memory_refusal(state, alloc, at, &presented) {
+        return Err(ApFault::Refused(refusal));
+    }
+    let Some(refusal) = ticket_refusal(&terms_of(&presented.ticket), at) else {
+        let key = &presented.session_key;
+        let reply = reply_if(alloc, wanted, key, confounder, &presented.authenticator)?;
+        remember(state, alloc, at, &presented)?;
+        return Ok(accepted_with(reply, presented));
+    };
+    remember(state, alloc, at, &presented)?;
+    Err(ApFault::Refused(refusal))
+}
+
+/// Why the memory of the service and the client refuses the authenticator.
+fn memory_refusal(
+    state: &State,
+    alloc: Global,
+    at: Moment,
+    presented: &Presented,
+) -> Option<ApRefusal>
+    ensures value { result ≡ memory_refusal state.now at.sec presented.now }
+    ensures timely { IfNone result (is_skewed (memory_for state.now presented.now).floor at.sec presented.now.authenticator.ctime ≡ false) }
+    ensures new { IfNone result (map.get (memory_for state.now presented.now).pairs (stamp_of presented.now) ≡ None) }
+{
+    let opened = Memory::opened(alloc, state.opening);
+    let memory = state.memory(&presented.service, &presented.ticket.cname, &opened);
+    let ctime = presented.authenticator.ctime.seconds();
+    let cusec = presented.authenticator.cusec.get();
+    refusal_by(memory.check(at, ctime, cusec, state.limits.remembered))
+}
+
+fn refusal_by(verdict: Verdict<&()>) -> Option<ApRefusal>
+    ensures { result ≡ refusal_by (verdict_copied verdict.entry) }
+{
+    match verdict {
+        Verdict::Fresh => None,
+        Verdict::Skew => Some(ApRefusal::Skewed),
+        Verdict::Repeat(_) => Some(ApRefusal::Repeated),
+        Verdict::Full => Some(ApRefusal::Full),
+    }
+}
+
+/// Remembers the authenticator. Where memory runs out, nothing changes.
+fn remember(
+    state: &mut State,
+    alloc: Global,
+    at: Moment,
+    presented: &Presented,
+) -> Result<(), AllocError>
+    requires timely { is_skewed (memory_for state.old presented.now).floor at.sec presented.now.authenticator.ctime ≡ false }
+    requires new { map.get (memory_for state.old presented.now).pairs (stamp_of presented.now) ≡ None }
+    ensures ok { OnOk result (state.new ≡ remembering state.old at.sec presented.now) }
+    ensures err { OnErr result (state.new ≡ state.old) }
+{
+    let client = &presented.ticket.cname;
+    let ctime = presented.authenticator.ctime.seconds();
+    let cusec = presented.authenticator.cusec.get();
+    state.remember(alloc, &presented.service, client, at, ctime, cusec)
+}
+
+/// What is accepted, with the octets of the AP-REP if it is asked for.
+fn accepted_with(ap_rep: Option<Octets>, presented: Presented) -> Accepted
+    ensures { result ≡ accepted_with ap_rep presented }
+{
+    let terms = terms_of(&presented.ticket);
+    let Presented {
+        ticket,
+        session_key,
+        authenticator,
+        subkey,
+        ..
+    } = presented;
+    let EncTicketPart { crealm, cname, .. } = ticket;
+    let Authenticator {
+        seq_number,
+        cksum,
+        ..
+    } = authenticator;
+    Accepted {
+        client: Principal {
+            realm: crealm,
+            name: cname,
+        },
+        session_key,
+        ticket: terms,
+        subkey,
+        seq_number,
+        cksum,
+        ap_rep,
+    }
+}

@@ -1,0 +1,79 @@
+//! An acceptor of AP-REQ messages.
+ghost use Rattle.std.specs.Prelude.{◌≡◌, ◌↔◌, Some, IfOk, IfSome};
+ghost use Rattle.krb_ap.specs.ApReq as trees;
+ghost use Rattle.krb_fields.specs.Name.{Components};
+ghost use Rattle.ap_accept.specs.Accepts.{accepts, presented_by, request_of, IsAfter, IsAnswer, IsParty};
+ghost use Rattle.ap_accept.specs.Reply.{IsApReply};
+ghost use Rattle.ap_accept.specs.State.{memory_of, opened};
+
+use crate::accepted::Accepted;
+use crate::accepting::accept;
+use crate::fault::ApFault;
+use crate::state::State;
+use cred_files::Keytab;
+use krb_fields::Moment;
+use principal_rows::Limits;
+use replay::Opening;
+use std::alloc::{AllocError, Global};
+use std::marker::Model;
+
+/// The services of a process: their keys, and what is remembered of each one's clients.
+#[derive(Debug, Drop)]
+pub struct Acceptor {
+    state: State,
+}
+
+impl Model for Acceptor {
+    ghost use Rattle.ap_accept.specs.declared.state.State.{State};
+    ghost use Rattle.ap_accept.specs.contracts.state.State.{the_row};
+
+    ghost Value = { State };
+
+    ghost coded = { the_row.coded };
+
+    ghost view = { λ acceptor. acceptor.state };
+}
+
+impl Acceptor {
+    /// Opens with the keys of the services. It answers want of memory alone; today it takes none.
+    pub fn open(
+        alloc: Global,
+        keytab: Keytab,
+        limits: Limits,
+        opening: Opening,
+    ) -> Result<Acceptor, AllocError>
+        ensures { IfOk result (λ acceptor. acceptor ≡ opened keytab limits opening) }
+    {
+        Ok(Acceptor {
+            state: State::open(alloc, keytab, limits, opening),
+        })
+    }
+
+    /// Accepts the octets of an AP-REQ, or says by which rule they are refused.
+    ///
+    /// `at` is the moment when they came in, and `confounder` is 16 random octets, for the AP-REP. An authenticator
+    /// is remembered once only the ticket's own times and flags can refuse it. A call that is refused memory changes
+    /// nothing.
+    pub fn accept(
+        &mut self,
+        alloc: Global,
+        at: Moment,
+        confounder: &[u8; 16],
+        ap_req: &[u8],
+    ) -> Result<Accepted, ApFault>
+        // The AP-REQ is the one that the octets spell, if they spell one.
+        ensures request { (r : trees.ApReq) → (request_of ap_req.now ≡ Some r) ↔ trees.ap_req.Spells r ap_req.now }
+        // What is accepted, or why nothing is, is what the rules say; and so is the state afterwards.
+        ensures answer { IsAnswer result (accepts self.old at confounder.now ap_req.now).answer }
+        ensures state { IsAfter result self.old self.new (accepts self.old at confounder.now ap_req.now).state }
+        // The AP-REP, if there is one, is what the session key opens to the authenticator's time.
+        ensures reply { IfOk result (λ accepted. IfSome (presented_by self.old ap_req.now) (λ p. IfSome accepted.ap_rep (λ octets. IsApReply p.session_key confounder.now p.authenticator octets))) }
+        // No memory changes but that of the service and the client that are presented, and nothing else does.
+        ensures memories { (service client : Components) → (IsParty service client (presented_by self.old ap_req.now) → ⊥)
+            → memory_of self.new service client ≡ memory_of self.old service client }
+        ensures keytab { self.new.keytab ≡ self.old.keytab }
+        ensures limits { self.new.limits ≡ self.old.limits }
+    {
+        accept(&mut self.state, alloc, at, confounder, ap_req)
+    }
+}

@@ -1,0 +1,24 @@
+//! A service accepts AP-REQ messages (RFC 4120, section 3.2.3).
+#![tactic(auto)]
+
+mod accepted;
+mod accepting;
+mod acceptor;
+mod authenticators;
+mod fault;
+mod laws;
+mod opening;
+mod presented;
+mod refusal;
+mod remembering;
+mod replies;
+mod state;
+mod tickets;
+mod validity;
+
+pub use accepted::Accepted;
+pub use acceptor::Acceptor;
+pub use fault::ApFault;
+pub use laws::accepted_once;
+pub use refusal::ApRefusal;
+pub use replay::Opening;

@@ -1,0 +1,58 @@
+//! Why an AP-REQ is refused.
+ghost use Rattle.std.specs.Prelude.{◌≡◌};
+ghost use Rattle.ap_accept.specs.Refusal.{code_of};
+
+use krb_fields::Code;
+
+/// The rules by which AP-REQs are refused (RFC 4120, section 3.2.3), in the order in which they are asked.
+#[derive(Debug, Clone, Copy, PartialEq, Eq)]
+pub enum ApRefusal {
+    // what the request presents
+    BadVersion,
+    BadMessageType,
+    SessionKeyAsked,
+    NotForUs,
+    NoKey,
+    BadKeyVersion,
+    TicketNotOpened,
+    ForeignClient,
+    BoundAddress,
+    BadSessionKey,
+    AuthenticatorNotOpened,
+    BadMatch,
+    BadSubkey,
+    // whether that came before
+    Skewed,
+    Repeated,
+    Full,
+    // whether the ticket is valid: from here on the authenticator is remembered
+    NotYetValid,
+    TicketExpired,
+}
+
+impl ApRefusal {
+    pub fn code(self) -> Code
+        ensures { result ≡ code_of self }
+    {
+        match self {
+            ApRefusal::BadVersion => Code::KrbApErrBadversion,
+            ApRefusal::BadMessageType => Code::KrbApErrMsgType,
+            ApRefusal::SessionKeyAsked => Code::KrbApErrNokey,
+            ApRefusal::NotForUs => Code::KrbApErrNotUs,
+            ApRefusal::NoKey => Code::KrbApErrNokey,
+            ApRefusal::BadKeyVersion => Code::KrbApErrBadkeyver,
+            ApRefusal::TicketNotOpened => Code::KrbApErrBadIntegrity,
+            ApRefusal::ForeignClient => Code::KrbApPathNotAccepted,
+            ApRefusal::BoundAddress => Code::KrbApErrBadaddr,
+            ApRefusal::BadSessionKey => Code::KdcErrEtypeNosupp,
+            ApRefusal::AuthenticatorNotOpened => Code::KrbApErrBadIntegrity,
+            ApRefusal::BadMatch => Code::KrbApErrBadmatch,
+            ApRefusal::BadSubkey => Code::KdcErrEtypeNosupp,
+            ApRefusal::Skewed => Code::KrbApErrSkew,
+            ApRefusal::Repeated => Code::KrbApErrRepeat,
+            ApRefusal::Full => Code::KdcErrSvcUnavailable,
+            ApRefusal::NotYetValid => Code::KrbApErrTktNyv,
+            ApRefusal::TicketExpired => Code::KrbApErrTktExpired,
+        }
+    }
+}

@@ -1,0 +1,67 @@
+//! The AP-REP by which a service shows that it has the session key (RFC 4120, sections 3.2.4 and 5.5.2).
+ghost use Rattle.std.specs.Prelude.{◌≡◌, ◌<◌, ◌≤◌, ◌^◌, length, Some, IfOk, IfSome};
+ghost use Rattle.krb_ap.specs.ApRep.{ap_rep};
+ghost use Rattle.krb_parts.specs.EncApRepPart.{enc_ap_rep_part};
+ghost use Rattle.sealed_parts.specs.Parts.{opened_as};
+ghost use Rattle.ap_accept.specs.Reply.{IsApReply, reply_if, reply_of, reply_part};
+
+use enctypes::{Key, KeyUsage};
+use krb_ap::{ApRep, encode_ap_rep};
+use krb_elements::Octets;
+use krb_fields::EncryptedData;
+use krb_parts::{Authenticator, EncApRepPart};
+use sealed_parts::seal_part;
+use std::alloc::{AllocError, Global};
+
+/// The octets of the AP-REP, where it is asked for. `confounder` is 16 random octets.
+pub fn reply_if(
+    alloc: Global,
+    asked: bool,
+    key: &Key,
+    confounder: &[u8; 16],
+    authenticator: &Authenticator,
+) -> Result<Option<Octets>, AllocError>
+    ensures value { IfOk result (λ reply. reply ≡ reply_if asked key.now confounder.now authenticator.now) }
+    ensures opens { IfOk result (λ reply. IfSome reply (λ octets. IsApReply key.now confounder.now authenticator.now octets)) }
+{
+    if !asked {
+        return Ok(None);
+    }
+    let reply = reply_of(alloc, key, confounder, authenticator)?;
+    Ok(Some(Octets::new(encode_ap_rep(alloc, &reply)?)))
+}
+
+fn reply_of(
+    alloc: Global,
+    key: &Key,
+    confounder: &[u8; 16],
+    authenticator: &Authenticator,
+) -> Result<ApRep, AllocError>
+    ensures value { IfOk result (λ reply. reply ≡ reply_of key.now confounder.now authenticator.now) }
+    ensures opens { IfOk result (λ reply. opened_as enc_ap_rep_part key.now.etype key.now.bytes 12 reply.enc_part.cipher ≡ Some (reply_part authenticator.now)) }
+    ensures short { IfOk result (λ reply. length (ap_rep.text reply) < 2 ^ 32) }
+{
+    let part = reply_part(authenticator);
+    let cipher = seal_part(alloc, key, KeyUsage::ApRepEncPart, confounder, &part)?;
+    Ok(ApRep {
+        enc_part: EncryptedData {
+            etype: key.etype().number(),
+            kvno: None,
+            cipher: Octets::new(cipher),
+        },
+    })
+}
+
+/// The authenticator's time, and no more.
+#[tactic(auto, using(crate::specs::LengthLaws::part_short))]
+fn reply_part(authenticator: &Authenticator) -> EncApRepPart
+    ensures value { result ≡ reply_part authenticator.now }
+    ensures short { length (enc_ap_rep_part.text result) ≤ 100 }
+{
+    EncApRepPart {
+        ctime: authenticator.ctime,
+        cusec: authenticator.cusec,
+        subkey: None,
+        seq_number: None,
+    }
+}

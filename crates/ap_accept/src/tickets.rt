@@ -1,0 +1,160 @@
+//! The ticket of an AP-REQ (RFC 4120, section 3.2.3).
+ghost use Rattle.std.specs.Prelude.{◌≡◌, ◌∷◌, ◌&&◌, Some, IfOk, is_none, is_some, option_copied, option_map};
+ghost use Rattle.krb_parts.specs.EncTicketPart.{enc_ticket_part};
+ghost use Rattle.ap_accept.specs.Tickets.{entry_for, is_other_version, lacks_service, lacks_type, opened_with, part_rules, session_key_of, ticket_key, ticket_of, ticket_rules};
+
+use crate::refusal::ApRefusal;
+use cred_files::Keytab;
+use enctypes::{Etype, Key, KeyUsage};
+use krb_ap::{AP_REQ, ApReqRef};
+use krb_elements::UInt32;
+use krb_fields::{ApOption, EncryptedDataRef, Name};
+use krb_parts::EncTicketPart;
+use krb_types::{PVNO, TicketRef};
+use refusals::decide;
+use sealed_parts::{etype_of, key_of, open_part};
+use std::alloc::{AllocError, Global};
+
+/// What the ticket holds.
+///
+/// Until the ticket is opened, it takes no more memory than the service's name and the ticket's cipher need.
+pub fn ticket_of(
+    alloc: Global,
+    keytab: &Keytab,
+    request: &ApReqRef<'_>,
+) -> Result<Result<EncTicketPart, ApRefusal>, AllocError>
+    ensures { IfOk result (λ found. found ≡ ticket_of keytab.now request.now) }
+{
+    let ticket = &request.ticket;
+    let service = ticket.sname.to_name(alloc)?;
+    let key = ticket_key(keytab, ticket, &service);
+    let rules = ticket_rules(keytab, request, &service, key);
+    let part = part_of(alloc, key, &ticket.enc_part)?;
+    Ok(decide(&rules, part, ApRefusal::TicketNotOpened))
+}
+
+fn ticket_rules(
+    keytab: &Keytab,
+    request: &ApReqRef<'_>,
+    service: &Name,
+    key: Option<&Key>,
+) -> [(bool, ApRefusal); 6]
+    requires service { service.now ≡ request.now.ticket.sname }
+    requires key { option_copied key ≡ ticket_key keytab.now request.now.ticket }
+    ensures { result ≡ ticket_rules keytab.now request.now }
+{
+    [
+        (is_other_version(request), ApRefusal::BadVersion),
+        (
+            request.msg_type != i32::from(AP_REQ),
+            ApRefusal::BadMessageType,
+        ),
+        (
+            request.ap_options.has(ApOption::UseSessionKey),
+            ApRefusal::SessionKeyAsked,
+        ),
+        (
+            lacks_service(keytab, &request.ticket, service),
+            ApRefusal::NotForUs,
+        ),
+        (
+            lacks_type(keytab, &request.ticket, service),
+            ApRefusal::NoKey,
+        ),
+        (
+            lacks_version(&request.ticket.enc_part, key),
+            ApRefusal::BadKeyVersion,
+        ),
+    ]
+}
+
+fn is_other_version(request: &ApReqRef<'_>) -> bool
+    ensures { result ≡ is_other_version request.now }
+{
+    request.pvno != PVNO || request.ticket.tkt_vno != PVNO
+}
+
+/// The keytab has no entry of the service.
+fn lacks_service(keytab: &Keytab, ticket: &TicketRef<'_>, service: &Name) -> bool
+    requires { service.now ≡ ticket.now.sname }
+    ensures { result ≡ lacks_service keytab.now ticket.now }
+{
+    !keytab.has(ticket.realm.as_slice(), service, None)
+}
+
+/// Or none of the ticket's encryption type.
+fn lacks_type(keytab: &Keytab, ticket: &TicketRef<'_>, service: &Name) -> bool
+    requires { service.now ≡ ticket.now.sname }
+    ensures { result ≡ lacks_type keytab.now ticket.now }
+{
+    match etype_of(ticket.enc_part.etype) {
+        Some(etype) => !keytab.has(ticket.realm.as_slice(), service, Some(etype)),
+        None => true,
+    }
+}
+
+/// A version is named, and there is no key of it.
+fn lacks_version(sealed: &EncryptedDataRef<'_>, key: Option<&Key>) -> bool
+    ensures { result ≡ (is_some sealed.now.kvno && is_none (option_copied key.entry)) }
+{
+    sealed.kvno.is_some() && key.is_none()
+}
+
+/// The key that the ticket names by its type and version.
+fn ticket_key<'k>(keytab: &'k Keytab, ticket: &TicketRef<'_>, service: &Name) -> Option<&'k Key>
+    requires { service.now ≡ ticket.now.sname }
+    ensures { option_copied result ≡ ticket_key keytab.now ticket.now }
+{
+    let etype = etype_of(ticket.enc_part.etype)?;
+    let realm = ticket.realm.as_slice();
+    match ticket.enc_part.kvno {
+        Some(kvno) => numbered_key(keytab, realm, service, etype, kvno),
+        None => keytab.find(realm, service, etype, None).ok(),
+    }
+}
+
+/// The service's key of this type in the version of this number.
+fn numbered_key<'k>(
+    keytab: &'k Keytab,
+    realm: &[u8],
+    service: &Name,
+    etype: Etype,
+    kvno: UInt32,
+) -> Option<&'k Key>
+    ensures { option_copied result ≡ option_map (λ e. e.key) (entry_for keytab.now (realm.now ∷ service.now.components) (Some etype) (Some kvno)) }
+{
+    let version = u32::try_from(kvno.get()).ok()?;
+    keytab.find(realm, service, etype, Some(version)).ok()
+}
+
+/// What the key opens, if there is one.
+fn part_of(
+    alloc: Global,
+    key: Option<&Key>,
+    sealed: &EncryptedDataRef<'_>,
+) -> Result<Option<EncTicketPart>, AllocError>
+    ensures { IfOk result (λ found. found ≡ opened_with enc_ticket_part 2 (option_copied key.entry) sealed.now.cipher) }
+{
+    match key {
+        Some(key) => open_part(alloc, key, KeyUsage::Ticket, sealed.cipher.as_slice()),
+        None => Ok(None),
+    }
+}
+
+/// The session key of a ticket of this realm, of a client of the realm and bound to no address.
+pub fn session_key_of(realm: &[u8], part: &EncTicketPart) -> Result<Key, ApRefusal>
+    ensures { result ≡ session_key_of realm.now part.now }
+{
+    let rules = part_rules(realm, part);
+    let key = key_of(part.key.number, part.key.octets.as_slice());
+    decide(&rules, key, ApRefusal::BadSessionKey)
+}
+
+fn part_rules(realm: &[u8], part: &EncTicketPart) -> [(bool, ApRefusal); 2]
+    ensures { result ≡ part_rules realm.now part.now }
+{
+    [
+        (part.crealm.as_slice() != realm, ApRefusal::ForeignClient),
+        (part.caddr.is_some(), ApRefusal::BoundAddress),
+    ]
+}
