@@ -12,7 +12,7 @@ use krb_fields::{ApOption, EncryptedDataRef, Name};
 use krb_parts::EncTicketPart;
 use krb_types::{PVNO, TicketRef};
 use refusals::decide;
-use sealed_parts::{etype_of, key_of, open_part};
+use sealed_parts::{type_numbered, key_of, open_part};
 use std::alloc::{AllocError, Global};
 
 /// What the ticket holds.
@@ -87,7 +87,7 @@ fn lacks_type(keytab: &Keytab, ticket: &TicketRef<'_>, service: &Name) -> bool
     requires { service.now ≡ ticket.now.sname }
     ensures { result ≡ lacks_type keytab.now ticket.now }
 {
-    match etype_of(ticket.enc_part.etype) {
+    match type_numbered(ticket.enc_part.etype) {
         Some(etype) => !keytab.has(ticket.realm.as_slice(), service, Some(etype)),
         None => true,
     }
@@ -105,7 +105,7 @@ fn ticket_key<'k>(keytab: &'k Keytab, ticket: &TicketRef<'_>, service: &Name) ->
     requires { service.now ≡ ticket.now.sname }
     ensures { option_copied result ≡ ticket_key keytab.now ticket.now }
 {
-    let etype = etype_of(ticket.enc_part.etype)?;
+    let etype = type_numbered(ticket.enc_part.etype)?;
     let realm = ticket.realm.as_slice();
     match ticket.enc_part.kvno {
         Some(kvno) => numbered_key(keytab, realm, service, etype, kvno),

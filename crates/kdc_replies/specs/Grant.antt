@@ -2,13 +2,14 @@
 -- and 5.4.2).
 use Rattle.std.specs.Prelude.{ℕ, ℤ, pos, ◌<◌, ◌≤◌, IfSome, List, [], ◌∷◌, length, take, Some, None}
 use Rattle.enctypes.specs.declared.key.Key.{Key}
-use Rattle.enctypes.specs.Etype.{number, key_len}
+use Rattle.enctypes.specs.Etype.{key_len}
 use Rattle.enctypes.specs.declared.etype.Etype.{Etype}
 use Rattle.krb_elements.specs.Codec.{list_of}
 use Rattle.krb_fields.specs.NameLimits.{IsWithinLimits}
 use Rattle.krb_fields.specs.Typed.{Typed, typed}
 use Rattle.krb_parts.specs.EncKdcRepPart.{EncKdcRepPart}
 use Rattle.krb_parts.specs.EncTicketPart.{EncTicketPart}
+use Rattle.sealed_parts.specs.Keys.{key_part}
 use Rattle.kdc_replies.specs.declared.grant.Grant.{Grant}
 
 -- A realm and names that have rows: what is written of them is short. What is repeated of a ticket came in a request.
@@ -21,10 +22,6 @@ pub record IsShort (grant : Grant) : Type 0 where
 -- random octets are a key as they are: the first of them, as many as the type's keys have
 abbrev pub session_key : Etype → List ℕ → Key
 session_key etype words = record { etype = etype; bytes = take (key_len etype) (take 32 words) }
-
--- EncryptionKey (section 5.2.9)
-abbrev pub key_part : Key → Typed
-key_part key = record { number = number key.etype; octets = key.bytes }
 
 -- the realms between the client's and the service's: none, in the form DOMAIN-X500-COMPRESS (section 3.3.3.2)
 abbrev pub no_realms : Typed

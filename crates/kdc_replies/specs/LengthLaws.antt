@@ -1,14 +1,13 @@
 -- The messages of short realms and names have encodings.
 use Rattle.std.proofs.Common.{◌≡◌, ℕ, ℤ, ◌*◌, ◌^◌, ◌<◌, ◌≤◌, List, [], ◌∷◌, length, Option, Some, None, refl, ap, arith}
-use Rattle.std.specs.Prelude.{IfSome, All}
-use Rattle.std.proofs.lemmas.List.Elements.{All-head, All-tail}
+use Rattle.std.specs.Prelude.{IfSome}
 use Rattle.krb_elements.specs.Codec.{measured, list_of, octets, string}
 use Rattle.krb_elements.specs.TextLengthLaws.{most_items, most_maybe}
 use Rattle.krb_fields.specs.declared.code.Code.{Code}
 use Rattle.krb_fields.specs.declared.moment.Moment.{Moment}
 use Rattle.krb_fields.specs.EncryptedData.{encrypted_data, encrypted_data_form}
-use Rattle.krb_fields.specs.NameLimits.{IsComponent, IsWithinLimits}
-use Rattle.krb_fields.specs.NameLimitsLaws.{component_facts, name_facts}
+use Rattle.krb_fields.specs.NameLengthLaws.{name_short}
+use Rattle.krb_fields.specs.NameLimits.{IsWithinLimits}
 use Rattle.krb_fields.specs.PaData.{PaData, pa_data}
 use Rattle.krb_fields.specs.PrincipalName.{Name, name, name_form}
 use Rattle.krb_fields.specs.Typed.{Typed, typed, typed_form}
@@ -22,19 +21,6 @@ use Rattle.principals.specs.Database.{granter_name}
 use Rattle.kdc_replies.specs.ErrorReply.{error_reply}
 use Rattle.kdc_replies.specs.declared.grant.Grant.{Grant}
 use Rattle.kdc_replies.specs.Grant.{IsShort, ticket_part, reply_part}
-
--- ---- names
-
-components_bounded : (components : List (List ℕ)) → All IsComponent components → most_items length components ≤ 261 * length components
-components_bounded [] all = omega arith
-components_bounded (c ∷ cs) all = omega (arith, (component_facts c (All-head IsComponent c cs all)).1, components_bounded cs (All-tail IsComponent c cs all))
-
--- a name within the limits has a short text
-pub name_short : (n : Name) → IsWithinLimits n.components → length (name.text n) ≤ 5000
-unfolding name_form
-name_short n is =
-    let facts = name_facts n.components is in
-    omega (arith, name.bounded n, components_bounded n.components facts.2, facts.1)
 
 -- ---- errors
 

@@ -3,6 +3,5 @@ pub mod ServiceTerms
 pub mod ServiceTermsLaws
 pub mod Standing
 pub mod Grant
-pub mod Encrypted
 pub mod Reply
 pub mod LengthLaws

@@ -14,7 +14,7 @@ use Rattle.principal_rows.specs.declared.row.Row.{Row}
 use Rattle.kdc_replies.specs.declared.grant.Grant.{Grant}
 use Rattle.kdc_replies.specs.declared.replies.ReplyKey.{ReplyKey}
 use Rattle.kdc_replies.specs.declared.tickets.ServiceKey.{ServiceKey}
-use Rattle.kdc_replies.specs.Encrypted.{encrypted, decrypted}
+use Rattle.sealed_parts.specs.Encrypted.{encrypted, decrypted}
 use Rattle.kdc_replies.specs.Grant.{ticket_part, reply_part}
 
 abbrev pub ticket_confounder : List ℕ → List ℕ

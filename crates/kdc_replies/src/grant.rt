@@ -2,7 +2,7 @@
 ghost use Rattle.std.specs.Prelude.{◌≡◌, ◌≤◌, length, IfOk};
 ghost use Rattle.krb_parts.specs.EncKdcRepPart.{enc_kdc_rep_part};
 ghost use Rattle.krb_parts.specs.EncTicketPart.{enc_ticket_part};
-ghost use Rattle.kdc_replies.specs.Grant.{IsShort, key_part, no_realms, ticket_part, reply_part};
+ghost use Rattle.kdc_replies.specs.Grant.{IsShort, no_realms, ticket_part, reply_part};
 
 use crate::authorization_data::copy_data;
 use enctypes::Key;
@@ -10,6 +10,7 @@ use krb_der::KTime;
 use krb_elements::{KerberosString, Octets, Seq, UInt32};
 use krb_fields::{Flags, Name, Typed};
 use krb_parts::{EncKdcRepPart, EncTicketPart, LastReq};
+use sealed_parts::key_part;
 use std::alloc::{AllocError, Global};
 use ticket_times::Times;
 
@@ -89,17 +90,6 @@ impl Grant {
             caddr: None,
         })
     }
-}
-
-/// EncryptionKey (RFC 4120, section 5.2.9).
-fn key_part(alloc: Global, key: &Key) -> Result<Typed, AllocError>
-    ensures value { IfOk result (λ part. part ≡ key_part key.now) }
-    ensures short { length key.now.bytes ≤ 32 }
-{
-    Ok(Typed {
-        number: key.etype().number(),
-        octets: Octets::from_slice(alloc, key.bytes())?,
-    })
 }
 
 /// The realms between the client's and the service's: none (RFC 4120, section 3.3.3.2).

@@ -5,7 +5,6 @@ mod authorization_data;
 mod errors;
 mod grant;
 mod replies;
-mod sealing;
 mod services;
 mod session_keys;
 mod standing;

@@ -6,18 +6,18 @@ ghost use Rattle.krb_parts.specs.EncKdcRepPart.{enc_kdc_rep_part};
 ghost use Rattle.krb_replies.specs.KdcRep.{kdc_rep};
 ghost use Rattle.krb_replies.specs.Under.{under};
 ghost use Rattle.enctypes.specs.KeyUsage.{usage_number};
-ghost use Rattle.kdc_replies.specs.Encrypted.{decrypted};
+ghost use Rattle.sealed_parts.specs.Encrypted.{decrypted};
 ghost use Rattle.kdc_replies.specs.Grant.{IsShort, reply_part};
 ghost use Rattle.kdc_replies.specs.Reply.{OpensAlike, sealed_part, reply_of};
 
 use crate::grant::Grant;
-use crate::sealing::encrypted;
 use crate::tickets::{ServiceKey, confounder, ticket};
 use enctypes::{Key, KeyUsage};
 use krb_der::KTime;
 use krb_elements::{Seq, UInt32, write};
 use krb_fields::{EncryptedData, PaData};
 use krb_replies::{KdcRep, Under};
+use sealed_parts::encrypted;
 use std::alloc::{AllocError, Global};
 
 /// The key under which the client reads its part of a reply, what that use of it is, and its version where the reply

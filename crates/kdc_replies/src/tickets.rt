@@ -1,16 +1,16 @@
 //! Tickets (RFC 4120, section 5.3).
 ghost use Rattle.std.specs.Prelude.{◌≡◌, ◌≤◌, ◌+◌, pos, length, take, drop, Some, IfOk};
 ghost use Rattle.krb_parts.specs.EncTicketPart.{enc_ticket_part};
-ghost use Rattle.kdc_replies.specs.Encrypted.{decrypted};
+ghost use Rattle.sealed_parts.specs.Encrypted.{decrypted};
 ghost use Rattle.kdc_replies.specs.Grant.{IsShort, ticket_part};
 ghost use Rattle.kdc_replies.specs.Reply.{ticket_confounder, ticket_of};
 
 use crate::grant::Grant;
-use crate::sealing::encrypted;
 use enctypes::{Key, KeyUsage};
 use krb_elements::UInt32;
 use krb_fields::EncryptedData;
 use krb_types::{PVNO, Ticket};
+use sealed_parts::encrypted;
 use std::alloc::{AllocError, Global};
 
 /// A key of a service, under which its tickets are sealed, and the number of its version.

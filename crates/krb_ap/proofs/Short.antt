@@ -10,8 +10,9 @@ use Rattle.krb_elements.specs.OneSpellingLaws.{HasOneSpelling}
 use Rattle.krb_elements.specs.Written.{field_text, maybe_text}
 use Rattle.krb_elements.specs.WrittenLaws.{tlv_longer}
 use Rattle.krb_fields.specs.EncryptedData.{EncryptedData, encrypted_data, encrypted_data_form}
-use Rattle.krb_fields.specs.PrincipalName.{name, name_form}
+use Rattle.krb_fields.specs.PrincipalName.{name}
 use Rattle.krb_types.specs.Ticket.{Ticket, ticket, ticket_form}
+use Rattle.krb_types.specs.TicketLaws.{ticket_size, ticket_inside}
 use Rattle.krb_ap.specs.ApReq.{ApReq, ap_req, ap_req_form, HasShorterParts}
 
 -- ---- what is written: a cipher is shorter than what it stands in
@@ -44,18 +45,8 @@ sealed_shorter t =
 
 -- ---- what was read: the parts of an AP-REQ stand in it
 
-abbrev ticket_size : Ticket → ℕ
-ticket_size t = length (ticket.text t) + 1
-
 abbrev sealed_size : EncryptedData → ℕ
 sealed_size e = length (encrypted_data.text e) + 1
-
-ticket_one : HasOneSpelling ticket.Spells ticket.tag ticket.text
-unfolding ticket_form name_form encrypted_data_form
-ticket_one = ticket.laws.one refl
-
-ticket_inside : IsInside ticket_size ticket.Spells (λ t. Some t)
-ticket_inside = record { is = λ t bytes fits s. omega (arith, ap length (ticket_one.is t bytes fits s), tlv_longer 97 (ticket.text t)) }
 
 sealed_one : HasOneSpelling encrypted_data.Spells encrypted_data.tag encrypted_data.text
 unfolding encrypted_data_form

@@ -6,6 +6,7 @@ pub mod Moment
 pub mod Name
 pub mod NameLimits
 pub mod NameLimitsLaws
+pub mod NameLengthLaws
 pub mod NameText
 pub mod Salt
 pub mod TicketFlag

@@ -1,2 +1,3 @@
 pub mod KdcRep
 pub mod Under
+pub mod ShortLaws

@@ -1,13 +1,16 @@
 //! KDC-REP (RFC 4120, section 5.4.2): AS-REP and TGS-REP.
-ghost use Rattle.std.specs.Prelude.{◌≡◌, IfOk, OnOk, option_map};
+ghost use Rattle.std.specs.Prelude.{◌≡◌, ◌<◌, ◌^◌, length, IfOk, IsOkAnd, OnOk, option_map};
+ghost use Rattle.krb_elements.specs.Format.{Sees, whole};
+ghost use Rattle.krb_types.specs.Ticket.{ticket};
 ghost use Rattle.krb_elements.specs.Codec.{itself};
-ghost use Rattle.krb_replies.specs.KdcRep.{kdc_rep_of, kdc_rep_form};
+ghost use Rattle.krb_replies.specs.KdcRep.{kdc_rep, kdc_rep_of, kdc_rep_form};
+ghost use Rattle.krb_replies.specs.KdcRep as trees;
 
 use krb_der::{DerFault, Reader, Writer};
 use krb_elements::{
     Application, Coded, Decode, DecodeFields, Encode, EncodeFields, Fielded, KerberosString,
-    KerberosStringRef, MakeOwned, Seq, SeqRef, take_field, take_fixed, take_optional, write_field,
-    write_optional,
+    KerberosStringRef, MakeOwned, Seq, SeqRef, read, take_field, take_fixed, take_optional,
+    write_field, write_optional,
 };
 use krb_fields::{EncryptedData, EncryptedDataRef, Name, NameRef, PaData, PaDataRef};
 use krb_types::{PVNO, Ticket, TicketRef};
@@ -116,4 +119,18 @@ impl<const TYPE: u8, P: MakeOwned, S: MakeOwned, N: MakeOwned, T: MakeOwned, E: 
             enc_part: self.enc_part.copy(alloc)?,
         })
     }
+}
+
+/// Reads an AS-REP or a TGS-REP, by its type, where it stands, without memory.
+pub fn read_kdc_rep<const TYPE: u8>(bytes: &[u8]) -> Result<KdcRepRef<'_, TYPE>, DerFault>
+    // What is read is spelled so.
+    ensures found { IfOk result (λ reply. (kdc_rep TYPE).Spells reply bytes.now) }
+    // What is spelled so is read.
+    ensures only { (reply : trees.KdcRep TYPE) → (kdc_rep TYPE).Spells reply bytes.now → IsOkAnd result (λ found. found ≡ reply) }
+    // Which fault it is.
+    ensures exact { Sees result (whole (kdc_rep TYPE).at bytes.now) }
+    // The ticket can be written.
+    ensures short { IfOk result (λ reply. length (ticket.text reply.ticket) < 2 ^ 32) }
+{
+    read(bytes)
 }

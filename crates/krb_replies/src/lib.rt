@@ -4,5 +4,5 @@
 mod kdc_rep;
 mod under;
 
-pub use kdc_rep::{AsRep, KdcRep, KdcRepRef, TgsRep};
+pub use kdc_rep::{AsRep, KdcRep, KdcRepRef, TgsRep, read_kdc_rep};
 pub use under::{EncAsRepPart, EncTgsRepPart, Under};

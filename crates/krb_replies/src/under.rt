@@ -3,7 +3,7 @@ ghost use Rattle.std.specs.Prelude.{◌≡◌, IfOk, OnOk};
 ghost use Rattle.krb_replies.specs.Under.{under};
 
 use krb_der::{DerFault, Reader, Writer};
-use krb_elements::{Coded, Decode, Encode, end_of};
+use krb_elements::{Coded, Decode, Encode, Fault, ReadOwned, end_of};
 use krb_parts::EncKdcRepPart;
 use std::alloc::{AllocError, Global};
 use std::marker::Model;
@@ -48,5 +48,14 @@ impl<const N: u8, T: Encode> Encode for Under<N, T> {
         out.begin(0x60 | (N & 0x1f))?;
         self.value.put(out)?;
         out.end(start)
+    }
+}
+
+impl<const N: u8, T: ReadOwned> ReadOwned for Under<N, T> {
+    fn read_parts(alloc: Global, bytes: &[u8]) -> Result<Under<N, T>, Fault> {
+        let mut reader = Reader::new(bytes);
+        let value = T::read_parts(alloc, reader.read_tlv(0x60 | (N & 0x1f))?)?;
+        end_of(&reader)?;
+        Ok(Under { value })
     }
 }

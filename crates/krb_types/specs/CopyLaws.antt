@@ -11,7 +11,7 @@ use Rattle.krb_types.specs.KrbError.{KrbError}
 abbrev pub same_ticket : Ticket → Ticket
 same_ticket t = record { tkt_vno = t.tkt_vno; realm = t.realm; sname = same_name t.sname; enc_part = t.enc_part }
 
-ticket_copied : (t : Ticket) → same_ticket t ≡ t
+pub ticket_copied : (t : Ticket) → same_ticket t ≡ t
 ticket_copied t = rw (map_all (λ (x : List ℕ). x) (λ x. refl) t.sname.components) refl
 
 abbrev pub same_body : ReqBody → ReqBody

@@ -5,3 +5,4 @@ pub mod KrbError
 pub mod NameInRequestLaws
 pub mod ShortNameLaws
 pub mod CopyLaws
+pub mod TicketLaws

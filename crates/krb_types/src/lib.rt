@@ -6,6 +6,7 @@ mod krb_error;
 mod numbers;
 mod req_body;
 mod ticket;
+mod ticket_ref;
 
 pub use kdc_req::{Exchange, KdcReq, KdcReqRef, decode_kdc_req, encode_kdc_req, read_kdc_req};
 pub use krb_error::{KrbError, KrbErrorRef, decode_krb_error, encode_krb_error};

@@ -4,11 +4,9 @@
 mod keys;
 mod lock;
 mod methods;
-mod numbers;
 mod timestamp;
 
 pub use keys::{first_key, key_by, key_numbered, types_of};
 pub use lock::{after_failure, after_success, is_locked};
 pub use methods::{etype_info2, method_data};
-pub use numbers::{PA_ENC_TIMESTAMP, PA_ETYPE_INFO2, PA_TGS_REQ};
 pub use timestamp::{Outcome, check_timestamp, first_of};

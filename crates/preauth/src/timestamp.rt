@@ -3,11 +3,10 @@ ghost use Rattle.std.specs.Prelude.{◌≡◌, IfOk, option_copied};
 ghost use Rattle.preauth.specs.Timestamp.{first_of, encrypted_in, opened_of, time_of, is_skewed, outcome};
 
 use crate::keys::key_numbered;
-use crate::numbers::PA_ENC_TIMESTAMP;
 use enctypes::KeyUsage;
 use krb_der::KTime;
 use krb_elements::{OctetsRef, SeqRef, read};
-use krb_fields::{EncryptedDataRef, Moment, PaDataRef, SKEW};
+use krb_fields::{EncryptedDataRef, Moment, PA_ENC_TIMESTAMP, PaDataRef, SKEW};
 use krb_parts::PaEncTsEnc;
 use principal_rows::{KeyList, Row};
 use sealed_parts::open_part;

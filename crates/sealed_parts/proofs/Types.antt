@@ -1,8 +1,8 @@
 -- The type that a number names is found among all types.
-use Rattle.std.proofs.Common.{◌≡◌, ◌≢◌, ℤ, Bool, true, false, Option, Some, None, refl, ap, ◌∙◌}
-use Rattle.std.specs.Prelude.{IfSome, IfNone}
+use Rattle.std.proofs.Common.{◌≡◌, ◌≢◌, ℕ, ℤ, Bool, true, false, List, Option, Some, None, refl, sym, subst}
 use Rattle.std.proofs.lemmas.Bool.Decides.{Decides-int_eq}
 use Rattle.std.specs.Ordering.{int_eq}
+use Rattle.std.specs.Prelude.{IfSome, IfNone}
 use Rattle.enctypes.specs.Etype.{number}
 use Rattle.enctypes.specs.declared.etype.Etype.{Etype}
 use Rattle.enctypes.specs.declared.etype.Etype.TheVariants.{Aes128CtsHmacSha1_96, Aes256CtsHmacSha1_96}
@@ -16,8 +16,8 @@ other m n apart = at (int_eq m n) refl
     at true e = absurd (apart ((Decides-int_eq m n).0 e))
     at false e = e
 
--- a number that is no type's
-no_type : (n : ℤ) → ((e : Etype) → number e ≢ n) → None ≡ type_numbered n
+-- a number that is no type's names none
+no_type : (n : ℤ) → ((e : Etype) → number e ≢ n) → type_numbered n ≡ None
 no_type n none =
     rw (
       other (number Aes128CtsHmacSha1_96) n (none Aes128CtsHmacSha1_96),
@@ -26,13 +26,13 @@ no_type n none =
       other (number Aes256CtsHmacSha384_192) n (none Aes256CtsHmacSha384_192),
     ) refl
 
-numbered : (e : Etype) → Some e ≡ type_numbered (number e)
-numbered Aes128CtsHmacSha1_96 = refl
-numbered Aes256CtsHmacSha1_96 = refl
-numbered Aes128CtsHmacSha256_128 = refl
-numbered Aes256CtsHmacSha384_192 = refl
+own : (e : Etype) → type_numbered (number e) ≡ Some e
+own Aes128CtsHmacSha1_96 = refl
+own Aes256CtsHmacSha1_96 = refl
+own Aes128CtsHmacSha256_128 = refl
+own Aes256CtsHmacSha384_192 = refl
 
--- what is found by its number
-pub type_is : (n : ℤ) (found : Option Etype) → IfSome found (λ e. number e ≡ n) → IfNone found ((e : Etype) → number e ≢ n) → found ≡ type_numbered n
-type_is n (Some e) named none = numbered e ∙ ap type_numbered named
-type_is n None named none = no_type n none
+-- what a search by the number found
+pub numbered : (n : ℤ) (found : Option Etype) → IfSome found (λ e. number e ≡ n) → IfNone found ((e : Etype) → number e ≢ n) → found ≡ type_numbered n
+numbered n (Some e) is none = sym (subst (λ (m : ℤ). type_numbered m ≡ Some e) is (own e))
+numbered n None is none = sym (no_type n none)

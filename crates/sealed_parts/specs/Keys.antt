@@ -6,6 +6,7 @@ use Rattle.enctypes.specs.declared.etype.Etype.{Etype}
 use Rattle.enctypes.specs.declared.etype.Etype.TheVariants.{Aes128CtsHmacSha1_96, Aes256CtsHmacSha1_96}
 use Rattle.enctypes.specs.declared.etype.Etype.TheVariants.{Aes128CtsHmacSha256_128, Aes256CtsHmacSha384_192}
 use Rattle.enctypes.specs.declared.key.Key.{Key}
+use Rattle.krb_fields.specs.Typed.{Typed}
 
 abbrev pub all_types : List Etype
 all_types = Aes128CtsHmacSha1_96 ∷ Aes256CtsHmacSha1_96 ∷ Aes128CtsHmacSha256_128 ∷ Aes256CtsHmacSha384_192 ∷ []
@@ -21,3 +22,7 @@ key_if None octets = None
 
 abbrev pub key_of : ℤ → List ℕ → Option Key
 key_of n octets = key_if (type_numbered n) octets
+
+-- the EncryptionKey that holds a key
+abbrev pub key_part : Key → Typed
+key_part key = record { number = number key.etype; octets = key.bytes }

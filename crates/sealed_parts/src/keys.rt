@@ -1,11 +1,14 @@
 //! Keys that stand in messages.
-ghost use Rattle.std.specs.Prelude.{◌≡◌};
-ghost use Rattle.sealed_parts.specs.Keys.{key_of, type_numbered};
+ghost use Rattle.std.specs.Prelude.{◌≡◌, ◌≤◌, length, IfOk};
+ghost use Rattle.sealed_parts.specs.Keys.{key_of, key_part, type_numbered};
 
 use enctypes::{Etype, Key};
+use krb_elements::Octets;
+use krb_fields::Typed;
+use std::alloc::{AllocError, Global};
 
-/// The encryption type that this number names, if it is one of the four.
-pub fn etype_of(number: i32) -> Option<Etype>
+/// The encryption type that a message names, if it is one of the four.
+pub fn type_numbered(number: i32) -> Option<Etype>
     ensures { result ≡ type_numbered number }
 {
     Etype::from_number(number)
@@ -16,5 +19,16 @@ pub fn etype_of(number: i32) -> Option<Etype>
 pub fn key_of(number: i32, octets: &[u8]) -> Option<Key>
     ensures { result ≡ key_of number octets.now }
 {
-    Key::new(etype_of(number)?, octets)
+    Key::new(type_numbered(number)?, octets)
+}
+
+/// The EncryptionKey that holds the key.
+pub fn key_part(alloc: Global, key: &Key) -> Result<Typed, AllocError>
+    ensures value { IfOk result (λ part. part ≡ key_part key.now) }
+    ensures short { length key.now.bytes ≤ 32 }
+{
+    Ok(Typed {
+        number: key.etype().number(),
+        octets: Octets::from_slice(alloc, key.bytes())?,
+    })
 }

@@ -1,6 +1,7 @@
 //! The encrypted parts of messages: values that stand sealed under a key.
 #![tactic(auto)]
 
+mod encrypting;
 mod keys;
 
 ghost use Rattle.std.specs.Prelude.{◌≡◌, ◌<◌, ◌≤◌, ◌+◌, ◌^◌, length, Some, IfOk, IfSome};
@@ -9,8 +10,9 @@ ghost use Rattle.enctypes.specs.KeyUsage.{usage_number};
 ghost use Rattle.enctypes.specs.Sealing.{seal};
 ghost use Rattle.sealed_parts.specs.Parts.{IsSpelledWithin, opened_as};
 
+pub use encrypting::encrypted;
 use enctypes::{Key, KeyUsage, open, seal};
-pub use keys::{etype_of, key_of};
+pub use keys::{key_of, key_part, type_numbered};
 use krb_elements::{Encode, Fault, ReadOwned, read_owned, write};
 use std::alloc::{AllocError, Global};
 

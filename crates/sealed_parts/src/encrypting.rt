@@ -1,12 +1,12 @@
-//! Values sealed in messages.
+//! EncryptedData (RFC 4120, section 5.2.9).
 ghost use Rattle.std.specs.Prelude.{◌≡◌, ◌<◌, ◌≤◌, ◌+◌, ◌^◌, length, Some, IfOk};
 ghost use Rattle.enctypes.specs.KeyUsage.{usage_number};
-ghost use Rattle.kdc_replies.specs.Encrypted.{encrypted, decrypted};
+ghost use Rattle.sealed_parts.specs.Encrypted.{encrypted, decrypted};
 
+use crate::seal_part;
 use enctypes::{Key, KeyUsage};
 use krb_elements::{Encode, Octets, UInt32};
 use krb_fields::EncryptedData;
-use sealed_parts::seal_part;
 use std::alloc::{AllocError, Global};
 
 /// The value, sealed. `confounder` is 16 random octets.

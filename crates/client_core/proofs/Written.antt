@@ -1,0 +1,44 @@
+-- Requests and what they are made of.
+use Rattle.std.proofs.Common.{◌≡◌, ◌∙◌, ℕ, ℤ, pos, List, [], ◌∷◌, Option, Some, None, ap, to_z, of_z, w32}
+use Rattle.cred_files.specs.declared.principal.Principal.{Principal}
+use Rattle.enctypes.specs.declared.key.Key.{Key}
+use Rattle.krb_ap.specs.ApReq.{ApReq}
+use Rattle.krb_fields.specs.PaData.{PaData}
+use Rattle.krb_fields.specs.Typed.{Typed}
+use Rattle.krb_fields.specs.declared.moment.Moment.{Moment}
+use Rattle.krb_parts.specs.Authenticator.{Authenticator}
+use Rattle.krb_types.specs.KdcReq.{KdcReq, request_type}
+use Rattle.krb_types.specs.ReqBody.{ReqBody}
+use Rattle.krb_types.specs.declared.kdc_req.Exchange.{Exchange}
+use Rattle.krb_types.specs.declared.kdc_req.Exchange.TheVariants.{As, Tgs}
+use Rattle.client_core.specs.Presenting.{authenticator_of, presents}
+use Rattle.client_core.specs.Requests.{asks_tgs, body_of, request_of, tgs_data}
+use Rattle.client_core.specs.ServiceRequests.{ap_options, asks_ap}
+use Rattle.client_core.specs.declared.asked.Asked.{Asked}
+use Rattle.client_core.specs.declared.service_asked.ServiceAsked.{ServiceAsked}
+use Rattle.client_core.specs.declared.sessions.Session.{Session}
+
+abbrev pub request_typed : ℤ → Option (List PaData) → ReqBody → KdcReq
+request_typed type padata body = record { pvno = pos 5; msg_type = type; padata = padata; body = body }
+
+-- the message type is a number of 32 bits
+pub typed_as : (exchange : Exchange) (padata : Option (List PaData)) (body : ReqBody) (type : ℤ) → type ≡ pos (request_type exchange)
+    → request_typed (to_z w32 (of_z w32 type)) padata body ≡ request_of exchange padata body
+typed_as As padata body type e = ap (λ (t : ℤ). request_typed (to_z w32 (of_z w32 t)) padata body) e
+typed_as Tgs padata body type e = ap (λ (t : ℤ). request_typed (to_z w32 (of_z w32 t)) padata body) e
+
+pub tgs_req_is : (asked : Asked) (client : Principal) (session : Session) (at : Moment) (subkey : Option Key) (confounder : List ℕ) (body : ReqBody) (entry : PaData) (padata : List PaData)
+    → padata ≡ entry ∷ [] → entry ≡ tgs_data client session at subkey confounder body → body ≡ body_of None asked → request_of Tgs (Some padata) body ≡ asks_tgs asked client session at subkey confounder
+tgs_req_is asked client session at subkey confounder body entry padata one made is =
+    ap (λ (p : List PaData). request_of Tgs (Some p) body) one
+    ∙ ap (λ (e : PaData). request_of Tgs (Some (e ∷ [])) body) made
+    ∙ ap (λ (b : ReqBody). request_of Tgs (Some (tgs_data client session at subkey confounder b ∷ [])) b) is
+
+pub ap_req_is : (client : Principal) (session : Session) (at : Moment) (asked : ServiceAsked) (confounder : List ℕ) (cksum : Option Typed) (options : ℕ) (auth : Authenticator) (request : ApReq)
+    → cksum ≡ asked.checksum → options ≡ ap_options asked.mutual_required → auth ≡ authenticator_of client at cksum asked.subkey asked.seq_number → request ≡ presents session options 11 confounder auth
+    → request ≡ asks_ap client session at asked confounder
+ap_req_is client session at asked confounder cksum options auth request same chosen says is =
+    is
+    ∙ ap (λ (o : ℕ). presents session o 11 confounder auth) chosen
+    ∙ ap (λ (a : Authenticator). presents session (ap_options asked.mutual_required) 11 confounder a) says
+    ∙ ap (λ (k : Option Typed). presents session (ap_options asked.mutual_required) 11 confounder (authenticator_of client at k asked.subkey asked.seq_number)) same

@@ -1,0 +1,13 @@
+pub mod Faults
+pub mod Asked
+pub mod Requests
+pub mod Sessions
+pub mod Presenting
+pub mod ServiceRequests
+pub mod Credentials
+pub mod Replies
+pub mod Taken
+pub mod TakenLaws
+pub mod ServiceReplies
+pub mod Passwords
+pub mod ShortLaws

@@ -1,0 +1,141 @@
+-- What a client reads from a KDC's reply (RFC 4120, sections 3.1.5 and 3.3.4): a list of rules for each stage.
+use Rattle.std.specs.Prelude.{ℕ, ℤ, pos, ◌-ℤ◌, unsigned_abs, int_lt, nat_lt, nat_eq, Bool, not, ◌&&◌, ◌||◌, if◌then◌else◌, List, [], ◌∷◌, Option, Some, None, Result, Ok, Err}
+use Rattle.std.specs.Ordering.{int_eq, eq_by_cmp}
+use Rattle.std.specs.Cmp.Lexicographic.{pointwise}
+use Rattle.refusals.specs.Optional.{holds_of}
+use Rattle.refusals.specs.Refusals.{Rule, decided, unless_found}
+use Rattle.cred_files.specs.declared.credential.Credential.{Credential}
+use Rattle.enctypes.specs.Etype.{number}
+use Rattle.enctypes.specs.declared.key.Key.{Key}
+use Rattle.krb_elements.specs.Format.{whole}
+use Rattle.krb_fields.specs.EncryptedData.{EncryptedData}
+use Rattle.krb_fields.specs.Flags.{has_bit}
+use Rattle.krb_fields.specs.KdcOption.{kdc_option_number}
+use Rattle.krb_fields.specs.declared.kdc_option.KdcOption.{KdcOption}
+use Rattle.krb_fields.specs.declared.kdc_option.KdcOption.TheVariants.{Postdated, Renew, Validate}
+use Rattle.krb_fields.specs.Name.{name_cmp}
+use Rattle.krb_fields.specs.PrincipalName.{Name}
+use Rattle.krb_parts.specs.EncKdcRepPart.{EncKdcRepPart, enc_kdc_rep_part}
+use Rattle.krb_replies.specs.KdcRep.{KdcRep, kdc_rep}
+use Rattle.krb_replies.specs.Under.{under}
+use Rattle.krb_types.specs.KrbError.{KrbError, krb_error}
+use Rattle.krb_types.specs.Ticket.{Ticket}
+use Rattle.sealed_parts.specs.Encrypted.{decrypted}
+use Rattle.sealed_parts.specs.Parts.{ok_of}
+use Rattle.client_core.specs.declared.asked.Asked.{Asked}
+use Rattle.client_core.specs.declared.fault.ClientFault.{ClientFault}
+use Rattle.client_core.specs.declared.fault.ClientFault.TheVariants.{NotAReply, Refused}
+use Rattle.client_core.specs.declared.fault.Mismatch.TheVariants as mismatches
+use Rattle.client_core.specs.declared.fault.Rejection.{Rejection}
+use Rattle.client_core.specs.declared.fault.Rejection.TheVariants.{Mismatched, Unopened}
+use Rattle.client_core.specs.declared.key_role.KeyRole.{KeyRole}
+use Rattle.client_core.specs.declared.key_role.KeyRole.TheVariants.{Client, Subkey, Session}
+use Rattle.client_core.specs.Credentials.{credential_in}
+use Rattle.client_core.specs.Faults.{unless_rejected}
+
+-- ---- the message
+
+-- the refusal that a KRB-ERROR tells; other octets are no reply
+abbrev pub refusal_of : Option KrbError → ClientFault
+refusal_of (Some error) = Refused (record { code = error.error_code; e_data = error.e_data })
+refusal_of None = NotAReply
+
+abbrev pub refusal_in : List ℕ → ClientFault
+refusal_in bytes = refusal_of (ok_of (whole krb_error.at bytes))
+
+-- the ticket has the version of the protocol, as the reply has
+abbrev pub of_version : (type : ℕ) → Option (KdcRep type) → Option (KdcRep type)
+of_version type (Some reply) = if int_eq reply.ticket.tkt_vno (pos 5) then Some reply else None
+of_version type None = None
+
+-- the AS-REP (type 11) or TGS-REP (type 13) that the octets spell, or what they are in its place
+abbrev pub reply_in : (type : ℕ) → List ℕ → Result (KdcRep type) ClientFault
+reply_in type bytes = unless_found (of_version type (ok_of (whole (kdc_rep type).at bytes))) (refusal_in bytes)
+
+-- ---- the sealed part
+
+-- what the key opens to the part in the tag [APPLICATION tag]
+abbrev pub opened_in : ℕ → Key → ℕ → EncryptedData → Option EncKdcRepPart
+opened_in tag key usage sealed = decrypted (under tag enc_kdc_rep_part) key usage sealed
+
+abbrev pub or_else : Option EncKdcRepPart → Option EncKdcRepPart → Option EncKdcRepPart
+or_else (Some part) other = Some part
+or_else None other = other
+
+-- Of an AS-REP, under the client's key, usage 3; some KDCs give it the tag of the other exchange (section 5.4.2). Of a
+-- TGS-REP, under the subkey of the request's authenticator, usage 9, else under the session key, usage 8.
+abbrev pub opened_as : KeyRole → Key → EncryptedData → Option EncKdcRepPart
+opened_as Client key sealed = or_else (opened_in 25 key 3 sealed) (opened_in 26 key 3 sealed)
+opened_as Subkey key sealed = opened_in 26 key 9 sealed
+opened_as Session key sealed = opened_in 26 key 8 sealed
+
+-- names are compared by their components: the name-type is a hint (section 6.2)
+abbrev pub is_principal : List ℕ → Name → List ℕ → Name → Bool
+is_principal realm name other_realm other_name = pointwise nat_eq realm other_realm && eq_by_cmp name_cmp name.components other_name.components
+
+abbrev pub reply_rules : (type : ℕ) → Asked → Key → KdcRep type → List (Rule Rejection)
+reply_rules type asked key reply =
+    (not (is_principal reply.crealm reply.cname asked.realm asked.client), Mismatched mismatches.Client)
+    ∷ (not (int_eq reply.enc_part.etype (number key.etype)), Unopened)
+    ∷ []
+
+-- what the client's part opens to, if it is this client's and under this key
+abbrev pub part_of : (type : ℕ) → Asked → Key → KdcRep type → Option EncKdcRepPart → Result EncKdcRepPart Rejection
+part_of type asked key reply opened = decided (reply_rules type asked key reply) opened Unopened
+
+-- ---- what the part says
+
+-- the part's service, or the ticket's
+abbrev pub is_other_service : Asked → Ticket → EncKdcRepPart → Bool
+is_other_service asked ticket part = not (is_principal part.srealm part.sname asked.realm asked.service) || not (is_principal ticket.realm ticket.sname asked.realm asked.service)
+
+abbrev pub has_option : Asked → KdcOption → Bool
+has_option asked option = has_bit asked.options (kdc_option_number option)
+
+-- the ticket ends later than was asked; a till of zero asks for no bound
+abbrev pub ends_too_late : Asked → EncKdcRepPart → Bool
+ends_too_late asked part = not (int_eq asked.till (pos 0)) && int_lt asked.till part.endtime
+
+-- a ticket that starts elsewhere may have been asked for
+abbrev pub may_start_elsewhere : Asked → Bool
+may_start_elsewhere asked = has_option asked Postdated || has_option asked Renew || has_option asked Validate
+
+-- more than 300 seconds from now
+abbrev pub is_skewed : ℤ → ℤ → Bool
+is_skewed now time = nat_lt 300 (unsigned_abs (time -ℤ now))
+
+abbrev pub starts_elsewhere : Asked → ℤ → EncKdcRepPart → Bool
+starts_elsewhere asked now part = not (may_start_elsewhere asked) && holds_of (is_skewed now) part.starttime
+
+abbrev pub part_rules : Asked → ℤ → Ticket → EncKdcRepPart → List (Rule Rejection)
+part_rules asked now ticket part =
+    (not (int_eq part.nonce (pos asked.nonce)), Mismatched mismatches.Nonce)
+    ∷ (is_other_service asked ticket part, Mismatched mismatches.Service)
+    ∷ (ends_too_late asked part || starts_elsewhere asked now part, Mismatched mismatches.Times)
+    ∷ []
+
+abbrev pub taken : (type : ℕ) → Asked → ℤ → KdcRep type → EncKdcRepPart → Result Credential Rejection
+taken type asked now reply part = decided (part_rules asked now reply.ticket part) (credential_in type reply part) Unopened
+
+-- ---- all stages
+
+abbrev pub if_part : (type : ℕ) → Asked → ℤ → KdcRep type → Result EncKdcRepPart Rejection → Result Credential Rejection
+if_part type asked now reply (Ok part) = taken type asked now reply part
+if_part type asked now reply (Err rejection) = Err rejection
+
+abbrev pub if_reply : (type : ℕ) → KeyRole → Asked → Key → ℤ → Result (KdcRep type) ClientFault → Result Credential ClientFault
+if_reply type role asked key now (Ok reply) = unless_rejected (if_part type asked now reply (part_of type asked key reply (opened_as role key reply.enc_part)))
+if_reply type role asked key now (Err fault) = Err fault
+
+-- the credential that the reply gives, or the first fault
+abbrev pub reads : (type : ℕ) → KeyRole → Asked → Key → ℤ → List ℕ → Result Credential ClientFault
+reads type role asked key now bytes = if_reply type role asked key now (reply_in type bytes)
+
+abbrev pub reads_as : Asked → Key → ℤ → List ℕ → Result Credential ClientFault
+reads_as asked key now bytes = reads 11 Client asked key now bytes
+
+abbrev pub tgs_role : Bool → KeyRole
+tgs_role subkey = if subkey then Subkey else Session
+
+abbrev pub reads_tgs : Asked → Key → Bool → ℤ → List ℕ → Result Credential ClientFault
+reads_tgs asked key subkey now bytes = reads 13 (tgs_role subkey) asked key now bytes

@@ -1,0 +1,81 @@
+-- What a client asks of a KDC: AS-REQ and TGS-REQ (RFC 4120, sections 3.1.1, 3.3.1 and 5.4.1).
+use Rattle.std.specs.Prelude.{ℕ, pos, List, [], ◌∷◌, map, Option, Some, None}
+use Rattle.cred_files.specs.declared.principal.Principal.{Principal}
+use Rattle.enctypes.specs.declared.key.Key.{Key}
+use Rattle.enctypes.specs.Etype.{number, checksum_type}
+use Rattle.enctypes.specs.Sealing.{mac}
+use Rattle.krb_ap.specs.ApReq.{ap_req}
+use Rattle.krb_elements.specs.Codec.{written}
+use Rattle.krb_fields.specs.EncryptedData.{encrypted_data}
+use Rattle.krb_fields.specs.PaData.{PaData}
+use Rattle.krb_fields.specs.PrincipalName.{Name}
+use Rattle.krb_fields.specs.Typed.{Typed}
+use Rattle.krb_fields.specs.declared.moment.Moment.{Moment}
+use Rattle.krb_parts.specs.Authenticator.{Authenticator}
+use Rattle.krb_parts.specs.PaEncTsEnc.{PaEncTsEnc, pa_enc_ts_enc}
+use Rattle.krb_types.specs.KdcReq.{KdcReq, request_type}
+use Rattle.krb_types.specs.ReqBody.{ReqBody, req_body}
+use Rattle.krb_types.specs.declared.kdc_req.Exchange.{Exchange}
+use Rattle.krb_types.specs.declared.kdc_req.Exchange.TheVariants.{As, Tgs}
+use Rattle.sealed_parts.specs.Encrypted.{encrypted}
+use Rattle.client_core.specs.declared.asked.Asked.{Asked}
+use Rattle.client_core.specs.Presenting.{authenticator_of, presents}
+use Rattle.client_core.specs.declared.sessions.Session.{Session}
+
+-- ---- both requests
+
+-- no addresses, no authorization data and no additional tickets
+abbrev pub body_of : Option Name → Asked → ReqBody
+body_of cname asked = record {
+  kdc_options = asked.options;
+  cname = cname;
+  realm = asked.realm;
+  sname = Some asked.service;
+  from = asked.from;
+  till = asked.till;
+  rtime = asked.rtime;
+  nonce = pos asked.nonce;
+  etype = map number asked.etypes;
+  addresses = None;
+  enc_authorization_data = None;
+  additional_tickets = None;
+}
+
+abbrev pub request_of : Exchange → Option (List PaData) → ReqBody → KdcReq
+request_of exchange padata body = record { pvno = pos 5; msg_type = pos (request_type exchange); padata = padata; body = body }
+
+-- ---- AS-REQ: it names the client
+
+abbrev pub asks_as : Option (List PaData) → Asked → KdcReq
+asks_as padata asked = request_of As padata (body_of (Some asked.client) asked)
+
+-- PA-ENC-TIMESTAMP (section 5.2.7.2): the moment, under the client's key, usage 1
+abbrev pub timestamp_part : Moment → PaEncTsEnc
+timestamp_part at = record { patimestamp = at.sec; pausec = Some at.usec }
+
+abbrev pub timestamp_data : Key → Moment → List ℕ → PaData
+timestamp_data key at confounder = record { padata_type = pos 2; padata_value = written encrypted_data (encrypted pa_enc_ts_enc key 1 None confounder (timestamp_part at)) }
+
+abbrev pub asks_with_timestamp : Asked → Key → Moment → List ℕ → KdcReq
+asks_with_timestamp asked key at confounder = asks_as (Some (timestamp_data key at confounder ∷ [])) asked
+
+-- ---- TGS-REQ: it names no client, but presents a ticket of one
+
+-- over the body's octets, under the session key, usage 6
+abbrev pub body_checksum : Key → ReqBody → Typed
+body_checksum key body = record { number = checksum_type key.etype; octets = mac key.etype key.bytes 6 (written req_body body) }
+
+abbrev pub tgs_authenticator : Principal → Session → Moment → Option Key → ReqBody → Authenticator
+tgs_authenticator client session at subkey body = authenticator_of client at (Some (body_checksum session.key body)) subkey None
+
+-- PA-TGS-REQ (section 5.2.7.1): an AP-REQ without options; usage 7
+abbrev pub tgs_data : Principal → Session → Moment → Option Key → List ℕ → ReqBody → PaData
+tgs_data client session at subkey confounder body = record {
+  padata_type = pos 1;
+  padata_value = written ap_req (presents session 0 7 confounder (tgs_authenticator client session at subkey body));
+}
+
+-- `client` is the credential's, and `session` what it gives
+abbrev pub asks_tgs : Asked → Principal → Session → Moment → Option Key → List ℕ → KdcReq
+asks_tgs asked client session at subkey confounder =
+    request_of Tgs (Some (tgs_data client session at subkey confounder (body_of None asked) ∷ [])) (body_of None asked)

@@ -1,0 +1,124 @@
+//! Why a reply is not taken.
+ghost use Rattle.std.specs.Prelude.{◌≡◌};
+ghost use Rattle.client_core.specs.Faults.{IsGiven, fault_of, unless_rejected};
+ghost use Rattle.client_core.specs.declared.fault.ClientFault.TheVariants.{Memory};
+
+use krb_elements::Octets;
+use std::alloc::{AllocError, AllocFailed};
+use std::error::Error;
+use std::fmt;
+
+/// What a client finds wrong with a reply, or with what a KDC says of its key.
+#[derive(Debug, Drop)]
+pub enum ClientFault {
+    /// The octets are neither the reply nor a KRB-ERROR.
+    NotAReply,
+    /// They are a KRB-ERROR.
+    Refused(Refusal),
+    /// The reply answers another request.
+    Mismatch(Mismatch),
+    /// The sealed part has another encryption type than the key, or the key doesn't open it to the part of such a reply;
+    /// or its session key, or an address, has a type for which a credential has no room. Of a password: no entry has
+    /// one of the four types.
+    CannotOpen,
+    /// The parameters of string-to-key are not four octets, or their count is 0 or above [`crate::MAX_COUNT`].
+    CountTooLarge,
+    Memory,
+}
+
+/// What a KRB-ERROR says.
+#[derive(Debug, Drop)]
+pub struct Refusal {
+    /// The error code (RFC 4120, section 7.5.9).
+    pub code: i32,
+    pub e_data: Option<Octets>,
+}
+
+/// In what a reply differs from the request.
+#[derive(Clone, Copy, Debug, PartialEq, Eq)]
+pub enum Mismatch {
+    /// The client's realm or name.
+    Client,
+    Nonce,
+    /// The service's realm or name, in the sealed part or in the ticket.
+    Service,
+    /// The ticket ends later than was asked, or starts elsewhere. Of an AP-REP: the moment is not the one that was sent.
+    Times,
+}
+
+/// Why a reply is not taken that is a reply.
+#[derive(Clone, Copy, Debug, PartialEq, Eq)]
+pub enum Rejection {
+    Mismatched(Mismatch),
+    Unopened,
+}
+
+impl From<Rejection> for ClientFault {
+    ghost from_gives = { λ rejection e. e ≡ fault_of rejection };
+
+    fn from(rejection: Rejection) -> ClientFault {
+        match rejection {
+            Rejection::Mismatched(what) => ClientFault::Mismatch(what),
+            Rejection::Unopened => ClientFault::CannotOpen,
+        }
+    }
+}
+
+/// What is found, or the fault that the rejection is.
+pub fn unless_rejected<T: Drop>(found: Result<T, Rejection>) -> Result<T, ClientFault>
+    ensures { result ≡ unless_rejected found }
+{
+    Ok(found?)
+}
+
+/// What is given, unless memory ran out.
+pub fn given<T: Drop>(found: Result<Result<T, ClientFault>, AllocError>) -> Result<T, ClientFault>
+    ensures { IsGiven found result }
+{
+    match found {
+        Ok(found) => found,
+        Err(AllocError) => Err(ClientFault::Memory),
+    }
+}
+
+impl From<AllocError> for ClientFault {
+    ghost from_gives = { λ _ e. e ≡ Memory };
+
+    fn from(_error: AllocError) -> ClientFault {
+        ClientFault::Memory
+    }
+}
+
+impl<T: Drop> From<AllocFailed<T>> for ClientFault {
+    ghost from_gives = { λ _ e. e ≡ Memory };
+
+    fn from(_error: AllocFailed<T>) -> ClientFault {
+        ClientFault::Memory
+    }
+}
+
+impl fmt::Display for ClientFault {
+    fn fmt<W: fmt::Write>(&self, f: &mut fmt::Formatter<W>) -> fmt::Result {
+        match self {
+            ClientFault::NotAReply => f.write_str("the octets are no reply"),
+            ClientFault::Refused(refusal) => write!(f, "refused with code {}", refusal.code),
+            ClientFault::Mismatch(what) => write!(f, "the reply has another {what}"),
+            ClientFault::CannotOpen => f.write_str("the key does not open the reply"),
+            ClientFault::CountTooLarge => f.write_str("the count of iterations is out of range"),
+            ClientFault::Memory => f.write_str("out of memory"),
+        }
+    }
+}
+
+impl fmt::Display for Mismatch {
+    fn fmt<W: fmt::Write>(&self, f: &mut fmt::Formatter<W>) -> fmt::Result {
+        f.write_str(match self {
+            Mismatch::Client => "client",
+            Mismatch::Nonce => "nonce",
+            Mismatch::Service => "service",
+            Mismatch::Times => "time",
+        })
+    }
+}
+
+impl Error for ClientFault {}

@@ -1,0 +1,41 @@
+//! A client of a KDC and of services: the requests that it writes, and what it reads from replies (RFC 4120, sections
+//! 3.1, 3.2 and 3.3).
+//!
+//! | call | message | section |
+//! |---|---|---|
+//! | [`as_request`], [`with_timestamp`] | AS-REQ | 3.1.1 |
+//! | [`read_as_reply`] | AS-REP, or KRB-ERROR | 3.1.5 |
+//! | [`tgs_request`] | TGS-REQ | 3.3.1 |
+//! | [`read_tgs_reply`] | TGS-REP, or KRB-ERROR | 3.3.4 |
+//! | [`ap_request`] | AP-REQ | 3.2.2 |
+//! | [`read_ap_reply`] | AP-REP, or KRB-ERROR | 3.2.5 |
+//! | [`password_key`] | ETYPE-INFO2 | 5.2.7.5 |
+//!
+//! Nothing here sends or waits, draws random octets or asks a clock: the moment and the confounders are handed in.
+#![tactic(auto)]
+
+mod asked;
+mod credentials;
+mod fault;
+mod key_role;
+mod passwords;
+mod presenting;
+mod replies;
+mod requests;
+mod service_asked;
+mod service_replies;
+mod service_requests;
+mod sessions;
+mod tgs_requests;
+
+pub use asked::{Asked, MAX_ETYPES};
+pub use fault::{ClientFault, Mismatch, Refusal};
+pub use key_role::KeyRole;
+pub use passwords::{EtypeInfo2, MAX_COUNT, password_key};
+pub use replies::{read_as_reply, read_tgs_reply};
+pub use requests::{as_request, with_timestamp};
+pub use service_asked::ServiceAsked;
+pub use service_replies::read_ap_reply;
+pub use service_requests::ap_request;
+pub use sessions::{MAX_OCTETS_SENT, is_presentable, session_key};
+pub use tgs_requests::tgs_request;

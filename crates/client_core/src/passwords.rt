@@ -1,0 +1,131 @@
+//! The key of a password, by what a KDC says of its types (RFC 4120, section 5.2.7.5).
+ghost use Rattle.std.specs.Prelude.{◌≡◌, ◌≤◌, IfOk, IfSome, option_copied};
+ghost use Rattle.sealed_parts.specs.Keys as keys;
+ghost use Rattle.client_core.specs.Faults.{Gives};
+ghost use Rattle.client_core.specs.Passwords.{count_if, count_in, count_of, entry_of, key_as, password_key, salt_of};
+
+use crate::fault::{ClientFault, given};
+use enctypes::{Etype, Key, string_to_key};
+use krb_elements::{KerberosString, Octets, Seq};
+use krb_fields::Name;
+use krb_parts::EtypeInfo2Entry;
+use sealed_parts::type_numbered;
+use std::alloc::{AllocError, Global};
+
+/// The greatest count of iterations of string-to-key that a client takes from a KDC.
+pub const MAX_COUNT: u32 = 1_048_576;
+
+/// What a KDC says of the types of a client's keys.
+pub type EtypeInfo2 = Seq<EtypeInfo2Entry>;
+
+/// The key of a password for the first entry of one of the four types. The salt is the default one, of the realm and
+/// the name, where the entry has none. It takes one count of HMACs for each of the entry's iterations.
+pub fn password_key(
+    alloc: Global,
+    pass: &[u8],
+    realm: &[u8],
+    name: &Name,
+    info: &EtypeInfo2,
+) -> Result<Key, ClientFault>
+    ensures { Gives result (password_key pass.now realm.now name.now info.now) }
+{
+    given(key_in(alloc, pass, realm, name, info))
+}
+
+fn key_in(
+    alloc: Global,
+    pass: &[u8],
+    realm: &[u8],
+    name: &Name,
+    info: &EtypeInfo2,
+) -> Result<Result<Key, ClientFault>, AllocError>
+    ensures { IfOk result (λ found. found ≡ password_key pass.now realm.now name.now info.now) }
+{
+    match entry_of(info.as_slice()) {
+        Some(entry) => key_as(alloc, pass, realm, name, entry),
+        None => Ok(Err(ClientFault::CannotOpen)),
+    }
+}
+
+/// The first entry of one of the four types.
+fn entry_of(info: &[EtypeInfo2Entry]) -> Option<&EtypeInfo2Entry>
+    ensures { option_copied result ≡ entry_of info.now }
+{
+    for entry in info {
+        if type_numbered(entry.etype).is_some() {
+            return Some(entry);
+        }
+    }
+    None
+}
+
+fn key_as(
+    alloc: Global,
+    pass: &[u8],
+    realm: &[u8],
+    name: &Name,
+    entry: &EtypeInfo2Entry,
+) -> Result<Result<Key, ClientFault>, AllocError>
+    ensures { IfOk result (λ found. found ≡ key_as pass.now realm.now name.now entry.now (keys.type_numbered entry.now.etype)) }
+{
+    let Some(etype) = type_numbered(entry.etype) else {
+        return Ok(Err(ClientFault::CannotOpen));
+    };
+    let Some(count) = count_of(etype, &entry.s2kparams) else {
+        return Ok(Err(ClientFault::CountTooLarge));
+    };
+    let salt = salt_of(alloc, realm, name, entry)?;
+    let key = string_to_key(alloc, etype, pass, salt.as_slice(), count)?;
+    Ok(Ok(key))
+}
+
+/// The entry's salt, else the default one.
+fn salt_of(
+    alloc: Global,
+    realm: &[u8],
+    name: &Name,
+    entry: &EtypeInfo2Entry,
+) -> Result<KerberosString, AllocError>
+    ensures { IfOk result (λ salt. salt ≡ salt_of realm.now name.now entry.now) }
+{
+    match &entry.salt {
+        Some(salt) => salt.copy(alloc),
+        None => name.salt(alloc, realm),
+    }
+}
+
+/// The count of iterations: that of the parameters, else the type's own.
+fn count_of(etype: Etype, params: &Option<Octets>) -> Option<u32>
+    ensures value { result ≡ count_of etype params.now }
+    ensures some { IfSome result (λ count. 1 ≤ count) }
+{
+    match params {
+        Some(params) => count_in(params.as_slice()),
+        None => Some(etype.default_count()),
+    }
+}
+
+/// A count of four octets, from 1 to [`MAX_COUNT`].
+fn count_in(params: &[u8]) -> Option<u32>
+    ensures value { result ≡ count_in params.now }
+    ensures some { IfSome result (λ count. 1 ≤ count) }
+{
+    let Some((octets, rest)) = params.split_first_chunk::<4>() else {
+        return None;
+    };
+    if !rest.is_empty() {
+        return None;
+    }
+    count_if(u32::from_be_bytes(*octets))
+}
+
+fn count_if(count: u32) -> Option<u32>
+    ensures value { result ≡ count_if count }
+    ensures some { IfSome result (λ count. 1 ≤ count) }
+{
+    if 1 <= count && count <= MAX_COUNT {
+        Some(count)
+    } else {
+        None
+    }
+}

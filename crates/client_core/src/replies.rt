@@ -1,0 +1,349 @@
+//! What a client reads from a KDC's reply (RFC 4120, sections 3.1.5 and 3.3.4).
+ghost use Rattle.std.specs.Prelude.{◌≡◌, ◌<◌, ◌^◌, ◌||◌, not, length, IfOk, IfSome, option_copied};
+ghost use Rattle.enctypes.specs.KeyUsage.{usage_number};
+ghost use Rattle.krb_elements.specs.Format.{whole};
+ghost use Rattle.krb_replies.specs.KdcRep.{kdc_rep};
+ghost use Rattle.krb_types.specs.Ticket.{ticket};
+ghost use Rattle.sealed_parts.specs.Parts.{ok_of};
+ghost use Rattle.refusals.specs.Optional.{holds_of};
+ghost use Rattle.client_core.specs.Faults.{Gives};
+ghost use Rattle.client_core.specs.Replies.{ends_too_late, if_part, if_reply, is_other_service, is_principal, is_skewed, may_start_elsewhere, of_version};
+ghost use Rattle.client_core.specs.Replies.{opened_as, opened_in, part_of, part_rules, reads, reads_as, reads_tgs, refusal_in, reply_in, reply_rules};
+ghost use Rattle.client_core.specs.Replies.{starts_elsewhere, taken, tgs_role};
+ghost use Rattle.client_core.specs.Taken.{IsTaken};
+ghost use Rattle.client_core.specs.declared.key_role.KeyRole.TheVariants as roles;
+
+use crate::asked::Asked;
+use crate::credentials::credential_in;
+use crate::fault::{ClientFault, Mismatch, Refusal, Rejection, given, unless_rejected};
+use crate::key_role::KeyRole;
+use cred_files::Credential;
+use enctypes::{Key, KeyUsage};
+use krb_der::KTime;
+use krb_elements::{Octets, OctetsRef, read};
+use krb_fields::{EncryptedDataRef, KdcOption, Moment, SKEW};
+use krb_parts::EncKdcRepPart;
+use krb_replies::{KdcRepRef, Under, read_kdc_rep};
+use krb_types::{KrbErrorRef, PVNO, TicketRef};
+use refusals::decide;
+use sealed_parts::open_part;
+use std::alloc::{AllocError, Global};
+use std::cmp::Ordering;
+
+/// The credential that an AS-REP gives under the client's key, or the first fault.
+#[tactic(auto, using(crate::specs::TakenLaws::taken_if))]
+pub fn read_as_reply(
+    alloc: Global,
+    asked: &Asked,
+    key: &Key,
+    at: Moment,
+    bytes: &[u8],
+) -> Result<Credential, ClientFault>
+    ensures value { Gives result (reads_as asked.now key.now at.sec bytes.now) }
+    // So the octets are the reply to this request.
+    ensures taken { IfOk result (λ credential. IsTaken 11 roles.Client asked.now key.now at.sec bytes.now credential) }
+{
+    given(read_reply::<11>(alloc, KeyRole::Client, asked, key, at, bytes))
+}
+
+/// The credential that a TGS-REP gives under the subkey of the request, or else the session key of the ticket that was
+/// presented, or the first fault.
+#[tactic(auto, using(crate::specs::TakenLaws::taken_if))]
+pub fn read_tgs_reply(
+    alloc: Global,
+    asked: &Asked,
+    key: &Key,
+    subkey: bool,
+    at: Moment,
+    bytes: &[u8],
+) -> Result<Credential, ClientFault>
+    ensures value { Gives result (reads_tgs asked.now key.now subkey at.sec bytes.now) }
+    // So the octets are the reply to this request.
+    ensures taken { IfOk result (λ credential. IsTaken 13 (tgs_role subkey) asked.now key.now at.sec bytes.now credential) }
+{
+    given(read_reply::<13>(alloc, tgs_role(subkey), asked, key, at, bytes))
+}
+
+fn tgs_role(subkey: bool) -> KeyRole
+    ensures { result ≡ tgs_role subkey }
+{
+    if subkey {
+        KeyRole::Subkey
+    } else {
+        KeyRole::Session
+    }
+}
+
+fn read_reply<const TYPE: u8>(
+    alloc: Global,
+    role: KeyRole,
+    asked: &Asked,
+    key: &Key,
+    at: Moment,
+    bytes: &[u8],
+) -> Result<Result<Credential, ClientFault>, AllocError>
+    ensures { IfOk result (λ found. found ≡ reads TYPE role asked.now key.now at.sec bytes.now) }
+{
+    let reply = reply_in::<TYPE>(alloc, bytes)?;
+    if_reply(alloc, role, asked, key, at, reply)
+}
+
+fn if_reply<const TYPE: u8>(
+    alloc: Global,
+    role: KeyRole,
+    asked: &Asked,
+    key: &Key,
+    at: Moment,
+    reply: Result<KdcRepRef<'_, TYPE>, ClientFault>,
+) -> Result<Result<Credential, ClientFault>, AllocError>
+    requires { IfOk reply (λ reply. length (ticket.text reply.ticket) < 2 ^ 32) }
+    ensures { IfOk result (λ found. found ≡ if_reply TYPE role asked.now key.now at.sec reply.entry) }
+{
+    match reply {
+        Ok(reply) => {
+            let opened = opened_as(alloc, role, key, &reply.enc_part)?;
+            let part = part_of(asked, key, &reply, opened);
+            let found = if_part(alloc, asked, at, &reply, part)?;
+            Ok(unless_rejected(found))
+        }
+        Err(fault) => Ok(Err(fault)),
+    }
+}
+
+/// The reply, or what the octets are in its place.
+fn reply_in<'a, const TYPE: u8>(
+    alloc: Global,
+    bytes: &'a [u8],
+) -> Result<Result<KdcRepRef<'a, TYPE>, ClientFault>, AllocError>
+    ensures value { IfOk result (λ found. found ≡ reply_in TYPE bytes.now) }
+    ensures short { IfOk result (λ found. IfOk found (λ reply. length (ticket.text reply.ticket) < 2 ^ 32)) }
+{
+    match of_version(bytes) {
+        Some(reply) => Ok(Ok(reply)),
+        None => Ok(Err(refusal_in(alloc, bytes)?)),
+    }
+}
+
+/// The reply, if its ticket has the version of the protocol.
+fn of_version<const TYPE: u8>(bytes: &[u8]) -> Option<KdcRepRef<'_, TYPE>>
+    ensures value { result ≡ of_version TYPE (ok_of (whole (kdc_rep TYPE).at bytes.now)) }
+    ensures short { IfSome result (λ reply. length (ticket.text reply.ticket) < 2 ^ 32) }
+{
+    let Ok(reply) = read_kdc_rep::<TYPE>(bytes) else {
+        return None;
+    };
+    if reply.ticket.tkt_vno != PVNO {
+        return None;
+    }
+    Some(reply)
+}
+
+/// The refusal that a KRB-ERROR tells; other octets are no reply.
+pub fn refusal_in(alloc: Global, bytes: &[u8]) -> Result<ClientFault, AllocError>
+    ensures { IfOk result (λ fault. fault ≡ refusal_in bytes.now) }
+{
+    let Ok(error) = read::<KrbErrorRef<'_>>(bytes) else {
+        return Ok(ClientFault::NotAReply);
+    };
+    Ok(ClientFault::Refused(Refusal {
+        code: error.error_code,
+        e_data: copied(alloc, &error.e_data)?,
+    }))
+}
+
+fn copied(alloc: Global, found: &Option<OctetsRef<'_>>) -> Result<Option<Octets>, AllocError>
+    ensures { IfOk result (λ copy. copy ≡ found.now) }
+{
+    match found {
+        Some(octets) => Ok(Some(Octets::from_slice(alloc, octets.as_slice())?)),
+        None => Ok(None),
+    }
+}
+
+/// What the reply's part opens to.
+fn opened_as(
+    alloc: Global,
+    role: KeyRole,
+    key: &Key,
+    sealed: &EncryptedDataRef<'_>,
+) -> Result<Option<EncKdcRepPart>, AllocError>
+    ensures { IfOk result (λ found. found ≡ opened_as role key.now sealed.now) }
+{
+    match role {
+        KeyRole::Client => as_part(alloc, key, sealed),
+        KeyRole::Subkey => opened_in::<26>(alloc, key, KeyUsage::TgsRepEncPartSubkey, sealed),
+        KeyRole::Session => opened_in::<26>(alloc, key, KeyUsage::TgsRepEncPartSessionKey, sealed),
+    }
+}
+
+/// What an AS-REP's part opens to: in its own tag, or in that of a TGS-REP's part.
+fn as_part(
+    alloc: Global,
+    key: &Key,
+    sealed: &EncryptedDataRef<'_>,
+) -> Result<Option<EncKdcRepPart>, AllocError>
+    ensures { IfOk result (λ found. found ≡ opened_as roles.Client key.now sealed.now) }
+{
+    match opened_in::<25>(alloc, key, KeyUsage::AsRepEncPart, sealed)? {
+        Some(part) => Ok(Some(part)),
+        None => opened_in::<26>(alloc, key, KeyUsage::AsRepEncPart, sealed),
+    }
+}
+
+/// The part in the tag `[APPLICATION TAG]`.
+fn opened_in<const TAG: u8>(
+    alloc: Global,
+    key: &Key,
+    usage: KeyUsage,
+    sealed: &EncryptedDataRef<'_>,
+) -> Result<Option<EncKdcRepPart>, AllocError>
+    ensures { IfOk result (λ found. found ≡ opened_in TAG key.now (usage_number usage) sealed.now) }
+{
+    let found: Option<Under<TAG, EncKdcRepPart>> = open_part(
+        alloc,
+        key,
+        usage,
+        sealed.cipher.as_slice(),
+    )?;
+    match found {
+        Some(under) => Ok(Some(under.value)),
+        None => Ok(None),
+    }
+}
+
+fn if_part<const TYPE: u8>(
+    alloc: Global,
+    asked: &Asked,
+    at: Moment,
+    reply: &KdcRepRef<'_, TYPE>,
+    part: Result<EncKdcRepPart, Rejection>,
+) -> Result<Result<Credential, Rejection>, AllocError>
+    requires { length (ticket.text reply.now.ticket) < 2 ^ 32 }
+    ensures { IfOk result (λ found. found ≡ if_part TYPE asked.now at.sec reply.now part) }
+{
+    match part {
+        Ok(part) => taken(alloc, asked, at, reply, &part),
+        Err(rejection) => Ok(Err(rejection)),
+    }
+}
+
+/// The part of a reply to this client, under this key.
+fn part_of<const TYPE: u8>(
+    asked: &Asked,
+    key: &Key,
+    reply: &KdcRepRef<'_, TYPE>,
+    opened: Option<EncKdcRepPart>,
+) -> Result<EncKdcRepPart, Rejection>
+    ensures { result ≡ part_of TYPE asked.now key.now reply.now opened }
+{
+    let rules = reply_rules(asked, key, reply);
+    decide(&rules, opened, Rejection::Unopened)
+}
+
+fn reply_rules<const TYPE: u8>(
+    asked: &Asked,
+    key: &Key,
+    reply: &KdcRepRef<'_, TYPE>,
+) -> [(bool, Rejection); 2]
+    ensures { result ≡ reply_rules TYPE asked.now key.now reply.now }
+{
+    [
+        (
+            is_other_client(asked, reply),
+            Rejection::Mismatched(Mismatch::Client),
+        ),
+        (
+            reply.enc_part.etype != key.etype().number(),
+            Rejection::Unopened,
+        ),
+    ]
+}
+
+fn is_other_client<const TYPE: u8>(asked: &Asked, reply: &KdcRepRef<'_, TYPE>) -> bool
+    ensures { result ≡ not (is_principal reply.now.crealm reply.now.cname asked.now.realm asked.now.client) }
+{
+    reply.crealm.as_slice() != asked.realm.as_slice()
+        || reply.cname.order(&asked.client) != Ordering::Equal
+}
+
+/// The credential, where the part says what was asked.
+fn taken<const TYPE: u8>(
+    alloc: Global,
+    asked: &Asked,
+    at: Moment,
+    reply: &KdcRepRef<'_, TYPE>,
+    part: &EncKdcRepPart,
+) -> Result<Result<Credential, Rejection>, AllocError>
+    requires { length (ticket.text reply.now.ticket) < 2 ^ 32 }
+    ensures { IfOk result (λ found. found ≡ taken TYPE asked.now at.sec reply.now part.now) }
+{
+    let rules = part_rules(asked, at, &reply.ticket, part);
+    let credential = credential_in(alloc, reply, part)?;
+    Ok(decide(&rules, credential, Rejection::Unopened))
+}
+
+fn part_rules(
+    asked: &Asked,
+    at: Moment,
+    ticket: &TicketRef<'_>,
+    part: &EncKdcRepPart,
+) -> [(bool, Rejection); 3]
+    ensures { result ≡ part_rules asked.now at.sec ticket.now part.now }
+{
+    [
+        (
+            part.nonce.get() != i64::from(asked.nonce),
+            Rejection::Mismatched(Mismatch::Nonce),
+        ),
+        (
+            is_other_service(asked, ticket, part),
+            Rejection::Mismatched(Mismatch::Service),
+        ),
+        (
+            ends_too_late(asked, part) || starts_elsewhere(asked, at, part),
+            Rejection::Mismatched(Mismatch::Times),
+        ),
+    ]
+}
+
+/// The part's service, or the ticket's.
+fn is_other_service(asked: &Asked, ticket: &TicketRef<'_>, part: &EncKdcRepPart) -> bool
+    ensures { result ≡ is_other_service asked.now ticket.now part.now }
+{
+    part.srealm.as_slice() != asked.realm.as_slice()
+        || part.sname.order(&asked.service) != Ordering::Equal
+        || ticket.realm.as_slice() != asked.realm.as_slice()
+        || ticket.sname.order(&asked.service) != Ordering::Equal
+}
+
+/// It ends later than was asked.
+fn ends_too_late(asked: &Asked, part: &EncKdcRepPart) -> bool
+    ensures { result ≡ ends_too_late asked.now part.now }
+{
+    asked.till.seconds() != 0 && part.endtime.seconds() > asked.till.seconds()
+}
+
+/// It starts at another time than now, which was not asked.
+fn starts_elsewhere(asked: &Asked, at: Moment, part: &EncKdcRepPart) -> bool
+    ensures { result ≡ starts_elsewhere asked.now at.sec part.now }
+{
+    !may_start_elsewhere(asked) && is_skewed(at.sec, part.starttime)
+}
+
+fn may_start_elsewhere(asked: &Asked) -> bool
+    ensures { result ≡ may_start_elsewhere asked.now }
+{
+    asked.options.has(KdcOption::Postdated)
+        || asked.options.has(KdcOption::Renew)
+        || asked.options.has(KdcOption::Validate)
+}
+
+/// A time that is there, and further from now than clocks may differ.
+fn is_skewed(now: i64, time: Option<KTime>) -> bool
+    ensures { result ≡ holds_of (is_skewed now) time }
+{
+    match time {
+        Some(time) => time.seconds().abs_diff(now) > SKEW.unsigned_abs(),
+        None => false,
+    }
+}

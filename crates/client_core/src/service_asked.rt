@@ -1,0 +1,15 @@
+//! What goes to a service with a ticket (RFC 4120, section 5.5.1).
+use enctypes::Key;
+use krb_fields::Typed;
+
+/// What a client asks of a service, and tells it under the session key.
+#[derive(Debug, Drop)]
+pub struct ServiceAsked {
+    /// Whether the service is to answer with an AP-REP.
+    pub mutual_required: bool,
+    /// The checksum of what goes with the ticket, by its type.
+    pub checksum: Option<Typed>,
+    /// The key that the client chose for what follows.
+    pub subkey: Option<Key>,
+    pub seq_number: Option<u32>,
+}

@@ -1,0 +1,117 @@
+//! What a client reads from a service's reply: AP-REP (RFC 4120, sections 3.2.5 and 5.5.2).
+ghost use Rattle.std.specs.Prelude.{◌≡◌, IfOk};
+ghost use Rattle.krb_parts.specs.EncApRepPart.{enc_ap_rep_part};
+ghost use Rattle.sealed_parts.specs.Encrypted.{decrypted};
+ghost use Rattle.client_core.specs.Faults.{Gives};
+ghost use Rattle.client_core.specs.ServiceReplies.{ap_part, ap_part_rules, ap_reply_in, if_ap_part, if_ap_reply, reads_ap, repeated};
+
+use crate::fault::{ClientFault, Mismatch, Rejection, given, unless_rejected};
+use crate::replies::refusal_in;
+use enctypes::{Key, KeyUsage};
+use krb_ap::ApRepRef;
+use krb_elements::read;
+use krb_fields::Moment;
+use krb_parts::EncApRepPart;
+use refusals::decide;
+use sealed_parts::open_part;
+use std::alloc::{AllocError, Global};
+
+/// What a service says in an AP-REP under the session key, or the first fault. `sent` is the moment of the AP-REQ.
+pub fn read_ap_reply(
+    alloc: Global,
+    key: &Key,
+    sent: Moment,
+    bytes: &[u8],
+) -> Result<EncApRepPart, ClientFault>
+    ensures value { Gives result (reads_ap key.now sent bytes.now) }
+{
+    given(ap_reply(alloc, key, sent, bytes))
+}
+
+fn ap_reply(
+    alloc: Global,
+    key: &Key,
+    sent: Moment,
+    bytes: &[u8],
+) -> Result<Result<EncApRepPart, ClientFault>, AllocError>
+    ensures { IfOk result (λ found. found ≡ reads_ap key.now sent bytes.now) }
+{
+    let reply = ap_reply_in(alloc, bytes)?;
+    if_ap_reply(alloc, key, sent, reply)
+}
+
+fn if_ap_reply(
+    alloc: Global,
+    key: &Key,
+    sent: Moment,
+    reply: Result<ApRepRef<'_>, ClientFault>,
+) -> Result<Result<EncApRepPart, ClientFault>, AllocError>
+    ensures { IfOk result (λ found. found ≡ if_ap_reply key.now sent reply.entry) }
+{
+    match reply {
+        Ok(reply) => {
+            let part = ap_part(alloc, key, &reply)?;
+            Ok(unless_rejected(if_ap_part(sent, part)))
+        }
+        Err(fault) => Ok(Err(fault)),
+    }
+}
+
+/// The AP-REP, or what the octets are in its place.
+fn ap_reply_in<'a>(
+    alloc: Global,
+    bytes: &'a [u8],
+) -> Result<Result<ApRepRef<'a>, ClientFault>, AllocError>
+    ensures { IfOk result (λ found. found ≡ ap_reply_in bytes.now) }
+{
+    match read::<ApRepRef<'a>>(bytes) {
+        Ok(reply) => Ok(Ok(reply)),
+        Err(_) => Ok(Err(refusal_in(alloc, bytes)?)),
+    }
+}
+
+/// What the session key opens.
+fn ap_part(
+    alloc: Global,
+    key: &Key,
+    reply: &ApRepRef<'_>,
+) -> Result<Result<EncApRepPart, Rejection>, AllocError>
+    ensures { IfOk result (λ found. found ≡ ap_part key.now reply.now) }
+{
+    let rules = [(
+        reply.enc_part.etype != key.etype().number(),
+        Rejection::Unopened,
+    )];
+    let cipher = reply.enc_part.cipher.as_slice();
+    let opened = open_part(alloc, key, KeyUsage::ApRepEncPart, cipher)?;
+    Ok(decide(&rules, opened, Rejection::Unopened))
+}
+
+/// The part, where it repeats the moment that was sent.
+fn if_ap_part(
+    sent: Moment,
+    part: Result<EncApRepPart, Rejection>,
+) -> Result<EncApRepPart, Rejection>
+    ensures { result ≡ if_ap_part sent part }
+{
+    match part {
+        Ok(part) => repeated(sent, part),
+        Err(rejection) => Err(rejection),
+    }
+}
+
+fn repeated(sent: Moment, part: EncApRepPart) -> Result<EncApRepPart, Rejection>
+    ensures { result ≡ repeated sent part }
+{
+    let rules = ap_part_rules(sent, &part);
+    decide(&rules, Some(part), Rejection::Unopened)
+}
+
+fn ap_part_rules(sent: Moment, part: &EncApRepPart) -> [(bool, Rejection); 1]
+    ensures { result ≡ ap_part_rules sent part.now }
+{
+    [(
+        part.ctime.seconds() != sent.sec || part.cusec.get() != sent.usec,
+        Rejection::Mismatched(Mismatch::Times),
+    )]
+}

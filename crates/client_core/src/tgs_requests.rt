@@ -1,0 +1,115 @@
+//! TGS-REQ (RFC 4120, sections 3.3.1 and 5.4.1).
+ghost use Rattle.std.specs.Prelude.{◌≡◌, ◌≤◌, ◌<◌, length, IfOk, IfSome};
+ghost use Rattle.krb_elements.specs.Codec.{written};
+ghost use Rattle.krb_fields.specs.NameLimits.{IsComponent, IsWithinLimits};
+ghost use Rattle.krb_types.specs.KdcReq.{SpellsKdcReq, message};
+ghost use Rattle.krb_types.specs.ReqBody.{req_body};
+ghost use Rattle.krb_types.specs.Ticket.{ticket};
+ghost use Rattle.krb_types.specs.declared.kdc_req.Exchange.TheVariants.{Tgs};
+ghost use Rattle.client_core.specs.Asked.{IsAskable};
+ghost use Rattle.client_core.specs.Requests.{asks_tgs, body_checksum, tgs_data};
+ghost use Rattle.client_core.specs.Sessions as definitions;
+
+use crate::asked::Asked;
+use crate::presenting::{authenticator, present};
+use crate::requests::request;
+use crate::sessions::{Session, session_of};
+use cred_files::{Credential, Principal};
+use enctypes::{Key, KeyUsage, checksum};
+use krb_ap::encode_ap_req;
+use krb_elements::{Octets, Seq, write};
+use krb_fields::{Flags, Moment, PA_TGS_REQ, PaData, Typed};
+use krb_types::{Exchange, ReqBody};
+use std::alloc::{AllocError, Global};
+
+/// The octets of a TGS-REQ that presents the credential's ticket, with the subkey for the reply, if one is chosen.
+/// `confounder` is 16 random octets.
+pub fn tgs_request(
+    alloc: Global,
+    asked: &Asked,
+    credential: &Credential,
+    subkey: Option<Key>,
+    at: Moment,
+    confounder: &[u8; 16],
+) -> Result<Vec<u8>, AllocError>
+    requires askable { IsAskable asked.now }
+    requires presentable { definitions.IsPresentable credential.now }
+    ensures written { IfSome (definitions.session credential.now) (λ session. IfOk result (λ v. v.items ≡ written (message Tgs) (asks_tgs asked.now credential.now.client session at subkey confounder.now))) }
+    ensures spelled { IfSome (definitions.session credential.now) (λ session. IfOk result (λ v. SpellsKdcReq (Tgs, asks_tgs asked.now credential.now.client session at subkey confounder.now) v.items)) }
+{
+    let session = session_of(alloc, credential)?;
+    tgs_req(
+        alloc,
+        asked,
+        &credential.client,
+        session,
+        subkey,
+        at,
+        confounder,
+    )
+}
+
+fn tgs_req(
+    alloc: Global,
+    asked: &Asked,
+    client: &Principal,
+    session: Session,
+    subkey: Option<Key>,
+    at: Moment,
+    confounder: &[u8; 16],
+) -> Result<Vec<u8>, AllocError>
+    requires askable { IsAskable asked.now }
+    requires realm { IsComponent client.now.realm }
+    requires name { IsWithinLimits client.now.name.components }
+    requires ticket { length (ticket.text session.ticket) < 16777216 }
+    ensures written { IfOk result (λ v. v.items ≡ written (message Tgs) (asks_tgs asked.now client.now session at subkey confounder.now)) }
+    ensures spelled { IfOk result (λ v. SpellsKdcReq (Tgs, asks_tgs asked.now client.now session at subkey confounder.now) v.items) }
+{
+    let body = asked.body(alloc, None)?;
+    let entry = tgs_data(alloc, client, session, at, subkey, confounder, &body)?;
+    let mut padata = Seq::new(alloc);
+    padata.push(entry)?;
+    request(alloc, Exchange::Tgs, Some(padata), body)
+}
+
+/// PA-TGS-REQ: the AP-REQ, whose authenticator bears a checksum of the body.
+fn tgs_data(
+    alloc: Global,
+    client: &Principal,
+    session: Session,
+    at: Moment,
+    subkey: Option<Key>,
+    confounder: &[u8; 16],
+    body: &ReqBody,
+) -> Result<PaData, AllocError>
+    requires realm { IsComponent client.now.realm }
+    requires name { IsWithinLimits client.now.name.components }
+    requires ticket { length (ticket.text session.ticket) < 16777216 }
+    requires body { req_body.most body.now ≤ 20000 }
+    ensures value { IfOk result (λ made. made ≡ tgs_data client.now session at subkey confounder.now body.now) }
+    ensures short { IfOk result (λ made. length made.padata_value ≤ 34000006) }
+{
+    let cksum = body_checksum(alloc, &session.key, body)?;
+    let authenticator = authenticator(alloc, client, at, Some(cksum), subkey, None)?;
+    let options = Flags::from_bits(0);
+    let usage = KeyUsage::TgsReqAuthenticator;
+    let ap = present(alloc, session, options, usage, confounder, &authenticator)?;
+    Ok(PaData {
+        padata_type: PA_TGS_REQ,
+        padata_value: Octets::new(encode_ap_req(alloc, &ap)?),
+    })
+}
+
+/// The checksum of the body's octets.
+fn body_checksum(alloc: Global, key: &Key, body: &ReqBody) -> Result<Typed, AllocError>
+    requires { req_body.most body.now ≤ 20000 }
+    ensures value { IfOk result (λ cksum. cksum ≡ body_checksum key.now body.now) }
+    ensures short { IfOk result (λ cksum. length cksum.octets ≤ 24) }
+{
+    let octets = write(alloc, body)?;
+    let mac = checksum(key, KeyUsage::TgsReqAuthenticatorChecksum, &octets);
+    Ok(Typed {
+        number: key.etype().checksum_type(),
+        octets: Octets::from_slice(alloc, mac.bytes())?,
+    })
+}

@@ -1,0 +1,69 @@
+//! What a client writes to a service and reads from it.
+ghost use Rattle.std.specs.Prelude.{IfOk};
+ghost use Rattle.client_core.specs.Presenting.{IsShortChecksum};
+
+use crate::given::{TGS_REP, asked_of_h, confounder, key_from, midnight, octets};
+use client_core::{
+    ClientFault, Mismatch, ServiceAsked, ap_request, is_presentable, read_ap_reply, read_tgs_reply,
+};
+use krb_elements::Octets;
+use krb_fields::Typed;
+use std::alloc::Global;
+use std::test::Fail;
+
+/// An AP-REQ with the ticket of `h`: mutual-required, a checksum of type 32771, 7 microseconds, a subkey of the octets 32 to
+/// 63, sequence number 9.
+const AP_REQ: &str =
+    "6e8201b0308201aca003020105a10302010ea20703050020000000a381ed6181ea3081e7a003020105a1051b03412e42a20e300ca003020101a10530031b0168a381c83081c5a003020112a103020101a281b80481b5666a5e762c38b2899c6bfab2d530b6ae2120eb07d169f4252e140d57b54be74953ad1171976f313ecadecb89da95aee7fa042231a9ecbdac63bb3ace61c237143ff01d7940117718d06c28e13161b37f7ffcd8eb6b5f1a830ab0ca838329649e19f89b6a3675042d2329b93e30876c2f7287795650f4ea4af229bf0e23854237a6729935b8b3ad08c01eff88dcc329de23da7b46549df8b9bfc3620f1058cca5230c7f77382d6d1497508b0b1791a87d1cddd8ee8fa481a63081a3a003020112a2819b04819877a6ea11cbf5ff043c3e0f88b007c6f24d64b34c4e23359c36fda2182973f170e229782a71d0fb280a1b86c639f789b9876fb8d55fda5012681b1cb469cdff884141a543eb03e4c56c95c4424a0530c08265f2458fd282fbbc45bf1807b886c04f854a59103a1248c53ab3365aa0b0e6430daea96fc284c61cf51351dd76139d5e49bc6ecd3ba82f8e5ee421385c0109df660b9b6733d80b";
+
+/// The AP-REP to it.
+const AP_REP: &str =
+    "6f51304fa003020105a10302010fa2433041a003020112a23a0438587cb3f2486e16def52dc3ff93282f8fb086e1384ca313e8b506ed1f32419f4d912eba86b87cf394627cf6422f2b3fbf7b67695c2311f51c";
+
+fn service_asked(alloc: Global) -> Result<ServiceAsked, Fail>
+    ensures { IfOk result (λ asked. IsShortChecksum asked.checksum) }
+{
+    Ok(ServiceAsked {
+        mutual_required: true,
+        checksum: Some(Typed {
+            number: 0x8003,
+            octets: Octets::from_slice(alloc, b"abc")?,
+        }),
+        subkey: Some(key_from(32)),
+        seq_number: Some(9),
+    })
+}
+
+#[test]
+fn an_ap_request(rt: HostRuntime) -> Result<(), Fail> {
+    let alloc = rt.alloc();
+    let reply = octets(alloc, TGS_REP)?;
+    let asked = asked_of_h(alloc)?;
+    let found = read_tgs_reply(alloc, &asked, &key_from(0), false, midnight(0)?, &reply);
+    let Ok(credential) = found else {
+        return Err(Fail::from("no credential"));
+    };
+    assert!(rt; is_presentable(&credential));
+    let request = ap_request(
+        alloc,
+        &credential,
+        midnight(7)?,
+        &service_asked(alloc)?,
+        &confounder(),
+    )?;
+    assert!(rt; request == octets(alloc, AP_REQ)?);
+    Ok(())
+}
+
+#[test]
+fn an_ap_reply_repeats_the_moment(rt: HostRuntime) -> Result<(), Fail> {
+    let alloc = rt.alloc();
+    let reply = octets(alloc, AP_REP)?;
+    let found = read_ap_reply(alloc, &key_from(64), midnight(7)?, &reply);
+    assert!(rt; found.is_ok());
+    let found = read_ap_reply(alloc, &key_from(64), midnight(8)?, &reply);
+    assert!(rt; matches!(&found, Err(ClientFault::Mismatch(Mismatch::Times))));
+    let found = read_ap_reply(alloc, &key_from(0), midnight(7)?, &reply);
+    assert!(rt; matches!(&found, Err(ClientFault::CannotOpen)));
+    Ok(())
+}
