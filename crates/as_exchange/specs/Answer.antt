@@ -5,10 +5,13 @@ use Rattle.krb_fields.specs.PrincipalName.{Name}
 use Rattle.krb_fields.specs.Salt.{default_salt}
 use Rattle.krb_fields.specs.declared.moment.Moment.{Moment}
 use Rattle.krb_replies.specs.KdcRep.{KdcRep, kdc_rep}
+use Rattle.krb_parts.specs.EncKdcRepPart.{EncKdcRepPart}
+use Rattle.krb_parts.specs.EncTicketPart.{EncTicketPart}
 use Rattle.krb_types.specs.KdcReq.{Received}
 use Rattle.krb_types.specs.KrbError.{KrbError, krb_error}
 use Rattle.krb_types.specs.ReqBody.{ReqBody}
 use Rattle.kdc_replies.specs.ErrorReply.{error_reply, too_big}
+use Rattle.kdc_replies.specs.Grant.{reply_part, ticket_part}
 use Rattle.kdc_replies.specs.Reply.{NamesKey, OpensAlike}
 use Rattle.kdc_replies.specs.ServiceTerms.{current_keys}
 use Rattle.preauth.specs.Keys.{types_of}
@@ -19,7 +22,7 @@ use Rattle.principal_rows.specs.declared.row.Row.{Row}
 use Rattle.replay.specs.declared.failures.Failures.{Failures}
 use Rattle.as_exchange.specs.View.{View}
 use Rattle.as_exchange.specs.Rules.{is_good, timestamp_of, verdict, code_of}
-use Rattle.as_exchange.specs.Issue.{as_rep}
+use Rattle.as_exchange.specs.Issue.{as_rep, grant_by}
 use Rattle.as_exchange.specs.declared.refusal.AsRefusal.{AsRefusal}
 use Rattle.as_exchange.specs.declared.refusal.AsRefusal.TheVariants.{BadVersion, BadMessageType, ClientUnknown, ServiceUnknown, ClientRevoked, ClientExpired, PasswordExpired, ServiceRevoked, ServiceExpired, BadOption, NoCommonType, PreauthFailed, TimestampSkewed, PreauthRequired, PostdatingRefused, StartsTooLate, NeverValid}
 use Rattle.as_exchange.specs.declared.refusal.Sequel.{Sequel}
@@ -110,15 +113,20 @@ Spelled v at words message octets = SpelledBy v at words message.body.value (tim
 
 -- The client's key opens the AS-REP to what the service's key finds in the ticket, and both are those that the sealed
 -- parts name in the rows of the client and of the service.
-abbrev pub OpensFor : View → Admission → KdcRep 11 → Type 0
-OpensFor v admission reply =
-    OpensAlike 11 25 admission.terms.reply_key 3 admission.terms.service.key.key reply
+abbrev pub OpensTo : View → Admission → KdcRep 11 → EncKdcRepPart → EncTicketPart → Type 0
+OpensTo v admission reply part ticket =
+    OpensAlike 11 25 admission.terms.reply_key 3 admission.terms.service.key.key reply part ticket
     × NamesKey v.client reply.enc_part admission.terms.reply_key
     × NamesKey v.service reply.ticket.enc_part admission.terms.service.key.key
 
+-- they find what was granted
+abbrev pub OpensFor : View → Moment → List ℕ → ReqBody → Outcome → Admission → Type 0
+OpensFor v at words body timestamp admission =
+    OpensTo v admission (as_rep v at words body timestamp admission) (reply_part (grant_by v at words body timestamp admission) body.nonce at.sec) (ticket_part (grant_by v at words body timestamp admission))
+
 abbrev pub OpensBy : View → Moment → List ℕ → ReqBody → Outcome → Result Admission AsRefusal → Type 0
 OpensBy v at words body timestamp (Err refusal) = ⊤
-OpensBy v at words body timestamp (Ok admission) = OpensFor v admission (as_rep v at words body timestamp admission)
+OpensBy v at words body timestamp (Ok admission) = OpensFor v at words body timestamp admission
 
 abbrev pub Opens : View → Moment → List ℕ → Received → Type 0
 Opens v at words message = OpensBy v at words message.body.value (timestamp_of v.client at.sec message) (verdict v at.sec message)

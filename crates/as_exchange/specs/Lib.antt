@@ -5,3 +5,4 @@ pub mod NamedLaws
 pub mod Rules
 pub mod Issue
 pub mod Answer
+pub mod Issued

@@ -37,7 +37,7 @@ pub fn as_rep(
     ensures written { IfOk result (λ octets. octets.items ≡ written (kdc_rep 11) (as_rep view.now at words.now body.now timestamp admission.now)) }
     ensures spelled { IfOk result (λ octets. (kdc_rep 11).Spells (as_rep view.now at words.now body.now timestamp admission.now) octets.items) }
     // The client and the service find the same inside, by the keys that are named there.
-    ensures same { IfOk result (λ octets. OpensFor view.now admission.now (as_rep view.now at words.now body.now timestamp admission.now)) }
+    ensures same { IfOk result (λ octets. OpensFor view.now at words.now body.now timestamp admission.now) }
 {
     let padata = reply_data(alloc, view, &admission.terms)?;
     let reply_key = reply_key_of(&admission.terms);

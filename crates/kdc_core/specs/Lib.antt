@@ -1,6 +1,7 @@
 pub mod Request
 pub mod View
 pub mod Answer
+pub mod Issued
 pub mod AgreementLaws
 pub mod After
 pub mod RequestLaws

@@ -4,4 +4,6 @@ pub mod ServiceTermsLaws
 pub mod Standing
 pub mod Grant
 pub mod Reply
+pub mod Issue
+pub mod GrantLaws
 pub mod LengthLaws

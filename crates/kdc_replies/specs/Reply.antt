@@ -60,10 +60,9 @@ pub record SayTheSame (part : EncKdcRepPart) (ticket : EncTicketPart) : Type 0 w
   pub endtime : part.endtime ≡ ticket.endtime
   pub renew_till : part.renew_till ≡ ticket.renew_till
 
--- The client's key opens its part of the reply, and the service's key the ticket, and they find the same.
-pub record OpensAlike (type tag : ℕ) (reply_key : Key) (usage : ℕ) (service_key : Key) (reply : KdcRep type) : Type 0 where
-  pub part : EncKdcRepPart
-  pub ticket : EncTicketPart
+-- The client's key opens its part of the reply to this part, and the service's key the ticket to what it holds, and both hold
+-- the same.
+pub record OpensAlike (type tag : ℕ) (reply_key : Key) (usage : ℕ) (service_key : Key) (reply : KdcRep type) (part : EncKdcRepPart) (ticket : EncTicketPart) : Type 0 where
   pub client_reads : decrypted (under tag enc_kdc_rep_part) reply_key usage reply.enc_part ≡ Some part
   pub service_reads : decrypted enc_ticket_part service_key 2 reply.ticket.enc_part ≡ Some ticket
   pub same : SayTheSame part ticket

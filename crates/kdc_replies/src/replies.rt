@@ -7,7 +7,7 @@ ghost use Rattle.krb_replies.specs.KdcRep.{kdc_rep};
 ghost use Rattle.krb_replies.specs.Under.{under};
 ghost use Rattle.enctypes.specs.KeyUsage.{usage_number};
 ghost use Rattle.sealed_parts.specs.Encrypted.{decrypted};
-ghost use Rattle.kdc_replies.specs.Grant.{IsShort, reply_part};
+ghost use Rattle.kdc_replies.specs.Grant.{IsShort, reply_part, ticket_part};
 ghost use Rattle.kdc_replies.specs.Reply.{OpensAlike, sealed_part, reply_of};
 
 use crate::grant::Grant;
@@ -53,7 +53,7 @@ pub fn ticket_reply<const TYPE: u8, const TAG: u8>(
     ensures spelled { IfOk result (λ octets. (kdc_rep TYPE).Spells (reply_of TYPE TAG grant.now service.now key.now padata asked.nonce asked.now words.now) octets.items) }
     // The client and the service find the same inside.
     ensures same { IfOk result (λ octets. OpensAlike TYPE TAG key.now.key (usage_number key.now.usage) service.now.key
-        (reply_of TYPE TAG grant.now service.now key.now padata asked.nonce asked.now words.now)) }
+        (reply_of TYPE TAG grant.now service.now key.now padata asked.nonce asked.now words.now) (reply_part grant.now asked.nonce asked.now) (ticket_part grant.now)) }
 {
     let reply = whole_reply::<TYPE, TAG>(alloc, grant, service, key, padata, asked, words)?;
     write(alloc, &reply)
@@ -73,7 +73,7 @@ fn whole_reply<const TYPE: u8, const TAG: u8>(
     requires padata { IfSome padata (λ list. length ((list_of pa_data).text list) ≤ 70000) }
     ensures value { IfOk result (λ reply. reply ≡ reply_of TYPE TAG grant.now service.now key.now padata asked.nonce asked.now words.now) }
     ensures short { IfOk result (λ reply. length ((kdc_rep TYPE).text reply) < 2 ^ 32) }
-    ensures same { IfOk result (λ reply. OpensAlike TYPE TAG key.now.key (usage_number key.now.usage) service.now.key reply) }
+    ensures same { IfOk result (λ reply. OpensAlike TYPE TAG key.now.key (usage_number key.now.usage) service.now.key reply (reply_part grant.now asked.nonce asked.now) (ticket_part grant.now)) }
 {
     let ticket = ticket(alloc, grant, service, words)?;
     let enc_part = sealed::<TAG>(alloc, grant, key, asked, words)?;

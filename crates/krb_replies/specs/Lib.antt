@@ -1,3 +1,4 @@
 pub mod KdcRep
 pub mod Under
 pub mod ShortLaws
+pub mod TicketLaws

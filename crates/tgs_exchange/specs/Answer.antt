@@ -6,9 +6,12 @@ use Rattle.enctypes.specs.KeyUsage.{usage_number}
 use Rattle.krb_elements.specs.Codec.{written}
 use Rattle.krb_fields.specs.declared.moment.Moment.{Moment}
 use Rattle.krb_replies.specs.KdcRep.{KdcRep, kdc_rep}
+use Rattle.krb_parts.specs.EncKdcRepPart.{EncKdcRepPart}
+use Rattle.krb_parts.specs.EncTicketPart.{EncTicketPart}
 use Rattle.krb_types.specs.KrbError.{KrbError, krb_error}
 use Rattle.krb_types.specs.ReqBody.{ReqBody}
 use Rattle.kdc_replies.specs.ErrorReply.{error_reply, too_big}
+use Rattle.kdc_replies.specs.Grant.{reply_part, ticket_part}
 use Rattle.kdc_replies.specs.Reply.{NamesKey, OpensAlike}
 use Rattle.replay.specs.Memory.{verdict}
 use Rattle.replay.specs.Stamp.{Stamp}
@@ -21,7 +24,7 @@ use Rattle.tgs_opening.specs.declared.refusal.TgsRefusal.{TgsRefusal}
 use Rattle.tgs_opening.specs.declared.refusal.TgsRefusal.TheVariants.{Skewed, Repeated, Full}
 use Rattle.tgs_exchange.specs.View.{View}
 use Rattle.tgs_exchange.specs.Rules.{client_rules, admitted}
-use Rattle.tgs_exchange.specs.Issue.{reply_key_of, tgs_rep}
+use Rattle.tgs_exchange.specs.Issue.{grant_by, reply_key_of, tgs_rep}
 use Rattle.tgs_exchange.specs.declared.terms.Admission.{Admission}
 
 -- the octets of the reply, and what is kept of the request and of the reply for the authenticator: none, it is not
@@ -120,14 +123,19 @@ Spelled v at words body p octets = SpelledByClient v at words body p (first_hold
 
 -- The reply key opens the TGS-REP to what the service's key finds in the ticket, and that is the one that the ticket
 -- names in the service's row.
-abbrev pub OpensFor : View → Presented → Admission → KdcRep 13 → Type 0
-OpensFor v p admission reply =
-    OpensAlike 13 26 (reply_key_of p).key (usage_number (reply_key_of p).usage) admission.terms.service.key.key reply
+abbrev pub OpensTo : View → Presented → Admission → KdcRep 13 → EncKdcRepPart → EncTicketPart → Type 0
+OpensTo v p admission reply part ticket =
+    OpensAlike 13 26 (reply_key_of p).key (usage_number (reply_key_of p).usage) admission.terms.service.key.key reply part ticket
     × NamesKey v.service reply.ticket.enc_part admission.terms.service.key.key
+
+-- they find what was granted
+abbrev pub OpensFor : View → Moment → List ℕ → ReqBody → Presented → Admission → Type 0
+OpensFor v at words body p admission =
+    OpensTo v p admission (tgs_rep v at words body p admission) (reply_part (grant_by v words body p admission) body.nonce at.sec) (ticket_part (grant_by v words body p admission))
 
 abbrev pub OpensBy : View → Moment → List ℕ → ReqBody → Presented → Result Admission TgsRefusal → Type 0
 OpensBy v at words body p (Err refusal) = ⊤
-OpensBy v at words body p (Ok admission) = OpensFor v p admission (tgs_rep v at words body p admission)
+OpensBy v at words body p (Ok admission) = OpensFor v at words body p admission
 
 abbrev pub OpensByVerdict : View → Moment → List ℕ → ReqBody → Presented → Verdict Kept → Type 0
 OpensByVerdict v at words body p Skew = ⊤

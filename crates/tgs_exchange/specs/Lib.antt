@@ -5,3 +5,4 @@ pub mod Rules
 pub mod NamedLaws
 pub mod Issue
 pub mod Answer
+pub mod Issued

@@ -37,7 +37,7 @@ pub fn tgs_rep(
     ensures written { IfOk result (λ octets. octets.items ≡ written (kdc_rep 13) (tgs_rep view.now at words.now body.now presented.now admission.now)) }
     ensures spelled { IfOk result (λ octets. (kdc_rep 13).Spells (tgs_rep view.now at words.now body.now presented.now admission.now) octets.items) }
     // The client and the service find the same inside, the service by the key that is named there.
-    ensures same { IfOk result (λ octets. OpensFor view.now presented.now admission.now (tgs_rep view.now at words.now body.now presented.now admission.now)) }
+    ensures same { IfOk result (λ octets. OpensFor view.now at words.now body.now presented.now admission.now) }
 {
     let reply_key = reply_key_of(presented);
     let asked = Asked {

@@ -1,0 +1,70 @@
+-- A ticket that is issued with the reply that bears it, and what the reply is to those who have its keys (RFC 4120, sections
+-- 3.1.3 and 3.3.3).
+use Rattle.std.specs.Prelude.{◌≡◌, ◌⊎◌, ℕ, ℤ, List, length, Option, Some}
+use Rattle.enctypes.specs.Etype.{key_len}
+use Rattle.enctypes.specs.KeyUsage.{usage_number}
+use Rattle.krb_fields.specs.PaData.{PaData}
+use Rattle.krb_parts.specs.EncKdcRepPart.{EncKdcRepPart, enc_kdc_rep_part}
+use Rattle.krb_parts.specs.EncTicketPart.{EncTicketPart, enc_ticket_part}
+use Rattle.krb_replies.specs.KdcRep.{KdcRep, kdc_rep}
+use Rattle.krb_replies.specs.Under.{under}
+use Rattle.krb_types.specs.declared.kdc_req.Exchange.{Exchange}
+use Rattle.krb_types.specs.declared.kdc_req.Exchange.TheVariants.{As, Tgs}
+use Rattle.krb_types.specs.KrbError.{KrbError, krb_error}
+use Rattle.krb_types.specs.Ticket.{Ticket}
+use Rattle.kdc_replies.specs.declared.grant.Grant.{Grant}
+use Rattle.kdc_replies.specs.declared.replies.ReplyKey.{ReplyKey}
+use Rattle.kdc_replies.specs.declared.tickets.ServiceKey.{ServiceKey}
+use Rattle.sealed_parts.specs.Encrypted.{decrypted}
+use Rattle.kdc_replies.specs.Grant.{ticket_part, reply_part}
+use Rattle.kdc_replies.specs.Reply.{reply_of, ticket_of}
+
+-- the message type of an exchange's replies, and the tag of their sealed part
+abbrev pub reply_type : Exchange → ℕ
+reply_type As = 11
+reply_type Tgs = 13
+
+abbrev pub part_tag : Exchange → ℕ
+part_tag As = 25
+part_tag Tgs = 26
+
+-- What a reply with a ticket is made of: its exchange, what is granted, the key of the service and the key of the reply, what it
+-- repeats of the request, the moment's second, and the random octets.
+pub record Issue : Type 0 where
+  pub exchange : Exchange
+  pub grant : Grant
+  pub service_key : ServiceKey
+  pub reply_key : ReplyKey
+  pub padata : Option (List PaData)
+  pub nonce : ℤ
+  pub now : ℤ
+  pub words : List ℕ
+
+abbrev pub issued_reply : (issue : Issue) → KdcRep (reply_type issue.exchange)
+issued_reply i = reply_of (reply_type i.exchange) (part_tag i.exchange) i.grant i.service_key i.reply_key i.padata i.nonce i.now i.words
+
+abbrev pub issued_ticket : Issue → Ticket
+issued_ticket i = ticket_of i.grant i.service_key i.words
+
+-- what the reply key opens, and what the service's key opens
+abbrev pub issued_part : Issue → EncKdcRepPart
+issued_part i = reply_part i.grant i.nonce i.now
+
+abbrev pub issued_ticket_part : Issue → EncTicketPart
+issued_ticket_part i = ticket_part i.grant
+
+-- These octets are the reply: they spell it, the reply key opens its part, and the service's key its ticket, to what was
+-- granted. The session key is one of its type.
+pub record IsIssued (issue : Issue) (octets : List ℕ) : Type 0 where
+  pub spelled : (kdc_rep (reply_type issue.exchange)).Spells (issued_reply issue) octets
+  pub client_reads : decrypted (under (part_tag issue.exchange) enc_kdc_rep_part) issue.reply_key.key (usage_number issue.reply_key.usage) (issued_reply issue).enc_part ≡ Some (issued_part issue)
+  pub service_reads : decrypted enc_ticket_part issue.service_key.key 2 (issued_ticket issue).enc_part ≡ Some (issued_ticket_part issue)
+  pub session_key : length issue.grant.session_key.bytes ≡ key_len issue.grant.session_key.etype
+
+-- these octets are an error
+abbrev pub IsError : List ℕ → Type 0
+IsError octets = (error : KrbError) × krb_error.Spells error octets
+
+-- the reply, or an error in its place, where it is too long for its room
+abbrev pub IsIssuedOrError : Issue → List ℕ → Type 0
+IsIssuedOrError issue octets = IsIssued issue octets ⊎ IsError octets

@@ -1,0 +1,7 @@
+pub mod Taken
+pub mod Sessions
+pub mod Obtained
+pub mod Accepted
+pub mod Answered
+pub mod Serving
+pub mod Carrying

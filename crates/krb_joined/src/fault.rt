@@ -1,0 +1,32 @@
+//! Who stops a ticket on its way.
+use ap_accept::ApFault;
+use client_core::ClientFault;
+use std::alloc::AllocError;
+
+/// Who stops a ticket on its way, and why.
+#[derive(Debug, Drop)]
+pub enum JoinedFault {
+    /// The KDC gave no reply.
+    NoReply,
+    /// The client did not take the KDC's reply.
+    NotTaken(ClientFault),
+    /// The client's credential can't be presented (`client_core::is_presentable`).
+    NotPresentable,
+    /// The service did not accept the client.
+    NotAccepted(ApFault),
+    /// The client did not take the service's reply.
+    NotAnswered(ClientFault),
+    /// The KDC, or the client that was to present its ticket, had no memory.
+    Memory,
+}
+
+impl From<AllocError> for JoinedFault {
+    ghost use Rattle.std.specs.Prelude.{◌≡◌};
+    ghost use Rattle.krb_joined.specs.declared.fault.JoinedFault.TheVariants.{Memory};
+
+    ghost from_gives = { λ _ fault. fault ≡ Memory };
+
+    fn from(_error: AllocError) -> JoinedFault {
+        JoinedFault::Memory
+    }
+}

@@ -1,0 +1,14 @@
+//! A ticket's whole way: a KDC issues it, a client takes it from the reply and presents it, and a service accepts the client.
+#![tactic(auto)]
+
+mod fault;
+mod joined;
+mod obtaining;
+mod presenting;
+mod reading;
+
+pub use fault::JoinedFault;
+pub use joined::end_to_end;
+pub use obtaining::Issuing;
+pub use presenting::Sealing;
+pub use reading::Reader;

@@ -1,0 +1,57 @@
+//! From a request to the credential that its client takes from the reply.
+ghost use Rattle.std.specs.Prelude.{◌≤◌, length, IfOk, IfErr, IfSome};
+ghost use Rattle.kdc_core.specs.Issued.{issued};
+ghost use Rattle.kdc_core.specs.Request.{request_of};
+ghost use Rattle.kdc_core.specs.View.{view};
+ghost use Rattle.krb_joined.specs.Credential.{IsCredentialOf};
+ghost use Rattle.krb_der.specs.Spelling.{IsBytes};
+ghost use Rattle.krb_joined.specs.Joined.{IsBefore};
+ghost use Rattle.krb_joined.specs.Reading.{IsReader};
+
+use crate::fault::JoinedFault;
+use crate::reading::{Reader, read_reply};
+use client_core::Asked;
+use cred_files::Credential;
+use kdc_core::Kdc;
+use krb_fields::Moment;
+use std::alloc::Global;
+
+/// When a KDC answers, by which random octets, and how many octets a reply with a ticket may have.
+#[derive(Debug, Clone, Copy)]
+pub struct Issuing {
+    pub at: Moment,
+    pub words: [u8; 64],
+    pub room: u32,
+}
+
+/// Hands a request to a KDC, and reads the reply.
+pub fn obtain(
+    alloc: Global,
+    kdc: &mut Kdc,
+    issuing: &Issuing,
+    request: &[u8],
+    asked: &Asked,
+    reader: &Reader,
+) -> Result<Credential, JoinedFault>
+    // Where the KDC issues a ticket, and the client reads the reply with its key, it takes the credential of that ticket.
+    ensures obtained { IfOk result (λ credential. IfSome (issued (view kdc.old request.now) issuing.now.at issuing.now.words (request_of request.now)) (λ issue.
+        IsReader reader.now.role reader.now.key issue → IsCredentialOf issue credential)) }
+    // Else it ends before a service is asked.
+    ensures before { IfErr result IsBefore }
+{
+    let reply = kdc.handle(alloc, issuing.at, &issuing.words, issuing.room, request)?;
+    let Some(octets) = reply else {
+        return Err(JoinedFault::NoReply);
+    };
+    look(&issuing.words, &octets);
+    match read_reply(alloc, asked, reader, &octets) {
+        Ok(credential) => Ok(credential),
+        Err(fault) => Err(JoinedFault::NotTaken(fault)),
+    }
+}
+
+/// Looks at random octets, of which there are enough for a session key, and at a reply's octets.
+fn look(words: &[u8; 64], octets: &[u8])
+    ensures words { 32 ≤ length words.now }
+    ensures octets { IsBytes octets.now }
+{}

@@ -1,0 +1,76 @@
+//! From a client's credential to the service that accepts the client.
+ghost use Rattle.std.specs.Prelude.{IfSome};
+ghost use Rattle.client_core.specs.Presenting.{IsShortChecksum};
+ghost use Rattle.enctypes.specs.Key.{IsKey};
+ghost use Rattle.kdc_replies.specs.Issue.{Issue};
+ghost use Rattle.krb_joined.specs.Credential.{IsCredentialOf};
+ghost use Rattle.krb_joined.specs.Joined.{IsHeard, IsJoined, MayBeAccepted};
+
+use crate::fault::JoinedFault;
+use ap_accept::{Accepted, Acceptor};
+use client_core::{ServiceAsked, ap_request, is_presentable, read_ap_reply, session_key};
+use cred_files::Credential;
+use enctypes::Key;
+use krb_fields::Moment;
+use std::alloc::Global;
+
+/// When somebody seals something, and by which 16 random octets: the client its authenticator, or the service its AP-REP.
+#[derive(Debug, Clone, Copy)]
+pub struct Sealing {
+    pub at: Moment,
+    pub confounder: [u8; 16],
+}
+
+/// Presents a credential to a service, and reads the AP-REP where one was asked for.
+pub fn present(
+    alloc: Global,
+    credential: &Credential,
+    asked: &ServiceAsked,
+    presenting: &Sealing,
+    acceptor: &mut Acceptor,
+    accepting: &Sealing,
+) -> Result<Accepted, JoinedFault>
+    requires { IsShortChecksum asked.now.checksum }
+    // The credential of a ticket that was issued is accepted.
+    ensures { (issue : Issue) → IsCredentialOf issue credential.now → MayBeAccepted issue acceptor.old accepting.now.at.sec presenting.now.at → IsJoined issue result }
+{
+    look(asked.subkey);
+    if !is_presentable(credential) {
+        return Err(JoinedFault::NotPresentable);
+    }
+    let Some(key) = session_key(credential) else {
+        return Err(JoinedFault::NotPresentable);
+    };
+    let octets = ap_request(
+        alloc,
+        credential,
+        presenting.at,
+        asked,
+        &presenting.confounder,
+    )?;
+    match acceptor.accept(alloc, accepting.at, &accepting.confounder, &octets) {
+        Ok(accepted) => hear(alloc, &key, presenting.at, accepted),
+        Err(fault) => Err(JoinedFault::NotAccepted(fault)),
+    }
+}
+
+/// Looks at a key that may be there: it is one of its type.
+fn look(key: Option<Key>)
+    ensures { IfSome key IsKey }
+{
+    if let Some(key) = key {
+        let _etype = key.etype();
+    }
+}
+
+/// What was accepted, where the client takes the AP-REP that the service may have sent.
+fn hear(alloc: Global, key: &Key, sent: Moment, accepted: Accepted) -> Result<Accepted, JoinedFault>
+    ensures { IsHeard key.now sent accepted result }
+{
+    if let Some(octets) = &accepted.ap_rep {
+        if let Err(fault) = read_ap_reply(alloc, key, sent, octets.as_slice()) {
+            return Err(JoinedFault::NotAnswered(fault));
+        }
+    }
+    Ok(accepted)
+}
