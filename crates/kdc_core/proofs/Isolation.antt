@@ -1,6 +1,8 @@
 -- What is left of a run for one client gets it the same replies, from any state that agrees for it.
 use Rattle.std.proofs.Common.{◌≡◌, ◌≢◌, ℕ, Bool, true, false, cond, ◌||◌, if◌then◌else◌, IsTrue, IfSome, ◌⊎◌, inl, inr, List, [], ◌∷◌, Option, Some, None, is_eq, refl, ap, sym, subst, ◌∙◌}
+use Rattle.std.specs.Prelude.{nat_eq}
 use Rattle.std.specs.Cmp.{tied_itself}
+use Rattle.std.specs.Cmp.Lexicographic.{pointwise, same_text}
 use Rattle.std.specs.FinMap as map
 use Rattle.std.specs.FinMap.{get-insert, get-empty}
 use Rattle.std.specs.Option.{unwrap_or}
@@ -8,7 +10,7 @@ use Rattle.std.specs.Ordering.{eq_by_cmp}
 use Rattle.krb_fields.specs.Name.{Components, name_cmp, name_total, same_name}
 use Rattle.krb_fields.specs.declared.moment.Moment.{Moment}
 use Rattle.principals.specs.Change.{changed, refusal}
-use Rattle.principals.specs.Database.{ticket_granter}
+use Rattle.principals.specs.Database.{Principals, ticket_granter}
 use Rattle.principals.specs.declared.change.Change.{Change as PrincipalChange}
 use Rattle.principals.specs.declared.change.ChangeFault.{ChangeFault}
 use Rattle.replay.specs.declared.keep.Kept.{Kept}
@@ -21,11 +23,11 @@ use Rattle.kdc_core.proofs.Changes.{other_row, realm_stays, same_refusal, same_r
 use Rattle.kdc_core.proofs.Frame.{database_kept, limits_kept, other_kept}
 use Rattle.kdc_core.specs.AgreementLaws.{names_agree, view_agrees}
 use Rattle.kdc_core.specs.Answer.{answer, keep, next}
-use Rattle.kdc_core.specs.Run.{after_change, after_event, event_reply, unless_refused}
+use Rattle.kdc_core.specs.Run.{after_change, after_event, event_reply, replaced, unless_refused}
 use Rattle.kdc_core.specs.Struck.{AgreesFor, IsIsolated, Isolation, Names, NamesWithin, ServicesWithin, is_client, is_left, is_request, is_request_of, principal_of, replies_to, strike}
 use Rattle.kdc_core.specs.View.{Agrees, named, view}
 use Rattle.kdc_core.specs.declared.run.Event.{Event}
-use Rattle.kdc_core.specs.declared.run.Event.TheVariants.{Request, Change, Restart}
+use Rattle.kdc_core.specs.declared.run.Event.TheVariants.{Request, Change, Replace, Restart, Reopen}
 
 -- ---- names
 
@@ -176,6 +178,25 @@ module _ (c : Components) (S : Names) where
         let both = neither (eq_by_cmp name_cmp c (principal_of change)) (S (principal_of change)) struck in
         elsewhere_unless (refusal state.database change) both.0 both.1
 
+  -- ---- replacements
+
+  -- where both have the same realm, the other database takes the place of both or of neither
+  both_replaced : (state other : State) (database : Principals) → AgreesFor c S state other → AgreesFor c S (replaced state database) (replaced other database)
+  both_replaced state other database a =
+      subst (λ realm. AgreesFor c S (replaced state database) (if pointwise nat_eq database.realm realm then record other { database = database } else other)) (sym a.realm)
+      (by_test (pointwise nat_eq database.realm state.database.realm))
+    where
+      by_test : (b : Bool) → AgreesFor c S (if b then record state { database = database } else state) (if b then record other { database = database } else other)
+      by_test true = record { realm = refl; limits = a.limits; row = refl; memory = a.memory; rows = λ name within. refl }
+      by_test false = a
+
+  realm_replaced : (state : State) (database : Principals) → (replaced state database).database.realm ≡ state.database.realm
+  realm_replaced state database = by_test (pointwise nat_eq database.realm state.database.realm) refl
+    where
+      by_test : (b : Bool) → pointwise nat_eq database.realm state.database.realm ≡ b → (if b then record state { database = database } else state).database.realm ≡ state.database.realm
+      by_test true same = same_text database.realm state.database.realm (sym same)
+      by_test false other = refl
+
   -- ---- restarts
 
   both_restart : (state other : State) (at : Moment) → AgreesFor c S state other → AgreesFor c S (restarted state at) (restarted other at)
@@ -193,13 +214,17 @@ module _ (c : Components) (S : Names) where
   realm_unless state change (Some fault) = refl
   realm_unless state change None = realm_stays state.database change
 
-  realm_after : (state : State) (event : Event) → (after_event state event).database.realm ≡ state.database.realm
-  realm_after state (Request at words room request) = ap (λ d. d.realm) (database_kept state (named state request).client (answer (view state request) at words room request).kept)
-  realm_after state (Change change) = realm_unless state change (refusal state.database change)
-  realm_after state (Restart at) = refl
+  same_granted : (realm later : List ℕ) → later ≡ realm → IsTrue (S (ticket_granter realm)) → IsTrue (S (ticket_granter later))
+  same_granted realm later is granter = subst (λ r. IsTrue (S (ticket_granter r))) (sym is) granter
 
-  still_granted : (state : State) (event : Event) → IsTrue (S (ticket_granter state.database.realm)) → IsTrue (S (ticket_granter (after_event state event).database.realm))
-  still_granted state event granter = subst (λ realm. IsTrue (S (ticket_granter realm))) (sym (realm_after state event)) granter
+  -- S holds the ticket-granting service of the realm afterwards, too
+  still_granted : (state : State) (event : Event) → NamesWithin c S state event → IsTrue (S (ticket_granter state.database.realm)) → IsTrue (S (ticket_granter (after_event state event).database.realm))
+  still_granted state (Request at words room request) within granter =
+      same_granted _ _ (ap (λ d. d.realm) (database_kept state (named state request).client (answer (view state request) at words room request).kept)) granter
+  still_granted state (Change change) within granter = same_granted _ _ (realm_unless state change (refusal state.database change)) granter
+  still_granted state (Replace database) within granter = same_granted _ _ (realm_replaced state database) granter
+  still_granted state (Restart at) within granter = granter
+  still_granted state (Reopen database limits at) within granter = within
 
   -- an event that is left: both run it, and give the same reply
   record IsLeft (state other : State) (event : Event) : Type 0 where
@@ -213,13 +238,17 @@ module _ (c : Components) (S : Names) where
       let agrees = agrees_at state other at words room bytes a granter is (within left) in
       record { reply = same_reply state other at words room bytes a agrees; is_own = sym left; agrees = own_request state other at words room bytes a is agrees }
   event_left state other (Change change) granter within a left = record { reply = refl; is_own = refl; agrees = own_change state other change a left }
+  event_left state other (Replace database) granter within a left = record { reply = refl; is_own = refl; agrees = both_replaced state other database a }
   event_left state other (Restart at) granter within a left = record { reply = refl; is_own = refl; agrees = both_restart state other at a }
+  event_left state other (Reopen database limits at) granter within a left = record { reply = refl; is_own = refl; agrees = record { realm = refl; limits = refl; row = refl; memory = refl; rows = λ name within. refl } }
 
   -- an event that is struck out: no request of c, and the first state alone runs it
   event_struck : (state other : State) (event : Event) → AgreesFor c S state other → is_left c S state event ≡ false → (is_request_of c state event ≡ false) × AgreesFor c S (after_event state event) other
   event_struck state other (Request at words room bytes) a struck = (struck, other_request state other at words room bytes a struck)
   event_struck state other (Change change) a struck = (refl, other_change state other change a struck)
+  event_struck state other (Replace database) a struck = absurd cc
   event_struck state other (Restart at) a struck = absurd cc
+  event_struck state other (Reopen database limits at) a struck = absurd cc
 
   module _ (state other : State) (event : Event) (events : List Event) where
     with_left : is_left c S state event ≡ true → IsLeft state other event
@@ -248,7 +277,7 @@ module _ (c : Components) (S : Names) where
   isolated : (events : List Event) (state other : State) → IsTrue (S (ticket_granter state.database.realm)) → ServicesWithin c S state events → AgreesFor c S state other → IsIsolated c S state other events (strike c S state events)
   isolated [] state other granter within a = record { own = refl; left = refl; afterwards = a }
   isolated (event ∷ events) state other granter within a =
-      by_test (λ t agrees. isolated events (after_event state event) t (still_granted state event granter) within.1 agrees) (is_left c S state event) refl
+      by_test (λ t agrees. isolated events (after_event state event) t (still_granted state event within.0 granter) within.1 agrees) (is_left c S state event) refl
     where
       by_test : ((t : State) → AgreesFor c S (after_event state event) t → IsIsolated c S (after_event state event) t events (strike c S (after_event state event) events))
           → (b : Bool) → is_left c S state event ≡ b → IsIsolated c S state other (event ∷ events) (strike c S state (event ∷ events))

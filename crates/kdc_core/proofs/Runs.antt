@@ -7,6 +7,15 @@ use Rattle.kdc_state.specs.declared.state.State.{State}
 use Rattle.kdc_core.specs.Run.{after_event, event_reply, replies, run}
 use Rattle.kdc_core.specs.declared.run.Event.{Event}
 
+-- a run of events and then of others
+pub run_append : (state : State) (events others : List Event) → run state (events ++ others) ≡ run (run state events) others
+run_append state [] others = refl
+run_append state (e ∷ es) others = run_append (after_event state e) es others
+
+pub replies_append : (state : State) (events others : List Event) → replies state (events ++ others) ≡ replies state events ++ replies (run state events) others
+replies_append state [] others = refl
+replies_append state (e ∷ es) others = ap (λ l. event_reply state e ∷ l) (replies_append (after_event state e) es others)
+
 run_on : (state : State) (events : List Event) (event : Event) → run state (events ++ event ∷ []) ≡ after_event (run state events) event
 run_on state [] event = refl
 run_on state (e ∷ es) event = run_on (after_event state e) es event

@@ -41,17 +41,18 @@ use Rattle.kdc_state.specs.State.{memory_of}
 use Rattle.replay.specs.declared.opening.Opening.TheVariants.{Restart as OpenedAgain}
 use Rattle.kdc_state.specs.declared.state.State.{State}
 use Rattle.principals.specs.Change.{changed, refusal}
+use Rattle.principals.specs.Database.{Principals}
 use Rattle.principals.specs.declared.change.Change.{Change as PrincipalChange}
 use Rattle.principals.specs.declared.change.ChangeFault.{ChangeFault}
 use Rattle.kdc_core.specs.Answer.{answer_in, answer_presented, answer_to, counted, keep, stamped}
 use Rattle.kdc_core.specs.PresentedLaws.{answer_is, client_is, refused_after}
 use Rattle.kdc_core.specs.Request.{Request as Read, request_of}
-use Rattle.kdc_core.specs.Run.{after_event, unless_refused}
+use Rattle.kdc_core.specs.Run.{after_event, replaced, unless_refused}
 use Rattle.kdc_core.specs.Struck.{is_client}
 use Rattle.kdc_core.specs.Tickets.{OneTicket, RestartsFollow, RestartsFrom, presented_by, presented_in, ticket_by, ticket_to}
 use Rattle.kdc_core.specs.View.{as_view, client_in, components_of, named_by, presented_view, tgs_view, ticket_view, view_in, view_of}
 use Rattle.kdc_core.specs.declared.run.Event.{Event}
-use Rattle.kdc_core.specs.declared.run.Event.TheVariants.{Request, Change, Restart}
+use Rattle.kdc_core.specs.declared.run.Event.TheVariants.{Request, Change, Replace, Restart, Reopen}
 
 -- ---- what a memory gives: the reply that is made, or the one that was kept
 
@@ -221,7 +222,9 @@ module _ (c : Components) where
   abbrev happens : State → Event → Option (Happening Kept)
   happens state (Request at words room request) = happens_request state at words room request (request_of request)
   happens state (Change change) = None
+  happens state (Replace database) = None
   happens state (Restart at) = Some (Restarted at.sec)
+  happens state (Reopen database limits at) = Some (Restarted at.sec)
 
   -- ---- the memory moves as they say
 
@@ -276,10 +279,19 @@ module _ (c : Components) where
   unless_memory state change (Some fault) = refl
   unless_memory state change None = refl
 
+  replaced_memory : (state : State) (database : Principals) (b : Bool) → memory_of (if b then record state { database = database } else state) c ≡ memory_of state c
+  replaced_memory state database true = refl
+  replaced_memory state database false = refl
+
+  opened_again : (at : Moment) → unwrap_or (map.get (map.empty {R = name_cmp}) c) (opened_memory {T = Kept} (OpenedAgain at)) ≡ opened_memory (OpenedAgain at)
+  opened_again at = ap (λ o. unwrap_or o (opened_memory (OpenedAgain at))) (get-empty name_cmp c)
+
   moves : (state : State) (event : Event) → memory_of (after_event state event) c ≡ next_if state.limits.remembered (memory_of state c) (happens state event)
   moves state (Request at words room request) = moves_request state at words room request (request_of request)
   moves state (Change change) = unless_memory state change (refusal state.database change)
-  moves state (Restart at) = ap (λ o. unwrap_or o (opened_memory (OpenedAgain at))) (get-empty name_cmp c)
+  moves state (Replace database) = replaced_memory state database (pointwise nat_eq database.realm state.database.realm)
+  moves state (Restart at) = opened_again at
+  moves state (Reopen database limits at) = opened_again at
 
   -- ---- what is handed out is given
 
@@ -322,7 +334,9 @@ module _ (c : Components) where
   gives : (state : State) (event : Event) → IfSome (ticket_to c state event) (IsGiven give state.limits.remembered (memory_of state c) (happens state event))
   gives state (Request at words room request) = gives_request state at words room request (request_of request)
   gives state (Change change) = tt
+  gives state (Replace database) = tt
   gives state (Restart at) = tt
+  gives state (Reopen database limits at) = tt
 
   -- ---- restarts
 
@@ -392,7 +406,9 @@ module _ (c : Components) where
       from_any now at.sec (happens state (Request at words room request)) _ (at_request state at words room request (request_of request))
       (restarts_from now (after_event state (Request at words room request)) events from)
   restarts_from now state (Change change ∷ events) from = restarts_from now (after_event state (Change change)) events from
+  restarts_from now state (Replace database ∷ events) from = restarts_from now (after_event state (Replace database)) events from
   restarts_from now state (Restart at ∷ events) from = (from.0, restarts_from now (after_event state (Restart at)) events from.1)
+  restarts_from now state (Reopen database limits at ∷ events) from = (from.0, restarts_from now (after_event state (Reopen database limits at)) events from.1)
 
   restarts_follow : (state : State) (events : List Event) → RestartsFollow events → MemoryFollow (collected after_event happens state events)
   restarts_follow state [] follow = tt
@@ -401,7 +417,9 @@ module _ (c : Components) where
       (restarts_from at.sec (after_event state (Request at words room request)) events follow.0)
       (restarts_follow (after_event state (Request at words room request)) events follow.1)
   restarts_follow state (Change change ∷ events) follow = restarts_follow (after_event state (Change change)) events follow
+  restarts_follow state (Replace database ∷ events) follow = restarts_follow (after_event state (Replace database)) events follow
   restarts_follow state (Restart at ∷ events) follow = restarts_follow (after_event state (Restart at)) events follow
+  restarts_follow state (Reopen database limits at ∷ events) follow = restarts_follow (after_event state (Reopen database limits at)) events follow
 
   keeps : Keeps give (λ (state : State). state.limits.remembered) after_event (λ state. memory_of state c) happens (ticket_to c)
   keeps = record { moves = moves; gives = gives }

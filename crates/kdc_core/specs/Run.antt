@@ -1,21 +1,28 @@
 -- Runs of a key distribution centre: the replies, and the state afterwards, event by event.
-use Rattle.std.proofs.Common.{◌≡◌, ℕ, List, [], ◌∷◌, Option, Some, None, refl, ap}
+use Rattle.std.proofs.Common.{◌≡◌, ℕ, List, [], ◌∷◌, Option, Some, None, if◌then◌else◌, refl, ap}
+use Rattle.std.specs.Prelude.{nat_eq}
+use Rattle.std.specs.Cmp.Lexicographic.{pointwise}
 use Rattle.krb_fields.specs.declared.moment.Moment.{Moment}
+use Rattle.principal_rows.specs.declared.limits.Limits.{Limits}
 use Rattle.principals.specs.Change.{refusal, changed}
+use Rattle.principals.specs.Database.{Principals}
 use Rattle.principals.specs.declared.change.Change.{Change as PrincipalChange}
 use Rattle.principals.specs.declared.change.ChangeFault.{ChangeFault}
-use Rattle.kdc_state.specs.State.{restarted}
+use Rattle.replay.specs.declared.opening.Opening.TheVariants.{Restart as OpenedAgain}
+use Rattle.kdc_state.specs.State.{opened, restarted}
 use Rattle.kdc_state.specs.declared.state.State.{State}
 use Rattle.kdc_core.specs.Answer.{answer, next}
 use Rattle.kdc_core.specs.View.{view}
 use Rattle.kdc_core.specs.declared.run.Event.{Event}
-use Rattle.kdc_core.specs.declared.run.Event.TheVariants.{Request, Change, Restart}
+use Rattle.kdc_core.specs.declared.run.Event.TheVariants.{Request, Change, Replace, Restart, Reopen}
 
--- a change gets no reply, nor does a restart
+-- a request alone gets a reply
 abbrev pub event_reply : State → Event → Option (List ℕ)
 event_reply state (Request at words room request) = (answer (view state request) at words room request).reply
 event_reply state (Change change) = None
+event_reply state (Replace database) = None
 event_reply state (Restart at) = None
+event_reply state (Reopen database limits at) = None
 
 abbrev pub unless_refused : Option ChangeFault → State → State → State
 unless_refused (Some fault) old new = old
@@ -25,10 +32,16 @@ unless_refused None old new = new
 abbrev pub after_change : State → PrincipalChange → State
 after_change state change = unless_refused (refusal state.database change) state (record state { database = changed state.database change })
 
+-- another database of the same realm takes the place of the state's; one of another realm changes nothing
+abbrev pub replaced : State → Principals → State
+replaced state database = if pointwise nat_eq database.realm state.database.realm then record state { database = database } else state
+
 abbrev pub after_event : State → Event → State
 after_event state (Request at words room request) = next state at words room request
 after_event state (Change change) = after_change state change
+after_event state (Replace database) = replaced state database
 after_event state (Restart at) = restarted state at
+after_event state (Reopen database limits at) = opened database limits (OpenedAgain at)
 
 -- the reply to each event, in order
 abbrev pub replies : State → List Event → List (Option (List ℕ))
@@ -40,7 +53,7 @@ abbrev pub run : State → List Event → State
 run state [] = state
 run state (event ∷ events) = run (after_event state event) events
 
--- a request alone, a change alone, and a restart alone
+-- each kind of event alone
 pub request_alone : (state : State) (at : Moment) (words : List ℕ) (room : ℕ) (request : List ℕ)
     → (replies state (Request at words room request ∷ []) ≡ (answer (view state request) at words room request).reply ∷ []) × (run state (Request at words room request ∷ []) ≡ next state at words room request)
 request_alone state at words room request = (refl, refl)
@@ -50,3 +63,10 @@ change_alone state change fits = ap (λ o. unless_refused o state (record state 
 
 pub restart_alone : (state : State) (at : Moment) → run state (Restart at ∷ []) ≡ restarted state at
 restart_alone state at = refl
+
+pub reopen_alone : (state : State) (database : Principals) (limits : Limits) (at : Moment) → run state (Reopen database limits at ∷ []) ≡ opened database limits (OpenedAgain at)
+reopen_alone state database limits at = refl
+
+-- a restart opens again with what there is
+pub restart_reopens : (state : State) (at : Moment) → restarted state at ≡ opened state.database state.limits (OpenedAgain at)
+restart_reopens state at = refl

@@ -12,7 +12,7 @@ use Rattle.kdc_state.specs.declared.state.State.{State}
 use Rattle.kdc_core.specs.Run.{after_event, event_reply, replies, run}
 use Rattle.kdc_core.specs.View.{named}
 use Rattle.kdc_core.specs.declared.run.Event.{Event}
-use Rattle.kdc_core.specs.declared.run.Event.TheVariants.{Request, Change, Restart}
+use Rattle.kdc_core.specs.declared.run.Event.TheVariants.{Request, Change, Replace, Restart, Reopen}
 
 -- a set of names, as a test
 abbrev pub Names : Type 0
@@ -34,20 +34,26 @@ is_client c None = false
 abbrev pub is_request : State → Event → Bool
 is_request state (Request at words room request) = true
 is_request state (Change change) = false
+is_request state (Replace database) = false
 is_request state (Restart at) = false
+is_request state (Reopen database limits at) = false
 
 -- a request whose named client is c
 abbrev pub is_request_of : Components → State → Event → Bool
 is_request_of c state (Request at words room request) = is_client c (named state request).client
 is_request_of c state (Change change) = false
+is_request_of c state (Replace database) = false
 is_request_of c state (Restart at) = false
+is_request_of c state (Reopen database limits at) = false
 
 -- whether an event is left for the client c, where the rows of S count: a request of c, a change of c's row or of one of
--- S, and a restart
+-- S, and each replacement and restart
 abbrev pub is_left : Components → Names → State → Event → Bool
 is_left c S state (Request at words room request) = is_client c (named state request).client
 is_left c S state (Change change) = eq_by_cmp name_cmp c (principal_of change) || S (principal_of change)
+is_left c S state (Replace database) = true
 is_left c S state (Restart at) = true
+is_left c S state (Reopen database limits at) = true
 
 -- the events that are left, each judged at its place in the run
 abbrev pub strike : Components → Names → State → List Event → List Event
@@ -61,13 +67,17 @@ replies_to test state [] = []
 replies_to test state (event ∷ events) =
     if test state event then event_reply state event ∷ replies_to test (after_event state event) events else replies_to test (after_event state event) events
 
--- the service that an event names, where it is a request of c, is in S
+-- the service that an event names, where it is a request of c, is in S, and so is the ticket-granting service of a realm that
+-- is opened
 abbrev pub NamesWithin : Components → Names → State → Event → Type 0
 NamesWithin c S state (Request at words room request) = IsTrue (is_client c (named state request).client) → IfSome (named state request).service (λ service. IsTrue (S service))
 NamesWithin c S state (Change change) = ⊤
+NamesWithin c S state (Replace database) = ⊤
 NamesWithin c S state (Restart at) = ⊤
+NamesWithin c S state (Reopen database limits at) = IsTrue (S (ticket_granter database.realm))
 
--- each service that a request of c names at its place in the run is in S
+-- each service that a request of c names at its place in the run is in S, and the ticket-granting service of each realm that
+-- is opened
 abbrev pub ServicesWithin : Components → Names → State → List Event → Type 0
 ServicesWithin c S state [] = ⊤
 ServicesWithin c S state (event ∷ events) = NamesWithin c S state event × ServicesWithin c S (after_event state event) events

@@ -16,21 +16,25 @@ use Rattle.kdc_core.specs.Run.{after_event, event_reply}
 use Rattle.kdc_core.specs.Struck.{is_client}
 use Rattle.kdc_core.specs.View.{named, ticket_view}
 use Rattle.kdc_core.specs.declared.run.Event.{Event}
-use Rattle.kdc_core.specs.declared.run.Event.TheVariants.{Request, Change, Restart}
+use Rattle.kdc_core.specs.declared.run.Event.TheVariants.{Request, Change, Replace, Restart, Reopen}
 
 -- no restart is before this second
 abbrev pub RestartsFrom : ℤ → List Event → Type 0
 RestartsFrom now [] = ⊤
 RestartsFrom now (Request at words room request ∷ events) = RestartsFrom now events
 RestartsFrom now (Change change ∷ events) = RestartsFrom now events
+RestartsFrom now (Replace database ∷ events) = RestartsFrom now events
 RestartsFrom now (Restart at ∷ events) = (now ≤ℤ at.sec) × RestartsFrom now events
+RestartsFrom now (Reopen database limits at ∷ events) = (now ≤ℤ at.sec) × RestartsFrom now events
 
 -- no restart is before the second of a request that came earlier
 abbrev pub RestartsFollow : List Event → Type 0
 RestartsFollow [] = ⊤
 RestartsFollow (Request at words room request ∷ events) = RestartsFrom at.sec events × RestartsFollow events
 RestartsFollow (Change change ∷ events) = RestartsFollow events
+RestartsFollow (Replace database ∷ events) = RestartsFollow events
 RestartsFollow (Restart at ∷ events) = RestartsFollow events
+RestartsFollow (Reopen database limits at ∷ events) = RestartsFollow events
 
 -- what a TGS-REQ presents, where ticket and authenticator are opened
 abbrev pub presented_in : State → Exchange → Received → Option Presented
@@ -47,12 +51,17 @@ ticket_by (Some p) (Some octets) = if bears_ticket octets then Some (stamp_of p,
 ticket_by (Some p) None = None
 ticket_by None reply = None
 
+-- the ticket that a reply brings to the client c for an authenticator
+abbrev pub ticket_for : Components → State → Event → Option (List ℕ) → Option (Stamp × List ℕ)
+ticket_for c state (Request at words room request) reply = if is_client c (named state request).client then ticket_by (presented_by state (request_of request)) reply else None
+ticket_for c state (Change change) reply = None
+ticket_for c state (Replace database) reply = None
+ticket_for c state (Restart at) reply = None
+ticket_for c state (Reopen database limits at) reply = None
+
 -- the ticket that a request of the client c gets by an authenticator
 abbrev pub ticket_to : Components → State → Event → Option (Stamp × List ℕ)
-ticket_to c state (Request at words room request) =
-    if is_client c (named state request).client then ticket_by (presented_by state (request_of request)) (event_reply state (Request at words room request)) else None
-ticket_to c state (Change change) = None
-ticket_to c state (Restart at) = None
+ticket_to c state event = ticket_for c state event (event_reply state event)
 
 -- those of a whole run, in order
 abbrev pub tickets_to : Components → State → List Event → List (Stamp × List ℕ)

@@ -1,12 +1,16 @@
 //! The key distribution centre.
-ghost use Rattle.std.specs.Prelude.{◌≡◌, ◌≢◌, ◌≤◌, ◌↔◌, ℕ, List, length, Some, IfOk, IfSome, IfNone, OnOk, OnErr, IsOkUnless, option_map};
+ghost use Rattle.std.specs.Prelude.{◌≡◌, ◌≢◌, ◌≤◌, ◌↔◌, ℕ, List, length, Some, IfOk, IfSome, IfNone, IsOk, OnOk, OnErr, IsOkUnless, option_map};
 ghost use Rattle.std.specs.FinMap as map;
 ghost use Rattle.std.specs.Option.{option_copied};
 ghost use Rattle.krb_fields.specs.Name.{Components};
 ghost use Rattle.kdc_core.specs.Answer.{answer, next, error_octets, IsReply, OneTicketTwoKeys};
 ghost use Rattle.kdc_core.specs.Request.{Request, request_of};
 ghost use Rattle.kdc_core.specs.RequestLaws.{SpellsRequest};
+ghost use Rattle.kdc_core.specs.Run.{after_event, replaced};
 ghost use Rattle.kdc_core.specs.View.{Agrees, named, view};
+ghost use Rattle.kdc_core.specs.declared.run.Event.TheVariants.{Reopen};
+ghost use Rattle.krb_fields.specs.declared.moment.Moment as moments;
+ghost use Rattle.replay.specs.declared.opening.Opening.TheVariants.{Restart};
 ghost use Rattle.kdc_state.specs.State.{opened, memory_of, restarted};
 ghost use Rattle.replay.specs.Memory as memories;
 ghost use Rattle.kdc_state.specs.declared.state.State as states;
@@ -19,7 +23,21 @@ use krb_fields::{Code, Moment, Name};
 use principal_rows::{Limits, Row};
 use principals::{Change, ChangeFault, Database};
 use std::alloc::{AllocError, Global};
+use std::error::Error;
+use std::fmt;
 use std::marker::Model;
+
+/// A database of another realm can't take the place of this one's.
+#[derive(Clone, Copy, Debug, PartialEq, Eq)]
+pub struct OtherRealm;
+
+impl fmt::Display for OtherRealm {
+    fn fmt<W: fmt::Write>(&self, f: &mut fmt::Formatter<W>) -> fmt::Result {
+        f.write_str("a database of another realm")
+    }
+}
+
+impl Error for OtherRealm {}
 
 /// A key distribution centre: a state that requests and changes go through.
 #[derive(Debug, Drop)]
@@ -46,7 +64,9 @@ impl Kdc {
         limits: Limits,
         opening: Opening,
     ) -> Result<Kdc, AllocError>
-        ensures { IfOk result (λ kdc. kdc ≡ opened database limits opening) }
+        ensures opened { IfOk result (λ kdc. kdc ≡ opened database limits opening) }
+        // After a restart it stands as a run does that goes on by it, whatever there was before.
+        ensures reopened { (state : states.State) (at : moments.Moment) → opening ≡ Restart at → IfOk result (λ kdc. kdc ≡ after_event state (Reopen database limits at)) }
     {
         Ok(Kdc {
             state: State::open(alloc, database, limits, opening),
@@ -101,6 +121,21 @@ impl Kdc {
         ensures err { OnErr result (self.new ≡ self.old) }
     {
         self.state.database.apply(alloc, change)
+    }
+
+    /// Puts another database of the same realm in the place of this one; all else stays. One of another realm changes
+    /// nothing. It takes no memory.
+    pub fn replace(&mut self, database: Database) -> Result<(), OtherRealm>
+        ensures realm { IsOk result ↔ (database.realm ≡ self.old.database.realm) }
+        ensures ok { OnOk result (self.new ≡ record self.old { database = database }) }
+        ensures err { OnErr result (self.new ≡ self.old) }
+        ensures state { self.new ≡ replaced self.old database }
+    {
+        if database.realm() != self.state.database.realm() {
+            return Err(OtherRealm);
+        }
+        self.state.database = database;
+        Ok(())
     }
 
     /// Forgets what was remembered, as a process does that ends and starts again: no authenticator that was accepted at a

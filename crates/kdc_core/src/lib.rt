@@ -4,10 +4,12 @@
 mod answering;
 mod as_replies;
 mod kdc;
+mod laws;
 mod mark;
 mod run;
 mod tgs_replies;
 
-pub use kdc::Kdc;
+pub use kdc::{Kdc, OtherRealm};
 pub use kdc_state::Opening;
+pub use laws::any_run;
 pub use run::{Event, RunFault};

@@ -1,14 +1,18 @@
 //! Runs of a key distribution centre: events in their order.
 ghost use Rattle.std.specs.Prelude.{◌≡◌, ◌<◌, ◌++◌, ◌∷◌, [], length, map, take, IfOk, IfErr, IfSome, IsOk, OnOk, OnErr, option_map};
 ghost use Rattle.kdc_core.specs.Run.{after_change, after_event, event_reply, replies, run};
+ghost use Rattle.kdc_state.specs.State.{opened};
+ghost use Rattle.replay.specs.declared.opening.Opening.TheVariants.{Restart};
 ghost use Rattle.kdc_core.specs.Struck.{Isolation};
 ghost use Rattle.kdc_core.specs.Tickets.{OneTicket};
 ghost use Rattle.principals.specs.Change.{refusal};
 
 use crate::kdc::Kdc;
+use kdc_state::Opening;
 use krb_elements::Octets;
 use krb_fields::Moment;
-use principals::{Change, ChangeFault};
+use principal_rows::Limits;
+use principals::{Change, ChangeFault, Database};
 use std::alloc::{AllocError, Global};
 use std::error::Error;
 use std::fmt;
@@ -28,8 +32,18 @@ pub enum Event {
     Change {
         change: Change,
     },
+    /// Another database of the same realm takes the place of this one. One of another realm changes nothing.
+    Replace {
+        database: Database,
+    },
     /// What was remembered is lost, and the KDC starts again at this moment.
     Restart {
+        at: Moment,
+    },
+    /// What was remembered is lost, and the KDC starts again at this moment with this database and these limits.
+    Reopen {
+        database: Database,
+        limits: Limits,
         at: Moment,
     },
 }
@@ -52,8 +66,8 @@ impl fmt::Display for RunFault {
 impl Error for RunFault {}
 
 impl Kdc {
-    /// Handles the requests, makes the changes and restarts, in their order. It gives the reply, or none, of each event: a
-    /// change and a restart have none, and a change that is refused leaves everything as it was.
+    /// Handles the requests, and makes the changes, replacements and restarts, in their order. It gives the reply, or none,
+    /// of each event: a request alone has one, and a change that is refused leaves everything as it was.
     ///
     /// Want of memory alone ends a run early. It can go on at the first event that is not done.
     pub fn run(&mut self, alloc: Global, events: &[Event]) -> Result<Vec<Option<Vec<u8>>>, RunFault>
@@ -67,7 +81,7 @@ impl Kdc {
         ensures done_state { IfErr result (λ fault. self.new ≡ run self.old (take fault.done events.now)) }
         // What others ask, and what is changed of others, never changes what a client gets.
         ensures isolation { Isolation self.old events.now }
-        // No authenticator buys two different tickets, through restarts too.
+        // No authenticator buys two different tickets, through replacements and restarts too.
         ensures one_ticket { OneTicket self.old events.now }
         // Both hold of the events that are done, too.
         ensures done_isolation { IfErr result (λ fault. Isolation self.old (take fault.done events.now)) }
@@ -119,11 +133,39 @@ impl Kdc {
                 self.change(alloc, change)?;
                 Ok(None)
             }
+            Event::Replace { database } => {
+                let _ = self.replace(database.copy(alloc)?);
+                Ok(None)
+            }
             Event::Restart { at } => {
                 self.restart(*at);
                 Ok(None)
             }
+            Event::Reopen {
+                database,
+                limits,
+                at,
+            } => {
+                self.reopen(alloc, database, *limits, *at)?;
+                Ok(None)
+            }
         }
+    }
+
+    /// Opens again with a copy of this database.
+    fn reopen(
+        &mut self,
+        alloc: Global,
+        database: &Database,
+        limits: Limits,
+        at: Moment,
+    ) -> Result<(), AllocError>
+        ensures state { OnOk result (self.new ≡ opened database.now limits (Restart at)) }
+        ensures err { OnErr result (self.new ≡ self.old) }
+    {
+        let database = database.copy(alloc)?;
+        *self = Kdc::open(alloc, database, limits, Opening::Restart(at))?;
+        Ok(())
     }
 
     /// Makes a change, or leaves everything as it was where the change is refused.

@@ -6,3 +6,4 @@ pub mod Cuts
 pub mod Working
 pub mod Rounds
 pub mod Runs
+pub mod Histories

@@ -10,7 +10,7 @@ use Rattle.krb_fields.specs.declared.moment.Moment.{Moment}
 use Rattle.kdc_hub.specs.declared.event.Action.{Action}
 use Rattle.kdc_hub.specs.declared.event.Action.TheVariants.{Write, Close}
 use Rattle.kdc_hub.specs.Issuing.{Issuing, after, reply_of, too_long}
-use Rattle.kdc_hub.specs.StreamStep.{StreamStep, after_some, reply_then, drawn, messages_step, stream_step, stream_room, action_for}
+use Rattle.kdc_hub.specs.StreamStep.{StreamStep, after_reply, after_some, reply_then, drawn, messages_step, stream_step, stream_room, action_for}
 
 abbrev pub before : List Action → StreamStep → StreamStep
 before actions s = record s { actions = actions ++ s.actions }
@@ -44,9 +44,16 @@ without_reply : (conn : ℕ) (actions : List Action) (r : Option (List ℕ)) (i 
 without_reply conn actions (Some reply) i others e = absurd cc
 without_reply conn actions None i others e = refl
 
-after_one : (j : ℕ) (i : Issuing) (at : Moment) (c d : Cutting) (m : List ℕ) → c ≡ message_then m d → after_some (suc j) i at c.messages ≡ after_some j (after i at stream_room m) at d.messages
+others_after : (r : Option (List ℕ)) (i others : Issuing) → true ≡ is_some r → after_reply r i others ≡ others
+others_after (Some reply) i others e = refl
+others_after None i others e = absurd cc
+
+after_one : (j : ℕ) (i : Issuing) (at : Moment) (c d : Cutting) (m : List ℕ) → c ≡ message_then m d → true ≡ is_some (reply_of i at stream_room m)
+    → after_some (suc j) i at c.messages ≡ after_some j (after i at stream_room m) at d.messages
 unfolding after_some
-after_one j i at c d m e = ap (λ (x : Cutting). after_some (suc j) i at x.messages) e
+after_one j i at c d m e reply =
+    ap (λ (x : Cutting). after_some (suc j) i at x.messages) e
+    ∙ others_after (reply_of i at stream_room m) (after i at stream_room m) (after_some j (after i at stream_room m) at d.messages) reply
 
 drawn_one : (j : ℕ) (i : Issuing) (at : Moment) (m : List ℕ) → drawn (suc j) i.random ≡ drawn j (after i at stream_room m).random
 unfolding drawn after
@@ -64,7 +71,7 @@ module _ (at : Moment) (conn : ℕ) (i₀ : Issuing) (s₀ : Splitting) where
       rw (more, next) record {
         all = w.all ∙ ap (before actions) (step_one i at conn (handed_out s) (handed_out t) m first) ∙ with_reply conn actions (reply_of i at stream_room m) (after i at stream_room m) (stream_step (after i at stream_room m) at conn t) reply;
         same_left = same ∙ w.same_left;
-        some = λ j. ap (λ n. after_some n i₀ at (handed_out s₀).messages) (one_longer actions (action_for conn (reply_of i at stream_room m)) j) ∙ w.some (suc j) ∙ after_one j i at (handed_out s) (handed_out t) m first;
+        some = λ j. ap (λ n. after_some n i₀ at (handed_out s₀).messages) (one_longer actions (action_for conn (reply_of i at stream_room m)) j) ∙ w.some (suc j) ∙ after_one j i at (handed_out s) (handed_out t) m first reply;
         random = λ j. ap (λ n. drawn n i₀.random) (one_longer actions (action_for conn (reply_of i at stream_room m)) j) ∙ w.random (suc j) ∙ drawn_one j i at m;
       }
 

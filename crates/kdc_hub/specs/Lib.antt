@@ -7,3 +7,4 @@ pub mod Cutting
 pub mod Wire
 pub mod Rounds
 pub mod Acts
+pub mod History

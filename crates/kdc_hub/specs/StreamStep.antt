@@ -43,11 +43,16 @@ action_for conn None = Close conn
 abbrev pub stream_step : Issuing → Moment → ℕ → Splitting → StreamStep
 stream_step i at conn s = messages_step i at conn (handed_out s).fault (handed_out s).messages
 
--- what issues after so many of the requests
+-- what issues after so many of the requests, up to the first that gets no reply
+abbrev pub after_reply : Option (List ℕ) → Issuing → Issuing → Issuing
+after_reply (Some reply) i others = others
+after_reply None i others = i
+
 unfoldable pub after_some : ℕ → Issuing → Moment → List (List ℕ) → Issuing
 after_some zero i at requests = i
 after_some (suc n) i at [] = i
-after_some (suc n) i at (request ∷ requests) = after_some n (after i at stream_room request) at requests
+after_some (suc n) i at (request ∷ requests) =
+    after_reply (reply_of i at stream_room request) (after i at stream_room request) (after_some n (after i at stream_room request) at requests)
 
 -- the generator after so many draws of 64 octets
 unfoldable pub drawn : ℕ → Stream → Stream

@@ -1,6 +1,12 @@
 //! One key distribution centre behind many peers and connections.
-ghost use Rattle.std.specs.Prelude.{◌≡◌, ℕ, List, ◌∷◌, [], Some, IfOk, IfErr, IsOk};
+ghost use Rattle.std.specs.Prelude.{◌≡◌, ◌↔◌, ℕ, List, ◌∷◌, [], Some, IfOk, IfErr, IsOk, OnErr};
 ghost use Rattle.std.specs.FinMap as map;
+ghost use Rattle.kdc_hub.specs.History.{Reopened, Replaced, after_turn};
+ghost use Rattle.kdc_state.specs.State.{opened};
+ghost use Rattle.krb_fields.specs.declared.moment.Moment as moments;
+ghost use Rattle.principal_rows.specs.declared.limits.Limits.{Limits};
+ghost use Rattle.principals.specs.Database.{Principals};
+ghost use Rattle.replay.specs.declared.opening.Opening.TheVariants.{Restart};
 ghost use Rattle.kdc_hub.specs.Hub.{AreDraws, Standing, Steps, standing};
 ghost use Rattle.kdc_hub.specs.Logged.{Entry, LogsNext, logged};
 ghost use Rattle.kdc_hub.specs.declared.event.Action.TheVariants.{Close};
@@ -11,8 +17,9 @@ use crate::event::{Action, Event, HubFault};
 use crate::issuer::Issuer;
 use crate::stream::answer_stream;
 use framing::Splitter;
-use kdc_core::Kdc;
+use kdc_core::{Kdc, OtherRealm};
 use krb_fields::Moment;
+use principals::Database;
 use rand_core::Rng;
 use std::alloc::Global;
 use std::net::SocketAddr;
@@ -39,11 +46,24 @@ impl<R: Rng> Hub<R> {
         ensures kdc { (standing R.stream result).issuing.kdc ≡ kdc }
         ensures random { (standing R.stream result).issuing.random ≡ R.stream rng }
         ensures connections { (standing R.stream result).connections ≡ map.empty }
+        // Over a centre that opens again it is the hub of a process that begins, whatever there was before.
+        ensures reopened { (before : Standing) (database : Principals) (limits : Limits) (at : moments.Moment) → kdc ≡ opened database limits (Restart at)
+            → standing R.stream result ≡ after_turn before (Reopened database limits at (R.stream rng)) }
     {
         Hub {
             issuer: Issuer { kdc, rng },
             connections: Connections::new(alloc),
         }
+    }
+
+    /// Puts another database of the same realm in the place of the one that is served; all else stays. One of another
+    /// realm changes nothing. It takes no memory.
+    pub fn replace(&mut self, database: Database) -> Result<(), OtherRealm>
+        ensures realm { IsOk result ↔ (database.realm ≡ (standing R.stream self.old).issuing.kdc.database.realm) }
+        ensures turn { standing R.stream self.new ≡ after_turn (standing R.stream self.old) (Replaced database) }
+        ensures err { OnErr result (standing R.stream self.new ≡ standing R.stream self.old) }
+    {
+        self.issuer.kdc.replace(database)
     }
 
     /// What an event asks for: the actions, in order. A connection is served until a request gets no reply, or a length is

@@ -1,5 +1,9 @@
-//! What holds of every run of a hub: a law over the log that `Hub::step` meets.
+//! What holds of every run of a hub: laws over the log that `Hub::step` meets.
+ghost use Rattle.std.specs.Prelude.{◌≡◌, ◌++◌, List, map};
 ghost use Rattle.kdc_hub.specs.Cutting.{IsSameInTwoPieces, RepliesAreSame};
+ghost use Rattle.kdc_hub.specs.History.{AnswersWhoAsked, IsOneRun, OneTicketSent, OneTicketInLog, ServesAlike, Stepped, Turn, after_turns};
+ghost use Rattle.kdc_hub.specs.Hub.{Standing};
+ghost use Rattle.kdc_hub.specs.Logged.{Entry, logged};
 
 use framing::two_pieces;
 
@@ -13,3 +17,19 @@ pub fn any_cutting()
 {
     two_pieces();
 }
+
+/// All that a server answers is one run of its key distribution centre: over the requests that came whole, on whatever
+/// connections, the databases that were replaced, and the processes that began anew.
+pub fn one_run()
+    ensures run { (start : Standing) (turns : List Turn) → IsOneRun start turns }
+    // A history goes on where it stands, and a log is one.
+    ensures goes_on { (start : Standing) (turns later : List Turn) → after_turns start (turns ++ later) ≡ after_turns (after_turns start turns) later }
+    ensures log { (start : Standing) (entries : List Entry) → after_turns start (map Stepped entries) ≡ (logged start entries).hub }
+    // What others send, over whatever connections and cut however, never changes what a client gets.
+    ensures isolation { ServesAlike }
+    // No authenticator buys two different tickets, through replacements and restarts too; of one process nothing is asked.
+    ensures one_ticket { OneTicketSent }
+    ensures one_ticket_in_log { OneTicketInLog }
+    // The replies go to who asked.
+    ensures who_asked { AnswersWhoAsked }
+{}

@@ -15,7 +15,8 @@ mod wires;
 
 pub use event::{Action, Event, HubFault};
 pub use hub::Hub;
-pub use laws::any_cutting;
+pub use kdc_core::OtherRealm;
+pub use laws::{any_cutting, one_run};
 pub use memory::MemoryWire;
 pub use server::{Served, serve};
 pub use wires::{Did, Wire, WireFault};

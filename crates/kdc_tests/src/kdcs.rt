@@ -588,3 +588,71 @@ fn a_run_goes_on_where_it_stopped(rt: HostRuntime) -> Result<(), Fail> {
     assert!(rt; runs_on(alloc, kdc(alloc)?, events.as_slice(), &wanted)?);
     Ok(())
 }
+
+/// A database of a realm with `u`.
+fn database_with_user(alloc: Global, realm: &[u8]) -> Result<Database, Fail> {
+    let key = Key::from_random(Etype::Aes256CtsHmacSha1_96, &[0; 32]);
+    let mut database = Database::first(alloc, realm, KeyList::new(alloc, &[key])?)?;
+    database.apply(alloc, &addition(alloc)?)?;
+    Ok(database)
+}
+
+/// `u` asks; a database of this realm takes the place of the rows; `u` asks again.
+fn replacements(alloc: Global, realm: &[u8]) -> Result<Vec<Event>, Fail> {
+    let mut events = Vec::new(alloc);
+    let database = database_with_user(alloc, realm)?;
+    events.push(asks(octets(alloc, BASIC)?)?)?;
+    events.push(Event::Replace { database })?;
+    events.push(asks(octets(alloc, BASIC)?)?)?;
+    Ok(events)
+}
+
+/// `u` asks; the KDC opens again with a database that has it; `u` asks again.
+fn reopenings(alloc: Global) -> Result<Vec<Event>, Fail> {
+    let mut events = Vec::new(alloc);
+    let database = database_with_user(alloc, b"A.B")?;
+    let limits = Limits::new(64, 0, 0, 36000, 0).ok_or("limits")?;
+    let at = Moment::new(MIDNIGHT, 0).ok_or("a moment")?;
+    events.push(asks(octets(alloc, BASIC)?)?)?;
+    events.push(Event::Reopen {
+        database,
+        limits,
+        at,
+    })?;
+    events.push(asks(octets(alloc, BASIC)?)?)?;
+    Ok(events)
+}
+
+/// What `u` is answered, where it isn't known at first, and afterwards so.
+fn answered(alloc: Global, then: &[u8]) -> Result<[Option<Vec<u8>>; 3], Fail> {
+    let unknown = octets(alloc, CLIENT_UNKNOWN)?;
+    let then = octets(alloc, then)?;
+    Ok([Some(unknown), None, Some(then)])
+}
+
+#[test]
+fn rows_of_the_same_realm_take_the_place_of_the_others(rt: HostRuntime) -> Result<(), Fail> {
+    let alloc = rt.alloc();
+    let events = replacements(alloc, b"A.B")?;
+    let wanted = answered(alloc, PREAUTH_REQUIRED)?;
+    assert!(rt; runs_on(alloc, kdc(alloc)?, events.as_slice(), &wanted)?);
+    Ok(())
+}
+
+#[test]
+fn rows_of_another_realm_change_nothing(rt: HostRuntime) -> Result<(), Fail> {
+    let alloc = rt.alloc();
+    let events = replacements(alloc, b"A.C")?;
+    let wanted = answered(alloc, CLIENT_UNKNOWN)?;
+    assert!(rt; runs_on(alloc, kdc(alloc)?, events.as_slice(), &wanted)?);
+    Ok(())
+}
+
+#[test]
+fn opens_again_with_other_rows(rt: HostRuntime) -> Result<(), Fail> {
+    let alloc = rt.alloc();
+    let events = reopenings(alloc)?;
+    let wanted = answered(alloc, PREAUTH_REQUIRED)?;
+    assert!(rt; runs_on(alloc, kdc(alloc)?, events.as_slice(), &wanted)?);
+    Ok(())
+}

@@ -1,0 +1,15 @@
+//! What holds of every run, from whatever state: a law over the definitions that `Kdc::run` meets.
+ghost use Rattle.std.specs.Prelude.{List};
+ghost use Rattle.kdc_core.specs.Struck.{Isolation};
+ghost use Rattle.kdc_core.specs.Tickets.{OneTicket};
+ghost use Rattle.kdc_core.specs.declared.run.Event.{Event};
+ghost use Rattle.kdc_state.specs.declared.state.State.{State};
+
+/// It doesn't matter to a client what others ask, and no authenticator buys two different tickets, whatever events come and
+/// whenever.
+pub fn any_run()
+    // What others ask, and what is changed of others, never changes what a client gets.
+    ensures isolation { (state : State) (events : List Event) → Isolation state events }
+    // Where two TGS-REQs of one client have the same authenticator and both get a ticket, they get the same.
+    ensures one_ticket { (state : State) (events : List Event) → OneTicket state events }
+{}

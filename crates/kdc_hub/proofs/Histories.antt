@@ -1,0 +1,381 @@
+-- A history is one run.
+use Rattle.std.proofs.Common.{◌≡◌, ℕ, zero, suc, Bool, true, false, List, [], ◌∷◌, ◌++◌, length, map as map_list, take, Option, Some, None, if◌then◌else◌, refl, sym, ap, subst, ◌∙◌}
+use Rattle.std.specs.Prelude.{ℤ, ⊤, nat_lt}
+use Rattle.std.specs.FinMap as map
+use Rattle.std.specs.List.{AllByRecursion, flat_map}
+use Rattle.std.proofs.lemmas.List.{take-map}
+use Rattle.std.specs.declared.net.SocketAddr.{SocketAddr}
+use Rattle.framing.specs.declared.fault.FrameFault.{FrameFault}
+use Rattle.framing.specs.Splitting.{Splitting, fed, handed_out, left, started}
+use Rattle.krb_fields.specs.declared.moment.Moment.{Moment}
+use Rattle.krb_fields.specs.Name.{Components}
+use Rattle.replay.specs.Run.{OneForEach, with_any}
+use Rattle.kdc_state.specs.declared.state.State.{State}
+use Rattle.kdc_core.proofs.Isolation.{isolation}
+use Rattle.kdc_core.proofs.Tickets.{one_ticket}
+use Rattle.kdc_core.proofs.Runs.{replies_append, run_append}
+use Rattle.kdc_core.specs.Run.{after_event, event_reply, replies, run}
+use Rattle.kdc_core.specs.Struck.{AgreesFor, is_request, is_request_of, replies_to, strike}
+use Rattle.kdc_core.specs.Tickets.{RestartsFollow, RestartsFrom, ticket_to, tickets_to}
+use Rattle.kdc_core.specs.declared.run.Event.{Event as KdcEvent}
+use Rattle.kdc_core.specs.declared.run.Event.TheVariants.{Request, Change, Replace, Restart, Reopen}
+use Rattle.kdc_hub.specs.declared.event.Action.{Action}
+use Rattle.kdc_hub.specs.declared.event.Action.TheVariants.{SendTo, Write, Close}
+use Rattle.kdc_hub.specs.declared.event.Event.{Event}
+use Rattle.kdc_hub.specs.declared.event.Event.TheVariants.{Datagram, Opened, Bytes, Closed}
+use Rattle.kdc_hub.specs.Issuing.{Issuing, after, reply_of, too_long}
+use Rattle.kdc_hub.specs.StreamStep.{StreamStep, action_for, after_reply, after_some, messages_step, reply_then, stream_room, stream_step}
+use Rattle.kdc_hub.specs.Hub.{Standing, Step, brings, datagram_room, greatest_request, hub_step, kept, most_connections, nothing, opened, requests_of as messages_of, sent, stopped}
+use Rattle.kdc_hub.specs.Logged.{Entry, Stop, logged, step_by, step_of}
+use Rattle.kdc_hub.specs.History.{AnswersWhoAsked, Begins, IsOneRun, OneTicketSent, OneTicketInLog, ServesAlike, Turn, Stepped, Replaced, Reopened, after_turn, after_turns, answers, asked, chosen, event_requests, events_in, others_after, piece_requests, replies_by, replies_in, reply_in, requests_by, requests_of, stopped_requests, stream_requests, tickets_among, turn_events, turn_replies}
+
+-- ---- one request
+
+asked_reply : (i : Issuing) (at : Moment) (room : ℕ) (request : List ℕ) → event_reply i.kdc (asked i at room request) ≡ reply_of i at room request
+unfolding reply_of
+asked_reply i at room request = refl
+
+asked_after : (i : Issuing) (at : Moment) (room : ℕ) (request : List ℕ) → after_event i.kdc (asked i at room request) ≡ (after i at room request).kdc
+unfolding after
+asked_after i at room request = refl
+
+-- ---- the replies that actions send
+
+no_reply : (actions : List Action) → replies_by 0 actions ≡ []
+unfolding replies_by
+no_reply actions = refl
+
+sent_reply : (peer : SocketAddr) (reply : Option (List ℕ)) → replies_by 1 (sent peer reply) ≡ reply ∷ []
+unfolding replies_by
+sent_reply peer (Some reply) = refl
+sent_reply peer None = refl
+
+-- the first requests, and the first actions
+first_replies : (n : ℕ) (requests : List KdcEvent) (actions : List Action) → replies_by (length (take n requests)) (take n actions) ≡ take n (replies_by (length requests) actions)
+unfolding replies_by
+first_replies zero requests actions = refl
+first_replies (suc n) [] actions = refl
+first_replies (suc n) (request ∷ requests) [] = ap (λ l. None ∷ l) (first_replies_none n requests)
+  where
+    first_replies_none : (n : ℕ) (requests : List KdcEvent) → replies_by (length (take n requests)) [] ≡ take n (replies_by (length requests) [])
+    first_replies_none zero requests = refl
+    first_replies_none (suc n) [] = refl
+    first_replies_none (suc n) (request ∷ requests) = ap (λ l. None ∷ l) (first_replies_none n requests)
+first_replies (suc n) (request ∷ requests) (action ∷ actions) = ap (λ l. reply_in action ∷ l) (first_replies n requests actions)
+
+first_of_run : (n : ℕ) (state : State) (events : List KdcEvent) → take n (replies state events) ≡ replies state (take n events)
+first_of_run zero state events = refl
+first_of_run (suc n) state [] = refl
+first_of_run (suc n) state (event ∷ events) = ap (λ l. event_reply state event ∷ l) (first_of_run n (after_event state event) events)
+
+-- ---- the messages of a stream
+
+module _ (at : Moment) (conn : ℕ) (fault : Option FrameFault) where
+  record AreStepped (i : Issuing) (requests : List KdcEvent) (r : StreamStep) : Type 0 where
+    pub sent : replies_by (length requests) r.actions ≡ replies i.kdc requests
+    pub kdc : r.issuing.kdc ≡ run i.kdc requests
+    pub begins : Begins (map_list (action_for conn) (replies_by (length requests) r.actions)) r.actions
+
+  none_left : (i : Issuing) (fault : Option FrameFault) → AreStepped i [] (messages_step i at conn fault [])
+  unfolding messages_step replies_by
+  none_left i None = record { sent = refl; kdc = refl; begins = record { others = []; is = refl } }
+  none_left i (Some fault) = record { sent = refl; kdc = refl; begins = record { others = Write conn (too_long i.kdc at) ∷ Close conn ∷ []; is = refl } }
+
+  one_asked : (i : Issuing) (message : List ℕ) (reply : Option (List ℕ)) → reply_of i at stream_room message ≡ reply → (requests : List KdcEvent) (others : StreamStep)
+      → AreStepped (after i at stream_room message) requests others
+      → AreStepped i (asked i at stream_room message ∷ others_after reply requests) (reply_then conn reply (after i at stream_room message) others)
+  unfolding replies_by
+  one_asked i message (Some reply) is requests others rest = record {
+    sent = (λ k. sym (asked_reply i at stream_room message ∙ is) k ∷ (rest.sent ∙ ap (λ s. replies s requests) (sym (asked_after i at stream_room message))) k);
+    kdc = rest.kdc ∙ ap (λ s. run s requests) (sym (asked_after i at stream_room message));
+    begins = record { others = rest.begins.others; is = ap (λ l. Write conn reply ∷ l) rest.begins.is };
+  }
+  one_asked i message None is requests others rest = record {
+    sent = ap (λ r. r ∷ []) (sym (asked_reply i at stream_room message ∙ is));
+    kdc = sym (asked_after i at stream_room message);
+    begins = record { others = []; is = refl };
+  }
+
+  messages_stepped : (i : Issuing) (messages : List (List ℕ)) → AreStepped i (stream_requests i at messages) (messages_step i at conn fault messages)
+  unfolding stream_requests messages_step
+  messages_stepped i [] = none_left i fault
+  messages_stepped i (message ∷ messages) =
+      one_asked i message (reply_of i at stream_room message) refl (stream_requests (after i at stream_room message) at messages) (messages_step (after i at stream_room message) at conn fault messages)
+      (messages_stepped (after i at stream_room message) messages)
+
+-- where memory is wanting
+one_before : (i : Issuing) (at : Moment) (message : List ℕ) (reply : Option (List ℕ)) (n : ℕ) (requests : List KdcEvent) (others : Issuing)
+    → others.kdc ≡ run (after i at stream_room message).kdc (take n requests)
+    → (after_reply reply (after i at stream_room message) others).kdc ≡ run (after_event i.kdc (asked i at stream_room message)) (take n (others_after reply requests))
+one_before i at message (Some reply) n requests others rest = rest ∙ ap (λ s. run s (take n requests)) (sym (asked_after i at stream_room message))
+one_before i at message None zero requests others rest = sym (asked_after i at stream_room message)
+one_before i at message None (suc n) requests others rest = sym (asked_after i at stream_room message)
+
+some_before : (n : ℕ) (i : Issuing) (at : Moment) (messages : List (List ℕ)) → (after_some n i at messages).kdc ≡ run i.kdc (take n (stream_requests i at messages))
+unfolding after_some stream_requests
+some_before zero i at messages = refl
+some_before (suc n) i at [] = refl
+some_before (suc n) i at (message ∷ messages) =
+    one_before i at message (reply_of i at stream_room message) n (stream_requests (after i at stream_room message) at messages) (after_some n (after i at stream_room message) at messages)
+    (some_before n (after i at stream_room message) at messages)
+
+nobody_before : (n : ℕ) (i : Issuing) (at : Moment) → (after_some n i at []).kdc ≡ i.kdc
+unfolding after_some
+nobody_before zero i at = refl
+nobody_before (suc n) i at = refl
+
+-- ---- one entry
+
+record IsStepped (hub : Standing) (requests : List KdcEvent) (actions : List Action) (new : State) : Type 0 where
+  pub sent : replies_by (length requests) actions ≡ replies hub.issuing.kdc requests
+  pub kdc : new ≡ run hub.issuing.kdc requests
+
+module _ (hub : Standing) where
+  abbrev opened_by : ℕ → Bool → Bool → Step
+  opened_by conn there place =
+      if there then nothing hub
+      else if place then record { actions = []; hub = record hub { connections = map.insert hub.connections conn (started greatest_request) } }
+      else record { actions = Close conn ∷ []; hub = hub }
+
+  opened_kdc : (conn : ℕ) (there place : Bool) → (opened_by conn there place).hub.issuing.kdc ≡ hub.issuing.kdc
+  opened_kdc conn true place = refl
+  opened_kdc conn false true = refl
+  opened_kdc conn false false = refl
+
+  kept_kdc : (stays : Bool) (conn : ℕ) (s : Splitting) (i : Issuing) → (kept stays hub conn s i).issuing.kdc ≡ i.kdc
+  kept_kdc true conn s i = refl
+  kept_kdc false conn s i = refl
+
+  module _ (at : Moment) where
+    piece_stepped : (conn : ℕ) (piece : List ℕ) (o : Option Splitting) → IsStepped hub (piece_requests hub.issuing at piece o) (brings hub at conn piece o).actions (brings hub at conn piece o).hub.issuing.kdc
+    piece_stepped conn piece (Some s) =
+        let r = messages_stepped at conn (handed_out (fed s piece)).fault hub.issuing (handed_out (fed s piece)).messages in
+        let step = stream_step hub.issuing at conn (fed s piece) in
+        record { sent = r.sent; kdc = kept_kdc step.stays conn (left (fed s piece)) step.issuing ∙ r.kdc }
+    piece_stepped conn piece None = record { sent = no_reply []; kdc = refl }
+
+    event_stepped : (event : Event) → IsStepped hub (event_requests hub at event) (hub_step hub at event).actions (hub_step hub at event).hub.issuing.kdc
+    event_stepped (Datagram peer request) = record {
+      sent = sent_reply peer (reply_of hub.issuing at datagram_room request) ∙ ap (λ r. r ∷ []) (sym (asked_reply hub.issuing at datagram_room request));
+      kdc = sym (asked_after hub.issuing at datagram_room request);
+    }
+    event_stepped (Opened conn) = record {
+      sent = no_reply _;
+      kdc = opened_kdc conn (map.contains_key hub.connections conn) (nat_lt (map.len hub.connections) most_connections);
+    }
+    event_stepped (Bytes conn piece) = piece_stepped conn piece (map.get hub.connections conn)
+    event_stepped (Closed conn) = record { sent = no_reply _; kdc = refl }
+
+    piece_before : (piece : List ℕ) (o : Option Splitting) (done : ℕ) → (after_some done hub.issuing at (messages_of piece o)).kdc ≡ run hub.issuing.kdc (take done (piece_requests hub.issuing at piece o))
+    piece_before piece (Some s) done = some_before done hub.issuing at (handed_out (fed s piece)).messages
+    piece_before piece None zero = nobody_before 0 hub.issuing at
+    piece_before piece None (suc done) = nobody_before (suc done) hub.issuing at
+
+    stopped_stepped : (event : Event) (done draws : ℕ) → IsStepped hub (stopped_requests hub at event done) (stopped hub at event done draws).actions (stopped hub at event done draws).hub.issuing.kdc
+    stopped_stepped (Datagram peer request) done draws = record { sent = no_reply _; kdc = nobody_before done hub.issuing at }
+    stopped_stepped (Opened conn) done draws = record { sent = no_reply _; kdc = nobody_before done hub.issuing at }
+    stopped_stepped (Bytes conn piece) done draws =
+        let o = map.get hub.connections conn in
+        let requests = piece_requests hub.issuing at piece o in
+        record {
+          sent = first_replies done requests (brings hub at conn piece o).actions
+              ∙ ap (take done) (piece_stepped conn piece o).sent
+              ∙ first_of_run done hub.issuing.kdc requests;
+          kdc = piece_before piece o done;
+        }
+    stopped_stepped (Closed conn) done draws = record { sent = no_reply _; kdc = refl }
+
+    entry_stepped : (stop : Option Stop) (event : Event) → IsStepped hub (requests_by stop hub at event) (step_by stop hub at event).actions (step_by stop hub at event).hub.issuing.kdc
+    entry_stepped None event = event_stepped event
+    entry_stepped (Some stop) event = stopped_stepped event stop.done stop.draws
+
+-- ---- who is answered
+
+sent_begins : (peer : SocketAddr) (reply : Option (List ℕ)) → Begins (flat_map (sent peer) (replies_by 1 (sent peer reply))) (sent peer reply)
+unfolding replies_by
+sent_begins peer (Some reply) = record { others = []; is = refl }
+sent_begins peer None = record { others = []; is = refl }
+
+nothing_begins : (conn : ℕ) (actions : List Action) → Begins (map_list (action_for conn) (replies_by 0 actions)) actions
+unfolding replies_by
+nothing_begins conn actions = record { others = actions; is = refl }
+
+nobody_begins : (peer : SocketAddr) → Begins (flat_map (sent peer) (replies_by 0 [])) []
+unfolding replies_by
+nobody_begins peer = record { others = []; is = refl }
+
+begins_take : {X : Type 0} (n : ℕ) (front others : List X) → Begins (take n front) (take n (front ++ others))
+begins_take zero front others = record { others = []; is = refl }
+begins_take (suc n) [] others = record { others = take (suc n) others; is = refl }
+begins_take (suc n) (x ∷ front) others =
+    let rest = begins_take n front others in
+    record { others = rest.others; is = ap (λ l. x ∷ l) rest.is }
+
+module _ (hub : Standing) (at : Moment) where
+  piece_begins : (conn : ℕ) (piece : List ℕ) (o : Option Splitting)
+      → Begins (map_list (action_for conn) (replies_by (length (piece_requests hub.issuing at piece o)) (brings hub at conn piece o).actions)) (brings hub at conn piece o).actions
+  piece_begins conn piece (Some s) = (messages_stepped at conn (handed_out (fed s piece)).fault hub.issuing (handed_out (fed s piece)).messages).begins
+  piece_begins conn piece None = nothing_begins conn []
+
+  -- of the actions that are done
+  done_begins : (conn : ℕ) (requests : List KdcEvent) (actions : List Action) (done : ℕ) → Begins (map_list (action_for conn) (replies_by (length requests) actions)) actions
+      → Begins (map_list (action_for conn) (replies_by (length (take done requests)) (take done actions))) (take done actions)
+  done_begins conn requests actions done begins =
+      let front = map_list (action_for conn) (replies_by (length requests) actions) in
+      let first = begins_take done front begins.others in
+      record {
+        others = first.others;
+        is = ap (take done) begins.is
+            ∙ first.is
+            ∙ ap (λ l. l ++ first.others) (take-map (action_for conn) done (replies_by (length requests) actions) ∙ ap (map_list (action_for conn)) (sym (first_replies done requests actions)));
+      }
+
+  answers_who_asked : (stop : Option Stop) (event : Event) → Begins (answers event (replies_by (length (requests_by stop hub at event)) (step_by stop hub at event).actions)) (step_by stop hub at event).actions
+  answers_who_asked None (Datagram peer request) = sent_begins peer (reply_of hub.issuing at datagram_room request)
+  answers_who_asked None (Opened conn) = record { others = (opened hub conn).actions; is = refl }
+  answers_who_asked None (Bytes conn piece) = piece_begins conn piece (map.get hub.connections conn)
+  answers_who_asked None (Closed conn) = record { others = []; is = refl }
+  answers_who_asked (Some stop) (Datagram peer request) = nobody_begins peer
+  answers_who_asked (Some stop) (Opened conn) = record { others = []; is = refl }
+  answers_who_asked (Some stop) (Bytes conn piece) =
+      let o = map.get hub.connections conn in
+      done_begins conn (piece_requests hub.issuing at piece o) (brings hub at conn piece o).actions stop.done (piece_begins conn piece o)
+  answers_who_asked (Some stop) (Closed conn) = record { others = []; is = refl }
+
+pub who_asked : AnswersWhoAsked
+who_asked hub entry = answers_who_asked hub entry.at entry.stop entry.event
+
+-- ---- histories
+
+record IsTurned (hub : Standing) (turn : Turn) : Type 0 where
+  pub sent : turn_replies hub turn ≡ replies hub.issuing.kdc (turn_events hub turn)
+  pub kdc : (after_turn hub turn).issuing.kdc ≡ run hub.issuing.kdc (turn_events hub turn)
+
+turned : (hub : Standing) (turn : Turn) → IsTurned hub turn
+turned hub (Stepped entry) =
+    let step = entry_stepped hub entry.at entry.stop entry.event in
+    record { sent = step.sent; kdc = step.kdc }
+turned hub (Replaced database) = record { sent = refl; kdc = refl }
+turned hub (Reopened database limits at random) = record { sent = refl; kdc = refl }
+
+pub one_run : (start : Standing) (turns : List Turn) → IsOneRun start turns
+one_run start [] = record { replies_are = refl; kdc_is = refl }
+one_run start (turn ∷ turns) =
+    let first = turned start turn in
+    let rest = one_run (after_turn start turn) turns in
+    let later = events_in (after_turn start turn) turns in
+    record {
+      replies_are = (λ k. first.sent k ++ (rest.replies_are ∙ ap (λ s. replies s later) first.kdc) k) ∙ sym (replies_append start.issuing.kdc (turn_events start turn) later);
+      kdc_is = rest.kdc_is ∙ ap (λ s. run s later) first.kdc ∙ sym (run_append start.issuing.kdc (turn_events start turn) later);
+    }
+
+pub goes_on : (start : Standing) (turns later : List Turn) → after_turns start (turns ++ later) ≡ after_turns (after_turns start turns) later
+goes_on start [] later = refl
+goes_on start (turn ∷ turns) later = goes_on (after_turn start turn) turns later
+
+pub log_stands : (start : Standing) (entries : List Entry) → after_turns start (map_list Stepped entries) ≡ (logged start entries).hub
+log_stands start [] = refl
+log_stands start (entry ∷ entries) = log_stands (step_of start entry).hub entries
+
+-- ---- isolation and tickets
+
+chosen_of_run : (test : State → KdcEvent → Bool) (state : State) (events : List KdcEvent) → chosen test state events (replies state events) ≡ replies_to test state events
+chosen_of_run test state [] = refl
+chosen_of_run test state (event ∷ events) =
+    ap (λ l. if test state event then event_reply state event ∷ l else l) (chosen_of_run test (after_event state event) events)
+
+pub serves_alike : ServesAlike
+serves_alike start other turns others c S granter within a same =
+    let here = one_run start turns in
+    let there = one_run other others in
+    let k = start.issuing.kdc in
+    let l = other.issuing.kdc in
+    let isolated = isolation k (events_in start turns) c S l granter within a in
+    record {
+      replies = ap (chosen is_request l (events_in other others)) there.replies_are
+          ∙ chosen_of_run is_request l (events_in other others)
+          ∙ ap (replies_to is_request l) same
+          ∙ isolated.own
+          ∙ sym (chosen_of_run (is_request_of c) k (events_in start turns))
+          ∙ ap (chosen (is_request_of c) k (events_in start turns)) (sym here.replies_are);
+      afterwards = subst (λ s. AgreesFor c S s (after_turns other others).issuing.kdc) (sym here.kdc_is)
+          (subst (λ s. AgreesFor c S (run k (events_in start turns)) s) (sym (there.kdc_is ∙ ap (run l) same)) isolated.afterwards);
+    }
+
+tickets_are : (c : Components) (state : State) (events : List KdcEvent) → tickets_among c state events (replies state events) ≡ tickets_to c state events
+tickets_are c state [] = refl
+tickets_are c state (event ∷ events) = ap (with_any (ticket_to c state event)) (tickets_are c (after_event state event) events)
+
+pub one_ticket_sent : OneTicketSent
+one_ticket_sent start turns follow c =
+    let k = start.issuing.kdc in
+    let events = events_in start turns in
+    subst OneForEach (sym (ap (tickets_among c k events) (one_run start turns).replies_are ∙ tickets_are c k events)) (one_ticket k events follow c)
+
+-- ---- one process
+
+abbrev IsRequest : KdcEvent → Type 0
+IsRequest (Request at words room request) = ⊤
+IsRequest (Change change) = ⊥
+IsRequest (Replace database) = ⊥
+IsRequest (Restart at) = ⊥
+IsRequest (Reopen database limits at) = ⊥
+
+abbrev AreRequests : List KdcEvent → Type 0
+AreRequests = AllByRecursion IsRequest
+
+both_requests : (events others : List KdcEvent) → AreRequests events → AreRequests others → AreRequests (events ++ others)
+both_requests [] others a b = b
+both_requests (event ∷ events) others a b = (a.0, both_requests events others a.1 b)
+
+some_requests : (n : ℕ) (events : List KdcEvent) → AreRequests events → AreRequests (take n events)
+some_requests zero events a = tt
+some_requests (suc n) [] a = tt
+some_requests (suc n) (event ∷ events) a = (a.0, some_requests n events a.1)
+
+others_requests : (reply : Option (List ℕ)) (others : List KdcEvent) → AreRequests others → AreRequests (others_after reply others)
+others_requests (Some reply) others a = a
+others_requests None others a = tt
+
+stream_asks : (i : Issuing) (at : Moment) (messages : List (List ℕ)) → AreRequests (stream_requests i at messages)
+unfolding stream_requests
+stream_asks i at [] = tt
+stream_asks i at (message ∷ messages) =
+    (tt, others_requests (reply_of i at stream_room message) (stream_requests (after i at stream_room message) at messages) (stream_asks (after i at stream_room message) at messages))
+
+piece_asks : (i : Issuing) (at : Moment) (piece : List ℕ) (o : Option Splitting) → AreRequests (piece_requests i at piece o)
+piece_asks i at piece (Some s) = stream_asks i at (handed_out (fed s piece)).messages
+piece_asks i at piece None = tt
+
+entry_asks : (hub : Standing) (at : Moment) (stop : Option Stop) (event : Event) → AreRequests (requests_by stop hub at event)
+entry_asks hub at None (Datagram peer request) = (tt, tt)
+entry_asks hub at None (Opened conn) = tt
+entry_asks hub at None (Bytes conn piece) = piece_asks hub.issuing at piece (map.get hub.connections conn)
+entry_asks hub at None (Closed conn) = tt
+entry_asks hub at (Some stop) (Datagram peer request) = tt
+entry_asks hub at (Some stop) (Opened conn) = tt
+entry_asks hub at (Some stop) (Bytes conn piece) = some_requests stop.done _ (piece_asks hub.issuing at piece (map.get hub.connections conn))
+entry_asks hub at (Some stop) (Closed conn) = tt
+
+log_asks : (start : Standing) (entries : List Entry) → AreRequests (events_in start (map_list Stepped entries))
+log_asks start [] = tt
+log_asks start (entry ∷ entries) = both_requests (requests_of start entry) _ (entry_asks start entry.at entry.stop entry.event) (log_asks (step_of start entry).hub entries)
+
+from_any : (now : ℤ) (events : List KdcEvent) → AreRequests events → RestartsFrom now events
+from_any now [] a = tt
+from_any now (Request at words room request ∷ events) a = from_any now events a.1
+from_any now (Change change ∷ events) a = absurd a.0
+from_any now (Replace database ∷ events) a = absurd a.0
+from_any now (Restart at ∷ events) a = absurd a.0
+from_any now (Reopen database limits at ∷ events) a = absurd a.0
+
+follow_any : (events : List KdcEvent) → AreRequests events → RestartsFollow events
+follow_any [] a = tt
+follow_any (Request at words room request ∷ events) a = (from_any at.sec events a.1, follow_any events a.1)
+follow_any (Change change ∷ events) a = absurd a.0
+follow_any (Replace database ∷ events) a = absurd a.0
+follow_any (Restart at ∷ events) a = absurd a.0
+follow_any (Reopen database limits at ∷ events) a = absurd a.0
+
+pub one_ticket_in_log : OneTicketInLog
+one_ticket_in_log start entries c = one_ticket_sent start (map_list Stepped entries) (follow_any _ (log_asks start entries)) c

@@ -1,0 +1,23 @@
+use Rattle.kdc_hub.proofs.Histories as histories
+use Rattle.kdc_hub.proofs.laws.one_run.Goals as goal
+
+pub returns-clause-run : goal.returns-clause-run
+returns-clause-run c = histories.one_run
+
+pub returns-clause-goes_on : goal.returns-clause-goes_on
+returns-clause-goes_on c = histories.goes_on
+
+pub returns-clause-log : goal.returns-clause-log
+returns-clause-log c = histories.log_stands
+
+pub returns-clause-isolation : goal.returns-clause-isolation
+returns-clause-isolation c = histories.serves_alike
+
+pub returns-clause-one_ticket : goal.returns-clause-one_ticket
+returns-clause-one_ticket c = histories.one_ticket_sent
+
+pub returns-clause-one_ticket_in_log : goal.returns-clause-one_ticket_in_log
+returns-clause-one_ticket_in_log c = histories.one_ticket_in_log
+
+pub returns-clause-who_asked : goal.returns-clause-who_asked
+returns-clause-who_asked c = histories.who_asked

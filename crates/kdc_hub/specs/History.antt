@@ -1,0 +1,187 @@
+-- What a server lives through, and what that is in the one run of its key distribution centre.
+use Rattle.std.specs.Prelude.{◌≡◌, ℕ, zero, suc, Bool, List, [], ◌∷◌, ◌++◌, length, map as map_list, take, Option, Some, None, if◌then◌else◌, IsTrue}
+use Rattle.std.specs.FinMap as map
+use Rattle.std.specs.List.{flat_map}
+use Rattle.rand_core.specs.Stream.{Stream, fill_bytes}
+use Rattle.framing.specs.Splitting.{Splitting, fed, handed_out}
+use Rattle.krb_fields.specs.Name.{Components}
+use Rattle.krb_fields.specs.declared.moment.Moment.{Moment}
+use Rattle.principal_rows.specs.declared.limits.Limits.{Limits}
+use Rattle.principals.specs.Database.{Principals, ticket_granter}
+use Rattle.replay.specs.declared.opening.Opening.TheVariants.{Restart}
+use Rattle.replay.specs.Run.{OneForEach, with_any}
+use Rattle.replay.specs.Stamp.{Stamp}
+use Rattle.kdc_state.specs.State.{opened}
+use Rattle.kdc_state.specs.declared.state.State.{State}
+use Rattle.kdc_core.specs.Run.{after_event, replaced, replies, run}
+use Rattle.kdc_core.specs.Struck.{AgreesFor, Names, ServicesWithin, is_request, is_request_of, strike}
+use Rattle.kdc_core.specs.Tickets.{RestartsFollow, ticket_for}
+use Rattle.kdc_core.specs.declared.run.Event.{Event as KdcEvent}
+use Rattle.kdc_core.specs.declared.run.Event.TheVariants.{Request, Replace, Reopen}
+use Rattle.kdc_hub.specs.declared.event.Action.{Action}
+use Rattle.kdc_hub.specs.declared.event.Action.TheVariants.{SendTo, Write, Close}
+use Rattle.kdc_hub.specs.declared.event.Event.{Event}
+use Rattle.kdc_hub.specs.declared.event.Event.TheVariants.{Datagram, Opened, Bytes, Closed}
+use Rattle.kdc_hub.specs.Issuing.{Issuing, after, reply_of}
+use Rattle.kdc_hub.specs.StreamStep.{action_for, stream_room}
+use Rattle.kdc_hub.specs.Hub.{Standing, datagram_room, sent}
+use Rattle.kdc_hub.specs.Logged.{Entry, Stop, step_of}
+
+-- ---- the requests that an event completes
+
+-- a request, with the 64 octets that are drawn for it
+abbrev pub asked : Issuing → Moment → ℕ → List ℕ → KdcEvent
+asked i at room request = Request at (fill_bytes 64 i.random).0 room request
+
+-- after a request without a reply a connection brings no others
+abbrev pub others_after : Option (List ℕ) → List KdcEvent → List KdcEvent
+others_after (Some reply) others = others
+others_after None others = []
+
+unfoldable pub stream_requests : Issuing → Moment → List (List ℕ) → List KdcEvent
+stream_requests i at [] = []
+stream_requests i at (request ∷ requests) =
+    asked i at stream_room request
+    ∷ others_after (reply_of i at stream_room request) (stream_requests (after i at stream_room request) at requests)
+
+abbrev pub piece_requests : Issuing → Moment → List ℕ → Option Splitting → List KdcEvent
+piece_requests i at piece (Some s) = stream_requests i at (handed_out (fed s piece)).messages
+piece_requests i at piece None = []
+
+abbrev pub event_requests : Standing → Moment → Event → List KdcEvent
+event_requests hub at (Datagram peer request) = asked hub.issuing at datagram_room request ∷ []
+event_requests hub at (Opened conn) = []
+event_requests hub at (Bytes conn piece) = piece_requests hub.issuing at piece (map.get hub.connections conn)
+event_requests hub at (Closed conn) = []
+
+-- where memory is wanting, those that were answered before
+abbrev pub stopped_requests : Standing → Moment → Event → ℕ → List KdcEvent
+stopped_requests hub at (Datagram peer request) done = []
+stopped_requests hub at (Opened conn) done = []
+stopped_requests hub at (Bytes conn piece) done = take done (piece_requests hub.issuing at piece (map.get hub.connections conn))
+stopped_requests hub at (Closed conn) done = []
+
+abbrev pub requests_by : Option Stop → Standing → Moment → Event → List KdcEvent
+requests_by None hub at event = event_requests hub at event
+requests_by (Some stop) hub at event = stopped_requests hub at event stop.done
+
+abbrev pub requests_of : Standing → Entry → List KdcEvent
+requests_of hub entry = requests_by entry.stop hub entry.at entry.event
+
+-- ---- the replies that actions send
+
+abbrev pub reply_in : Action → Option (List ℕ)
+reply_in (SendTo peer message) = Some message
+reply_in (Write conn message) = Some message
+reply_in (Close conn) = None
+
+-- the replies to so many requests: each action sends one or none, in order, and a request for which there is no action has none
+unfoldable pub replies_by : ℕ → List Action → List (Option (List ℕ))
+replies_by zero actions = []
+replies_by (suc n) [] = None ∷ replies_by n []
+replies_by (suc n) (action ∷ actions) = reply_in action ∷ replies_by n actions
+
+-- the actions that send replies to who asked
+abbrev pub answers : Event → List (Option (List ℕ)) → List Action
+answers (Datagram peer request) replies = flat_map (sent peer) replies
+answers (Opened conn) replies = []
+answers (Bytes conn piece) replies = map_list (action_for conn) replies
+answers (Closed conn) replies = []
+
+-- ---- histories
+
+-- an event's step; another database; or the end of the process, and the beginning of another, with a generator of its own
+pub data Turn : Type 0 where
+  Stepped : Entry → Turn
+  Replaced : Principals → Turn
+  Reopened : Principals → Limits → Moment → Stream → Turn
+
+-- the hub afterwards
+abbrev pub after_turn : Standing → Turn → Standing
+after_turn hub (Stepped entry) = (step_of hub entry).hub
+after_turn hub (Replaced database) = record hub { issuing = record hub.issuing { kdc = replaced hub.issuing.kdc database } }
+after_turn hub (Reopened database limits at random) = record {
+  issuing = record { kdc = opened database limits (Restart at); random = random };
+  connections = map.empty;
+}
+
+-- what the turn is in the run of the key distribution centre
+abbrev pub turn_events : Standing → Turn → List KdcEvent
+turn_events hub (Stepped entry) = requests_of hub entry
+turn_events hub (Replaced database) = Replace database ∷ []
+turn_events hub (Reopened database limits at random) = Reopen database limits at ∷ []
+
+-- the replies that are sent
+abbrev pub turn_replies : Standing → Turn → List (Option (List ℕ))
+turn_replies hub (Stepped entry) = replies_by (length (requests_of hub entry)) (step_of hub entry).actions
+turn_replies hub (Replaced database) = None ∷ []
+turn_replies hub (Reopened database limits at random) = None ∷ []
+
+abbrev pub after_turns : Standing → List Turn → Standing
+after_turns hub [] = hub
+after_turns hub (turn ∷ turns) = after_turns (after_turn hub turn) turns
+
+abbrev pub events_in : Standing → List Turn → List KdcEvent
+events_in hub [] = []
+events_in hub (turn ∷ turns) = turn_events hub turn ++ events_in (after_turn hub turn) turns
+
+abbrev pub replies_in : Standing → List Turn → List (Option (List ℕ))
+replies_in hub [] = []
+replies_in hub (turn ∷ turns) = turn_replies hub turn ++ replies_in (after_turn hub turn) turns
+
+-- a list is the front of another
+pub record Begins {X : Type 0} (front whole : List X) : Type 0 where
+  pub others : List X
+  pub is : whole ≡ front ++ others
+
+-- The first actions of a step send its replies, in order, each to who asked.
+abbrev pub AnswersWhoAsked : Type 0
+AnswersWhoAsked = (hub : Standing) (entry : Entry) → Begins (answers entry.event (turn_replies hub (Stepped entry))) (step_of hub entry).actions
+
+-- The replies that a hub sends, and its key distribution centre in the end, are those of one run over the requests that came
+-- whole, the replacements and the restarts, in their order.
+pub record IsOneRun (start : Standing) (turns : List Turn) : Type 0 where
+  pub replies_are : replies_in start turns ≡ replies start.issuing.kdc (events_in start turns)
+  pub kdc_is : (after_turns start turns).issuing.kdc ≡ run start.issuing.kdc (events_in start turns)
+
+-- of the replies to a run's events, those to the events that pass a test at their places
+abbrev pub chosen : (State → KdcEvent → Bool) → State → List KdcEvent → List (Option (List ℕ)) → List (Option (List ℕ))
+chosen test state [] replies = []
+chosen test state (event ∷ events) [] = []
+chosen test state (event ∷ events) (reply ∷ replies) =
+    if test state event then reply ∷ chosen test (after_event state event) events replies else chosen test (after_event state event) events replies
+
+-- the replies that are sent to the requests that pass a test
+abbrev pub sent_to : (State → KdcEvent → Bool) → Standing → List Turn → List (Option (List ℕ))
+sent_to test start turns = chosen test start.issuing.kdc (events_in start turns) (replies_in start turns)
+
+pub record AreServedAlike (c : Components) (S : Names) (start other : Standing) (turns others : List Turn) : Type 0 where
+  pub replies : sent_to is_request other others ≡ sent_to (is_request_of c) start turns
+  pub afterwards : AgreesFor c S (after_turns start turns).issuing.kdc (after_turns other others).issuing.kdc
+
+-- What others send, over whatever connections and cut however, never changes what a client gets. In a second history nothing
+-- comes whole but the requests of c, each at its moment and with its draw, whoever brings it and however it is cut; the
+-- replacements and restarts are the same. Then c's requests get the same replies there, in order.
+abbrev pub ServesAlike : Type 0
+ServesAlike = (start other : Standing) (turns others : List Turn) (c : Components) (S : Names)
+    → IsTrue (S (ticket_granter start.issuing.kdc.database.realm)) → ServicesWithin c S start.issuing.kdc (events_in start turns) → AgreesFor c S start.issuing.kdc other.issuing.kdc
+    → events_in other others ≡ strike c S start.issuing.kdc (events_in start turns)
+    → AreServedAlike c S start other turns others
+
+-- the tickets that replies to a run's events bring to the client c, each with the time of the authenticator that bought it
+abbrev pub tickets_among : Components → State → List KdcEvent → List (Option (List ℕ)) → List (Stamp × List ℕ)
+tickets_among c state [] replies = []
+tickets_among c state (event ∷ events) [] = []
+tickets_among c state (event ∷ events) (reply ∷ replies) = with_any (ticket_for c state event reply) (tickets_among c (after_event state event) events replies)
+
+-- those that are sent
+abbrev pub tickets_sent : Components → Standing → List Turn → List (Stamp × List ℕ)
+tickets_sent c start turns = tickets_among c start.issuing.kdc (events_in start turns) (replies_in start turns)
+
+-- No authenticator buys two different tickets, over whatever connections it comes, through replacements and restarts too.
+abbrev pub OneTicketSent : Type 0
+OneTicketSent = (start : Standing) (turns : List Turn) → RestartsFollow (events_in start turns) → (c : Components) → OneForEach (tickets_sent c start turns)
+
+-- While one process serves, nothing is asked of moments.
+abbrev pub OneTicketInLog : Type 0
+OneTicketInLog = (start : Standing) (entries : List Entry) (c : Components) → OneForEach (tickets_sent c start (map_list Stepped entries))
