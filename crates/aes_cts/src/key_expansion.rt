@@ -49,8 +49,11 @@ pub fn expand<const N: usize>(key: &[u8]) -> [u32; 60]
     ensures { take (16 * (nr_of key.now + 1)) (octets result) ≡ key_expansion key.now }
 {
     let mut words = key_words::<N>(key);
+    // The last word is kept apart, so that no word waits for the one before it to be stored.
+    let mut last = words[N - 1];
     for i in N..4 * (N + 7) {
-        words[i] = added(words[i - N], passed_on::<N>(words[i - 1], i));
+        last = added(words[i - N], passed_on::<N>(last, i));
+        words[i] = last;
     }
     words
 }

@@ -14,7 +14,7 @@ use crate::terms::{Admission, Terms};
 use crate::view::AsView;
 use enctypes::KeyUsage;
 use kdc_replies::{Asked, Grant, ReplyKey, session_key, ticket_reply, version_number};
-use krb_elements::{KerberosString, Seq};
+use krb_elements::{KerberosStringRef, Lent, Seq};
 use krb_fields::{Moment, PaData};
 use krb_types::ReqBodyRef;
 use preauth::{Outcome, etype_info2};
@@ -45,7 +45,7 @@ pub fn as_rep(
         nonce: body.nonce,
         now: at.time(),
     };
-    let grant = grant_of(alloc, view, at, words, body, timestamp, admission)?;
+    let grant = grant_of(view, at, words, body, timestamp, admission);
     ticket_reply::<11, 25>(
         alloc,
         &grant,
@@ -57,19 +57,18 @@ pub fn as_rep(
     )
 }
 
-fn grant_of(
-    alloc: Global,
-    view: &AsView<'_>,
+fn grant_of<'g>(
+    view: &AsView<'g>,
     at: Moment,
     words: &[u8; 64],
     body: &ReqBodyRef<'_>,
     timestamp: Outcome,
-    admission: &Admission,
-) -> Result<Grant, AllocError>
+    admission: &'g Admission,
+) -> Grant<'g>
     requires realm { length view.now.realm ≤ 255 }
     requires named { IsNamed view.now.client view.now.service admission.now.terms }
-    ensures value { IfOk result (λ grant. grant ≡ grant_by view.now at words.now body.now timestamp admission.now) }
-    ensures short { IfOk result IsShort }
+    ensures value { result ≡ grant_by view.now at words.now body.now timestamp admission.now }
+    ensures short { IsShort result }
 {
     let Admission { terms, times } = admission;
     let flags = as_flags(
@@ -79,16 +78,16 @@ fn grant_of(
         is_good(timestamp),
         times,
     );
-    Ok(Grant {
-        realm: KerberosString::from_slice(alloc, view.realm)?,
-        client: terms.client_name.copy(alloc)?,
-        service: terms.service.name.copy(alloc)?,
+    Grant {
+        realm: KerberosStringRef::new(view.realm),
+        client: Lent::new(&terms.client_name),
+        service: Lent::new(&terms.service.name),
         session_key: session_key(terms.service.session_type, words),
         flags,
         authtime: at.time(),
         times: *times,
         authorization_data: None,
-    })
+    }
 }
 
 /// The client's key, by its version.

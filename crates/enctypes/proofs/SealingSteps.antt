@@ -1,6 +1,8 @@
 -- What the code computes, step by step, when it seals and when it opens.
 use Rattle.std.proofs.Common.{◌≡◌, ℕ, ◌+◌, ◌-◌, List, [], ◌++◌, take, drop, length, sym, ap, ◌∙◌, arith, length-drop}
+use Rattle.std.specs.List.{copy_within}
 use Rattle.std.proofs.lemmas.List.{take_at}
+use Rattle.std.proofs.lemmas.List.Edits.{paste_all}
 use Rattle.aes_cts.specs.Cts.{cts, cts_inverse}
 use Rattle.enctypes.specs.declared.etype.Etype.{Etype}
 use Rattle.enctypes.specs.Etype.{mac_len}
@@ -54,6 +56,9 @@ recomputed etype key usage cipher front mac empty copied body plain expected n h
       mac_is = hr ∙ ap (λ (k : ℕ). drop (length cipher - k) cipher) hn;
     }
 
--- the plain text without its first 16 octets, as the code leaves it
-pub rotated : (plain : List ℕ) (n : ℕ) → length plain ≡ n + 16 → take n (drop 16 plain ++ take 16 plain) ≡ drop 16 plain
-rotated plain n len = take_at (drop 16 plain) (take 16 plain) n (omega (arith, length-drop 16 plain))
+-- the plain text without its first 16 octets, as the code leaves it: what is behind them is moved to the front
+pub shifted : (plain : List ℕ) (n : ℕ) → length plain ≡ n + 16 → take n (copy_within plain 16 (n + 16) 0) ≡ drop 16 plain
+shifted plain n len =
+    let moved : n + 16 - 16 ≡ length (drop 16 plain) = omega (arith, length-drop 16 plain) in
+    ap (take n) (paste_all plain 0 (drop 16 plain) (n + 16 - 16) moved)
+    ∙ take_at (drop 16 plain) (drop (0 + (n + 16 - 16)) plain) n (omega (arith, length-drop 16 plain))

@@ -8,9 +8,10 @@ ghost use Rattle.enctypes.specs.Sealing.{cut_hmac, zero_vector, macs_cipher, aut
 ghost use Rattle.enctypes.specs.Sealing.{Opens, OpensNothing, OpensAtMostOne, opened, OpensWhatWasSealed};
 
 use crate::aes_key::aes_key;
-use crate::derived_key::{DerivedKey, derived_key};
+use crate::derived_key::DerivedKey;
+use crate::key::LONGEST;
 use crate::octets::are_same;
-use crate::purpose::Purpose;
+use crate::purpose::{Purpose, usage_constant};
 use crate::suite::{Suite, with_suite};
 use crate::{Key, KeyUsage, Mac};
 use aes_cts::AesKey;
@@ -130,7 +131,7 @@ fn open_as<S: Suite>(
     if !are_same(expected.bytes(), mac) {
         return Ok(None);
     }
-    text.rotate_left(CONFOUNDER_LEN);
+    text.copy_within(CONFOUNDER_LEN.., 0);
     text.truncate(enciphered.len() - CONFOUNDER_LEN);
     Ok(Some(text))
 }
@@ -143,8 +144,7 @@ fn encipher<S: Suite>(key: &[u8], usage: u32, text: &mut [u8]) -> Mac
     ensures mac { result ≡ cut_hmac S.ETYPE (ki S.ETYPE key.now usage)
         (authenticated (macs_cipher S.ETYPE) text.old text.new) }
 {
-    let cipher = encryption_key::<S>(key, usage);
-    let integrity = derived_key::<S>(key, usage, Purpose::Integrity);
+    let (cipher, integrity) = sealing_keys::<S>(key, usage);
     if S::MACS_CIPHER {
         cipher.cts_encrypt(&ZERO_VECTOR, text);
         mac_of_cipher::<S>(&integrity, text)
@@ -163,8 +163,7 @@ fn decipher<S: Suite>(key: &[u8], usage: u32, text: &mut [u8]) -> Mac
     ensures mac { result ≡ cut_hmac S.ETYPE (ki S.ETYPE key.now usage)
         (authenticated (macs_cipher S.ETYPE) text.new text.old) }
 {
-    let cipher = encryption_key::<S>(key, usage);
-    let integrity = derived_key::<S>(key, usage, Purpose::Integrity);
+    let (cipher, integrity) = sealing_keys::<S>(key, usage);
     if S::MACS_CIPHER {
         let mac = mac_of_cipher::<S>(&integrity, text);
         cipher.cts_decrypt(&ZERO_VECTOR, text);
@@ -175,12 +174,24 @@ fn decipher<S: Suite>(key: &[u8], usage: u32, text: &mut [u8]) -> Mac
     }
 }
 
-// Ke, as a key of AES.
-fn encryption_key<S: Suite>(key: &[u8], usage: u32) -> AesKey
+// Ke, as a key of AES, and Ki.
+fn sealing_keys<S: Suite>(key: &[u8], usage: u32) -> (AesKey, DerivedKey)
     requires { length key.now ≡ key_len S.ETYPE }
-    ensures { result ≡ ke S.ETYPE key.now usage }
+    ensures encryption { result.0 ≡ ke S.ETYPE key.now usage }
+    ensures integrity { result.1 ≡ ki S.ETYPE key.now usage }
 {
-    aes_key(derived_key::<S>(key, usage, Purpose::Encryption).bytes())
+    let mut encryption = [0; LONGEST];
+    let mut integrity = [0; LONGEST];
+    let encryption = &mut encryption[..S::KEY_LEN];
+    let integrity = &mut integrity[..S::MAC_KEY_LEN];
+    S::derive_both(
+        key,
+        &usage_constant(usage, Purpose::Encryption),
+        encryption,
+        &usage_constant(usage, Purpose::Integrity),
+        integrity,
+    );
+    (aes_key(encryption), DerivedKey::new(integrity))
 }
 
 // The HMAC of confounder and text (RFC 3961, section 5.3).

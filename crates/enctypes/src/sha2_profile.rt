@@ -3,7 +3,10 @@ ghost use Rattle.std.specs.Prelude.{◌≡◌, ◌≤◌, ◌∷◌, ◌++◌, I
 
 use crate::suite::Suite;
 use crate::{Etype, Mac};
-use prf_kdf::{hmac_sha256, hmac_sha384, kdf_sha256, kdf_sha384, pbkdf2_sha256, pbkdf2_sha384};
+use prf_kdf::{
+    hmac_sha256, hmac_sha384, kdf_sha256, kdf_sha256_both, kdf_sha384, kdf_sha384_both,
+    pbkdf2_sha256, pbkdf2_sha384,
+};
 use std::alloc::{AllocError, Global};
 
 /// aes128-cts-hmac-sha256-128.
@@ -47,6 +50,16 @@ impl Suite for Aes128Sha2 {
 
     fn derive(key: &[u8], constant: &[u8], out: &mut [u8]) {
         kdf_sha256(key, constant, out);
+    }
+
+    fn derive_both(
+        key: &[u8],
+        constant: &[u8],
+        out: &mut [u8],
+        other_constant: &[u8],
+        other_out: &mut [u8],
+    ) {
+        kdf_sha256_both(key, constant, out, other_constant, other_out);
     }
 
     fn hmac(key: &[u8], parts: &[&[u8]]) -> Mac {
@@ -107,6 +120,16 @@ impl Suite for Aes256Sha2 {
 
     fn derive(key: &[u8], constant: &[u8], out: &mut [u8]) {
         kdf_sha384(key, constant, out);
+    }
+
+    fn derive_both(
+        key: &[u8],
+        constant: &[u8],
+        out: &mut [u8],
+        other_constant: &[u8],
+        other_out: &mut [u8],
+    ) {
+        kdf_sha384_both(key, constant, out, other_constant, other_out);
     }
 
     fn hmac(key: &[u8], parts: &[&[u8]]) -> Mac {

@@ -8,6 +8,7 @@ ghost use Rattle.enctypes.specs.Derivation.{dr};
 use crate::aes_key::aes_key;
 use crate::suite::Suite;
 use crate::{Etype, Mac};
+use aes_cts::AesKey;
 use prf_kdf::{hmac_sha1, n_fold, pbkdf2_sha1};
 use std::alloc::{AllocError, Global};
 
@@ -54,7 +55,19 @@ impl Suite for Aes128Sha1 {
     const DEFAULT_COUNT: u32 = 4_096;
 
     fn derive(key: &[u8], constant: &[u8], out: &mut [u8]) {
-        derive_random(key, constant, out);
+        derive_random(&aes_key(key), constant, out);
+    }
+
+    fn derive_both(
+        key: &[u8],
+        constant: &[u8],
+        out: &mut [u8],
+        other_constant: &[u8],
+        other_out: &mut [u8],
+    ) {
+        let cipher = aes_key(key);
+        derive_random(&cipher, constant, out);
+        derive_random(&cipher, other_constant, other_out);
     }
 
     fn hmac(key: &[u8], parts: &[&[u8]]) -> Mac {
@@ -113,7 +126,19 @@ impl Suite for Aes256Sha1 {
     const DEFAULT_COUNT: u32 = 4_096;
 
     fn derive(key: &[u8], constant: &[u8], out: &mut [u8]) {
-        derive_random(key, constant, out);
+        derive_random(&aes_key(key), constant, out);
+    }
+
+    fn derive_both(
+        key: &[u8],
+        constant: &[u8],
+        out: &mut [u8],
+        other_constant: &[u8],
+        other_out: &mut [u8],
+    ) {
+        let cipher = aes_key(key);
+        derive_random(&cipher, constant, out);
+        derive_random(&cipher, other_constant, other_out);
     }
 
     fn hmac(key: &[u8], parts: &[&[u8]]) -> Mac {
@@ -134,12 +159,10 @@ impl Suite for Aes256Sha1 {
 
 /// Fills `out` with DR of the key and the constant (RFC 3961, section 5.1): the constant folded to a
 /// block, enciphered again and again, the blocks in order.
-fn derive_random(key: &[u8], constant: &[u8], out: &mut [u8])
-    requires key { (length key.now ≡ 16) ⊎ (length key.now ≡ 32) }
-    requires constant { 0 < length constant.now }
-    ensures { out.new ≡ dr key.now constant.now (length out.old) }
+fn derive_random(cipher: &AesKey, constant: &[u8], out: &mut [u8])
+    requires { 0 < length constant.now }
+    ensures { out.new ≡ dr cipher.now constant.now (length out.old) }
 {
-    let cipher = aes_key(key);
     let mut block = [0; BLOCK_LEN];
     n_fold(constant, &mut block);
     let len = out.len();

@@ -56,6 +56,23 @@ pub trait Suite {
         ensures value { out.new ≡ derived ETYPE key.now constant.now (length out.old) }
         ensures len { length out.new ≡ length out.old };
 
+    /// Fills each output with the octets that a protocol key gives for the constant before it, as `derive` does. What
+    /// hangs on the key alone is made once.
+    fn derive_both(
+        key: &[u8],
+        constant: &[u8],
+        out: &mut [u8],
+        other_constant: &[u8],
+        other_out: &mut [u8],
+    )
+        requires key { length key.now ≡ key_len ETYPE }
+        requires constant { 0 < length constant.now }
+        requires out { length out.old ≤ 32 }
+        requires other_constant { 0 < length other_constant.now }
+        requires other_out { length other_out.old ≤ 32 }
+        ensures value { out.new ≡ derived ETYPE key.now constant.now (length out.old) }
+        ensures other_value { other_out.new ≡ derived ETYPE key.now other_constant.now (length other_out.old) };
+
     /// The HMAC of the parts, taken one after the other as one text, cut to the type's length.
     fn hmac(key: &[u8], parts: &[&[u8]]) -> Mac
         ensures { result ≡ cut_hmac ETYPE key.now (flat_map (λ part. part.now) parts.now) };

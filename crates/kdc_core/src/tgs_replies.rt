@@ -18,7 +18,6 @@ use crate::mark::Mark;
 use kdc_state::State;
 use krb_fields::{Moment, Name};
 use krb_types::KdcReqRef;
-use principals::granter_name;
 use replay::{Kept, Memory};
 use std::alloc::{AllocError, Global};
 use tgs_exchange::{TgsAnswer, TgsView, tgs_answer, tgs_error};
@@ -70,10 +69,9 @@ fn open_presented(
     ensures value { IfOk result (λ opened. opened ≡ presented (ticket_view state.now message.now) message.now) }
     ensures authorization { IfOk result (λ opened. IfOk opened (λ presented. IfSome presented.ticket.authorization_data (λ list. length ((list_of typed).text list) < 2147483648))) }
 {
-    let granter = granter_name(alloc, state.database.realm())?;
     let view = TicketView {
         realm: state.database.realm(),
-        granter: state.database.get(&granter),
+        granter: state.database.granter(),
         service: row_of(state, message.body.value.sname.as_ref()),
     };
     tgs_open(alloc, &view, message)

@@ -4,10 +4,9 @@ ghost use Rattle.krb_parts.specs.EncKdcRepPart.{enc_kdc_rep_part};
 ghost use Rattle.krb_parts.specs.EncTicketPart.{enc_ticket_part};
 ghost use Rattle.kdc_replies.specs.Grant.{IsShort, no_realms, ticket_part, reply_part};
 
-use crate::authorization_data::copy_data;
 use enctypes::Key;
 use krb_der::KTime;
-use krb_elements::{KerberosString, Octets, Seq, UInt32};
+use krb_elements::{KerberosStringRef, Lent, Octets, Seq, UInt32};
 use krb_fields::{Flags, Name, Typed};
 use krb_parts::{EncKdcRepPart, EncTicketPart, LastReq};
 use sealed_parts::key_part;
@@ -16,24 +15,52 @@ use ticket_times::Times;
 
 /// A session of a client with a service, to which a ticket is issued.
 #[derive(Debug, Drop)]
-pub struct Grant {
+pub struct Grant<'a> {
     /// The realm of both.
-    pub realm: KerberosString,
-    pub client: Name,
-    pub service: Name,
+    pub realm: KerberosStringRef<'a>,
+    pub client: Lent<'a, Name>,
+    pub service: Lent<'a, Name>,
     pub session_key: Key,
     pub flags: Flags,
     /// When the client was first authenticated.
     pub authtime: KTime,
     pub times: Times,
     /// What the ticket repeats of the one that was presented.
-    pub authorization_data: Option<Seq<Typed>>,
+    pub authorization_data: Option<Lent<'a, Seq<Typed>>>,
 }
 
-impl Grant {
+/// The realm of a grant, lent to a message.
+pub type LentRealm<'g, 'a> = Lent<'g, KerberosStringRef<'a>>;
+
+/// A name of a grant, lent to a message.
+pub type LentName<'g, 'a> = Lent<'g, Lent<'a, Name>>;
+
+/// The authorization data of a grant, lent to a ticket.
+pub type LentData<'g, 'a> = Lent<'g, Lent<'a, Seq<Typed>>>;
+
+/// What a ticket holds, with the parts that the grant lends.
+pub type LentTicketPart<'g, 'a> = EncTicketPart<
+    Typed,
+    LentRealm<'g, 'a>,
+    LentName<'g, 'a>,
+    LentData<'g, 'a>,
+>;
+
+/// What a reply holds, with the parts that the grant lends.
+pub type LentReplyPart<'g, 'a> = EncKdcRepPart<
+    Typed,
+    Seq<LastReq>,
+    LentRealm<'g, 'a>,
+    LentName<'g, 'a>,
+>;
+
+impl<'a> Grant<'a> {
     /// What the ticket holds under the service's key.
     #[tactic(auto, using(crate::specs::LengthLaws::ticket_part_short))]
-    pub(crate) fn ticket_part(&self, alloc: Global) -> Result<EncTicketPart, AllocError>
+    pub(crate) fn ticket_part<'g>(
+        &'g self,
+        alloc: Global,
+    ) -> Result<LentTicketPart<'g, 'a>, AllocError>
         requires { IsShort self.now }
         ensures value { IfOk result (λ part. part ≡ ticket_part self.now) }
         ensures short { IfOk result (λ part. length (enc_ticket_part.text part) ≤ 2147490000) }
@@ -41,26 +68,26 @@ impl Grant {
         Ok(EncTicketPart {
             flags: self.flags,
             key: key_part(alloc, &self.session_key)?,
-            crealm: self.realm.copy(alloc)?,
-            cname: self.client.copy(alloc)?,
+            crealm: Lent::new(&self.realm),
+            cname: Lent::new(&self.client),
             transited: no_realms(alloc),
             authtime: self.authtime,
             starttime: Some(self.times.start),
             endtime: self.times.end,
             renew_till: self.times.renew_till,
             caddr: None,
-            authorization_data: copy_data(alloc, &self.authorization_data)?,
+            authorization_data: lent_data(&self.authorization_data),
         })
     }
 
     /// What the reply holds under the reply key.
     #[tactic(auto, using(crate::specs::LengthLaws::reply_text_short))]
-    pub(crate) fn reply_part(
-        &self,
+    pub(crate) fn reply_part<'g>(
+        &'g self,
         alloc: Global,
         nonce: UInt32,
         now: KTime,
-    ) -> Result<EncKdcRepPart, AllocError>
+    ) -> Result<LentReplyPart<'g, 'a>, AllocError>
         requires { IsShort self.now }
         ensures value { IfOk result (λ part. part ≡ reply_part self.now nonce now) }
         ensures short { IfOk result (λ part. length (enc_kdc_rep_part.text part) ≤ 6000) }
@@ -85,10 +112,20 @@ impl Grant {
             starttime: Some(start),
             endtime: end,
             renew_till,
-            srealm: self.realm.copy(alloc)?,
-            sname: self.service.copy(alloc)?,
+            srealm: Lent::new(&self.realm),
+            sname: Lent::new(&self.service),
             caddr: None,
         })
+    }
+}
+
+/// Authorization data, lent where there are any.
+fn lent_data<'g, 'a>(entries: &'g Option<Lent<'a, Seq<Typed>>>) -> Option<LentData<'g, 'a>>
+    ensures { result ≡ entries.now }
+{
+    match entries {
+        Some(entries) => Some(Lent::new(entries)),
+        None => None,
     }
 }
 

@@ -10,11 +10,11 @@ ghost use Rattle.sealed_parts.specs.Encrypted.{decrypted};
 ghost use Rattle.kdc_replies.specs.Grant.{IsShort, reply_part, ticket_part};
 ghost use Rattle.kdc_replies.specs.Reply.{OpensAlike, sealed_part, reply_of};
 
-use crate::grant::Grant;
-use crate::tickets::{ServiceKey, confounder, ticket};
+use crate::grant::{Grant, LentName, LentRealm};
+use crate::tickets::{LentTicket, ServiceKey, confounder, ticket};
 use enctypes::{Key, KeyUsage};
 use krb_der::KTime;
-use krb_elements::{Seq, UInt32, write};
+use krb_elements::{Lent, Seq, UInt32, write};
 use krb_fields::{EncryptedData, PaData};
 use krb_replies::{KdcRep, Under};
 use sealed_parts::encrypted;
@@ -36,11 +36,20 @@ pub struct Asked {
     pub now: KTime,
 }
 
+/// A reply with the realm and the names that its grant lends.
+type LentReply<'g, 'a, const TYPE: u8> = KdcRep<
+    TYPE,
+    Seq<PaData>,
+    LentRealm<'g, 'a>,
+    LentName<'g, 'a>,
+    LentTicket<'g, 'a>,
+>;
+
 /// The octets of the reply with a grant's ticket, of message type `TYPE`, its sealed part in the tag
 /// `[APPLICATION TAG]`. Octets 32 to 48 and 48 to 64 of the random ones are the two confounders.
 pub fn ticket_reply<const TYPE: u8, const TAG: u8>(
     alloc: Global,
-    grant: &Grant,
+    grant: &Grant<'_>,
     service: &ServiceKey,
     key: &ReplyKey,
     padata: Option<Seq<PaData>>,
@@ -60,15 +69,15 @@ pub fn ticket_reply<const TYPE: u8, const TAG: u8>(
 }
 
 #[tactic(auto, using(crate::specs::LengthLaws::reply_short))]
-fn whole_reply<const TYPE: u8, const TAG: u8>(
+fn whole_reply<'g, 'a, const TYPE: u8, const TAG: u8>(
     alloc: Global,
-    grant: &Grant,
+    grant: &'g Grant<'a>,
     service: &ServiceKey,
     key: &ReplyKey,
     padata: Option<Seq<PaData>>,
     asked: Asked,
     words: &[u8; 64],
-) -> Result<KdcRep<TYPE>, AllocError>
+) -> Result<LentReply<'g, 'a, TYPE>, AllocError>
     requires grant { IsShort grant.now }
     requires padata { IfSome padata (λ list. length ((list_of pa_data).text list) ≤ 70000) }
     ensures value { IfOk result (λ reply. reply ≡ reply_of TYPE TAG grant.now service.now key.now padata asked.nonce asked.now words.now) }
@@ -79,8 +88,8 @@ fn whole_reply<const TYPE: u8, const TAG: u8>(
     let enc_part = sealed::<TAG>(alloc, grant, key, asked, words)?;
     Ok(KdcRep {
         padata,
-        crealm: grant.realm.copy(alloc)?,
-        cname: grant.client.copy(alloc)?,
+        crealm: Lent::new(&grant.realm),
+        cname: Lent::new(&grant.client),
         ticket,
         enc_part,
     })
@@ -89,7 +98,7 @@ fn whole_reply<const TYPE: u8, const TAG: u8>(
 #[tactic(auto, using(krb_elements::specs::ShortTextLaws::tlv_short))]
 fn sealed<const TAG: u8>(
     alloc: Global,
-    grant: &Grant,
+    grant: &Grant<'_>,
     key: &ReplyKey,
     asked: Asked,
     words: &[u8; 64],

@@ -5,9 +5,9 @@ ghost use Rattle.sealed_parts.specs.Encrypted.{decrypted};
 ghost use Rattle.kdc_replies.specs.Grant.{IsShort, ticket_part};
 ghost use Rattle.kdc_replies.specs.Reply.{ticket_confounder, ticket_of};
 
-use crate::grant::Grant;
+use crate::grant::{Grant, LentName, LentRealm};
 use enctypes::{Key, KeyUsage};
-use krb_elements::UInt32;
+use krb_elements::{Lent, UInt32};
 use krb_fields::EncryptedData;
 use krb_types::{PVNO, Ticket};
 use sealed_parts::encrypted;
@@ -20,13 +20,16 @@ pub struct ServiceKey {
     pub version: u32,
 }
 
+/// A ticket with the realm and the name that its grant lends.
+pub type LentTicket<'g, 'a> = Ticket<LentRealm<'g, 'a>, LentName<'g, 'a>>;
+
 /// The ticket of a grant. Octets 32 to 48 of the random ones are its confounder.
-pub fn ticket(
+pub fn ticket<'g, 'a>(
     alloc: Global,
-    grant: &Grant,
+    grant: &'g Grant<'a>,
     service: &ServiceKey,
     words: &[u8; 64],
-) -> Result<Ticket, AllocError>
+) -> Result<LentTicket<'g, 'a>, AllocError>
     requires { IsShort grant.now }
     ensures value { IfOk result (λ ticket. ticket ≡ ticket_of grant.now service.now words.now) }
     ensures opens { IfOk result (λ ticket. decrypted enc_ticket_part service.now.key 2 ticket.enc_part ≡ Some (ticket_part grant.now)) }
@@ -34,15 +37,15 @@ pub fn ticket(
 {
     Ok(Ticket {
         tkt_vno: PVNO,
-        realm: grant.realm.copy(alloc)?,
-        sname: grant.service.copy(alloc)?,
+        realm: Lent::new(&grant.realm),
+        sname: Lent::new(&grant.service),
         enc_part: sealed(alloc, grant, service, words)?,
     })
 }
 
 fn sealed(
     alloc: Global,
-    grant: &Grant,
+    grant: &Grant<'_>,
     service: &ServiceKey,
     words: &[u8; 64],
 ) -> Result<EncryptedData, AllocError>

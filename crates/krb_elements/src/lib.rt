@@ -6,6 +6,7 @@
 
 mod codec;
 mod fault;
+mod lent;
 mod lists;
 mod microseconds;
 mod octets;
@@ -18,6 +19,7 @@ mod writing;
 
 pub use codec::{Application, Coded, Fielded, MakeOwned, Round, Untagged, application_tag};
 pub use fault::Fault;
+pub use lent::Lent;
 pub use lists::SeqRef;
 pub use microseconds::Microseconds;
 pub use octets::{Octets, OctetsRef};

@@ -133,6 +133,12 @@ impl<'a> MakeOwned for KerberosStringRef<'a> {
     }
 }
 
+impl<'a> Encode for KerberosStringRef<'a> {
+    fn put(&self, out: &mut Writer) -> Result<(), AllocError> {
+        out.put_tlv(0x1b, self.as_slice())
+    }
+}
+
 impl Coded for KerberosString {
     ghost codec = { forms.string };
 }

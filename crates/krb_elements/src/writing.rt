@@ -10,7 +10,7 @@ use krb_der::Writer;
 use std::alloc::{AllocError, Global};
 
 /// The most octets that most messages have, and what is sealed in them.
-const USUAL_LEN: usize = 512;
+const USUAL_LEN: usize = 1_024;
 
 /// A value that is written.
 pub trait Encode: Coded {

@@ -1,17 +1,21 @@
 //! The n-fold of RFC 3961, section 5.1.
 //!
-//! The constants of Kerberos are at most a word, and are folded to a block: their copies are numbers, added as they stand.
-//! Otherwise the copies of the input are never written down: each of their octets is cut out of the input when it is
-//! added. Places in them are `u128`, since there may be more than a `usize` counts.
+//! The constants of usages are folded to a block: their copies are numbers, added as they stand. Their length is a
+//! constant, so that the compiler knows how far each copy is turned. Otherwise the copies of the input are never written
+//! down: each of their octets is cut out of the input when it is added. Places in them are `u128`, since there may be more
+//! than a `usize` counts.
 
 ghost use Rattle.std.specs.Prelude.{◌≡◌, ◌<◌, ◌≤◌, ◌+◌, ◌*◌, ◌%◌, ◌^◌, length};
 ghost use Rattle.std.specs.Int.{IsGcd};
 ghost use Rattle.prf_kdf.specs.Fold.{number, octets_of, octet_of_copies, piece_of_copies, n_fold};
 ghost use Rattle.prf_kdf.specs.Fold.{rotate_right, end_around_carry};
 
-// The octets of a word and of a block.
-const WORD_LEN: usize = 8;
+// The octets of the constant of a usage (RFC 3961, section 5.3), and its bits.
+const CONSTANT_LEN: usize = 5;
 
+const CONSTANT_BITS: u32 = 40;
+
+// The octets of a block. So many copies of a constant of five octets are whole blocks, and fewer are not.
 const BLOCK_LEN: usize = 16;
 
 /// Fills `out` with the n-fold of the input, for n the bits of `out` (RFC 3961, section 5.1): copies of
@@ -23,39 +27,40 @@ pub fn n_fold(input: &[u8], out: &mut [u8])
     requires out { 0 < length out.old }
     ensures { out.new ≡ n_fold input.now (length out.old) }
 {
-    if input.len() <= WORD_LEN && out.len() == BLOCK_LEN {
+    if input.len() == CONSTANT_LEN && out.len() == BLOCK_LEN {
         out.copy_from_slice(&fold_to_block(input).to_be_bytes());
     } else {
         fold_by_pieces(input, out);
     }
 }
 
-// The n-fold of at most a word to a block, as a number. Under end-around carry 2^128 counts as 1, so that the copies need
-// not be cut into pieces: what stands before a copy is turned left by the copy's bits, and the copy is added.
+// The n-fold of a usage's constant to a block, as a number. Under end-around carry 2^128 counts as 1, so that the copies
+// need not be cut into pieces: what stands before a copy is turned left by the copy's bits, and the copy is added.
 fn fold_to_block(input: &[u8]) -> u128
-    requires some { 0 < length input.now }
-    requires few { length input.now ≤ 8 }
+    requires { length input.now ≡ 5 }
     ensures { octets_of 16 result ≡ n_fold input.now 16 }
 {
-    let bits = 8 * input.len() as u32;
     let word = word_of(input);
     let mut total = 0;
     let mut turn = 0;
-    for copy in 0..BLOCK_LEN / gcd(input.len(), BLOCK_LEN) {
-        total = sum_around(u128::rotate_left(total, bits), turned_right(word, bits, turn));
-        turn = next_turn(turn, bits);
+    for copy in 0..BLOCK_LEN {
+        total = sum_around(
+            u128::rotate_left(total, CONSTANT_BITS),
+            turned_right(word, CONSTANT_BITS, turn),
+        );
+        turn = next_turn(turn, CONSTANT_BITS);
     }
     total
 }
 
 // The number that the octets spell.
 fn word_of(octets: &[u8]) -> u64
-    requires { length octets.now ≤ 8 }
+    requires { length octets.now ≡ 5 }
     ensures value { result ≡ number octets.now }
     ensures below { number octets.now < 2 ^ (8 * length octets.now) }
 {
     let mut word = 0;
-    for i in 0..octets.len() {
+    for i in 0..CONSTANT_LEN {
         word = word * 256 + u64::from(octets[i]);
     }
     word

@@ -9,6 +9,7 @@ ghost use Rattle.principal_rows.specs.Row.{IsRow};
 ghost use Rattle.principals.specs.Database.{IsDatabase, first_database, granter_name, ticket_granter};
 ghost use Rattle.principals.specs.Change.{refusal, add_rules, changed};
 
+use crate::granting::GranterOf;
 use crate::{Change, ChangeFault};
 use krb_elements::KerberosString;
 use krb_fields::{Name, NameRef, is_component};
@@ -122,6 +123,16 @@ impl Database {
         ensures valid { IfSome result (λ row. IsRow row.now) }
     {
         self.rows.get(name_ref)
+    }
+
+    /// The row of the ticket-granting service. No name is made for it.
+    pub fn granter(&self) -> Option<&Row>
+        ensures row { option_copied result ≡ map.get self.now.rows (ticket_granter self.now.realm) }
+        ensures valid { IfSome result (λ row. IsRow row.now) }
+    {
+        self.rows.get(&GranterOf {
+            realm: self.realm.as_slice(),
+        })
     }
 
     /// How many principals there are.

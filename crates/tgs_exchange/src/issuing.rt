@@ -13,9 +13,9 @@ ghost use Rattle.tgs_exchange.specs.Terms.{ticket_terms};
 use crate::terms::{Admission, ticket_terms};
 use crate::view::TgsView;
 use enctypes::KeyUsage;
-use kdc_replies::{Asked, Grant, ReplyKey, copy_data, session_key, ticket_reply};
-use krb_elements::KerberosString;
-use krb_fields::{Flags, Moment};
+use kdc_replies::{Asked, Grant, ReplyKey, session_key, ticket_reply};
+use krb_elements::{KerberosStringRef, Lent, Seq};
+use krb_fields::{Flags, Moment, Typed};
 use krb_types::ReqBodyRef;
 use std::alloc::{AllocError, Global};
 use tgs_opening::Presented;
@@ -44,7 +44,7 @@ pub fn tgs_rep(
         nonce: body.nonce,
         now: at.time(),
     };
-    let grant = grant_of(alloc, view, words, body, presented, admission)?;
+    let grant = grant_of(view, words, body, presented, admission);
     ticket_reply::<13, 26>(
         alloc,
         &grant,
@@ -56,31 +56,40 @@ pub fn tgs_rep(
     )
 }
 
-fn grant_of(
-    alloc: Global,
-    view: &TgsView<'_>,
+fn grant_of<'g>(
+    view: &TgsView<'g>,
     words: &[u8; 64],
     body: &ReqBodyRef<'_>,
-    presented: &Presented,
-    admission: &Admission,
-) -> Result<Grant, AllocError>
+    presented: &'g Presented,
+    admission: &'g Admission,
+) -> Grant<'g>
     requires known { IsKnown view.now body.now presented.now }
     requires named { IsNamed presented.now view.now.service admission.now.terms }
-    ensures value { IfOk result (λ grant. grant ≡ grant_by view.now words.now body.now presented.now admission.now) }
-    ensures short { IfOk result IsShort }
+    ensures value { result ≡ grant_by view.now words.now body.now presented.now admission.now }
+    ensures short { IsShort result }
 {
     let Admission { terms, times } = admission;
     let ticket = &presented.ticket;
-    Ok(Grant {
-        realm: KerberosString::from_slice(alloc, view.realm)?,
-        client: ticket.cname.copy(alloc)?,
-        service: terms.service.name.copy(alloc)?,
+    Grant {
+        realm: KerberosStringRef::new(view.realm),
+        client: Lent::new(&ticket.cname),
+        service: Lent::new(&terms.service.name),
         session_key: session_key(terms.service.session_type, words),
         flags: flags_of(body, presented, admission),
         authtime: ticket.authtime,
         times: *times,
-        authorization_data: copy_data(alloc, &ticket.authorization_data)?,
-    })
+        authorization_data: lent_data(&ticket.authorization_data),
+    }
+}
+
+/// Authorization data, lent where there are any.
+fn lent_data(entries: &Option<Seq<Typed>>) -> Option<Lent<'_, Seq<Typed>>>
+    ensures { result ≡ entries.now }
+{
+    match entries {
+        Some(entries) => Some(Lent::new(entries)),
+        None => None,
+    }
 }
 
 fn flags_of(body: &ReqBodyRef<'_>, presented: &Presented, admission: &Admission) -> Flags

@@ -16,7 +16,7 @@ use krb_parts::EncTicketPart;
 use krb_types::{KdcReqRef, PVNO, ReqBodyRef, TGS_REQ, TicketRef};
 use preauth::{first_of, key_by, key_numbered};
 use principal_rows::{Row, Versions};
-use principals::granter_name;
+use principals::names_granter;
 use refusals::decide;
 use sealed_parts::open_part;
 use std::alloc::{AllocError, Global};
@@ -127,7 +127,7 @@ fn addressee_of(
 ) -> Result<Addressee, AllocError>
     ensures { IfOk result (λ found. found ≡ addressee realm.now body.now service.now) }
 {
-    if service.order(&granter_name(alloc, realm)?) == Ordering::Equal {
+    if names_granter(service, realm) {
         return Ok(Addressee::Granter);
     }
     if is_for_asked(body, &service.to_name(alloc)?) {

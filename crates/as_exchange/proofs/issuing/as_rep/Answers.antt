@@ -7,5 +7,5 @@ use Rattle.as_exchange.proofs.issuing.as_rep.Goals as goal
 pub returns-clause-spelled : goal.returns-clause-spelled
 returns-clause-spelled c =
     respelled (kdc_rep 11).Spells (λ v. v.items) _ _ c.ticket_reply.result
-    (λ i. reply_of 11 25 (c.in_ok-grant.ensures.value i) c.args.admission.now.terms.service.key (c.reply_key_of-reply_key.ensures i) (Some (c.in_ok-padata.ensures.value i)) c.args.body.now.nonce (c.time.ensures i) c.args.words.now)
+    (λ i. reply_of 11 25 (c.grant_of-grant.ensures.value i) c.args.admission.now.terms.service.key (c.reply_key_of-reply_key.ensures i) (Some (c.in_ok-padata.ensures.value i)) c.args.body.now.nonce (c.time.ensures i) c.args.words.now)
     c.ticket_reply.ensures.spelled

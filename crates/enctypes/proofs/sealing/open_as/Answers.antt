@@ -1,12 +1,13 @@
 use Rattle.std.proofs.Common.{◌≡◌, ℕ, ◌+◌, ◌-◌, ◌<◌, true, false, List, ◌++◌, All, get_or, take, drop, length}
 use Rattle.std.proofs.Common.{Some, sym, ap, ◌∙◌, arith}
+use Rattle.std.specs.List.{copy_within}
 use Rattle.std.proofs.lemmas.List.{take_at}
 use Rattle.std.proofs.lemmas.List.Elements.{All-from_get_or}
 use Rattle.enctypes.specs.declared.etype.Etype.{Etype}
 use Rattle.enctypes.specs.Sealing.{OpensWhatWasSealed, deciphered}
 use Rattle.enctypes.proofs.OpenedLaws.{opened-some, opened-none, opens_what_was_sealed}
 use Rattle.enctypes.proofs.Sealed.{IsSealed}
-use Rattle.enctypes.proofs.SealingSteps.{IsRecomputed, recomputed, rotated}
+use Rattle.enctypes.proofs.SealingSteps.{IsRecomputed, recomputed, shifted}
 use Rattle.enctypes.proofs.sealing.open_as.Goals as goal
 
 octets : (l : List ℕ) → ((i : ℕ) → get_or l i 0 < 256) → All (λ b. b < 256) l
@@ -74,8 +75,6 @@ returns-clause-value g c =
     omega (arith, c.decipher-expected.auto.text, c.deref_mut.ensures.len) in
     let written : take c.extend_from_slice.new.self.len (plain ++ drop (length plain) before) ≡ plain =
     take_at plain (drop (length plain) before) c.extend_from_slice.new.self.len size in
-    let turned : c.rotate_left.new.self.items ≡ drop 16 plain ++ take 16 plain =
-    c.rotate_left.ensures.items ∙ ap (λ (l : List ℕ). drop 16 l ++ take 16 l) written in
     let front : List ℕ = c.split_at.result.0.now in
     let kept : ℕ = length front - 16 in
     let copied : length c.deref_mut.result.now ≡ length front =
@@ -91,7 +90,11 @@ returns-clause-value g c =
       c.MAC_LEN-2.ensures,
     ) in
     let text_is : c.truncate.new.self.items ≡ drop 16 (deciphered etype key c.args.usage cipher) =
-    c.truncate.ensures.items ∙ ap (take kept) turned ∙ rotated plain kept len ∙ ap (drop 16) r.plain_is in
+    c.truncate.ensures.items
+    ∙ ap (take kept) (c.copy_within.ensures.items
+    ∙ ap (λ (l : List ℕ). copy_within l 16 c.extend_from_slice.new.self.len 0) written
+    ∙ ap (λ (n : ℕ). copy_within plain 16 n 0) (sym size ∙ len))
+    ∙ shifted plain kept len ∙ ap (drop 16) r.plain_is in
     ap (λ (l : List ℕ). Some l) text_is ∙ sym (opened-some etype key c.args.usage cipher s)
 
 pub returns-clause-opened : goal.returns-clause-opened

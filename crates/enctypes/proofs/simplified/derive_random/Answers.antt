@@ -9,16 +9,16 @@ use Rattle.enctypes.proofs.simplified.derive_random.Goals as goal
 
 pub loop-i-init : goal.loop-i-init
 loop-i-init c =
-    let key : List ℕ = c.args.key.now in
+    let key : List ℕ = c.args.cipher.now in
     let constant : List ℕ = c.args.constant.now in
     record {
-      next = rw (c.n_fold.ensures, c.aes_key-cipher.ensures) (sym (dr_block_first key constant));
+      next = rw c.n_fold.ensures (sym (dr_block_first key constant));
       front = rw dr_blocks_none (sym (take_all {A = ℕ} (length c.args.out.now) [] (omega arith)));
     }
 
 pub loop-i-preserved : goal.loop-i-preserved
 loop-i-preserved c =
-    let key : List ℕ = c.args.key.now in
+    let key : List ℕ = c.args.cipher.now in
     let constant : List ℕ = c.args.constant.now in
     let out : List ℕ = c.loop-i.out in
     let i : ℕ = c.loop-i.i in
@@ -34,7 +34,7 @@ loop-i-preserved c =
     rw same_len c.loop-i.invariant.front in
     let next : 16 * (i + 1) ≡ 16 * i + 16 = omega arith in
     record {
-      next = rw (block, c.aes_key-cipher.ensures) (sym (dr_block_more key constant i));
+      next = rw block (sym (dr_block_more key constant i));
       front = rw (next, dr_blocks_more key constant i, ← same_len)
           (blocks_written out c.copy_from_slice.new.self (dr_blocks key constant i) (dr_block key constant i) (16 * i)
           end 16 inside ends (length-dr_block key constant i) (length-dr_blocks key constant i) piece front);
@@ -47,5 +47,5 @@ returns c =
     let test = c.loop-i-test.false in
     let enough : c.loop-i.i ≡ div_ceil len 16 = omega arith in
     rw (← same_len)
-    (dr_is c.args.key.now c.args.constant.now c.loop-i.out c.loop-i.i (enough ∙ ap (λ (n : ℕ). div_ceil n 16) (sym same_len))
+    (dr_is c.args.cipher.now c.args.constant.now c.loop-i.out c.loop-i.i (enough ∙ ap (λ (n : ℕ). div_ceil n 16) (sym same_len))
     (rw same_len c.loop-i.invariant.front))

@@ -6,6 +6,6 @@ use Rattle.enctypes.proofs.simplified.derive_random.Given as goal
 -- the front of the output is that of the blocks so far, and the block at hand gives the next one
 abbrev pub invariant-loop-i : goal.invariant-loop-i
 invariant-loop-i l = record {
-  next : aes l.cipher l.block ≡ dr_block l.fn.key l.fn.constant l.i;
-  front : take (16 * l.i) l.out ≡ take (length l.fn.out) (dr_blocks l.fn.key l.fn.constant l.i);
+  next : aes l.cipher l.block ≡ dr_block l.cipher l.fn.constant l.i;
+  front : take (16 * l.i) l.out ≡ take (length l.fn.out) (dr_blocks l.cipher l.fn.constant l.i);
 }

@@ -12,13 +12,13 @@ loop-i-init c = refl
 pub overflow_mul-word : goal.overflow_mul-word
 overflow_mul-word c =
     let fits : number (take c.loop-i.i c.args.octets.now) * 256 + get_or c.args.octets.now c.loop-i.i 0 < 2 ^ 64 =
-    word_more c.args.octets.now c.loop-i.i (λ j. omega (arith, c.type_inv.octets j)) (omega arith) c.requires in
+    word_more c.args.octets.now c.loop-i.i (λ j. omega (arith, c.type_inv.octets j)) (omega arith) (omega arith) in
     omega (arith, fits, c.loop-i.invariant)
 
 pub overflow_add-word : goal.overflow_add-word
 overflow_add-word c =
     let fits : number (take c.loop-i.i c.args.octets.now) * 256 + get_or c.args.octets.now c.loop-i.i 0 < 2 ^ 64 =
-    word_more c.args.octets.now c.loop-i.i (λ j. omega (arith, c.type_inv.octets j)) (omega arith) c.requires in
+    word_more c.args.octets.now c.loop-i.i (λ j. omega (arith, c.type_inv.octets j)) (omega arith) (omega arith) in
     omega (arith, fits, c.loop-i.invariant, c.from.ensures)
 
 pub loop-i-preserved : goal.loop-i-preserved

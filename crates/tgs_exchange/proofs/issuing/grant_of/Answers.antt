@@ -6,12 +6,12 @@ use Rattle.tgs_exchange.proofs.issuing.grant_of.Goals as goal
 
 pub returns-clause-value : goal.returns-clause-value
 returns-clause-value c =
-    let realm : c.in_ok-from_slice.field-0 ≡ c.args.view.now.realm = search rules in
-    let client : c.in_ok-copy.field-0 ≡ c.args.presented.now.ticket.cname = search rules in
-    let service : c.in_ok-copy-2.field-0 ≡ c.args.admission.now.terms.service.name = search rules in
+    let realm : c.new.result ≡ c.args.view.now.realm = search rules in
+    let client : c.new-2.result ≡ c.args.presented.now.ticket.cname = search rules in
+    let service : c.new-3.result ≡ c.args.admission.now.terms.service.name = search rules in
     let key : c.session_key.result ≡ session_key c.args.admission.now.terms.service.session_type c.args.words.now = search rules in
     let flags : c.flags_of.result ≡ tgs_flags c.args.body.now (ticket_terms c.args.presented.now.ticket) c.args.admission.now.terms.service.policy c.args.admission.now.times = search rules in
-    let authorization : c.in_ok-copy_data.field-0 ≡ c.args.presented.now.ticket.authorization_data = search rules in
+    let authorization : c.lent_data.result ≡ c.args.presented.now.ticket.authorization_data = search rules in
     λ i. record {
       realm = realm i;
       client = client i;

@@ -1,0 +1,38 @@
+//! A part of a message that is lent to it.
+ghost use Rattle.std.specs.Prelude.{◌≡◌};
+
+use crate::codec::Coded;
+use crate::writing::Encode;
+use krb_der::Writer;
+use std::alloc::AllocError;
+use std::marker::Model;
+
+/// A value that somebody else owns, in its place in a message that is written. Contracts see the value.
+#[derive(Debug, Drop)]
+pub struct Lent<'a, T> {
+    value: &'a T,
+}
+
+impl<'a, T> Model for Lent<'a, T> {
+    ghost Value = { T };
+
+    ghost view = { λ l. l.value.now };
+}
+
+impl<'a, T> Lent<'a, T> {
+    pub fn new(value: &'a T) -> Lent<'a, T>
+        ensures { result ≡ value.now }
+    {
+        Lent { value }
+    }
+}
+
+impl<'a, T: Coded> Coded for Lent<'a, T> {
+    ghost codec = { T.codec };
+}
+
+impl<'a, T: Encode> Encode for Lent<'a, T> {
+    fn put(&self, out: &mut Writer) -> Result<(), AllocError> {
+        self.value.put(out)
+    }
+}
