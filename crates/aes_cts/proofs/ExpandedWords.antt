@@ -7,7 +7,6 @@ use Rattle.aes_cts.specs.KeyExpansion.{word_at}
 use Rattle.aes_cts.specs.Words.{octets}
 use Rattle.aes_cts.proofs.WordLaws.{octets-take}
 
-
 -- word i of the octets of words
 pub word_at-octets : (w : List ℕ) (i : ℕ) → i < length w → word_at (octets w) i ≡ to_be_bytes w32 (get_or w i 0)
 word_at-octets [] i inside = absurd (omega arith)

@@ -12,7 +12,7 @@ use krb_fields::{ApOption, EncryptedDataRef, Name};
 use krb_parts::EncTicketPart;
 use krb_types::{PVNO, TicketRef};
 use refusals::decide;
-use sealed_parts::{type_numbered, key_of, open_part};
+use sealed_parts::{key_of, open_part, type_numbered};
 use std::alloc::{AllocError, Global};
 
 /// What the ticket holds.
