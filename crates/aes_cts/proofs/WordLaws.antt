@@ -15,7 +15,7 @@ use Rattle.aes_cts.specs.State.{row_times, sub_bytes, shift_rows, mix_columns}
 use Rattle.aes_cts.specs.State.{add_round_key, inverse_sub_bytes, inverse_shift_rows, inverse_mix_columns}
 use Rattle.aes_cts.specs.Words.{word, octets, turned_column, turned_by, mixed_cells}
 use Rattle.aes_cts.specs.Words.{added_cells, mix_column, inverse_mix_column, unmixed_cells}
-use Rattle.aes_cts.specs.declared.words.TheConstants.{COLUMNS, INVERSE_COLUMNS}
+use Rattle.aes_cts.specs.declared.column_words.TheConstants.{COLUMNS, INVERSE_COLUMNS}
 use Rattle.aes_cts.proofs.FieldLaws.{times-lt}
 use Rattle.aes_cts.proofs.Tables.{inverse_s_box-s_box}
 use Rattle.aes_cts.proofs.Columns.{xor_turn}
