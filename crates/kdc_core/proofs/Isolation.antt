@@ -23,8 +23,9 @@ use Rattle.kdc_core.proofs.Changes.{other_row, realm_stays, same_refusal, same_r
 use Rattle.kdc_core.proofs.Frame.{database_kept, limits_kept, other_kept}
 use Rattle.kdc_core.specs.AgreementLaws.{names_agree, view_agrees}
 use Rattle.kdc_core.specs.Answer.{answer, keep, next}
-use Rattle.kdc_core.specs.Run.{after_change, after_event, event_reply, replaced, unless_refused}
+use Rattle.kdc_core.specs.Run.{after_change, after_event, event_reply, replaced, run, unless_refused}
 use Rattle.kdc_core.specs.Struck.{AgreesFor, IsIsolated, Isolation, Names, NamesWithin, ServicesWithin, is_client, is_left, is_request, is_request_of, principal_of, replies_to, strike}
+use Rattle.kdc_core.specs.Unaffected.{Unaffected}
 use Rattle.kdc_core.specs.View.{Agrees, named, view}
 use Rattle.kdc_core.specs.declared.run.Event.{Event}
 use Rattle.kdc_core.specs.declared.run.Event.TheVariants.{Request, Change, Replace, Restart, Reopen}
@@ -290,3 +291,29 @@ module _ (c : Components) (S : Names) where
 
 pub isolation : (state : State) (events : List Event) → Isolation state events
 isolation state events c S other granter within a = isolated c S events state other granter within a
+
+-- ---- two runs
+
+module _ (c : Components) (S : Names) where
+  agrees_itself : (state : State) → AgreesFor c S state state
+  agrees_itself state = record { realm = refl; limits = refl; row = refl; memory = refl; rows = λ name within. refl }
+
+  -- two that agree with a third
+  both_agree : (a b third : State) → AgreesFor c S a third → AgreesFor c S b third → AgreesFor c S a b
+  both_agree a b third s t = record {
+    realm = sym t.realm ∙ s.realm;
+    limits = sym t.limits ∙ s.limits;
+    row = sym t.row ∙ s.row;
+    memory = sym t.memory ∙ s.memory;
+    rows = λ name within. sym (t.rows name within) ∙ s.rows name within;
+  }
+
+pub unaffected : Unaffected
+unaffected c S state other events others granter within within_other a same =
+    let here = isolated c S events state other granter within a in
+    let there = isolated c S others other other (subst (λ r. IsTrue (S (ticket_granter r))) (sym a.realm) granter) within_other (agrees_itself c S other) in
+    record {
+      replies = sym there.own ∙ ap (replies_to is_request other) same ∙ here.own;
+      afterwards = both_agree c S (run state events) (run other others) (run other (strike c S state events)) here.afterwards
+          (subst (λ struck. AgreesFor c S (run other others) (run other struck)) same there.afterwards);
+    }

@@ -9,3 +9,4 @@ pub mod Run
 pub mod PresentedLaws
 pub mod Struck
 pub mod Tickets
+pub mod Unaffected

@@ -2,6 +2,7 @@
 ghost use Rattle.std.specs.Prelude.{List};
 ghost use Rattle.kdc_core.specs.Struck.{Isolation};
 ghost use Rattle.kdc_core.specs.Tickets.{OneTicket};
+ghost use Rattle.kdc_core.specs.Unaffected.{Unaffected};
 ghost use Rattle.kdc_core.specs.declared.run.Event.{Event};
 ghost use Rattle.kdc_state.specs.declared.state.State.{State};
 
@@ -10,6 +11,8 @@ ghost use Rattle.kdc_state.specs.declared.state.State.{State};
 pub fn any_run()
     // What others ask, and what is changed of others, never changes what a client gets.
     ensures isolation { (state : State) (events : List Event) → Isolation state events }
+    // In two runs of which the same is left for a client it gets the same, whatever others ask in either.
+    ensures unaffected { Unaffected }
     // Where two TGS-REQs of one client have the same authenticator and both get a ticket, they get the same.
     ensures one_ticket { (state : State) (events : List Event) → OneTicket state events }
 {}

@@ -11,7 +11,7 @@ use Rattle.krb_fields.specs.declared.moment.Moment.{Moment}
 use Rattle.krb_fields.specs.Name.{Components}
 use Rattle.replay.specs.Run.{OneForEach, with_any}
 use Rattle.kdc_state.specs.declared.state.State.{State}
-use Rattle.kdc_core.proofs.Isolation.{isolation}
+use Rattle.kdc_core.proofs.Isolation.{isolation, unaffected as unaffected_run}
 use Rattle.kdc_core.proofs.Tickets.{one_ticket}
 use Rattle.kdc_core.proofs.Runs.{replies_append, run_append}
 use Rattle.kdc_core.specs.Run.{after_event, event_reply, replies, run}
@@ -27,7 +27,7 @@ use Rattle.kdc_hub.specs.Issuing.{Issuing, after, reply_of, too_long}
 use Rattle.kdc_hub.specs.StreamStep.{StreamStep, action_for, after_reply, after_some, messages_step, reply_then, stream_room, stream_step}
 use Rattle.kdc_hub.specs.Hub.{Standing, Step, brings, datagram_room, greatest_request, hub_step, kept, most_connections, nothing, opened, requests_of as messages_of, sent, stopped}
 use Rattle.kdc_hub.specs.Logged.{Entry, Stop, logged, step_by, step_of}
-use Rattle.kdc_hub.specs.History.{AnswersWhoAsked, Begins, IsOneRun, OneTicketSent, OneTicketInLog, ServesAlike, Turn, Stepped, Replaced, Reopened, after_turn, after_turns, answers, asked, chosen, event_requests, events_in, others_after, piece_requests, replies_by, replies_in, reply_in, requests_by, requests_of, stopped_requests, stream_requests, tickets_among, turn_events, turn_replies}
+use Rattle.kdc_hub.specs.History.{AnswersWhoAsked, Begins, IsOfOneProcess, IsOneRun, OneTicketInProcess, OneTicketSent, ServesAlike, Turn, Unaffected, Stepped, Replaced, Reopened, after_turn, after_turns, answers, asked, chosen, event_requests, events_in, others_after, piece_requests, replies_by, replies_in, reply_in, requests_by, requests_of, stopped_requests, stream_requests, tickets_among, turn_events, turn_replies}
 
 -- ---- one request
 
@@ -285,7 +285,7 @@ chosen_of_run test state (event ∷ events) =
     ap (λ l. if test state event then event_reply state event ∷ l else l) (chosen_of_run test (after_event state event) events)
 
 pub serves_alike : ServesAlike
-serves_alike start other turns others c S granter within a same =
+serves_alike start turns other others c S granter within a same =
     let here = one_run start turns in
     let there = one_run other others in
     let k = start.issuing.kdc in
@@ -302,6 +302,23 @@ serves_alike start other turns others c S granter within a same =
           (subst (λ s. AgreesFor c S (run k (events_in start turns)) s) (sym (there.kdc_is ∙ ap (run l) same)) isolated.afterwards);
     }
 
+pub unaffected : Unaffected
+unaffected start turns other others c S granter within within_other a same =
+    let here = one_run start turns in
+    let there = one_run other others in
+    let k = start.issuing.kdc in
+    let l = other.issuing.kdc in
+    let gets = unaffected_run c S k l (events_in start turns) (events_in other others) granter within within_other a same in
+    record {
+      replies = ap (chosen (is_request_of c) l (events_in other others)) there.replies_are
+          ∙ chosen_of_run (is_request_of c) l (events_in other others)
+          ∙ gets.replies
+          ∙ sym (chosen_of_run (is_request_of c) k (events_in start turns))
+          ∙ ap (chosen (is_request_of c) k (events_in start turns)) (sym here.replies_are);
+      afterwards = subst (λ s. AgreesFor c S s (after_turns other others).issuing.kdc) (sym here.kdc_is)
+          (subst (λ s. AgreesFor c S (run k (events_in start turns)) s) (sym there.kdc_is) gets.afterwards);
+    }
+
 tickets_are : (c : Components) (state : State) (events : List KdcEvent) → tickets_among c state events (replies state events) ≡ tickets_to c state events
 tickets_are c state [] = refl
 tickets_are c state (event ∷ events) = ap (with_any (ticket_to c state event)) (tickets_are c (after_event state event) events)
@@ -314,68 +331,73 @@ one_ticket_sent start turns follow c =
 
 -- ---- one process
 
-abbrev IsRequest : KdcEvent → Type 0
-IsRequest (Request at words room request) = ⊤
-IsRequest (Change change) = ⊥
-IsRequest (Replace database) = ⊥
-IsRequest (Restart at) = ⊥
-IsRequest (Reopen database limits at) = ⊥
+abbrev GoesOn : KdcEvent → Type 0
+GoesOn (Request at words room request) = ⊤
+GoesOn (Change change) = ⊥
+GoesOn (Replace database) = ⊤
+GoesOn (Restart at) = ⊥
+GoesOn (Reopen database limits at) = ⊥
 
-abbrev AreRequests : List KdcEvent → Type 0
-AreRequests = AllByRecursion IsRequest
+abbrev AllGoOn : List KdcEvent → Type 0
+AllGoOn = AllByRecursion GoesOn
 
-both_requests : (events others : List KdcEvent) → AreRequests events → AreRequests others → AreRequests (events ++ others)
-both_requests [] others a b = b
-both_requests (event ∷ events) others a b = (a.0, both_requests events others a.1 b)
+both_go_on : (events others : List KdcEvent) → AllGoOn events → AllGoOn others → AllGoOn (events ++ others)
+both_go_on [] others a b = b
+both_go_on (event ∷ events) others a b = (a.0, both_go_on events others a.1 b)
 
-some_requests : (n : ℕ) (events : List KdcEvent) → AreRequests events → AreRequests (take n events)
-some_requests zero events a = tt
-some_requests (suc n) [] a = tt
-some_requests (suc n) (event ∷ events) a = (a.0, some_requests n events a.1)
+some_go_on : (n : ℕ) (events : List KdcEvent) → AllGoOn events → AllGoOn (take n events)
+some_go_on zero events a = tt
+some_go_on (suc n) [] a = tt
+some_go_on (suc n) (event ∷ events) a = (a.0, some_go_on n events a.1)
 
-others_requests : (reply : Option (List ℕ)) (others : List KdcEvent) → AreRequests others → AreRequests (others_after reply others)
-others_requests (Some reply) others a = a
-others_requests None others a = tt
+others_go_on : (reply : Option (List ℕ)) (others : List KdcEvent) → AllGoOn others → AllGoOn (others_after reply others)
+others_go_on (Some reply) others a = a
+others_go_on None others a = tt
 
-stream_asks : (i : Issuing) (at : Moment) (messages : List (List ℕ)) → AreRequests (stream_requests i at messages)
+stream_asks : (i : Issuing) (at : Moment) (messages : List (List ℕ)) → AllGoOn (stream_requests i at messages)
 unfolding stream_requests
 stream_asks i at [] = tt
 stream_asks i at (message ∷ messages) =
-    (tt, others_requests (reply_of i at stream_room message) (stream_requests (after i at stream_room message) at messages) (stream_asks (after i at stream_room message) at messages))
+    (tt, others_go_on (reply_of i at stream_room message) (stream_requests (after i at stream_room message) at messages) (stream_asks (after i at stream_room message) at messages))
 
-piece_asks : (i : Issuing) (at : Moment) (piece : List ℕ) (o : Option Splitting) → AreRequests (piece_requests i at piece o)
+piece_asks : (i : Issuing) (at : Moment) (piece : List ℕ) (o : Option Splitting) → AllGoOn (piece_requests i at piece o)
 piece_asks i at piece (Some s) = stream_asks i at (handed_out (fed s piece)).messages
 piece_asks i at piece None = tt
 
-entry_asks : (hub : Standing) (at : Moment) (stop : Option Stop) (event : Event) → AreRequests (requests_by stop hub at event)
+entry_asks : (hub : Standing) (at : Moment) (stop : Option Stop) (event : Event) → AllGoOn (requests_by stop hub at event)
 entry_asks hub at None (Datagram peer request) = (tt, tt)
 entry_asks hub at None (Opened conn) = tt
 entry_asks hub at None (Bytes conn piece) = piece_asks hub.issuing at piece (map.get hub.connections conn)
 entry_asks hub at None (Closed conn) = tt
 entry_asks hub at (Some stop) (Datagram peer request) = tt
 entry_asks hub at (Some stop) (Opened conn) = tt
-entry_asks hub at (Some stop) (Bytes conn piece) = some_requests stop.done _ (piece_asks hub.issuing at piece (map.get hub.connections conn))
+entry_asks hub at (Some stop) (Bytes conn piece) = some_go_on stop.done _ (piece_asks hub.issuing at piece (map.get hub.connections conn))
 entry_asks hub at (Some stop) (Closed conn) = tt
 
-log_asks : (start : Standing) (entries : List Entry) → AreRequests (events_in start (map_list Stepped entries))
-log_asks start [] = tt
-log_asks start (entry ∷ entries) = both_requests (requests_of start entry) _ (entry_asks start entry.at entry.stop entry.event) (log_asks (step_of start entry).hub entries)
+turn_asks : (hub : Standing) (turn : Turn) → IsOfOneProcess turn → AllGoOn (turn_events hub turn)
+turn_asks hub (Stepped entry) one = entry_asks hub entry.at entry.stop entry.event
+turn_asks hub (Replaced database) one = (tt, tt)
+turn_asks hub (Reopened database limits at random) one = absurd one
 
-from_any : (now : ℤ) (events : List KdcEvent) → AreRequests events → RestartsFrom now events
+turns_ask : (start : Standing) (turns : List Turn) → AllByRecursion IsOfOneProcess turns → AllGoOn (events_in start turns)
+turns_ask start [] one = tt
+turns_ask start (turn ∷ turns) one = both_go_on (turn_events start turn) _ (turn_asks start turn one.0) (turns_ask (after_turn start turn) turns one.1)
+
+from_any : (now : ℤ) (events : List KdcEvent) → AllGoOn events → RestartsFrom now events
 from_any now [] a = tt
 from_any now (Request at words room request ∷ events) a = from_any now events a.1
 from_any now (Change change ∷ events) a = absurd a.0
-from_any now (Replace database ∷ events) a = absurd a.0
+from_any now (Replace database ∷ events) a = from_any now events a.1
 from_any now (Restart at ∷ events) a = absurd a.0
 from_any now (Reopen database limits at ∷ events) a = absurd a.0
 
-follow_any : (events : List KdcEvent) → AreRequests events → RestartsFollow events
+follow_any : (events : List KdcEvent) → AllGoOn events → RestartsFollow events
 follow_any [] a = tt
 follow_any (Request at words room request ∷ events) a = (from_any at.sec events a.1, follow_any events a.1)
 follow_any (Change change ∷ events) a = absurd a.0
-follow_any (Replace database ∷ events) a = absurd a.0
+follow_any (Replace database ∷ events) a = follow_any events a.1
 follow_any (Restart at ∷ events) a = absurd a.0
 follow_any (Reopen database limits at ∷ events) a = absurd a.0
 
-pub one_ticket_in_log : OneTicketInLog
-one_ticket_in_log start entries c = one_ticket_sent start (map_list Stepped entries) (follow_any _ (log_asks start entries)) c
+pub one_ticket_in_process : OneTicketInProcess
+one_ticket_in_process start turns one c = one_ticket_sent start turns (follow_any _ (turns_ask start turns one)) c

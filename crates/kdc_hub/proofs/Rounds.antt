@@ -13,11 +13,11 @@ use Rattle.kdc_hub.specs.Wire.{IsCounted, Tells, is_fault}
 use Rattle.kdc_hub.specs.Rounds.{Tries, after_failure, action_connection}
 use Rattle.kdc_hub.specs.Acts.{AreActs}
 
-pub tells_nothing : (a : Option (List Did)) → Tells a [] a
+pub tells_nothing : {X : Type 0} (a : Option (List X)) → Tells a [] a
 tells_nothing None = tt
 tells_nothing (Some x) = sym (append-nil x)
 
-pub tells_on : (a : Option (List Did)) (d : List Did) (b : Option (List Did)) (e : List Did) (c : Option (List Did)) → Tells a d b → Tells b e c → Tells a (d ++ e) c
+pub tells_on : {X : Type 0} (a : Option (List X)) (d : List X) (b : Option (List X)) (e : List X) (c : Option (List X)) → Tells a d b → Tells b e c → Tells a (d ++ e) c
 tells_on a d b e None s t = tt
 tells_on a d None e (Some z) s t = absurd t
 tells_on None d (Some y) e (Some z) s t = absurd s

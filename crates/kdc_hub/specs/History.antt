@@ -1,7 +1,7 @@
 -- What a server lives through, and what that is in the one run of its key distribution centre.
-use Rattle.std.specs.Prelude.{◌≡◌, ℕ, zero, suc, Bool, List, [], ◌∷◌, ◌++◌, length, map as map_list, take, Option, Some, None, if◌then◌else◌, IsTrue}
+use Rattle.std.specs.Prelude.{◌≡◌, ℕ, ⊤, zero, suc, Bool, List, [], ◌∷◌, ◌++◌, length, map as map_list, take, Option, Some, None, if◌then◌else◌, IsTrue}
 use Rattle.std.specs.FinMap as map
-use Rattle.std.specs.List.{flat_map}
+use Rattle.std.specs.List.{AllByRecursion, flat_map}
 use Rattle.rand_core.specs.Stream.{Stream, fill_bytes}
 use Rattle.framing.specs.Splitting.{Splitting, fed, handed_out}
 use Rattle.krb_fields.specs.Name.{Components}
@@ -162,11 +162,30 @@ pub record AreServedAlike (c : Components) (S : Names) (start other : Standing) 
 -- What others send, over whatever connections and cut however, never changes what a client gets. In a second history nothing
 -- comes whole but the requests of c, each at its moment and with its draw, whoever brings it and however it is cut; the
 -- replacements and restarts are the same. Then c's requests get the same replies there, in order.
-abbrev pub ServesAlike : Type 0
-ServesAlike = (start other : Standing) (turns others : List Turn) (c : Components) (S : Names)
+abbrev pub ServesAlikeFrom : Standing → List Turn → Type 0
+ServesAlikeFrom start turns = (other : Standing) (others : List Turn) (c : Components) (S : Names)
     → IsTrue (S (ticket_granter start.issuing.kdc.database.realm)) → ServicesWithin c S start.issuing.kdc (events_in start turns) → AgreesFor c S start.issuing.kdc other.issuing.kdc
     → events_in other others ≡ strike c S start.issuing.kdc (events_in start turns)
     → AreServedAlike c S start other turns others
+
+abbrev pub ServesAlike : Type 0
+ServesAlike = (start : Standing) (turns : List Turn) → ServesAlikeFrom start turns
+
+pub record GetsTheSame (c : Components) (S : Names) (start other : Standing) (turns others : List Turn) : Type 0 where
+  pub replies : sent_to (is_request_of c) other others ≡ sent_to (is_request_of c) start turns
+  pub afterwards : AgreesFor c S (after_turns start turns).issuing.kdc (after_turns other others).issuing.kdc
+
+-- The same of two histories in either of which others send what they like: c's requests in them are the same, each at its
+-- moment and with its draw, and so are the replacements and restarts.
+abbrev pub UnaffectedFrom : Standing → List Turn → Type 0
+UnaffectedFrom start turns = (other : Standing) (others : List Turn) (c : Components) (S : Names)
+    → IsTrue (S (ticket_granter start.issuing.kdc.database.realm)) → ServicesWithin c S start.issuing.kdc (events_in start turns) → ServicesWithin c S other.issuing.kdc (events_in other others)
+    → AgreesFor c S start.issuing.kdc other.issuing.kdc
+    → strike c S other.issuing.kdc (events_in other others) ≡ strike c S start.issuing.kdc (events_in start turns)
+    → GetsTheSame c S start other turns others
+
+abbrev pub Unaffected : Type 0
+Unaffected = (start : Standing) (turns : List Turn) → UnaffectedFrom start turns
 
 -- the tickets that replies to a run's events bring to the client c, each with the time of the authenticator that bought it
 abbrev pub tickets_among : Components → State → List KdcEvent → List (Option (List ℕ)) → List (Stamp × List ℕ)
@@ -182,6 +201,12 @@ tickets_sent c start turns = tickets_among c start.issuing.kdc (events_in start 
 abbrev pub OneTicketSent : Type 0
 OneTicketSent = (start : Standing) (turns : List Turn) → RestartsFollow (events_in start turns) → (c : Components) → OneForEach (tickets_sent c start turns)
 
+-- a turn of a process that goes on
+abbrev pub IsOfOneProcess : Turn → Type 0
+IsOfOneProcess (Stepped entry) = ⊤
+IsOfOneProcess (Replaced database) = ⊤
+IsOfOneProcess (Reopened database limits at random) = ⊥
+
 -- While one process serves, nothing is asked of moments.
-abbrev pub OneTicketInLog : Type 0
-OneTicketInLog = (start : Standing) (entries : List Entry) (c : Components) → OneForEach (tickets_sent c start (map_list Stepped entries))
+abbrev pub OneTicketInProcess : Type 0
+OneTicketInProcess = (start : Standing) (turns : List Turn) → AllByRecursion IsOfOneProcess turns → (c : Components) → OneForEach (tickets_sent c start turns)

@@ -1,7 +1,7 @@
 //! What holds of every run of a hub: laws over the log that `Hub::step` meets.
 ghost use Rattle.std.specs.Prelude.{◌≡◌, ◌++◌, List, map};
 ghost use Rattle.kdc_hub.specs.Cutting.{IsSameInTwoPieces, RepliesAreSame};
-ghost use Rattle.kdc_hub.specs.History.{AnswersWhoAsked, IsOneRun, OneTicketSent, OneTicketInLog, ServesAlike, Stepped, Turn, after_turns};
+ghost use Rattle.kdc_hub.specs.History.{AnswersWhoAsked, IsOneRun, OneTicketInProcess, OneTicketSent, ServesAlike, Stepped, Turn, Unaffected, after_turns};
 ghost use Rattle.kdc_hub.specs.Hub.{Standing};
 ghost use Rattle.kdc_hub.specs.Logged.{Entry, logged};
 
@@ -27,9 +27,11 @@ pub fn one_run()
     ensures log { (start : Standing) (entries : List Entry) → after_turns start (map Stepped entries) ≡ (logged start entries).hub }
     // What others send, over whatever connections and cut however, never changes what a client gets.
     ensures isolation { ServesAlike }
+    // In two histories in which a client asks the same it gets the same, whatever others send in either.
+    ensures unaffected { Unaffected }
     // No authenticator buys two different tickets, through replacements and restarts too; of one process nothing is asked.
     ensures one_ticket { OneTicketSent }
-    ensures one_ticket_in_log { OneTicketInLog }
+    ensures one_ticket_in_process { OneTicketInProcess }
     // The replies go to who asked.
     ensures who_asked { AnswersWhoAsked }
 {}

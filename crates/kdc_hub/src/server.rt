@@ -39,6 +39,9 @@ enum ActOutcome {
 pub fn serve<W: Wire, R: Rng>(alloc: Global, wire: &mut W, hub: &mut Hub<R>, rounds: u32) -> Served
     ensures run { IsRun (W.told wire.old) (standing R.stream hub.old) rounds result (W.told wire.new) (standing R.stream hub.new) }
     ensures counted { IsCounted (W.fault_count wire.old) result.faults (W.fault_count wire.new) }
+    // A round takes one event at most.
+    ensures few_events { result.events ≤ rounds }
+    ensures few_refused { result.refused ≤ rounds }
 {
     let mut served = Served {
         events: 0,

@@ -1,4 +1,4 @@
-use Rattle.kdc_core.proofs.Isolation.{isolation}
+use Rattle.kdc_core.proofs.Isolation.{isolation, unaffected}
 use Rattle.kdc_core.proofs.Tickets.{one_ticket}
 use Rattle.kdc_core.proofs.laws.any_run.Goals as goal
 
@@ -7,3 +7,6 @@ returns-clause-isolation c = isolation
 
 pub returns-clause-one_ticket : goal.returns-clause-one_ticket
 returns-clause-one_ticket c = one_ticket
+
+pub returns-clause-unaffected : goal.returns-clause-unaffected
+returns-clause-unaffected c = unaffected

@@ -16,8 +16,11 @@ returns-clause-isolation c = histories.serves_alike
 pub returns-clause-one_ticket : goal.returns-clause-one_ticket
 returns-clause-one_ticket c = histories.one_ticket_sent
 
-pub returns-clause-one_ticket_in_log : goal.returns-clause-one_ticket_in_log
-returns-clause-one_ticket_in_log c = histories.one_ticket_in_log
+pub returns-clause-unaffected : goal.returns-clause-unaffected
+returns-clause-unaffected c = histories.unaffected
+
+pub returns-clause-one_ticket_in_process : goal.returns-clause-one_ticket_in_process
+returns-clause-one_ticket_in_process c = histories.one_ticket_in_process
 
 pub returns-clause-who_asked : goal.returns-clause-who_asked
 returns-clause-who_asked c = histories.who_asked
