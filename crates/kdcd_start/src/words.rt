@@ -1,6 +1,7 @@
 //! The words of a command line.
 use clap::error::Error;
-use clap::{Arg, ArgAction, ArgMatches, Command};
+use clap::{ArgMatches, Command};
+use command_options::{OptionWords, flag, with_options};
 use std::alloc::{AllocError, Global};
 use std::net::SocketAddr;
 use text_fields::number_u32;
@@ -34,21 +35,33 @@ Status: 0 after the last round; 1 where a file is refused (`refused NAME`: NotJs
 ShortSeed, LongFile); 2 for these words; 3 where a file, a socket, the clock or memory failed (`failed`). Why it could not
 start stands on standard error.";
 
-/// The options of `kdcd serve` that have to be there: the name, what stands for the value, and what that is.
-const OPTIONS: &[(&str, &str, &str)] = &[
-    ("db", "FILE", "The database, as `kadm` writes it"),
-    (
-        "udp",
-        "ADDRESS:PORT",
-        "Where datagrams are taken, as 127.0.0.1:88 or [::]:88",
-    ),
-    ("tcp", "ADDRESS:PORT", "Where connections are taken"),
-    ("rounds", "N", "How many rounds it serves, 0 to 4294967295"),
-    (
-        "seed",
-        "FILE",
-        "32 random octets, others at each start: all keys of tickets are made of them",
-    ),
+/// The options of `kdcd serve` that have to be there.
+const OPTIONS: &[OptionWords] = &[
+    OptionWords {
+        name: "db",
+        shape: "FILE",
+        help: "The database, as `kadm` writes it",
+    },
+    OptionWords {
+        name: "udp",
+        shape: "ADDRESS:PORT",
+        help: "Where datagrams are taken, as 127.0.0.1:88 or [::]:88",
+    },
+    OptionWords {
+        name: "tcp",
+        shape: "ADDRESS:PORT",
+        help: "Where connections are taken",
+    },
+    OptionWords {
+        name: "rounds",
+        shape: "N",
+        help: "How many rounds it serves, 0 to 4294967295",
+    },
+    OptionWords {
+        name: "seed",
+        shape: "FILE",
+        help: "32 random octets, others at each start: all keys of tickets are made of them",
+    },
 ];
 
 const FIRST: &str =
@@ -66,26 +79,10 @@ pub fn read_words<'a>(alloc: Global, words: &'a [String]) -> Result<ArgMatches<'
 }
 
 fn serve_command<'a>(alloc: Global) -> Result<Command<'a>, AllocError> {
-    let mut command = Command::new(alloc, "serve")
+    let command = Command::new(alloc, "serve")
         .about(ABOUT)
         .after_help(AFTER_HELP);
-    for (name, shape, help) in OPTIONS {
-        command = command.arg(option(alloc, name, shape, help))?;
-    }
-    let first = Arg::new(alloc, "first")
-        .long("first")
-        .action(ArgAction::SetTrue)
-        .help(FIRST);
-    command.arg(first)
-}
-
-fn option<'a>(alloc: Global, name: &'a str, shape: &'a str, help: &'a str) -> Arg<'a> {
-    Arg::new(alloc, name)
-        .long(name)
-        .value_name(shape)
-        .action(ArgAction::Set)
-        .required(true)
-        .help(help)
+    with_options(alloc, command, OPTIONS)?.arg(flag(alloc, "first", FIRST))
 }
 
 /// The options that the words behind `serve` stand for; else what is wrong with them.
