@@ -32,7 +32,7 @@ pub use asked::{Asked, MAX_ETYPES};
 pub use fault::{ClientFault, Mismatch, Refusal};
 pub use key_role::KeyRole;
 pub use passwords::{EtypeInfo2, MAX_COUNT, password_key};
-pub use replies::{read_as_reply, read_tgs_reply};
+pub use replies::{read_as_reply, read_tgs_reply, refusal_in};
 pub use requests::{as_request, with_timestamp};
 pub use service_asked::ServiceAsked;
 pub use service_replies::read_ap_reply;

@@ -9,6 +9,7 @@ mod keytab_entry;
 mod magic;
 mod principal;
 mod reader;
+mod room;
 mod stored;
 mod width;
 mod writer;
