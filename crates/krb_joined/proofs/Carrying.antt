@@ -1,36 +1,71 @@
 -- What holds of a ticket that may have been issued, from one call to the next.
-use Rattle.std.proofs.Common.{ℤ, Option, Some, None, Result, Err}
-use Rattle.std.specs.Prelude.{IfSome}
+use Rattle.std.proofs.Common.{◌≡◌, ℕ, ℤ, List, Option, Some, None, Result, Ok, Err, subst, sym}
+use Rattle.std.specs.Prelude.{IfErr, IfOk, IfSome}
 use Rattle.cred_files.specs.declared.credential.Credential.{Credential}
-use Rattle.enctypes.specs.declared.key.Key.{Key}
 use Rattle.krb_fields.specs.declared.moment.Moment.{Moment}
 use Rattle.kdc_replies.specs.Issue.{Issue}
-use Rattle.client_core.specs.declared.key_role.KeyRole.{KeyRole}
+use Rattle.client_core.specs.declared.asked.Asked.{Asked}
+use Rattle.client_core.specs.declared.fault.ClientFault.{ClientFault}
+use Rattle.client_core.specs.declared.service_asked.ServiceAsked.{ServiceAsked}
 use Rattle.ap_accept.specs.declared.accepted.Accepted.{Accepted}
 use Rattle.ap_accept.specs.declared.state.State.{State}
 use Rattle.krb_joined.specs.Credential.{IsCredentialOf}
-use Rattle.krb_joined.specs.Joined.{IsBefore, IsJoined, MayBeAccepted}
-use Rattle.krb_joined.specs.Reading.{IsReader}
+use Rattle.krb_joined.specs.Joined.{IsBefore, IsEnded, IsJoined, IsLater, IsPresented, IsRead, MayBeAccepted}
+use Rattle.krb_joined.specs.Reading.{IsReader, reads_reply}
 use Rattle.krb_joined.specs.declared.fault.JoinedFault.{JoinedFault}
 use Rattle.krb_joined.specs.declared.fault.JoinedFault.TheVariants.{NoReply, NotTaken, NotPresentable, NotAccepted, NotAnswered, Memory}
+use Rattle.krb_joined.specs.declared.reading.Reader.{Reader}
 
-module _ (role : KeyRole) (key : Key) (state : State) (now : ℤ) (sent : Moment) where
+module _ (own : Reader) (state : State) (now : ℤ) (wanted : ServiceAsked) (sent : Moment) where
   -- the credential that was obtained is accepted
-  pub carried : (o : Option Issue) (credential : Credential) (result : Result Accepted JoinedFault) → IfSome o (λ issue. IsReader role key issue → IsCredentialOf issue credential)
-      → ((issue : Issue) → IsCredentialOf issue credential → MayBeAccepted issue state now sent → IsJoined issue result)
-      → IfSome o (λ issue. IsReader role key issue → MayBeAccepted issue state now sent → IsJoined issue result)
+  pub carried : (o : Option Issue) (credential : Credential) (result : Result Accepted JoinedFault) → IfSome o (λ issue. IsReader own issue → IsCredentialOf issue credential)
+      → ((issue : Issue) → IsCredentialOf issue credential → MayBeAccepted issue state now sent → IsJoined issue wanted sent result)
+      → IfSome o (λ issue. IsReader own issue → MayBeAccepted issue state now sent → IsJoined issue wanted sent result)
   carried (Some issue) credential result obtained presented = λ reader may. presented issue (obtained reader) may
   carried None credential result obtained presented = tt
 
-  ended : (issue : Issue) (fault : JoinedFault) → IsBefore fault → IsJoined issue (Err fault)
-  ended issue NoReply is = tt
-  ended issue (NotTaken fault) is = tt
-  ended issue NotPresentable is = tt
-  ended issue (NotAccepted fault) is = absurd is
-  ended issue (NotAnswered fault) is = absurd is
-  ended issue Memory is = tt
+  ended : (issue : Issue) (asked : Asked) (reply : Option (List ℕ)) (fault : JoinedFault) → (reply ≡ None → Some issue ≡ None) → IsBefore fault → IsEnded reply asked own fault → IsJoined issue wanted sent (Err fault)
+  ended issue asked reply NoReply silent is none = let k = silent none in absurd cc
+  ended issue asked reply (NotTaken fault) silent is e = tt
+  ended issue asked reply NotPresentable silent is e = absurd is
+  ended issue asked reply (NotAccepted fault) silent is e = absurd is
+  ended issue asked reply (NotAnswered fault) silent is e = absurd is
+  ended issue asked reply Memory silent is e = tt
 
-  -- where none was obtained, no service is asked
-  pub stopped : (o : Option Issue) (fault : JoinedFault) → IsBefore fault → IfSome o (λ issue. IsReader role key issue → MayBeAccepted issue state now sent → IsJoined issue (Err fault))
-  stopped (Some issue) fault is = λ reader may. ended issue fault is
-  stopped None fault is = tt
+  -- where none was obtained, no service is asked; and there was a reply
+  pub stopped : (o : Option Issue) (asked : Asked) (reply : Option (List ℕ)) (fault : JoinedFault) → (reply ≡ None → o ≡ None) → IsBefore fault → IsEnded reply asked own fault
+      → IfSome o (λ issue. IsReader own issue → MayBeAccepted issue state now sent → IsJoined issue wanted sent (Err fault))
+  stopped (Some issue) asked reply fault silent is e = λ reader may. ended issue asked reply fault silent is e
+  stopped None asked reply fault silent is e = tt
+
+  -- what the client took is what is presented
+  pub presented_so : (asked : Asked) (reply : Option (List ℕ)) (credential : Credential) (result : Result Accepted JoinedFault) → IsRead reply asked own credential → IsPresented credential sent result
+      → IfSome reply (λ octets. IfOk (reads_reply own asked octets) (λ c. IsPresented c sent result))
+  presented_so asked (Some octets) credential result read is = subst (λ (r : Result Credential ClientFault). IfOk r (λ c. IsPresented c sent result)) (sym read) is
+  presented_so asked None credential result read is = tt
+
+  before : (credential : Credential) (fault : JoinedFault) → IsBefore fault → IsPresented credential sent (Err fault)
+  before credential NoReply is = tt
+  before credential (NotTaken fault) is = tt
+  before credential NotPresentable is = absurd is
+  before credential (NotAccepted fault) is = absurd is
+  before credential (NotAnswered fault) is = absurd is
+  before credential Memory is = tt
+
+  pub not_presented : (asked : Asked) (reply : Option (List ℕ)) (fault : JoinedFault) → IsBefore fault → IfSome reply (λ octets. IfOk (reads_reply own asked octets) (λ c. IsPresented c sent (Err fault)))
+  not_presented asked (Some octets) fault is = by (reads_reply own asked octets)
+    where
+      by : (r : Result Credential ClientFault) → IfOk r (λ c. IsPresented c sent (Err fault))
+      by (Ok c) = before c fault is
+      by (Err e) = tt
+  not_presented asked None fault is = tt
+
+  -- a later fault is none of the KDC's
+  pub later_ended : (asked : Asked) (reply : Option (List ℕ)) (result : Result Accepted JoinedFault) → IfErr result IsLater → IfErr result (IsEnded reply asked own)
+  later_ended asked reply (Ok accepted) is = tt
+  later_ended asked reply (Err NoReply) is = absurd is
+  later_ended asked reply (Err (NotTaken fault)) is = absurd is
+  later_ended asked reply (Err NotPresentable) is = tt
+  later_ended asked reply (Err (NotAccepted fault)) is = tt
+  later_ended asked reply (Err (NotAnswered fault)) is = tt
+  later_ended asked reply (Err Memory) is = tt

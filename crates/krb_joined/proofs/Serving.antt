@@ -1,5 +1,5 @@
 -- What comes of a credential of a ticket that was issued, once the client has made an AP-REQ of it.
-use Rattle.std.proofs.Common.{◌≡◌, ℕ, List, Option, Some, None, Result, Ok, Err, refl, sym, ap, subst, ◌∙◌}
+use Rattle.std.proofs.Common.{◌≡◌, ℕ, Bool, true, false, List, Option, Some, None, is_some, Result, Ok, Err, refl, sym, ap, subst, ◌∙◌}
 use Rattle.std.specs.Prelude.{IfSome}
 use Rattle.std.specs.Result.{result_ok}
 use Rattle.cred_files.specs.declared.credential.Credential.{Credential}
@@ -23,14 +23,14 @@ use Rattle.client_core.specs.declared.service_asked.ServiceAsked.{ServiceAsked}
 use Rattle.client_core.specs.declared.sessions.Session.{Session}
 use Rattle.ap_accept.specs.Accepts.{IsAnswer, accepted, accepts, presented_by, presented_if, request_of}
 use Rattle.ap_accept.specs.Presented.{presented}
-use Rattle.ap_accept.specs.Reply.{IsApReply, reply_part}
+use Rattle.ap_accept.specs.Reply.{IsApReply, reply_if, reply_part}
 use Rattle.ap_accept.specs.declared.accepted.Accepted.{Accepted}
 use Rattle.ap_accept.specs.declared.fault.ApFault.{ApFault}
 use Rattle.ap_accept.specs.declared.fault.ApFault.TheVariants as ap_faults
 use Rattle.ap_accept.specs.declared.presented.Presented.{Presented}
 use Rattle.ap_accept.specs.declared.state.State.{State}
 use Rattle.krb_joined.specs.Credential.{IsCredentialOf, issued_credential, issued_session}
-use Rattle.krb_joined.specs.Joined.{IsAccepted, IsHeard, IsJoined, IsUnheard, MayBeAccepted}
+use Rattle.krb_joined.specs.Joined.{IsAccepted, IsHeard, IsJoined, IsUnheard, MayBeAccepted, moment_part}
 use Rattle.krb_joined.specs.declared.fault.JoinedFault.{JoinedFault}
 use Rattle.krb_joined.specs.declared.fault.JoinedFault.TheVariants.{NoReply, NotTaken, NotPresentable, NotAccepted, NotAnswered, Memory}
 use Rattle.krb_joined.proofs.Accepted.{answer_is, auth, p, presented_is}
@@ -55,6 +55,18 @@ unheard : (key : Key) (own : List ℕ) (a : Authenticator) (sent : Moment) (repl
     → IsUnheard key sent reply fault → fault ≡ client_faults.Memory
 unheard key own a sent (Some octets) fault second microsecond is h = unread fault (reply_part a) (reads_ap key sent octets) (answer_taken key own a octets sent second microsecond is) h
 unheard key own a sent None fault second microsecond is h = absurd h
+
+-- what the client reads of the AP-REP
+heard_if : (key : Key) (own : List ℕ) (a : Authenticator) (sent : Moment) (reply : Option (List ℕ)) → a.ctime ≡ sent.sec → a.cusec ≡ sent.usec → IfSome reply (λ octets. IsApReply key own a octets)
+    → IfSome reply (λ octets. reads_ap key sent octets ≡ Ok (moment_part sent))
+heard_if key own a sent (Some octets) second microsecond is =
+    answer_taken key own a octets sent second microsecond is ∙ (λ i. Ok (record { ctime = second i; cusec = microsecond i; subkey = None; seq_number = None }))
+heard_if key own a sent None second microsecond is = tt
+
+-- it is there where it is asked for
+reply_there : (wanted : Bool) (key : Key) (own : List ℕ) (a : Authenticator) → is_some (reply_if wanted key own a) ≡ wanted
+reply_there true key own a = refl
+reply_there false key own a = refl
 
 module _ (issue : Issue) (state : State) (credential : Credential) (sent at : Moment) (asked : ServiceAsked) (confounder own octets made : List ℕ) (same : octets ≡ made)
     (of : IsCredentialOf issue credential) (may : MayBeAccepted issue state at.sec sent) (valid : IfSome asked.subkey IsKey)
@@ -86,18 +98,39 @@ module _ (issue : Issue) (state : State) (credential : Credential) (sent at : Mo
   refused_so (ap_faults.Refused refusal) h = absurd (let k = sym h ∙ ruled in cc)
   refused_so ap_faults.Memory h = refl
 
-  -- what it accepts is what was granted, and the client takes its reply
-  pub accepted_so : (a : Accepted) (heard : Result Accepted JoinedFault) (key : Key) → session_key credential ≡ Some key → IsAnswer (Ok a) (accepts state at own octets).answer
-      → IfSome (presented_by state octets) (λ p. IfSome a.ap_rep (λ reply. IsApReply p.session_key own p.authenticator reply)) → IsHeard key sent a heard → IsJoined issue heard
-  accepted_so a (Ok b) key e h reply heard =
+  -- ---- the answer
+
+  found : presented_by state octets ≡ Some (p issue state sent asked confounder)
+  found = ap (presented_if state) read ∙ ap result_ok opened
+
+  -- an AP-REP is one that the session key opens
+  answers : (a : Accepted) → IfSome (presented_by state octets) (λ p. IfSome a.ap_rep (λ reply. IsApReply p.session_key own p.authenticator reply))
+      → IfSome a.ap_rep (λ reply. IsApReply issue.grant.session_key own (auth issue state sent asked confounder) reply)
+  answers a reply = subst (λ (o : Option Presented). IfSome o (λ p. IfSome a.ap_rep (λ reply. IsApReply p.session_key own p.authenticator reply))) found reply
+
+  -- what it accepts is what was granted and what was sent
+  joined : (a : Accepted) → IsAnswer (Ok a) (accepts state at own octets).answer → IfSome a.ap_rep (λ reply. IsApReply issue.grant.session_key own (auth issue state sent asked confounder) reply) → IsAccepted issue asked sent a
+  joined a h reply =
       let is : a ≡ accepted own asked.mutual_required (p issue state sent asked confounder) = ok_same a (accepted own asked.mutual_required (p issue state sent asked confounder)) (accepts state at own octets).answer h ruled in
-      subst (λ (x : Accepted). IsAccepted issue x) (sym (heard ∙ is)) (record { client = refl; session_key = refl; ticket = refl })
+      record {
+        client = ap (λ (x : Accepted). x.client) is;
+        session_key = ap (λ (x : Accepted). x.session_key) is;
+        ticket = ap (λ (x : Accepted). x.ticket) is;
+        subkey = ap (λ (x : Accepted). x.subkey) is;
+        seq_number = ap (λ (x : Accepted). x.seq_number) is;
+        checksum = ap (λ (x : Accepted). x.cksum) is;
+        replied = ap (λ (x : Accepted). is_some x.ap_rep) is ∙ reply_there asked.mutual_required issue.grant.session_key own (auth issue state sent asked confounder);
+        heard = heard_if issue.grant.session_key own (auth issue state sent asked confounder) sent a.ap_rep refl refl reply;
+      }
+
+  -- and the client takes its reply
+  pub accepted_so : (a : Accepted) (heard : Result Accepted JoinedFault) (key : Key) → session_key credential ≡ Some key → IsAnswer (Ok a) (accepts state at own octets).answer
+      → IfSome (presented_by state octets) (λ p. IfSome a.ap_rep (λ reply. IsApReply p.session_key own p.authenticator reply)) → IsHeard key sent a heard → IsJoined issue asked sent heard
+  accepted_so a (Ok b) key e h reply heard = subst (λ (x : Accepted). IsAccepted issue asked sent x) (sym heard.0) (joined a h (answers a reply))
   accepted_so a (Err (NotAnswered fault)) key e h reply heard =
-      let found : presented_by state octets ≡ Some (p issue state sent asked confounder) = ap (presented_if state) read ∙ ap result_ok opened in
       let shared : issue.grant.session_key ≡ key = some_same issue.grant.session_key key (sym of.key ∙ e) in
-      let answers = subst (λ (o : Option Presented). IfSome o (λ p. IfSome a.ap_rep (λ reply. IsApReply p.session_key own p.authenticator reply))) found reply in
       unheard key own (auth issue state sent asked confounder) sent a.ap_rep fault refl refl
-      (subst (λ (k : Key). IfSome a.ap_rep (λ reply. IsApReply k own (auth issue state sent asked confounder) reply)) shared answers) heard
+      (subst (λ (k : Key). IfSome a.ap_rep (λ reply. IsApReply k own (auth issue state sent asked confounder) reply)) shared (answers a reply)) heard
   accepted_so a (Err NoReply) key e h reply heard = absurd heard
   accepted_so a (Err (NotTaken fault)) key e h reply heard = absurd heard
   accepted_so a (Err NotPresentable) key e h reply heard = absurd heard

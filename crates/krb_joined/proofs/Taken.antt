@@ -1,5 +1,5 @@
 -- What a client takes from a reply that was issued is the credential of that ticket.
-use Rattle.std.proofs.Common.{◌≡◌, inl, inr, ℕ, ℤ, true, false, List, [], Option, Some, eqb, eq-eqb, refl, sym, ap, subst, ◌∙◌}
+use Rattle.std.proofs.Common.{◌≡◌, inl, inr, ℕ, ℤ, true, false, List, [], Option, Some, Result, eqb, eq-eqb, refl, sym, ap, subst, ◌∙◌}
 use Rattle.std.specs.Option.{unwrap_or}
 use Rattle.cred_files.specs.declared.credential.Credential.{Credential}
 use Rattle.enctypes.specs.KeyUsage.{usage_number}
@@ -20,13 +20,16 @@ use Rattle.krb_types.specs.declared.kdc_req.Exchange.TheVariants.{As, Tgs}
 use Rattle.krb_types.specs.Ticket.{ticket}
 use Rattle.kdc_replies.specs.Issue.{Issue, IsIssued, IsIssuedOrError, issued_part, issued_reply, part_tag, reply_type}
 use Rattle.client_core.specs.Credentials.{credential_of}
-use Rattle.client_core.specs.Replies.{opened_as, opened_in, or_else}
+use Rattle.client_core.specs.Replies.{opened_as, opened_in, or_else, reads}
 use Rattle.client_core.specs.Taken.{IsTaken}
+use Rattle.client_core.specs.Faults.{Gives}
 use Rattle.client_core.specs.declared.asked.Asked.{Asked}
+use Rattle.client_core.specs.declared.fault.ClientFault.{ClientFault}
 use Rattle.client_core.specs.declared.key_role.KeyRole.{KeyRole}
 use Rattle.client_core.specs.declared.key_role.KeyRole.TheVariants.{Client, Subkey, Session}
 use Rattle.krb_joined.specs.Credential.{issued_credential}
-use Rattle.krb_joined.specs.Reading.{IsReader, exchange_of, usage_of}
+use Rattle.krb_joined.specs.Reading.{IsReader, IsTakenBy, exchange_of, reads_reply, usage_of}
+use Rattle.krb_joined.specs.declared.reading.Reader.{Reader}
 
 -- ---- what octets are an AS-REP or a TGS-REP are no KRB-ERROR
 
@@ -53,25 +56,29 @@ opens_so Session key sealed part e = e
 some_is : {A : Type 0} (x y : A) → Some x ≡ Some y → x ≡ y
 some_is x y e = ap (λ o. unwrap_or o x) e
 
+-- what is read in a role
+pub read_so : (own : Reader) (asked : Asked) (octets : List ℕ) (r : Result Credential ClientFault) {role : KeyRole} → own.role ≡ role → Gives r (reads (reply_type (exchange_of role)) role asked own.key own.at.sec octets) → Gives r (reads_reply own asked octets)
+read_so own asked octets r is gives = subst (λ (x : KeyRole). Gives r (reads (reply_type (exchange_of x)) x asked own.key own.at.sec octets)) (sym is) gives
+
 -- ---- the reply that was issued
 
-module _ (issue : Issue) (octets : List ℕ) (fits : IsBytes octets) (role : KeyRole) (asked : Asked) (key : Key) (now : ℤ) (c : Credential) (reader : IsReader role key issue) where
+module _ (issue : Issue) (octets : List ℕ) (fits : IsBytes octets) (own : Reader) (asked : Asked) (c : Credential) (reader : IsReader own issue) where
   reading : IsWhole (kdc_rep (reply_type issue.exchange)).Spells (whole (kdc_rep (reply_type issue.exchange)).at)
   reading = whole_ok (kdc_rep (reply_type issue.exchange)).Spells (kdc_rep (reply_type issue.exchange)).at (kdc_rep (reply_type issue.exchange)).laws.element.reading
 
-  opened : IsIssued issue octets → opened_as role key (issued_reply issue).enc_part ≡ Some (issued_part issue)
+  opened : IsIssued issue octets → opened_as own.role own.key (issued_reply issue).enc_part ≡ Some (issued_part issue)
   opened is =
       let sealed = (issued_reply issue).enc_part in
-      let same : opened_in (part_tag (exchange_of role)) key (usage_of role) sealed ≡ opened_in (part_tag issue.exchange) issue.reply_key.key (usage_number issue.reply_key.usage) sealed =
+      let same : opened_in (part_tag (exchange_of own.role)) own.key (usage_of own.role) sealed ≡ opened_in (part_tag issue.exchange) issue.reply_key.key (usage_number issue.reply_key.usage) sealed =
       (λ i. opened_in (part_tag (reader.exchange i)) (reader.reply_key i) (reader.usage i) sealed) in
-      opens_so role key sealed (issued_part issue) (same ∙ is.client_reads)
+      opens_so own.role own.key sealed (issued_part issue) (same ∙ is.client_reads)
 
-  by_reply : IsIssuedOrError issue octets → IsTaken (reply_type issue.exchange) role asked key now octets c → IsIssued issue octets × (c ≡ issued_credential issue)
+  by_reply : IsIssuedOrError issue octets → IsTaken (reply_type issue.exchange) own.role asked own.key own.at.sec octets c → IsIssued issue octets × (c ≡ issued_credential issue)
   by_reply (inl is) taken =
       let reply : taken.reply ≡ issued_reply issue = ok_is taken.reply (issued_reply issue) (sym taken.spelled ∙ reading.again (issued_reply issue) octets is.spelled) in
-      let part : taken.part ≡ issued_part issue = some_is taken.part (issued_part issue) (sym taken.opens ∙ (ap (λ (r : KdcRep (reply_type issue.exchange)). opened_as role key r.enc_part) reply ∙ opened is)) in
+      let part : taken.part ≡ issued_part issue = some_is taken.part (issued_part issue) (sym taken.opens ∙ (ap (λ (r : KdcRep (reply_type issue.exchange)). opened_as own.role own.key r.enc_part) reply ∙ opened is)) in
       (is, taken.is ∙ (λ i. credential_of (reply_type issue.exchange) (reply i) (part i)))
   by_reply (inr is) taken = absurd (reply_or_error issue.exchange taken.reply is.0 octets (reading.takes octets taken.reply fits taken.spelled) is.1)
 
-  pub credential_taken : IsIssuedOrError issue octets → IsTaken (reply_type (exchange_of role)) role asked key now octets c → IsIssued issue octets × (c ≡ issued_credential issue)
-  credential_taken is taken = by_reply is (subst (λ (x : Exchange). IsTaken (reply_type x) role asked key now octets c) reader.exchange taken)
+  pub credential_taken : IsIssuedOrError issue octets → IsTakenBy own asked octets c → IsIssued issue octets × (c ≡ issued_credential issue)
+  credential_taken is taken = by_reply is (subst (λ (x : Exchange). IsTaken (reply_type x) own.role asked own.key own.at.sec octets c) reader.exchange taken)

@@ -1,5 +1,5 @@
 -- What comes of a ticket that was issued: the service that it is for accepts the client.
-use Rattle.std.specs.Prelude.{◌≡◌, ⊤, false, ℕ, ℤ, pos, ◌+ℤ◌, ◌-ℤ◌, ◌≤ℤ◌, List, Option, Some, None, Result, Ok, Err}
+use Rattle.std.specs.Prelude.{◌≡◌, ⊤, false, ℕ, ℤ, pos, ◌+ℤ◌, ◌-ℤ◌, ◌≤ℤ◌, List, Option, Some, None, is_some, Result, Ok, Err, IfSome, IsOk}
 use Rattle.krb_fields.specs.Flags.{has_bit}
 use Rattle.krb_fields.specs.TicketFlag.{ticket_flag_number}
 use Rattle.krb_fields.specs.declared.moment.Moment.{Moment}
@@ -14,11 +14,20 @@ use Rattle.ap_accept.specs.declared.accepted.Accepted.{Accepted}
 use Rattle.ap_accept.specs.declared.state.State.{State}
 use Rattle.ap_accept.specs.declared.fault.ApFault.TheVariants as ap_faults
 use Rattle.client_core.specs.Faults.{Fails}
+use Rattle.client_core.specs.Presenting.{number_part}
 use Rattle.client_core.specs.ServiceReplies.{reads_ap}
+use Rattle.client_core.specs.Sessions.{is_presentable, session_key}
+use Rattle.client_core.specs.declared.asked.Asked.{Asked}
 use Rattle.client_core.specs.declared.fault.ClientFault.{ClientFault}
 use Rattle.client_core.specs.declared.fault.ClientFault.TheVariants as client_faults
+use Rattle.client_core.specs.declared.service_asked.ServiceAsked.{ServiceAsked}
+use Rattle.cred_files.specs.declared.credential.Credential.{Credential}
 use Rattle.enctypes.specs.declared.key.Key.{Key}
+use Rattle.krb_parts.specs.EncApRepPart.{EncApRepPart}
+use Rattle.krb_joined.specs.Credential.{issued_credential}
+use Rattle.krb_joined.specs.Reading.{reads_reply}
 use Rattle.krb_joined.specs.declared.fault.JoinedFault.{JoinedFault}
+use Rattle.krb_joined.specs.declared.reading.Reader.{Reader}
 use Rattle.krb_joined.specs.declared.fault.JoinedFault.TheVariants.{NoReply, NotTaken, NotPresentable, NotAccepted, NotAnswered, Memory}
 
 -- What has to hold at the service, at the second `now`, for an AP-REQ that was sent at a moment: the keytab's entry that the
@@ -31,31 +40,85 @@ pub record MayBeAccepted (issue : Issue) (state : State) (now : ℤ) (sent : Mom
   pub not_ended : (now -ℤ pos 300) ≤ℤ issue.grant.times.end
   pub fresh : verdict (memory_of state (service_of (issued_ticket issue)) issue.grant.client.components) now (sent.sec, sent.usec) state.limits.remembered ≡ Fresh
 
--- what the service learns is what was granted: the client, the session key, and the ticket's flags and times
-pub record IsAccepted (issue : Issue) (accepted : Accepted) : Type 0 where
+-- the authenticator's time, and no more: what a service seals into the AP-REP
+abbrev pub moment_part : Moment → EncApRepPart
+moment_part sent = record { ctime = sent.sec; cusec = sent.usec; subkey = None; seq_number = None }
+
+-- What the service learns is what was granted (the client, the session key, and the ticket's flags and times) and what the client
+-- sent at this moment. An AP-REP is there exactly where the client asked for one, and the client takes it.
+pub record IsAccepted (issue : Issue) (wanted : ServiceAsked) (sent : Moment) (accepted : Accepted) : Type 0 where
   pub client : accepted.client ≡ record { realm = issue.grant.realm; name = issue.grant.client }
   pub session_key : accepted.session_key ≡ issue.grant.session_key
   pub ticket : accepted.ticket ≡ terms_of (issued_ticket_part issue)
+  pub subkey : accepted.subkey ≡ wanted.subkey
+  pub seq_number : accepted.seq_number ≡ number_part wanted.seq_number
+  pub checksum : accepted.cksum ≡ wanted.checksum
+  pub replied : is_some accepted.ap_rep ≡ wanted.mutual_required
+  pub heard : IfSome accepted.ap_rep (λ octets. reads_ap issue.grant.session_key sent octets ≡ Ok (moment_part sent))
 
 -- The service doesn't refuse the client, nor the client the service's reply, but for want of memory. Else it ended before the
--- service was asked.
-abbrev pub IsJoined : Issue → Result Accepted JoinedFault → Type 0
-IsJoined issue (Ok accepted) = IsAccepted issue accepted
-IsJoined issue (Err (NotAccepted fault)) = fault ≡ ap_faults.Memory
-IsJoined issue (Err (NotAnswered fault)) = fault ≡ client_faults.Memory
-IsJoined issue (Err NoReply) = ⊤
-IsJoined issue (Err (NotTaken fault)) = ⊤
-IsJoined issue (Err NotPresentable) = ⊤
-IsJoined issue (Err Memory) = ⊤
+-- service was asked: the client didn't take the reply (`IsEnded` says when), or what it took can't be presented.
+abbrev pub IsJoined : Issue → ServiceAsked → Moment → Result Accepted JoinedFault → Type 0
+IsJoined issue wanted sent (Ok accepted) = IsAccepted issue wanted sent accepted
+IsJoined issue wanted sent (Err (NotAccepted fault)) = fault ≡ ap_faults.Memory
+IsJoined issue wanted sent (Err (NotAnswered fault)) = fault ≡ client_faults.Memory
+IsJoined issue wanted sent (Err NoReply) = ⊥
+IsJoined issue wanted sent (Err (NotTaken fault)) = ⊤
+IsJoined issue wanted sent (Err NotPresentable) = is_presentable (issued_credential issue) ≡ false
+IsJoined issue wanted sent (Err Memory) = ⊤
 
--- a fault before the service is asked
+-- the client's rules don't take the reply, for this fault or for want of memory
+abbrev pub IsUntaken : Option (List ℕ) → Asked → Reader → ClientFault → Type 0
+IsUntaken (Some octets) asked reader fault = Fails fault (reads_reply reader asked octets)
+IsUntaken None asked reader fault = ⊥
+
+-- where it ends with the KDC, this is its reply: none, or one that the client doesn't take
+abbrev pub IsEnded : Option (List ℕ) → Asked → Reader → JoinedFault → Type 0
+IsEnded reply asked reader NoReply = reply ≡ None
+IsEnded reply asked reader (NotTaken fault) = IsUntaken reply asked reader fault
+IsEnded reply asked reader NotPresentable = ⊤
+IsEnded reply asked reader (NotAccepted fault) = ⊤
+IsEnded reply asked reader (NotAnswered fault) = ⊤
+IsEnded reply asked reader Memory = ⊤
+
+-- a fault of the KDC, or of the client reading its reply
 abbrev pub IsBefore : JoinedFault → Type 0
 IsBefore (NotAccepted fault) = ⊥
 IsBefore (NotAnswered fault) = ⊥
 IsBefore NoReply = ⊤
 IsBefore (NotTaken fault) = ⊤
-IsBefore NotPresentable = ⊤
+IsBefore NotPresentable = ⊥
 IsBefore Memory = ⊤
+
+-- a fault behind that
+abbrev pub IsLater : JoinedFault → Type 0
+IsLater (NotAccepted fault) = ⊤
+IsLater (NotAnswered fault) = ⊤
+IsLater NoReply = ⊥
+IsLater (NotTaken fault) = ⊥
+IsLater NotPresentable = ⊤
+IsLater Memory = ⊤
+
+-- the client takes the AP-REP that may be there
+abbrev pub IsAnswered : Key → Moment → Option (List ℕ) → Type 0
+IsAnswered key sent (Some octets) = IsOk (reads_ap key sent octets)
+IsAnswered key sent None = ⊤
+
+-- What comes of a credential that the client took, whoever issued it: it can't be presented, or else the client took the
+-- AP-REP before anything was accepted.
+abbrev pub IsPresented : Credential → Moment → Result Accepted JoinedFault → Type 0
+IsPresented credential sent (Ok accepted) = IfSome (session_key credential) (λ key. IsAnswered key sent accepted.ap_rep)
+IsPresented credential sent (Err NotPresentable) = is_presentable credential ≡ false
+IsPresented credential sent (Err (NotAccepted fault)) = ⊤
+IsPresented credential sent (Err (NotAnswered fault)) = ⊤
+IsPresented credential sent (Err NoReply) = ⊤
+IsPresented credential sent (Err (NotTaken fault)) = ⊤
+IsPresented credential sent (Err Memory) = ⊤
+
+-- it is the credential that the reply gives by the client's rules
+abbrev pub IsRead : Option (List ℕ) → Asked → Reader → Credential → Type 0
+IsRead (Some octets) asked reader credential = reads_reply reader asked octets ≡ Ok credential
+IsRead None asked reader credential = ⊥
 
 -- a client reads the AP-REP that what is accepted has, and takes it or finds this fault
 abbrev pub IsUnheard : Key → Moment → Option (List ℕ) → ClientFault → Type 0
@@ -63,6 +126,6 @@ IsUnheard key sent (Some octets) fault = Fails fault (reads_ap key sent octets)
 IsUnheard key sent None fault = ⊥
 
 abbrev pub IsHeard : Key → Moment → Accepted → Result Accepted JoinedFault → Type 0
-IsHeard key sent accepted (Ok heard) = heard ≡ accepted
+IsHeard key sent accepted (Ok heard) = (heard ≡ accepted) × IsAnswered key sent accepted.ap_rep
 IsHeard key sent accepted (Err (NotAnswered fault)) = IsUnheard key sent accepted.ap_rep fault
 IsHeard key sent accepted (Err fault) = ⊥

@@ -1,12 +1,17 @@
 -- How a client reads the reply to its request: by the exchange, and by the key that it knows.
-use Rattle.std.specs.Prelude.{◌≡◌, ℕ}
+use Rattle.std.specs.Prelude.{◌≡◌, ℕ, List, Result}
+use Rattle.cred_files.specs.declared.credential.Credential.{Credential}
 use Rattle.enctypes.specs.KeyUsage.{usage_number}
-use Rattle.enctypes.specs.declared.key.Key.{Key}
 use Rattle.krb_types.specs.declared.kdc_req.Exchange.{Exchange}
 use Rattle.krb_types.specs.declared.kdc_req.Exchange.TheVariants.{As, Tgs}
-use Rattle.kdc_replies.specs.Issue.{Issue}
+use Rattle.kdc_replies.specs.Issue.{Issue, reply_type}
+use Rattle.client_core.specs.Replies.{reads}
+use Rattle.client_core.specs.Taken.{IsTaken}
+use Rattle.client_core.specs.declared.asked.Asked.{Asked}
+use Rattle.client_core.specs.declared.fault.ClientFault.{ClientFault}
 use Rattle.client_core.specs.declared.key_role.KeyRole.{KeyRole}
 use Rattle.client_core.specs.declared.key_role.KeyRole.TheVariants.{Client, Subkey, Session}
+use Rattle.krb_joined.specs.declared.reading.Reader.{Reader}
 
 abbrev pub exchange_of : KeyRole → Exchange
 exchange_of Client = As
@@ -19,7 +24,15 @@ usage_of Subkey = 9
 usage_of Session = 8
 
 -- the client reads the reply as its exchange says, with the reply key and its usage
-pub record IsReader (role : KeyRole) (key : Key) (issue : Issue) : Type 0 where
-  pub exchange : exchange_of role ≡ issue.exchange
-  pub reply_key : key ≡ issue.reply_key.key
-  pub usage : usage_of role ≡ usage_number issue.reply_key.usage
+pub record IsReader (reader : Reader) (issue : Issue) : Type 0 where
+  pub exchange : exchange_of reader.role ≡ issue.exchange
+  pub reply_key : reader.key ≡ issue.reply_key.key
+  pub usage : usage_of reader.role ≡ usage_number issue.reply_key.usage
+
+-- what the client's rules make of the octets of a reply: a credential, or the first fault
+abbrev pub reads_reply : Reader → Asked → List ℕ → Result Credential ClientFault
+reads_reply reader asked octets = reads (reply_type (exchange_of reader.role)) reader.role asked reader.key reader.at.sec octets
+
+-- the octets are a reply to the request, and give this credential
+abbrev pub IsTakenBy : Reader → Asked → List ℕ → Credential → Type 0
+IsTakenBy reader asked octets credential = IsTaken (reply_type (exchange_of reader.role)) reader.role asked reader.key reader.at.sec octets credential

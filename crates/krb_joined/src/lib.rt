@@ -1,14 +1,16 @@
 //! A ticket's whole way: a KDC issues it, a client takes it from the reply and presents it, and a service accepts the client.
 #![tactic(auto)]
 
+mod client;
 mod fault;
 mod joined;
 mod obtaining;
 mod presenting;
 mod reading;
 
+pub use client::Client;
 pub use fault::JoinedFault;
 pub use joined::end_to_end;
-pub use obtaining::Issuing;
+pub use obtaining::{Issuing, obtain};
 pub use presenting::Sealing;
 pub use reading::Reader;

@@ -1,11 +1,12 @@
 //! From a request to the credential that its client takes from the reply.
 ghost use Rattle.std.specs.Prelude.{◌≤◌, length, IfOk, IfErr, IfSome};
+ghost use Rattle.kdc_core.specs.Answer.{answer};
 ghost use Rattle.kdc_core.specs.Issued.{issued};
 ghost use Rattle.kdc_core.specs.Request.{request_of};
 ghost use Rattle.kdc_core.specs.View.{view};
 ghost use Rattle.krb_joined.specs.Credential.{IsCredentialOf};
 ghost use Rattle.krb_der.specs.Spelling.{IsBytes};
-ghost use Rattle.krb_joined.specs.Joined.{IsBefore};
+ghost use Rattle.krb_joined.specs.Joined.{IsBefore, IsEnded, IsRead};
 ghost use Rattle.krb_joined.specs.Reading.{IsReader};
 
 use crate::fault::JoinedFault;
@@ -35,9 +36,11 @@ pub fn obtain(
 ) -> Result<Credential, JoinedFault>
     // Where the KDC issues a ticket, and the client reads the reply with its key, it takes the credential of that ticket.
     ensures obtained { IfOk result (λ credential. IfSome (issued (view kdc.old request.now) issuing.now.at issuing.now.words (request_of request.now)) (λ issue.
-        IsReader reader.now.role reader.now.key issue → IsCredentialOf issue credential)) }
-    // Else it ends before a service is asked.
+        IsReader reader.now issue → IsCredentialOf issue credential)) }
+    ensures read { IfOk result (IsRead (answer (view kdc.old request.now) issuing.now.at issuing.now.words issuing.now.room request.now).reply asked.now reader.now) }
+    // Else it ends before a service is asked: without a reply, or with one that the client's rules don't take.
     ensures before { IfErr result IsBefore }
+    ensures ended { IfErr result (IsEnded (answer (view kdc.old request.now) issuing.now.at issuing.now.words issuing.now.room request.now).reply asked.now reader.now) }
 {
     let reply = kdc.handle(alloc, issuing.at, &issuing.words, issuing.room, request)?;
     let Some(octets) = reply else {

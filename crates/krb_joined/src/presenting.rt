@@ -1,10 +1,10 @@
 //! From a client's credential to the service that accepts the client.
-ghost use Rattle.std.specs.Prelude.{IfSome};
+ghost use Rattle.std.specs.Prelude.{IfErr, IfSome};
 ghost use Rattle.client_core.specs.Presenting.{IsShortChecksum};
 ghost use Rattle.enctypes.specs.Key.{IsKey};
 ghost use Rattle.kdc_replies.specs.Issue.{Issue};
 ghost use Rattle.krb_joined.specs.Credential.{IsCredentialOf};
-ghost use Rattle.krb_joined.specs.Joined.{IsHeard, IsJoined, MayBeAccepted};
+ghost use Rattle.krb_joined.specs.Joined.{IsHeard, IsJoined, IsLater, IsPresented, MayBeAccepted};
 
 use crate::fault::JoinedFault;
 use ap_accept::{Accepted, Acceptor};
@@ -32,15 +32,15 @@ pub fn present(
 ) -> Result<Accepted, JoinedFault>
     requires { IsShortChecksum asked.now.checksum }
     // The credential of a ticket that was issued is accepted.
-    ensures { (issue : Issue) → IsCredentialOf issue credential.now → MayBeAccepted issue acceptor.old accepting.now.at.sec presenting.now.at → IsJoined issue result }
+    ensures value { (issue : Issue) → IsCredentialOf issue credential.now → MayBeAccepted issue acceptor.old accepting.now.at.sec presenting.now.at → IsJoined issue asked.now presenting.now.at result }
+    ensures presented { IsPresented credential.now presenting.now.at result }
+    ensures later { IfErr result IsLater }
 {
     look(asked.subkey);
     if !is_presentable(credential) {
         return Err(JoinedFault::NotPresentable);
     }
-    let Some(key) = session_key(credential) else {
-        return Err(JoinedFault::NotPresentable);
-    };
+    let key = session_key(credential).unwrap();
     let octets = ap_request(
         alloc,
         credential,

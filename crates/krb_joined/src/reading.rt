@@ -1,8 +1,7 @@
 //! How a client reads the reply to its request.
 ghost use Rattle.std.specs.Prelude.{IfOk};
-ghost use Rattle.client_core.specs.Taken.{IsTaken};
-ghost use Rattle.kdc_replies.specs.Issue.{reply_type};
-ghost use Rattle.krb_joined.specs.Reading.{exchange_of};
+ghost use Rattle.client_core.specs.Faults.{Gives};
+ghost use Rattle.krb_joined.specs.Reading.{IsTakenBy, reads_reply};
 
 use client_core::{Asked, ClientFault, KeyRole, read_as_reply, read_tgs_reply};
 use cred_files::Credential;
@@ -18,14 +17,15 @@ pub struct Reader {
     pub at: Moment,
 }
 
-/// The credential that a reply gives.
+/// The credential that a reply gives, or the first fault.
 pub fn read_reply(
     alloc: Global,
     asked: &Asked,
     reader: &Reader,
     octets: &[u8],
 ) -> Result<Credential, ClientFault>
-    ensures { IfOk result (λ credential. IsTaken (reply_type (exchange_of reader.now.role)) reader.now.role asked.now reader.now.key reader.now.at.sec octets.now credential) }
+    ensures value { Gives result (reads_reply reader.now asked.now octets.now) }
+    ensures taken { IfOk result (IsTakenBy reader.now asked.now octets.now) }
 {
     match reader.role {
         KeyRole::Client => read_as_reply(alloc, asked, &reader.key, reader.at, octets),

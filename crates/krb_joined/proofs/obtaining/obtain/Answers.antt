@@ -1,12 +1,10 @@
-use Rattle.std.proofs.Common.{Some, subst, List, ℕ}
+use Rattle.std.proofs.Common.{◌≡◌, Some, Ok, subst, List, ℕ}
 use Rattle.krb_der.specs.Spelling.{IsBytes}
-use Rattle.kdc_core.specs.Answer.{IsReply}
+use Rattle.kdc_core.specs.Answer.{IsReply, answer}
 use Rattle.kdc_core.specs.Request.{request_of}
 use Rattle.kdc_core.specs.View.{view}
-use Rattle.kdc_replies.specs.Issue.{reply_type}
-use Rattle.client_core.specs.Taken.{IsTaken}
-use Rattle.krb_joined.specs.Reading.{exchange_of}
-use Rattle.krb_joined.proofs.Obtained.{obtained}
+use Rattle.krb_joined.specs.Reading.{IsTakenBy, reads_reply}
+use Rattle.krb_joined.proofs.Obtained.{obtained, taken_reply}
 use Rattle.krb_joined.proofs.obtaining.obtain.Goals as goal
 
 pub returns-in-Ok-clause-obtained : goal.returns-in-Ok-clause-obtained
@@ -19,6 +17,14 @@ returns-in-Ok-clause-obtained c =
     let spelled : IsReply v at words request (Some octets) = rw c.in-Some.is at c.in_ok-reply.ensures.spelled in
     let fits : IsBytes octets = subst IsBytes c.deref.ensures.value c.look.ensures.octets in
     let reader = c.args.reader.now in
-    let taken : IsTaken (reply_type (exchange_of reader.role)) reader.role c.args.asked.now reader.key reader.at.sec octets c.in-Ok.credential =
-    subst (λ (l : List ℕ). IsTaken (reply_type (exchange_of reader.role)) reader.role c.args.asked.now reader.key reader.at.sec l c.in-Ok.credential) c.deref-2.ensures.value c.in-Ok.ensures in
-    obtained v at words octets request c.look.ensures.words fits spelled c.in_ok-reply.ensures.keys reader.role c.args.asked.now reader.key reader.at.sec c.in-Ok.credential taken
+    let taken : IsTakenBy c.args.reader.now c.args.asked.now octets c.in-Ok.credential = subst (λ (l : List ℕ). IsTakenBy c.args.reader.now c.args.asked.now l c.in-Ok.credential) c.deref-2.ensures.value c.in-Ok.ensures.taken in
+    obtained v at words octets request c.look.ensures.words fits spelled c.in_ok-reply.ensures.keys c.args.reader.now c.args.asked.now c.in-Ok.credential taken
+
+pub returns-in-Ok-clause-read : goal.returns-in-Ok-clause-read
+returns-in-Ok-clause-read c =
+    let octets = c.in-Some.octets.items in
+    let reply = (answer (view c.args.kdc.now c.args.request.now) c.args.issuing.now.at c.args.issuing.now.words c.args.issuing.now.room c.args.request.now).reply in
+    let same : Some octets ≡ reply = rw c.in-Some.is at c.in_ok-reply.ensures.reply in
+    let read : reads_reply c.args.reader.now c.args.asked.now octets ≡ Ok c.in-Ok.credential =
+    subst (λ (l : List ℕ). reads_reply c.args.reader.now c.args.asked.now l ≡ Ok c.in-Ok.credential) c.deref-2.ensures.value c.in-Ok.ensures.value in
+    taken_reply c.args.reader.now c.args.asked.now octets reply c.in-Ok.credential same read
