@@ -1,35 +1,51 @@
 //! The rounds of FIPS 197, sections 5.1 and 5.3.5, under a schedule of round keys of four words each.
 
-ghost use Rattle.std.specs.Prelude.{◌≡◌, ◌≤◌, ◌<◌, ◌+◌, ◌*◌, length};
-ghost use Rattle.aes_cts.specs.Cipher.{cipher, equivalent_inverse_cipher};
+ghost use Rattle.std.specs.Prelude.{◌≡◌, ◌≤◌, ◌<◌, ◌+◌, ◌*◌, ◌%◌, ℕ, List, length};
+ghost use Rattle.aes_cts.specs.Cipher.{cipher, rounds, equivalent_rounds, equivalent_inverse_cipher};
 ghost use Rattle.aes_cts.specs.Words.{octets};
 
 use crate::words::{add_round_key, inverse_round, last_inverse_round, last_round, round};
 
-/// Cipher, in place.
-// The first round stands before the loop: where the sum with the first round key comes straight before
-// it, LLVM keeps the four words in one vector register, and each round then takes a third longer.
+/// Cipher, in place, with 10 or 14 rounds: one, then by fours, then the last.
+// The rounds are written out: as a loop they take a fifth more instructions, for words that change
+// their registers at its end.
 pub fn cipher(state: &mut [u32; 4], schedule: &[u32], round_count: usize)
-    requires some { 2 ≤ round_count }
+    requires some { 10 ≤ round_count }
     requires few { round_count < 15 }
+    requires even { round_count % 4 ≡ 2 }
     requires keys { length schedule.now ≡ 4 * (round_count + 1) }
     ensures { octets state.new ≡ cipher round_count (octets schedule.now) (octets state.old) }
 {
     add_round_key(state, &schedule[..4]);
     round(state, &schedule[4..8]);
-    for i in 1..round_count - 1 {
-        let at = 4 * (i + 1);
-        round(state, &schedule[at..at + 4]);
+    four_rounds::<1>(state, schedule);
+    four_rounds::<5>(state, schedule);
+    if round_count > 10 {
+        four_rounds::<9>(state, schedule);
     }
     let last = 4 * round_count;
     last_round(state, &schedule[last..last + 4]);
 }
 
-/// EqInvCipher, in place, under a schedule for deciphering. The first round stands before the loop as in
-/// `cipher`.
+// Four rounds, behind so many. That number is a constant, so that each four have code of their own,
+// which is called once, and becomes a part of `cipher`.
+fn four_rounds<const DONE: usize>(state: &mut [u32; 4], schedule: &[u32])
+    requires { 4 * DONE + 20 ≤ length schedule.now }
+    ensures { (s : List ℕ) → octets state.old ≡ rounds (octets schedule.now) s DONE
+        → octets state.new ≡ rounds (octets schedule.now) s (DONE + 4) }
+{
+    round(state, &schedule[4 * DONE + 4..4 * DONE + 8]);
+    round(state, &schedule[4 * DONE + 8..4 * DONE + 12]);
+    round(state, &schedule[4 * DONE + 12..4 * DONE + 16]);
+    round(state, &schedule[4 * DONE + 16..4 * DONE + 20]);
+}
+
+/// EqInvCipher, in place, with 10 or 14 rounds, under a schedule for deciphering. The rounds stand as
+/// in `cipher`.
 pub fn inverse_cipher(state: &mut [u32; 4], schedule: &[u32], round_count: usize)
-    requires some { 2 ≤ round_count }
+    requires some { 10 ≤ round_count }
     requires few { round_count < 15 }
+    requires even { round_count % 4 ≡ 2 }
     requires keys { length schedule.now ≡ 4 * (round_count + 1) }
     ensures { octets state.new
         ≡ equivalent_inverse_cipher round_count (octets schedule.now) (octets state.old) }
@@ -37,9 +53,29 @@ pub fn inverse_cipher(state: &mut [u32; 4], schedule: &[u32], round_count: usize
     let last = 4 * round_count;
     add_round_key(state, &schedule[last..last + 4]);
     inverse_round(state, &schedule[last - 4..last]);
-    for i in 1..round_count - 1 {
-        let at = 4 * (round_count - (i + 1));
-        inverse_round(state, &schedule[at..at + 4]);
+    four_inverse_rounds::<1>(state, schedule, round_count);
+    four_inverse_rounds::<5>(state, schedule, round_count);
+    if round_count > 10 {
+        four_inverse_rounds::<9>(state, schedule, round_count);
     }
     last_inverse_round(state, &schedule[..4]);
+}
+
+// Four rounds of so many, behind those that are done.
+fn four_inverse_rounds<const DONE: usize>(
+    state: &mut [u32; 4],
+    schedule: &[u32],
+    round_count: usize,
+)
+    requires some { DONE + 5 ≤ round_count }
+    requires few { round_count < 15 }
+    requires keys { length schedule.now ≡ 4 * (round_count + 1) }
+    ensures { (s : List ℕ) → octets state.old ≡ equivalent_rounds round_count (octets schedule.now) s DONE
+        → octets state.new ≡ equivalent_rounds round_count (octets schedule.now) s (DONE + 4) }
+{
+    let end = 4 * (round_count - DONE);
+    inverse_round(state, &schedule[end - 4..end]);
+    inverse_round(state, &schedule[end - 8..end - 4]);
+    inverse_round(state, &schedule[end - 12..end - 8]);
+    inverse_round(state, &schedule[end - 16..end - 12]);
 }
