@@ -3,12 +3,16 @@ use Rattle.std.specs.Prelude.{ℕ, List, length, nat_lt, Option, Some, None, Res
 use Rattle.krb_der.specs.declared.fault.DerFault.{DerFault}
 use Rattle.krb_elements.specs.Format.{whole}
 use Rattle.krb_types.specs.declared.kdc_req.Exchange.{Exchange}
-use Rattle.krb_types.specs.KdcReq.{Received, received_at}
+use Rattle.krb_types.specs.KdcReq.{Received, SpellsReceived, received_at}
 
 -- an AS-REQ or a TGS-REQ, with the octets of its body
 pub record Request : Type 0 where
   pub exchange : Exchange
   pub message : Received
+
+-- which octets spell the request
+abbrev pub SpellsRequest : Request → List ℕ → Type 0
+SpellsRequest r bytes = SpellsReceived (r.exchange, r.message) bytes
 
 abbrev pub if_read : Result (Exchange × Received) DerFault → Option Request
 if_read (Ok found) = Some (record { exchange = found.0; message = found.1 })

@@ -8,11 +8,7 @@ use Rattle.krb_elements.specs.Format.{whole}
 use Rattle.krb_elements.specs.Laws.{IsWhole, whole_ok}
 use Rattle.krb_types.specs.declared.kdc_req.Exchange.{Exchange}
 use Rattle.krb_types.specs.KdcReq.{Received, SpellsReceived, received_at, received_ok}
-use Rattle.kdc_core.specs.Request.{Request, if_read, request_of}
-
--- which octets spell the request
-abbrev pub SpellsRequest : Request → List ℕ → Type 0
-SpellsRequest r bytes = SpellsReceived (r.exchange, r.message) bytes
+use Rattle.kdc_core.specs.Request.{Request, SpellsRequest, if_read, request_of}
 
 -- a request that was read was short enough
 was_read : (too_long : Bool) (read : Result (Exchange × Received) DerFault) (r : Request) → cond too_long None (if_read read) ≡ Some r → (too_long ≡ false) × (read ≡ Ok (r.exchange, r.message))

@@ -27,7 +27,8 @@ RestartsFrom now (Replace database ∷ events) = RestartsFrom now events
 RestartsFrom now (Restart at ∷ events) = (now ≤ℤ at.sec) × RestartsFrom now events
 RestartsFrom now (Reopen database limits at ∷ events) = (now ≤ℤ at.sec) × RestartsFrom now events
 
--- no restart is before the second of a request that came earlier
+-- No restart is before the second of a request that came earlier. This is all that is asked: the moments of requests may go
+-- back while the KDC runs, and those of restarts among themselves.
 abbrev pub RestartsFollow : List Event → Type 0
 RestartsFollow [] = ⊤
 RestartsFollow (Request at words room request ∷ events) = RestartsFrom at.sec events × RestartsFollow events

@@ -1,5 +1,6 @@
--- The rules by which TGS-REQs are refused whose ticket and authenticator were opened (RFC 4120, section 3.3.3), in their
--- order: those of the client, and then, once the authenticator is known to be new, those of what is asked for.
+-- The rules by which TGS-REQs are refused whose ticket and authenticator were opened, in their order: those of the client
+-- (RFC 4120, section 3.3.3.1 for revoked tickets), and then, once the authenticator is known to be new, those of the ticket's
+-- times (section 3.2.3) and of what is asked for (section 3.3.3).
 use Rattle.std.specs.Prelude.{ℤ, pos, ◌-ℤ◌, Bool, false, not, ◌&&◌, ◌||◌, nat_eq, int_lt, is_none, is_some, List, [], ◌∷◌, Option, Some, None, Result}
 use Rattle.std.specs.Cmp.Lexicographic.{pointwise}
 use Rattle.refusals.specs.Optional.{holds_of}

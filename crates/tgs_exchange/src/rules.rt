@@ -1,4 +1,6 @@
-//! The rules of the TGS exchange for what was opened (RFC 4120, section 3.3.3), one condition each.
+//! The rules of the TGS exchange for what was opened, one condition each: of the ticket's times
+//! (RFC 4120, section 3.2.3), of revoked tickets (section 3.3.3.1) and of what is asked for (section
+//! 3.3.3).
 ghost use Rattle.std.specs.Prelude.{◌≡◌, option_copied};
 ghost use Rattle.tgs_exchange.specs.Rules.{admitted_by, asks_bad_option, client_rules, has_ended, has_nothing_to_validate, is_before, is_for_other_service};
 ghost use Rattle.tgs_exchange.specs.Rules.{is_not_yet_valid, is_renewed_too_late, is_service_unknown, is_ticket_revoked, is_validated_too_early, lacks_flag, rules_by, starts_late};
@@ -89,7 +91,8 @@ fn rules_by(
     ]
 }
 
-/// The client was first authenticated before the moment before which its tickets are revoked.
+/// The client was first authenticated before the moment before which its tickets are revoked
+/// (section 3.3.3.1).
 fn is_ticket_revoked(row: Option<&Row>, authtime: i64) -> bool
     ensures { result ≡ is_ticket_revoked (option_copied row.entry) authtime }
 {

@@ -1,4 +1,5 @@
--- The session key of a presented ticket, and the authenticator under it (RFC 4120, sections 3.2.3 and 5.5.1).
+-- The session key of a presented ticket, and the authenticator under it, with its checksum of the request (RFC 4120,
+-- sections 3.2.3, 3.3.2 and 5.5.1).
 use Rattle.std.specs.Prelude.{ℕ, Bool, not, ◌||◌, nat_eq, if◌then◌else◌, is_some, is_none, List, [], ◌∷◌, Option, Some, None, Result, option_map}
 use Rattle.std.specs.Ordering.{int_eq}
 use Rattle.std.specs.Cmp.Lexicographic.{pointwise}

@@ -1,4 +1,4 @@
--- What a TGS-REQ presents, or the first rule by which that is refused (RFC 4120, sections 3.2.3 and 3.3.3).
+-- What a TGS-REQ presents, or the first rule by which that is refused (RFC 4120, sections 3.2.3 and 3.3.2).
 use Rattle.std.specs.Prelude.{ℕ, List, Option, Result, Ok, Err}
 use Rattle.enctypes.specs.declared.key.Key.{Key}
 use Rattle.krb_ap.specs.ApReq.{ApReq}

@@ -1,4 +1,4 @@
--- The ticket that a TGS-REQ presents (RFC 4120, sections 3.2.3 and 3.3.3).
+-- The ticket that a TGS-REQ presents, and the key that opens it (RFC 4120, sections 3.2.3 and 3.3.2).
 use Rattle.std.specs.Prelude.{ℕ, ℤ, pos, Bool, true, false, not, ◌&&◌, ◌||◌, nat_eq, if◌then◌else◌, is_some, is_none, List, [], ◌∷◌, Option, Some, None, Result}
 use Rattle.std.specs.List.{list_any}
 use Rattle.std.specs.Ordering.{int_eq, eq_by_cmp}

@@ -1,4 +1,5 @@
-//! The session key of a presented ticket, and the authenticator under it (RFC 4120, sections 3.2.3 and 5.5.1).
+//! The session key of a presented ticket, and the authenticator under it, with its checksum of the
+//! request (RFC 4120, sections 3.2.3, 3.3.2 and 5.5.1).
 ghost use Rattle.std.specs.Prelude.{◌≡◌, nat_eq, IfOk, option_copied};
 ghost use Rattle.std.specs.Cmp.Lexicographic.{pointwise};
 ghost use Rattle.enctypes.specs.Sealing.{mac};

@@ -1,4 +1,5 @@
-//! The ticket and the authenticator that a TGS-REQ presents, opened and checked (RFC 4120, sections 3.2.3 and 3.3.3).
+//! The ticket and the authenticator that a TGS-REQ presents, opened and checked (RFC 4120, sections
+//! 3.2.3 and 3.3.2).
 //!
 //! Nothing that is remembered takes part here, nor the row of the client or the moment.
 #![tactic(auto)]

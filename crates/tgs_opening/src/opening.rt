@@ -1,4 +1,4 @@
-//! What a TGS-REQ presents (RFC 4120, sections 3.2.3 and 3.3.3).
+//! What a TGS-REQ presents (RFC 4120, sections 3.2.3 and 3.3.2).
 ghost use Rattle.std.specs.Prelude.{◌≡◌, ◌<◌, length, IfOk, IfSome};
 ghost use Rattle.krb_elements.specs.Codec.{list_of};
 ghost use Rattle.krb_fields.specs.Typed.{typed};

@@ -4,10 +4,12 @@ ghost use Rattle.tgs_opening.specs.Refusal.{code_of};
 
 use krb_fields::Code;
 
-/// The rules by which TGS-REQs are refused (RFC 4120, sections 3.2.3 and 3.3.3), in the order in which they are asked.
+/// The rules by which TGS-REQs are refused, in the order in which they are asked: those of receipt
+/// (RFC 4120, sections 3.2.3 and 3.3.2), of revoked tickets (section 3.3.3.1) and of the ticket
+/// that is generated (section 3.3.3).
 #[derive(Debug, Clone, Copy, PartialEq, Eq)]
 pub enum TgsRefusal {
-    // what the request presents
+    // what the request presents (sections 3.2.3 and 3.3.2)
     BadVersion,
     BadMessageType,
     NoApReq,
@@ -28,7 +30,7 @@ pub enum TgsRefusal {
     BadChecksumType,
     Modified,
     BadSubkey,
-    // who presents it, and whether that came before
+    // who presents it (section 3.3.3.1), and whether that came before (section 3.2.3)
     ClientUnknown,
     ClientRevoked,
     ClientExpired,
@@ -36,7 +38,7 @@ pub enum TgsRefusal {
     Skewed,
     Repeated,
     Full,
-    // what it is presented for: from here on the authenticator is remembered
+    // what it is presented for (section 3.3.3): from here on the authenticator is remembered
     NotYetValid,
     TicketExpired,
     ServiceUnknown,

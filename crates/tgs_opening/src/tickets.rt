@@ -1,4 +1,5 @@
-//! The ticket that a TGS-REQ presents (RFC 4120, sections 3.2.3 and 3.3.3).
+//! The ticket that a TGS-REQ presents, and the key that opens it (RFC 4120, sections 3.2.3 and
+//! 3.3.2).
 ghost use Rattle.std.specs.Prelude.{◌≡◌, ◌<◌, length, ◌&&◌, ◌||◌, not, nat_eq, IfOk, IfSome, is_none, is_some, option_copied};
 ghost use Rattle.std.specs.Cmp.Lexicographic.{pointwise};
 ghost use Rattle.krb_parts.specs.EncTicketPart.{enc_ticket_part};
