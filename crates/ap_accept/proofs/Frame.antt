@@ -1,136 +1,149 @@
--- A call changes no memory but that of the service and the client that are presented.
-use Rattle.std.proofs.Common.{◌≡◌, Bool, true, false, cond, ◌&&◌, ℤ, List, ℕ, Option, Some, None, Result, Ok, Err, OnOk, OnErr, refl, ap, sym, ◌∙◌}
+-- What a call leaves as it was.
+use Rattle.std.proofs.Common.{◌≡◌, ◌-ℤ◌, ◌≤ℤ◌, arith, Bool, true, false, cond, ◌&&◌, ℤ, pos, List, ℕ, Option, Some, None, Result, Ok, Err, OnOk, OnErr, refl, ap, sym, subst, ◌∙◌}
 use Rattle.std.specs.FinMap as map
-use Rattle.std.specs.FinMap.{get-insert, get-empty}
+use Rattle.std.specs.FinMap.{get-insert}
 use Rattle.std.specs.Option.{unwrap_or}
 use Rattle.std.specs.Ordering.{eq_by_cmp}
+use Rattle.std.specs.Prelude.{⊤}
+use Rattle.std.specs.Result.{result_ok}
+use Rattle.std.proofs.lemmas.Int.{ints}
 use Rattle.krb_ap.specs.ApReq.{ApReq}
 use Rattle.krb_fields.specs.Name.{Components, name_cmp, name_total, same_name}
 use Rattle.krb_fields.specs.declared.moment.Moment.{Moment}
 use Rattle.replay.specs.Memory.{remembered}
-use Rattle.replay.specs.Opening.{opened_memory}
 use Rattle.replay.specs.declared.memory.Memory.{Memory}
-use Rattle.replay.specs.declared.opening.Opening.{Opening}
-use Rattle.std.specs.Prelude.{⊤}
-use Rattle.std.specs.Result.{result_ok}
-use Rattle.ap_accept.specs.Accepts.{accepts, if_presented, if_request, memory_for, memory_refusal, presented_by, presented_if, remembering, request_of, stamp_of, unless_seen, IsAfter, IsParty}
+use Rattle.ap_accept.specs.Accepts.{accepts, if_presented, if_request, memory_for, memory_refusal, presented_by, presented_if, remembering, remembering_clients, request_of, stamp_of, unless_seen, IsAfter, IsParty, IsService}
+use Rattle.ap_accept.specs.Clients.{empty_memory, let_go, memory_in, opened_clients, with_memory}
 use Rattle.ap_accept.specs.Presented.{presented}
 use Rattle.ap_accept.specs.Reply.{asks_reply}
-use Rattle.ap_accept.specs.State.{Clients, clients_of, memory_among, memory_of, with_memory}
+use Rattle.ap_accept.specs.Run.{is_party}
+use Rattle.ap_accept.specs.State.{clients_of, memory_of, with_clients}
 use Rattle.ap_accept.specs.declared.accepted.Accepted.{Accepted}
+use Rattle.ap_accept.specs.declared.clients.Clients.{Clients}
 use Rattle.ap_accept.specs.declared.fault.ApFault.{ApFault}
 use Rattle.ap_accept.specs.declared.fault.ApFault.TheVariants.{NotAnApReq, Refused, Memory as NoMemory}
 use Rattle.ap_accept.specs.declared.presented.Presented.{Presented}
 use Rattle.ap_accept.specs.declared.refusal.ApRefusal.{ApRefusal}
 use Rattle.ap_accept.specs.declared.state.State.{State}
+use Rattle.ap_accept.proofs.LettingGo.{as_empty_on, both, let_go_keeps, Carried}
+use Rattle.ap_accept.proofs.Raised.{raised}
 
--- ---- a memory that is stored
+-- ---- what is stored
 
--- among a service's clients
-stored_among : (opening : Opening) (clients : Clients) (c : Components) (m : Memory ⊤) (client : Components)
-    → memory_among opening (map.insert clients c m) client ≡ cond (eq_by_cmp name_cmp client c) m (memory_among opening clients client)
-stored_among opening clients c m client = ap (λ o. unwrap_or o (opened_memory opening)) (get-insert name_total clients c m client) ∙ inside (eq_by_cmp name_cmp client c)
+pub memory_stored : (clients : Clients) (c : Components) (m : Memory ⊤) (client : Components) → memory_in (with_memory clients c m) client ≡ cond (eq_by_cmp name_cmp client c) m (memory_in clients client)
+memory_stored clients c m client = ap (λ o. unwrap_or o (empty_memory clients.floor)) (get-insert name_total clients.memories c m client) ∙ inside (eq_by_cmp name_cmp client c)
   where
-    inside : (b : Bool) → unwrap_or (cond b (Some m) (map.get clients client)) (opened_memory opening) ≡ cond b m (memory_among opening clients client)
+    inside : (b : Bool) → unwrap_or (cond b (Some m) (map.get clients.memories client)) (empty_memory clients.floor) ≡ cond b m (memory_in clients client)
     inside true = refl
     inside false = refl
 
--- of a service's clients
-clients_stored : (state : State) (s c : Components) (m : Memory ⊤) (service : Components)
-    → clients_of (with_memory state s c m) service ≡ cond (eq_by_cmp name_cmp service s) (map.insert (clients_of state s) c m) (clients_of state service)
-clients_stored state s c m service = ap (λ o. unwrap_or o map.empty) (get-insert name_total state.memories s (map.insert (clients_of state s) c m) service) ∙ inside (eq_by_cmp name_cmp service s)
+pub clients_stored : (state : State) (s : Components) (clients : Clients) (service : Components) → clients_of (with_clients state s clients) service ≡ cond (eq_by_cmp name_cmp service s) clients (clients_of state service)
+clients_stored state s clients service = ap (λ o. unwrap_or o (opened_clients state.opening)) (get-insert name_total state.services s clients service) ∙ inside (eq_by_cmp name_cmp service s)
   where
-    inside : (b : Bool) → unwrap_or (cond b (Some (map.insert (clients_of state s) c m)) (map.get state.memories service)) map.empty ≡ cond b (map.insert (clients_of state s) c m) (clients_of state service)
+    inside : (b : Bool) → unwrap_or (cond b (Some clients) (map.get state.services service)) (opened_clients state.opening) ≡ cond b clients (clients_of state service)
     inside true = refl
     inside false = refl
 
-pub memory_stored : (state : State) (s c : Components) (m : Memory ⊤) (service client : Components)
-    → memory_of (with_memory state s c m) service client ≡ cond (eq_by_cmp name_cmp service s && eq_by_cmp name_cmp client c) m (memory_of state service client)
-memory_stored state s c m service client = ap (λ k. memory_among state.opening k client) (clients_stored state s c m service) ∙ by_service (eq_by_cmp name_cmp service s) refl
-  where
-    by_service : (b : Bool) → eq_by_cmp name_cmp service s ≡ b
-        → memory_among state.opening (cond b (map.insert (clients_of state s) c m) (clients_of state service)) client ≡ cond (b && eq_by_cmp name_cmp client c) m (memory_of state service client)
-    by_service true e = stored_among state.opening (clients_of state s) c m client ∙ ap (λ k. cond (eq_by_cmp name_cmp client c) m (memory_of state k client)) (sym (same_name service s e))
-    by_service false e = refl
+-- ---- a client's memory, once an authenticator is remembered
 
--- a service that has none stored
-pub not_stored : (state : State) (service client : Components) → map.get state.memories service ≡ None → memory_of state service client ≡ opened_memory state.opening
-not_stored state service client none =
-    ap (λ o. memory_among state.opening (unwrap_or o map.empty) client) none ∙ ap (λ o. unwrap_or o (opened_memory state.opening)) (get-empty name_cmp client)
+module _ (state : State) (now : ℤ) (p : Presented) (service client : Components) where
+  -- that of the party is the new one, and each other as it was
+  abbrev pub next_memory : Memory ⊤
+  next_memory = cond (is_party service client p) (remembered (memory_for state p) now (stamp_of p) tt) (memory_of state service client)
+
+  placed : (b : Bool) → eq_by_cmp name_cmp service p.service.components ≡ b
+      → (go : Clients → Clients) (P : Memory ⊤ → Type 0) → ((clients : Clients) → P (memory_in clients client) → P (memory_in (go clients) client))
+      → P (cond (b && eq_by_cmp name_cmp client p.ticket.cname.components) (remembered (memory_for state p) now (stamp_of p) tt) (memory_of state service client))
+      → P (memory_in (cond b (go (remembering_clients state now p)) (clients_of state service)) client)
+  placed true e go P keeps h =
+      keeps (remembering_clients state now p)
+      (subst P
+      (ap (cond (eq_by_cmp name_cmp client p.ticket.cname.components) (remembered (memory_for state p) now (stamp_of p) tt)) (ap (λ s. memory_of state s client) (same_name service p.service.components e))
+      ∙ sym (memory_stored (clients_of state p.service.components) p.ticket.cname.components (remembered (memory_for state p) now (stamp_of p) tt) client))
+      h)
+  placed false e go P keeps h = h
+
+  abbrev pub stored_by : (Clients → Clients) → State
+  stored_by go = with_clients state p.service.components (go (remembering_clients state now p))
+
+  -- P holds of the memory, where it does of the new one, and what is let go keeps it
+  pub stored_keeps : (go : Clients → Clients) (P : Memory ⊤ → Type 0) → ((clients : Clients) → P (memory_in clients client) → P (memory_in (go clients) client)) → P next_memory → P (memory_of (stored_by go) service client)
+  stored_keeps go P keeps h =
+      subst (λ k. P (memory_in k client)) (sym (clients_stored state p.service.components (go (remembering_clients state now p)) service))
+      (placed (eq_by_cmp name_cmp service p.service.components) refl go P keeps h)
+
+  pub remembering_keeps : (P : Memory ⊤ → Type 0) → Carried (now -ℤ pos 3900) P → P next_memory → P (memory_of (remembering state now p) service client)
+  remembering_keeps P carried = stored_keeps (let_go now) P (λ clients. let_go_keeps P now clients client carried)
 
 -- ---- a call
 
-pub both : (a b : Bool) → (a && b) ≡ true → (a ≡ true) × (b ≡ true)
-both true b e = (refl, e)
-both false b e = absurd cc
+-- what holds of the state before, and of that in which what is presented is remembered, holds of the one afterwards
+module _ (U : State → Type 0) (state : State) (here : U state) where
+  unless_seen_keeps : (now : ℤ) (confounder : List ℕ) (wanted : Bool) (p : Presented) (r : Option ApRefusal) → U (remembering state now p) → U (unless_seen state now confounder wanted p r).state
+  unless_seen_keeps now confounder wanted p (Some refusal) there = here
+  unless_seen_keeps now confounder wanted p None there = there
 
-module _ (state : State) (service client : Components) where
-  abbrev Unchanged : State → Type 0
-  Unchanged after = memory_of after service client ≡ memory_of state service client
+  presented_keeps : (now : ℤ) (confounder : List ℕ) (wanted : Bool) (r : Result Presented ApRefusal) → ((p : Presented) → result_ok r ≡ Some p → U (remembering state now p)) → U (if_presented state now confounder wanted r).state
+  presented_keeps now confounder wanted (Ok p) there = unless_seen_keeps now confounder wanted p (memory_refusal state now p) (there p refl)
+  presented_keeps now confounder wanted (Err refusal) there = here
 
-  apart : (p : Presented) → (IsParty service client (Some p) → ⊥) → (b : Bool)
-      → (eq_by_cmp name_cmp service p.service.components && eq_by_cmp name_cmp client p.ticket.cname.components) ≡ b → b ≡ false
-  apart p other true e =
-      let same = both (eq_by_cmp name_cmp service p.service.components) (eq_by_cmp name_cmp client p.ticket.cname.components) e in
-      absurd (other (sym (same_name service p.service.components same.0), sym (same_name client p.ticket.cname.components same.1)))
-  apart p other false e = refl
+  request_keeps : (now : ℤ) (confounder : List ℕ) (o : Option ApReq) → ((p : Presented) → presented_if state o ≡ Some p → U (remembering state now p)) → U (if_request state now confounder o).state
+  request_keeps now confounder (Some ap) there = presented_keeps now confounder (asks_reply ap) (presented state.keytab ap) there
+  request_keeps now confounder None there = here
 
-  remembered_apart : (now : ℤ) (p : Presented) → (IsParty service client (Some p) → ⊥) → Unchanged (remembering state now p)
-  remembered_apart now p other =
-      let kept : Memory ⊤ = remembered (memory_for state p) now (stamp_of p) tt in
-      memory_stored state p.service.components p.ticket.cname.components kept service client
-      ∙ ap (λ b. cond b kept (memory_of state service client))
-      (apart p other (eq_by_cmp name_cmp service p.service.components && eq_by_cmp name_cmp client p.ticket.cname.components) refl)
+  pub accepts_keeps : (at : Moment) (confounder octets : List ℕ) → ((p : Presented) → presented_by state octets ≡ Some p → U (remembering state at.sec p)) → U (accepts state at confounder octets).state
+  accepts_keeps at confounder octets there = request_keeps at.sec confounder (request_of octets) there
 
-  seen_apart : (now : ℤ) (confounder : List ℕ) (wanted : Bool) (p : Presented) (r : Option ApRefusal) → (IsParty service client (Some p) → ⊥) → Unchanged (unless_seen state now confounder wanted p r).state
-  seen_apart now confounder wanted p (Some refusal) other = refl
-  seen_apart now confounder wanted p None other = remembered_apart now p other
+-- and of the one that the call gave
+pub call_keeps : (U : State → Type 0) (r : Result Accepted ApFault) (old new ruled : State) → IsAfter r old new ruled → U old → U ruled → U new
+call_keeps U (Ok accepted) old new ruled is here there = subst U (sym is) there
+call_keeps U (Err NotAnApReq) old new ruled is here there = subst U (sym is) there
+call_keeps U (Err (Refused refusal)) old new ruled is here there = subst U (sym is) there
+call_keeps U (Err NoMemory) old new ruled is here there = subst U (sym is) here
 
-  presented_apart : (now : ℤ) (confounder : List ℕ) (wanted : Bool) (r : Result Presented ApRefusal) → (IsParty service client (result_ok r) → ⊥) → Unchanged (if_presented state now confounder wanted r).state
-  presented_apart now confounder wanted (Ok p) other = seen_apart now confounder wanted p (memory_refusal state now p) other
-  presented_apart now confounder wanted (Err refusal) other = refl
+-- ---- others than those that are presented
 
-  request_apart : (now : ℤ) (confounder : List ℕ) (o : Option ApReq) → (IsParty service client (presented_if state o) → ⊥) → Unchanged (if_request state now confounder o).state
-  request_apart now confounder (Some ap) other = presented_apart now confounder (asks_reply ap) (presented state.keytab ap) other
-  request_apart now confounder None other = refl
+at_most : (n : ℤ) → n ≤ℤ n
+at_most n = omega (arith, ints)
 
-  pub others_stay : (at : Moment) (confounder octets : List ℕ) → (IsParty service client (presented_by state octets) → ⊥) → Unchanged (accepts state at confounder octets).state
-  others_stay at confounder octets other = request_apart at.sec confounder (request_of octets) other
+not_party : (service client : Components) (p : Presented) → (IsParty service client (Some p) → ⊥) → (b : Bool) → is_party service client p ≡ b → b ≡ false
+not_party service client p other true e =
+    let same = both (eq_by_cmp name_cmp service p.service.components) (eq_by_cmp name_cmp client p.ticket.cname.components) e in
+    absurd (other (sym (same_name service p.service.components same.0), sym (same_name client p.ticket.cname.components same.1)))
+not_party service client p other false e = refl
 
--- ---- keys and limits
+not_service : (service : Components) (p : Presented) → (IsService service (Some p) → ⊥) → (b : Bool) → eq_by_cmp name_cmp service p.service.components ≡ b → b ≡ false
+not_service service p other true e = absurd (other (sym (same_name service p.service.components e)))
+not_service service p other false e = refl
 
-module _ {X : Type 0} (f : State → X) (state : State) (stays : (s c : Components) (m : Memory ⊤) → f (with_memory state s c m) ≡ f state) where
-  seen_stays : (now : ℤ) (confounder : List ℕ) (wanted : Bool) (p : Presented) (r : Option ApRefusal) → f (unless_seen state now confounder wanted p r).state ≡ f state
-  seen_stays now confounder wanted p (Some refusal) = refl
-  seen_stays now confounder wanted p None = stays p.service.components p.ticket.cname.components (remembered (memory_for state p) now (stamp_of p) tt)
+-- another service's clients stay
+pub others_stay : (state : State) (service : Components) (at : Moment) (confounder octets : List ℕ) → (IsService service (presented_by state octets) → ⊥) → clients_of (accepts state at confounder octets).state service ≡ clients_of state service
+others_stay state service at confounder octets other =
+    accepts_keeps (λ s. clients_of s service ≡ clients_of state service) state refl at confounder octets (λ p is.
+    let k : Clients = let_go at.sec (remembering_clients state at.sec p) in
+    clients_stored state p.service.components k service
+    ∙ ap (λ b. cond b k (clients_of state service)) (not_service service p (λ h. other (subst (IsService service) (sym is) h)) (eq_by_cmp name_cmp service p.service.components) refl))
 
-  presented_stays : (now : ℤ) (confounder : List ℕ) (wanted : Bool) (r : Result Presented ApRefusal) → f (if_presented state now confounder wanted r).state ≡ f state
-  presented_stays now confounder wanted (Ok p) = seen_stays now confounder wanted p (memory_refusal state now p)
-  presented_stays now confounder wanted (Err refusal) = refl
+-- and another client's memory is as it was from an hour before on
+pub others_alike : (state : State) (service client : Components) (at : Moment) (confounder octets : List ℕ) → (IsParty service client (presented_by state octets) → ⊥)
+    → raised (at.sec -ℤ pos 3900) (memory_of (accepts state at confounder octets).state service client) ≡ raised (at.sec -ℤ pos 3900) (memory_of state service client)
+others_alike state service client at confounder octets other =
+    let P : Memory ⊤ → Type 0 = λ m. raised (at.sec -ℤ pos 3900) m ≡ raised (at.sec -ℤ pos 3900) (memory_of state service client) in
+    accepts_keeps (λ s. P (memory_of s service client)) state refl at confounder octets (λ p is.
+    remembering_keeps state at.sec p service client P
+    (λ m gone same. as_empty_on (at.sec -ℤ pos 3900) m gone (at.sec -ℤ pos 3900) (at_most (at.sec -ℤ pos 3900)) ∙ same)
+    (ap (λ b. raised (at.sec -ℤ pos 3900) (cond b (remembered (memory_for state p) at.sec (stamp_of p) tt) (memory_of state service client)))
+    (not_party service client p (λ h. other (subst (IsParty service client) (sym is) h)) (is_party service client p) refl)))
 
-  request_stays : (now : ℤ) (confounder : List ℕ) (o : Option ApReq) → f (if_request state now confounder o).state ≡ f state
-  request_stays now confounder (Some ap) = presented_stays now confounder (asks_reply ap) (presented state.keytab ap)
-  request_stays now confounder None = refl
+-- ---- a state with others' clients
 
-  pub all_stay : (at : Moment) (confounder octets : List ℕ) → f (accepts state at confounder octets).state ≡ f state
-  all_stay at confounder octets = request_stays at.sec confounder (request_of octets)
+abbrev Services : Type 0
+Services = map.FinMap name_cmp Clients
 
--- what holds of the state that is ruled holds of the one afterwards, which may be the one before
-pub after_call : {X : Type 0} (f : State → X) (r : Result Accepted ApFault) (old new ruled : State) → IsAfter r old new ruled → f ruled ≡ f old → f new ≡ f old
-after_call f (Ok accepted) old new ruled is same = ap f is ∙ same
-after_call f (Err NotAnApReq) old new ruled is same = ap f is ∙ same
-after_call f (Err (Refused refusal)) old new ruled is same = ap f is ∙ same
-after_call f (Err NoMemory) old new ruled is same = ap f is
-
--- ---- a state with other memories
-
-abbrev Memories : Type 0
-Memories = map.FinMap name_cmp Clients
-
-pub ok_within : {A B : Type 0} (new after : Memories) (state : State) (r : Result A B) → OnOk r (new ≡ after) → OnOk r (record state { memories = new } ≡ record state { memories = after })
-ok_within new after state (Ok x) is = λ i. record state { memories = is i }
+pub ok_within : {A B : Type 0} (new after : Services) (state : State) (r : Result A B) → OnOk r (new ≡ after) → OnOk r (record state { services = new } ≡ record state { services = after })
+ok_within new after state (Ok x) is = λ i. record state { services = is i }
 ok_within new after state (Err x) is = tt
 
-pub err_within : {A B : Type 0} (new : Memories) (state : State) (r : Result A B) → OnErr r (new ≡ state.memories) → OnErr r (record state { memories = new } ≡ state)
+pub err_within : {A B : Type 0} (new : Services) (state : State) (r : Result A B) → OnErr r (new ≡ state.services) → OnErr r (record state { services = new } ≡ state)
 err_within new state (Ok x) same = tt
-err_within new state (Err x) same = λ i. record state { memories = same i }
+err_within new state (Err x) same = λ i. record state { services = same i }

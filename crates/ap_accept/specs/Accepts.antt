@@ -14,9 +14,11 @@ use Rattle.replay.specs.declared.verdict.Verdict.{Verdict}
 use Rattle.replay.specs.declared.verdict.Verdict.TheVariants as verdicts
 use Rattle.ap_accept.specs.Presented.{presented}
 use Rattle.ap_accept.specs.Reply.{asks_reply, reply_if}
-use Rattle.ap_accept.specs.State.{memory_of, with_memory}
+use Rattle.ap_accept.specs.Clients.{let_go, with_memory}
+use Rattle.ap_accept.specs.State.{clients_of, memory_of, with_clients}
 use Rattle.ap_accept.specs.Validity.{terms_of, validity_rules}
 use Rattle.ap_accept.specs.declared.accepted.Accepted.{Accepted}
+use Rattle.ap_accept.specs.declared.clients.Clients.{Clients}
 use Rattle.ap_accept.specs.declared.fault.ApFault.{ApFault}
 use Rattle.ap_accept.specs.declared.fault.ApFault.TheVariants.{NotAnApReq, Refused, Memory as NoMemory}
 use Rattle.ap_accept.specs.declared.presented.Presented.{Presented}
@@ -51,9 +53,13 @@ refusal_by verdicts.Full = Some Full
 abbrev pub memory_refusal : State → ℤ → Presented → Option ApRefusal
 memory_refusal state now p = refusal_by (verdict (memory_for state p) now (stamp_of p) state.limits.remembered)
 
--- the state in which the authenticator is remembered
+-- the service's clients, with the authenticator remembered
+abbrev pub remembering_clients : State → ℤ → Presented → Clients
+remembering_clients state now p = with_memory (clients_of state p.service.components) p.ticket.cname.components (remembered (memory_for state p) now (stamp_of p) tt)
+
+-- the state in which the authenticator is remembered, and what can't come again is let go
 abbrev pub remembering : State → ℤ → Presented → State
-remembering state now p = with_memory state p.service.components p.ticket.cname.components (remembered (memory_for state p) now (stamp_of p) tt)
+remembering state now p = with_clients state p.service.components (let_go now (remembering_clients state now p))
 
 -- ---- what is accepted
 
@@ -125,7 +131,12 @@ presented_if state None = None
 abbrev pub presented_by : State → List ℕ → Option Presented
 presented_by state octets = presented_if state (request_of octets)
 
--- whose memory may change: a service and its client
+-- whose clients' memories may change: a service
+abbrev pub IsService : Components → Option Presented → Type 0
+IsService service (Some p) = p.service.components ≡ service
+IsService service None = ⊥
+
+-- the service and its client
 abbrev pub IsParty : Components → Components → Option Presented → Type 0
 IsParty service client (Some p) = (p.service.components ≡ service) × (p.ticket.cname.components ≡ client)
 IsParty service client None = ⊥

@@ -2,6 +2,7 @@ pub mod Refusal
 pub mod Tickets
 pub mod Authenticators
 pub mod Presented
+pub mod Clients
 pub mod State
 pub mod Validity
 pub mod Reply

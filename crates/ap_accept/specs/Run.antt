@@ -1,14 +1,17 @@
 -- Runs of an acceptor: which authenticators it accepts, call by call.
-use Rattle.std.specs.Prelude.{ℕ, Bool, ◌&&◌, if◌then◌else◌, List, ◌∷◌, Option, Some, None, Result, Ok, Err}
+use Rattle.std.specs.Prelude.{◌≡◌, ℕ, ℤ, pos, ◌-ℤ◌, ◌≤ℤ◌, ⊤, Bool, ◌&&◌, if◌then◌else◌, List, [], ◌∷◌, Option, Some, None, Result, Ok, Err}
+use Rattle.std.specs.List.{AllByRecursion}
 use Rattle.std.specs.Ordering.{eq_by_cmp}
 use Rattle.krb_fields.specs.Name.{Components, name_cmp}
 use Rattle.krb_fields.specs.declared.moment.Moment.{Moment}
 use Rattle.replay.specs.Run.{collected, EachOnce}
 use Rattle.replay.specs.Stamp.{Stamp}
-use Rattle.ap_accept.specs.Accepts.{accepts, presented_by, stamp_of}
+use Rattle.ap_accept.specs.Accepts.{accepts, memory_refusal, presented_by, remembering_clients, stamp_of}
+use Rattle.ap_accept.specs.State.{with_clients}
 use Rattle.ap_accept.specs.declared.accepted.Accepted.{Accepted}
 use Rattle.ap_accept.specs.declared.fault.ApFault.{ApFault}
 use Rattle.ap_accept.specs.declared.presented.Presented.{Presented}
+use Rattle.ap_accept.specs.declared.refusal.ApRefusal.{ApRefusal}
 use Rattle.ap_accept.specs.declared.state.State.{State}
 
 -- a call: the moment, the random octets, and the octets of an AP-REQ
@@ -40,3 +43,35 @@ accepted_for service client state call = accepted_in service client (presented_b
 -- realm, service and client.
 abbrev pub AcceptedOnce : Type 0
 AcceptedOnce = (state : State) (realm : List ℕ) (sname client : Components) (calls : List Call) → EachOnce (collected after_call (accepted_for (realm ∷ sname) client) state calls)
+
+-- ---- an acceptor that lets nothing go
+
+-- the state in which the authenticator is remembered
+abbrev pub keeping : State → ℤ → Presented → State
+keeping state now p = with_clients state p.service.components (remembering_clients state now p)
+
+-- the state after what is presented, where `remember` makes the one in which it is remembered
+abbrev pub unless_refused : (State → ℤ → Presented → State) → State → ℤ → Presented → Option ApRefusal → State
+unless_refused remember state now p (Some refusal) = state
+unless_refused remember state now p None = remember state now p
+
+abbrev pub after_presented : (State → ℤ → Presented → State) → State → ℤ → Option Presented → State
+after_presented remember state now (Some p) = unless_refused remember state now p (memory_refusal state now p)
+after_presented remember state now None = state
+
+abbrev pub after_keeping : State → Call → State
+after_keeping state call = after_presented keeping state call.at.sec (presented_by state call.octets)
+
+-- what is answered, call by call, where `after` is the state after each
+abbrev pub answers : (State → Call → State) → State → List Call → List (Result Accepted ApFault)
+answers after state [] = []
+answers after state (call ∷ calls) = (accepts state call.at call.confounder call.octets).answer ∷ answers after (after state call) calls
+
+-- no call comes more than an hour before one that came earlier
+abbrev pub Steady : List Call → Type 0
+Steady [] = ⊤
+Steady (call ∷ calls) = AllByRecursion (λ later. (call.at.sec -ℤ pos 3600) ≤ℤ later.at.sec) calls × Steady calls
+
+-- Over all steady calls, an acceptor that lets go answers as one that doesn't.
+abbrev pub LetsGoUnseen : Type 0
+LetsGoUnseen = (state : State) (calls : List Call) → Steady calls → answers after_call state calls ≡ answers after_keeping state calls

@@ -7,6 +7,7 @@ ghost use Rattle.ap_accept.specs.Accepts.{accepted_with, accepts, memory_for, me
 ghost use Rattle.ap_accept.specs.Reply.{IsApReply};
 
 use crate::accepted::Accepted;
+use crate::clients::{Clients, empty_memory};
 use crate::fault::ApFault;
 use crate::opening::open_request;
 use crate::presented::Presented;
@@ -19,7 +20,7 @@ use krb_ap::read_ap_req;
 use krb_elements::Octets;
 use krb_fields::{ApOption, Moment};
 use krb_parts::{Authenticator, EncTicketPart};
-use replay::{Memory, Verdict};
+use replay::Verdict;
 use std::alloc::{AllocError, Global};
 
 /// Accepts the octets of an AP-REQ or refuses them, and remembers an authenticator that is new.
@@ -81,8 +82,10 @@ fn memory_refusal(
     ensures timely { IfNone result (is_skewed (memory_for state.now presented.now).floor at.sec presented.now.authenticator.ctime ≡ false) }
     ensures new { IfNone result (map.get (memory_for state.now presented.now).pairs (stamp_of presented.now) ≡ None) }
 {
-    let opened = Memory::opened(alloc, state.opening);
-    let memory = state.memory(&presented.service, &presented.ticket.cname, &opened);
+    let opened = Clients::opened(alloc, state.opening);
+    let clients = state.clients(&presented.service, &opened);
+    let empty = empty_memory(alloc, clients.floor);
+    let memory = clients.memory(&presented.ticket.cname, &empty);
     let ctime = presented.authenticator.ctime.seconds();
     let cusec = presented.authenticator.cusec.get();
     refusal_by(memory.check(at, ctime, cusec, state.limits.remembered))

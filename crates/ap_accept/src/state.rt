@@ -1,20 +1,21 @@
 //! What an acceptor holds.
 ghost use Rattle.std.specs.Prelude.{◌≡◌};
 
+use crate::clients::Clients;
 use cred_files::Keytab;
 use principal_rows::{Limits, NameMap};
-use replay::{Memory, Opening};
+use replay::Opening;
 use std::alloc::Global;
 
-/// The keys of services, the limits, and a memory for each service and client: one that is not stored is that of the
-/// opening.
+/// The keys of services, the limits, and what is remembered of each service's clients: where nothing is stored for a
+/// service, it is that of the opening.
 #[derive(Debug, Drop)]
 pub struct State {
     pub keytab: Keytab,
     pub limits: Limits,
     pub opening: Opening,
-    /// By service, and then by client. A service's key is its realm, and then the components of its name.
-    pub memories: NameMap<NameMap<Memory<()>>>,
+    /// A service's key is its realm, and then the components of its name.
+    pub services: NameMap<Clients>,
 }
 
 impl State {
@@ -28,7 +29,7 @@ impl State {
             keytab,
             limits,
             opening,
-            memories: NameMap::new(alloc),
+            services: NameMap::new(alloc),
         }
     }
 }

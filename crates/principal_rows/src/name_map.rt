@@ -2,10 +2,11 @@
 //!
 //! Names are compared by their components alone (RFC 4120 section 6.2), so a map has at most one value for all the names
 //! that differ in their name-type.
-ghost use Rattle.std.specs.Prelude.{◌≡◌, T, false, IfOk, IfErr, IsOk, OnOk, OnErr, IsTrue, option_copied, option_map, slice_get};
+ghost use Rattle.std.specs.Prelude.{◌≡◌, T, Bool, false, IfOk, IfErr, IsOk, OnOk, OnErr, IsTrue, option_copied, option_map, slice_get};
 ghost use Rattle.std.specs.FinMap as map;
 ghost use Rattle.krb_fields.specs.Name.{Components, name_cmp};
 ghost use Rattle.sorted_entries.specs.Entries.{IsAt, IsGap};
+ghost use Rattle.sorted_entries.specs.Values.{retain_values};
 ghost use Rattle.principal_rows.specs.NameMap.{name_of, pairs};
 
 use krb_fields::{Name, NameRef};
@@ -36,6 +37,14 @@ impl<'a> NameKey for NameRef<'a> {
     fn compare(&self, name: &Name) -> Ordering {
         self.order(name).reverse()
     }
+}
+
+/// A test of values, by which a map keeps some of its names.
+pub trait ValueTest<V> {
+    ghost passes: { Self → V → Bool };
+
+    fn passes(&self, value: &V) -> bool
+        ensures { result ≡ passes self.now value.now };
 }
 
 /// A name and its value.
@@ -160,6 +169,13 @@ impl<V: Drop> NameMap<V> {
             Ok(at) => Some(self.entries.remove(at).value),
             Err(_) => None,
         }
+    }
+
+    /// Keeps the names whose values pass the test, and forgets the others: one walk over all of them.
+    pub fn retain<P: ValueTest<V>>(&mut self, test: &P)
+        ensures { self.new ≡ retain_values self.old (P.passes test.now) }
+    {
+        self.entries.retain(|entry| test.passes(&entry.value));
     }
 
     /// Forgets all names.

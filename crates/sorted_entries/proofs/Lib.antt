@@ -2,3 +2,4 @@ pub mod Entries
 pub mod Exchanges
 pub mod Removed
 pub mod Ordered
+pub mod Values

@@ -9,7 +9,7 @@ use Rattle.std.specs.FinMap.Entries.{below_all}
 use Rattle.sorted_entries.specs.Entries.{pairs_of, IsAt, IsGap}
 use Rattle.sorted_entries.proofs.Entries.{first, second, less, below_then, found_none}
 
-both : (a b : Bool) → T a → T b → T (a && b)
+pub both : (a b : Bool) → T a → T b → T (a && b)
 both true b p q = q
 both false b p q = p
 
@@ -31,7 +31,7 @@ module _ {E K V : Type 0} (R : K → K → Ordering) (o : IsTotalOrder R) (exact
   sorted-remove (e ∷ es) (suc i) h = both _ _ (below-remove (key e) es i (first _ _ h)) (sorted-remove es i (second _ _ h))
 
   -- a key that ties with one that is below all is not found
-  none_above : (x q : K) (es : List E) → T (below_all R x (pairs es)) → R q x ≡ Equal → find R q (pairs es) ≡ None
+  pub none_above : (x q : K) (es : List E) → T (below_all R x (pairs es)) → R q x ≡ Equal → find R q (pairs es) ≡ None
   none_above x q [] h tied = refl
   none_above x q (e ∷ es) h tied = rw (o.congr q x (key e) tied ∙ less (R x (key e)) (first _ _ h)) (none_above x q es (second _ _ h) tied)
 

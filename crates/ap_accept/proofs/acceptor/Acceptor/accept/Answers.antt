@@ -1,35 +1,50 @@
-use Rattle.std.proofs.Common.{rules, ◌≡◌, refl, sym, ap, subst, ◌∙◌, arith}
-use Rattle.ap_accept.specs.Accepts.{accepts, presented_by, IsParty}
-use Rattle.ap_accept.specs.State.{memory_of}
+use Rattle.std.proofs.Common.{rules, ◌≡◌, ◌-ℤ◌, pos, refl, sym, ap, subst, ◌∙◌, arith}
+use Rattle.ap_accept.specs.Accepts.{accepts, presented_by, IsParty, IsService}
+use Rattle.ap_accept.specs.State.{clients_of, memory_of}
 use Rattle.ap_accept.specs.declared.state.State.{State}
-use Rattle.ap_accept.proofs.Frame.{after_call, all_stay, others_stay}
+use Rattle.ap_accept.proofs.Frame.{accepts_keeps, call_keeps, others_alike, others_stay}
+use Rattle.ap_accept.proofs.Raised.{raised, same_from}
 use Rattle.ap_accept.proofs.Ruling.{request_is}
 use Rattle.ap_accept.proofs.acceptor.Acceptor.accept.Goals as goal
 
 pub returns-clause-request : goal.returns-clause-request
 returns-clause-request c r = request_is c.args.ap_req.now r (λ i. omega (arith, c.type_inv.ap_req i))
 
+pub returns-clause-services : goal.returns-clause-services
+returns-clause-services c service other =
+    let state = c.self.inside.state in
+    let octets = c.args.ap_req.now in
+    let is : state ≡ c.args.self.now = search rules in
+    call_keeps (λ s. clients_of s service ≡ clients_of state service) c.accept.result state c.accept.new.state (accepts state c.args.at c.args.confounder.now octets).state c.accept.ensures.state refl
+    (others_stay state service c.args.at c.args.confounder.now octets (subst (λ (s : State). IsService service (presented_by s octets) → ⊥) (sym is) other))
+    ∙ ap (λ s. clients_of s service) is
+
 pub returns-clause-memories : goal.returns-clause-memories
 returns-clause-memories c service client other =
     let state = c.self.inside.state in
     let octets = c.args.ap_req.now in
     let is : state ≡ c.args.self.now = search rules in
-    after_call (λ s. memory_of s service client) c.accept.result state c.accept.new.state (accepts state c.args.at c.args.confounder.now octets).state c.accept.ensures.state
-    (others_stay state service client c.args.at c.args.confounder.now octets (subst (λ (s : State). IsParty service client (presented_by s octets) → ⊥) (sym is) other))
-    ∙ ap (λ s. memory_of s service client) is
+    let alike : raised (c.args.at.sec -ℤ pos 3900) (memory_of c.accept.new.state service client) ≡ raised (c.args.at.sec -ℤ pos 3900) (memory_of state service client) =
+    call_keeps (λ s. raised (c.args.at.sec -ℤ pos 3900) (memory_of s service client) ≡ raised (c.args.at.sec -ℤ pos 3900) (memory_of state service client))
+    c.accept.result state c.accept.new.state (accepts state c.args.at c.args.confounder.now octets).state c.accept.ensures.state refl
+    (others_alike state service client c.args.at c.args.confounder.now octets (subst (λ (s : State). IsParty service client (presented_by s octets) → ⊥) (sym is) other)) in
+    same_from c.args.at.sec (memory_of c.accept.new.state service client) (memory_of c.args.self.now service client)
+    (alike ∙ ap (λ s. raised (c.args.at.sec -ℤ pos 3900) (memory_of s service client)) is)
 
 pub returns-clause-keytab : goal.returns-clause-keytab
 returns-clause-keytab c =
     let state = c.self.inside.state in
+    let octets = c.args.ap_req.now in
     let is : state ≡ c.args.self.now = search rules in
-    after_call (λ s. s.keytab) c.accept.result state c.accept.new.state (accepts state c.args.at c.args.confounder.now c.args.ap_req.now).state c.accept.ensures.state
-    (all_stay (λ s. s.keytab) state (λ service client m. refl) c.args.at c.args.confounder.now c.args.ap_req.now)
+    call_keeps (λ s. s.keytab ≡ state.keytab) c.accept.result state c.accept.new.state (accepts state c.args.at c.args.confounder.now octets).state c.accept.ensures.state refl
+    (accepts_keeps (λ s. s.keytab ≡ state.keytab) state refl c.args.at c.args.confounder.now octets (λ p presents. refl))
     ∙ ap (λ s. s.keytab) is
 
 pub returns-clause-limits : goal.returns-clause-limits
 returns-clause-limits c =
     let state = c.self.inside.state in
+    let octets = c.args.ap_req.now in
     let is : state ≡ c.args.self.now = search rules in
-    after_call (λ s. s.limits) c.accept.result state c.accept.new.state (accepts state c.args.at c.args.confounder.now c.args.ap_req.now).state c.accept.ensures.state
-    (all_stay (λ s. s.limits) state (λ service client m. refl) c.args.at c.args.confounder.now c.args.ap_req.now)
+    call_keeps (λ s. s.limits ≡ state.limits) c.accept.result state c.accept.new.state (accepts state c.args.at c.args.confounder.now octets).state c.accept.ensures.state refl
+    (accepts_keeps (λ s. s.limits ≡ state.limits) state refl c.args.at c.args.confounder.now octets (λ p presents. refl))
     ∙ ap (λ s. s.limits) is

@@ -1,0 +1,121 @@
+-- What is let go: what holds of a memory, and of an empty one in place of one that doesn't last, holds of what is left.
+use Rattle.std.proofs.Common.{◌≡◌, ℕ, ℤ, pos, ◌-ℤ◌, ◌≤ℤ◌, Bool, true, false, cond, not, ◌&&◌, ◌||◌, nat_le, Option, Some, None, Equal, refl, sym, ap, subst, ◌∙◌, arith, inl, inr}
+use Rattle.std.specs.Prelude.{⊤, int_lt}
+use Rattle.std.specs.Int.{int_max}
+use Rattle.std.specs.Option.{unwrap_or}
+use Rattle.std.specs.FinMap.{FinMap, same_map, get-empty, get-retain_keys, empty_of_len}
+use Rattle.std.specs.FinMap as map
+use Rattle.std.proofs.lemmas.Int.{ints, clamps}
+use Rattle.std.proofs.lemmas.Bool.Decides.{nat_tests}
+use Rattle.krb_fields.specs.Name.{Components, name_total}
+use Rattle.sorted_entries.proofs.Values.{get-retain_values, passing}
+use Rattle.replay.specs.Stamp.{Stamp, stamp_cmp, is_from}
+use Rattle.replay.specs.declared.memory.Memory.{Memory}
+use Rattle.replay.proofs.Settled.{IsSettled}
+use Rattle.replay.proofs.Stamps.{stamp_total, stamp_exact}
+use Rattle.ap_accept.specs.Clients.{empty_memory, lasts, let_go, memory_in, raised_to}
+use Rattle.ap_accept.specs.declared.clients.Clients.{Clients}
+use Rattle.ap_accept.proofs.Raised.{View, further, further_twice, raised}
+
+pub both : (a b : Bool) → (a && b) ≡ true → (a ≡ true) × (b ≡ true)
+both true b e = (refl, e)
+both false b e = absurd cc
+
+neither : {V : Type 0} (b : Bool) → ◌≡◌ {A = Option V} (cond b None None) None
+neither true = refl
+neither false = refl
+
+retain_none : (p : Stamp → Bool) → ((q x : Stamp) → stamp_cmp q x ≡ Equal → p x ≡ p q) → map.retain_keys (map.empty {X = ⊤} {R = stamp_cmp}) p ≡ map.empty
+retain_none p alike = same_map stamp_total stamp_exact _ _ (λ q. get-retain_keys map.empty p q (alike q) ∙ ap (λ o. cond (p q) o None) (get-empty stamp_cmp q) ∙ neither (p q) ∙ sym (get-empty stamp_cmp q))
+
+-- none is left of no pairs
+none_from : (second : ℤ) → map.retain_keys (map.empty {X = ⊤} {R = stamp_cmp}) (is_from second) ≡ map.empty
+none_from second = retain_none (is_from second) (λ q x t. ap (is_from second) (sym (stamp_exact q x t)))
+
+no_more : (n : ℕ) → nat_le 1 n ≡ false → n ≡ 0
+no_more n h = grind (arith, nat_tests)
+
+neither_holds : (a b : Bool) → (a || b) ≡ false → (a ≡ false) × (b ≡ false)
+neither_holds true b e = cc
+neither_holds false b e = (refl, e)
+
+floor_of : (floor f : ℤ) → int_lt floor f ≡ false → int_max f floor ≡ floor
+floor_of floor f h = grind (arith, ints, clamps)
+
+max_same : (floor : ℤ) → floor ≡ int_max floor floor
+max_same floor = grind (arith, ints, clamps)
+
+below_floor : (floor f ctime : ℤ) → int_lt floor f ≡ false → int_lt ctime f ≡ true → int_lt ctime floor ≡ true
+below_floor floor f ctime h low = grind (arith, ints)
+
+not_left : (b : Bool) (o : Option ⊤) → cond (not b) o None ≡ None → o ≡ Some tt → b ≡ true
+not_left true o e held = refl
+not_left false None e held = cc
+not_left false (Some x) e held = cc
+
+-- ---- a memory that doesn't last
+
+module _ (floor : ℤ) (m : Memory ⊤) (gone : lasts floor m ≡ false) where
+  abbrev parts : (int_lt floor m.floor ≡ false) × (nat_le 1 (map.len (map.retain_keys m.pairs (is_from floor))) ≡ false)
+  parts = neither_holds (int_lt floor m.floor) (nat_le 1 (map.len (map.retain_keys m.pairs (is_from floor)))) gone
+
+  no_pairs : map.retain_keys m.pairs (is_from floor) ≡ map.empty
+  no_pairs = empty_of_len (map.retain_keys m.pairs (is_from floor)) (no_more (map.len (map.retain_keys m.pairs (is_from floor))) parts.1)
+
+  -- is as an empty one from the floor on
+  as_empty : raised floor m ≡ raised floor (empty_memory floor)
+  as_empty =
+      let top : int_max m.floor floor ≡ floor = floor_of floor m.floor parts.0 in
+      let pairs : map.retain_keys m.pairs (is_from (int_max m.floor floor)) ≡ map.retain_keys map.empty (is_from (int_max floor floor)) =
+      ap (λ f. map.retain_keys m.pairs (is_from f)) top ∙ no_pairs ∙ sym (none_from (int_max floor floor)) in
+      λ i. ((top ∙ max_same floor) i, pairs i)
+
+  pub as_empty_on : (second : ℤ) → floor ≤ℤ second → raised second (empty_memory floor) ≡ raised second m
+  as_empty_on second le =
+      further_twice floor second (floor, map.empty) le ∙ ap (further second) (sym as_empty) ∙ sym (further_twice floor second (m.floor, m.pairs) le)
+
+  -- and what is settled there is too old for an empty one
+  pub still_settled : (s : Stamp) → IsSettled m s tt → IsSettled (empty_memory floor) s tt
+  still_settled s (inl low) = inl (below_floor floor m.floor s.0 parts.0 low)
+  still_settled s (inr held) =
+      inl (not_left (int_lt s.0 floor) (map.get m.pairs s)
+      (sym (get-retain_keys m.pairs (is_from floor) s (λ x t. ap (is_from floor) (sym (stamp_exact s x t)))) ∙ ap (λ p. map.get p s) no_pairs ∙ get-empty stamp_cmp s)
+      held)
+
+-- ---- a service's clients
+
+-- P is carried from a memory that doesn't last to an empty one
+abbrev pub Carried : ℤ → (Memory ⊤ → Type 0) → Type 0
+Carried floor P = (m : Memory ⊤) → lasts floor m ≡ false → P m → P (empty_memory floor)
+
+one_left : (floor old : ℤ) (P : Memory ⊤ → Type 0) → Carried floor P → lasts floor (empty_memory old) ≡ false → (o : Option (Memory ⊤)) → P (unwrap_or o (empty_memory old))
+    → P (unwrap_or (passing (lasts floor) o) (empty_memory floor))
+one_left floor old P carried gone None p = carried (empty_memory old) gone p
+one_left floor old P carried gone (Some m) p = at (lasts floor m) refl
+  where
+    at : (b : Bool) → lasts floor m ≡ b → P (unwrap_or (cond b (Some m) None) (empty_memory floor))
+    at true e = p
+    at false e = carried m e p
+
+lower : (old now : ℤ) → int_lt old (now -ℤ pos 7500) ≡ true → int_lt (now -ℤ pos 3900) old ≡ false
+lower old now h = grind (arith, ints)
+
+or_false : (a b : Bool) → a ≡ false → b ≡ false → (a || b) ≡ false
+or_false true b p q = cc
+or_false false b p q = q
+
+nothing_there : (second : ℤ) → nat_le 1 (map.len (map.retain_keys (map.empty {X = ⊤} {R = stamp_cmp}) (is_from second))) ≡ false
+nothing_there second = ap (nat_le 1) (ap map.len (none_from second) ∙ map.len-empty stamp_cmp ⊤)
+
+empty_gone : (old now : ℤ) → int_lt old (now -ℤ pos 7500) ≡ true → lasts (now -ℤ pos 3900) (empty_memory old) ≡ false
+empty_gone old now due = or_false _ _ (lower old now due) (nothing_there (now -ℤ pos 3900))
+
+-- what is so carried holds of a client's memory after what was let go
+pub let_go_keeps : (P : Memory ⊤ → Type 0) (now : ℤ) (clients : Clients) (client : Components) → Carried (now -ℤ pos 3900) P → P (memory_in clients client) → P (memory_in (let_go now clients) client)
+let_go_keeps P now clients client carried p = at (int_lt clients.floor (now -ℤ pos 7500)) refl
+  where
+    at : (b : Bool) → int_lt clients.floor (now -ℤ pos 7500) ≡ b → P (memory_in (cond b (raised_to (now -ℤ pos 3900) clients) clients) client)
+    at true due =
+        subst (λ o. P (unwrap_or o (empty_memory (now -ℤ pos 3900)))) (sym (get-retain_values name_total clients.memories (lasts (now -ℤ pos 3900)) client))
+        (one_left (now -ℤ pos 3900) clients.floor P carried (empty_gone clients.floor now due) (map.get clients.memories client) p)
+    at false e = p

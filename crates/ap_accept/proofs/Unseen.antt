@@ -1,0 +1,168 @@
+-- An acceptor that lets go answers as one that doesn't: their memories are alike from a second on that no call lies before.
+use Rattle.std.proofs.Common.{◌≡◌, ◌-ℤ◌, ◌≤ℤ◌, Bool, true, false, cond, ℕ, ℤ, pos, List, [], ◌∷◌, Option, Some, None, Result, Ok, Err, refl, ap, sym, subst, ◌∙◌, arith}
+use Rattle.std.specs.Prelude.{⊤, nat_le}
+use Rattle.std.specs.Int.{int_max}
+use Rattle.std.specs.List.{AllByRecursion}
+use Rattle.std.specs.Ordering.{eq_by_cmp}
+use Rattle.std.specs.Result.{result_ok}
+use Rattle.std.proofs.lemmas.Int.{ints, clamps}
+use Rattle.krb_ap.specs.ApReq.{ApReq}
+use Rattle.krb_fields.specs.Name.{Components, name_cmp}
+use Rattle.principal_rows.specs.declared.limits.Limits.{Limits}
+use Rattle.cred_files.specs.declared.keytab_entry.KeytabEntry.{KeytabEntry}
+use Rattle.replay.specs.Memory.{remembered, verdict}
+use Rattle.replay.specs.declared.memory.Memory.{Memory}
+use Rattle.ap_accept.specs.Accepts.{accepts, if_presented, if_request, memory_for, memory_refusal, presented_by, presented_if, refusal_by, remembering, request_of, stamp_of, unless_seen}
+use Rattle.ap_accept.specs.Presented.{presented}
+use Rattle.ap_accept.specs.Reply.{asks_reply}
+use Rattle.ap_accept.specs.Run.{Call, LetsGoUnseen, Steady, after_call, after_keeping, after_presented, answers, is_party, keeping, unless_refused}
+use Rattle.ap_accept.specs.State.{memory_of}
+use Rattle.ap_accept.specs.declared.accepted.Accepted.{Accepted}
+use Rattle.ap_accept.specs.declared.fault.ApFault.{ApFault}
+use Rattle.ap_accept.specs.declared.presented.Presented.{Presented}
+use Rattle.ap_accept.specs.declared.refusal.ApRefusal.{ApRefusal}
+use Rattle.ap_accept.specs.declared.state.State.{State}
+use Rattle.ap_accept.proofs.Frame.{next_memory, remembering_keeps, stored_keeps}
+use Rattle.ap_accept.proofs.LettingGo.{as_empty_on}
+use Rattle.ap_accept.proofs.Raised.{alike_on, raised, remembered_alike, says_the_same}
+
+-- the same keys and limits, and memories that are alike from this second on
+record Alike (second : ℤ) (s t : State) : Type 0 where
+  pub keytab : s.keytab ≡ t.keytab
+  pub limits : s.limits ≡ t.limits
+  pub memories : (service client : Components) → raised second (memory_of s service client) ≡ raised second (memory_of t service client)
+
+-- ---- the answer
+
+module _ (second now : ℤ) (s t : State) (alike : Alike second s t) (le : second ≤ℤ (now -ℤ pos 300)) where
+  same_refusal : (p : Presented) → memory_refusal s now p ≡ memory_refusal t now p
+  same_refusal p =
+      ap (λ (l : Limits). refusal_by (verdict (memory_for s p) now (stamp_of p) l.remembered)) alike.limits
+      ∙ ap refusal_by (says_the_same second now (memory_for s p) (memory_for t p) (stamp_of p) t.limits.remembered le (alike.memories p.service.components p.ticket.cname.components))
+
+  module _ (confounder : List ℕ) (wanted : Bool) where
+    same_seen : (p : Presented) (r : Option ApRefusal) → (unless_seen s now confounder wanted p r).answer ≡ (unless_seen t now confounder wanted p r).answer
+    same_seen p (Some refusal) = refl
+    same_seen p None = refl
+
+    same_presented : (r : Result Presented ApRefusal) → (if_presented s now confounder wanted r).answer ≡ (if_presented t now confounder wanted r).answer
+    same_presented (Ok p) = same_seen p (memory_refusal s now p) ∙ ap (λ r. (unless_seen t now confounder wanted p r).answer) (same_refusal p)
+    same_presented (Err refusal) = refl
+
+  same_answer : (confounder : List ℕ) (o : Option ApReq) → (if_request s now confounder o).answer ≡ (if_request t now confounder o).answer
+  same_answer confounder (Some ap_req) =
+      same_presented confounder (asks_reply ap_req) (presented s.keytab ap_req)
+      ∙ ap (λ (k : List KeytabEntry). (if_presented t now confounder (asks_reply ap_req) (presented k ap_req)).answer) alike.keytab
+  same_answer confounder None = refl
+
+  same_presenting : (o : Option ApReq) → presented_if s o ≡ presented_if t o
+  same_presenting (Some ap_req) = ap (λ (k : List KeytabEntry). result_ok (presented k ap_req)) alike.keytab
+  same_presenting None = refl
+
+-- ---- the state afterwards
+
+module _ (state : State) (now : ℤ) (confounder : List ℕ) where
+  by_refusal : (wanted : Bool) (p : Presented) (r : Option ApRefusal) → (unless_seen state now confounder wanted p r).state ≡ unless_refused remembering state now p r
+  by_refusal wanted p (Some refusal) = refl
+  by_refusal wanted p None = refl
+
+  by_presented : (wanted : Bool) (r : Result Presented ApRefusal) → (if_presented state now confounder wanted r).state ≡ after_presented remembering state now (result_ok r)
+  by_presented wanted (Ok p) = by_refusal wanted p (memory_refusal state now p)
+  by_presented wanted (Err refusal) = refl
+
+  by_request : (o : Option ApReq) → (if_request state now confounder o).state ≡ after_presented remembering state now (presented_if state o)
+  by_request (Some ap_req) = by_presented (asks_reply ap_req) (presented state.keytab ap_req)
+  by_request None = refl
+
+module _ (second now high : ℤ) (s t : State) (alike : Alike second s t) (le : second ≤ℤ (now -ℤ pos 300)) (on : second ≤ℤ high) (gone : (now -ℤ pos 3900) ≤ℤ high) where
+  still_alike : Alike high s t
+  still_alike = record {
+    keytab = alike.keytab;
+    limits = alike.limits;
+    memories = λ service client.
+        let a = memory_of s service client in
+        let b = memory_of t service client in
+        alike_on second high (a.floor, a.pairs) (b.floor, b.pairs) on (alike.memories service client);
+  }
+
+  module _ (p : Presented) (service client : Components) where
+    same_next : (b : Bool)
+        → raised high (cond b (remembered (memory_for s p) now (stamp_of p) tt) (memory_of s service client)) ≡ raised high (cond b (remembered (memory_for t p) now (stamp_of p) tt) (memory_of t service client))
+    same_next true = remembered_alike second now (memory_for s p) (memory_for t p) (stamp_of p) le (alike.memories p.service.components p.ticket.cname.components) high
+    same_next false = still_alike.memories service client
+
+    -- what is let go on the one side
+    same_gone : raised high (memory_of (remembering s now p) service client) ≡ raised high (next_memory t now p service client)
+    same_gone =
+        remembering_keeps s now p service client (λ m. raised high m ≡ raised high (next_memory t now p service client))
+        (λ m lost same. as_empty_on (now -ℤ pos 3900) m lost high gone ∙ same) (same_next (is_party service client p))
+
+    same_kept : raised high (memory_of (keeping t now p) service client) ≡ raised high (next_memory t now p service client)
+    same_kept = stored_keeps t now p service client (λ clients. clients) (λ m. raised high m ≡ raised high (next_memory t now p service client)) (λ clients h. h) refl
+
+  alike_remembering : (p : Presented) → Alike high (remembering s now p) (keeping t now p)
+  alike_remembering p = record {
+    keytab = alike.keytab;
+    limits = alike.limits;
+    memories = λ service client. same_gone p service client ∙ sym (same_kept p service client);
+  }
+
+  alike_unless : (p : Presented) (r : Option ApRefusal) → Alike high (unless_refused remembering s now p r) (unless_refused keeping t now p r)
+  alike_unless p (Some refusal) = still_alike
+  alike_unless p None = alike_remembering p
+
+  alike_presented : (o : Option Presented) → Alike high (after_presented remembering s now o) (after_presented keeping t now o)
+  alike_presented (Some p) = subst (λ r. Alike high (unless_refused remembering s now p (memory_refusal s now p)) (unless_refused keeping t now p r)) (same_refusal second now s t alike le p) (alike_unless p (memory_refusal s now p))
+  alike_presented None = still_alike
+
+  alike_after : (confounder : List ℕ) (o : Option ApReq) → Alike high (if_request s now confounder o).state (after_presented keeping t now (presented_if t o))
+  alike_after confounder o =
+      subst (λ state. Alike high state (after_presented keeping t now (presented_if t o))) (sym (by_request s now confounder o))
+      (subst (λ x. Alike high (after_presented remembering s now (presented_if s o)) (after_presented keeping t now x)) (same_presenting second now s t alike le o) (alike_presented (presented_if s o)))
+
+-- ---- a run
+
+-- no call comes before the second, with the skew of clocks
+abbrev Follow : ℤ → List Call → Type 0
+Follow second calls = AllByRecursion (λ call. second ≤ℤ (call.at.sec -ℤ pos 300)) calls
+
+least : (second now at : ℤ) → second ≤ℤ (at -ℤ pos 300) → (now -ℤ pos 3600) ≤ℤ at → int_max second (now -ℤ pos 3900) ≤ℤ (at -ℤ pos 300)
+least second now at le steady = grind (arith, ints, clamps)
+
+follow_on : (second now : ℤ) (calls : List Call) → Follow second calls → AllByRecursion (λ (later : Call). (now -ℤ pos 3600) ≤ℤ later.at.sec) calls → Follow (int_max second (now -ℤ pos 3900)) calls
+follow_on second now [] follow steady = tt
+follow_on second now (call ∷ calls) follow steady = (least second now call.at.sec follow.0 steady.0, follow_on second now calls follow.1 steady.1)
+
+max_left : (a b : ℤ) → a ≤ℤ int_max a b
+max_left a b = grind (arith, ints, clamps)
+
+max_right : (a b : ℤ) → b ≤ℤ int_max a b
+max_right a b = grind (arith, ints, clamps)
+
+all_same : (second : ℤ) (s t : State) (calls : List Call) → Alike second s t → Follow second calls → Steady calls → answers after_call s calls ≡ answers after_keeping t calls
+all_same second s t [] alike follow steady = refl
+all_same second s t (call ∷ calls) alike follow steady =
+    let now : ℤ = call.at.sec in
+    let high : ℤ = int_max second (now -ℤ pos 3900) in
+    let next : Alike high (after_call s call) (after_keeping t call) =
+    alike_after second now high s t alike follow.0 (max_left second (now -ℤ pos 3900)) (max_right second (now -ℤ pos 3900)) call.confounder (request_of call.octets) in
+    let here : (accepts s call.at call.confounder call.octets).answer ≡ (accepts t call.at call.confounder call.octets).answer = same_answer second now s t alike follow.0 call.confounder (request_of call.octets) in
+    let later : answers after_call (after_call s call) calls ≡ answers after_keeping (after_keeping t call) calls =
+    all_same high (after_call s call) (after_keeping t call) calls next (follow_on second now calls follow.1 steady.0) steady.1 in
+    λ i. here i ∷ later i
+
+an_hour_before : (now at : ℤ) → (now -ℤ pos 3600) ≤ℤ at → (now -ℤ pos 3900) ≤ℤ (at -ℤ pos 300)
+an_hour_before now at le = omega (arith, ints)
+
+first_itself : (now : ℤ) → (now -ℤ pos 3900) ≤ℤ (now -ℤ pos 300)
+first_itself now = omega (arith, ints)
+
+follow_first : (now : ℤ) (calls : List Call) → AllByRecursion (λ (later : Call). (now -ℤ pos 3600) ≤ℤ later.at.sec) calls → Follow (now -ℤ pos 3900) calls
+follow_first now [] steady = tt
+follow_first now (call ∷ calls) steady = (an_hour_before now call.at.sec steady.0, follow_first now calls steady.1)
+
+pub lets_go_unseen : LetsGoUnseen
+lets_go_unseen state [] steady = refl
+lets_go_unseen state (call ∷ calls) steady =
+    all_same (call.at.sec -ℤ pos 3900) state state (call ∷ calls) (record { keytab = refl; limits = refl; memories = λ service client. refl })
+    (first_itself call.at.sec, follow_first call.at.sec calls steady.0) steady

@@ -1,0 +1,53 @@
+-- What is remembered of a service's clients, and when it is let go.
+use Rattle.std.specs.Prelude.{ℕ, ℤ, pos, ◌-ℤ◌, ◌≤ℤ◌, ◌≡◌, ⊤, Bool, ◌||◌, nat_le, int_lt, if◌then◌else◌}
+use Rattle.std.specs.Option.{unwrap_or}
+use Rattle.std.specs.FinMap as map
+use Rattle.krb_fields.specs.Name.{Components, name_cmp}
+use Rattle.sorted_entries.specs.Values.{retain_values}
+use Rattle.replay.specs.Failures.{no_failures}
+use Rattle.replay.specs.Memory.{verdict}
+use Rattle.replay.specs.Opening.{opened_memory}
+use Rattle.replay.specs.Stamp.{Stamp, is_from}
+use Rattle.replay.specs.declared.memory.Memory.{Memory}
+use Rattle.replay.specs.declared.opening.Opening.{Opening}
+use Rattle.ap_accept.specs.declared.clients.Clients.{Clients}
+
+-- the memories of a service's clients, by their names
+abbrev pub Memories : Type 0
+Memories = map.FinMap name_cmp (Memory ⊤)
+
+-- nothing remembered, and this floor
+abbrev pub empty_memory : ℤ → Memory ⊤
+empty_memory floor = record { failures = no_failures; floor = floor; pairs = map.empty }
+
+-- a client that has no memory stored has an empty one
+abbrev pub memory_among : ℤ → Memories → Components → Memory ⊤
+memory_among floor memories client = unwrap_or (map.get memories client) (empty_memory floor)
+
+abbrev pub memory_in : Clients → Components → Memory ⊤
+memory_in clients client = memory_among clients.floor clients.memories client
+
+-- those of a service from whose clients nothing has come since the opening
+abbrev pub opened_clients : Opening → Clients
+opened_clients opening = record { floor = (opened_memory {T = ⊤} opening).floor; memories = map.empty }
+
+abbrev pub with_memory : Clients → Components → Memory ⊤ → Clients
+with_memory clients client memory = record clients { memories = map.insert clients.memories client memory }
+
+-- ---- what is let go
+
+-- it says more than an empty memory of this floor: its own lies above it, or a pair isn't below it
+abbrev pub lasts : ℤ → Memory ⊤ → Bool
+lasts floor m = int_lt floor m.floor || nat_le 1 (map.len (map.retain_keys m.pairs (is_from floor)))
+
+-- the floor of the service raised to this one, and the memories gone that don't last
+abbrev pub raised_to : ℤ → Clients → Clients
+raised_to floor clients = record { floor = floor; memories = retain_values clients.memories (lasts floor) }
+
+-- the floor is raised to an hour and the skew of clocks before now, where it lies more than an hour below that
+abbrev pub let_go : ℤ → Clients → Clients
+let_go now clients = if int_lt clients.floor (now -ℤ pos 7500) then raised_to (now -ℤ pos 3900) clients else clients
+
+-- from this second on, both memories say the same of every authenticator
+abbrev pub SaysTheSame : ℤ → Memory ⊤ → Memory ⊤ → Type 0
+SaysTheSame second a b = (now : ℤ) (stamp : Stamp) (limit : ℕ) → second ≤ℤ now → verdict a now stamp limit ≡ verdict b now stamp limit
