@@ -1,0 +1,11 @@
+//! The life of a server: it serves rounds, and between them looks whether there are other rows.
+#![tactic(auto)]
+
+mod life;
+mod rows;
+mod totals;
+
+pub use kdc_hub::OtherRealm;
+pub use life::serve_life;
+pub use rows::{Look, RowSource};
+pub use totals::Totals;

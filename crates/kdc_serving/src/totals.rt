@@ -1,0 +1,45 @@
+//! What a server counts through its life.
+ghost use Rattle.std.specs.Prelude.{◌≡◌, ◌+◌, ◌<◌, ◌^◌, ◌-◌, min};
+
+use kdc_hub::Served;
+
+/// What a server counted through its life.
+#[derive(Clone, Copy, Debug, PartialEq, Eq)]
+pub struct Totals {
+    /// Events that came.
+    pub events: u64,
+    /// Calls of the Wire that failed. The count stops at the greatest `u64`.
+    pub faults: u64,
+    /// Events that were refused memory.
+    pub refused: u64,
+}
+
+impl Totals {
+    /// Nothing is counted yet.
+    pub fn new() -> Totals
+        ensures events { result.events ≡ 0 }
+        ensures faults { result.faults ≡ 0 }
+        ensures refused { result.refused ≡ 0 }
+    {
+        Totals {
+            events: 0,
+            faults: 0,
+            refused: 0,
+        }
+    }
+
+    /// With what some more rounds counted.
+    pub fn with(self, served: Served) -> Totals
+        requires events { self.events + served.events < 2 ^ 64 }
+        requires refused { self.refused + served.refused < 2 ^ 64 }
+        ensures events { result.events ≡ self.events + served.events }
+        ensures faults { result.faults ≡ min (self.faults + served.faults) (2 ^ 64 - 1) }
+        ensures refused { result.refused ≡ self.refused + served.refused }
+    {
+        Totals {
+            events: self.events + u64::from(served.events),
+            faults: self.faults.saturating_add(served.faults),
+            refused: self.refused + u64::from(served.refused),
+        }
+    }
+}
