@@ -8,9 +8,10 @@
  * The words ask for a subkey, for MUTUAL-REQUIRED, for a sequence number, and for a checksum of the text 'checksum'.
  *
  * It prints a line for each of: the AP-REQ, the ticket's session key, the subkey if there is one, and what the library itself
- * reads of the AP-REQ with the keytab (krb5_rd_req): the second and the microsecond of the authenticator, and the sequence
- * number if there is one. Octets are hexadecimal digits. With MUTUAL-REQUIRED it then reads a line with the digits of an
- * AP-REP, and says whether the library takes that for the reply (krb5_rd_rep).
+ * reads of the AP-REQ with the keytab (krb5_rd_req): the second and the microsecond of the authenticator, the sequence
+ * number and the checksum if there is one, and the client, flags and times of the ticket. Octets are hexadecimal digits, and
+ * a time that is absent is 0. With MUTUAL-REQUIRED it then reads a line with the digits of an AP-REP, and says whether the
+ * library takes that for the reply (krb5_rd_rep).
  */
 #include <krb5.h>
 #include <stdio.h>
@@ -73,21 +74,50 @@ static void print_keys(krb5_auth_context exchange)
 		print_key("subkey", key);
 }
 
-/* What the service's side of the library reads; without KRB5_AUTH_CONTEXT_DO_TIME it keeps no file of what came before. */
-static void print_authenticator(const krb5_data *request)
+static void print_authenticator(krb5_auth_context service)
 {
-	krb5_auth_context service;
 	krb5_authenticator *authenticator;
+	krb5_checksum *sum;
 
-	check(krb5_auth_con_init(context, &service), "the service");
-	check(krb5_auth_con_setflags(context, service, 0), "its flags");
-	check(krb5_rd_req(context, &service, request, NULL, NULL, NULL, NULL), "the AP-REQ, read");
 	check(krb5_auth_con_getauthenticator(context, service, &authenticator), "the authenticator");
 	printf("ctime %ld\n", (long)authenticator->ctime);
 	printf("cusec %d\n", authenticator->cusec);
 	if (authenticator->seq_number != 0)
 		printf("number %u\n", (unsigned)authenticator->seq_number);
+	sum = authenticator->checksum;
+	if (sum != NULL) {
+		printf("checksum-type %d\n", sum->checksum_type);
+		print_octets("checksum", sum->contents, sum->length);
+	}
 	krb5_free_authenticator(context, authenticator);
+}
+
+static void print_ticket(const krb5_enc_tkt_part *part)
+{
+	char *client;
+
+	check(krb5_unparse_name(context, part->client, &client), "the client");
+	printf("client %s\n", client);
+	printf("flags %08x\n", (unsigned)part->flags);
+	printf("authtime %ld\n", (long)part->times.authtime);
+	printf("starttime %ld\n", (long)part->times.starttime);
+	printf("endtime %ld\n", (long)part->times.endtime);
+	printf("renew-till %ld\n", (long)part->times.renew_till);
+	krb5_free_unparsed_name(context, client);
+}
+
+/* What the service's side of the library reads; without KRB5_AUTH_CONTEXT_DO_TIME it keeps no file of what came before. */
+static void print_read(const krb5_data *request)
+{
+	krb5_auth_context service;
+	krb5_ticket *ticket;
+
+	check(krb5_auth_con_init(context, &service), "the service");
+	check(krb5_auth_con_setflags(context, service, 0), "its flags");
+	check(krb5_rd_req(context, &service, request, NULL, NULL, NULL, &ticket), "the AP-REQ, read");
+	print_authenticator(service);
+	print_ticket(ticket->enc_part2);
+	krb5_free_ticket(context, ticket);
 	krb5_auth_con_free(context, service);
 }
 
@@ -146,7 +176,7 @@ int main(int count, char **words)
 	check(krb5_mk_req_extended(context, &exchange, options, summed, found, &request), "the AP-REQ");
 	print_octets("ap-req", request.data, request.length);
 	print_keys(exchange);
-	print_authenticator(&request);
+	print_read(&request);
 	fflush(stdout);
 	if (options & AP_OPTS_MUTUAL_REQUIRED)
 		take_reply(exchange);

@@ -1,25 +1,16 @@
 //! What an acceptor of `h` in `A.B` answers.
+use crate::given::{accept, octets, opened, up};
 use crate::requests::{ACCEPTED, MUTUAL, OTHER_CLIENT, REFUSED, REPLY, SECOND};
-use ap_accept::{Accepted, Acceptor, ApFault, Opening};
+use ap_accept::{Accepted, Acceptor, ApFault};
 use cred_files::{Keytab, KeytabEntry};
 use enctypes::{Etype, Key};
 use krb_elements::KerberosString;
-use krb_fields::{Moment, Name};
-use principal_rows::Limits;
+use krb_fields::Name;
 use std::alloc::Global;
 use std::test::Fail;
 
 /// The start of 2024, in seconds since 1970.
 const MIDNIGHT: i64 = 1_704_067_200;
-
-/// Octets that count up from this one.
-fn up<const N: usize>(first: u8) -> [u8; N] {
-    let mut octets = [first; N];
-    for (place, octet) in (0..=u8::MAX).zip(&mut octets) {
-        *octet = octet.wrapping_add(place);
-    }
-    octets
-}
 
 /// An acceptor that remembers so many authenticators of a client.
 fn acceptor(alloc: Global, remembered: u32) -> Result<Acceptor, Fail> {
@@ -30,33 +21,21 @@ fn acceptor(alloc: Global, remembered: u32) -> Result<Acceptor, Fail> {
         key: Key::from_random(Etype::Aes256CtsHmacSha1_96, &up(160)),
     };
     let entries = vec![in alloc; entry]?;
-    let keytab = Keytab::new(alloc, &entries)?;
-    let limits = Limits::new(remembered, 0, 0, 36_000, 0).ok_or("limits")?;
-    Ok(Acceptor::open(alloc, keytab, limits, Opening::First)?)
+    opened(alloc, Keytab::new(alloc, &entries)?, remembered)
 }
 
 /// What is answered to an AP-REQ of these digits.
-fn accept(
+fn accept_digits(
     alloc: Global,
     acceptor: &mut Acceptor,
     digits: &str,
 ) -> Result<Result<Accepted, ApFault>, Fail> {
-    let octets = hex::decode(alloc, digits.as_bytes())?;
-    accept_octets(alloc, acceptor, &octets)
-}
-
-fn accept_octets(
-    alloc: Global,
-    acceptor: &mut Acceptor,
-    octets: &[u8],
-) -> Result<Result<Accepted, ApFault>, Fail> {
-    let at = Moment::new(MIDNIGHT, 0).ok_or("a moment")?;
-    Ok(acceptor.accept(alloc, at, &up(48), octets))
+    accept(alloc, acceptor, MIDNIGHT, &octets(alloc, digits)?)
 }
 
 /// The code by which it is refused; 0 where it is accepted.
 fn code(alloc: Global, acceptor: &mut Acceptor, digits: &str) -> Result<i32, Fail> {
-    match accept(alloc, acceptor, digits)? {
+    match accept_digits(alloc, acceptor, digits)? {
         Ok(_) => Ok(0),
         Err(ApFault::Refused(refusal)) => Ok(refusal.code().number()),
         Err(fault) => Err(fault.into()),
@@ -65,7 +44,7 @@ fn code(alloc: Global, acceptor: &mut Acceptor, digits: &str) -> Result<i32, Fai
 
 /// Whether it says what `MUTUAL` holds.
 fn is_mutual(alloc: Global, accepted: &Accepted) -> Result<bool, Fail> {
-    let reply = hex::decode(alloc, REPLY.as_bytes())?;
+    let reply = octets(alloc, REPLY)?;
     let client = Name::new(alloc, 1, &[b"u"])?;
     let has_subkey = match &accepted.subkey {
         Some(key) => {
@@ -101,7 +80,7 @@ fn is_mutual(alloc: Global, accepted: &Accepted) -> Result<bool, Fail> {
 fn accepts_an_authenticator_once(rt: HostRuntime) -> Result<(), Fail> {
     let alloc = rt.alloc();
     let mut acceptor = acceptor(alloc, 64)?;
-    let accepted = accept(alloc, &mut acceptor, MUTUAL)??;
+    let accepted = accept_digits(alloc, &mut acceptor, MUTUAL)??;
     assert!(rt; is_mutual(alloc, &accepted)?);
     assert_eq!(rt; code(alloc, &mut acceptor, MUTUAL)?, 34);
     Ok(())
@@ -134,11 +113,33 @@ fn a_full_memory_refuses_its_own_client_alone(rt: HostRuntime) -> Result<(), Fai
 fn no_part_of_an_ap_req_is_one(rt: HostRuntime) -> Result<(), Fail> {
     let alloc = rt.alloc();
     let mut acceptor = acceptor(alloc, 64)?;
-    let octets = hex::decode(alloc, MUTUAL.as_bytes())?;
+    let octets = octets(alloc, MUTUAL)?;
     for end in 0..octets.len() {
-        let answer = accept_octets(alloc, &mut acceptor, &octets[..end])?;
+        let answer = accept(alloc, &mut acceptor, MIDNIGHT, &octets[..end])?;
         assert_eq!(rt; answer.err(), Some(ApFault::NotAnApReq));
     }
     assert_eq!(rt; code(alloc, &mut acceptor, MUTUAL)?, 0);
+    Ok(())
+}
+
+/// Whether it is accepted, at once or after a call that wanted memory, and is a repeat from then on.
+fn is_accepted_once(alloc: Global, acceptor: &mut Acceptor, digits: &str) -> Result<bool, Fail> {
+    let octets = octets(alloc, digits)?;
+    let first = match accept(alloc, acceptor, MIDNIGHT, &octets)? {
+        Err(ApFault::Memory) => accept(alloc, acceptor, MIDNIGHT, &octets)?,
+        answer => answer,
+    };
+    Ok(first.is_ok() && code(alloc, acceptor, digits)? == 34)
+}
+
+/// One allocation may be refused, by `rt try --test --fail-alloc N`: nothing is remembered then, and the same AP-REQ is
+/// accepted afterwards. They are the first of a service, of a client, and a later one.
+#[test]
+fn want_of_memory_changes_nothing(rt: HostRuntime) -> Result<(), Fail> {
+    let alloc = rt.alloc();
+    let mut acceptor = acceptor(alloc, 64)?;
+    for digits in [MUTUAL, OTHER_CLIENT, SECOND] {
+        assert!(rt; is_accepted_once(alloc, &mut acceptor, digits)?);
+    }
     Ok(())
 }

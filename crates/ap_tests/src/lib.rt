@@ -4,4 +4,10 @@
 #[cfg(test)]
 mod acceptances;
 #[cfg(test)]
+mod given;
+#[cfg(test)]
+mod made_by_mit;
+#[cfg(test)]
+mod mit;
+#[cfg(test)]
 mod requests;
