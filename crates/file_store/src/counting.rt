@@ -1,0 +1,14 @@
+//! Calls that fail are counted.
+ghost use Rattle.file_store.specs.Counting.{IsCounted};
+
+use std::io;
+
+/// The count after a call, which stops at the greatest `u64`.
+pub(crate) fn counted<T>(faults: u64, done: &io::Result<T>) -> u64
+    ensures { IsCounted faults done.now result }
+{
+    match done {
+        Ok(_) => faults,
+        Err(_) => faults.saturating_add(1),
+    }
+}

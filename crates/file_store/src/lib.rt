@@ -1,0 +1,19 @@
+//! The files of the programs.
+//!
+//! A program works on a `Store`, so that its tests run over files in memory. A fault says which file it is of.
+#![tactic(auto)]
+
+mod counting;
+mod faults;
+mod inputs;
+mod memory_store;
+mod store;
+mod system_store;
+
+pub use crate::faults::{Amiss, FileFault};
+pub use crate::inputs::{
+    has_file, password_of, read_file, read_password, read_seed, seed_of, write_file,
+};
+pub use crate::memory_store::MemoryStore;
+pub use crate::store::{LONGEST_FILE, Store};
+pub use crate::system_store::FileStore;

@@ -1,0 +1,141 @@
+//! Files in memory, for tests.
+ghost use Rattle.std.specs.Prelude.{◌≡◌, ◌≤◌, IfOk, IfSome, vec_len};
+
+use crate::counting::counted;
+use crate::store::Store;
+use std::alloc::{AllocError, Global};
+use std::io;
+use std::io::{Error, ErrorKind};
+
+/// A file in memory.
+#[derive(Drop)]
+struct StoredFile {
+    path: String,
+    octets: Vec<u8>,
+}
+
+/// Files in memory, for tests. One call can be made to fail.
+#[derive(Drop)]
+pub struct MemoryStore {
+    files: Vec<StoredFile>,
+    calls: u32,
+    failing: u32,
+    faults: u64,
+}
+
+impl MemoryStore {
+    /// No files.
+    pub fn new(alloc: Global) -> MemoryStore {
+        MemoryStore {
+            files: Vec::new(alloc),
+            calls: 0,
+            failing: 0,
+            faults: 0,
+        }
+    }
+
+    /// Makes the call of this number from now on fail, where the next one has the number 1. With 0 none does.
+    pub fn fail_at(&mut self, call: u32) {
+        self.calls = 0;
+        self.failing = call;
+    }
+
+    /// What a file holds.
+    pub fn get(&self, path: &str) -> Option<&[u8]> {
+        for file in &self.files {
+            if file.path.as_str() == path {
+                return Some(file.octets.as_slice());
+            }
+        }
+        None
+    }
+
+    /// Makes a file of these octets, in place of the one that is there.
+    pub fn set(&mut self, alloc: Global, path: &str, octets: &[u8]) -> Result<(), AllocError> {
+        put(alloc, &mut self.files, path, octets)
+    }
+
+    /// Counts a call. One of them fails.
+    fn call(&mut self) -> io::Result<()>
+        ensures { self.new.faults ≡ self.old.faults }
+    {
+        self.calls = self.calls.wrapping_add(1);
+        if self.calls == self.failing {
+            return Err(Error::from(ErrorKind::PermissionDenied));
+        }
+        Ok(())
+    }
+
+    fn find(&mut self, path: &str) -> io::Result<bool>
+        ensures { self.new.faults ≡ self.old.faults }
+    {
+        self.call()?;
+        Ok(self.get(path).is_some())
+    }
+
+    fn copy(&mut self, alloc: Global, path: &str, most: usize) -> io::Result<Option<Vec<u8>>>
+        ensures within { IfOk result (λ found. IfSome found (λ octets. vec_len octets ≤ most)) }
+        ensures faults { self.new.faults ≡ self.old.faults }
+    {
+        self.call()?;
+        match self.get(path) {
+            Some(octets) if octets.len() > most => Ok(None),
+            Some(octets) => Ok(Some(Vec::from_slice(alloc, octets)?)),
+            None => Err(Error::from(ErrorKind::NotFound)),
+        }
+    }
+
+    fn replace(&mut self, alloc: Global, path: &str, octets: &[u8]) -> io::Result<()>
+        ensures { self.new.faults ≡ self.old.faults }
+    {
+        self.call()?;
+        put(alloc, &mut self.files, path, octets)?;
+        Ok(())
+    }
+}
+
+fn put(
+    alloc: Global,
+    files: &mut Vec<StoredFile>,
+    path: &str,
+    octets: &[u8],
+) -> Result<(), AllocError> {
+    let octets = Vec::from_slice(alloc, octets)?;
+    for file in &mut *files {
+        if file.path.as_str() == path {
+            file.octets = octets;
+            return Ok(());
+        }
+    }
+    files.push(StoredFile {
+        path: format!(in alloc; "{path}")?,
+        octets,
+    })?;
+    Ok(())
+}
+
+impl Store for MemoryStore {
+    ghost fault_count = { λ s. s.faults };
+
+    fn exists(&mut self, path: &str) -> io::Result<bool> {
+        let found = self.find(path);
+        self.faults = counted(self.faults, &found);
+        found
+    }
+
+    fn read(&mut self, alloc: Global, path: &str, most: usize) -> io::Result<Option<Vec<u8>>> {
+        let read = self.copy(alloc, path, most);
+        self.faults = counted(self.faults, &read);
+        read
+    }
+
+    fn write(&mut self, alloc: Global, path: &str, octets: &[u8]) -> io::Result<()> {
+        let written = self.replace(alloc, path, octets);
+        self.faults = counted(self.faults, &written);
+        written
+    }
+
+    fn faults(&self) -> u64 {
+        self.faults
+    }
+}
