@@ -28,9 +28,12 @@ use Rattle.replay.specs.declared.keep.Kept.{Kept}
 use Rattle.replay.specs.declared.memory.Memory.{Memory}
 use Rattle.replay.specs.declared.verdict.Verdict.{Verdict}
 use Rattle.replay.specs.declared.verdict.Verdict.TheVariants.{Fresh, Skew, Repeat, Full as NoPlace}
-use Rattle.tgs_exchange.specs.Answer.{Answer as TgsAnswer, bears_ticket, by_client, by_verdict, fresh_by, kept_reply, refused, remembering, stamp_of, tgs_answer, tgs_error, verdict_on, within_room}
+use Rattle.tgs_exchange.specs.Answer.{Answer as TgsAnswer, answer_by, bears_ticket, kept_reply, refused, remembering, tgs_answer, tgs_error, within_room}
+use Rattle.tgs_exchange.specs.Decision.{by_admission, by_client, by_verdict, decision, stamp_of, verdict_on}
 use Rattle.tgs_exchange.specs.Rules.{admitted, client_rules}
 use Rattle.tgs_exchange.specs.View.{View as TgsView}
+use Rattle.tgs_exchange.specs.declared.decision.Decision.{Decision}
+use Rattle.tgs_exchange.specs.declared.decision.Decision.TheVariants.{Refuses, Remembers, Repeats, Issues}
 use Rattle.tgs_exchange.specs.declared.terms.Admission.{Admission}
 use Rattle.tgs_opening.specs.Opening.{presented}
 use Rattle.tgs_opening.specs.declared.presented.Presented.{Presented}
@@ -47,7 +50,7 @@ use Rattle.principals.specs.declared.change.ChangeFault.{ChangeFault}
 use Rattle.kdc_core.specs.Answer.{answer_in, answer_presented, answer_to, counted, keep, stamped}
 use Rattle.kdc_core.specs.PresentedLaws.{answer_is, client_is, refused_after}
 use Rattle.kdc_core.specs.Request.{Request as Read, request_of}
-use Rattle.kdc_core.specs.Run.{after_event, replaced, unless_refused}
+use Rattle.kdc_core.specs.Run.{after_event, unless_refused}
 use Rattle.kdc_core.specs.Struck.{is_client}
 use Rattle.kdc_core.specs.Tickets.{OneTicket, RestartsFollow, RestartsFrom, presented_by, presented_in, ticket_by, ticket_to}
 use Rattle.kdc_core.specs.View.{as_view, client_in, components_of, named_by, presented_view, tgs_view, ticket_view, view_in, view_of}
@@ -107,15 +110,42 @@ module _ (v : TgsView) (at : Moment) (words : List ℕ) (room : ℕ) (request : 
   abbrev asked : Kept → Happening Kept
   asked made = Asked at.sec (stamp_of p) made
 
-  abbrev happens_by : Verdict Kept → Option (Happening Kept)
-  happens_by Fresh = option_map asked (fresh_by v at words room request body p (admitted v at.sec body p)).kept
-  happens_by Skew = None
-  happens_by (Repeat kept) = Some (asked kept)
-  happens_by NoPlace = None
+  abbrev answered : Decision Kept → TgsAnswer
+  answered decided = answer_by v at words room request body p decided
 
-  abbrev happens_to : Option TgsRefusal → Option (Happening Kept)
-  happens_to (Some refusal) = None
-  happens_to None = happens_by (verdict_on v at.sec p)
+  -- the memory is asked about an authenticator that is remembered with its reply, or that came before
+  abbrev happens_by : Decision Kept → Option (Happening Kept)
+  happens_by (Refuses refusal) = None
+  happens_by (Remembers refusal) = option_map asked (answered (Remembers refusal)).kept
+  happens_by (Repeats kept) = Some (asked kept)
+  happens_by (Issues admission) = option_map asked (answered (Issues admission)).kept
+
+  abbrev happens_now : Option (Happening Kept)
+  happens_now = happens_by (decision v at.sec body p)
+
+  -- what the memory said of the authenticator where that is decided
+  abbrev HasSaid : Decision Kept → Type 0
+  HasSaid (Refuses refusal) = ⊤
+  HasSaid (Remembers refusal) = verdict_on v at.sec p ≡ Fresh
+  HasSaid (Repeats kept) = verdict_on v at.sec p ≡ Repeat kept
+  HasSaid (Issues admission) = verdict_on v at.sec p ≡ Fresh
+
+  said_by_admission : verdict_on v at.sec p ≡ Fresh → (r : Result Admission TgsRefusal) → HasSaid (by_admission r)
+  said_by_admission e (Err refusal) = e
+  said_by_admission e (Ok admission) = e
+
+  said_by_verdict : (w : Verdict Kept) → verdict_on v at.sec p ≡ w → HasSaid (by_verdict v at.sec body p w)
+  said_by_verdict Fresh e = said_by_admission e (admitted v at.sec body p)
+  said_by_verdict Skew e = tt
+  said_by_verdict (Repeat kept) e = e
+  said_by_verdict NoPlace e = tt
+
+  said_by_client : (r : Option TgsRefusal) → HasSaid (by_client v at.sec body p r)
+  said_by_client (Some refusal) = tt
+  said_by_client None = said_by_verdict (verdict_on v at.sec p) refl
+
+  has_said : HasSaid (decision v at.sec body p)
+  has_said = said_by_client (first_holding (client_rules v at.sec p.ticket.authtime))
 
   fresh_moves : verdict_on v at.sec p ≡ Fresh → (k : Option Kept) → unwrap_or (stamped v.memory at.sec p k) v.memory ≡ next_if v.limits.remembered v.memory (option_map asked k)
   fresh_moves e (Some k) = sym (ap (after_verdict v.memory at.sec (stamp_of p) k) e)
@@ -129,18 +159,16 @@ module _ (v : TgsView) (at : Moment) (words : List ℕ) (room : ℕ) (request : 
   repeat_none kept true = kept_none kept.reply (bears_ticket kept.reply && nat_lt room (length kept.reply))
   repeat_none kept false = refl
 
-  verdict_moves : (w : Verdict Kept) → verdict_on v at.sec p ≡ w
-      → unwrap_or (stamped v.memory at.sec p (by_verdict v at words room request body p w).kept) v.memory ≡ next_if v.limits.remembered v.memory (happens_by w)
-  verdict_moves Fresh e = fresh_moves e (fresh_by v at words room request body p (admitted v at.sec body p)).kept
-  verdict_moves Skew e = refl
-  verdict_moves (Repeat kept) e =
+  decision_moves : (decided : Decision Kept) → HasSaid decided → unwrap_or (stamped v.memory at.sec p (answered decided).kept) v.memory ≡ next_if v.limits.remembered v.memory (happens_by decided)
+  decision_moves (Refuses refusal) said = refl
+  decision_moves (Remembers refusal) said = fresh_moves said (answered (Remembers refusal)).kept
+  decision_moves (Repeats kept) said =
       ap (λ k. unwrap_or (stamped v.memory at.sec p k) v.memory) (repeat_none kept (pointwise nat_eq request kept.request))
-      ∙ sym (ap (after_verdict v.memory at.sec (stamp_of p) kept) e)
-  verdict_moves NoPlace e = refl
+      ∙ sym (ap (after_verdict v.memory at.sec (stamp_of p) kept) said)
+  decision_moves (Issues admission) said = fresh_moves said (answered (Issues admission)).kept
 
-  client_moves : (r : Option TgsRefusal) → unwrap_or (stamped v.memory at.sec p (by_client v at words room request body p r).kept) v.memory ≡ next_if v.limits.remembered v.memory (happens_to r)
-  client_moves (Some refusal) = refl
-  client_moves None = verdict_moves (verdict_on v at.sec p) refl
+  memory_moves : unwrap_or (stamped v.memory at.sec p (tgs_answer v at words room request body p).kept) v.memory ≡ next_if v.limits.remembered v.memory happens_now
+  memory_moves = decision_moves (decision v at.sec body p) has_said
 
   -- ---- and what it hands out
 
@@ -156,11 +184,6 @@ module _ (v : TgsView) (at : Moment) (words : List ℕ) (room : ℕ) (request : 
       by_length true = error_handed (stamp_of p) (too_big v.realm at body) _
       by_length false = handed_where (bears_ticket octets) (stamp_of p, octets) _ (refl, ap (give (record { request = request; reply = octets })) e)
 
-  fresh_gives : verdict_on v at.sec p ≡ Fresh → (a : Result Admission TgsRefusal)
-      → IfSome (handed (stamp_of p) (fresh_by v at words room request body p a).reply) (Gives (option_map asked (fresh_by v at words room request body p a).kept))
-  fresh_gives e (Err refusal) = error_handed (stamp_of p) (tgs_error v.realm at body refusal) _
-  fresh_gives e (Ok admission) = room_gives e _
-
   kept_gives : (kept : Kept) → verdict_on v at.sec p ≡ Repeat kept → (long : Bool)
       → IfSome (handed (stamp_of p) (if long then too_long else no_trace kept.reply).reply) (Gives (Some (asked kept)))
   kept_gives kept e true = error_handed (stamp_of p) (too_big v.realm at body) _
@@ -171,15 +194,14 @@ module _ (v : TgsView) (at : Moment) (words : List ℕ) (room : ℕ) (request : 
   repeat_gives kept e true = kept_gives kept e (bears_ticket kept.reply && nat_lt room (length kept.reply))
   repeat_gives kept e false = error_handed (stamp_of p) (tgs_error v.realm at body Repeated) _
 
-  verdict_gives : (w : Verdict Kept) → verdict_on v at.sec p ≡ w → IfSome (handed (stamp_of p) (by_verdict v at words room request body p w).reply) (Gives (happens_by w))
-  verdict_gives Fresh e = fresh_gives e (admitted v at.sec body p)
-  verdict_gives Skew e = error_handed (stamp_of p) _ _
-  verdict_gives (Repeat kept) e = repeat_gives kept e (pointwise nat_eq request kept.request)
-  verdict_gives NoPlace e = error_handed (stamp_of p) _ _
+  decision_gives : (decided : Decision Kept) → HasSaid decided → IfSome (handed (stamp_of p) (answered decided).reply) (Gives (happens_by decided))
+  decision_gives (Refuses refusal) said = error_handed (stamp_of p) (tgs_error v.realm at body refusal) _
+  decision_gives (Remembers refusal) said = error_handed (stamp_of p) (tgs_error v.realm at body refusal) _
+  decision_gives (Repeats kept) said = repeat_gives kept said (pointwise nat_eq request kept.request)
+  decision_gives (Issues admission) said = room_gives said _
 
-  client_gives : (r : Option TgsRefusal) → IfSome (handed (stamp_of p) (by_client v at words room request body p r).reply) (Gives (happens_to r))
-  client_gives (Some refusal) = error_handed (stamp_of p) (tgs_error v.realm at body refusal) _
-  client_gives None = verdict_gives (verdict_on v at.sec p) refl
+  memory_gives : IfSome (handed (stamp_of p) (tgs_answer v at words room request body p).reply) (Gives happens_now)
+  memory_gives = decision_gives (decision v at.sec body p) has_said
 
 -- ---- what events do to a client's memory
 
@@ -208,7 +230,7 @@ module _ (c : Components) where
   abbrev happens_presented : State → Moment → List ℕ → ℕ → List ℕ → Received → Result Presented TgsRefusal → Option (Happening Kept)
   happens_presented state at words room bytes message (Ok p) =
       let v = tgs_view (presented_view state message p) in
-      for_name p.ticket.cname.components (happens_to v at words room bytes message.body.value p (first_holding (client_rules v at.sec p.ticket.authtime)))
+      for_name p.ticket.cname.components (happens_now v at words room bytes message.body.value p)
   happens_presented state at words room bytes message (Err refusal) = None
 
   abbrev happens_in : State → Moment → List ℕ → ℕ → List ℕ → Exchange → Received → Option (Happening Kept)
@@ -258,7 +280,7 @@ module _ (c : Components) where
       let v = tgs_view (presented_view state message p) in
       (λ i. memory_of (keep state (client_is state message p is i) (answer_is state message p is at words bytes room i).kept) c)
       ∙ moved_for state.limits.remembered state p.ticket.cname.components (answer_presented (presented_view state message p) at words room bytes message (Ok p)).kept _
-      (client_moves v at words room bytes message.body.value p (first_holding (client_rules v at.sec p.ticket.authtime)))
+      (memory_moves v at words room bytes message.body.value p)
   presented_moves state at words room bytes message (Err refusal) is = ap (λ s. memory_of s c) (sym (refused_after state message refusal is at words bytes room))
 
   moves_in : (state : State) (at : Moment) (words : List ℕ) (room : ℕ) (bytes : List ℕ) (exchange : Exchange) (message : Received)
@@ -315,8 +337,7 @@ module _ (c : Components) where
       let answered : TgsAnswer = tgs_answer v at words room bytes message.body.value p in
       subst (λ (h : Option (Stamp × List ℕ)). IfSome h (IsGiven give state.limits.remembered (memory_of state c) (happens_presented state at words room bytes message (Ok p))))
       (λ i. if is_client c (sym (client_is state message p is) i) then ticket_by (Some p) (sym (answer_is state message p is at words bytes room) i).reply else None)
-      (given_for state.limits.remembered state p.ticket.cname.components (handed (stamp_of p) answered.reply) _
-      (client_gives v at words room bytes message.body.value p (first_holding (client_rules v at.sec p.ticket.authtime))))
+      (given_for state.limits.remembered state p.ticket.cname.components (handed (stamp_of p) answered.reply) _ (memory_gives v at words room bytes message.body.value p))
   presented_gives state at words room bytes message (Err refusal) is = nothing_given (is_client c (client_in state Tgs message)) _
 
   gives_in : (state : State) (at : Moment) (words : List ℕ) (room : ℕ) (bytes : List ℕ) (exchange : Exchange) (message : Received)
@@ -364,20 +385,16 @@ module _ (c : Components) where
     asked_at (Some k) = refl
     asked_at None = tt
 
-    verdict_at : (w : Verdict Kept) → IsAt at.sec (happens_by v at words room request body p w)
-    verdict_at Fresh = asked_at (fresh_by v at words room request body p (admitted v at.sec body p)).kept
-    verdict_at Skew = tt
-    verdict_at (Repeat kept) = refl
-    verdict_at NoPlace = tt
-
-    client_at : (r : Option TgsRefusal) → IsAt at.sec (happens_to v at words room request body p r)
-    client_at (Some refusal) = tt
-    client_at None = verdict_at (verdict_on v at.sec p)
+    decision_at : (decided : Decision Kept) → IsAt at.sec (happens_by v at words room request body p decided)
+    decision_at (Refuses refusal) = tt
+    decision_at (Remembers refusal) = refl
+    decision_at (Repeats kept) = refl
+    decision_at (Issues admission) = asked_at (answered v at words room request body p (Issues admission)).kept
 
   presented_at : (state : State) (at : Moment) (words : List ℕ) (room : ℕ) (bytes : List ℕ) (message : Received) (r : Result Presented TgsRefusal) → IsAt at.sec (happens_presented state at words room bytes message r)
   presented_at state at words room bytes message (Ok p) =
       let v = tgs_view (presented_view state message p) in
-      for_name_at at.sec (eq_by_cmp name_cmp c p.ticket.cname.components) _ (client_at v at words room bytes message.body.value p (first_holding (client_rules v at.sec p.ticket.authtime)))
+      for_name_at at.sec (eq_by_cmp name_cmp c p.ticket.cname.components) _ (decision_at v at words room bytes message.body.value p (decision v at.sec message.body.value p))
   presented_at state at words room bytes message (Err refusal) = tt
 
   at_in : (state : State) (at : Moment) (words : List ℕ) (room : ℕ) (bytes : List ℕ) (exchange : Exchange) (message : Received) → IsAt at.sec (happens_in state at words room bytes exchange message)

@@ -2,7 +2,8 @@
 use Rattle.std.specs.Prelude.{ℕ, ℤ, List, ⊤, Option, Some, None, Result, Ok, Err, option_map}
 use Rattle.std.specs.FinMap as map
 use Rattle.as_exchange.specs.Answer.{Answer as AsAnswer, as_answer, Spelled as AsSpelled, Opens as AsOpens}
-use Rattle.tgs_exchange.specs.Answer.{Answer as TgsAnswer, stamp_of, tgs_answer, tgs_error, Spelled as TgsSpelled, Opens as TgsOpens}
+use Rattle.tgs_exchange.specs.Answer.{Answer as TgsAnswer, tgs_answer, tgs_error, Spelled as TgsSpelled, Opens as TgsOpens}
+use Rattle.tgs_exchange.specs.Decision.{stamp_of}
 use Rattle.tgs_opening.specs.Opening.{presented}
 use Rattle.tgs_opening.specs.declared.presented.Presented.{Presented}
 use Rattle.tgs_opening.specs.declared.refusal.TgsRefusal.{TgsRefusal}

@@ -7,7 +7,8 @@ use Rattle.krb_types.specs.declared.kdc_req.Exchange.{Exchange}
 use Rattle.krb_types.specs.declared.kdc_req.Exchange.TheVariants.{As, Tgs}
 use Rattle.replay.specs.Run.{collected, OneForEach}
 use Rattle.replay.specs.Stamp.{Stamp}
-use Rattle.tgs_exchange.specs.Answer.{bears_ticket, stamp_of}
+use Rattle.tgs_exchange.specs.Answer.{bears_ticket}
+use Rattle.tgs_exchange.specs.Decision.{stamp_of}
 use Rattle.tgs_opening.specs.Opening.{presented}
 use Rattle.tgs_opening.specs.declared.presented.Presented.{Presented}
 use Rattle.kdc_state.specs.declared.state.State.{State}

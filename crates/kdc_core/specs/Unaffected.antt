@@ -1,5 +1,5 @@
 -- Runs in which a client asks the same, whatever others ask in either.
-use Rattle.std.specs.Prelude.{◌≡◌, IsTrue, List, Option, ℕ}
+use Rattle.std.specs.Prelude.{◌≡◌, IsTrue, List}
 use Rattle.krb_fields.specs.Name.{Components}
 use Rattle.principals.specs.Database.{ticket_granter}
 use Rattle.kdc_state.specs.declared.state.State.{State}

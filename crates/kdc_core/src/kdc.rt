@@ -4,6 +4,7 @@ ghost use Rattle.std.specs.FinMap as map;
 ghost use Rattle.std.specs.Option.{option_copied};
 ghost use Rattle.krb_fields.specs.Name.{Components};
 ghost use Rattle.kdc_core.specs.Answer.{answer, next, error_octets, IsReply, OneTicketTwoKeys};
+ghost use Rattle.kdc_core.specs.Issued.{issued, IsReplyOf};
 ghost use Rattle.kdc_core.specs.Request.{Request, SpellsRequest, request_of};
 ghost use Rattle.kdc_core.specs.Run.{after_event, replaced};
 ghost use Rattle.kdc_core.specs.View.{Agrees, named, view};
@@ -94,6 +95,9 @@ impl Kdc {
         // Where a ticket is issued, the reply key opens the reply to the session key, flags and times that the service's
         // key finds in the ticket.
         ensures keys { IfOk result (λ reply. OneTicketTwoKeys (view self.old request.now) at words.now (request_of request.now)) }
+        // Where a request is issued a ticket now, the octets that are sent are that ticket's reply, which client and service open
+        // to the same, or an error where it had no room.
+        ensures issued { IfOk result (λ reply. IfSome (issued (view self.old request.now) at words.now (request_of request.now)) (λ issue. IsReplyOf issue (option_map (λ octets. octets.items) reply))) }
         // The state afterwards is the one that the rules say.
         ensures state { OnOk result (self.new ≡ next self.old at words.now room request.now) }
         // A second state that agrees at what the request names is answered alike.

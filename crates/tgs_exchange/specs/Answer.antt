@@ -1,7 +1,6 @@
 -- What the TGS exchange answers, and what it keeps of it.
-use Rattle.std.specs.Prelude.{ℕ, ℤ, ⊤, ◌≡◌, ◌⊎◌, Bool, ◌&&◌, nat_eq, nat_lt, get_or, if◌then◌else◌, List, length, Option, Some, None, Result, Ok, Err}
+use Rattle.std.specs.Prelude.{ℕ, ⊤, ◌≡◌, ◌⊎◌, Bool, ◌&&◌, nat_eq, nat_lt, get_or, if◌then◌else◌, List, length, Option, Some, None}
 use Rattle.std.specs.Cmp.Lexicographic.{pointwise}
-use Rattle.refusals.specs.Refusals.{first_holding}
 use Rattle.enctypes.specs.KeyUsage.{usage_number}
 use Rattle.krb_elements.specs.Codec.{written}
 use Rattle.krb_fields.specs.declared.moment.Moment.{Moment}
@@ -13,18 +12,16 @@ use Rattle.krb_types.specs.ReqBody.{ReqBody}
 use Rattle.kdc_replies.specs.ErrorReply.{error_reply, too_big}
 use Rattle.kdc_replies.specs.Grant.{reply_part, ticket_part}
 use Rattle.kdc_replies.specs.Reply.{NamesKey, OpensAlike}
-use Rattle.replay.specs.Memory.{verdict}
-use Rattle.replay.specs.Stamp.{Stamp}
 use Rattle.replay.specs.declared.keep.Kept.{Kept}
-use Rattle.replay.specs.declared.verdict.Verdict.{Verdict}
-use Rattle.replay.specs.declared.verdict.Verdict.TheVariants.{Fresh, Skew, Repeat, Full as NoPlace}
 use Rattle.tgs_opening.specs.Refusal.{code_of}
 use Rattle.tgs_opening.specs.declared.presented.Presented.{Presented}
 use Rattle.tgs_opening.specs.declared.refusal.TgsRefusal.{TgsRefusal}
-use Rattle.tgs_opening.specs.declared.refusal.TgsRefusal.TheVariants.{Skewed, Repeated, Full}
+use Rattle.tgs_opening.specs.declared.refusal.TgsRefusal.TheVariants.{Repeated}
 use Rattle.tgs_exchange.specs.View.{View}
-use Rattle.tgs_exchange.specs.Rules.{client_rules, admitted}
+use Rattle.tgs_exchange.specs.Decision.{decision}
 use Rattle.tgs_exchange.specs.Issue.{grant_by, reply_key_of, tgs_rep}
+use Rattle.tgs_exchange.specs.declared.decision.Decision.{Decision}
+use Rattle.tgs_exchange.specs.declared.decision.Decision.TheVariants.{Refuses, Remembers, Repeats, Issues}
 use Rattle.tgs_exchange.specs.declared.terms.Admission.{Admission}
 
 -- the octets of the reply, and what is kept of the request and of the reply for the authenticator: none, it is not
@@ -68,56 +65,34 @@ within_room v at room request body octets =
     if nat_lt room (length octets) then record { reply = written krb_error (too_big v.realm at body); kept = None }
     else remembering request octets
 
-abbrev pub fresh_by : View → Moment → List ℕ → ℕ → List ℕ → ReqBody → Presented → Result Admission TgsRefusal → Answer
-fresh_by v at words room request body p (Err refusal) = remembering request (written krb_error (tgs_error v.realm at body refusal))
-fresh_by v at words room request body p (Ok admission) = within_room v at room request body (written (kdc_rep 13) (tgs_rep v at words body p admission))
-
 -- ---- answers
 
--- the pair by which an authenticator is known
-abbrev pub stamp_of : Presented → Stamp
-stamp_of p = (p.authenticator.ctime, p.authenticator.cusec)
-
-abbrev pub verdict_on : View → ℤ → Presented → Verdict Kept
-verdict_on v now p = verdict v.memory now (stamp_of p) v.limits.remembered
-
-abbrev pub by_verdict : View → Moment → List ℕ → ℕ → List ℕ → ReqBody → Presented → Verdict Kept → Answer
-by_verdict v at words room request body p Skew = refused v at body Skewed
-by_verdict v at words room request body p (Repeat kept) = repeated v at room request body kept
-by_verdict v at words room request body p NoPlace = refused v at body Full
-by_verdict v at words room request body p Fresh = fresh_by v at words room request body p (admitted v at.sec body p)
-
-abbrev pub by_client : View → Moment → List ℕ → ℕ → List ℕ → ReqBody → Presented → Option TgsRefusal → Answer
-by_client v at words room request body p (Some refusal) = refused v at body refusal
-by_client v at words room request body p None = by_verdict v at words room request body p (verdict_on v at.sec p)
+abbrev pub answer_by : View → Moment → List ℕ → ℕ → List ℕ → ReqBody → Presented → Decision Kept → Answer
+answer_by v at words room request body p (Refuses refusal) = refused v at body refusal
+answer_by v at words room request body p (Remembers refusal) = remembering request (written krb_error (tgs_error v.realm at body refusal))
+answer_by v at words room request body p (Repeats kept) = repeated v at room request body kept
+answer_by v at words room request body p (Issues admission) = within_room v at room request body (written (kdc_rep 13) (tgs_rep v at words body p admission))
 
 -- `words` are 64 random octets, `room` the most octets of a reply with a ticket, and `request` the octets of the request
 abbrev pub tgs_answer : View → Moment → List ℕ → ℕ → List ℕ → ReqBody → Presented → Answer
-tgs_answer v at words room request body p = by_client v at words room request body p (first_holding (client_rules v at.sec p.ticket.authtime))
+tgs_answer v at words room request body p = answer_by v at words room request body p (decision v at.sec body p)
 
 -- ---- what the octets spell
-
--- an error where it was refused; else the TGS-REP, or the error in its place
-abbrev pub FreshSpelled : View → Moment → List ℕ → ReqBody → Presented → Result Admission TgsRefusal → List ℕ → Type 0
-FreshSpelled v at words body p (Err refusal) octets = krb_error.Spells (tgs_error v.realm at body refusal) octets
-FreshSpelled v at words body p (Ok admission) octets = (kdc_rep 13).Spells (tgs_rep v at words body p admission) octets ⊎ krb_error.Spells (too_big v.realm at body) octets
 
 -- the reply that is kept, or an error in its place
 abbrev pub RepeatSpelled : View → Moment → ReqBody → Kept → List ℕ → Type 0
 RepeatSpelled v at body kept octets = (octets ≡ kept.reply) ⊎ (krb_error.Spells (too_big v.realm at body) octets ⊎ krb_error.Spells (tgs_error v.realm at body Repeated) octets)
 
-abbrev pub SpelledByVerdict : View → Moment → List ℕ → ReqBody → Presented → Verdict Kept → List ℕ → Type 0
-SpelledByVerdict v at words body p Skew octets = krb_error.Spells (tgs_error v.realm at body Skewed) octets
-SpelledByVerdict v at words body p (Repeat kept) octets = RepeatSpelled v at body kept octets
-SpelledByVerdict v at words body p NoPlace octets = krb_error.Spells (tgs_error v.realm at body Full) octets
-SpelledByVerdict v at words body p Fresh octets = FreshSpelled v at words body p (admitted v at.sec body p) octets
-
-abbrev pub SpelledByClient : View → Moment → List ℕ → ReqBody → Presented → Option TgsRefusal → List ℕ → Type 0
-SpelledByClient v at words body p (Some refusal) octets = krb_error.Spells (tgs_error v.realm at body refusal) octets
-SpelledByClient v at words body p None octets = SpelledByVerdict v at words body p (verdict_on v at.sec p) octets
+-- an error where it was refused; else the TGS-REP, or the error in its place
+abbrev pub SpelledBy : View → Moment → List ℕ → ReqBody → Presented → Decision Kept → List ℕ → Type 0
+SpelledBy v at words body p (Refuses refusal) octets = krb_error.Spells (tgs_error v.realm at body refusal) octets
+SpelledBy v at words body p (Remembers refusal) octets = krb_error.Spells (tgs_error v.realm at body refusal) octets
+SpelledBy v at words body p (Repeats kept) octets = RepeatSpelled v at body kept octets
+SpelledBy v at words body p (Issues admission) octets =
+    (kdc_rep 13).Spells (tgs_rep v at words body p admission) octets ⊎ krb_error.Spells (too_big v.realm at body) octets
 
 abbrev pub Spelled : View → Moment → List ℕ → ReqBody → Presented → List ℕ → Type 0
-Spelled v at words body p octets = SpelledByClient v at words body p (first_holding (client_rules v at.sec p.ticket.authtime)) octets
+Spelled v at words body p octets = SpelledBy v at words body p (decision v at.sec body p) octets
 
 -- ---- one ticket, two keys
 
@@ -133,19 +108,11 @@ abbrev pub OpensFor : View → Moment → List ℕ → ReqBody → Presented →
 OpensFor v at words body p admission =
     OpensTo v p admission (tgs_rep v at words body p admission) (reply_part (grant_by v words body p admission) body.nonce at.sec) (ticket_part (grant_by v words body p admission))
 
-abbrev pub OpensBy : View → Moment → List ℕ → ReqBody → Presented → Result Admission TgsRefusal → Type 0
-OpensBy v at words body p (Err refusal) = ⊤
-OpensBy v at words body p (Ok admission) = OpensFor v at words body p admission
-
-abbrev pub OpensByVerdict : View → Moment → List ℕ → ReqBody → Presented → Verdict Kept → Type 0
-OpensByVerdict v at words body p Skew = ⊤
-OpensByVerdict v at words body p (Repeat kept) = ⊤
-OpensByVerdict v at words body p NoPlace = ⊤
-OpensByVerdict v at words body p Fresh = OpensBy v at words body p (admitted v at.sec body p)
-
-abbrev pub OpensByClient : View → Moment → List ℕ → ReqBody → Presented → Option TgsRefusal → Type 0
-OpensByClient v at words body p (Some refusal) = ⊤
-OpensByClient v at words body p None = OpensByVerdict v at words body p (verdict_on v at.sec p)
+abbrev pub OpensBy : View → Moment → List ℕ → ReqBody → Presented → Decision Kept → Type 0
+OpensBy v at words body p (Refuses refusal) = ⊤
+OpensBy v at words body p (Remembers refusal) = ⊤
+OpensBy v at words body p (Repeats kept) = ⊤
+OpensBy v at words body p (Issues admission) = OpensFor v at words body p admission
 
 abbrev pub Opens : View → Moment → List ℕ → ReqBody → Presented → Type 0
-Opens v at words body p = OpensByClient v at words body p (first_holding (client_rules v at.sec p.ticket.authtime))
+Opens v at words body p = OpensBy v at words body p (decision v at.sec body p)

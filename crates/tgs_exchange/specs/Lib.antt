@@ -4,5 +4,7 @@ pub mod Terms
 pub mod Rules
 pub mod NamedLaws
 pub mod Issue
+pub mod Decision
+pub mod DecisionLaws
 pub mod Answer
 pub mod Issued

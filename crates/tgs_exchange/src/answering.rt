@@ -1,30 +1,26 @@
 //! From a TGS-REQ and what it presents to its reply, and to what is kept of both.
 ghost use Rattle.std.specs.Prelude.{◌≡◌, ◌⊎◌, ◌<◌, ◌≤◌, false, None, length, IfOk, IfSome};
 ghost use Rattle.std.specs.FinMap as map;
-ghost use Rattle.refusals.specs.Refusals.{first_holding};
 ghost use Rattle.kdc_replies.specs.ErrorReply.{too_big};
 ghost use Rattle.krb_elements.specs.Codec.{written};
 ghost use Rattle.krb_fields.specs.PrincipalName.{name};
 ghost use Rattle.krb_types.specs.KrbError.{krb_error};
-ghost use Rattle.replay.specs.Memory.{IfNew, verdict_copied};
 ghost use Rattle.replay.specs.Stamp.{is_skewed};
-ghost use Rattle.tgs_exchange.specs.Answer.{bears_ticket, by_client, by_verdict, fresh_by, kept_reply, remembering, repeated, refused, stamp_of, tgs_answer, tgs_error, verdict_on, within_room};
-ghost use Rattle.tgs_exchange.specs.Answer.{FreshSpelled, Opens, OpensBy, OpensByClient, OpensByVerdict, RepeatSpelled, Spelled, SpelledByClient, SpelledByVerdict};
+ghost use Rattle.tgs_exchange.specs.Answer.{answer_by, bears_ticket, kept_reply, remembering, repeated, refused, tgs_answer, tgs_error, within_room};
+ghost use Rattle.tgs_exchange.specs.Answer.{Opens, OpensBy, RepeatSpelled, Spelled, SpelledBy};
+ghost use Rattle.tgs_exchange.specs.Decision.{decision_copied, stamp_of, IfIssued};
 ghost use Rattle.tgs_exchange.specs.Known.{IsKnown};
 ghost use Rattle.tgs_exchange.specs.NamedLaws.{IsNamed};
-ghost use Rattle.tgs_exchange.specs.Rules.{admitted, client_rules};
 
+use crate::decision::{Decision, decide};
 use crate::errors::tgs_error;
 use crate::issuing::tgs_rep;
-use crate::rules::{admitted, client_rules};
-use crate::terms::{Admission, terms_for, ticket_terms};
 use crate::view::TgsView;
 use kdc_replies::too_big;
 use krb_elements::Octets;
 use krb_fields::Moment;
 use krb_types::ReqBodyRef;
-use refusals::first_holding;
-use replay::{Kept, Verdict};
+use replay::Kept;
 use std::alloc::{AllocError, Global};
 use tgs_opening::{Presented, TgsRefusal};
 
@@ -61,22 +57,14 @@ pub fn tgs_answer(
     ensures timely { IfOk result (λ answer. IfSome answer.kept (λ kept. is_skewed view.now.memory.floor at.sec presented.now.authenticator.ctime ≡ false)) }
     ensures new { IfOk result (λ answer. IfSome answer.kept (λ kept. map.get view.now.memory.pairs (stamp_of presented.now) ≡ None)) }
 {
-    let refusal = client_refusal(view, at, presented);
-    by_client(
-        alloc, view, at, words, room, request, body, presented, refusal,
+    let decision = decide(alloc, view, at, body, presented)?;
+    answer_by(
+        alloc, view, at, words, room, request, body, presented, &decision,
     )
 }
 
-/// The first rule of the client that holds.
-fn client_refusal(view: &TgsView<'_>, at: Moment, presented: &Presented) -> Option<TgsRefusal>
-    ensures { result ≡ first_holding (client_rules view.now at.sec presented.now.ticket.authtime) }
-{
-    let authtime = presented.ticket.authtime.seconds();
-    first_holding(&client_rules(view, at, authtime))
-}
-
-/// The answer by what the rules of the client say.
-fn by_client(
+/// The answer by what is decided.
+fn answer_by(
     alloc: Global,
     view: &TgsView<'_>,
     at: Moment,
@@ -85,65 +73,26 @@ fn by_client(
     request: &[u8],
     body: &ReqBodyRef<'_>,
     presented: &Presented,
-    refusal: Option<TgsRefusal>,
-) -> Result<TgsAnswer, AllocError>
-    requires { IsKnown view.now body.now presented.now }
-    ensures reply { IfOk result (λ answer. answer.reply.items ≡ (by_client view.now at words.now room request.now body.now presented.now refusal).reply) }
-    ensures kept { IfOk result (λ answer. answer.kept ≡ (by_client view.now at words.now room request.now body.now presented.now refusal).kept) }
-    ensures spelled { IfOk result (λ answer. SpelledByClient view.now at words.now body.now presented.now refusal answer.reply.items) }
-    ensures same { IfOk result (λ answer. OpensByClient view.now at words.now body.now presented.now refusal) }
-    ensures timely { IfOk result (λ answer. IfSome answer.kept (λ kept. is_skewed view.now.memory.floor at.sec presented.now.authenticator.ctime ≡ false)) }
-    ensures new { IfOk result (λ answer. IfSome answer.kept (λ kept. map.get view.now.memory.pairs (stamp_of presented.now) ≡ None)) }
-{
-    match refusal {
-        Some(refusal) => refused(alloc, view, at, body, refusal),
-        None => {
-            let verdict = verdict_on(view, at, presented);
-            by_verdict(
-                alloc, view, at, words, room, request, body, presented, verdict,
-            )
-        }
-    }
-}
-
-/// What the client's memory says of the authenticator.
-fn verdict_on<'v>(view: &TgsView<'v>, at: Moment, presented: &Presented) -> Verdict<&'v Kept>
-    ensures verdict { verdict_copied result ≡ verdict_on view.now at.sec presented.now }
-    ensures timely { IfNew result (is_skewed view.now.memory.floor at.sec presented.now.authenticator.ctime ≡ false) }
-    ensures new { IfNew result (map.get view.now.memory.pairs (stamp_of presented.now) ≡ None) }
-{
-    let ctime = presented.authenticator.ctime.seconds();
-    let cusec = presented.authenticator.cusec.get();
-    view.memory.check(at, ctime, cusec, view.limits.remembered)
-}
-
-/// The answer by what the client's memory says.
-fn by_verdict(
-    alloc: Global,
-    view: &TgsView<'_>,
-    at: Moment,
-    words: &[u8; 64],
-    room: u32,
-    request: &[u8],
-    body: &ReqBodyRef<'_>,
-    presented: &Presented,
-    verdict: Verdict<&Kept>,
+    decision: &Decision<&Kept>,
 ) -> Result<TgsAnswer, AllocError>
     requires known { IsKnown view.now body.now presented.now }
-    requires timely { IfNew verdict (is_skewed view.now.memory.floor at.sec presented.now.authenticator.ctime ≡ false) }
-    requires new { IfNew verdict (map.get view.now.memory.pairs (stamp_of presented.now) ≡ None) }
-    ensures reply { IfOk result (λ answer. answer.reply.items ≡ (by_verdict view.now at words.now room request.now body.now presented.now (verdict_copied verdict.entry)).reply) }
-    ensures kept { IfOk result (λ answer. answer.kept ≡ (by_verdict view.now at words.now room request.now body.now presented.now (verdict_copied verdict.entry)).kept) }
-    ensures spelled { IfOk result (λ answer. SpelledByVerdict view.now at words.now body.now presented.now (verdict_copied verdict.entry) answer.reply.items) }
-    ensures same { IfOk result (λ answer. OpensByVerdict view.now at words.now body.now presented.now (verdict_copied verdict.entry)) }
-    ensures timely { IfOk result (λ answer. IfSome answer.kept (λ kept. is_skewed view.now.memory.floor at.sec presented.now.authenticator.ctime ≡ false)) }
-    ensures new { IfOk result (λ answer. IfSome answer.kept (λ kept. map.get view.now.memory.pairs (stamp_of presented.now) ≡ None)) }
+    requires named { IfIssued decision.now (λ admission. IsNamed presented.now view.now.service admission.terms) }
+    ensures reply { IfOk result (λ answer. answer.reply.items ≡ (answer_by view.now at words.now room request.now body.now presented.now (decision_copied decision.now)).reply) }
+    ensures kept { IfOk result (λ answer. answer.kept ≡ (answer_by view.now at words.now room request.now body.now presented.now (decision_copied decision.now)).kept) }
+    ensures spelled { IfOk result (λ answer. SpelledBy view.now at words.now body.now presented.now (decision_copied decision.now) answer.reply.items) }
+    ensures same { IfOk result (λ answer. OpensBy view.now at words.now body.now presented.now (decision_copied decision.now)) }
 {
-    match verdict {
-        Verdict::Skew => refused(alloc, view, at, body, TgsRefusal::Skewed),
-        Verdict::Repeat(kept) => repeated(alloc, view, at, room, request, body, kept),
-        Verdict::Full => refused(alloc, view, at, body, TgsRefusal::Full),
-        Verdict::Fresh => fresh(alloc, view, at, words, room, request, body, presented),
+    match decision {
+        Decision::Refuses(refusal) => refused(alloc, view, at, body, *refusal),
+        Decision::Remembers(refusal) => {
+            let reply = tgs_error(alloc, view.realm, at, body, *refusal)?;
+            remembering(alloc, request, reply)
+        }
+        Decision::Repeats(kept) => repeated(alloc, view, at, room, request, body, kept),
+        Decision::Issues(admission) => {
+            let reply = tgs_rep(alloc, view, at, words, body, presented, admission)?;
+            within_room(alloc, view, at, room, request, body, reply)
+        }
     }
 }
 
@@ -217,62 +166,6 @@ fn bears_ticket(octets: &[u8]) -> bool
     match octets.first() {
         Some(tag) => *tag == TICKET_TAG,
         None => false,
-    }
-}
-
-/// The answer to an authenticator that is new.
-fn fresh(
-    alloc: Global,
-    view: &TgsView<'_>,
-    at: Moment,
-    words: &[u8; 64],
-    room: u32,
-    request: &[u8],
-    body: &ReqBodyRef<'_>,
-    presented: &Presented,
-) -> Result<TgsAnswer, AllocError>
-    requires { IsKnown view.now body.now presented.now }
-    ensures reply { IfOk result (λ answer. answer.reply.items ≡ (fresh_by view.now at words.now room request.now body.now presented.now (admitted view.now at.sec body.now presented.now)).reply) }
-    ensures kept { IfOk result (λ answer. answer.kept ≡ (fresh_by view.now at words.now room request.now body.now presented.now (admitted view.now at.sec body.now presented.now)).kept) }
-    ensures spelled { IfOk result (λ answer. FreshSpelled view.now at words.now body.now presented.now (admitted view.now at.sec body.now presented.now) answer.reply.items) }
-    ensures same { IfOk result (λ answer. OpensBy view.now at words.now body.now presented.now (admitted view.now at.sec body.now presented.now)) }
-{
-    let terms = terms_for(alloc, view, body)?;
-    let ticket = ticket_terms(&presented.ticket);
-    let admission = admitted(view, at, body, &presented.service, &ticket, terms);
-    fresh_by(
-        alloc, view, at, words, room, request, body, presented, &admission,
-    )
-}
-
-/// The answer by what was decided.
-fn fresh_by(
-    alloc: Global,
-    view: &TgsView<'_>,
-    at: Moment,
-    words: &[u8; 64],
-    room: u32,
-    request: &[u8],
-    body: &ReqBodyRef<'_>,
-    presented: &Presented,
-    admission: &Result<Admission, TgsRefusal>,
-) -> Result<TgsAnswer, AllocError>
-    requires known { IsKnown view.now body.now presented.now }
-    requires named { IfOk admission.now (λ admission. IsNamed presented.now view.now.service admission.terms) }
-    ensures reply { IfOk result (λ answer. answer.reply.items ≡ (fresh_by view.now at words.now room request.now body.now presented.now admission.now).reply) }
-    ensures kept { IfOk result (λ answer. answer.kept ≡ (fresh_by view.now at words.now room request.now body.now presented.now admission.now).kept) }
-    ensures spelled { IfOk result (λ answer. FreshSpelled view.now at words.now body.now presented.now admission.now answer.reply.items) }
-    ensures same { IfOk result (λ answer. OpensBy view.now at words.now body.now presented.now admission.now) }
-{
-    match admission {
-        Err(refusal) => {
-            let reply = tgs_error(alloc, view.realm, at, body, *refusal)?;
-            remembering(alloc, request, reply)
-        }
-        Ok(admission) => {
-            let reply = tgs_rep(alloc, view, at, words, body, presented, admission)?;
-            within_room(alloc, view, at, room, request, body, reply)
-        }
     }
 }
 

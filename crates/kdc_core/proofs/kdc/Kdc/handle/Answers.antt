@@ -1,15 +1,26 @@
-use Rattle.std.proofs.Common.{rules, ◌≡◌, ◌≢◌, Some, sym, ap, subst, ◌∙◌, arith}
+use Rattle.std.proofs.Common.{rules, ◌≡◌, ◌≢◌, ◌≤◌, length, Some, option_map, IfOk, IfSome, sym, ap, subst, ◌∙◌, arith}
 use Rattle.kdc_state.specs.declared.state.State.{State}
 use Rattle.kdc_state.specs.State.{memory_of}
 use Rattle.kdc_core.proofs.Frame.{database_kept, limits_kept, other_kept, of_either}
 use Rattle.kdc_core.specs.AgreementLaws.{names_agree, next_agrees, view_agrees}
 use Rattle.kdc_core.specs.Answer.{answer, next}
+use Rattle.kdc_core.specs.Issued.{IsReplyOf, issued, replies_issued}
+use Rattle.kdc_core.specs.Request.{request_of}
 use Rattle.kdc_core.specs.RequestLaws.{request_is}
 use Rattle.kdc_core.specs.View.{named, view}
 use Rattle.kdc_core.proofs.kdc.Kdc.handle.Goals as goal
 
 pub returns-clause-request : goal.returns-clause-request
 returns-clause-request c r = request_is c.args.request.now r (λ i. omega (arith, c.type_inv.request i))
+
+pub returns-clause-issued : goal.returns-clause-issued
+returns-clause-issued c =
+    let state = c.self.inside.state in
+    let bytes = c.args.request.now in
+    let long : 32 ≤ length c.args.words.now = search rules in
+    let is : state ≡ c.args.self.now = search rules in
+    subst (λ (s : State). IfOk c.handle.result (λ reply. IfSome (issued (view s bytes) c.args.at c.args.words.now (request_of bytes)) (λ issue. IsReplyOf issue (option_map (λ octets. octets.items) reply)))) is
+    (replies_issued (view state bytes) c.args.at c.args.words.now long (λ reply. option_map (λ octets. octets.items) reply) (request_of bytes) c.handle.result c.handle.ensures.spelled c.handle.ensures.keys)
 
 pub returns-clause-database : goal.returns-clause-database
 returns-clause-database c =

@@ -1,0 +1,69 @@
+-- What is decided of a TGS-REQ whose ticket and authenticator were opened. Its reply, what that spells, what is kept, and the
+-- ticket that is issued are read from it.
+use Rattle.std.specs.Borrow.{Bor}
+use Rattle.std.specs.Prelude.{◌≡◌, ℤ, ⊤, Option, Some, None, Result, Ok, Err}
+use Rattle.refusals.specs.Refusals.{first_holding}
+use Rattle.krb_types.specs.ReqBody.{ReqBody}
+use Rattle.replay.specs.Memory.{verdict}
+use Rattle.replay.specs.Stamp.{Stamp}
+use Rattle.replay.specs.declared.keep.Kept.{Kept}
+use Rattle.replay.specs.declared.verdict.Verdict.{Verdict}
+use Rattle.replay.specs.declared.verdict.Verdict.TheVariants.{Fresh, Skew, Repeat, Full as NoPlace}
+use Rattle.tgs_opening.specs.declared.presented.Presented.{Presented}
+use Rattle.tgs_opening.specs.declared.refusal.TgsRefusal.{TgsRefusal}
+use Rattle.tgs_opening.specs.declared.refusal.TgsRefusal.TheVariants.{Skewed, Full}
+use Rattle.tgs_exchange.specs.View.{View}
+use Rattle.tgs_exchange.specs.Rules.{client_rules, admitted}
+use Rattle.tgs_exchange.specs.declared.decision.Decision.{Decision}
+use Rattle.tgs_exchange.specs.declared.decision.Decision.TheVariants.{Refuses, Remembers, Repeats, Issues}
+use Rattle.tgs_exchange.specs.declared.terms.Admission.{Admission}
+
+-- a decision with what its reference points to
+abbrev pub decision_copied : {K : Type 0} → Decision (Bor K) → Decision K
+decision_copied (Refuses refusal) = Refuses refusal
+decision_copied (Remembers refusal) = Remembers refusal
+decision_copied (Repeats kept) = Repeats kept.now
+decision_copied (Issues admission) = Issues admission
+
+-- the pair by which an authenticator is known
+abbrev pub stamp_of : Presented → Stamp
+stamp_of p = (p.authenticator.ctime, p.authenticator.cusec)
+
+-- what the client's memory says of it
+abbrev pub verdict_on : View → ℤ → Presented → Verdict Kept
+verdict_on v now p = verdict v.memory now (stamp_of p) v.limits.remembered
+
+-- ---- in their order: the client, the authenticator, the ticket and what is asked
+
+-- a new authenticator is remembered, whatever is decided of its request
+abbrev pub by_admission : Result Admission TgsRefusal → Decision Kept
+by_admission (Err refusal) = Remembers refusal
+by_admission (Ok admission) = Issues admission
+
+abbrev pub by_verdict : View → ℤ → ReqBody → Presented → Verdict Kept → Decision Kept
+by_verdict v now body p Skew = Refuses Skewed
+by_verdict v now body p (Repeat kept) = Repeats kept
+by_verdict v now body p NoPlace = Refuses Full
+by_verdict v now body p Fresh = by_admission (admitted v now body p)
+
+abbrev pub by_client : View → ℤ → ReqBody → Presented → Option TgsRefusal → Decision Kept
+by_client v now body p (Some refusal) = Refuses refusal
+by_client v now body p None = by_verdict v now body p (verdict_on v now p)
+
+abbrev pub decision : View → ℤ → ReqBody → Presented → Decision Kept
+decision v now body p = by_client v now body p (first_holding (client_rules v now p.ticket.authtime))
+
+-- what holds of an admission where a ticket is issued
+abbrev pub IfIssued : {K : Type 0} → Decision K → (Admission → Type 0) → Type 0
+IfIssued (Refuses refusal) P = ⊤
+IfIssued (Remembers refusal) P = ⊤
+IfIssued (Repeats kept) P = ⊤
+IfIssued (Issues admission) P = P admission
+
+-- ---- what the memory said of the authenticator where that is decided
+
+abbrev pub HasSaid : View → ℤ → Presented → Decision Kept → Type 0
+HasSaid v now p (Refuses refusal) = ⊤
+HasSaid v now p (Remembers refusal) = verdict_on v now p ≡ Fresh
+HasSaid v now p (Repeats kept) = verdict_on v now p ≡ Repeat kept
+HasSaid v now p (Issues admission) = verdict_on v now p ≡ Fresh
