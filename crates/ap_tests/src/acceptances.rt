@@ -1,7 +1,7 @@
 //! What an acceptor of `h` in `A.B` answers.
 use crate::given::{accept, octets, opened, up};
 use crate::requests::{ACCEPTED, MUTUAL, OTHER_CLIENT, REFUSED, REPLY, SECOND};
-use ap_accept::{Accepted, Acceptor, ApFault};
+use ap_accept::{Accepted, Acceptor, ApFault, ApRefusal};
 use cred_files::{Keytab, KeytabEntry};
 use enctypes::{Etype, Key};
 use krb_elements::KerberosString;
@@ -22,6 +22,33 @@ fn acceptor(alloc: Global, remembered: u32) -> Result<Acceptor, Fail> {
     };
     let entries = vec![in alloc; entry]?;
     opened(alloc, Keytab::new(alloc, &entries)?, remembered)
+}
+
+/// What an acceptor is tried on.
+#[derive(Clone, Copy)]
+enum Trial {
+    Once,
+    EachRule,
+    Full,
+    Parts,
+    WantOfMemory,
+}
+
+/// Whether an acceptor answers as it has to. It is made and let go here alone.
+fn holds(alloc: Global, trial: Trial) -> Result<bool, Fail> {
+    let remembered = if matches!(trial, Trial::Full) { 1 } else { 64 };
+    let mut acceptor = acceptor(alloc, remembered)?;
+    answers(alloc, &mut acceptor, trial)
+}
+
+fn answers(alloc: Global, acceptor: &mut Acceptor, trial: Trial) -> Result<bool, Fail> {
+    match trial {
+        Trial::Once => accepts_once(alloc, acceptor),
+        Trial::EachRule => has_each_code(alloc, acceptor),
+        Trial::Full => is_full_for_one(alloc, acceptor),
+        Trial::Parts => takes_no_part(alloc, acceptor),
+        Trial::WantOfMemory => wants_memory(alloc, acceptor),
+    }
 }
 
 /// What is answered to an AP-REQ of these digits.
@@ -76,70 +103,105 @@ fn is_mutual(alloc: Global, accepted: &Accepted) -> Result<bool, Fail> {
     )
 }
 
+fn accepts_once(alloc: Global, acceptor: &mut Acceptor) -> Result<bool, Fail> {
+    let is_accepted = match accept_digits(alloc, acceptor, MUTUAL)? {
+        Ok(accepted) => is_mutual(alloc, &accepted)?,
+        Err(_) => false,
+    };
+    Ok(is_accepted && code(alloc, acceptor, MUTUAL)? == 34)
+}
+
 #[test]
 fn accepts_an_authenticator_once(rt: HostRuntime) -> Result<(), Fail> {
-    let alloc = rt.alloc();
-    let mut acceptor = acceptor(alloc, 64)?;
-    let accepted = accept_digits(alloc, &mut acceptor, MUTUAL)??;
-    assert!(rt; is_mutual(alloc, &accepted)?);
-    assert_eq!(rt; code(alloc, &mut acceptor, MUTUAL)?, 34);
+    assert!(rt; holds(rt.alloc(), Trial::Once)?);
     Ok(())
+}
+
+fn has_each_code(alloc: Global, acceptor: &mut Acceptor) -> Result<bool, Fail> {
+    for (wanted, digits) in REFUSED {
+        if code(alloc, acceptor, digits)? != *wanted {
+            return Ok(false);
+        }
+    }
+    for digits in ACCEPTED {
+        if code(alloc, acceptor, digits)? != 0 {
+            return Ok(false);
+        }
+    }
+    Ok(true)
 }
 
 #[test]
 fn refuses_by_each_rule(rt: HostRuntime) -> Result<(), Fail> {
-    let alloc = rt.alloc();
-    let mut acceptor = acceptor(alloc, 64)?;
-    for (wanted, digits) in REFUSED {
-        assert_eq!(rt; code(alloc, &mut acceptor, digits)?, *wanted);
-    }
-    for digits in ACCEPTED {
-        assert_eq!(rt; code(alloc, &mut acceptor, digits)?, 0);
-    }
+    assert!(rt; holds(rt.alloc(), Trial::EachRule)?);
     Ok(())
+}
+
+fn is_full_for_one(alloc: Global, acceptor: &mut Acceptor) -> Result<bool, Fail> {
+    Ok(
+        code(alloc, acceptor, MUTUAL)? == 0
+            && code(alloc, acceptor, SECOND)? == 29
+            && code(alloc, acceptor, OTHER_CLIENT)? == 0,
+    )
 }
 
 #[test]
 fn a_full_memory_refuses_its_own_client_alone(rt: HostRuntime) -> Result<(), Fail> {
-    let alloc = rt.alloc();
-    let mut acceptor = acceptor(alloc, 1)?;
-    for (digits, wanted) in [(MUTUAL, 0), (SECOND, 29), (OTHER_CLIENT, 0)] {
-        assert_eq!(rt; code(alloc, &mut acceptor, digits)?, wanted);
-    }
+    assert!(rt; holds(rt.alloc(), Trial::Full)?);
     Ok(())
+}
+
+fn takes_no_part(alloc: Global, acceptor: &mut Acceptor) -> Result<bool, Fail> {
+    let octets = octets(alloc, MUTUAL)?;
+    for end in 0..octets.len() {
+        let answer = accept(alloc, acceptor, MIDNIGHT, &octets[..end])?;
+        if answer.err() != Some(ApFault::NotAnApReq) {
+            return Ok(false);
+        }
+    }
+    Ok(code(alloc, acceptor, MUTUAL)? == 0)
 }
 
 #[test]
 fn no_part_of_an_ap_req_is_one(rt: HostRuntime) -> Result<(), Fail> {
-    let alloc = rt.alloc();
-    let mut acceptor = acceptor(alloc, 64)?;
-    let octets = octets(alloc, MUTUAL)?;
-    for end in 0..octets.len() {
-        let answer = accept(alloc, &mut acceptor, MIDNIGHT, &octets[..end])?;
-        assert_eq!(rt; answer.err(), Some(ApFault::NotAnApReq));
-    }
-    assert_eq!(rt; code(alloc, &mut acceptor, MUTUAL)?, 0);
+    assert!(rt; holds(rt.alloc(), Trial::Parts)?);
     Ok(())
 }
 
-/// Whether it is accepted, at once or after a call that wanted memory, and is a repeat from then on.
+/// Why an AP-REQ is not accepted, asked again where memory was wanted.
+fn fault_at_last(
+    alloc: Global,
+    acceptor: &mut Acceptor,
+    octets: &[u8],
+) -> Result<Option<ApFault>, Fail> {
+    let fault = accept(alloc, acceptor, MIDNIGHT, octets)?.err();
+    if fault == Some(ApFault::Memory) {
+        return Ok(accept(alloc, acceptor, MIDNIGHT, octets)?.err());
+    }
+    Ok(fault)
+}
+
+/// Whether it is accepted, and then a repeat.
 fn is_accepted_once(alloc: Global, acceptor: &mut Acceptor, digits: &str) -> Result<bool, Fail> {
     let octets = octets(alloc, digits)?;
-    let first = match accept(alloc, acceptor, MIDNIGHT, &octets)? {
-        Err(ApFault::Memory) => accept(alloc, acceptor, MIDNIGHT, &octets)?,
-        answer => answer,
-    };
-    Ok(first.is_ok() && code(alloc, acceptor, digits)? == 34)
+    let first = fault_at_last(alloc, acceptor, &octets)?;
+    let second = fault_at_last(alloc, acceptor, &octets)?;
+    Ok(first.is_none() && second == Some(ApFault::Refused(ApRefusal::Repeated)))
+}
+
+/// They are the first of a service, the first of a client, and a later one.
+fn wants_memory(alloc: Global, acceptor: &mut Acceptor) -> Result<bool, Fail> {
+    Ok(
+        is_accepted_once(alloc, acceptor, MUTUAL)?
+            && is_accepted_once(alloc, acceptor, OTHER_CLIENT)?
+            && is_accepted_once(alloc, acceptor, SECOND)?,
+    )
 }
 
 /// One allocation may be refused, by `rt try --test --fail-alloc N`: nothing is remembered then, and the same AP-REQ is
-/// accepted afterwards. They are the first of a service, of a client, and a later one.
+/// accepted afterwards.
 #[test]
 fn want_of_memory_changes_nothing(rt: HostRuntime) -> Result<(), Fail> {
-    let alloc = rt.alloc();
-    let mut acceptor = acceptor(alloc, 64)?;
-    for digits in [MUTUAL, OTHER_CLIENT, SECOND] {
-        assert!(rt; is_accepted_once(alloc, &mut acceptor, digits)?);
-    }
+    assert!(rt; holds(rt.alloc(), Trial::WantOfMemory)?);
     Ok(())
 }

@@ -9,10 +9,24 @@ use krb_fields::{Name, Typed};
 use std::alloc::Global;
 use std::test::Fail;
 
-/// An acceptor with the keytab that MIT's `kadmin.local` wrote.
-fn acceptor(alloc: Global) -> Result<Acceptor, Fail> {
+/// Whether an acceptor with the keytab that MIT's `kadmin.local` wrote accepts each of them; and if that is asked, none with
+/// an octet changed before that.
+fn holds(alloc: Global, changed: bool) -> Result<bool, Fail> {
     let keytab = Keytab::read(alloc, &octets(alloc, KEYTAB)?)?;
-    opened(alloc, keytab, 64)
+    let mut acceptor = opened(alloc, keytab, 64)?;
+    are_accepted(alloc, &mut acceptor, changed)
+}
+
+fn are_accepted(alloc: Global, acceptor: &mut Acceptor, changed: bool) -> Result<bool, Fail> {
+    for made in MADE {
+        if changed && !are_sealed(alloc, acceptor, made)? {
+            return Ok(false);
+        }
+        if !is_accepted(alloc, acceptor, made)? {
+            return Ok(false);
+        }
+    }
+    Ok(true)
 }
 
 fn is_of_client(alloc: Global, accepted: &Accepted, made: &Made) -> Result<bool, Fail> {
@@ -106,11 +120,7 @@ fn is_accepted(alloc: Global, acceptor: &mut Acceptor, made: &Made) -> Result<bo
 
 #[test]
 fn accepts_what_mit_s_library_makes(rt: HostRuntime) -> Result<(), Fail> {
-    let alloc = rt.alloc();
-    let mut acceptor = acceptor(alloc)?;
-    for made in MADE {
-        assert!(rt; is_accepted(alloc, &mut acceptor, made)?);
-    }
+    assert!(rt; holds(rt.alloc(), false)?);
     Ok(())
 }
 
@@ -159,11 +169,6 @@ fn are_sealed(alloc: Global, acceptor: &mut Acceptor, made: &Made) -> Result<boo
 
 #[test]
 fn refuses_a_cipher_with_an_octet_changed(rt: HostRuntime) -> Result<(), Fail> {
-    let alloc = rt.alloc();
-    let mut acceptor = acceptor(alloc)?;
-    for made in MADE {
-        assert!(rt; are_sealed(alloc, &mut acceptor, made)?);
-        assert!(rt; is_accepted(alloc, &mut acceptor, made)?);
-    }
+    assert!(rt; holds(rt.alloc(), true)?);
     Ok(())
 }
