@@ -45,20 +45,26 @@ def row(key, preauth=True):
     }
 
 
+def database_text(rows):
+    return json.dumps({"principals": rows, "realm": REALM.decode(), "version": 2})
+
+
 class Server:
     """`kdcd serve` over a realm with `alice`, who needs preauthentication, the clients that need none, and a service."""
 
-    def __init__(self, kdcd, folder, rounds=4294967295):
+    def __init__(self, kdcd, folder, rounds=None):
         database = os.path.join(folder, "database")
         seed = os.path.join(folder, "seed")
         rows = {"krbtgt/EXAMPLE.COM": row("00" * 32), "alice": row(KEY.hex()), "host/n1": row("22" * 32)}
         rows.update({client.decode(): row(KEY.hex(), preauth=False) for client in CLIENTS})
         with open(database, "w") as file:
-            json.dump({"principals": rows, "realm": REALM.decode(), "version": 2}, file)
+            file.write(database_text(rows))
         with open(seed, "wb") as file:
             file.write(os.urandom(32))
         words = [kdcd, "serve", "--db", database, "--udp", "127.0.0.1:0", "--tcp", "127.0.0.1:0"]
-        words += ["--rounds", str(rounds), "--seed", seed, "--first"]
+        words += ["--seed", seed, "--first"]
+        if rounds is not None:
+            words += ["--rounds", str(rounds)]
         self.process = subprocess.Popen(words, stdout=subprocess.PIPE, stderr=subprocess.PIPE, text=True)
         line = self.process.stderr.readline()
         found = re.search(r"udp (\S+):(\d+) and tcp (\S+):(\d+)", line)
@@ -363,4 +369,5 @@ def main():
     sys.exit(1 if lost else 0)
 
 
-main()
+if __name__ == "__main__":
+    main()

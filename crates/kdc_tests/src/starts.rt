@@ -24,6 +24,14 @@ const LINES: &[(&str, bool)] = &[
     ),
     (
         "kdcd serve --db d --udp 127.0.0.1:88 --tcp [::1]:88 --seed s",
+        false,
+    ),
+    (
+        "kdcd serve --db d --udp 127.0.0.1:88 --tcp [::1]:88 --seed s --fixed",
+        false,
+    ),
+    (
+        "kdcd serve --db d --udp 127.0.0.1:88 --tcp [::1]:88 --rounds many --seed s",
         true,
     ),
     (

@@ -1,14 +1,15 @@
 //! Serving a realm: `kdcd serve`.
 use kdc_core::{Kdc, Opening};
-use kdc_hub::{Hub, serve};
+use kdc_hub::Hub;
+use kdc_serving::serve_life;
 use kdc_wire::{BindFault, SocketWire, now};
-use kdcd_start::{FileFault, ServeOptions, database_of, read_whole, seed_of};
+use kdcd_start::{FileFault, RowsFile, ServeOptions, read_whole, seed_of};
 use principal_rows::Limits;
-use principals::Database;
 use rand_chacha::ChaCha20Rng;
 use rand_core::SeedableRng;
 use std::alloc::AllocError;
 use std::fs::File;
+use std::io::Stderr;
 use std::time::Duration;
 use std::{fmt, io};
 
@@ -20,6 +21,9 @@ const REFUSED: u8 = 1;
 
 /// The status where a file, a socket, the clock or memory failed.
 const FAILED: u8 = 3;
+
+/// As many rounds as no process serves.
+const ENDLESS: u64 = u64::MAX;
 
 /// How many milliseconds a round waits where nothing comes.
 const WAIT: u64 = 100;
@@ -63,9 +67,11 @@ impl StartFault<'_> {
 
 /// A server that listens.
 #[derive(Drop)]
-struct Server {
+struct Server<'a> {
     hub: Hub<ChaCha20Rng>,
     wire: SocketWire<HostRuntime>,
+    /// Where its rows come from, unless they are fixed.
+    rows: Option<RowsFile<'a, HostRuntime, Stderr>>,
 }
 
 /// Serves as the options say, and gives the status. An error is a failed write.
@@ -76,13 +82,20 @@ pub fn serve_realm(rt: &HostRuntime, options: &ServeOptions<'_>) -> io::Result<u
     }
 }
 
-fn serve_rounds(rt: &HostRuntime, server: &mut Server, rounds: u32) -> io::Result<u8> {
+fn serve_rounds(rt: &HostRuntime, server: &mut Server<'_>, rounds: Option<u32>) -> io::Result<u8> {
     let (udp, tcp) = (server.wire.udp_addr()?, server.wire.tcp_addr()?);
     eprintln!(rt; "kdcd: serving on udp {udp} and tcp {tcp}")?;
-    let served = serve(rt.alloc(), &mut server.wire, &mut server.hub, rounds);
+    let Server { hub, wire, rows } = server;
+    let totals = serve_life(
+        rt.alloc(),
+        wire,
+        rows,
+        hub,
+        rounds.map_or(ENDLESS, u64::from),
+    );
     println!(rt;
         "served {} {} {}",
-        served.events, served.faults, served.refused
+        totals.events, totals.faults, totals.refused
     )?;
     Ok(DONE)
 }
@@ -103,11 +116,19 @@ fn report(rt: &HostRuntime, fault: &StartFault<'_>) -> io::Result<u8> {
 }
 
 /// Reads the files in the order of their options, and then opens the sockets.
-fn start<'a>(rt: &HostRuntime, options: &ServeOptions<'a>) -> Result<Server, StartFault<'a>> {
-    let hub = open_hub(rt, options)?;
+fn start<'a>(
+    rt: &'a HostRuntime,
+    options: &ServeOptions<'a>,
+) -> Result<Server<'a>, StartFault<'a>> {
+    let rows = RowsFile::new(rt, options.db, rt.stderr());
+    let hub = open_hub(rt, options, &rows)?;
     let wait = Duration::from_millis(WAIT);
     match SocketWire::bind(rt.alloc(), rt.clone()?, rt, options.udp, options.tcp, wait) {
-        Ok(wire) => Ok(Server { hub, wire }),
+        Ok(wire) => Ok(Server {
+            hub,
+            wire,
+            rows: (!options.is_fixed).then_some(rows),
+        }),
         Err(fault) => Err(StartFault::Sockets(fault)),
     }
 }
@@ -115,8 +136,9 @@ fn start<'a>(rt: &HostRuntime, options: &ServeOptions<'a>) -> Result<Server, Sta
 fn open_hub<'a>(
     rt: &HostRuntime,
     options: &ServeOptions<'a>,
+    rows: &RowsFile<'_, HostRuntime, Stderr>,
 ) -> Result<Hub<ChaCha20Rng>, StartFault<'a>> {
-    let database = match read_database(rt, options.db) {
+    let database = match rows.read(rt.alloc()) {
         Ok(database) => database,
         Err(fault) => return Err(StartFault::File(options.db, fault)),
     };
@@ -127,11 +149,6 @@ fn open_hub<'a>(
     let opening = opening(rt, options.is_first)?;
     let kdc = Kdc::open(rt.alloc(), database, limits(), opening)?;
     Ok(Hub::new(rt.alloc(), kdc, ChaCha20Rng::from_seed(seed)))
-}
-
-fn read_database(rt: &HostRuntime, path: &str) -> Result<Database, FileFault> {
-    let octets = read_whole(rt.alloc(), File::open(rt, path)?)?;
-    database_of(rt.alloc(), &octets)
 }
 
 fn read_seed(rt: &HostRuntime, path: &str) -> Result<[u8; 32], FileFault> {
