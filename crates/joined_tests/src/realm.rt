@@ -1,0 +1,109 @@
+//! A realm with a client and a service.
+use crate::given::{REALM, Service, key_from, moment, up, user};
+use ap_accept::Acceptor;
+use cred_files::{Keytab, KeytabEntry};
+use enctypes::{Etype, Key};
+use kdc_core::{Kdc, Opening};
+use krb_elements::KerberosString;
+use krb_fields::Name;
+use principal_rows::{KeyList, Limits, Policy};
+use principals::{Change, Database};
+use std::alloc::Global;
+use std::test::Fail;
+
+/// The encryption types of a realm's keys: there is one of each principal.
+#[derive(Clone, Copy, Debug)]
+pub struct Types {
+    /// Of `u` and `krbtgt/A.B`, and so of the keys of replies.
+    pub reply: Etype,
+    /// Of `h`.
+    pub service: Etype,
+}
+
+impl Types {
+    pub fn user_key(self) -> Key {
+        key_from(self.reply, 64)
+    }
+
+    pub fn granter_key(self) -> Key {
+        key_from(self.reply, 128)
+    }
+
+    pub fn service_key(self) -> Key {
+        key_from(self.service, 160)
+    }
+}
+
+/// A KDC, and the service `h`.
+#[derive(Drop)]
+pub struct Realm {
+    pub kdc: Kdc,
+    pub acceptor: Acceptor,
+}
+
+/// A ticket lives for ten hours, and is renewable for a week.
+fn limits() -> Result<Limits, Fail> {
+    Ok(Limits::new(64, 0, 0, 36_000, 604_800).ok_or("limits")?)
+}
+
+fn keys(alloc: Global, key: Key) -> Result<KeyList, Fail> {
+    Ok(KeyList::new(alloc, &[key])?)
+}
+
+fn add(alloc: Global, database: &mut Database, name: Name, key: Key) -> Result<(), Fail> {
+    let keys = keys(alloc, key)?;
+    Ok(database.apply(alloc, &Change::Add { name, keys })?)
+}
+
+/// Tickets of it and for it may be postdated.
+fn allow_postdating(alloc: Global, database: &mut Database, name: Name) -> Result<(), Fail> {
+    let policy = Policy {
+        postdate: true,
+        ..Policy::default()
+    };
+    Ok(database.apply(alloc, &Change::SetPolicy { name, policy })?)
+}
+
+fn database(alloc: Global, types: Types) -> Result<Database, Fail> {
+    let granter_keys = keys(alloc, types.granter_key())?;
+    let mut database = Database::first(alloc, REALM, granter_keys)?;
+    add(alloc, &mut database, user(alloc)?, types.user_key())?;
+    add(
+        alloc,
+        &mut database,
+        Service::Host.name(alloc)?,
+        types.service_key(),
+    )?;
+    for name in [
+        user(alloc)?,
+        Service::Granter.name(alloc)?,
+        Service::Host.name(alloc)?,
+    ] {
+        allow_postdating(alloc, &mut database, name)?;
+    }
+    Ok(database)
+}
+
+pub fn kdc(alloc: Global, types: Types) -> Result<Kdc, Fail> {
+    let database = database(alloc, types)?;
+    Ok(Kdc::open(alloc, database, limits()?, Opening::First)?)
+}
+
+fn acceptor(alloc: Global, types: Types) -> Result<Acceptor, Fail> {
+    let entry = KeytabEntry {
+        realm: KerberosString::from_slice(alloc, REALM)?,
+        name: Service::Host.name(alloc)?,
+        version: 1,
+        key: types.service_key(),
+    };
+    let entries = vec![in alloc; entry]?;
+    let keytab = Keytab::new(alloc, &entries)?;
+    Ok(Acceptor::open(alloc, keytab, limits()?, ap_accept::Opening::First)?)
+}
+
+pub fn open(alloc: Global, types: Types) -> Result<Realm, Fail> {
+    Ok(Realm {
+        acceptor: acceptor(alloc, types)?,
+        kdc: kdc(alloc, types)?,
+    })
+}
