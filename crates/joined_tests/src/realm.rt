@@ -51,8 +51,11 @@ fn keys(alloc: Global, key: Key) -> Result<KeyList, Fail> {
 }
 
 fn add(alloc: Global, database: &mut Database, name: Name, key: Key) -> Result<(), Fail> {
-    let keys = keys(alloc, key)?;
-    Ok(database.apply(alloc, &Change::Add { name, keys })?)
+    let change = Change::Add {
+        name,
+        keys: keys(alloc, key)?,
+    };
+    Ok(database.apply(alloc, &change)?)
 }
 
 /// Tickets of it and for it may be postdated.
@@ -61,30 +64,29 @@ fn allow_postdating(alloc: Global, database: &mut Database, name: Name) -> Resul
         postdate: true,
         ..Policy::default()
     };
-    Ok(database.apply(alloc, &Change::SetPolicy { name, policy })?)
+    let change = Change::SetPolicy { name, policy };
+    Ok(database.apply(alloc, &change)?)
+}
+
+fn add_all(alloc: Global, database: &mut Database, types: Types) -> Result<(), Fail> {
+    let host = Service::Host;
+    add(alloc, database, user(alloc)?, types.user_key())?;
+    add(alloc, database, host.name(alloc)?, types.service_key())?;
+    allow_postdating(alloc, database, user(alloc)?)?;
+    allow_postdating(alloc, database, host.name(alloc)?)?;
+    allow_postdating(alloc, database, Service::Granter.name(alloc)?)
 }
 
 fn database(alloc: Global, types: Types) -> Result<Database, Fail> {
     let granter_keys = keys(alloc, types.granter_key())?;
     let mut database = Database::first(alloc, REALM, granter_keys)?;
-    add(alloc, &mut database, user(alloc)?, types.user_key())?;
-    add(
-        alloc,
-        &mut database,
-        Service::Host.name(alloc)?,
-        types.service_key(),
-    )?;
-    for name in [
-        user(alloc)?,
-        Service::Granter.name(alloc)?,
-        Service::Host.name(alloc)?,
-    ] {
-        allow_postdating(alloc, &mut database, name)?;
+    match add_all(alloc, &mut database, types) {
+        Ok(()) => Ok(database),
+        Err(fail) => Err(fail),
     }
-    Ok(database)
 }
 
-pub fn kdc(alloc: Global, types: Types) -> Result<Kdc, Fail> {
+fn kdc(alloc: Global, types: Types) -> Result<Kdc, Fail> {
     let database = database(alloc, types)?;
     Ok(Kdc::open(alloc, database, limits()?, Opening::First)?)
 }

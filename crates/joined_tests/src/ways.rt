@@ -9,13 +9,13 @@ use crate::given::{
 use crate::legs::{Leg, Sent};
 use crate::realm::{Realm, Types, open};
 use ap_accept::Accepted;
-use client_core::{Asked, ServiceAsked};
+use client_core::ServiceAsked;
 use cred_files::Credential;
 use enctypes::{Etype, Key};
 use kdc_core::Kdc;
 use krb_elements::Octets;
-use krb_fields::Typed;
-use krb_joined::{Client, Reader, Sealing, end_to_end, obtain};
+use krb_fields::{Name, Typed};
+use krb_joined::{Client, Issuing, Sealing, end_to_end, obtain};
 use std::alloc::Global;
 use std::test::Fail;
 use ticket_times::TicketTerms;
@@ -247,21 +247,20 @@ fn send(
     leg: &Leg,
     types: Types,
     choice: Choice,
-    found: &Option<Credential>,
+    found: &[Credential],
 ) -> Result<Sent, Fail> {
-    match found {
+    match found.last() {
         Some(credential) => leg.next(alloc, types, choice.tgs_subkey(types), credential),
         None => leg.first(alloc, types),
     }
 }
 
 /// The credential that comes of a leg.
-fn take(alloc: Global, kdc: &mut Kdc, leg: &Leg, sent: &Sent) -> Result<Credential, Fail> {
-    let issuing = leg.issuing()?;
+fn take(alloc: Global, kdc: &mut Kdc, issuing: &Issuing, sent: &Sent) -> Result<Credential, Fail> {
     match obtain(
         alloc,
         kdc,
-        &issuing,
+        issuing,
         &sent.request,
         &sent.asked,
         &sent.reader,
@@ -271,58 +270,82 @@ fn take(alloc: Global, kdc: &mut Kdc, leg: &Leg, sent: &Sent) -> Result<Credenti
     }
 }
 
-/// What is accepted at the end of a way.
-fn walk(
+/// Goes a leg, and keeps what comes of it.
+fn go(
     alloc: Global,
-    realm: &mut Realm,
-    way: &Way,
+    kdc: &mut Kdc,
+    leg: &Leg,
     types: Types,
     choice: Choice,
-) -> Result<Accepted, Fail> {
-    let (last, before) = way.legs.split_last().ok_or("a leg")?;
-    let mut found = None;
-    for leg in before {
-        let sent = send(alloc, leg, types, choice, &found)?;
-        found = Some(take(alloc, &mut realm.kdc, leg, &sent)?);
+    found: &mut Vec<Credential>,
+) -> Result<(), Fail> {
+    let issuing = leg.issuing()?;
+    let sent = send(alloc, leg, types, choice, found)?;
+    let credential = take(alloc, kdc, &issuing, &sent)?;
+    Ok(found.push(credential)?)
+}
+
+fn go_all(
+    alloc: Global,
+    kdc: &mut Kdc,
+    legs: &[Leg],
+    types: Types,
+    choice: Choice,
+    found: &mut Vec<Credential>,
+) -> Result<(), Fail> {
+    for leg in legs {
+        go(alloc, kdc, leg, types, choice, found)?;
     }
-    let sent = send(alloc, last, types, choice, &found)?;
-    let wanted = choice.wanted(alloc, types)?;
-    arrive(alloc, realm, last, sent, wanted)
+    Ok(())
 }
 
 /// What is accepted of the ticket that comes of the last leg.
 fn arrive(
     alloc: Global,
     realm: &mut Realm,
-    leg: &Leg,
-    sent: Sent,
-    wanted: ServiceAsked,
+    issuing: &Issuing,
+    request: &[u8],
+    client: &Client,
 ) -> Result<Accepted, Fail>
-    requires { IsShortChecksum wanted.checksum }
+    requires { IsShortChecksum client.now.wanted.checksum }
 {
-    let sealing = Sealing {
-        at: moment(leg.at, 7)?,
-        confounder: up(200),
-    };
-    let client = Client {
-        asked: sent.asked,
-        reader: sent.reader,
-        wanted,
-        presenting: sealing,
-    };
-    let issuing = leg.issuing()?;
     match end_to_end(
         alloc,
         &mut realm.kdc,
-        &issuing,
-        &sent.request,
-        &client,
+        issuing,
+        request,
+        client,
         &mut realm.acceptor,
-        &sealing,
+        &client.presenting,
     ) {
         Ok(accepted) => Ok(accepted),
         Err(_) => Err(Fail::from("not accepted")),
     }
+}
+
+/// The same, by the credential before it, if there is one.
+fn go_last(
+    alloc: Global,
+    realm: &mut Realm,
+    leg: &Leg,
+    types: Types,
+    choice: Choice,
+    found: &[Credential],
+) -> Result<Accepted, Fail> {
+    let issuing = leg.issuing()?;
+    let presenting = Sealing {
+        at: moment(leg.at, 7)?,
+        confounder: up(200),
+    };
+    let wanted = choice.wanted(alloc, types)?;
+    let sent = send(alloc, leg, types, choice, found)?;
+    let client = Client {
+        asked: sent.asked,
+        reader: sent.reader,
+        wanted,
+        presenting,
+    };
+    arrive(alloc, realm, &issuing, &sent.request, &client)
 }
 
 fn is_key(found: &Key, wanted: &Key) -> bool {
@@ -362,26 +385,41 @@ fn is_told(accepted: &Accepted, types: Types, choice: Choice) -> bool {
     has_subkey && has_number && has_checksum && accepted.ap_rep.is_some() == choice.mutual_required
 }
 
-/// Whether the way ends with what was granted, and with what the client told.
-fn is_gone(alloc: Global, way: &Way, types: Types, choice: Choice) -> Result<bool, Fail> {
-    let mut realm = open(alloc, types)?;
-    let accepted = walk(alloc, &mut realm, way, types, choice)?;
-    let last = way.legs.last().ok_or("a leg")?;
+/// Whether what is accepted is what was granted, and what the client told.
+fn is_due(accepted: &Accepted, user: &Name, way: &Way, types: Types, choice: Choice) -> bool {
+    accepted.client.is(REALM, user)
+        && is_granted(&accepted.ticket, way)
+        && is_told(accepted, types, choice)
+}
+
+/// Whether the way ends so, in a realm where nobody went one before.
+fn is_gone(
+    alloc: Global,
+    realm: &mut Realm,
+    way: &Way,
+    types: Types,
+    choice: Choice,
+) -> Result<bool, Fail> {
+    let (last, before) = way.legs.split_last().ok_or("a leg")?;
     let user = user(alloc)?;
+    let mut found = Vec::new(alloc);
+    go_all(alloc, &mut realm.kdc, before, types, choice, &mut found)?;
+    let accepted = go_last(alloc, realm, last, types, choice, &found)?;
     // A key of random octets is these octets (RFC 3961, section 5.3).
     let session_key = key_from(types.service, last.octet());
-    Ok(
-        accepted.client.is(REALM, &user)
-            && is_key(&accepted.session_key, &session_key)
-            && is_granted(&accepted.ticket, way)
-            && is_told(&accepted, types, choice),
-    )
+    Ok(is_key(&accepted.session_key, &session_key) && is_due(&accepted, &user, way, types, choice))
+}
+
+/// The same, in a new realm.
+fn is_gone_anew(alloc: Global, way: &Way, types: Types, choice: Choice) -> Result<bool, Fail> {
+    let mut realm = open(alloc, types)?;
+    is_gone(alloc, &mut realm, way, types, choice)
 }
 
 /// The first way that ends otherwise, by its place.
 fn first_other(alloc: Global, types: Types, choice: Choice) -> Result<Option<usize>, Fail> {
     for (place, way) in WAYS.iter().enumerate() {
-        if !is_gone(alloc, way, types, choice)? {
+        if !is_gone_anew(alloc, way, types, choice)? {
             return Ok(Some(place));
         }
     }
