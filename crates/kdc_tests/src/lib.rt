@@ -19,8 +19,6 @@ mod service_tickets;
 #[cfg(test)]
 mod sockets;
 #[cfg(test)]
-mod starts;
-#[cfg(test)]
 mod steps;
 #[cfg(test)]
 mod streams;

@@ -1,0 +1,204 @@
+//! The life of a server, one request before each look for other rows.
+ghost use Rattle.std.specs.Prelude.{None};
+
+use crate::octets::{
+    BAD_KEY_VERSION, CLIENT_REVOKED, CLIENT_UNKNOWN, DISABLED_USER, FOR_SERVICE, GRANTER,
+    LAST_AUTHENTICATOR, LAST_GRANTER, LOGIN, NEW_USER, NEWER_GRANTER, NEWER_SERVICE,
+    NEWER_SERVICE_TICKET, NEXT_AUTHENTICATOR, OTHER_GRANTER, REPEAT, SAME_AUTHENTICATOR, SERVICE,
+    SERVICE_TICKET, TICKET, USER,
+};
+use kdc_core::{Kdc, Opening};
+use kdc_hub::{Action, Did, Event, Hub, MemoryWire};
+use kdc_serving::{Look, OtherRealm, RowSource, Totals, serve_life};
+use krb_elements::Octets;
+use krb_fields::Moment;
+use principal_rows::Limits;
+use principals::Database;
+use rand_chacha::ChaCha20Rng;
+use rand_core::SeedableRng;
+use std::alloc::{AllocError, Global};
+use std::collections::VecDeque;
+use std::net::{Ipv4Addr, SocketAddr};
+use std::test::Fail;
+
+/// What looks find, in order. Then there are no others.
+#[derive(Drop)]
+struct ListedLooks {
+    looks: VecDeque<Look>,
+    /// How often the rows were of another realm.
+    refused: u32,
+}
+
+impl RowSource for ListedLooks {
+    ghost told = { λ _. None };
+
+    fn look(&mut self, _alloc: Global) -> Look {
+        match self.looks.pop_front() {
+            Some(look) => look,
+            None => Look::Unchanged,
+        }
+    }
+
+    fn refuse(&mut self, _fault: OtherRealm) {
+        self.refused = self.refused.saturating_add(1);
+    }
+}
+
+/// What a look finds.
+#[derive(Clone, Copy, Debug)]
+enum Found {
+    Same,
+    Rows(&'static [&'static str]),
+    OtherRealm,
+    Fault,
+}
+
+/// What a look finds, the request that comes next, and what its reply begins with.
+type Period = (Found, &'static [u8], &'static [u8]);
+
+const FIRST_ROWS: &[&str] = &[SERVICE, GRANTER, USER];
+
+const LIFE: &[Period] = &[
+    (Found::Same, LOGIN, CLIENT_UNKNOWN),
+    // A new principal.
+    (
+        Found::Rows(&[SERVICE, GRANTER, USER, NEW_USER]),
+        LOGIN,
+        TICKET,
+    ),
+    (Found::Fault, LOGIN, TICKET),
+    (Found::OtherRealm, LOGIN, TICKET),
+    (Found::Same, FOR_SERVICE, SERVICE_TICKET),
+    // A principal that is disabled.
+    (
+        Found::Rows(&[SERVICE, GRANTER, USER, DISABLED_USER]),
+        LOGIN,
+        CLIENT_REVOKED,
+    ),
+    // What was remembered stays.
+    (Found::Same, FOR_SERVICE, SERVICE_TICKET),
+    (Found::Same, SAME_AUTHENTICATOR, REPEAT),
+    // New keys of the services. Tickets under the older ones are taken until those are dropped.
+    (
+        Found::Rows(&[NEWER_SERVICE, NEWER_GRANTER, USER]),
+        NEXT_AUTHENTICATOR,
+        NEWER_SERVICE_TICKET,
+    ),
+    (Found::Same, FOR_SERVICE, SERVICE_TICKET),
+    (
+        Found::Rows(&[NEWER_SERVICE, LAST_GRANTER, USER]),
+        LAST_AUTHENTICATOR,
+        BAD_KEY_VERSION,
+    ),
+    // A principal that is removed.
+    (Found::Same, LOGIN, CLIENT_UNKNOWN),
+];
+
+/// A database with these rows.
+pub fn database(alloc: Global, realm: &str, rows: &[&str]) -> Result<Database, Fail> {
+    let text = text_of(alloc, realm, rows)?;
+    Ok(Database::read(alloc, &text)?)
+}
+
+/// The text of such a database.
+pub fn text_of(alloc: Global, realm: &str, rows: &[&str]) -> Result<String, AllocError> {
+    let rows = rows.join(alloc, ",")?;
+    format!(in alloc; "{{\"principals\":{{{rows}}},\"realm\":\"{realm}\",\"version\":2}}")
+}
+
+fn look_of(alloc: Global, found: Found) -> Result<Look, Fail> {
+    Ok(match found {
+        Found::Same => Look::Unchanged,
+        Found::Rows(rows) => Look::Changed(database(alloc, "A.B", rows)?),
+        Found::OtherRealm => Look::Changed(database(alloc, "C.D", &[OTHER_GRANTER])?),
+        Found::Fault => Look::Failed,
+    })
+}
+
+fn source(alloc: Global) -> Result<ListedLooks, Fail> {
+    let mut looks = VecDeque::new(alloc);
+    for (found, _, _) in LIFE {
+        looks.push_back(look_of(alloc, *found)?)?;
+    }
+    Ok(ListedLooks { looks, refused: 0 })
+}
+
+fn now() -> Result<Moment, Fail> {
+    Ok(Moment::new(1_704_067_200, 0).ok_or("a moment")?)
+}
+
+fn peer(port: u16) -> SocketAddr {
+    SocketAddr::from((Ipv4Addr::LOCALHOST, port))
+}
+
+/// The requests, each from a peer of its own, and behind each 15 events that ask for nothing: 16 rounds.
+fn wire(alloc: Global) -> Result<MemoryWire, Fail> {
+    let mut events = VecDeque::new(alloc);
+    for (port, (_, request, _)) in (0..).zip(LIFE) {
+        let request = Octets::new(hex::decode(alloc, request)?);
+        let peer = peer(port);
+        events.push_back((now()?, Event::Datagram { peer, request }))?;
+        for _ in 0..15u32 {
+            events.push_back((now()?, Event::Closed { conn: 0 }))?;
+        }
+    }
+    Ok(MemoryWire::new(alloc, events, None))
+}
+
+fn hub(alloc: Global) -> Result<Hub<ChaCha20Rng>, Fail> {
+    let limits = Limits::new(64, 0, 0, 36_000, 0).ok_or("limits")?;
+    let rows = database(alloc, "A.B", FIRST_ROWS)?;
+    let kdc = Kdc::open(alloc, rows, limits, Opening::First)?;
+    Ok(Hub::new(alloc, kdc, ChaCha20Rng::from_seed([0; 32])))
+}
+
+fn serve_rounds(
+    alloc: Global,
+    wire: &mut MemoryWire,
+    source: &mut ListedLooks,
+    rounds: u64,
+) -> Result<Totals, Fail> {
+    let mut hub = hub(alloc)?;
+    Ok(serve_life(alloc, wire, source, &mut hub, rounds))
+}
+
+/// What was sent to the peer of this port.
+fn reply_to(did: &[Did], port: u16) -> Option<&[u8]> {
+    for call in did {
+        if let Did::Acted {
+            action: Action::SendTo { peer, message },
+        } = call
+        {
+            if peer.port() == port {
+                return Some(message.as_slice());
+            }
+        }
+    }
+    None
+}
+
+fn begins(alloc: Global, reply: Option<&[u8]>, digits: &[u8]) -> Result<bool, Fail> {
+    let beginning = hex::decode(alloc, digits)?;
+    Ok(match reply {
+        Some(octets) => octets.starts_with(&beginning),
+        None => false,
+    })
+}
+
+#[test]
+fn rows_that_change_are_served_and_nothing_is_forgotten(rt: HostRuntime) -> Result<(), Fail> {
+    let alloc = rt.alloc();
+    let mut wire = wire(alloc)?;
+    let mut source = source(alloc)?;
+    let totals = serve_rounds(alloc, &mut wire, &mut source, 192)?;
+    assert!(rt; totals.events == 192 && totals.faults == 0 && totals.refused == 0);
+    assert!(rt; source.refused == 1);
+    let did = wire.did().ok_or("memory")?;
+    for (port, (_, _, reply)) in (0..).zip(LIFE) {
+        assert!(rt; begins(alloc, reply_to(did, port), reply)?, "{port}");
+    }
+    // The same request gets the very reply that it got before the rows were replaced.
+    let first = reply_to(did, 4);
+    assert!(rt; reply_to(did, 6) == first && reply_to(did, 9) == first);
+    Ok(())
+}

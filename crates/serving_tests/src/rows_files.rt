@@ -1,0 +1,123 @@
+//! A file of rows (`kdcd_start`) that is replaced, broken, taken away and put back.
+use crate::lives::text_of;
+use crate::octets::{GRANTER, NEW_USER, SERVICE, USER};
+use kdc_serving::{Look, OtherRealm, RowSource};
+use kdcd_start::RowsFile;
+use std::alloc::Global;
+use std::fs;
+use std::test::Fail;
+
+const PATH: &str = "tested.database";
+
+/// The file that is renamed to that path.
+const BESIDE: &str = "tested.database.new";
+
+const ROWS: &[&str] = &[SERVICE, GRANTER, USER];
+
+const MORE_ROWS: &[&str] = &[SERVICE, GRANTER, USER, NEW_USER];
+
+/// What is done at the path.
+#[derive(Clone, Copy, Debug)]
+enum Deed {
+    /// A file with these rows is put in the place of what is there.
+    Replace(&'static [&'static str]),
+    Write(&'static [u8]),
+    Remove,
+    MakeFolder,
+    RemoveFolder,
+    Nothing,
+}
+
+#[derive(Clone, Copy, Debug, PartialEq, Eq)]
+enum Seen {
+    Unchanged,
+    Changed,
+    Failed,
+}
+
+/// What is done, and what the next look finds.
+const DEEDS: &[(Deed, Seen)] = &[
+    (Deed::Nothing, Seen::Unchanged),
+    (Deed::Replace(MORE_ROWS), Seen::Changed),
+    (Deed::Nothing, Seen::Unchanged),
+    (Deed::Write(b"{"), Seen::Failed),
+    (Deed::Nothing, Seen::Unchanged),
+    (Deed::Write(b"{}"), Seen::Failed),
+    (Deed::Replace(ROWS), Seen::Changed),
+    (Deed::Remove, Seen::Failed),
+    (Deed::Nothing, Seen::Unchanged),
+    (Deed::MakeFolder, Seen::Failed),
+    (Deed::Nothing, Seen::Unchanged),
+    (Deed::RemoveFolder, Seen::Failed),
+    (Deed::Replace(ROWS), Seen::Changed),
+    (Deed::Nothing, Seen::Unchanged),
+];
+
+/// What is said of them, and then of another realm.
+const SAID: &str = "\
+kdcd: database: NotJson; the rows before it stay
+kdcd: database: BadVersion; the rows before it stay
+kdcd: database: No such file or directory (os error 2); the rows before it stay
+kdcd: database: it is no file; the rows before it stay
+kdcd: database: No such file or directory (os error 2); the rows before it stay
+kdcd: database: OtherRealm; the rows before it stay
+";
+
+fn replace(rt: &HostRuntime, rows: &[&str]) -> Result<(), Fail> {
+    let text = text_of(rt.alloc(), "A.B", rows)?;
+    fs::write(rt, BESIDE, text.as_str())?;
+    Ok(fs::rename(rt, BESIDE, PATH)?)
+}
+
+fn do_deed(rt: &HostRuntime, deed: Deed) -> Result<(), Fail> {
+    match deed {
+        Deed::Replace(rows) => replace(rt, rows),
+        Deed::Write(octets) => Ok(fs::write(rt, PATH, octets)?),
+        Deed::Remove => Ok(fs::remove_file(rt, PATH)?),
+        Deed::MakeFolder => Ok(fs::create_dir(rt, PATH)?),
+        Deed::RemoveFolder => Ok(fs::remove_dir(rt, PATH)?),
+        Deed::Nothing => Ok(()),
+    }
+}
+
+fn look(alloc: Global, source: &mut impl RowSource) -> Seen {
+    match source.look(alloc) {
+        Look::Unchanged => Seen::Unchanged,
+        Look::Changed(_) => Seen::Changed,
+        Look::Failed => Seen::Failed,
+    }
+}
+
+/// The first look that finds another thing than it should.
+fn first_odd(rt: &HostRuntime, source: &mut impl RowSource) -> Result<Option<usize>, Fail> {
+    for (place, (deed, wanted)) in DEEDS.iter().enumerate() {
+        do_deed(rt, *deed)?;
+        if look(rt.alloc(), source) != *wanted {
+            return Ok(Some(place));
+        }
+    }
+    Ok(None)
+}
+
+/// What is said, where each look finds what it should.
+fn said(rt: &HostRuntime) -> Result<Vec<u8>, Fail> {
+    let mut said = Vec::new(rt.alloc());
+    let mut source = RowsFile::new(rt, PATH, &mut said);
+    let odd = first_odd(rt, &mut source)?;
+    source.refuse(OtherRealm);
+    match odd {
+        Some(_) => Err("an odd look")?,
+        None => Ok(said),
+    }
+}
+
+#[test]
+fn a_file_is_read_when_it_changes_and_its_faults_are_said_once(
+    rt: HostRuntime,
+) -> Result<(), Fail> {
+    replace(&rt, ROWS)?;
+    let said = said(&rt)?;
+    fs::remove_file(&rt, PATH)?;
+    assert!(rt; said.as_slice() == SAID.as_bytes());
+    Ok(())
+}
