@@ -1,0 +1,151 @@
+//! Messages over sockets (RFC 4120, section 7.2).
+ghost use Rattle.file_store.specs.Counting.{IsCounted};
+
+use crate::deadline::Deadline;
+use crate::stream::TimedStream;
+use kclient_run::{Exchange, Transport};
+use std::alloc::Global;
+use std::io;
+use std::io::{Error, ErrorKind, Read, Write};
+use std::net::{Ipv4Addr, Ipv6Addr, Net, SocketAddr, TcpStream, UdpSocket};
+use std::rt::Clock;
+
+/// The most octets of a reply over TCP. A longer one is an error, which is found before it is read.
+pub const LONGEST_REPLY: usize = 1_048_576;
+
+/// For how many seconds a reply to each datagram is waited for.
+const UDP_WAITS: [u64; 3] = [1, 2, 4];
+
+/// For how many seconds a connection is held.
+const TCP_WAIT: u64 = 8;
+
+/// The longest datagram.
+const LONGEST_DATAGRAM: usize = 65_535;
+
+/// The sockets and the clock that a runtime reaches. Each message has a socket of its own, which takes what its peer
+/// sends alone: so a reply from elsewhere, or a late one to an earlier message, is passed over.
+#[derive(Drop)]
+pub struct SocketExchange<'a, R> {
+    system: &'a R,
+    failures: u64,
+}
+
+impl<'a, R: Net + Clock> SocketExchange<'a, R> {
+    pub fn new(system: &'a R) -> SocketExchange<'a, R> {
+        SocketExchange {
+            system,
+            failures: 0,
+        }
+    }
+}
+
+impl<'a, R: Net + Clock> Exchange for SocketExchange<'a, R> {
+    ghost failure_count = { λ e. e.failures };
+
+    /// A datagram is sent three times, and its reply waited for 1, 2 and 4 seconds. A connection is held for 8 seconds.
+    fn exchange(
+        &mut self,
+        alloc: Global,
+        by: Transport,
+        to: SocketAddr,
+        message: &[u8],
+    ) -> io::Result<Vec<u8>> {
+        let found = match by {
+            Transport::Udp => by_datagrams(alloc, self.system, to, message),
+            Transport::Tcp => by_connection(alloc, self.system, to, message),
+        };
+        self.failures = counted(self.failures, &found);
+        found
+    }
+
+    fn failures(&self) -> u64 {
+        self.failures
+    }
+}
+
+/// The count after a message, which stops at the greatest `u64`.
+fn counted<T>(failures: u64, done: &io::Result<T>) -> u64
+    ensures { IsCounted failures done.now result }
+{
+    match done {
+        Ok(_) => failures,
+        Err(_) => failures.saturating_add(1),
+    }
+}
+
+fn by_datagrams<R: Net + Clock>(
+    alloc: Global,
+    system: &R,
+    to: SocketAddr,
+    message: &[u8],
+) -> io::Result<Vec<u8>> {
+    let socket = UdpSocket::bind(system, any_address(to))?;
+    socket.connect(to)?;
+    let mut datagram = Vec::from_elem(alloc, 0, LONGEST_DATAGRAM)?;
+    for seconds in UDP_WAITS {
+        socket.send(message)?;
+        let deadline = Deadline::after(system, seconds)?;
+        socket.set_read_timeout(Some(deadline.left(system)?))?;
+        match socket.recv(&mut datagram) {
+            Ok(len) => {
+                datagram.truncate(len);
+                return Ok(datagram);
+            }
+            Err(error) if is_silence(error.kind()) => {}
+            Err(error) => return Err(error),
+        }
+    }
+    Err(Error::from(ErrorKind::TimedOut))
+}
+
+/// Any address of this computer of the same kind.
+fn any_address(to: SocketAddr) -> SocketAddr {
+    match to {
+        SocketAddr::V4(_) => SocketAddr::from((Ipv4Addr::UNSPECIFIED, 0)),
+        SocketAddr::V6(_) => SocketAddr::from((Ipv6Addr::UNSPECIFIED, 0)),
+    }
+}
+
+/// Whether nothing came in time.
+fn is_silence(kind: ErrorKind) -> bool {
+    kind == ErrorKind::WouldBlock || kind == ErrorKind::TimedOut || kind == ErrorKind::Interrupted
+}
+
+fn by_connection<R: Net + Clock>(
+    alloc: Global,
+    system: &R,
+    to: SocketAddr,
+    message: &[u8],
+) -> io::Result<Vec<u8>> {
+    let deadline = Deadline::after(system, TCP_WAIT)?;
+    let stream = TcpStream::connect_timeout(system, &to, deadline.left(system)?)?;
+    let mut stream = TimedStream::new(stream, system, deadline);
+    send(alloc, &mut stream, message)?;
+    receive(alloc, &mut stream)
+}
+
+/// Sends a message behind its length, four octets (RFC 4120, section 7.2.2).
+fn send<W: Write>(alloc: Global, stream: &mut W, message: &[u8]) -> io::Result<()> {
+    let Ok(len) = u32::try_from(message.len()) else {
+        return Err(Error::from(ErrorKind::InvalidInput));
+    };
+    let mut framed = Vec::from_slice(alloc, &len.to_be_bytes())?;
+    framed.extend_from_slice(message)?;
+    stream.write_all(&framed)
+}
+
+/// Takes the message that stands behind its length.
+fn receive<S: Read>(alloc: Global, stream: &mut S) -> io::Result<Vec<u8>> {
+    let mut prefix = [0; 4];
+    stream.read_exact(&mut prefix)?;
+    let len = u32::from_be_bytes(prefix) as usize;
+    if len > LONGEST_REPLY {
+        return Err(Error::from(ErrorKind::InvalidData));
+    }
+    let mut reply = Vec::new(alloc);
+    stream.take(len as u64).read_to_end(&mut reply)?;
+    if reply.len() < len {
+        return Err(Error::from(ErrorKind::UnexpectedEof));
+    }
+    Ok(reply)
+}

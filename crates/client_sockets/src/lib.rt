@@ -1,0 +1,10 @@
+//! A client's messages over sockets of the system, and the moment that its clock shows.
+#![tactic(auto)]
+
+mod deadline;
+mod exchange;
+mod moment;
+mod stream;
+
+pub use exchange::{LONGEST_REPLY, SocketExchange};
+pub use moment::now;

@@ -1,0 +1,46 @@
+//! A connection that is given up at its deadline, however its peer sends.
+ghost use Rattle.std.specs.Io.{ReadsAtMost, WritesAtMost};
+
+use crate::deadline::Deadline;
+use std::io;
+use std::io::{Read, Write};
+use std::net::OpenStream;
+use std::rt::Clock;
+
+/// A connection, and when it is given up.
+#[derive(Drop)]
+pub(crate) struct TimedStream<'a, S, C> {
+    stream: S,
+    clock: &'a C,
+    deadline: Deadline,
+}
+
+impl<'a, S, C> TimedStream<'a, S, C> {
+    pub(crate) fn new(stream: S, clock: &'a C, deadline: Deadline) -> TimedStream<'a, S, C> {
+        TimedStream {
+            stream,
+            clock,
+            deadline,
+        }
+    }
+}
+
+impl<'a, S: Read + OpenStream, C: Clock> Read for TimedStream<'a, S, C> {
+    fn read(&mut self, buf: &mut [u8]) -> io::Result<usize> {
+        let left = self.deadline.left(self.clock)?;
+        self.stream.set_read_timeout(Some(left))?;
+        self.stream.read(buf)
+    }
+}
+
+impl<'a, S: Write + OpenStream, C: Clock> Write for TimedStream<'a, S, C> {
+    fn write(&mut self, buf: &[u8]) -> io::Result<usize> {
+        let left = self.deadline.left(self.clock)?;
+        self.stream.set_write_timeout(Some(left))?;
+        self.stream.write(buf)
+    }
+
+    fn flush(&mut self) -> io::Result<()> {
+        self.stream.flush()
+    }
+}

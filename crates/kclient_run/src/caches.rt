@@ -1,0 +1,65 @@
+//! Credentials go into a cache, and the cache into its file.
+ghost use Rattle.std.specs.Prelude.{◌≡◌, OnErr, OnOk};
+ghost use Rattle.cred_files.specs.Cache.{put_first};
+
+use crate::faults::{Place, Reason, Stop};
+use crate::files::of;
+use cred_files::{Cache, Credential};
+use file_store::{Store, read_file, write_file};
+use std::alloc::Global;
+
+/// Makes a new cache of the credential's client, with the credential.
+#[tactic(auto, unfolding(cred_files::specs::Cache::cache_head))]
+fn make_cache(alloc: Global, credential: &Credential) -> Result<Cache, Stop> {
+    if !credential.has_room() {
+        return Err(Stop::Refused(Reason::BadEntry, Place::Cache));
+    }
+    let client = &credential.client;
+    let mut cache = Cache::new(alloc, client.realm.as_slice(), &client.name)?;
+    cache.put(alloc, credential)?;
+    Ok(cache)
+}
+
+/// Puts a credential into a cache.
+pub(crate) fn put(alloc: Global, cache: &mut Cache, credential: &Credential) -> Result<(), Stop>
+    ensures ok { OnOk result (cache.new ≡ record cache.old { credentials = put_first credential.now cache.old.credentials }) }
+    ensures err { OnErr result (cache.new ≡ cache.old) }
+{
+    if !credential.has_room() {
+        return Err(Stop::Refused(Reason::BadEntry, Place::Cache));
+    }
+    Ok(cache.put(alloc, credential)?)
+}
+
+/// Writes a new cache of the credential's client, with the credential.
+pub(crate) fn write_new_cache<T: Store>(
+    alloc: Global,
+    store: &mut T,
+    path: &str,
+    credential: &Credential,
+) -> Result<(), Stop> {
+    let cache = make_cache(alloc, credential)?;
+    write_cache(alloc, store, path, &cache)
+}
+
+pub(crate) fn read_cache<T: Store>(
+    alloc: Global,
+    store: &mut T,
+    path: &str,
+) -> Result<Cache, Stop> {
+    let octets = of(read_file(alloc, store, path), Place::Cache)?;
+    match Cache::read(alloc, &octets) {
+        Ok(cache) => Ok(cache),
+        Err(fault) => Err(Stop::from(fault)),
+    }
+}
+
+pub(crate) fn write_cache<T: Store>(
+    alloc: Global,
+    store: &mut T,
+    path: &str,
+    cache: &Cache,
+) -> Result<(), Stop> {
+    let octets = cache.write(alloc)?;
+    of(write_file(alloc, store, path, &octets), Place::Cache)
+}

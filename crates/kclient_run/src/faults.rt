@@ -1,0 +1,149 @@
+//! Why a command ends before it is done.
+use client_core::ClientFault;
+use cred_files::FileFault;
+use krb_fields::NameFault;
+use std::alloc::{AllocError, AllocFailed};
+use std::io;
+use std::io::ErrorKind;
+
+/// Of what a fault is: a word of the command line, a file, the KDC, or the memory of the program.
+#[derive(Clone, Copy, Debug, PartialEq, Eq)]
+pub(crate) enum Place {
+    Realm,
+    Name,
+    Password,
+    Cache,
+    Seed,
+    Kdc,
+    Memory,
+}
+
+/// Why a command is refused.
+#[derive(Clone, Copy, Debug, PartialEq, Eq)]
+pub(crate) enum Reason {
+    BadName,
+    LongFile,
+    LongPassword,
+    ShortSeed,
+    BadMagic,
+    Truncated,
+    BadEntry,
+    TooLate,
+    Absent,
+    NotAReply,
+    Mismatch,
+    CannotOpen,
+    CountTooLarge,
+}
+
+/// Why a command ends before it is done.
+#[derive(Clone, Copy, Debug)]
+pub(crate) enum Stop {
+    Refused(Reason, Place),
+    /// By the KDC, with the code of its KRB-ERROR.
+    Error(i32),
+    Failed(io::Error, Place),
+}
+
+impl Stop {
+    /// Of what it is.
+    pub(crate) fn place(self) -> Place {
+        match self {
+            Stop::Refused(_, place) | Stop::Failed(_, place) => place,
+            Stop::Error(_) => Place::Kdc,
+        }
+    }
+}
+
+impl Reason {
+    /// The word for it on standard output.
+    pub(crate) fn name(self) -> &'static str {
+        match self {
+            Reason::BadName => "BadName",
+            Reason::LongFile => "LongFile",
+            Reason::LongPassword => "LongPassword",
+            Reason::ShortSeed => "ShortSeed",
+            Reason::BadMagic => "BadMagic",
+            Reason::Truncated => "Truncated",
+            Reason::BadEntry => "BadEntry",
+            Reason::TooLate => "TooLate",
+            Reason::Absent => "Absent",
+            Reason::NotAReply => "NotAReply",
+            Reason::Mismatch => "Mismatch",
+            Reason::CannotOpen => "CannotOpen",
+            Reason::CountTooLarge => "CountTooLarge",
+        }
+    }
+
+    /// What it means, for standard error.
+    pub(crate) fn text(self) -> &'static str {
+        match self {
+            Reason::BadName => "no name is written so",
+            Reason::LongFile => "the file has more than 16777216 octets",
+            Reason::LongPassword => "the password has more than 1024 octets",
+            Reason::ShortSeed => "a seed has 32 octets",
+            Reason::BadMagic => "the file is no credential cache of version 4",
+            Reason::Truncated => "the file ends too early",
+            Reason::BadEntry => "the credential has no room in a cache",
+            Reason::TooLate => "a cache has no room for a time after the year 2106",
+            Reason::Absent => "no usable ticket for tickets of the realm is there; kinit gets one",
+            Reason::NotAReply => "what came back is no reply of a KDC",
+            Reason::Mismatch =>
+                "the reply has another client, nonce, service or time than was asked",
+            Reason::CannotOpen =>
+                "the key does not open the reply: the password is another, or the KDC",
+            Reason::CountTooLarge =>
+                "the KDC asks for more iterations of string-to-key than 1048576, or none",
+        }
+    }
+}
+
+fn out_of_memory() -> Stop {
+    Stop::Failed(io::Error::from(ErrorKind::OutOfMemory), Place::Memory)
+}
+
+impl From<AllocError> for Stop {
+    fn from(_: AllocError) -> Stop {
+        out_of_memory()
+    }
+}
+
+impl<T: Drop> From<AllocFailed<T>> for Stop {
+    fn from(_: AllocFailed<T>) -> Stop {
+        out_of_memory()
+    }
+}
+
+impl From<FileFault> for Stop {
+    fn from(fault: FileFault) -> Stop {
+        match fault {
+            FileFault::BadMagic => Stop::Refused(Reason::BadMagic, Place::Cache),
+            FileFault::Truncated => Stop::Refused(Reason::Truncated, Place::Cache),
+            FileFault::BadEntry => Stop::Refused(Reason::BadEntry, Place::Cache),
+            FileFault::TooLate => Stop::Refused(Reason::TooLate, Place::Cache),
+            FileFault::Absent => Stop::Refused(Reason::Absent, Place::Cache),
+            FileFault::Memory => out_of_memory(),
+        }
+    }
+}
+
+impl From<ClientFault> for Stop {
+    fn from(fault: ClientFault) -> Stop {
+        match fault {
+            ClientFault::NotAReply => Stop::Refused(Reason::NotAReply, Place::Kdc),
+            ClientFault::Refused(refusal) => Stop::Error(refusal.code),
+            ClientFault::Mismatch(_) => Stop::Refused(Reason::Mismatch, Place::Kdc),
+            ClientFault::CannotOpen => Stop::Refused(Reason::CannotOpen, Place::Kdc),
+            ClientFault::CountTooLarge => Stop::Refused(Reason::CountTooLarge, Place::Kdc),
+            ClientFault::Memory => out_of_memory(),
+        }
+    }
+}
+
+/// A word that is no name.
+pub(crate) fn of_name(fault: NameFault, place: Place) -> Stop {
+    match fault {
+        NameFault::BadName => Stop::Refused(Reason::BadName, place),
+        NameFault::Memory => out_of_memory(),
+    }
+}
