@@ -1,7 +1,8 @@
 //! The administrator's tool: `kadm SUB --db FILE ..`, as `kadm --help` lists them.
 #![tactic(auto)]
 
-use kadm_run::{FAILED, FileStore, kadm_run};
+use file_store::FileStore;
+use kadm_run::{FAILED, kadm_run};
 use std::process::ExitCode;
 use std::{env, io};
 

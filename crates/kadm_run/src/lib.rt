@@ -3,13 +3,9 @@
 //! `kadm_run` takes the words of one command line and does what they say to the files of a `Store`.
 #![tactic(auto)]
 
-mod file_store;
 mod keys;
 mod order;
 mod run;
-mod store;
 
-pub use file_store::FileStore;
 pub use keys::{password_keys, random_keys};
 pub use run::{DONE, FAILED, REFUSED, USAGE, kadm_run};
-pub use store::{LONGEST_FILE, Store};

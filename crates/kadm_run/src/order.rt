@@ -1,6 +1,7 @@
 //! The words of a command line, and what they order.
 use clap::error::Error;
-use clap::{Arg, ArgAction, ArgMatches, Command};
+use clap::{ArgMatches, Command};
+use command_options::{OptionWords, with_options};
 use std::alloc::{AllocError, Global};
 use std::convert::AsStr;
 use text_fields::{Setting, number_u32};
@@ -67,11 +68,11 @@ memory, failed. A faulty command line has status 2.
 Names are components joined by `/`. Octets but 21 to 7e, and `/`, `\\` and `@` inside a component, are written `\\` and two
 lower case hexadecimal digits.";
 
-const FIELD: &str = "\
+const FIELDS: &str = "\
 disabled, preauth, forwardable, proxiable, postdate, ok_as_delegate; expires, password_expires, revoked_before; \
 greatest_life, greatest_renewable";
 
-const VALUE: &str = "\
+const VALUES: &str = "\
 true or false; a second since 1970, or never; seconds";
 
 /// Reads the words, the program's name in front.
@@ -144,33 +145,72 @@ fn policy_task<'a>(name: &'a str, words: &ArgMatches<'a>) -> Option<Task<'a>> {
     Some(Task::Policy { name, field, value })
 }
 
-/// An option that has to be there: its name, what stands for its value, and what that is.
-type Asked = (&'static str, &'static str, &'static str);
+const DB: OptionWords = OptionWords {
+    name: "db",
+    shape: "FILE",
+    help: "The database of the realm",
+};
 
-const DB: Asked = ("db", "FILE", "The database of the realm");
+const REALM: OptionWords = OptionWords {
+    name: "realm",
+    shape: "REALM",
+    help: "The realm's name",
+};
 
-const NAME: Asked = ("name", "NAME", "The principal's name, without its realm");
+const REALM_SEED: OptionWords = OptionWords {
+    name: "seed",
+    shape: "FILE",
+    help: "32 random octets, for the keys of krbtgt/REALM alone",
+};
 
-const PASSWORD: Asked = (
-    "password-file",
-    "FILE",
-    "The password is the first line, without its line feed: at most 1,024 octets",
-);
+const NAME: OptionWords = OptionWords {
+    name: "name",
+    shape: "NAME",
+    help: "The principal's name, without its realm",
+};
 
-/// Each subcommand: its name, what it does, and its options.
-const SUBCOMMANDS: &[(&str, &str, &[Asked])] = &[
+const PASSWORD: OptionWords = OptionWords {
+    name: "password-file",
+    shape: "FILE",
+    help: "The password is the first line, without its line feed: at most 1,024 octets",
+};
+
+const SEED: OptionWords = OptionWords {
+    name: "seed",
+    shape: "FILE",
+    help: "32 random octets, for these keys alone",
+};
+
+const VERSION: OptionWords = OptionWords {
+    name: "version",
+    shape: "N",
+    help: "The version's number",
+};
+
+const FIELD: OptionWords = OptionWords {
+    name: "field",
+    shape: "FIELD",
+    help: FIELDS,
+};
+
+const VALUE: OptionWords = OptionWords {
+    name: "value",
+    shape: "VALUE",
+    help: VALUES,
+};
+
+const OUT: OptionWords = OptionWords {
+    name: "out",
+    shape: "FILE",
+    help: "The keytab; a file that is there is replaced",
+};
+
+/// Each subcommand: its name, what it does, and its options, which all have to be there.
+const SUBCOMMANDS: &[(&str, &str, &[OptionWords])] = &[
     (
         "init",
         "Makes the database of a new realm, where there is no file yet",
-        &[
-            DB,
-            ("realm", "REALM", "The realm's name"),
-            (
-                "seed",
-                "FILE",
-                "32 random octets, for the keys of krbtgt/REALM alone",
-            ),
-        ],
+        &[DB, REALM, REALM_SEED],
     ),
     (
         "add",
@@ -185,26 +225,17 @@ const SUBCOMMANDS: &[(&str, &str, &[Asked])] = &[
     (
         "random",
         "Gives a principal random keys; adds it where it is not there",
-        &[
-            DB,
-            NAME,
-            ("seed", "FILE", "32 random octets, for these keys alone"),
-        ],
+        &[DB, NAME, SEED],
     ),
     (
         "drop",
         "Drops the keys of an old version",
-        &[DB, NAME, ("version", "N", "The version's number")],
+        &[DB, NAME, VERSION],
     ),
     (
         "policy",
         "Sets a field of a principal's policy",
-        &[
-            DB,
-            NAME,
-            ("field", "FIELD", FIELD),
-            ("value", "VALUE", VALUE),
-        ],
+        &[DB, NAME, FIELD, VALUE],
     ),
     ("remove", "Removes a principal", &[DB, NAME]),
     (
@@ -215,15 +246,7 @@ const SUBCOMMANDS: &[(&str, &str, &[Asked])] = &[
     (
         "keytab",
         "Writes a keytab of a principal's current keys",
-        &[
-            DB,
-            NAME,
-            (
-                "out",
-                "FILE",
-                "The keytab; a file that is there is replaced",
-            ),
-        ],
+        &[DB, NAME, OUT],
     ),
     (
         "migrate",
@@ -242,24 +265,4 @@ fn kadm<'a>(alloc: Global) -> Result<Command<'a>, AllocError> {
         kadm = kadm.subcommand(with_options(alloc, subcommand, options)?)?;
     }
     Ok(kadm)
-}
-
-fn with_options<'a>(
-    alloc: Global,
-    mut command: Command<'a>,
-    options: &[Asked],
-) -> Result<Command<'a>, AllocError> {
-    for (name, shape, help) in options {
-        command = command.arg(option(alloc, name, shape, help))?;
-    }
-    Ok(command)
-}
-
-fn option<'a>(alloc: Global, name: &'a str, shape: &'a str, help: &'a str) -> Arg<'a> {
-    Arg::new(alloc, name)
-        .long(name)
-        .value_name(shape)
-        .action(ArgAction::Set)
-        .required(true)
-        .help(help)
 }

@@ -3,9 +3,9 @@ ghost use Rattle.std.specs.Prelude.{◌≡◌, ◌⊎◌};
 
 use crate::keys::{password_keys, random_keys};
 use crate::order::{Order, Task, read_order, read_words};
-use crate::store::{LONGEST_FILE, Store};
 use clap::error::ErrorKind;
-use cred_files::{FileFault, Keytab, KeytabEntry};
+use cred_files::{Keytab, KeytabEntry};
+use file_store::{FileFault, Store, has_file, read_file, read_password, read_seed, write_file};
 use krb_elements::KerberosString;
 use krb_fields::{Name, NameFault, component_from_text};
 use principal_rows::{KeyList, Row};
@@ -27,12 +27,6 @@ pub const USAGE: u8 = 2;
 
 /// The status of a command that a file, or want of memory, failed.
 pub const FAILED: u8 = 3;
-
-/// How many octets of a seed file count.
-const SEED_LEN: usize = 32;
-
-/// The most octets of a password.
-const LONGEST_PASSWORD: usize = 1_024;
 
 /// Why a command ends before it is done.
 #[derive(Clone, Copy, Debug, PartialEq, Eq)]
@@ -101,11 +95,20 @@ impl From<FirstFault> for Stop {
 }
 
 /// A keytab that is written has no fault but want of room or memory.
-impl From<FileFault> for Stop {
-    fn from(fault: FileFault) -> Stop {
+impl From<cred_files::FileFault> for Stop {
+    fn from(fault: cred_files::FileFault) -> Stop {
         match fault {
-            FileFault::BadEntry => Stop::Refused("BadEntry"),
+            cred_files::FileFault::BadEntry => Stop::Refused("BadEntry"),
             _ => Stop::Failed,
+        }
+    }
+}
+
+impl From<FileFault<'_>> for Stop {
+    fn from(fault: FileFault<'_>) -> Stop {
+        match fault.amiss.refusal() {
+            Some(word) => Stop::Refused(word),
+            None => Stop::Failed,
         }
     }
 }
@@ -273,7 +276,7 @@ fn make_realm<T: Store>(
     seed: &str,
 ) -> Result<(), Stop> {
     let realm = component_from_text(alloc, realm)?;
-    if store.exists(db)? {
+    if has_file(store, db)? {
         return Err(Stop::Refused("Exists"));
     }
     let keys = random_keys(alloc, read_seed(alloc, store, seed)?)?;
@@ -372,7 +375,7 @@ fn write_keytab<T: Store>(
     let name = Name::from_text(alloc, name)?;
     let database = read_database(alloc, store, db)?;
     let octets = keytab_of(alloc, &database, &name)?;
-    store.write(alloc, path, &octets)?;
+    write_file(alloc, store, path, &octets)?;
     Ok(())
 }
 
@@ -424,7 +427,7 @@ fn write_database<T: Store>(
     database: &Database,
 ) -> Result<(), Stop> {
     let text = database.write(alloc)?;
-    store.write(alloc, db, text.as_bytes())?;
+    write_file(alloc, store, db, text.as_bytes())?;
     Ok(())
 }
 
@@ -436,15 +439,6 @@ fn read_database<T: Store>(alloc: Global, store: &mut T, db: &str) -> Result<Dat
     Ok(Database::read(alloc, text)?)
 }
 
-/// The first 32 octets of a file.
-fn read_seed<T: Store>(alloc: Global, store: &mut T, path: &str) -> Result<[u8; 32], Stop> {
-    let octets = read_file(alloc, store, path)?;
-    match octets.first_chunk::<SEED_LEN>() {
-        Some(seed) => Ok(*seed),
-        None => Err(Stop::Refused("ShortSeed")),
-    }
-}
-
 /// The keys of the password in a file, with the principal's default salt.
 fn keys_of_password<T: Store>(
     alloc: Global,
@@ -453,26 +447,7 @@ fn keys_of_password<T: Store>(
     name: &Name,
     realm: &[u8],
 ) -> Result<KeyList, Stop> {
-    let octets = read_file(alloc, store, path)?;
-    let pass = first_line(&octets);
-    if pass.len() > LONGEST_PASSWORD {
-        return Err(Stop::Refused("LongPassword"));
-    }
+    let pass = read_password(alloc, store, path)?;
     let salt = name.salt(alloc, realm)?;
-    Ok(password_keys(alloc, pass, salt.as_slice())?)
-}
-
-/// What stands before the first line feed.
-fn first_line(octets: &[u8]) -> &[u8] {
-    match octets.iter().position(|octet| *octet == b'\n') {
-        Some(end) => octets.split_at(end).0,
-        None => octets,
-    }
-}
-
-fn read_file<T: Store>(alloc: Global, store: &mut T, path: &str) -> Result<Vec<u8>, Stop> {
-    match store.read(alloc, path, LONGEST_FILE)? {
-        Some(octets) => Ok(octets),
-        None => Err(Stop::Refused("LongFile")),
-    }
+    Ok(password_keys(alloc, &pass, salt.as_slice())?)
 }

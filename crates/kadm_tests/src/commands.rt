@@ -1,93 +1,12 @@
 //! Command lines over files in memory.
 use cred_files::Keytab;
 use enctypes::Etype;
-use kadm_run::{
-    DONE, FAILED, LONGEST_FILE, REFUSED, Store, USAGE, kadm_run, password_keys, random_keys,
-};
+use file_store::{LONGEST_FILE, MemoryStore};
+use kadm_run::{DONE, FAILED, REFUSED, USAGE, kadm_run, password_keys, random_keys};
 use krb_fields::Name;
-use std::alloc::Global;
 use std::io;
-use std::io::{Error, ErrorKind};
 use std::process::Abort;
 use std::test::Fail;
-
-/// A file in memory.
-#[derive(Drop)]
-struct StoredFile {
-    path: String,
-    octets: Vec<u8>,
-}
-
-/// Files in memory. The call of this number, from 1 on, fails.
-#[derive(Drop)]
-struct MemoryStore {
-    files: Vec<StoredFile>,
-    calls: u32,
-    failing: u32,
-}
-
-impl MemoryStore {
-    fn new(alloc: Global) -> MemoryStore {
-        MemoryStore {
-            files: Vec::new(alloc),
-            calls: 0,
-            failing: 0,
-        }
-    }
-
-    fn call(&mut self) -> io::Result<()> {
-        self.calls = self.calls.wrapping_add(1);
-        if self.calls == self.failing {
-            return Err(Error::from(ErrorKind::PermissionDenied));
-        }
-        Ok(())
-    }
-
-    fn get(&self, path: &str) -> Option<&[u8]> {
-        for file in &self.files {
-            if file.path.as_str() == path {
-                return Some(file.octets.as_slice());
-            }
-        }
-        None
-    }
-
-    fn set(&mut self, alloc: Global, path: &str, octets: &[u8]) -> io::Result<()> {
-        let octets = Vec::from_slice(alloc, octets)?;
-        for file in &mut self.files {
-            if file.path.as_str() == path {
-                file.octets = octets;
-                return Ok(());
-            }
-        }
-        self.files.push(StoredFile {
-            path: format!(in alloc; "{path}")?,
-            octets,
-        })?;
-        Ok(())
-    }
-}
-
-impl Store for MemoryStore {
-    fn exists(&mut self, path: &str) -> io::Result<bool> {
-        self.call()?;
-        Ok(self.get(path).is_some())
-    }
-
-    fn read(&mut self, alloc: Global, path: &str, most: usize) -> io::Result<Option<Vec<u8>>> {
-        self.call()?;
-        match self.get(path) {
-            Some(octets) if octets.len() > most => Ok(None),
-            Some(octets) => Ok(Some(Vec::from_slice(alloc, octets)?)),
-            None => Err(Error::from(ErrorKind::NotFound)),
-        }
-    }
-
-    fn write(&mut self, alloc: Global, path: &str, octets: &[u8]) -> io::Result<()> {
-        self.call()?;
-        self.set(alloc, path, octets)
-    }
-}
 
 /// A store with a seed of 32 octets, a short one, and two passwords, the second too long.
 fn store(rt: &impl AllocGlobal) -> io::Result<MemoryStore> {
@@ -329,8 +248,7 @@ fn a_failed_call_of_the_store_leaves_the_files(rt: HostRuntime) -> io::Result<()
     let before = Vec::from_slice(rt.alloc(), store.get("db").unwrap_or(&[]))?;
     for (line, calls) in CALLS {
         for failing in 0..calls {
-            store.calls = 0;
-            store.failing = failing.wrapping_add(1);
+            store.fail_at(failing.wrapping_add(1));
             expect_run(&rt, &mut store, line, "failed\n", FAILED)?;
             assert!(&rt; store.get("db") == Some(before.as_slice()), "{line}");
         }
