@@ -119,6 +119,10 @@ pub octets-word : (a b c d : ℕ) → a < 256 → b < 256 → c < 256 → d < 25
 unfolding word
 octets-word a b c d ha hb hc hd = four _ _ _ _ a b c d (omega arith) (omega arith) (omega arith) (omega arith)
 
+pub word_is : (a b c d : ℕ) → ((a * 256 + b) * 256 + c) * 256 + d ≡ word a b c d
+unfolding word
+word_is a b c d = refl
+
 pub word-octets : (n : ℕ) → n < 2 ^ 32
     → n ≡ word (get_or (to_be_bytes w32 n) 0 0) (get_or (to_be_bytes w32 n) 1 0) (get_or (to_be_bytes w32 n) 2 0)
     (get_or (to_be_bytes w32 n) 3 0)
@@ -328,14 +332,6 @@ pub added_is : (s k : List ℕ) (a b c d : ℕ) → length s ≡ 4 → length k 
 unfolding add_round_key
 added_is s k a b c d hs hk ea eb ec ed =
     on_cells (λ s k. add_round_key (octets s) (octets k)) s k _ hs hk (columns_join _ _ _ _ _ _ _ _ ea eb ec ed)
-
--- a word from its octets, added to another
-pub added_bytes : (a b c d n : ℕ) → a < 256 → b < 256 → c < 256 → d < 256 → n < 2 ^ 32
-    → to_be_bytes w32 (bit_xor (from_be_bytes w32 (a ∷ b ∷ c ∷ d ∷ [])) n) ≡ added_cells (to_be_bytes w32 n) a b c d
-unfolding word
-added_bytes a b c d n ha hb hc hd hn =
-    let same : from_be_bytes w32 (a ∷ b ∷ c ∷ d ∷ []) ≡ word a b c d = omega arith in
-    ap (λ (m : ℕ). to_be_bytes w32 (bit_xor m n)) same ∙ octets-xor a b c d n ha hb hc hd hn
 
 -- the octets of a word made of octets
 pub bytes_back : (a b c d : ℕ) → a < 256 → b < 256 → c < 256 → d < 256

@@ -8,7 +8,9 @@ use crate::words::{add_round_key, inverse_round, last_inverse_round, last_round,
 
 /// Cipher, in place, with 10 or 14 rounds: one, then by fours, then the last.
 // The rounds are written out: as a loop they take a fifth more instructions, for words that change
-// their registers at its end.
+// their registers at its end. And they stand in each loop over blocks, so that the words of a block stay
+// in registers.
+#[inline(always)]
 pub fn cipher(state: &mut [u32; 4], schedule: &[u32], round_count: usize)
     requires some { 10 ≤ round_count }
     requires few { round_count < 15 }
@@ -42,6 +44,7 @@ fn four_rounds<const DONE: usize>(state: &mut [u32; 4], schedule: &[u32])
 
 /// EqInvCipher, in place, with 10 or 14 rounds, under a schedule for deciphering. The rounds stand as
 /// in `cipher`.
+#[inline(always)]
 pub fn inverse_cipher(state: &mut [u32; 4], schedule: &[u32], round_count: usize)
     requires some { 10 ≤ round_count }
     requires few { round_count < 15 }

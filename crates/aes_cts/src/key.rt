@@ -64,14 +64,19 @@ impl AesKey {
         ensures inverse { aes_inverse self.now result ≡ block.now }
         ensures permutes { PermutesBlocks self.now }
     {
-        let mut enciphered = words_of(block);
+        let mut state = words_of(block);
+        self.encipher(&mut state);
+        octets_of(&state)
+    }
+
+    // Enciphers the block that has these words.
+    #[inline(always)]
+    pub(crate) fn encipher(&self, state: &mut [u32; 4])
+        ensures value { octets state.new ≡ aes self.now (octets state.old) }
+        ensures permutes { PermutesBlocks self.now }
+    {
         let round_count = self.key_words + 6;
-        cipher(
-            &mut enciphered,
-            &self.schedule[..4 * (round_count + 1)],
-            round_count,
-        );
-        octets_of(&enciphered)
+        cipher(state, &self.schedule[..4 * (round_count + 1)], round_count);
     }
 
     /// The block deciphered (FIPS 197, section 5.3).
@@ -97,13 +102,23 @@ impl AesKey {
         ensures inverse { aes self.now result ≡ block.now }
         ensures permutes { PermutesBlocks self.now }
     {
-        let mut deciphered = words_of(block);
+        let mut state = words_of(block);
+        self.decipher(inverse_schedule, &mut state);
+        octets_of(&state)
+    }
+
+    // Deciphers the block that has these words under the schedule for that.
+    #[inline(always)]
+    pub(crate) fn decipher(&self, inverse_schedule: &[u32; 60], state: &mut [u32; 4])
+        requires { IsInverseSchedule (key_expansion self.now) (octets inverse_schedule.now) (nr_of self.now) }
+        ensures value { octets state.new ≡ aes_inverse self.now (octets state.old) }
+        ensures permutes { PermutesBlocks self.now }
+    {
         let round_count = self.key_words + 6;
         inverse_cipher(
-            &mut deciphered,
+            state,
             &inverse_schedule[..4 * (round_count + 1)],
             round_count,
         );
-        octets_of(&deciphered)
     }
 }

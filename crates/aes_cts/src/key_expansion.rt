@@ -1,6 +1,6 @@
 //! The key expansion of FIPS 197, section 5.2.
 
-ghost use Rattle.std.specs.Prelude.{◌≡◌, ◌≤◌, ◌<◌, ◌+◌, ◌*◌, length, take, drop};
+ghost use Rattle.std.specs.Prelude.{◌≡◌, ◌≤◌, ◌<◌, ◌+◌, ◌*◌, length, take};
 ghost use Rattle.aes_cts.specs.Cipher.{IsInverseSchedule};
 ghost use Rattle.aes_cts.specs.Field.{power_of_x};
 ghost use Rattle.aes_cts.specs.KeyExpansion.{key_expansion, nr_of, passed_on};
@@ -8,7 +8,7 @@ ghost use Rattle.aes_cts.specs.Words.{octets};
 ghost use Rattle.std.specs.Int.{w32, to_be_bytes};
 
 use crate::s_box::substitute;
-use crate::words::{added, unmixed};
+use crate::words::{added, unmixed, word_at, word_of};
 
 // The powers of x in the field, from x^0 on: the first octets of the round constants.
 const POWERS_OF_X: [u8; 14] = [
@@ -32,9 +32,9 @@ fn passed_on<const N: usize>(word: u32, i: usize) -> u32
     let [a, b, c, d] = word.to_be_bytes();
     if i % N == 0 {
         let first = substitute(b) ^ power_of_x(i / N - 1);
-        u32::from_be_bytes([first, substitute(c), substitute(d), substitute(a)])
+        word_of(first, substitute(c), substitute(d), substitute(a))
     } else if N > 6 && i % N == 4 {
-        u32::from_be_bytes([substitute(a), substitute(b), substitute(c), substitute(d)])
+        word_of(substitute(a), substitute(b), substitute(c), substitute(d))
     } else {
         word
     }
@@ -69,14 +69,6 @@ fn key_words<const N: usize>(key: &[u8]) -> [u32; 60]
         words[i] = word_at(key, 4 * i);
     }
     words
-}
-
-// The word of the four octets from a place on.
-fn word_at(octets: &[u8], at: usize) -> u32
-    requires { at + 4 ≤ length octets.now }
-    ensures { to_be_bytes w32 result ≡ take 4 (drop at octets.now) }
-{
-    u32::from_be_bytes([octets[at], octets[at + 1], octets[at + 2], octets[at + 3]])
 }
 
 /// The schedule for deciphering: each round key but the first and the last goes through InvMixColumns

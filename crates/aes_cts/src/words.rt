@@ -3,14 +3,15 @@
 //! column's first row. The matrices are circulant, so that the same word turned right by a whole octet
 //! serves each further row; it stands there twice over, in 64 bits, so that a shift turns it.
 
-ghost use Rattle.std.specs.Prelude.{◌≡◌, ◌<◌, ◌+◌, ◌-◌, ◌↔◌, IsSome, IfSome};
+ghost use Rattle.std.specs.Prelude.{◌≡◌, ◌<◌, ◌≤◌, ◌+◌, ◌-◌, ◌↔◌, ◌++◌, IsSome, IfSome, take, drop};
 ghost use Rattle.std.specs.Prelude.{[], ◌∷◌, length, bit_xor, slice_index, if◌then◌else◌, nat_lt};
 ghost use Rattle.std.specs.Int.{w32, to_be_bytes};
 ghost use Rattle.aes_cts.specs.SBox.{s_box, inverse_s_box};
 ghost use Rattle.aes_cts.specs.State.{row_times, sub_bytes, shift_rows, mix_columns};
 ghost use Rattle.aes_cts.specs.State.{add_round_key, inverse_sub_bytes, inverse_shift_rows, inverse_mix_columns};
-ghost use Rattle.aes_cts.specs.Words.{octets, mix_column, inverse_mix_column, turned_column, turned_by};
+ghost use Rattle.aes_cts.specs.Words.{octets, word, mix_column, inverse_mix_column, turned_column, turned_by};
 ghost use Rattle.aes_cts.specs.Words.{mixed_cells, added_cells, added_word, unmixed_cells};
+ghost use Rattle.aes_cts.specs.Cts.{xor_blocks};
 
 use crate::column_words::{COLUMNS, INVERSE_COLUMNS};
 use crate::s_box::{inverse_substitute, substitute};
@@ -172,8 +173,7 @@ fn substituted_column(key: u32, a: u8, b: u8, c: u8, d: u8) -> u32
     ensures { to_be_bytes w32 result
         ≡ added_cells (to_be_bytes w32 key) (s_box a) (s_box b) (s_box c) (s_box d) }
 {
-    let column = [substitute(a), substitute(b), substitute(c), substitute(d)];
-    u32::from_be_bytes(column) ^ key
+    word_of(substitute(a), substitute(b), substitute(c), substitute(d)) ^ key
 }
 
 // InvSubBytes on the column (a, b, c, d), and the sum with the key's word.
@@ -181,13 +181,12 @@ fn inverse_substituted_column(key: u32, a: u8, b: u8, c: u8, d: u8) -> u32
     ensures { to_be_bytes w32 result ≡ added_cells (to_be_bytes w32 key)
         (inverse_s_box a) (inverse_s_box b) (inverse_s_box c) (inverse_s_box d) }
 {
-    let column = [
+    word_of(
         inverse_substitute(a),
         inverse_substitute(b),
         inverse_substitute(c),
         inverse_substitute(d),
-    ];
-    u32::from_be_bytes(column) ^ key
+    ) ^ key
 }
 
 /// InvMixColumns on one column.
@@ -205,34 +204,48 @@ pub fn unmixed(column: u32) -> u32
     )
 }
 
+/// The word of four octets.
+// A sum and no array: of an array that comes from a table the compiler makes a vector, and then of the whole state.
+pub fn word_of(a: u8, b: u8, c: u8, d: u8) -> u32
+    ensures word { result ≡ word a b c d }
+    ensures octets { to_be_bytes w32 result ≡ a ∷ b ∷ c ∷ d ∷ [] }
+{
+    ((u32::from(a) * 256 + u32::from(b)) * 256 + u32::from(c)) * 256 + u32::from(d)
+}
+
+/// The word of the four octets from a place on.
+pub fn word_at(text: &[u8], at: usize) -> u32
+    requires { at + 4 ≤ length text.now }
+    ensures { to_be_bytes w32 result ≡ take 4 (drop at text.now) }
+{
+    u32::from_be_bytes([text[at], text[at + 1], text[at + 2], text[at + 3]])
+}
+
+/// The words of the block that begins at a place.
+pub fn words_at(text: &[u8], at: usize) -> [u32; 4]
+    requires { at + 16 ≤ length text.now }
+    ensures { octets result ≡ take 16 (drop at text.now) }
+{
+    [
+        word_at(text, at),
+        word_at(text, at + 4),
+        word_at(text, at + 8),
+        word_at(text, at + 12),
+    ]
+}
+
 /// The words of a block.
 pub fn words_of(block: &[u8; 16]) -> [u32; 4]
     ensures { octets result ≡ block.now }
 {
-    let [
-        a0,
-        a1,
-        a2,
-        a3,
-        b0,
-        b1,
-        b2,
-        b3,
-        c0,
-        c1,
-        c2,
-        c3,
-        d0,
-        d1,
-        d2,
-        d3,
-    ] = *block;
-    [
-        u32::from_be_bytes([a0, a1, a2, a3]),
-        u32::from_be_bytes([b0, b1, b2, b3]),
-        u32::from_be_bytes([c0, c1, c2, c3]),
-        u32::from_be_bytes([d0, d1, d2, d3]),
-    ]
+    words_at(block, 0)
+}
+
+// The octets of two words. Four words that are written one by one would become a vector first (see `word_of`).
+fn octets_of_two(a: u32, b: u32) -> [u8; 8]
+    ensures { result ≡ to_be_bytes w32 a ++ to_be_bytes w32 b }
+{
+    (u64::from(a) * 0x1_0000_0000 + u64::from(b)).to_be_bytes()
 }
 
 /// The octets of four words.
@@ -241,9 +254,16 @@ pub fn octets_of(words: &[u32; 4]) -> [u8; 16]
 {
     let [a, b, c, d] = *words;
     let mut octets = [0; 16];
-    octets[..4].copy_from_slice(&a.to_be_bytes());
-    octets[4..8].copy_from_slice(&b.to_be_bytes());
-    octets[8..12].copy_from_slice(&c.to_be_bytes());
-    octets[12..].copy_from_slice(&d.to_be_bytes());
+    octets[..8].copy_from_slice(&octets_of_two(a, b));
+    octets[8..].copy_from_slice(&octets_of_two(c, d));
     octets
+}
+
+/// The sum of two blocks in the field.
+pub fn sum_of(a: &[u32; 4], b: &[u32; 4]) -> [u32; 4]
+    ensures { octets result ≡ xor_blocks (octets a.now) (octets b.now) }
+{
+    let mut sum = *a;
+    add_round_key(&mut sum, b);
+    sum
 }

@@ -6,13 +6,9 @@ use Rattle.aes_cts.proofs.words.octets_of.Goals as goal
 pub returns : goal.returns
 returns c =
     rw (
-      c.copy_from_slice-4.ensures.after,
-      c.copy_from_slice-3.ensures.after,
       c.copy_from_slice-2.ensures.after,
       c.copy_from_slice.ensures.after,
-      c.to_be_bytes.ensures,
-      c.to_be_bytes-2.ensures,
-      c.to_be_bytes-3.ensures,
-      c.to_be_bytes-4.ensures,
+      c.octets_of_two.ensures,
+      c.octets_of_two-2.ensures,
     )
     (ap octets (sym (four_cells c.args.words.now c.told-words)))
