@@ -1,9 +1,10 @@
 //! KDC-REP (RFC 4120, section 5.4.2): AS-REP and TGS-REP.
-ghost use Rattle.std.specs.Prelude.{◌≡◌, ◌<◌, ◌^◌, length, IfOk, IsOkAnd, OnOk, option_map};
-ghost use Rattle.krb_elements.specs.Format.{Sees, whole};
+ghost use Rattle.std.specs.Prelude.{◌≡◌, ◌<◌, ◌^◌, ◌++◌, length, IfOk, IsOkAnd, OnOk, option_map};
+ghost use Rattle.krb_elements.specs.Format.{Looks, Sees, inside, whole};
+ghost use Rattle.krb_elements.specs.Written.{field_text};
 ghost use Rattle.krb_types.specs.Ticket.{ticket};
 ghost use Rattle.krb_elements.specs.Codec.{itself};
-ghost use Rattle.krb_replies.specs.KdcRep.{kdc_rep, kdc_rep_of, kdc_rep_form};
+ghost use Rattle.krb_replies.specs.KdcRep.{kdc_rep, kdc_rep_of, kdc_rep_form, message_type};
 ghost use Rattle.krb_replies.specs.KdcRep as trees;
 
 use krb_der::{DerFault, Reader, Writer};
@@ -76,7 +77,7 @@ impl<
     #[tactic(auto, unfolding(crate::specs::KdcRep::kdc_rep_form))]
     fn look_fields(fields: &mut Reader<'a>) -> Result<KdcRep<TYPE, P, S, N, T, E>, DerFault> {
         take_fixed(fields, 0, PVNO)?;
-        take_fixed(fields, 1, i32::from(TYPE & 0x1f))?;
+        take_type::<TYPE>(fields)?;
         Ok(KdcRep {
             padata: take_optional(fields, 2)?,
             crealm: take_field(fields, 3)?,
@@ -92,13 +93,28 @@ impl<const TYPE: u8, P: Encode, S: Encode, N: Encode, T: Encode, E: Encode> Enco
     #[tactic(auto, unfolding(crate::specs::KdcRep::kdc_rep_form))]
     fn put_fields(&self, out: &mut Writer) -> Result<(), AllocError> {
         write_field(out, 0, &PVNO)?;
-        write_field(out, 1, &i32::from(TYPE & 0x1f))?;
+        write_type::<TYPE>(out)?;
         write_optional(out, 2, &self.padata)?;
         write_field(out, 3, &self.crealm)?;
         write_field(out, 4, &self.cname)?;
         write_field(out, 5, &self.ticket)?;
         write_field(out, 6, &self.enc_part)
     }
+}
+
+/// The field with the message type, which is this one.
+fn take_type<const TYPE: u8>(fields: &mut Reader<'_>) -> Result<(), DerFault>
+    ensures { Looks result fields.new (inside 161 (whole (message_type TYPE).at) fields.old) }
+{
+    take_fixed(fields, 1, i32::from(TYPE & 0x1f))
+}
+
+/// Appends the field with the message type.
+fn write_type<const TYPE: u8>(out: &mut Writer) -> Result<(), AllocError>
+    requires { length (field_text 161 (message_type TYPE).tag ((message_type TYPE).text tt)) < 2 ^ 32 }
+    ensures { OnOk result (out.new ≡ out.old ++ field_text 161 (message_type TYPE).tag ((message_type TYPE).text tt)) }
+{
+    write_field(out, 1, &i32::from(TYPE & 0x1f))
 }
 
 impl<const TYPE: u8, P: MakeOwned, S: MakeOwned, N: MakeOwned, T: MakeOwned, E: MakeOwned> MakeOwned
