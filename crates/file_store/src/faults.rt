@@ -5,6 +5,7 @@ use std::{fmt, io};
 /// What is amiss, and with which file.
 #[derive(Clone, Copy, Debug)]
 pub struct FileFault<'p> {
+    /// The path; of what is in no file, what it is.
     pub path: &'p str,
     pub amiss: Amiss,
 }

@@ -1,4 +1,4 @@
-//! The files that a command reads and writes. A fault says which file it is of.
+//! The files that a command reads and writes, and what it takes where no file is named. A fault says what it is of.
 ghost use Rattle.std.specs.Prelude.{◌≡◌, ◌≤◌, ◌<◌, IfErr, IfOk, IfNone, IfSome, length, take, vec_len};
 ghost use Rattle.std.specs.Prelude.{◌==◌};
 ghost use Rattle.std.specs.List.{position};
@@ -8,12 +8,19 @@ ghost use Rattle.file_store.specs.Inputs.{first_line};
 use crate::faults::{Amiss, FileFault};
 use crate::store::{LONGEST_FILE, Store};
 use std::alloc::Global;
+use std::io;
 
 /// How many octets of a seed's file count.
 const SEED_LEN: usize = 32;
 
 /// The most octets of a password.
 const LONGEST_PASSWORD: usize = 1_024;
+
+/// What stands in place of a path where a seed is the system's.
+const SYSTEM_SOURCE: &str = "the system's random octets";
+
+/// What stands in place of a path where a password is not in a file.
+const STANDARD_INPUT: &str = "standard input";
 
 /// Whether there is a file.
 pub fn has_file<'p, S: Store>(store: &mut S, path: &'p str) -> Result<bool, FileFault<'p>>
@@ -71,6 +78,24 @@ pub fn write_file<'p, S: Store>(
     }
 }
 
+/// Keeps other commands from a file, until the store is let go. `false` where another one keeps it.
+pub fn lock_file<'p, S: Store>(
+    alloc: Global,
+    store: &mut S,
+    path: &'p str,
+) -> Result<bool, FileFault<'p>>
+    ensures named { IfErr result (λ fault. fault.path.now ≡ path.now) }
+    ensures shown { IsShown (S.fault_count store.old) result (S.fault_count store.new) }
+{
+    match store.lock(alloc, path) {
+        Ok(locked) => Ok(locked),
+        Err(error) => Err(FileFault {
+            path,
+            amiss: Amiss::Failed(error),
+        }),
+    }
+}
+
 /// The seed that a file holds: its first 32 octets.
 pub fn read_seed<'p, S: Store>(
     alloc: Global,
@@ -86,6 +111,19 @@ pub fn read_seed<'p, S: Store>(
         None => Err(FileFault {
             path,
             amiss: Amiss::ShortSeed,
+        }),
+    }
+}
+
+/// A seed of the system's own random octets.
+pub fn draw_seed<S: Store>(store: &mut S) -> Result<[u8; 32], FileFault<'static>>
+    ensures { IsShown (S.fault_count store.old) result (S.fault_count store.new) }
+{
+    match store.random() {
+        Ok(seed) => Ok(seed),
+        Err(error) => Err(FileFault {
+            path: SYSTEM_SOURCE,
+            amiss: Amiss::Failed(error),
         }),
     }
 }
@@ -123,6 +161,43 @@ pub fn read_password<'p, S: Store>(
     Ok(octets)
 }
 
+/// The password that the next line of standard input is, of at most 1,024 octets. At a terminal it is asked for, as
+/// `Password for NAME@REALM:`; name and realm are given as their texts.
+pub fn ask_password<S: Store>(
+    alloc: Global,
+    store: &mut S,
+    name: &str,
+    realm: &str,
+) -> Result<Vec<u8>, FileFault<'static>>
+    ensures within { IfOk result (λ pass. vec_len pass ≤ 1024) }
+    ensures shown { IsShown (S.fault_count store.old) result (S.fault_count store.new) }
+{
+    match ask_line(alloc, store, name, realm) {
+        Ok(Some(pass)) => Ok(pass),
+        Ok(None) => Err(FileFault {
+            path: STANDARD_INPUT,
+            amiss: Amiss::LongPassword,
+        }),
+        Err(error) => Err(FileFault {
+            path: STANDARD_INPUT,
+            amiss: Amiss::Failed(error),
+        }),
+    }
+}
+
+fn ask_line<S: Store>(
+    alloc: Global,
+    store: &mut S,
+    name: &str,
+    realm: &str,
+) -> io::Result<Option<Vec<u8>>>
+    ensures within { IfOk result (λ found. IfSome found (λ pass. vec_len pass ≤ 1024)) }
+    ensures shown { IfOk result (λ _. S.fault_count store.new ≡ S.fault_count store.old) }
+{
+    let question = format!(in alloc; "Password for {name}@{realm}: ")?;
+    store.ask(alloc, &question, LONGEST_PASSWORD)
+}
+
 /// The first line without its line feed, where it has at most 1,024 octets.
 pub fn password_of(octets: &[u8]) -> Option<&[u8]>
     ensures some { IfSome result (λ pass. (pass.now ≡ first_line octets.now) × (length pass.now ≤ 1024)) }
@@ -136,7 +211,7 @@ pub fn password_of(octets: &[u8]) -> Option<&[u8]>
 }
 
 /// What stands before the first line feed.
-fn line_of(octets: &[u8]) -> &[u8]
+pub(crate) fn line_of(octets: &[u8]) -> &[u8]
     ensures { result.now ≡ first_line octets.now }
 {
     match line_end(octets) {

@@ -1,4 +1,4 @@
-//! The files of the programs.
+//! The files of the programs, and what they take where no file is named: random octets, and a password from standard input.
 //!
 //! A program works on a `Store`, so that its tests run over files in memory. A fault says which file it is of.
 #![tactic(auto)]
@@ -12,7 +12,8 @@ mod system_store;
 
 pub use crate::faults::{Amiss, FileFault};
 pub use crate::inputs::{
-    has_file, password_of, read_file, read_password, read_seed, seed_of, write_file,
+    ask_password, draw_seed, has_file, lock_file, password_of, read_file, read_password, read_seed,
+    seed_of, write_file,
 };
 pub use crate::memory_store::MemoryStore;
 pub use crate::store::{LONGEST_FILE, Store};

@@ -1,7 +1,8 @@
-//! Files in memory, for tests.
+//! Files, random octets and an input in memory, for tests.
 ghost use Rattle.std.specs.Prelude.{◌≡◌, ◌≤◌, IfOk, IfSome, vec_len};
 
 use crate::counting::counted;
+use crate::inputs::line_of;
 use crate::store::Store;
 use std::alloc::{AllocError, Global};
 use std::io;
@@ -18,16 +19,28 @@ struct StoredFile {
 #[derive(Drop)]
 pub struct MemoryStore {
     files: Vec<StoredFile>,
+    /// Whether another program keeps each file.
+    kept: bool,
+    random: [u8; 32],
+    input: Vec<u8>,
+    terminal: bool,
+    /// What was asked at the terminal.
+    asked: String,
     calls: u32,
     failing: u32,
     faults: u64,
 }
 
 impl MemoryStore {
-    /// No files.
+    /// No files, random octets of zeros, and an input that has ended.
     pub fn new(alloc: Global) -> MemoryStore {
         MemoryStore {
             files: Vec::new(alloc),
+            kept: false,
+            random: [0; 32],
+            input: Vec::new(alloc),
+            terminal: false,
+            asked: String::new(alloc),
             calls: 0,
             failing: 0,
             faults: 0,
@@ -53,6 +66,33 @@ impl MemoryStore {
     /// Makes a file of these octets, in place of the one that is there.
     pub fn set(&mut self, alloc: Global, path: &str, octets: &[u8]) -> Result<(), AllocError> {
         put(alloc, &mut self.files, path, octets)
+    }
+
+    /// Lets another program keep each file, or none.
+    pub fn keep(&mut self, kept: bool) {
+        self.kept = kept;
+    }
+
+    /// Makes these the random octets of each call.
+    pub fn set_random(&mut self, octets: [u8; 32]) {
+        self.random = octets;
+    }
+
+    /// Makes these octets the input that is left, which comes from a terminal or from elsewhere.
+    pub fn set_input(
+        &mut self,
+        alloc: Global,
+        octets: &[u8],
+        terminal: bool,
+    ) -> Result<(), AllocError> {
+        self.input = Vec::from_slice(alloc, octets)?;
+        self.terminal = terminal;
+        Ok(())
+    }
+
+    /// All that was asked at the terminal, one question after the other.
+    pub fn asked(&self) -> &str {
+        self.asked.as_str()
     }
 
     /// Counts a call. One of them fails.
@@ -85,6 +125,36 @@ impl MemoryStore {
         }
     }
 
+    fn find_lock(&mut self) -> io::Result<bool>
+        ensures { self.new.faults ≡ self.old.faults }
+    {
+        self.call()?;
+        Ok(!self.kept)
+    }
+
+    fn draw(&mut self) -> io::Result<[u8; 32]>
+        ensures { self.new.faults ≡ self.old.faults }
+    {
+        self.call()?;
+        Ok(self.random)
+    }
+
+    fn ask_line(
+        &mut self,
+        alloc: Global,
+        question: &str,
+        most: usize,
+    ) -> io::Result<Option<Vec<u8>>>
+        ensures within { IfOk result (λ found. IfSome found (λ octets. vec_len octets ≤ most)) }
+        ensures faults { self.new.faults ≡ self.old.faults }
+    {
+        self.call()?;
+        if self.terminal {
+            self.asked.push_str(question)?;
+        }
+        take_line(alloc, &mut self.input, most)
+    }
+
     fn replace(&mut self, alloc: Global, path: &str, octets: &[u8]) -> io::Result<()>
         ensures { self.new.faults ≡ self.old.faults }
     {
@@ -92,6 +162,22 @@ impl MemoryStore {
         put(alloc, &mut self.files, path, octets)?;
         Ok(())
     }
+}
+
+/// The next line of an input, which is taken from it.
+fn take_line(alloc: Global, input: &mut Vec<u8>, most: usize) -> io::Result<Option<Vec<u8>>>
+    ensures { IfOk result (λ found. IfSome found (λ octets. vec_len octets ≤ most)) }
+{
+    if input.is_empty() {
+        return Err(Error::from(ErrorKind::UnexpectedEof));
+    }
+    let line = Vec::from_slice(alloc, line_of(input))?;
+    let left = input.get(line.len().saturating_add(1)..).unwrap_or(&[]);
+    *input = Vec::from_slice(alloc, left)?;
+    if line.len() > most {
+        return Ok(None);
+    }
+    Ok(Some(line))
 }
 
 fn put(
@@ -133,6 +219,28 @@ impl Store for MemoryStore {
         let written = self.replace(alloc, path, octets);
         self.faults = counted(self.faults, &written);
         written
+    }
+
+    fn lock(&mut self, _alloc: Global, _path: &str) -> io::Result<bool> {
+        let locked = self.find_lock();
+        self.faults = counted(self.faults, &locked);
+        locked
+    }
+
+    fn random(&mut self) -> io::Result<[u8; 32]> {
+        let drawn = self.draw();
+        self.faults = counted(self.faults, &drawn);
+        drawn
+    }
+
+    fn is_terminal(&self) -> bool {
+        self.terminal
+    }
+
+    fn ask(&mut self, alloc: Global, question: &str, most: usize) -> io::Result<Option<Vec<u8>>> {
+        let line = self.ask_line(alloc, question, most);
+        self.faults = counted(self.faults, &line);
+        line
     }
 
     fn faults(&self) -> u64 {
