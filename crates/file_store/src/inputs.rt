@@ -115,6 +115,20 @@ pub fn read_seed<'p, S: Store>(
     }
 }
 
+/// The seed of a file, or of the system's own random octets where no file is named.
+pub fn read_or_draw_seed<'p, S: Store>(
+    alloc: Global,
+    store: &mut S,
+    path: Option<&'p str>,
+) -> Result<[u8; 32], FileFault<'p>>
+    ensures { IsShown (S.fault_count store.old) result (S.fault_count store.new) }
+{
+    match path {
+        Some(path) => read_seed(alloc, store, path),
+        None => draw_seed(store),
+    }
+}
+
 /// A seed of the system's own random octets.
 pub fn draw_seed<S: Store>(store: &mut S) -> Result<[u8; 32], FileFault<'static>>
     ensures { IsShown (S.fault_count store.old) result (S.fault_count store.new) }
