@@ -12,6 +12,7 @@ use Rattle.text_fields.specs.declared.settings.TimeField.{TimeField}
 use Rattle.text_fields.specs.declared.settings.TimeField.TheVariants.{Expires, PasswordExpires, RevokedBefore}
 use Rattle.text_fields.specs.declared.settings.Setting.{Setting}
 use Rattle.text_fields.specs.declared.settings.Setting.TheVariants.{Flag, Life, Time}
+use Rattle.text_fields.specs.Dates.{IsDateText}
 use Rattle.text_fields.specs.Numbers.{IsU32Text}
 
 -- the field of a name
@@ -51,6 +52,13 @@ abbrev pub IsSettingOf : Setting → List ℕ → List ℕ → Type 0
 IsSettingOf (Flag field on) name value = (flag_of name ≡ Some field) × IsFlagText on value
 IsSettingOf (Life field life) name value = (life_of name ≡ Some field) × IsU32Text life value
 IsSettingOf (Time field time) name value = (time_of name ≡ Some field) × IsTimeText time value
+
+-- a field that is a time, with the date that is its value
+abbrev pub IsDateOf : Setting → List ℕ → List ℕ → Type 0
+IsDateOf (Time field (Some second)) name value = (time_of name ≡ Some field) × IsDateText second value
+IsDateOf (Time field None) name value = ⊥
+IsDateOf (Flag field on) name value = ⊥
+IsDateOf (Life field life) name value = ⊥
 
 -- a field's name, an equals sign (3D), and its value
 pub record IsSettingText (setting : Setting) (text : List ℕ) : Type 0 where

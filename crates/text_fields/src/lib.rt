@@ -1,6 +1,7 @@
-//! What the words of a line or of a command spell: decimal numbers, and settings of a policy.
+//! What the words of a line or of a command spell: decimal numbers, dates, and settings of a policy.
 #![tactic(auto)]
 
+mod dates;
 mod numbers;
 mod settings;
 

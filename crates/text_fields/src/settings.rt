@@ -1,16 +1,20 @@
 //! Settings: a field of a policy and the value that it gets. Names and values are those of the database's text; `never`
 //! stands for null.
-ghost use Rattle.std.specs.Prelude.{◌≡◌, ℤ, ℕ, Bool, Option, IfSome, IfNone};
-ghost use Rattle.text_fields.specs.Settings.{flag_of, life_of, time_of, IsFlagText, IsTimeText, IsSettingOf, IsSettingText, with_setting};
+ghost use Rattle.std.specs.Prelude.{◌≡◌, ℤ, ℕ, Bool, Option, Some, IfSome, IfNone};
+ghost use Rattle.std.specs.List.{fold};
+ghost use Rattle.principal_rows.specs.declared.policy.Policy as policies;
+ghost use Rattle.text_fields.specs.Settings.{flag_of, life_of, time_of, IsFlagText, IsTimeText, IsSettingOf, IsSettingText, IsDateOf, with_setting};
 ghost use Rattle.text_fields.specs.declared.settings.FlagField as flags;
 ghost use Rattle.text_fields.specs.declared.settings.LifeField as lives;
 ghost use Rattle.text_fields.specs.declared.settings.TimeField as times;
 ghost use Rattle.text_fields.specs.declared.settings.Setting as settings;
 ghost use Rattle.text_fields.specs.declared.settings.Setting.TheVariants as kinds;
 
+use crate::dates::{UtcDate, date};
 use crate::numbers::{number, number_u32};
 use krb_fields::Second;
 use principal_rows::Policy;
+use std::fmt;
 
 /// A field that holds or doesn't.
 #[derive(Clone, Copy, Debug, PartialEq, Eq)]
@@ -46,6 +50,47 @@ pub enum Setting {
     Time(TimeField, Option<Second>),
 }
 
+impl FlagField {
+    /// Its name, in the text of databases and in commands.
+    pub fn name(self) -> &'static str
+        ensures { flag_of result.now ≡ Some self }
+    {
+        match self {
+            FlagField::Disabled => "disabled",
+            FlagField::Preauth => "preauth",
+            FlagField::Forwardable => "forwardable",
+            FlagField::Proxiable => "proxiable",
+            FlagField::Postdate => "postdate",
+            FlagField::OkAsDelegate => "ok_as_delegate",
+        }
+    }
+}
+
+impl LifeField {
+    /// Its name, in the text of databases and in commands.
+    pub fn name(self) -> &'static str
+        ensures { life_of result.now ≡ Some self }
+    {
+        match self {
+            LifeField::GreatestLife => "greatest_life",
+            LifeField::GreatestRenewable => "greatest_renewable",
+        }
+    }
+}
+
+impl TimeField {
+    /// Its name, in the text of databases and in commands.
+    pub fn name(self) -> &'static str
+        ensures { time_of result.now ≡ Some self }
+    {
+        match self {
+            TimeField::Expires => "expires",
+            TimeField::PasswordExpires => "password_expires",
+            TimeField::RevokedBefore => "revoked_before",
+        }
+    }
+}
+
 impl Setting {
     /// A field's name and its value, with an equals sign between them.
     pub fn parse(text: &str) -> Option<Setting>
@@ -70,6 +115,33 @@ impl Setting {
         time_setting(name, value)
     }
 
+    /// The field of this name, which is a time, with the date that this text spells. `None` for another name, or no date.
+    pub fn of_date(name: &str, value: &str) -> Option<Setting>
+        ensures read { IfSome result (λ setting. IsDateOf setting name.now value.now) }
+        ensures none { IfNone result ((setting : settings.Setting) → ¬ IsDateOf setting name.now value.now) }
+    {
+        Some(Setting::Time(time_field(name)?, Some(date(value)?)))
+    }
+
+    /// The settings of a policy, in the order of their names.
+    pub fn all(policy: Policy) -> [Setting; 11]
+        ensures { (other : policies.Policy) → fold (λ made setting. with_setting setting made) other result ≡ policy }
+    {
+        [
+            Setting::Flag(FlagField::Disabled, policy.disabled),
+            Setting::Time(TimeField::Expires, policy.expires),
+            Setting::Flag(FlagField::Forwardable, policy.forwardable),
+            Setting::Life(LifeField::GreatestLife, policy.greatest_life),
+            Setting::Life(LifeField::GreatestRenewable, policy.greatest_renewable),
+            Setting::Flag(FlagField::OkAsDelegate, policy.ok_as_delegate),
+            Setting::Time(TimeField::PasswordExpires, policy.password_expires),
+            Setting::Flag(FlagField::Postdate, policy.postdate),
+            Setting::Flag(FlagField::Preauth, policy.preauth),
+            Setting::Flag(FlagField::Proxiable, policy.proxiable),
+            Setting::Time(TimeField::RevokedBefore, policy.revoked_before),
+        ]
+    }
+
     /// The policy with this field set.
     pub fn on(self, policy: Policy) -> Policy
         ensures { result ≡ with_setting self policy }
@@ -89,6 +161,20 @@ impl Setting {
             Setting::Time(TimeField::RevokedBefore, time) => policy.revoked_before = time,
         }
         policy
+    }
+}
+
+/// The field's name and its value, with a space between them; behind a second stands its date too.
+impl fmt::Display for Setting {
+    fn fmt<W: fmt::Write>(&self, f: &mut fmt::Formatter<W>) -> fmt::Result {
+        match self {
+            Setting::Flag(field, on) => write!(f, "{} {on}", field.name()),
+            Setting::Life(field, life) => write!(f, "{} {life}", field.name()),
+            Setting::Time(field, None) => write!(f, "{} never", field.name()),
+            Setting::Time(field, Some(second)) => {
+                write!(f, "{} {} {}", field.name(), second.get(), UtcDate(*second))
+            }
+        }
     }
 }
 
