@@ -1,0 +1,125 @@
+//! `ap_whois KEYTAB [first]`: a service that says of each AP-REQ, a line of hexadecimal digits on standard input, who sent it.
+#![tactic(auto)]
+
+use ap_accept::{Accepted, Acceptor, ApFault, Opening};
+use cred_files::{Keytab, Principal};
+use krb_der::KTime;
+use krb_fields::{Moment, component_to_text};
+use principal_rows::Limits;
+use std::alloc::{AllocError, Global};
+use std::io::{BufRead, Error, ErrorKind};
+use std::process::ExitCode;
+use std::random::RandomSource;
+use std::rt::Clock;
+use std::time::{SystemTime, UNIX_EPOCH};
+use std::{env, fs, io};
+
+/// The status of a fault of the command line.
+const USAGE: u8 = 2;
+
+fn main(rt: HostRuntime) -> io::Result<ExitCode> {
+    let words: Vec<String> = env::args(&rt)?.collect(rt.alloc())?;
+    match words.as_slice() {
+        // Unless the service never ran before, it opens as after a restart.
+        [_, keytab] => serve(&rt, keytab.as_str(), Opening::Restart(now(&rt)?)),
+        [_, keytab, word] if word.as_str() == "first" => {
+            serve(&rt, keytab.as_str(), Opening::First)
+        }
+        _ => {
+            println!(rt; "usage: ap_whois KEYTAB [first]")?;
+            Ok(ExitCode::from(USAGE))
+        }
+    }
+}
+
+fn serve(rt: &HostRuntime, keytab: &str, opening: Opening) -> io::Result<ExitCode> {
+    let mut acceptor = open(rt, keytab, opening)?;
+    match answer_lines(rt, &mut acceptor) {
+        Ok(()) => Ok(ExitCode::SUCCESS),
+        Err(error) => Err(error),
+    }
+}
+
+/// An acceptor with the keys of a keytab's file, which remembers 1,024 authenticators of a client.
+fn open(rt: &HostRuntime, path: &str, opening: Opening) -> io::Result<Acceptor> {
+    let octets = fs::read(rt, path)?;
+    let Some(limits) = Limits::new(1_024, 0, 0, 0, 0) else {
+        return Err(Error::from(ErrorKind::InvalidInput));
+    };
+    match Keytab::read(rt.alloc(), &octets) {
+        Ok(keytab) => Ok(Acceptor::open(rt.alloc(), keytab, limits, opening)?),
+        Err(_) => Err(Error::from(ErrorKind::InvalidData)),
+    }
+}
+
+/// The moment that it is.
+fn now(clock: &impl Clock) -> io::Result<Moment> {
+    let Ok(since) = SystemTime::now(clock)?.duration_since(UNIX_EPOCH) else {
+        return Err(Error::from(ErrorKind::InvalidData));
+    };
+    let sec = i64::try_from(since.as_secs()).unwrap_or(i64::MAX);
+    Moment::new(sec, since.subsec_micros()).ok_or(Error::from(ErrorKind::InvalidData))
+}
+
+fn answer_lines(rt: &HostRuntime, acceptor: &mut Acceptor) -> io::Result<()> {
+    for line in rt.stdin().lines(rt.alloc()) {
+        let line = line?;
+        match hex::decode(rt.alloc(), line.as_bytes()) {
+            Ok(ap_req) => answer(rt, acceptor, &ap_req)?,
+            Err(_) => println!(rt; "not hexadecimal digits")?,
+        }
+    }
+    Ok(())
+}
+
+/// Says who sent an AP-REQ, or why it is refused. The random octets are new for each.
+fn answer(rt: &HostRuntime, acceptor: &mut Acceptor, ap_req: &[u8]) -> io::Result<()> {
+    let mut confounder = [0; 16];
+    rt.fill_bytes(&mut confounder)?;
+    match acceptor.accept(rt.alloc(), now(rt)?, &confounder, ap_req) {
+        Ok(accepted) => print_accepted(rt, &accepted),
+        Err(ApFault::NotAnApReq) => println!(rt; "not an AP-REQ"),
+        Err(ApFault::Refused(refusal)) => {
+            let code = refusal.code();
+            println!(rt; "refused {} {code}", code.number())
+        }
+        // Nothing has changed: the same AP-REQ may be sent again.
+        Err(ApFault::Memory) => println!(rt; "out of memory"),
+    }
+}
+
+/// Says who sent it and what the ticket holds, and the AP-REP where the client asks for one.
+fn print_accepted(rt: &HostRuntime, accepted: &Accepted) -> io::Result<()> {
+    let client = text_of(rt.alloc(), &accepted.client)?;
+    let ticket = accepted.ticket;
+    print!(rt;
+        "accepted {client} session-key-type {} flags {:08x}",
+        accepted.session_key.etype().number(),
+        ticket.flags.bits()
+    )?;
+    print_time(rt, "authtime", Some(ticket.authtime))?;
+    print_time(rt, "starttime", ticket.starttime)?;
+    print_time(rt, "endtime", Some(ticket.endtime))?;
+    print_time(rt, "renew-till", ticket.renew_till)?;
+    if let Some(ap_rep) = &accepted.ap_rep {
+        let digits = hex::encode(rt.alloc(), ap_rep.as_slice())?;
+        print!(rt; " ap-rep {digits}")?;
+    }
+    println!(rt; "")
+}
+
+/// Prints a time in seconds since 1970, if the ticket has it.
+fn print_time(rt: &HostRuntime, word: &str, time: Option<KTime>) -> io::Result<()> {
+    match time {
+        Some(time) => print!(rt; " {word} {}", time.seconds()),
+        None => Ok(()),
+    }
+}
+
+/// The client's name for people to read. A service compares names by `Principal::is`.
+fn text_of(alloc: Global, client: &Principal) -> Result<String, AllocError> {
+    let mut text = client.name.to_text(alloc)?;
+    text.push('@')?;
+    text.push_str(&component_to_text(alloc, client.realm.as_slice())?)?;
+    Ok(text)
+}
