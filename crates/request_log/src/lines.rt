@@ -1,0 +1,128 @@
+//! The line of a request.
+ghost use Rattle.std.specs.Prelude.{IfOk};
+ghost use Rattle.request_log.specs.Line.{IsLine};
+
+use crate::code_words::code_word;
+use crate::life::{asked_life, life_text};
+use crate::line::Line;
+use crate::names::add_name;
+use crate::observer::{Asker, Transport};
+use krb_elements::read;
+use krb_fields::Moment;
+use krb_replies::{KdcRepRef, read_kdc_rep};
+use krb_types::{Exchange, KdcReqRef, KrbErrorRef, read_kdc_req};
+use std::alloc::{AllocError, Global};
+
+/// The message type of a reply of the Ticket-Granting Service exchange (RFC 4120, section 5.4.2).
+const TGS_REP: u8 = 13;
+
+/// The line of a request and its reply, with the line feed at its end: the moment in UTC, the peer, the transport, the
+/// exchange, the client, the service, and what came of it. A ticket has the life that was asked for, at most the realm's
+/// `greatest_life` in seconds.
+pub fn request_line(
+    alloc: Global,
+    asker: Asker,
+    at: Moment,
+    greatest_life: u32,
+    request: &[u8],
+    reply: Option<&[u8]>,
+) -> Result<Vec<u8>, AllocError>
+    // One line, whatever stands in the octets.
+    ensures { IfOk result (λ line. IsLine line.items) }
+{
+    let mut line = Line::new(alloc)?;
+    add_moment(&mut line, at)?;
+    add_asker(alloc, &mut line, asker)?;
+    match read_kdc_req(request) {
+        Ok((exchange, request)) => {
+            add_names(alloc, &mut line, exchange, &request, reply)?;
+            add_outcome(alloc, &mut line, at, greatest_life, &request, reply)?;
+        }
+        Err(_) => line.field("none")?,
+    }
+    line.finish()
+}
+
+/// Adds a moment, as `2026-11-23T22:46:18Z`.
+fn add_moment(line: &mut Line, at: Moment) -> Result<(), AllocError> {
+    let [a, b, c, d, m, n, e, f, h, i, j, k, s, t, zone] = at.time().to_octets();
+    line.begin_field()?;
+    line.add(&[a, b, c, d, b'-', m, n, b'-', e, f, b'T'])?;
+    line.add(&[h, i, b':', j, k, b':', s, t, zone])
+}
+
+fn add_asker(alloc: Global, line: &mut Line, asker: Asker) -> Result<(), AllocError> {
+    match asker.peer {
+        Some(peer) => line.field(&format!(in alloc; "{peer}")?)?,
+        None => line.field("-")?,
+    }
+    line.field(match asker.transport {
+        Transport::Udp => "udp",
+        Transport::Tcp => "tcp",
+    })
+}
+
+/// Adds the exchange, the client and the service. The client of a TGS-REQ is known from its reply alone.
+fn add_names(
+    alloc: Global,
+    line: &mut Line,
+    exchange: Exchange,
+    request: &KdcReqRef<'_>,
+    reply: Option<&[u8]>,
+) -> Result<(), AllocError> {
+    match exchange {
+        Exchange::As => {
+            line.field("as")?;
+            add_name(alloc, line, request.body.value.cname.as_ref())?;
+        }
+        Exchange::Tgs => {
+            line.field("tgs")?;
+            add_replied_client(alloc, line, reply)?;
+        }
+    }
+    add_name(alloc, line, request.body.value.sname.as_ref())
+}
+
+/// Adds the client that a TGS-REP names.
+fn add_replied_client(
+    alloc: Global,
+    line: &mut Line,
+    reply: Option<&[u8]>,
+) -> Result<(), AllocError> {
+    let Some(octets) = reply else {
+        return add_name(alloc, line, None);
+    };
+    match read_kdc_rep::<TGS_REP>(octets) {
+        Ok(reply) => add_name(alloc, line, Some(&reply.cname)),
+        Err(_) => add_name(alloc, line, None),
+    }
+}
+
+/// Adds what came of a request: a ticket, a refusal, or no reply.
+fn add_outcome(
+    alloc: Global,
+    line: &mut Line,
+    at: Moment,
+    greatest_life: u32,
+    request: &KdcReqRef<'_>,
+    reply: Option<&[u8]>,
+) -> Result<(), AllocError> {
+    let Some(octets) = reply else {
+        return line.field("unanswered");
+    };
+    match read::<KrbErrorRef<'_>>(octets) {
+        Ok(error) => add_refusal(alloc, line, error.error_code),
+        Err(_) => {
+            let body = &request.body.value;
+            let life = asked_life(at, body.from, body.till, greatest_life);
+            line.field("ticket")?;
+            line.field(&life_text(alloc, life)?)
+        }
+    }
+}
+
+fn add_refusal(alloc: Global, line: &mut Line, code: i32) -> Result<(), AllocError> {
+    line.field("refused")?;
+    line.field(&format!(in alloc; "{code}")?)?;
+    line.field(code_word(code))
+}
