@@ -3,7 +3,7 @@ use Rattle.std.proofs.Common.{◌≡◌, ℕ, ◌+◌, ◌*◌, ◌/◌, ◌%◌
 use Rattle.std.proofs.Common.{◌∷◌, ◌++◌, ◌-◌, length, take, drop, zero, suc, map, refl}
 use Rattle.std.proofs.Common.{sym, ap, ◌∙◌, arith, length-drop, get_or, bit_and, bit_xor, bit_or, nat_lt, if◌then◌else◌}
 use Rattle.std.specs.List.{range_with_len}
-use Rattle.std.specs.Int.{w32, rotate_right, to_be_bytes, from_be_bytes}
+use Rattle.std.specs.Int.{w32, rotate_right, to_be_bytes}
 use Rattle.std.specs.Int.Bits.{xor_assoc, xor_zero_r}
 use Rattle.std.proofs.Math.Seq.{take-nil, drop-nil}
 use Rattle.std.proofs.lemmas.List.{take-append-drop, drop-drop}
@@ -332,11 +332,6 @@ pub added_is : (s k : List ℕ) (a b c d : ℕ) → length s ≡ 4 → length k 
 unfolding add_round_key
 added_is s k a b c d hs hk ea eb ec ed =
     on_cells (λ s k. add_round_key (octets s) (octets k)) s k _ hs hk (columns_join _ _ _ _ _ _ _ _ ea eb ec ed)
-
--- the octets of a word made of octets
-pub bytes_back : (a b c d : ℕ) → a < 256 → b < 256 → c < 256 → d < 256
-    → to_be_bytes w32 (from_be_bytes w32 (a ∷ b ∷ c ∷ d ∷ [])) ≡ a ∷ b ∷ c ∷ d ∷ []
-bytes_back a b c d ha hb hc hd = four _ _ _ _ a b c d (omega arith) (omega arith) (omega arith) (omega arith)
 
 -- ---- the octets of parts of lists of words
 
