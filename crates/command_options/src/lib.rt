@@ -27,6 +27,18 @@ pub fn with_options<'a>(
     Ok(command)
 }
 
+/// The command, with options that may be absent.
+pub fn with_more_options<'a>(
+    alloc: Global,
+    mut command: Command<'a>,
+    options: &[OptionWords],
+) -> Result<Command<'a>, AllocError> {
+    for words in options {
+        command = command.arg(option(alloc, words))?;
+    }
+    Ok(command)
+}
+
 /// An option that may be absent.
 pub fn option<'a>(alloc: Global, words: &OptionWords) -> Arg<'a> {
     Arg::new(alloc, words.name)
