@@ -1,5 +1,5 @@
 //! What the tests have in common.
-use client_core::Asked;
+use client_core::{Asked, ClientFault, Mismatch, read_as_reply, read_tgs_reply};
 use enctypes::{Etype, Key};
 use krb_der::KTime;
 use krb_elements::{KerberosString, Seq};
@@ -27,42 +27,72 @@ pub fn octets(alloc: Global, digits: &str) -> Result<Vec<u8>, Fail> {
     Ok(hex::decode(alloc, digits.as_bytes())?)
 }
 
-/// A key of encryption type 18, whose octets count up from this one.
-pub fn key_from(first: u8) -> Key {
-    let mut octets = [first; 32];
-    for (place, octet) in (0u8..32).zip(&mut octets) {
-        *octet = octet.wrapping_add(place);
-    }
-    Key::from_random(Etype::Aes256CtsHmacSha1_96, &octets)
-}
-
-/// The octets 192 to 207.
-pub fn confounder() -> [u8; 16] {
-    let mut octets = [192u8; 16];
-    for (place, octet) in (0u8..16).zip(&mut octets) {
+/// Octets that count up from this one.
+fn up<const N: usize>(first: u8) -> [u8; N] {
+    let mut octets = [first; N];
+    for (place, octet) in (0..=u8::MAX).zip(&mut octets) {
         *octet = octet.wrapping_add(place);
     }
     octets
 }
 
+/// A key of encryption type 18, whose octets count up from this one.
+pub fn key_from(first: u8) -> Key {
+    Key::from_random(Etype::Aes256CtsHmacSha1_96, &up(first))
+}
+
+/// The octets 192 to 207.
+pub fn confounder() -> [u8; 16] {
+    up(192)
+}
+
 /// 2024-01-01 00:00:00 and so many microseconds.
 pub fn midnight(usec: u32) -> Result<Moment, Fail> {
-    Ok(Moment::new(MIDNIGHT, usec).ok_or("a moment")?)
+    moment(0, usec)
 }
 
-/// What `u` in `A.B` asks of the ticket-granting service, with this nonce.
-pub fn asked(alloc: Global, nonce: u32) -> Result<Asked, Fail> {
-    let service = Name::new(alloc, 2, &[b"krbtgt", b"A.B"])?;
-    asked_of(alloc, service, nonce)
+/// So many seconds after it, or before it.
+pub fn moment(after: i32, usec: u32) -> Result<Moment, Fail> {
+    Ok(Moment::new(MIDNIGHT + i64::from(after), usec).ok_or("a moment")?)
 }
 
-/// What `u` in `A.B` asks of `h`.
-pub fn asked_of_h(alloc: Global) -> Result<Asked, Fail> {
-    let service = Name::new(alloc, 1, &[b"h"])?;
-    asked_of(alloc, service, 1)
+/// Which of a KDC's exchanges a message is of.
+#[derive(Clone, Copy, Debug, PartialEq, Eq)]
+pub enum Kind {
+    /// The Authentication Service exchange: `u` asks for a ticket of `krbtgt/A.B`.
+    As,
+    /// The Ticket-Granting Service exchange: `u` asks for one of `h`.
+    Tgs,
 }
 
-fn asked_of(alloc: Global, service: Name, nonce: u32) -> Result<Asked, Fail> {
+impl Kind {
+    /// The reply.
+    pub fn reply(self) -> &'static str {
+        match self {
+            Kind::As => AS_REP,
+            Kind::Tgs => TGS_REP,
+        }
+    }
+
+    /// The key that opens it.
+    pub fn key(self) -> Key {
+        match self {
+            Kind::As => key_from(64),
+            Kind::Tgs => key_from(0),
+        }
+    }
+
+    fn service(self, alloc: Global) -> Result<Name, Fail> {
+        Ok(match self {
+            Kind::As => Name::new(alloc, 2, &[b"krbtgt", b"A.B"])?,
+            Kind::Tgs => Name::new(alloc, 1, &[b"h"])?,
+        })
+    }
+}
+
+/// What is asked, with nonce 1.
+pub fn asked(alloc: Global, kind: Kind) -> Result<Asked, Fail> {
+    let service = kind.service(alloc)?;
     let mut etypes = Seq::new(alloc);
     etypes.push(Etype::Aes256CtsHmacSha1_96)?;
     Ok(Asked {
@@ -73,7 +103,53 @@ fn asked_of(alloc: Global, service: Name, nonce: u32) -> Result<Asked, Fail> {
         from: None,
         till: KTime::of(0),
         rtime: None,
-        nonce,
+        nonce: 1,
         etypes,
     })
+}
+
+/// What comes of a reply.
+#[derive(Clone, Copy, Debug, PartialEq, Eq)]
+pub enum Outcome {
+    Taken,
+    NotAReply,
+    /// With this code.
+    Refused(i32),
+    Differs(Mismatch),
+    CannotOpen,
+    CountTooLarge,
+    Memory,
+}
+
+pub fn outcome_in<T>(found: &Result<T, ClientFault>) -> Outcome {
+    match found {
+        Ok(_) => Outcome::Taken,
+        Err(fault) => outcome_by(fault),
+    }
+}
+
+fn outcome_by(fault: &ClientFault) -> Outcome {
+    match fault {
+        ClientFault::NotAReply => Outcome::NotAReply,
+        ClientFault::Refused(refusal) => Outcome::Refused(refusal.code),
+        ClientFault::Mismatch(what) => Outcome::Differs(*what),
+        ClientFault::CannotOpen => Outcome::CannotOpen,
+        ClientFault::CountTooLarge => Outcome::CountTooLarge,
+        ClientFault::Memory => Outcome::Memory,
+    }
+}
+
+/// What comes of these octets as the reply.
+pub fn come_of(
+    alloc: Global,
+    kind: Kind,
+    asked: &Asked,
+    key: &Key,
+    at: Moment,
+    reply: &[u8],
+) -> Outcome {
+    match kind {
+        Kind::As => outcome_in(&read_as_reply(alloc, asked, key, at, reply)),
+        Kind::Tgs => outcome_in(&read_tgs_reply(alloc, asked, key, false, at, reply)),
+    }
 }

@@ -6,6 +6,8 @@
 #[cfg(test)]
 mod given;
 #[cfg(test)]
+mod hostile;
+#[cfg(test)]
 mod passwords;
 #[cfg(test)]
 mod replies;

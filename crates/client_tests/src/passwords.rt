@@ -59,6 +59,7 @@ fn counts_out_of_range(rt: HostRuntime) -> Result<(), Fail> {
         &[0, 0, 0, 0],
         &[0, 16, 0, 1],
         &[0, 0, 0, 1, 0],
+        &[255, 255, 255, 255],
     ];
     for params in PARAMS {
         let found = key_by(rt.alloc(), 18, true, params)?;

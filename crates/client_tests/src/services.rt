@@ -2,13 +2,18 @@
 ghost use Rattle.std.specs.Prelude.{IfOk};
 ghost use Rattle.client_core.specs.Presenting.{IsShortChecksum};
 
-use crate::given::{TGS_REP, asked_of_h, confounder, key_from, midnight, octets};
-use client_core::{
-    ClientFault, Mismatch, ServiceAsked, ap_request, is_presentable, read_ap_reply, read_tgs_reply,
+use crate::given::Outcome::{CannotOpen, Differs, NotAReply, Taken};
+use crate::given::{
+    Kind, Outcome, TGS_REP, asked, confounder, key_from, midnight, octets, outcome_in,
 };
+use client_core::{
+    Asked, Mismatch, ServiceAsked, ap_request, is_presentable, read_ap_reply, read_tgs_reply,
+};
+use cred_files::Credential;
 use krb_elements::Octets;
 use krb_fields::Typed;
 use std::alloc::Global;
+use std::process::Abort;
 use std::test::Fail;
 
 /// An AP-REQ with the ticket of `h`: mutual-required, a checksum of type 32771, 7 microseconds, a subkey of the octets 32 to
@@ -34,36 +39,51 @@ fn service_asked(alloc: Global) -> Result<ServiceAsked, Fail>
     })
 }
 
-#[test]
-fn an_ap_request(rt: HostRuntime) -> Result<(), Fail> {
-    let alloc = rt.alloc();
+/// The credential of `TGS_REP`.
+fn credential(alloc: Global, asked: &Asked) -> Result<Credential, Fail> {
     let reply = octets(alloc, TGS_REP)?;
-    let asked = asked_of_h(alloc)?;
-    let found = read_tgs_reply(alloc, &asked, &key_from(0), false, midnight(0)?, &reply);
-    let Ok(credential) = found else {
-        return Err(Fail::from("no credential"));
-    };
-    assert!(rt; is_presentable(&credential));
-    let request = ap_request(
-        alloc,
-        &credential,
-        midnight(7)?,
-        &service_asked(alloc)?,
-        &confounder(),
-    )?;
+    match read_tgs_reply(alloc, asked, &key_from(0), false, midnight(0)?, &reply) {
+        Ok(credential) => Ok(credential),
+        Err(_) => Err(Fail::from("no credential")),
+    }
+}
+
+fn ap_req(alloc: Global, credential: &Credential) -> Result<Vec<u8>, Fail> {
+    if !is_presentable(credential) {
+        return Err(Fail::from("it can't be presented"));
+    }
+    let wanted = service_asked(alloc)?;
+    Ok(ap_request(alloc, credential, midnight(7)?, &wanted, &confounder())?)
+}
+
+fn expect_ap_req(rt: &impl Abort, alloc: Global, asked: &Asked) -> Result<(), Fail> {
+    let credential = credential(alloc, asked)?;
+    let request = ap_req(alloc, &credential)?;
     assert!(rt; request == octets(alloc, AP_REQ)?);
     Ok(())
 }
 
 #[test]
+fn an_ap_request(rt: HostRuntime) -> Result<(), Fail> {
+    let asked = asked(rt.alloc(), Kind::Tgs)?;
+    expect_ap_req(&rt, rt.alloc(), &asked)
+}
+
+/// The first octet of a key, the microseconds of the AP-REQ, and what comes of the AP-REP.
+const AP_REPLIES: &[(u8, u32, &str, Outcome)] = &[
+    (64, 7, AP_REP, Taken),
+    (64, 8, AP_REP, Differs(Mismatch::Times)),
+    (0, 7, AP_REP, CannotOpen),
+    (64, 7, AP_REQ, NotAReply),
+];
+
+#[test]
 fn an_ap_reply_repeats_the_moment(rt: HostRuntime) -> Result<(), Fail> {
     let alloc = rt.alloc();
-    let reply = octets(alloc, AP_REP)?;
-    let found = read_ap_reply(alloc, &key_from(64), midnight(7)?, &reply);
-    assert!(rt; found.is_ok());
-    let found = read_ap_reply(alloc, &key_from(64), midnight(8)?, &reply);
-    assert!(rt; matches!(&found, Err(ClientFault::Mismatch(Mismatch::Times))));
-    let found = read_ap_reply(alloc, &key_from(0), midnight(7)?, &reply);
-    assert!(rt; matches!(&found, Err(ClientFault::CannotOpen)));
+    for (first, usec, digits, due) in AP_REPLIES {
+        let reply = octets(alloc, digits)?;
+        let found = outcome_in(&read_ap_reply(alloc, &key_from(*first), midnight(*usec)?, &reply));
+        assert_eq!(rt; found, *due);
+    }
     Ok(())
 }
