@@ -1,5 +1,7 @@
 -- What the AS exchange answers, and what becomes of the client's failures.
 use Rattle.std.specs.Prelude.{ℕ, ⊤, ◌⊎◌, nat_lt, if◌then◌else◌, List, length, Option, Some, None, Result, Ok, Err}
+use Rattle.enctypes.specs.KeyUsage.{usage_number}
+use Rattle.enctypes.specs.declared.key_usage.KeyUsage.TheVariants.{AsRepEncPart}
 use Rattle.krb_elements.specs.Codec.{written}
 use Rattle.krb_fields.specs.PrincipalName.{Name}
 use Rattle.krb_fields.specs.Salt.{default_salt}
@@ -12,6 +14,7 @@ use Rattle.krb_types.specs.KrbError.{KrbError, krb_error}
 use Rattle.krb_types.specs.ReqBody.{ReqBody}
 use Rattle.kdc_replies.specs.ErrorReply.{error_reply, too_big}
 use Rattle.kdc_replies.specs.Grant.{reply_part, ticket_part}
+use Rattle.kdc_replies.specs.Incoming.{Incoming}
 use Rattle.kdc_replies.specs.Reply.{NamesKey, OpensAlike}
 use Rattle.kdc_replies.specs.ServiceTerms.{current_keys}
 use Rattle.preauth.specs.Keys.{types_of}
@@ -24,9 +27,16 @@ use Rattle.as_exchange.specs.View.{View}
 use Rattle.as_exchange.specs.Rules.{is_good, timestamp_of, verdict, code_of}
 use Rattle.as_exchange.specs.Issue.{as_rep, grant_by}
 use Rattle.as_exchange.specs.declared.refusal.AsRefusal.{AsRefusal}
-use Rattle.as_exchange.specs.declared.refusal.AsRefusal.TheVariants.{BadVersion, BadMessageType, ClientUnknown, ServiceUnknown, ClientRevoked, ClientExpired, PasswordExpired, ServiceRevoked, ServiceExpired, BadOption, NoCommonType, PreauthFailed, TimestampSkewed, PreauthRequired, PostdatingRefused, StartsTooLate, NeverValid}
+use Rattle.as_exchange.specs.declared.refusal.AsRefusal.TheVariants.{BadVersion, BadMessageType, ClientUnknown}
+use Rattle.as_exchange.specs.declared.refusal.AsRefusal.TheVariants.{ServiceUnknown}
+use Rattle.as_exchange.specs.declared.refusal.AsRefusal.TheVariants.{ClientRevoked, ClientExpired, PasswordExpired}
+use Rattle.as_exchange.specs.declared.refusal.AsRefusal.TheVariants.{ServiceRevoked, ServiceExpired, BadOption}
+use Rattle.as_exchange.specs.declared.refusal.AsRefusal.TheVariants.{NoCommonType}
+use Rattle.as_exchange.specs.declared.refusal.AsRefusal.TheVariants.{PreauthFailed, TimestampSkewed, PreauthRequired}
+use Rattle.as_exchange.specs.declared.refusal.AsRefusal.TheVariants.{PostdatingRefused, StartsTooLate, NeverValid}
 use Rattle.as_exchange.specs.declared.refusal.Sequel.{Sequel}
-use Rattle.as_exchange.specs.declared.refusal.Sequel.TheVariants.{Nothing, CountsFailure, TellsMethods, FollowsTimestamp}
+use Rattle.as_exchange.specs.declared.refusal.Sequel.TheVariants.{Nothing, CountsFailure, TellsMethods}
+use Rattle.as_exchange.specs.declared.refusal.Sequel.TheVariants.{FollowsTimestamp}
 use Rattle.as_exchange.specs.declared.terms.Admission.{Admission}
 
 -- the octets of the reply, and the client's failures afterwards: none, they stay as they were
@@ -70,7 +80,8 @@ after_sequel failures at timestamp FollowsTimestamp = after_timestamp failures t
 
 -- METHOD-DATA: the client's current types in the order asked for, with the salt, and that a timestamp is taken
 abbrev pub methods_for : List ℕ → ReqBody → Option Row → Option Name → Option (List ℕ)
-methods_for realm body (Some row) (Some name) = Some (method_data (default_salt realm name.components) (types_of (current_keys row) body.etype))
+methods_for realm body (Some row) (Some name) =
+    Some (method_data (default_salt realm name.components) (types_of (current_keys row) body.etype))
 methods_for realm body (Some row) None = None
 methods_for realm body None name = None
 
@@ -85,48 +96,66 @@ as_error v at body refusal = error_reply v.realm at (code_of refusal) body.sname
 
 -- ---- answers
 
+-- the error in place of a reply that is too long
+abbrev pub refused_room : View → Moment → ReqBody → Answer
+refused_room v at body = record { reply = written krb_error (too_big v.realm at body); failures = None }
+
 -- a reply with a ticket that is longer than the room leaves no trace
-abbrev pub within_room : View → Moment → ℕ → ReqBody → List ℕ → Option Failures → Answer
-within_room v at room body octets failures =
-    if nat_lt room (length octets) then record { reply = written krb_error (too_big v.realm at body); failures = None }
+abbrev pub within_room : View → Incoming → ReqBody → List ℕ → Option Failures → Answer
+within_room v incoming body octets failures =
+    if nat_lt incoming.room (length octets) then refused_room v incoming.at body
     else record { reply = octets; failures = failures }
 
-abbrev pub answer_by : View → Moment → List ℕ → ℕ → ReqBody → Outcome → Result Admission AsRefusal → Answer
-answer_by v at words room body timestamp (Err refusal) =
-    record { reply = written krb_error (as_error v at body refusal); failures = after_sequel v.failures at timestamp (sequel_of refusal) }
-answer_by v at words room body timestamp (Ok admission) =
-    within_room v at room body (written (kdc_rep 11) (as_rep v at words body timestamp admission)) (after_timestamp v.failures timestamp)
+abbrev pub refused : View → Moment → ReqBody → Outcome → AsRefusal → Answer
+refused v at body timestamp refusal = record {
+  reply = written krb_error (as_error v at body refusal);
+  failures = after_sequel v.failures at timestamp (sequel_of refusal);
+}
 
--- `words` are 64 random octets, and `room` the most octets of a reply with a ticket
-abbrev pub as_answer : View → Moment → List ℕ → ℕ → Received → Answer
-as_answer v at words room message = answer_by v at words room message.body.value (timestamp_of v.client at.sec message) (verdict v at.sec message)
+abbrev pub answer_by : View → Incoming → ReqBody → Outcome → Result Admission AsRefusal → Answer
+answer_by v incoming body timestamp (Err refusal) = refused v incoming.at body timestamp refusal
+answer_by v incoming body timestamp (Ok admission) =
+    within_room v incoming body (written (kdc_rep 11) (as_rep v incoming.at incoming.random body timestamp admission))
+    (after_timestamp v.failures timestamp)
+
+abbrev pub as_answer : View → Incoming → Received → Answer
+as_answer v incoming message =
+    answer_by v incoming message.body.value (timestamp_of v.client incoming.at.sec message)
+    (verdict v incoming.at.sec message)
 
 -- ---- what the octets spell
 
 -- an error where it was refused; else the AS-REP, or the error in its place
 abbrev pub SpelledBy : View → Moment → List ℕ → ReqBody → Outcome → Result Admission AsRefusal → List ℕ → Type 0
-SpelledBy v at words body timestamp (Err refusal) octets = krb_error.Spells (as_error v at body refusal) octets
-SpelledBy v at words body timestamp (Ok admission) octets = (kdc_rep 11).Spells (as_rep v at words body timestamp admission) octets ⊎ krb_error.Spells (too_big v.realm at body) octets
+SpelledBy v at random body timestamp (Err refusal) octets = krb_error.Spells (as_error v at body refusal) octets
+SpelledBy v at random body timestamp (Ok admission) octets =
+    (kdc_rep 11).Spells (as_rep v at random body timestamp admission) octets
+    ⊎ krb_error.Spells (too_big v.realm at body) octets
 
 abbrev pub Spelled : View → Moment → List ℕ → Received → List ℕ → Type 0
-Spelled v at words message octets = SpelledBy v at words message.body.value (timestamp_of v.client at.sec message) (verdict v at.sec message) octets
+Spelled v at random message octets =
+    SpelledBy v at random message.body.value (timestamp_of v.client at.sec message) (verdict v at.sec message) octets
 
 -- The client's key opens the AS-REP to what the service's key finds in the ticket, and both are those that the sealed
 -- parts name in the rows of the client and of the service.
 abbrev pub OpensTo : View → Admission → KdcRep 11 → EncKdcRepPart → EncTicketPart → Type 0
 OpensTo v admission reply part ticket =
-    OpensAlike 11 25 admission.terms.reply_key 3 admission.terms.service.key.key reply part ticket
+    OpensAlike 11 25 admission.terms.reply_key (usage_number AsRepEncPart) admission.terms.service.key.key
+    reply part ticket
     × NamesKey v.client reply.enc_part admission.terms.reply_key
     × NamesKey v.service reply.ticket.enc_part admission.terms.service.key.key
 
 -- they find what was granted
 abbrev pub OpensFor : View → Moment → List ℕ → ReqBody → Outcome → Admission → Type 0
-OpensFor v at words body timestamp admission =
-    OpensTo v admission (as_rep v at words body timestamp admission) (reply_part (grant_by v at words body timestamp admission) body.nonce at.sec) (ticket_part (grant_by v at words body timestamp admission))
+OpensFor v at random body timestamp admission =
+    OpensTo v admission (as_rep v at random body timestamp admission)
+    (reply_part (grant_by v at random body timestamp admission) body.nonce at.sec)
+    (ticket_part (grant_by v at random body timestamp admission))
 
 abbrev pub OpensBy : View → Moment → List ℕ → ReqBody → Outcome → Result Admission AsRefusal → Type 0
-OpensBy v at words body timestamp (Err refusal) = ⊤
-OpensBy v at words body timestamp (Ok admission) = OpensFor v at words body timestamp admission
+OpensBy v at random body timestamp (Err refusal) = ⊤
+OpensBy v at random body timestamp (Ok admission) = OpensFor v at random body timestamp admission
 
 abbrev pub Opens : View → Moment → List ℕ → Received → Type 0
-Opens v at words message = OpensBy v at words message.body.value (timestamp_of v.client at.sec message) (verdict v at.sec message)
+Opens v at random message =
+    OpensBy v at random message.body.value (timestamp_of v.client at.sec message) (verdict v at.sec message)

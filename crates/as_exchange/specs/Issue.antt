@@ -20,11 +20,11 @@ use Rattle.as_exchange.specs.declared.terms.Terms.{Terms}
 use Rattle.as_exchange.specs.declared.terms.Admission.{Admission}
 
 abbrev pub grant_by : View → Moment → List ℕ → ReqBody → Outcome → Admission → Grant
-grant_by v at words body timestamp admission = record {
+grant_by v at random body timestamp admission = record {
   realm = v.realm;
   client = admission.terms.client_name;
   service = admission.terms.service.name;
-  session_key = session_key admission.terms.service.session_type words;
+  session_key = session_key admission.terms.service.session_type random;
   flags = as_flags body admission.terms.client admission.terms.service.policy (is_good timestamp) admission.times;
   authtime = at.sec;
   times = admission.times;
@@ -41,6 +41,7 @@ reply_info v terms = etype_info2 (default_salt v.realm terms.client_name.compone
 
 -- the AS-REP, by what became of the timestamp
 abbrev pub as_rep : View → Moment → List ℕ → ReqBody → Outcome → Admission → KdcRep 11
-as_rep v at words body timestamp admission =
-    reply_of 11 25 (grant_by v at words body timestamp admission) admission.terms.service.key (reply_key_of admission.terms) (Some (reply_info v admission.terms ∷ []))
-    body.nonce at.sec words
+as_rep v at random body timestamp admission =
+    reply_of 11 25 (grant_by v at random body timestamp admission) admission.terms.service.key
+    (reply_key_of admission.terms) (Some (reply_info v admission.terms ∷ []))
+    body.nonce at.sec random

@@ -1,5 +1,6 @@
 -- The ticket that an AS-REQ is issued, if it is issued one, and that its reply is that ticket's.
-use Rattle.std.proofs.Common.{◌≡◌, ◌≤◌, ◌⊎◌, inl, inr, ℕ, List, [], ◌∷◌, length, Option, Some, None, Result, Ok, Err, ap, subst}
+use Rattle.std.proofs.Common.{◌≡◌, ◌≤◌, ◌⊎◌, inl, inr, ℕ, List, [], ◌∷◌, length, Option, Some, None, Result, Ok, Err}
+use Rattle.std.proofs.Common.{ap, subst}
 use Rattle.std.specs.Option.{unwrap_or}
 use Rattle.kdc_replies.specs.GrantLaws.{session_key_size}
 use Rattle.kdc_replies.specs.Issue.{Issue, IsIssuedOrError}
@@ -17,44 +18,50 @@ use Rattle.as_exchange.specs.declared.terms.Admission.{Admission}
 
 -- the ticket of an admission, by what became of the timestamp
 abbrev pub issue_of : View → Moment → List ℕ → ReqBody → Outcome → Admission → Issue
-issue_of v at words body timestamp admission = record {
+issue_of v at random body timestamp admission = record {
   exchange = As;
-  grant = grant_by v at words body timestamp admission;
+  grant = grant_by v at random body timestamp admission;
   service_key = admission.terms.service.key;
   reply_key = reply_key_of admission.terms;
   padata = Some (reply_info v admission.terms ∷ []);
   nonce = body.nonce;
   now = at.sec;
-  words = words;
+  random = random;
 }
 
 abbrev pub issued_by : View → Moment → List ℕ → ReqBody → Outcome → Result Admission AsRefusal → Option Issue
-issued_by v at words body timestamp (Ok admission) = Some (issue_of v at words body timestamp admission)
-issued_by v at words body timestamp (Err refusal) = None
+issued_by v at random body timestamp (Ok admission) = Some (issue_of v at random body timestamp admission)
+issued_by v at random body timestamp (Err refusal) = None
 
 abbrev pub issued : View → Moment → List ℕ → Received → Option Issue
-issued v at words message = issued_by v at words message.body.value (timestamp_of v.client at.sec message) (verdict v at.sec message)
+issued v at random message =
+    issued_by v at random message.body.value (timestamp_of v.client at.sec message) (verdict v at.sec message)
 
 -- ---- the law
 
-module _ (v : View) (at : Moment) (words octets : List ℕ) (long : 32 ≤ length words) where
-  spelled_by : (body : ReqBody) (timestamp : Outcome) (admission : Admission) → SpelledBy v at words body timestamp (Ok admission) octets → OpensBy v at words body timestamp (Ok admission)
-      → IsIssuedOrError (issue_of v at words body timestamp admission) octets
+module _ (v : View) (at : Moment) (random octets : List ℕ) (long : 32 ≤ length random) where
+  spelled_by : (body : ReqBody) (timestamp : Outcome) (admission : Admission)
+      → SpelledBy v at random body timestamp (Ok admission) octets → OpensBy v at random body timestamp (Ok admission)
+      → IsIssuedOrError (issue_of v at random body timestamp admission) octets
   spelled_by body timestamp admission (inl spelled) opens = inl (record {
     spelled = spelled;
     client_reads = opens.0.client_reads;
     service_reads = opens.0.service_reads;
-    session_key = session_key_size admission.terms.service.session_type words long;
+    session_key = session_key_size admission.terms.service.session_type random long;
   })
   spelled_by body timestamp admission (inr spelled) opens = inr (_, spelled)
 
-  reply_by : (body : ReqBody) (timestamp : Outcome) (r : Result Admission AsRefusal) (issue : Issue) → SpelledBy v at words body timestamp r octets → OpensBy v at words body timestamp r
-      → issued_by v at words body timestamp r ≡ Some issue → IsIssuedOrError issue octets
+  reply_by : (body : ReqBody) (timestamp : Outcome) (r : Result Admission AsRefusal) (issue : Issue)
+      → SpelledBy v at random body timestamp r octets → OpensBy v at random body timestamp r
+      → issued_by v at random body timestamp r ≡ Some issue → IsIssuedOrError issue octets
   reply_by body timestamp (Ok admission) issue spelled opens e =
-      let is : issue_of v at words body timestamp admission ≡ issue = ap (λ (o : Option Issue). unwrap_or o issue) e in
+      let is : issue_of v at random body timestamp admission ≡ issue = ap (λ (o : Option Issue). unwrap_or o issue) e in
       subst (λ (i : Issue). IsIssuedOrError i octets) is (spelled_by body timestamp admission spelled opens)
   reply_by body timestamp (Err refusal) issue spelled opens e = absurd cc
 
   -- the reply to an AS-REQ that is issued a ticket
-  pub reply_is_issued : (message : Received) (issue : Issue) → Spelled v at words message octets → Opens v at words message → issued v at words message ≡ Some issue → IsIssuedOrError issue octets
-  reply_is_issued message issue spelled opens e = reply_by message.body.value (timestamp_of v.client at.sec message) (verdict v at.sec message) issue spelled opens e
+  pub reply_is_issued : (message : Received) (issue : Issue) → Spelled v at random message octets
+      → Opens v at random message → issued v at random message ≡ Some issue → IsIssuedOrError issue octets
+  reply_is_issued message issue spelled opens e =
+      reply_by message.body.value (timestamp_of v.client at.sec message)
+      (verdict v at.sec message) issue spelled opens e

@@ -19,13 +19,21 @@ pub record IsKnown (v : View) (body : ReqBody) : Type 0 where
   pub service : IfSome v.service (λ row. IfSome body.sname (λ n. IsWithinLimits n.components))
   pub sname : IfSome body.sname (λ n. length (name.text n) < 2147483648)
 
-joined_short : (components : Components) → All IsComponent components → length (concat components) ≤ 255 * length components
+joined_short : (components : Components) → All IsComponent components
+    → length (concat components) ≤ 255 * length components
 joined_short [] all = omega arith
 joined_short (c ∷ cs) all =
-    omega (arith, length-append c (concat cs), (component_facts c (All-head IsComponent c cs all)).1, joined_short cs (All-tail IsComponent c cs all))
+    omega (
+      arith,
+      length-append c (concat cs),
+      (component_facts c (All-head IsComponent c cs all)).1,
+      joined_short cs
+          (All-tail IsComponent c cs all),
+    )
 
 -- the salt of a name within the limits
-pub salt_short : (realm : List ℕ) (components : Components) → length realm ≤ 255 → IsWithinLimits components → length (default_salt realm components) ≤ 8192
+pub salt_short : (realm : List ℕ) (components : Components) → length realm ≤ 255 → IsWithinLimits components
+    → length (default_salt realm components) ≤ 8192
 salt_short realm components short is =
     let facts = name_facts components is in
     omega (arith, length-append realm (concat components), joined_short components facts.2, facts.1, short)

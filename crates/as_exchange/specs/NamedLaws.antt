@@ -1,5 +1,6 @@
 -- The names of an admission are those of the request and have rows, and its keys are those that the rows have.
-use Rattle.std.proofs.Common.{◌≡◌, ◌≤◌, List, [], ◌∷◌, length, ℤ, pos, Option, Some, None, Result, Ok, Err, ap, sym, subst, ◌∙◌, arith}
+use Rattle.std.proofs.Common.{◌≡◌, ◌≤◌, List, [], ◌∷◌, length, ℤ, pos, Option, Some, None, Result, Ok, Err, ap, sym}
+use Rattle.std.proofs.Common.{subst, ◌∙◌, arith}
 use Rattle.std.specs.Prelude.{IfOk, IfSome}
 use Rattle.std.specs.Option.{unwrap_or}
 use Rattle.enctypes.specs.Etype.{number}
@@ -11,20 +12,17 @@ use Rattle.krb_elements.specs.Codec.{list_of}
 use Rattle.krb_fields.specs.NameLimits.{IsWithinLimits}
 use Rattle.krb_fields.specs.PaData.{PaData, pa_data, pa_data_form}
 use Rattle.krb_fields.specs.PrincipalName.{Name}
-use Rattle.krb_fields.specs.declared.code.Code.{Code}
 use Rattle.krb_types.specs.ReqBody.{ReqBody}
 use Rattle.preauth.specs.KeyLaws.{current_found, first_found}
 use Rattle.preauth.specs.Keys.{first_key, key_by, key_named}
 use Rattle.principal_rows.specs.Versions.{current}
-use Rattle.principal_rows.specs.declared.limits.Limits.{Limits}
 use Rattle.principal_rows.specs.declared.row.Row.{Row}
 use Rattle.refusals.specs.RefusalLaws.{decided_found}
 use Rattle.refusals.specs.Refusals.{Rule, decided}
-use Rattle.ticket_times.specs.Times.{as_times}
 use Rattle.ticket_times.specs.declared.times.Times.{Times}
 use Rattle.as_exchange.specs.View.{View}
 use Rattle.as_exchange.specs.Known.{IsKnown}
-use Rattle.as_exchange.specs.Terms.{terms, terms_by, terms_if, terms_of, admission_of, admission_at}
+use Rattle.as_exchange.specs.Terms.{terms, terms_by, terms_if, terms_of, admission_of}
 use Rattle.as_exchange.specs.declared.terms.Terms.{Terms}
 use Rattle.as_exchange.specs.declared.terms.Admission.{Admission}
 
@@ -33,23 +31,24 @@ pub record IsNamed (client_row service_row : Option Row) (t : Terms) : Type 0 wh
   pub client : IsWithinLimits t.client_name.components
   pub service : IsWithinLimits t.service.name.components
   pub reply_key : key_named client_row (number t.reply_key.etype) (Some (pos t.reply_version)) ≡ Some t.reply_key
-  pub service_key : key_named service_row (number t.service.key.key.etype) (Some (pos t.service.key.version)) ≡ Some t.service.key.key
+  pub service_key : key_named service_row (number t.service.key.key.etype)
+      (Some (pos t.service.key.version)) ≡ Some t.service.key.key
 
-at_terms : (t : Terms) (times : Result Times Code) (a : Admission) → admission_at t times ≡ Some a → t ≡ a.terms
-at_terms t (Ok times) a e = ap (λ (o : Option Admission). again o) e
+admitted_terms : (o : Option Terms) (times : Option Times) (a : Admission) → admission_of o times ≡ Some a
+    → o ≡ Some a.terms
+admitted_terms (Some t) (Some times) a e = ap (λ (o : Option Admission). again o) e
   where
-    again : Option Admission → Terms
-    again (Some b) = b.terms
-    again None = t
-at_terms t (Err code) a e = absurd cc
-
-admitted_terms : (limits : Limits) (now : ℤ) (body : ReqBody) (o : Option Terms) (a : Admission) → admission_of limits now body o ≡ Some a → o ≡ Some a.terms
-admitted_terms limits now body (Some t) a e = ap (λ t. Some t) (at_terms t (as_times now t.client t.service.policy limits body) a e)
-admitted_terms limits now body None a e = absurd cc
+    again : Option Admission → Option Terms
+    again (Some b) = Some b.terms
+    again None = Some t
+admitted_terms (Some t) None a e = absurd cc
+admitted_terms None times a e = absurd cc
 
 -- what the terms are made of
-found_by : (cname : Name) (client : Row) (reply : Option Key) (service : Option ServiceTerms) (t : Terms) → terms_by cname client reply service ≡ Some t
-    → (cname ≡ t.client_name) × (reply ≡ Some t.reply_key) × ((current client.versions).number ≡ t.reply_version) × (service ≡ Some t.service)
+found_by : (cname : Name) (client : Row) (reply : Option Key) (service : Option ServiceTerms) (t : Terms)
+    → terms_by cname client reply service ≡ Some t
+    → (cname ≡ t.client_name) × (reply ≡ Some t.reply_key) × ((current client.versions).number ≡ t.reply_version)
+    × (service ≡ Some t.service)
 found_by cname client None service t e = absurd cc
 found_by cname client (Some r) None t e = absurd cc
 found_by cname client (Some r) (Some s) t e = (
@@ -59,7 +58,8 @@ found_by cname client (Some r) (Some s) t e = (
   ap (λ (o : Option Terms). Some (unwrap_or o t).service) e,
 )
 
-named_of : (types : List ℤ) (cname sname : Name) (client service : Row) (t : Terms) → IsWithinLimits cname.components → IsWithinLimits sname.components
+named_of : (types : List ℤ) (cname sname : Name) (client service : Row) (t : Terms) → IsWithinLimits cname.components
+    → IsWithinLimits sname.components
     → terms_of types cname sname client service ≡ Some t → IsNamed (Some client) (Some service) t
 named_of types cname sname client service t c s e =
     let found = found_by cname client (first_key (current_keys client) types) (service_terms types sname service) t e in
@@ -73,28 +73,38 @@ named_of types cname sname client service t c s e =
     }
 
 named_if : (types : List ℤ) (cname sname : Option Name) (client service : Option Row) (t : Terms)
-    → IfSome client (λ row. IfSome cname (λ n. IsWithinLimits n.components)) → IfSome service (λ row. IfSome sname (λ n. IsWithinLimits n.components))
+    → IfSome client (λ row. IfSome cname (λ n. IsWithinLimits n.components))
+    → IfSome service (λ row. IfSome sname (λ n. IsWithinLimits n.components))
     → terms_if types cname sname client service ≡ Some t → IsNamed client service t
-named_if types (Some cname) (Some sname) (Some client) (Some service) t c s e = named_of types cname sname client service t c s e
+named_if types (Some cname) (Some sname) (Some client) (Some service) t c s e =
+    named_of types cname sname client service t c s e
 named_if types (Some cname) (Some sname) (Some client) None t c s e = absurd cc
 named_if types (Some cname) (Some sname) None service t c s e = absurd cc
 named_if types (Some cname) None client service t c s e = absurd cc
 named_if types None sname client service t c s e = absurd cc
 
 -- the terms of what is admitted
-pub decided_named : {R : Type 0} (rules : List (Rule R)) (v : View) (now : ℤ) (body : ReqBody) (found : Option Terms) (otherwise : R) (a : Admission)
-    → IsKnown v body → found ≡ terms v body → decided rules (admission_of v.limits now body found) otherwise ≡ Ok a → IsNamed v.client v.service a.terms
-decided_named rules v now body found otherwise a known is e =
+pub decided_named : {R : Type 0} (rules : List (Rule R)) (v : View) (body : ReqBody) (found : Option Terms)
+    (times : Option Times) (otherwise : R) (a : Admission)
+    → IsKnown v body → found ≡ terms v body → decided rules (admission_of found times) otherwise ≡ Ok a
+    → IsNamed v.client v.service a.terms
+decided_named rules v body found times otherwise a known is e =
     named_if body.etype body.cname body.sname v.client v.service a.terms known.client known.service
-    (subst (λ (o : Option Terms). o ≡ Some a.terms) is (admitted_terms v.limits now body found a (decided_found rules (admission_of v.limits now body found) otherwise a e)))
+    (subst (λ (o : Option Terms). o ≡ Some a.terms) is
+    (admitted_terms found times a (decided_found rules (admission_of found times) otherwise a e)))
 
-pub verdict_named : {R : Type 0} (rules : List (Rule R)) (v : View) (now : ℤ) (body : ReqBody) (found : Option Terms) (otherwise : R) (r : Result Admission R)
-    → IsKnown v body → found ≡ terms v body → r ≡ decided rules (admission_of v.limits now body found) otherwise → IfOk r (λ a. IsNamed v.client v.service a.terms)
-verdict_named rules v now body found otherwise (Ok a) known is e = decided_named rules v now body found otherwise a known is (sym e)
-verdict_named rules v now body found otherwise (Err refusal) known is e = tt
+pub verdict_named : {R : Type 0} (rules : List (Rule R)) (v : View) (body : ReqBody) (found : Option Terms)
+    (times : Option Times) (otherwise : R) (r : Result Admission R)
+    → IsKnown v body → found ≡ terms v body → r ≡ decided rules (admission_of found times) otherwise
+    → IfOk r (λ a. IsNamed v.client v.service a.terms)
+verdict_named rules v body found times otherwise (Ok a) known is e =
+    decided_named rules v body found times otherwise a known is (sym e)
+verdict_named rules v body found times otherwise (Err refusal) known is e = tt
 
 -- ---- one PA-ETYPE-INFO2 is short
-pub data_short : (info : PaData) (list : List PaData) → length info.padata_value ≤ 32926 → list ≡ info ∷ [] → length ((list_of pa_data).text list) ≤ 70000
+pub data_short : (info : PaData) (list : List PaData) → length info.padata_value ≤ 32926 → list ≡ info ∷ []
+    → length ((list_of pa_data).text list) ≤ 70000
 unfolding pa_data_form
 data_short info list short same =
-    subst (λ (l : List PaData). length ((list_of pa_data).text l) ≤ 70000) (sym same) (omega (arith, short, (list_of pa_data).bounded (info ∷ [])))
+    subst (λ (l : List PaData). length ((list_of pa_data).text l) ≤ 70000) (sym same)
+    (omega (arith, short, (list_of pa_data).bounded (info ∷ [])))

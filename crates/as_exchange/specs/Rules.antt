@@ -1,5 +1,6 @@
 -- The rules by which AS-REQs are refused (RFC 4120, section 3.1.3), in their order.
-use Rattle.std.specs.Prelude.{ℤ, pos, Bool, true, false, not, ◌&&◌, ◌||◌, nat_eq, is_none, List, [], ◌∷◌, Option, Some, None, Result}
+use Rattle.std.specs.Prelude.{ℤ, pos, Bool, true, false, not, ◌&&◌, ◌||◌, nat_eq, is_none, List, [], ◌∷◌, Option}
+use Rattle.std.specs.Prelude.{Some, None, Result}
 use Rattle.std.specs.Ordering.{int_eq}
 use Rattle.std.specs.Cmp.Lexicographic.{pointwise}
 use Rattle.refusals.specs.Optional.{holds_of}
@@ -7,7 +8,8 @@ use Rattle.refusals.specs.Refusals.{Rule, decided}
 use Rattle.kdc_replies.specs.Standing.{has_come, is_disabled, is_expired}
 use Rattle.krb_fields.specs.declared.code.Code.{Code}
 use Rattle.krb_fields.specs.declared.code.Code as codes
-use Rattle.krb_fields.specs.declared.kdc_option.KdcOption.TheVariants.{Forwarded, Proxy, AllowPostdate, Postdated, EncTktInSkey, Renew, Validate}
+use Rattle.krb_fields.specs.declared.kdc_option.KdcOption.TheVariants.{Forwarded, Proxy, AllowPostdate, Postdated}
+use Rattle.krb_fields.specs.declared.kdc_option.KdcOption.TheVariants.{EncTktInSkey, Renew, Validate}
 use Rattle.krb_types.specs.KdcReq.{Received}
 use Rattle.krb_types.specs.ReqBody.{ReqBody}
 use Rattle.preauth.specs.Lock.{is_locked}
@@ -18,9 +20,15 @@ use Rattle.principal_rows.specs.declared.row.Row.{Row}
 use Rattle.ticket_times.specs.Asked.{asks}
 use Rattle.ticket_times.specs.Times.{starts_too_late}
 use Rattle.as_exchange.specs.View.{View}
-use Rattle.as_exchange.specs.Terms.{terms, admission_of}
+use Rattle.ticket_times.specs.declared.times.Times.{Times}
+use Rattle.as_exchange.specs.Terms.{terms, admission_of, times_of}
 use Rattle.as_exchange.specs.declared.refusal.AsRefusal.{AsRefusal}
-use Rattle.as_exchange.specs.declared.refusal.AsRefusal.TheVariants.{BadVersion, BadMessageType, ClientUnknown, ServiceUnknown, ClientRevoked, ClientExpired, PasswordExpired, ServiceRevoked, ServiceExpired, BadOption, NoCommonType, PreauthFailed, TimestampSkewed, PreauthRequired, PostdatingRefused, StartsTooLate, NeverValid}
+use Rattle.as_exchange.specs.declared.refusal.AsRefusal.TheVariants.{BadVersion, BadMessageType, ClientUnknown}
+use Rattle.as_exchange.specs.declared.refusal.AsRefusal.TheVariants.{ServiceUnknown, ClientRevoked, ClientExpired}
+use Rattle.as_exchange.specs.declared.refusal.AsRefusal.TheVariants.{PasswordExpired, ServiceRevoked, ServiceExpired}
+use Rattle.as_exchange.specs.declared.refusal.AsRefusal.TheVariants.{BadOption, NoCommonType, PreauthFailed}
+use Rattle.as_exchange.specs.declared.refusal.AsRefusal.TheVariants.{TimestampSkewed, PreauthRequired}
+use Rattle.as_exchange.specs.declared.refusal.AsRefusal.TheVariants.{PostdatingRefused, StartsTooLate, NeverValid}
 use Rattle.as_exchange.specs.declared.terms.Admission.{Admission}
 use Rattle.as_exchange.specs.declared.terms.Terms.{Terms}
 
@@ -46,7 +54,8 @@ is_client_revoked v now = is_disabled v.client || is_locked v.failures v.limits 
 
 -- options that only a TGS-REQ may have
 abbrev pub asks_bad_option : ReqBody → Bool
-asks_bad_option body = asks body Forwarded || asks body Proxy || asks body EncTktInSkey || asks body Renew || asks body Validate
+asks_bad_option body =
+    asks body Forwarded || asks body Proxy || asks body EncTktInSkey || asks body Renew || asks body Validate
 
 abbrev pub needs_preauth : Option Row → Bool
 needs_preauth = holds_of (λ row. row.policy.preauth)
@@ -55,7 +64,8 @@ abbrev pub forbids_postdating : Option Row → Bool
 forbids_postdating = holds_of (λ row. not row.policy.postdate)
 
 abbrev pub is_postdating_refused : View → ReqBody → Bool
-is_postdating_refused v body = (asks body Postdated || asks body AllowPostdate) && (forbids_postdating v.client || forbids_postdating v.service)
+is_postdating_refused v body =
+    (asks body Postdated || asks body AllowPostdate) && (forbids_postdating v.client || forbids_postdating v.service)
 
 -- what became of the timestamp: without a row there is none to judge
 abbrev pub timestamp_of : Option Row → ℤ → Received → Outcome
@@ -90,9 +100,9 @@ is_good Good = true
 abbrev pub lacks_preauth : Option Row → Outcome → Bool
 lacks_preauth row timestamp = is_absent timestamp && needs_preauth row
 
--- all rules but the last, by what became of the timestamp and by the terms
-abbrev pub rules_by : View → ℤ → Received → Outcome → Option Terms → List (Rule AsRefusal)
-rules_by v now message timestamp found =
+-- by what became of the timestamp, by the terms, and by the times of a ticket
+abbrev pub rules_by : View → ℤ → Received → Outcome → Option Terms → Option Times → List (Rule AsRefusal)
+rules_by v now message timestamp found times =
     (is_bad_version message, BadVersion)
     ∷ (is_bad_message_type message, BadMessageType)
     ∷ (is_client_unknown v message.body.value, ClientUnknown)
@@ -109,11 +119,17 @@ rules_by v now message timestamp found =
     ∷ (lacks_preauth v.client timestamp, PreauthRequired)
     ∷ (is_postdating_refused v message.body.value, PostdatingRefused)
     ∷ (starts_too_late now message.body.value, StartsTooLate)
+    ∷ (is_none times, NeverValid)
     ∷ []
 
--- what is admitted, or why nothing is: in the end because the ticket would not end after it starts
+-- what is admitted, or the first rule by which nothing is
+abbrev pub verdict_on : View → ℤ → Received → Outcome → Option Terms → Option Times → Result Admission AsRefusal
+verdict_on v now message timestamp found times =
+    decided (rules_by v now message timestamp found times) (admission_of found times) NeverValid
+
 abbrev pub verdict_by : View → ℤ → Received → Outcome → Option Terms → Result Admission AsRefusal
-verdict_by v now message timestamp found = decided (rules_by v now message timestamp found) (admission_of v.limits now message.body.value found) NeverValid
+verdict_by v now message timestamp found =
+    verdict_on v now message timestamp found (times_of v.limits now message.body.value found)
 
 abbrev pub verdict : View → ℤ → Received → Result Admission AsRefusal
 verdict v now message = verdict_by v now message (timestamp_of v.client now message) (terms v message.body.value)

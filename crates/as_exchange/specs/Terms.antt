@@ -1,10 +1,9 @@
 -- What the rows have for the types that a request asks for, and the times of the ticket.
-use Rattle.std.specs.Prelude.{ℤ, List, Option, Some, None, Result, Ok, Err}
+use Rattle.std.specs.Prelude.{ℤ, List, Option, Some, None}
 use Rattle.enctypes.specs.declared.key.Key.{Key}
 use Rattle.kdc_replies.specs.ServiceTerms.{current_keys, service_terms}
 use Rattle.kdc_replies.specs.declared.services.ServiceTerms.{ServiceTerms}
 use Rattle.krb_fields.specs.PrincipalName.{Name}
-use Rattle.krb_fields.specs.declared.code.Code.{Code}
 use Rattle.krb_types.specs.ReqBody.{ReqBody}
 use Rattle.preauth.specs.Keys.{first_key}
 use Rattle.principal_rows.specs.Versions.{current}
@@ -29,7 +28,8 @@ terms_by cname client (Some reply) None = None
 terms_by cname client None service = None
 
 abbrev pub terms_of : List ℤ → Name → Name → Row → Row → Option Terms
-terms_of types cname sname client service = terms_by cname client (first_key (current_keys client) types) (service_terms types sname service)
+terms_of types cname sname client service =
+    terms_by cname client (first_key (current_keys client) types) (service_terms types sname service)
 
 abbrev pub terms_if : List ℤ → Option Name → Option Name → Option Row → Option Row → Option Terms
 terms_if types (Some cname) (Some sname) (Some client) (Some service) = terms_of types cname sname client service
@@ -42,11 +42,12 @@ terms_if types None sname client service = None
 abbrev pub terms : View → ReqBody → Option Terms
 terms v body = terms_if body.etype body.cname body.sname v.client v.service
 
-abbrev pub admission_at : Terms → Result Times Code → Option Admission
-admission_at t (Ok times) = Some (record { terms = t; times = times })
-admission_at t (Err code) = None
+-- the times of a ticket by these terms; none where it would end no later than it starts
+abbrev pub times_of : Limits → ℤ → ReqBody → Option Terms → Option Times
+times_of limits now body (Some t) = as_times now t.client t.service.policy limits body
+times_of limits now body None = None
 
--- the terms, with the times of a ticket that ends after it starts
-abbrev pub admission_of : Limits → ℤ → ReqBody → Option Terms → Option Admission
-admission_of limits now body (Some t) = admission_at t (as_times now t.client t.service.policy limits body)
-admission_of limits now body None = None
+abbrev pub admission_of : Option Terms → Option Times → Option Admission
+admission_of (Some t) (Some times) = Some (record { terms = t; times = times })
+admission_of (Some t) None = None
+admission_of None times = None

@@ -2,7 +2,8 @@
 ghost use Rattle.std.specs.Prelude.{◌≡◌, ◌⊎◌, length, IfOk};
 ghost use Rattle.kdc_replies.specs.ErrorReply.{too_big};
 ghost use Rattle.krb_types.specs.KrbError.{krb_error};
-ghost use Rattle.as_exchange.specs.Answer.{after_timestamp, after_sequel, answer_by, as_answer, within_room};
+ghost use Rattle.as_exchange.specs.Answer.{after_timestamp, after_sequel, answer_by, as_answer, as_error, refused};
+ghost use Rattle.as_exchange.specs.Answer.{within_room};
 ghost use Rattle.as_exchange.specs.Answer.{Opens, OpensBy, Spelled, SpelledBy};
 ghost use Rattle.as_exchange.specs.Known.{IsKnown};
 ghost use Rattle.as_exchange.specs.NamedLaws.{IsNamed};
@@ -13,7 +14,7 @@ use crate::refusal::{AsRefusal, Sequel};
 use crate::rules::{is_good, timestamp_of, verdict};
 use crate::terms::{Admission, terms_for};
 use crate::view::AsView;
-use kdc_replies::too_big;
+use kdc_replies::{Incoming, too_big};
 use krb_fields::Moment;
 use krb_types::{KdcReqRef, ReqBodyRef};
 use preauth::{Outcome, after_failure, after_success};
@@ -27,79 +28,103 @@ pub struct AsAnswer {
     pub failures: Option<Failures>,
 }
 
-/// Answers an AS-REQ. `words` are 64 random octets, and `room` is the most octets of a reply with a ticket.
+/// Answers an AS-REQ.
 pub fn as_answer(
     alloc: Global,
     view: &AsView<'_>,
-    at: Moment,
-    words: &[u8; 64],
-    room: u32,
-    request: &KdcReqRef<'_>,
+    incoming: &Incoming<'_>,
+    message: &KdcReqRef<'_>,
 ) -> Result<AsAnswer, AllocError>
-    requires { IsKnown view.now request.now.body.value }
-    ensures reply { IfOk result (λ answer. answer.reply.items ≡ (as_answer view.now at words.now room request.now).reply) }
-    ensures failures { IfOk result (λ answer. answer.failures ≡ (as_answer view.now at words.now room request.now).failures) }
+    requires { IsKnown view.now message.now.body.value }
+    ensures reply { IfOk result (λ answer. answer.reply.items ≡ (as_answer view.now incoming.now message.now).reply) }
+    ensures failures { IfOk result (λ answer.
+        answer.failures ≡ (as_answer view.now incoming.now message.now).failures) }
     // The octets spell the message that the verdict says.
-    ensures spelled { IfOk result (λ answer. Spelled view.now at words.now request.now answer.reply.items) }
+    ensures spelled { IfOk result (λ answer.
+        Spelled view.now incoming.now.at incoming.now.random message.now answer.reply.items) }
     // Where they spell an AS-REP, the client's key and the service's find the same inside.
-    ensures same { IfOk result (λ answer. Opens view.now at words.now request.now) }
+    ensures same { IfOk result (λ answer. Opens view.now incoming.now.at incoming.now.random message.now) }
 {
-    let body = &request.body.value;
-    let timestamp = timestamp_of(alloc, view.client, at, request)?;
+    let body = &message.body.value;
+    let timestamp = timestamp_of(alloc, view.client, incoming.at, message)?;
     let terms = terms_for(alloc, view, body)?;
-    let verdict = verdict(view, at, request, timestamp, terms);
-    answer_by(alloc, view, at, words, room, body, timestamp, &verdict)
+    let verdict = verdict(view, incoming.at, message, timestamp, terms);
+    answer_by(alloc, view, incoming, body, timestamp, &verdict)
 }
 
 /// The answer by a verdict.
 fn answer_by(
     alloc: Global,
     view: &AsView<'_>,
-    at: Moment,
-    words: &[u8; 64],
-    room: u32,
+    incoming: &Incoming<'_>,
     body: &ReqBodyRef<'_>,
     timestamp: Outcome,
     verdict: &Result<Admission, AsRefusal>,
 ) -> Result<AsAnswer, AllocError>
     requires known { IsKnown view.now body.now }
     requires named { IfOk verdict.now (λ admission. IsNamed view.now.client view.now.service admission.terms) }
-    ensures reply { IfOk result (λ answer. answer.reply.items ≡ (answer_by view.now at words.now room body.now timestamp verdict.now).reply) }
-    ensures failures { IfOk result (λ answer. answer.failures ≡ (answer_by view.now at words.now room body.now timestamp verdict.now).failures) }
-    ensures spelled { IfOk result (λ answer. SpelledBy view.now at words.now body.now timestamp verdict.now answer.reply.items) }
-    ensures same { IfOk result (λ answer. OpensBy view.now at words.now body.now timestamp verdict.now) }
+    ensures reply { IfOk result (λ answer.
+        answer.reply.items ≡ (answer_by view.now incoming.now body.now timestamp verdict.now).reply) }
+    ensures failures { IfOk result (λ answer.
+        answer.failures ≡ (answer_by view.now incoming.now body.now timestamp verdict.now).failures) }
+    ensures spelled { IfOk result (λ answer.
+        SpelledBy view.now incoming.now.at incoming.now.random body.now timestamp verdict.now answer.reply.items) }
+    ensures same { IfOk result (λ answer.
+        OpensBy view.now incoming.now.at incoming.now.random body.now timestamp verdict.now) }
 {
     match verdict {
-        Err(refusal) => Ok(AsAnswer {
-            reply: as_error(alloc, view, at, body, *refusal)?,
-            failures: after_sequel(view.failures, at, timestamp, refusal.sequel()),
-        }),
+        Err(refusal) => refused(alloc, view, incoming.at, body, timestamp, *refusal),
         Ok(admission) => {
-            let reply = as_rep(alloc, view, at, words, body, timestamp, admission)?;
+            let reply = as_rep(alloc, view, incoming, body, timestamp, admission)?;
             let failures = after_timestamp(view.failures, timestamp);
-            within_room(alloc, view, at, room, body, reply, failures)
+            within_room(alloc, view, incoming, body, reply, failures)
         }
     }
+}
+
+/// The error that refuses a request, and what becomes of the client's failures.
+fn refused(
+    alloc: Global,
+    view: &AsView<'_>,
+    at: Moment,
+    body: &ReqBodyRef<'_>,
+    timestamp: Outcome,
+    refusal: AsRefusal,
+) -> Result<AsAnswer, AllocError>
+    requires { IsKnown view.now body.now }
+    ensures reply { IfOk result (λ answer. answer.reply.items ≡ (refused view.now at body.now timestamp refusal).reply) }
+    ensures failures { IfOk result (λ answer.
+        answer.failures ≡ (refused view.now at body.now timestamp refusal).failures) }
+    ensures spelled { IfOk result (λ answer.
+        krb_error.Spells (as_error view.now at body.now refusal) answer.reply.items) }
+{
+    Ok(AsAnswer {
+        reply: as_error(alloc, view, at, body, refusal)?,
+        failures: after_sequel(view.failures, at, timestamp, refusal.sequel()),
+    })
 }
 
 /// The reply with a ticket, or an error in its place where it is longer than the room.
 fn within_room(
     alloc: Global,
     view: &AsView<'_>,
-    at: Moment,
-    room: u32,
+    incoming: &Incoming<'_>,
     body: &ReqBodyRef<'_>,
     reply: Vec<u8>,
     failures: Option<Failures>,
 ) -> Result<AsAnswer, AllocError>
     requires { IsKnown view.now body.now }
-    ensures reply { IfOk result (λ answer. answer.reply.items ≡ (within_room view.now at room body.now reply.items failures).reply) }
-    ensures failures { IfOk result (λ answer. answer.failures ≡ (within_room view.now at room body.now reply.items failures).failures) }
-    ensures spelled { IfOk result (λ answer. (answer.reply.items ≡ reply.items) ⊎ krb_error.Spells (too_big view.now.realm at body.now) answer.reply.items) }
+    ensures reply { IfOk result (λ answer.
+        answer.reply.items ≡ (within_room view.now incoming.now body.now reply.items failures).reply) }
+    ensures failures { IfOk result (λ answer.
+        answer.failures ≡ (within_room view.now incoming.now body.now reply.items failures).failures) }
+    ensures spelled { IfOk result (λ answer.
+        (answer.reply.items ≡ reply.items)
+        ⊎ krb_error.Spells (too_big view.now.realm incoming.now.at body.now) answer.reply.items) }
 {
-    if reply.len() > room as usize {
+    if reply.len() > incoming.room as usize {
         return Ok(AsAnswer {
-            reply: too_big(alloc, view.realm, at, body)?,
+            reply: too_big(alloc, view.realm, incoming.at, body)?,
             failures: None,
         });
     }

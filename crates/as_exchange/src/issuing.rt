@@ -13,9 +13,9 @@ use crate::rules::is_good;
 use crate::terms::{Admission, Terms};
 use crate::view::AsView;
 use enctypes::KeyUsage;
-use kdc_replies::{Asked, Grant, ReplyKey, session_key, ticket_reply, version_number};
+use kdc_replies::{Asked, Grant, Incoming, ReplyKey, session_key, ticket_reply, version_number};
 use krb_elements::{KerberosStringRef, Lent, Seq};
-use krb_fields::{Moment, PaData};
+use krb_fields::PaData;
 use krb_types::ReqBodyRef;
 use preauth::{Outcome, etype_info2};
 use std::alloc::{AllocError, Global};
@@ -26,48 +26,51 @@ use ticket_times::as_flags;
 pub fn as_rep(
     alloc: Global,
     view: &AsView<'_>,
-    at: Moment,
-    words: &[u8; 64],
+    incoming: &Incoming<'_>,
     body: &ReqBodyRef<'_>,
     timestamp: Outcome,
     admission: &Admission,
 ) -> Result<Vec<u8>, AllocError>
     requires realm { length view.now.realm ≤ 255 }
     requires named { IsNamed view.now.client view.now.service admission.now.terms }
-    ensures written { IfOk result (λ octets. octets.items ≡ written (kdc_rep 11) (as_rep view.now at words.now body.now timestamp admission.now)) }
-    ensures spelled { IfOk result (λ octets. (kdc_rep 11).Spells (as_rep view.now at words.now body.now timestamp admission.now) octets.items) }
+    ensures written { IfOk result (λ octets.
+        octets.items ≡ written (kdc_rep 11)
+        (as_rep view.now incoming.now.at incoming.now.random body.now timestamp admission.now)) }
+    ensures spelled { IfOk result (λ octets.
+        (kdc_rep 11).Spells (as_rep view.now incoming.now.at incoming.now.random body.now timestamp
+        admission.now) octets.items) }
     // The client and the service find the same inside, by the keys that are named there.
-    ensures same { IfOk result (λ octets. OpensFor view.now at words.now body.now timestamp admission.now) }
+    ensures same { IfOk result (λ octets.
+        OpensFor view.now incoming.now.at incoming.now.random body.now timestamp admission.now) }
 {
     let padata = reply_data(alloc, view, &admission.terms)?;
     let reply_key = reply_key_of(&admission.terms);
     let asked = Asked {
         nonce: body.nonce,
-        now: at.time(),
+        time: incoming.at.time(),
+        random: incoming.random,
     };
-    let grant = grant_of(view, at, words, body, timestamp, admission);
+    let grant = grant_of(view, incoming, body, timestamp, admission);
     ticket_reply::<11, 25>(
         alloc,
         &grant,
         &admission.terms.service.key,
         &reply_key,
         Some(padata),
-        asked,
-        words,
+        &asked,
     )
 }
 
 fn grant_of<'g>(
     view: &AsView<'g>,
-    at: Moment,
-    words: &[u8; 64],
+    incoming: &Incoming<'_>,
     body: &ReqBodyRef<'_>,
     timestamp: Outcome,
     admission: &'g Admission,
 ) -> Grant<'g>
     requires realm { length view.now.realm ≤ 255 }
     requires named { IsNamed view.now.client view.now.service admission.now.terms }
-    ensures value { result ≡ grant_by view.now at words.now body.now timestamp admission.now }
+    ensures value { result ≡ grant_by view.now incoming.now.at incoming.now.random body.now timestamp admission.now }
     ensures short { IsShort result }
 {
     let Admission { terms, times } = admission;
@@ -82,9 +85,9 @@ fn grant_of<'g>(
         realm: KerberosStringRef::new(view.realm),
         client: Lent::new(&terms.client_name),
         service: Lent::new(&terms.service.name),
-        session_key: session_key(terms.service.session_type, words),
+        session_key: session_key(terms.service.session_type, incoming.random),
         flags,
-        authtime: at.time(),
+        authtime: incoming.at.time(),
         times: *times,
         authorization_data: None,
     }

@@ -1,11 +1,13 @@
 //! The rules of the AS exchange (RFC 4120, section 3.1.3), one condition each.
 ghost use Rattle.std.specs.Prelude.{◌≡◌, IfOk, option_copied};
 ghost use Rattle.as_exchange.specs.Rules.{is_bad_version, is_bad_message_type, is_client_unknown, is_service_unknown};
-ghost use Rattle.as_exchange.specs.Rules.{has_expired_password, is_client_revoked, asks_bad_option, needs_preauth, lacks_preauth, forbids_postdating};
-ghost use Rattle.as_exchange.specs.Rules.{is_postdating_refused, is_bad, is_skewed, is_absent, is_good, timestamp_of, rules_by, verdict_by};
+ghost use Rattle.as_exchange.specs.Rules.{has_expired_password, is_client_revoked, asks_bad_option, needs_preauth};
+ghost use Rattle.as_exchange.specs.Rules.{lacks_preauth, forbids_postdating};
+ghost use Rattle.as_exchange.specs.Rules.{is_postdating_refused, is_bad, is_skewed, is_absent, is_good, timestamp_of};
+ghost use Rattle.as_exchange.specs.Rules.{rules_by, verdict_by};
 
 use crate::refusal::AsRefusal;
-use crate::terms::{Admission, Terms, admission_of};
+use crate::terms::{Admission, Terms, admission_of, times_of};
 use crate::view::AsView;
 use kdc_replies::{has_come, is_disabled, is_expired};
 use krb_fields::{KdcOption, Moment};
@@ -14,38 +16,39 @@ use preauth::{Outcome, check_timestamp, is_locked};
 use principal_rows::Row;
 use refusals::decide;
 use std::alloc::{AllocError, Global};
-use ticket_times::{asks, starts_too_late};
+use ticket_times::{Times, asks, starts_too_late};
 
-/// What is admitted, or why nothing is: the first rule that holds, and in the end that the ticket would not end after it
-/// starts.
+/// What is admitted, or the first rule by which nothing is.
 pub fn verdict(
     view: &AsView<'_>,
     at: Moment,
-    request: &KdcReqRef<'_>,
+    message: &KdcReqRef<'_>,
     timestamp: Outcome,
     terms: Option<Terms>,
 ) -> Result<Admission, AsRefusal>
-    ensures { result ≡ verdict_by view.now at.sec request.now timestamp terms }
+    ensures { result ≡ verdict_by view.now at.sec message.now timestamp terms }
 {
-    let rules = rules_by(view, at, request, timestamp, &terms);
-    let admission = admission_of(view.limits, at, &request.body.value, terms);
+    let times = times_of(view.limits, at, &message.body.value, &terms);
+    let rules = rules_by(view, at, message, timestamp, &terms, &times);
+    let admission = admission_of(terms, times);
     decide(&rules, admission, AsRefusal::NeverValid)
 }
 
-/// All rules but the last, in the order in which they are asked.
+/// All rules, in the order in which they are asked.
 fn rules_by(
     view: &AsView<'_>,
     at: Moment,
-    request: &KdcReqRef<'_>,
+    message: &KdcReqRef<'_>,
     timestamp: Outcome,
     terms: &Option<Terms>,
-) -> [(bool, AsRefusal); 16]
-    ensures { result ≡ rules_by view.now at.sec request.now timestamp terms.now }
+    times: &Option<Times>,
+) -> [(bool, AsRefusal); 17]
+    ensures { result ≡ rules_by view.now at.sec message.now timestamp terms.now times.now }
 {
-    let body = &request.body.value;
+    let body = &message.body.value;
     [
-        (is_bad_version(request), AsRefusal::BadVersion),
-        (is_bad_message_type(request), AsRefusal::BadMessageType),
+        (is_bad_version(message), AsRefusal::BadVersion),
+        (is_bad_message_type(message), AsRefusal::BadMessageType),
         (is_client_unknown(view, body), AsRefusal::ClientUnknown),
         (is_service_unknown(view, body), AsRefusal::ServiceUnknown),
         (is_client_revoked(view, at), AsRefusal::ClientRevoked),
@@ -69,6 +72,7 @@ fn rules_by(
             AsRefusal::PostdatingRefused,
         ),
         (starts_too_late(at.sec, body), AsRefusal::StartsTooLate),
+        (times.is_none(), AsRefusal::NeverValid),
     ]
 }
 
@@ -77,26 +81,26 @@ pub fn timestamp_of(
     alloc: Global,
     client: Option<&Row>,
     at: Moment,
-    request: &KdcReqRef<'_>,
+    message: &KdcReqRef<'_>,
 ) -> Result<Outcome, AllocError>
-    ensures { IfOk result (λ timestamp. timestamp ≡ timestamp_of (option_copied client.entry) at.sec request.now) }
+    ensures { IfOk result (λ timestamp. timestamp ≡ timestamp_of (option_copied client.entry) at.sec message.now) }
 {
     match client {
-        Some(row) => check_timestamp(alloc, row, at, request.padata.as_ref()),
+        Some(row) => check_timestamp(alloc, row, at, message.padata.as_ref()),
         None => Ok(Outcome::Absent),
     }
 }
 
-fn is_bad_version(request: &KdcReqRef<'_>) -> bool
-    ensures { result ≡ is_bad_version request.now }
+fn is_bad_version(message: &KdcReqRef<'_>) -> bool
+    ensures { result ≡ is_bad_version message.now }
 {
-    request.pvno != PVNO
+    message.pvno != PVNO
 }
 
-fn is_bad_message_type(request: &KdcReqRef<'_>) -> bool
-    ensures { result ≡ is_bad_message_type request.now }
+fn is_bad_message_type(message: &KdcReqRef<'_>) -> bool
+    ensures { result ≡ is_bad_message_type message.now }
 {
-    request.msg_type != i32::from(AS_REQ)
+    message.msg_type != i32::from(AS_REQ)
 }
 
 /// The realm isn't ours, no client is named, or it has no row.

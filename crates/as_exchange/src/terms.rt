@@ -1,6 +1,6 @@
 //! What the rows have for the types that a request asks for, and the times of the ticket.
 ghost use Rattle.std.specs.Prelude.{◌≡◌, IfOk};
-ghost use Rattle.as_exchange.specs.Terms.{admission_of, terms, terms_of};
+ghost use Rattle.as_exchange.specs.Terms.{admission_of, terms, terms_of, times_of};
 
 use crate::view::AsView;
 use enctypes::Key;
@@ -81,19 +81,29 @@ fn terms_of(
     }))
 }
 
-/// The admission by these terms, where the ticket ends after it starts.
-pub fn admission_of(
+/// The times of a ticket by these terms; `None` where there are none, or it would end no later than it starts.
+pub fn times_of(
     limits: &Limits,
     at: Moment,
     body: &ReqBodyRef<'_>,
-    terms: Option<Terms>,
-) -> Option<Admission>
-    ensures { result ≡ admission_of limits.now at.sec body.now terms }
+    terms: &Option<Terms>,
+) -> Option<Times>
+    ensures { result ≡ times_of limits.now at.sec body.now terms.now }
+{
+    match terms {
+        Some(terms) => as_times(at, &terms.client, &terms.service.policy, limits, body),
+        None => None,
+    }
+}
+
+/// What a ticket is issued by, where both are there.
+pub fn admission_of(terms: Option<Terms>, times: Option<Times>) -> Option<Admission>
+    ensures { result ≡ admission_of terms times }
 {
     let Some(terms) = terms else {
         return None;
     };
-    let Ok(times) = as_times(at, &terms.client, &terms.service.policy, limits, body) else {
+    let Some(times) = times else {
         return None;
     };
     Some(Admission { terms, times })

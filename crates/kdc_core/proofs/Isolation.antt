@@ -7,6 +7,7 @@ use Rattle.std.specs.FinMap as map
 use Rattle.std.specs.FinMap.{get-insert, get-empty}
 use Rattle.std.specs.Option.{unwrap_or}
 use Rattle.std.specs.Ordering.{eq_by_cmp}
+use Rattle.kdc_replies.specs.Incoming.{Incoming}
 use Rattle.krb_fields.specs.Name.{Components, name_cmp, name_total, same_name}
 use Rattle.krb_fields.specs.declared.moment.Moment.{Moment}
 use Rattle.principals.specs.Change.{changed, refusal}
@@ -22,7 +23,7 @@ use Rattle.kdc_state.specs.declared.state.State.{State}
 use Rattle.kdc_core.proofs.Changes.{other_row, realm_stays, same_refusal, same_row_after}
 use Rattle.kdc_core.proofs.Frame.{database_kept, limits_kept, other_kept}
 use Rattle.kdc_core.specs.AgreementLaws.{names_agree, view_agrees}
-use Rattle.kdc_core.specs.Answer.{answer, keep, next}
+use Rattle.kdc_core.specs.Answer.{answer, answer_to, keep, next_to}
 use Rattle.kdc_core.specs.Run.{after_change, after_event, event_reply, replaced, run, unless_refused}
 use Rattle.kdc_core.specs.Struck.{AgreesFor, IsIsolated, Isolation, Names, NamesWithin, ServicesWithin, is_client, is_left, is_request, is_request_of, principal_of, replies_to, strike}
 use Rattle.kdc_core.specs.Unaffected.{Unaffected}
@@ -83,41 +84,41 @@ module _ (c : Components) (S : Names) where
   service_agrees state other a (Some service) within = a.rows service within
   service_agrees state other a None within = tt
 
-  module _ (state other : State) (at : Moment) (words : List ℕ) (room : ℕ) (bytes : List ℕ) (a : AgreesFor c S state other) where
+  module _ (state other : State) (incoming : Incoming) (a : AgreesFor c S state other) where
     -- the request of another client is struck out
-    other_request : is_client c (named state bytes).client ≡ false → AgreesFor c S (next state at words room bytes) other
+    other_request : is_client c (named state incoming.octets).client ≡ false → AgreesFor c S (next_to state incoming) other
     other_request apart =
-        let kept = (answer (view state bytes) at words room bytes).kept in
-        kept_agrees state other a (named state bytes).client None kept None (a.memory ∙ sym (other_kept state (named state bytes).client kept c (is_not_named c (named state bytes).client apart)))
+        let kept = (answer_to (view state incoming.octets) incoming).kept in
+        kept_agrees state other a (named state incoming.octets).client None kept None (a.memory ∙ sym (other_kept state (named state incoming.octets).client kept c (is_not_named c (named state incoming.octets).client apart)))
 
     -- the states agree at what a request of c names
-    agrees_at : IsTrue (S (ticket_granter state.database.realm)) → (named state bytes).client ≡ Some c → IfSome (named state bytes).service (λ service. IsTrue (S service)) → Agrees state other bytes
+    agrees_at : IsTrue (S (ticket_granter state.database.realm)) → (named state incoming.octets).client ≡ Some c → IfSome (named state incoming.octets).service (λ service. IsTrue (S service)) → Agrees state other incoming.octets
     agrees_at granter is within = record {
       realm = a.realm;
       limits = a.limits;
       granter = a.rows (ticket_granter state.database.realm) granter;
       client = subst (λ o. IfSome o (λ n. (map.get other.database.rows n ≡ map.get state.database.rows n) × (memory_of other n ≡ memory_of state n))) (sym is) (a.row, a.memory);
-      service = service_agrees state other a (named state bytes).service within;
+      service = service_agrees state other a (named state incoming.octets).service within;
     }
 
-    own_memory : (named state bytes).client ≡ Some c → Agrees state other bytes → memory_of (next other at words room bytes) c ≡ memory_of (next state at words room bytes) c
+    own_memory : (named state incoming.octets).client ≡ Some c → Agrees state other incoming.octets → memory_of (next_to other incoming) c ≡ memory_of (next_to state incoming) c
     own_memory is agrees =
-        let kept : (answer (view other bytes) at words room bytes).kept ≡ (answer (view state bytes) at words room bytes).kept = ap (λ v. (answer v at words room bytes).kept) (view_agrees state other bytes agrees) in
-        let client : (named other bytes).client ≡ Some c = ap (λ names. names.client) (names_agree state other bytes agrees) ∙ is in
-        ap (λ o. memory_of (keep other o (answer (view other bytes) at words room bytes).kept) c) client
-        ∙ memory_kept other c (answer (view other bytes) at words room bytes).kept
+        let kept : (answer_to (view other incoming.octets) incoming).kept ≡ (answer_to (view state incoming.octets) incoming).kept = ap (λ v. (answer_to v incoming).kept) (view_agrees state other incoming.octets agrees) in
+        let client : (named other incoming.octets).client ≡ Some c = ap (λ names. names.client) (names_agree state other incoming.octets agrees) ∙ is in
+        ap (λ o. memory_of (keep other o (answer_to (view other incoming.octets) incoming).kept) c) client
+        ∙ memory_kept other c (answer_to (view other incoming.octets) incoming).kept
         ∙ (λ i. unwrap_or (kept i) (a.memory i))
-        ∙ sym (memory_kept state c (answer (view state bytes) at words room bytes).kept)
-        ∙ sym (ap (λ o. memory_of (keep state o (answer (view state bytes) at words room bytes).kept) c) is)
+        ∙ sym (memory_kept state c (answer_to (view state incoming.octets) incoming).kept)
+        ∙ sym (ap (λ o. memory_of (keep state o (answer_to (view state incoming.octets) incoming).kept) c) is)
 
     -- a request of c changes both alike
-    own_request : (named state bytes).client ≡ Some c → Agrees state other bytes → AgreesFor c S (next state at words room bytes) (next other at words room bytes)
+    own_request : (named state incoming.octets).client ≡ Some c → Agrees state other incoming.octets → AgreesFor c S (next_to state incoming) (next_to other incoming)
     own_request is agrees =
-        kept_agrees state other a (named state bytes).client (named other bytes).client (answer (view state bytes) at words room bytes).kept (answer (view other bytes) at words room bytes).kept
+        kept_agrees state other a (named state incoming.octets).client (named other incoming.octets).client (answer_to (view state incoming.octets) incoming).kept (answer_to (view other incoming.octets) incoming).kept
         (own_memory is agrees)
 
-    same_reply : Agrees state other bytes → (answer (view other bytes) at words room bytes).reply ≡ (answer (view state bytes) at words room bytes).reply
-    same_reply agrees = ap (λ v. (answer v at words room bytes).reply) (view_agrees state other bytes agrees)
+    same_reply : Agrees state other incoming.octets → (answer_to (view other incoming.octets) incoming).reply ≡ (answer_to (view state incoming.octets) incoming).reply
+    same_reply agrees = ap (λ v. (answer_to v incoming).reply) (view_agrees state other incoming.octets agrees)
 
   -- ---- changes
 
@@ -220,8 +221,8 @@ module _ (c : Components) (S : Names) where
 
   -- S holds the ticket-granting service of the realm afterwards, too
   still_granted : (state : State) (event : Event) → NamesWithin c S state event → IsTrue (S (ticket_granter state.database.realm)) → IsTrue (S (ticket_granter (after_event state event).database.realm))
-  still_granted state (Request at words room request) within granter =
-      same_granted _ _ (ap (λ d. d.realm) (database_kept state (named state request).client (answer (view state request) at words room request).kept)) granter
+  still_granted state (Request at random room request) within granter =
+      same_granted _ _ (ap (λ d. d.realm) (database_kept state (named state request).client (answer (view state request) at random room request).kept)) granter
   still_granted state (Change change) within granter = same_granted _ _ (realm_unless state change (refusal state.database change)) granter
   still_granted state (Replace database) within granter = same_granted _ _ (realm_replaced state database) granter
   still_granted state (Restart at) within granter = granter
@@ -234,10 +235,11 @@ module _ (c : Components) (S : Names) where
     pub agrees : AgreesFor c S (after_event state event) (after_event other event)
 
   event_left : (state other : State) (event : Event) → IsTrue (S (ticket_granter state.database.realm)) → NamesWithin c S state event → AgreesFor c S state other → is_left c S state event ≡ true → IsLeft state other event
-  event_left state other (Request at words room bytes) granter within a left =
-      let is = is_named c (named state bytes).client left in
-      let agrees = agrees_at state other at words room bytes a granter is (within left) in
-      record { reply = same_reply state other at words room bytes a agrees; is_own = sym left; agrees = own_request state other at words room bytes a is agrees }
+  event_left state other (Request at random room octets) granter within a left =
+      let incoming : Incoming = record { at = at; random = random; room = room; octets = octets } in
+      let is = is_named c (named state octets).client left in
+      let agrees = agrees_at state other incoming a granter is (within left) in
+      record { reply = same_reply state other incoming a agrees; is_own = sym left; agrees = own_request state other incoming a is agrees }
   event_left state other (Change change) granter within a left = record { reply = refl; is_own = refl; agrees = own_change state other change a left }
   event_left state other (Replace database) granter within a left = record { reply = refl; is_own = refl; agrees = both_replaced state other database a }
   event_left state other (Restart at) granter within a left = record { reply = refl; is_own = refl; agrees = both_restart state other at a }
@@ -245,7 +247,8 @@ module _ (c : Components) (S : Names) where
 
   -- an event that is struck out: no request of c, and the first state alone runs it
   event_struck : (state other : State) (event : Event) → AgreesFor c S state other → is_left c S state event ≡ false → (is_request_of c state event ≡ false) × AgreesFor c S (after_event state event) other
-  event_struck state other (Request at words room bytes) a struck = (struck, other_request state other at words room bytes a struck)
+  event_struck state other (Request at random room octets) a struck =
+      (struck, other_request state other (record { at = at; random = random; room = room; octets = octets }) a struck)
   event_struck state other (Change change) a struck = (refl, other_change state other change a struck)
   event_struck state other (Replace database) a struck = absurd cc
   event_struck state other (Restart at) a struck = absurd cc

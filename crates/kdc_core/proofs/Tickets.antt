@@ -6,19 +6,15 @@ use Rattle.std.specs.FinMap as map
 use Rattle.std.specs.FinMap.{get-insert, get-empty}
 use Rattle.std.specs.Option.{unwrap_or}
 use Rattle.std.specs.Ordering.{eq_by_cmp}
-use Rattle.std.specs.Result.{result_ok}
 use Rattle.as_exchange.specs.Answer.{as_answer}
 use Rattle.kdc_replies.specs.ErrorReply.{too_big}
+use Rattle.kdc_replies.specs.Incoming.{Incoming}
 use Rattle.krb_der.specs.Spelling.{tlv}
 use Rattle.krb_elements.specs.Codec.{written}
 use Rattle.krb_fields.specs.Name.{Components, name_cmp, name_total, same_name}
 use Rattle.krb_fields.specs.declared.moment.Moment.{Moment}
-use Rattle.krb_types.specs.KdcReq.{Received}
 use Rattle.krb_types.specs.KrbError.{KrbError, krb_error}
 use Rattle.krb_types.specs.ReqBody.{ReqBody}
-use Rattle.krb_types.specs.declared.kdc_req.Exchange.{Exchange}
-use Rattle.krb_types.specs.declared.kdc_req.Exchange.TheVariants.{As, Tgs}
-use Rattle.refusals.specs.Refusals.{first_holding}
 use Rattle.replay.proofs.Runs.{GivesOf, one_for_each}
 use Rattle.replay.specs.Machine.{IsGiven, Keeps, next_if}
 use Rattle.replay.specs.Run.{Event as Happening, Asked, Counted, Restarted, after_verdict, collected, with_any, RestartsFrom as MemoryFrom, RestartsFollow as MemoryFollow}
@@ -29,13 +25,12 @@ use Rattle.replay.specs.declared.memory.Memory.{Memory}
 use Rattle.replay.specs.declared.verdict.Verdict.{Verdict}
 use Rattle.replay.specs.declared.verdict.Verdict.TheVariants.{Fresh, Skew, Repeat, Full as NoPlace}
 use Rattle.tgs_exchange.specs.Answer.{Answer as TgsAnswer, answer_by, bears_ticket, kept_reply, refused, remembering, tgs_answer, tgs_error, within_room}
-use Rattle.tgs_exchange.specs.Decision.{by_admission, by_client, by_verdict, decision, stamp_of, verdict_on}
-use Rattle.tgs_exchange.specs.Rules.{admitted, client_rules}
+use Rattle.tgs_exchange.specs.Decision.{HasSaid, decision, stamp_of, verdict_on}
+use Rattle.tgs_exchange.specs.DecisionLaws.{has_said}
 use Rattle.tgs_exchange.specs.View.{View as TgsView}
 use Rattle.tgs_exchange.specs.declared.decision.Decision.{Decision}
 use Rattle.tgs_exchange.specs.declared.decision.Decision.TheVariants.{Refuses, Remembers, Repeats, Issues}
 use Rattle.tgs_exchange.specs.declared.terms.Admission.{Admission}
-use Rattle.tgs_opening.specs.Opening.{presented}
 use Rattle.tgs_opening.specs.declared.presented.Presented.{Presented}
 use Rattle.tgs_opening.specs.declared.refusal.TgsRefusal.{TgsRefusal}
 use Rattle.tgs_opening.specs.declared.refusal.TgsRefusal.TheVariants.{Repeated}
@@ -47,13 +42,16 @@ use Rattle.principals.specs.Change.{changed, refusal}
 use Rattle.principals.specs.Database.{Principals}
 use Rattle.principals.specs.declared.change.Change.{Change as PrincipalChange}
 use Rattle.principals.specs.declared.change.ChangeFault.{ChangeFault}
-use Rattle.kdc_core.specs.Answer.{answer_in, answer_presented, answer_to, counted, keep, stamped}
-use Rattle.kdc_core.specs.PresentedLaws.{answer_is, client_is, refused_after}
-use Rattle.kdc_core.specs.Request.{Request as Read, request_of}
+use Rattle.kdc_core.specs.Answer.{answer_of, counted, keep, next_to, stamped}
+use Rattle.kdc_core.specs.Contents.{contents, presented_in}
+use Rattle.kdc_core.specs.ContentsLaws.{Tells, names_in, nothing_kept, tells}
+use Rattle.kdc_core.specs.Request.{request_of}
 use Rattle.kdc_core.specs.Run.{after_event, unless_refused}
 use Rattle.kdc_core.specs.Struck.{is_client}
-use Rattle.kdc_core.specs.Tickets.{OneTicket, RestartsFollow, RestartsFrom, presented_by, presented_in, ticket_by, ticket_to}
-use Rattle.kdc_core.specs.View.{as_view, client_in, components_of, named_by, presented_view, tgs_view, ticket_view, view_in, view_of}
+use Rattle.kdc_core.specs.Tickets.{OneTicket, RestartsFollow, RestartsFrom, ticket_by, ticket_to}
+use Rattle.kdc_core.specs.View.{Named, View, as_view, components_of, memory_named, named, presented_view, tgs_view, view, view_of}
+use Rattle.kdc_core.specs.declared.contents.Contents.{Contents}
+use Rattle.kdc_core.specs.declared.contents.Contents.TheVariants.{NoRequest, AsReq, RefusedTgsReq, TgsReq}
 use Rattle.kdc_core.specs.declared.run.Event.{Event}
 use Rattle.kdc_core.specs.declared.run.Event.TheVariants.{Request, Change, Replace, Restart, Reopen}
 
@@ -99,19 +97,19 @@ error_handed stamp e P = handed_none (bears_ticket (written krb_error e)) (stamp
 
 -- ---- what the TGS exchange does to a client's memory
 
-module _ (v : TgsView) (at : Moment) (words : List ℕ) (room : ℕ) (request : List ℕ) (body : ReqBody) (p : Presented) where
+module _ (v : TgsView) (incoming : Incoming) (body : ReqBody) (p : Presented) where
   -- answers that leave no trace: these octets, or the error in place of a reply that is too long
   abbrev no_trace : List ℕ → TgsAnswer
   no_trace octets = record { reply = octets; kept = None }
 
   abbrev too_long : TgsAnswer
-  too_long = no_trace (written krb_error (too_big v.realm at body))
+  too_long = no_trace (written krb_error (too_big v.realm incoming.at body))
 
   abbrev asked : Kept → Happening Kept
-  asked made = Asked at.sec (stamp_of p) made
+  asked made = Asked incoming.at.sec (stamp_of p) made
 
   abbrev answered : Decision Kept → TgsAnswer
-  answered decided = answer_by v at words room request body p decided
+  answered decided = answer_by v incoming body p decided
 
   -- the memory is asked about an authenticator that is remembered with its reply, or that came before
   abbrev happens_by : Decision Kept → Option (Happening Kept)
@@ -121,87 +119,63 @@ module _ (v : TgsView) (at : Moment) (words : List ℕ) (room : ℕ) (request : 
   happens_by (Issues admission) = option_map asked (answered (Issues admission)).kept
 
   abbrev happens_now : Option (Happening Kept)
-  happens_now = happens_by (decision v at.sec body p)
+  happens_now = happens_by (decision v incoming.at.sec body p)
 
-  -- what the memory said of the authenticator where that is decided
-  abbrev HasSaid : Decision Kept → Type 0
-  HasSaid (Refuses refusal) = ⊤
-  HasSaid (Remembers refusal) = verdict_on v at.sec p ≡ Fresh
-  HasSaid (Repeats kept) = verdict_on v at.sec p ≡ Repeat kept
-  HasSaid (Issues admission) = verdict_on v at.sec p ≡ Fresh
-
-  said_by_admission : verdict_on v at.sec p ≡ Fresh → (r : Result Admission TgsRefusal) → HasSaid (by_admission r)
-  said_by_admission e (Err refusal) = e
-  said_by_admission e (Ok admission) = e
-
-  said_by_verdict : (w : Verdict Kept) → verdict_on v at.sec p ≡ w → HasSaid (by_verdict v at.sec body p w)
-  said_by_verdict Fresh e = said_by_admission e (admitted v at.sec body p)
-  said_by_verdict Skew e = tt
-  said_by_verdict (Repeat kept) e = e
-  said_by_verdict NoPlace e = tt
-
-  said_by_client : (r : Option TgsRefusal) → HasSaid (by_client v at.sec body p r)
-  said_by_client (Some refusal) = tt
-  said_by_client None = said_by_verdict (verdict_on v at.sec p) refl
-
-  has_said : HasSaid (decision v at.sec body p)
-  has_said = said_by_client (first_holding (client_rules v at.sec p.ticket.authtime))
-
-  fresh_moves : verdict_on v at.sec p ≡ Fresh → (k : Option Kept) → unwrap_or (stamped v.memory at.sec p k) v.memory ≡ next_if v.limits.remembered v.memory (option_map asked k)
-  fresh_moves e (Some k) = sym (ap (after_verdict v.memory at.sec (stamp_of p) k) e)
+  fresh_moves : verdict_on v incoming.at.sec p ≡ Fresh → (k : Option Kept) → unwrap_or (stamped v.memory incoming.at.sec p k) v.memory ≡ next_if v.limits.remembered v.memory (option_map asked k)
+  fresh_moves e (Some k) = sym (ap (after_verdict v.memory incoming.at.sec (stamp_of p) k) e)
   fresh_moves e None = refl
 
   kept_none : (octets : List ℕ) (b : Bool) → (if b then too_long else no_trace octets).kept ≡ None
   kept_none octets true = refl
   kept_none octets false = refl
 
-  repeat_none : (kept : Kept) (same : Bool) → (if same then kept_reply v at room body kept.reply else refused v at body Repeated).kept ≡ None
-  repeat_none kept true = kept_none kept.reply (bears_ticket kept.reply && nat_lt room (length kept.reply))
+  repeat_none : (kept : Kept) (same : Bool) → (if same then kept_reply v incoming body kept.reply else refused v incoming.at body Repeated).kept ≡ None
+  repeat_none kept true = kept_none kept.reply (bears_ticket kept.reply && nat_lt incoming.room (length kept.reply))
   repeat_none kept false = refl
 
-  decision_moves : (decided : Decision Kept) → HasSaid decided → unwrap_or (stamped v.memory at.sec p (answered decided).kept) v.memory ≡ next_if v.limits.remembered v.memory (happens_by decided)
+  decision_moves : (decided : Decision Kept) → HasSaid v incoming.at.sec p decided → unwrap_or (stamped v.memory incoming.at.sec p (answered decided).kept) v.memory ≡ next_if v.limits.remembered v.memory (happens_by decided)
   decision_moves (Refuses refusal) said = refl
   decision_moves (Remembers refusal) said = fresh_moves said (answered (Remembers refusal)).kept
   decision_moves (Repeats kept) said =
-      ap (λ k. unwrap_or (stamped v.memory at.sec p k) v.memory) (repeat_none kept (pointwise nat_eq request kept.request))
-      ∙ sym (ap (after_verdict v.memory at.sec (stamp_of p) kept) said)
+      ap (λ k. unwrap_or (stamped v.memory incoming.at.sec p k) v.memory) (repeat_none kept (pointwise nat_eq incoming.octets kept.request))
+      ∙ sym (ap (after_verdict v.memory incoming.at.sec (stamp_of p) kept) said)
   decision_moves (Issues admission) said = fresh_moves said (answered (Issues admission)).kept
 
-  memory_moves : unwrap_or (stamped v.memory at.sec p (tgs_answer v at words room request body p).kept) v.memory ≡ next_if v.limits.remembered v.memory happens_now
-  memory_moves = decision_moves (decision v at.sec body p) has_said
+  memory_moves : unwrap_or (stamped v.memory incoming.at.sec p (tgs_answer v incoming body p).kept) v.memory ≡ next_if v.limits.remembered v.memory happens_now
+  memory_moves = decision_moves (decision v incoming.at.sec body p) (has_said v incoming.at.sec body p)
 
   -- ---- and what it hands out
 
   abbrev Gives : Option (Happening Kept) → Stamp × List ℕ → Type 0
   Gives = IsGiven give v.limits.remembered v.memory
 
-  room_gives : verdict_on v at.sec p ≡ Fresh → (octets : List ℕ) → IfSome (handed (stamp_of p) (within_room v at room request body octets).reply) (Gives (option_map asked (within_room v at room request body octets).kept))
-  room_gives e octets = by_length (nat_lt room (length octets))
+  room_gives : verdict_on v incoming.at.sec p ≡ Fresh → (octets : List ℕ) → IfSome (handed (stamp_of p) (within_room v incoming body octets).reply) (Gives (option_map asked (within_room v incoming body octets).kept))
+  room_gives e octets = by_length (nat_lt incoming.room (length octets))
     where
       by_length : (long : Bool)
-          → IfSome (handed (stamp_of p) (if long then too_long else remembering request octets).reply)
-          (Gives (option_map asked (if long then too_long else remembering request octets).kept))
-      by_length true = error_handed (stamp_of p) (too_big v.realm at body) _
-      by_length false = handed_where (bears_ticket octets) (stamp_of p, octets) _ (refl, ap (give (record { request = request; reply = octets })) e)
+          → IfSome (handed (stamp_of p) (if long then too_long else remembering incoming.octets octets).reply)
+          (Gives (option_map asked (if long then too_long else remembering incoming.octets octets).kept))
+      by_length true = error_handed (stamp_of p) (too_big v.realm incoming.at body) _
+      by_length false = handed_where (bears_ticket octets) (stamp_of p, octets) _ (refl, ap (give (record { request = incoming.octets; reply = octets })) e)
 
-  kept_gives : (kept : Kept) → verdict_on v at.sec p ≡ Repeat kept → (long : Bool)
+  kept_gives : (kept : Kept) → verdict_on v incoming.at.sec p ≡ Repeat kept → (long : Bool)
       → IfSome (handed (stamp_of p) (if long then too_long else no_trace kept.reply).reply) (Gives (Some (asked kept)))
-  kept_gives kept e true = error_handed (stamp_of p) (too_big v.realm at body) _
+  kept_gives kept e true = error_handed (stamp_of p) (too_big v.realm incoming.at body) _
   kept_gives kept e false = handed_where (bears_ticket kept.reply) (stamp_of p, kept.reply) _ (refl, ap (give kept) e)
 
-  repeat_gives : (kept : Kept) → verdict_on v at.sec p ≡ Repeat kept → (same : Bool)
-      → IfSome (handed (stamp_of p) (if same then kept_reply v at room body kept.reply else refused v at body Repeated).reply) (Gives (Some (asked kept)))
-  repeat_gives kept e true = kept_gives kept e (bears_ticket kept.reply && nat_lt room (length kept.reply))
-  repeat_gives kept e false = error_handed (stamp_of p) (tgs_error v.realm at body Repeated) _
+  repeat_gives : (kept : Kept) → verdict_on v incoming.at.sec p ≡ Repeat kept → (same : Bool)
+      → IfSome (handed (stamp_of p) (if same then kept_reply v incoming body kept.reply else refused v incoming.at body Repeated).reply) (Gives (Some (asked kept)))
+  repeat_gives kept e true = kept_gives kept e (bears_ticket kept.reply && nat_lt incoming.room (length kept.reply))
+  repeat_gives kept e false = error_handed (stamp_of p) (tgs_error v.realm incoming.at body Repeated) _
 
-  decision_gives : (decided : Decision Kept) → HasSaid decided → IfSome (handed (stamp_of p) (answered decided).reply) (Gives (happens_by decided))
-  decision_gives (Refuses refusal) said = error_handed (stamp_of p) (tgs_error v.realm at body refusal) _
-  decision_gives (Remembers refusal) said = error_handed (stamp_of p) (tgs_error v.realm at body refusal) _
-  decision_gives (Repeats kept) said = repeat_gives kept said (pointwise nat_eq request kept.request)
+  decision_gives : (decided : Decision Kept) → HasSaid v incoming.at.sec p decided → IfSome (handed (stamp_of p) (answered decided).reply) (Gives (happens_by decided))
+  decision_gives (Refuses refusal) said = error_handed (stamp_of p) (tgs_error v.realm incoming.at body refusal) _
+  decision_gives (Remembers refusal) said = error_handed (stamp_of p) (tgs_error v.realm incoming.at body refusal) _
+  decision_gives (Repeats kept) said = repeat_gives kept said (pointwise nat_eq incoming.octets kept.request)
   decision_gives (Issues admission) said = room_gives said _
 
-  memory_gives : IfSome (handed (stamp_of p) (tgs_answer v at words room request body p).reply) (Gives happens_now)
-  memory_gives = decision_gives (decision v at.sec body p) has_said
+  memory_gives : IfSome (handed (stamp_of p) (tgs_answer v incoming body p).reply) (Gives happens_now)
+  memory_gives = decision_gives (decision v incoming.at.sec body p) (has_said v incoming.at.sec body p)
 
 -- ---- what events do to a client's memory
 
@@ -227,22 +201,17 @@ module _ (c : Components) where
   happens_as (Some name) failures = for_name name (option_map Counted failures)
   happens_as None failures = None
 
-  abbrev happens_presented : State → Moment → List ℕ → ℕ → List ℕ → Received → Result Presented TgsRefusal → Option (Happening Kept)
-  happens_presented state at words room bytes message (Ok p) =
-      let v = tgs_view (presented_view state message p) in
-      for_name p.ticket.cname.components (happens_now v at words room bytes message.body.value p)
-  happens_presented state at words room bytes message (Err refusal) = None
+  abbrev happens_of : View → Incoming → Contents → Option (Happening Kept)
+  happens_of v incoming NoRequest = None
+  happens_of v incoming (AsReq message) = happens_as (components_of message.body.value.cname) (as_answer (as_view v) incoming message).failures
+  happens_of v incoming (RefusedTgsReq message refusal) = None
+  happens_of v incoming (TgsReq message p) = for_name p.ticket.cname.components (happens_now (tgs_view v) incoming message.body.value p)
 
-  abbrev happens_in : State → Moment → List ℕ → ℕ → List ℕ → Exchange → Received → Option (Happening Kept)
-  happens_in state at words room bytes As message = happens_as (components_of message.body.value.cname) (as_answer (as_view (view_in state As message)) at words room message).failures
-  happens_in state at words room bytes Tgs message = happens_presented state at words room bytes message (presented (ticket_view state message) message)
-
-  abbrev happens_request : State → Moment → List ℕ → ℕ → List ℕ → Option Read → Option (Happening Kept)
-  happens_request state at words room bytes (Some request) = happens_in state at words room bytes request.exchange request.message
-  happens_request state at words room bytes None = None
+  abbrev happens_request : State → Incoming → Option (Happening Kept)
+  happens_request state incoming = happens_of (view state incoming.octets) incoming (contents (view state incoming.octets) (request_of incoming.octets))
 
   abbrev happens : State → Event → Option (Happening Kept)
-  happens state (Request at words room request) = happens_request state at words room request (request_of request)
+  happens state (Request at random room octets) = happens_request state (record { at = at; random = random; room = room; octets = octets })
   happens state (Change change) = None
   happens state (Replace database) = None
   happens state (Restart at) = Some (Restarted at.sec)
@@ -269,33 +238,35 @@ module _ (c : Components) where
       (subst (λ m. unwrap_or (counted memory failures) m ≡ next_if state.limits.remembered m (option_map Counted failures)) is (counted_moves state.limits.remembered memory failures))
   as_moves state None memory is failures = refl
 
-  named_memory : (state : State) (o : Option Components) (service : Option Components) → IfSome o (λ name. (view_of state (record { client = o; service = service })).memory ≡ memory_of state name)
-  named_memory state (Some name) service = refl
-  named_memory state None service = tt
+  named_memory : (state : State) (names : Named) → IfSome names.client (λ name. (view_of state names).memory ≡ memory_of state name)
+  named_memory state names = by_name names.client
+    where
+      by_name : (o : Option Components) → IfSome o (λ name. memory_named state o ≡ memory_of state name)
+      by_name (Some name) = refl
+      by_name None = tt
 
-  presented_moves : (state : State) (at : Moment) (words : List ℕ) (room : ℕ) (bytes : List ℕ) (message : Received) (r : Result Presented TgsRefusal) → presented (ticket_view state message) message ≡ r
-      → memory_of (keep state (client_in state Tgs message) (answer_in (view_in state Tgs message) at words room bytes Tgs message).kept) c
-      ≡ next_if state.limits.remembered (memory_of state c) (happens_presented state at words room bytes message r)
-  presented_moves state at words room bytes message (Ok p) is =
+  -- of what is held, by the names of the view
+  abbrev Moves : State → Incoming → Named → Contents → Type 0
+  Moves state incoming names held =
+      memory_of (keep state names.client (answer_of (view_of state names) incoming held).kept) c
+      ≡ next_if state.limits.remembered (memory_of state c) (happens_of (view_of state names) incoming held)
+
+  moves_of : (state : State) (incoming : Incoming) (names : Named) (held : Contents) → Tells names held → Moves state incoming names held
+  moves_of state incoming names NoRequest told = ap (λ s. memory_of s c) (nothing_kept state names.client)
+  moves_of state incoming names (AsReq message) told =
+      subst (λ (n : Named). Moves state incoming n (AsReq message)) (sym told)
+      (as_moves state (components_of message.body.value.cname) (view_of state (names_in (AsReq message))).memory (named_memory state (names_in (AsReq message)))
+      (as_answer (as_view (view_of state (names_in (AsReq message)))) incoming message).failures)
+  moves_of state incoming names (RefusedTgsReq message refusal) told = ap (λ s. memory_of s c) (nothing_kept state names.client)
+  moves_of state incoming names (TgsReq message p) told =
       let v = tgs_view (presented_view state message p) in
-      (λ i. memory_of (keep state (client_is state message p is i) (answer_is state message p is at words bytes room i).kept) c)
-      ∙ moved_for state.limits.remembered state p.ticket.cname.components (answer_presented (presented_view state message p) at words room bytes message (Ok p)).kept _
-      (memory_moves v at words room bytes message.body.value p)
-  presented_moves state at words room bytes message (Err refusal) is = ap (λ s. memory_of s c) (sym (refused_after state message refusal is at words bytes room))
+      subst (λ (n : Named). Moves state incoming n (TgsReq message p)) (sym told)
+      (moved_for state.limits.remembered state p.ticket.cname.components (answer_of (presented_view state message p) incoming (TgsReq message p)).kept _
+      (memory_moves v incoming message.body.value p))
 
-  moves_in : (state : State) (at : Moment) (words : List ℕ) (room : ℕ) (bytes : List ℕ) (exchange : Exchange) (message : Received)
-      → memory_of (keep state (client_in state exchange message) (answer_in (view_in state exchange message) at words room bytes exchange message).kept) c
-      ≡ next_if state.limits.remembered (memory_of state c) (happens_in state at words room bytes exchange message)
-  moves_in state at words room bytes As message =
-      as_moves state (components_of message.body.value.cname) (view_in state As message).memory (named_memory state (components_of message.body.value.cname) (components_of message.body.value.sname))
-      (as_answer (as_view (view_in state As message)) at words room message).failures
-  moves_in state at words room bytes Tgs message = presented_moves state at words room bytes message (presented (ticket_view state message) message) refl
-
-  moves_request : (state : State) (at : Moment) (words : List ℕ) (room : ℕ) (bytes : List ℕ) (o : Option Read)
-      → memory_of (keep state (named_by state o).client (answer_to (view_of state (named_by state o)) at words room bytes o).kept) c
-      ≡ next_if state.limits.remembered (memory_of state c) (happens_request state at words room bytes o)
-  moves_request state at words room bytes (Some request) = moves_in state at words room bytes request.exchange request.message
-  moves_request state at words room bytes None = refl
+  moves_request : (state : State) (incoming : Incoming) → memory_of (next_to state incoming) c ≡ next_if state.limits.remembered (memory_of state c) (happens_request state incoming)
+  moves_request state incoming =
+      moves_of state incoming (named state incoming.octets) (contents (view state incoming.octets) (request_of incoming.octets)) (tells state (request_of incoming.octets))
 
   unless_memory : (state : State) (change : PrincipalChange) (fault : Option ChangeFault) → memory_of (unless_refused fault state (record state { database = changed state.database change })) c ≡ memory_of state c
   unless_memory state change (Some fault) = refl
@@ -309,7 +280,7 @@ module _ (c : Components) where
   opened_again at = ap (λ o. unwrap_or o (opened_memory (OpenedAgain at))) (get-empty name_cmp c)
 
   moves : (state : State) (event : Event) → memory_of (after_event state event) c ≡ next_if state.limits.remembered (memory_of state c) (happens state event)
-  moves state (Request at words room request) = moves_request state at words room request (request_of request)
+  moves state (Request at random room octets) = moves_request state (record { at = at; random = random; room = room; octets = octets })
   moves state (Change change) = unless_memory state change (refusal state.database change)
   moves state (Replace database) = replaced_memory state database (pointwise nat_eq database.realm state.database.realm)
   moves state (Restart at) = opened_again at
@@ -329,31 +300,28 @@ module _ (c : Components) where
   nothing_given true P = tt
   nothing_given false P = tt
 
-  presented_gives : (state : State) (at : Moment) (words : List ℕ) (room : ℕ) (bytes : List ℕ) (message : Received) (r : Result Presented TgsRefusal) → presented (ticket_view state message) message ≡ r
-      → IfSome (if is_client c (client_in state Tgs message) then ticket_by (result_ok r) (answer_in (view_in state Tgs message) at words room bytes Tgs message).reply else None)
-      (IsGiven give state.limits.remembered (memory_of state c) (happens_presented state at words room bytes message r))
-  presented_gives state at words room bytes message (Ok p) is =
+  abbrev HandsOut : State → Incoming → Named → Contents → Type 0
+  HandsOut state incoming names held =
+      IfSome (if is_client c names.client then ticket_by (presented_in held) (answer_of (view_of state names) incoming held).reply else None)
+      (IsGiven give state.limits.remembered (memory_of state c) (happens_of (view_of state names) incoming held))
+
+  gives_of : (state : State) (incoming : Incoming) (names : Named) (held : Contents) → Tells names held → HandsOut state incoming names held
+  gives_of state incoming names NoRequest told = nothing_given (is_client c names.client) _
+  gives_of state incoming names (AsReq message) told = nothing_given (is_client c names.client) _
+  gives_of state incoming names (RefusedTgsReq message refusal) told = nothing_given (is_client c names.client) _
+  gives_of state incoming names (TgsReq message p) told =
       let v = tgs_view (presented_view state message p) in
-      let answered : TgsAnswer = tgs_answer v at words room bytes message.body.value p in
-      subst (λ (h : Option (Stamp × List ℕ)). IfSome h (IsGiven give state.limits.remembered (memory_of state c) (happens_presented state at words room bytes message (Ok p))))
-      (λ i. if is_client c (sym (client_is state message p is) i) then ticket_by (Some p) (sym (answer_is state message p is at words bytes room) i).reply else None)
-      (given_for state.limits.remembered state p.ticket.cname.components (handed (stamp_of p) answered.reply) _ (memory_gives v at words room bytes message.body.value p))
-  presented_gives state at words room bytes message (Err refusal) is = nothing_given (is_client c (client_in state Tgs message)) _
+      let answered : TgsAnswer = tgs_answer v incoming message.body.value p in
+      subst (λ (n : Named). HandsOut state incoming n (TgsReq message p)) (sym told)
+      (given_for state.limits.remembered state p.ticket.cname.components (handed (stamp_of p) answered.reply) _ (memory_gives v incoming message.body.value p))
 
-  gives_in : (state : State) (at : Moment) (words : List ℕ) (room : ℕ) (bytes : List ℕ) (exchange : Exchange) (message : Received)
-      → IfSome (if is_client c (client_in state exchange message) then ticket_by (presented_in state exchange message) (answer_in (view_in state exchange message) at words room bytes exchange message).reply else None)
-      (IsGiven give state.limits.remembered (memory_of state c) (happens_in state at words room bytes exchange message))
-  gives_in state at words room bytes As message = nothing_given (is_client c (client_in state As message)) _
-  gives_in state at words room bytes Tgs message = presented_gives state at words room bytes message (presented (ticket_view state message) message) refl
-
-  gives_request : (state : State) (at : Moment) (words : List ℕ) (room : ℕ) (bytes : List ℕ) (o : Option Read)
-      → IfSome (if is_client c (named_by state o).client then ticket_by (presented_by state o) (answer_to (view_of state (named_by state o)) at words room bytes o).reply else None)
-      (IsGiven give state.limits.remembered (memory_of state c) (happens_request state at words room bytes o))
-  gives_request state at words room bytes (Some request) = gives_in state at words room bytes request.exchange request.message
-  gives_request state at words room bytes None = tt
+  gives_request : (state : State) (incoming : Incoming)
+      → HandsOut state incoming (named state incoming.octets) (contents (view state incoming.octets) (request_of incoming.octets))
+  gives_request state incoming =
+      gives_of state incoming (named state incoming.octets) (contents (view state incoming.octets) (request_of incoming.octets)) (tells state (request_of incoming.octets))
 
   gives : (state : State) (event : Event) → IfSome (ticket_to c state event) (IsGiven give state.limits.remembered (memory_of state c) (happens state event))
-  gives state (Request at words room request) = gives_request state at words room request (request_of request)
+  gives state (Request at random room octets) = gives_request state (record { at = at; random = random; room = room; octets = octets })
   gives state (Change change) = tt
   gives state (Replace database) = tt
   gives state (Restart at) = tt
@@ -380,30 +348,27 @@ module _ (c : Components) where
   as_at now (Some name) failures = for_name_at now (eq_by_cmp name_cmp c name) (option_map Counted failures) (counted_at now failures)
   as_at now None failures = tt
 
-  module _ (v : TgsView) (at : Moment) (words : List ℕ) (room : ℕ) (request : List ℕ) (body : ReqBody) (p : Presented) where
-    asked_at : (k : Option Kept) → IsAt at.sec (option_map (asked v at words room request body p) k)
+  module _ (v : TgsView) (incoming : Incoming) (body : ReqBody) (p : Presented) where
+    asked_at : (k : Option Kept) → IsAt incoming.at.sec (option_map (asked v incoming body p) k)
     asked_at (Some k) = refl
     asked_at None = tt
 
-    decision_at : (decided : Decision Kept) → IsAt at.sec (happens_by v at words room request body p decided)
+    decision_at : (decided : Decision Kept) → IsAt incoming.at.sec (happens_by v incoming body p decided)
     decision_at (Refuses refusal) = tt
     decision_at (Remembers refusal) = refl
     decision_at (Repeats kept) = refl
-    decision_at (Issues admission) = asked_at (answered v at words room request body p (Issues admission)).kept
+    decision_at (Issues admission) = asked_at (answered v incoming body p (Issues admission)).kept
 
-  presented_at : (state : State) (at : Moment) (words : List ℕ) (room : ℕ) (bytes : List ℕ) (message : Received) (r : Result Presented TgsRefusal) → IsAt at.sec (happens_presented state at words room bytes message r)
-  presented_at state at words room bytes message (Ok p) =
-      let v = tgs_view (presented_view state message p) in
-      for_name_at at.sec (eq_by_cmp name_cmp c p.ticket.cname.components) _ (decision_at v at words room bytes message.body.value p (decision v at.sec message.body.value p))
-  presented_at state at words room bytes message (Err refusal) = tt
+  at_of : (v : View) (incoming : Incoming) (held : Contents) → IsAt incoming.at.sec (happens_of v incoming held)
+  at_of v incoming NoRequest = tt
+  at_of v incoming (AsReq message) = as_at incoming.at.sec (components_of message.body.value.cname) (as_answer (as_view v) incoming message).failures
+  at_of v incoming (RefusedTgsReq message refusal) = tt
+  at_of v incoming (TgsReq message p) =
+      for_name_at incoming.at.sec (eq_by_cmp name_cmp c p.ticket.cname.components) _
+      (decision_at (tgs_view v) incoming message.body.value p (decision (tgs_view v) incoming.at.sec message.body.value p))
 
-  at_in : (state : State) (at : Moment) (words : List ℕ) (room : ℕ) (bytes : List ℕ) (exchange : Exchange) (message : Received) → IsAt at.sec (happens_in state at words room bytes exchange message)
-  at_in state at words room bytes As message = as_at at.sec (components_of message.body.value.cname) (as_answer (as_view (view_in state As message)) at words room message).failures
-  at_in state at words room bytes Tgs message = presented_at state at words room bytes message (presented (ticket_view state message) message)
-
-  at_request : (state : State) (at : Moment) (words : List ℕ) (room : ℕ) (bytes : List ℕ) (o : Option Read) → IsAt at.sec (happens_request state at words room bytes o)
-  at_request state at words room bytes (Some request) = at_in state at words room bytes request.exchange request.message
-  at_request state at words room bytes None = tt
+  at_request : (state : State) (incoming : Incoming) → IsAt incoming.at.sec (happens_request state incoming)
+  at_request state incoming = at_of (view state incoming.octets) incoming (contents (view state incoming.octets) (request_of incoming.octets))
 
   from_any : (now second : ℤ) (o : Option (Happening Kept)) (rest : List (Happening Kept)) → IsAt second o → MemoryFrom now rest → MemoryFrom now (with_any o rest)
   from_any now second None rest at from = from
@@ -419,9 +384,9 @@ module _ (c : Components) where
 
   restarts_from : (now : ℤ) (state : State) (events : List Event) → RestartsFrom now events → MemoryFrom now (collected after_event happens state events)
   restarts_from now state [] from = tt
-  restarts_from now state (Request at words room request ∷ events) from =
-      from_any now at.sec (happens state (Request at words room request)) _ (at_request state at words room request (request_of request))
-      (restarts_from now (after_event state (Request at words room request)) events from)
+  restarts_from now state (Request at random room request ∷ events) from =
+      from_any now at.sec (happens state (Request at random room request)) _ (at_request state (record { at = at; random = random; room = room; octets = request }))
+      (restarts_from now (after_event state (Request at random room request)) events from)
   restarts_from now state (Change change ∷ events) from = restarts_from now (after_event state (Change change)) events from
   restarts_from now state (Replace database ∷ events) from = restarts_from now (after_event state (Replace database)) events from
   restarts_from now state (Restart at ∷ events) from = (from.0, restarts_from now (after_event state (Restart at)) events from.1)
@@ -429,10 +394,10 @@ module _ (c : Components) where
 
   restarts_follow : (state : State) (events : List Event) → RestartsFollow events → MemoryFollow (collected after_event happens state events)
   restarts_follow state [] follow = tt
-  restarts_follow state (Request at words room request ∷ events) follow =
-      follow_any at.sec (happens state (Request at words room request)) _ (at_request state at words room request (request_of request))
-      (restarts_from at.sec (after_event state (Request at words room request)) events follow.0)
-      (restarts_follow (after_event state (Request at words room request)) events follow.1)
+  restarts_follow state (Request at random room request ∷ events) follow =
+      follow_any at.sec (happens state (Request at random room request)) _ (at_request state (record { at = at; random = random; room = room; octets = request }))
+      (restarts_from at.sec (after_event state (Request at random room request)) events follow.0)
+      (restarts_follow (after_event state (Request at random room request)) events follow.1)
   restarts_follow state (Change change ∷ events) follow = restarts_follow (after_event state (Change change)) events follow
   restarts_follow state (Replace database ∷ events) follow = restarts_follow (after_event state (Replace database)) events follow
   restarts_follow state (Restart at ∷ events) follow = restarts_follow (after_event state (Restart at)) events follow

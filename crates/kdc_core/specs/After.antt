@@ -25,8 +25,10 @@ stamped_of at p (Some kept) = Some (Stamped p.ticket.cname at p.authenticator.ct
 stamped_of at p None = None
 
 abbrev pub after_mark : State → Mark → State
-after_mark state (Counted client failures) = with_memory state client.components (record (memory_of state client.components) { failures = failures })
-after_mark state (Stamped client at ctime cusec kept) = with_memory state client.components (remembered (memory_of state client.components) at.sec (ctime, cusec) kept)
+after_mark state (Counted client failures) =
+    with_memory state client.components (record (memory_of state client.components) { failures = failures })
+after_mark state (Stamped client at ctime cusec kept) =
+    with_memory state client.components (remembered (memory_of state client.components) at.sec (ctime, cusec) kept)
 
 abbrev pub after : State → Option Mark → State
 after state (Some mark) = after_mark state mark
@@ -41,4 +43,5 @@ after_reply state None = state
 abbrev pub MayStay : State → Mark → Type 0
 MayStay state (Counted client failures) = ⊤
 MayStay state (Stamped client at ctime cusec kept) =
-    (is_skewed (memory_of state client.components).floor at.sec ctime ≡ false) × (map.get (memory_of state client.components).pairs (ctime, cusec) ≡ None)
+    (is_skewed (memory_of state client.components).floor at.sec ctime ≡ false)
+    × (map.get (memory_of state client.components).pairs (ctime, cusec) ≡ None)

@@ -5,8 +5,8 @@ use Rattle.std.specs.FinMap as map
 use Rattle.std.specs.FinMap.{get-insert}
 use Rattle.std.specs.Option.{unwrap_or}
 use Rattle.std.specs.Ordering.{eq_by_cmp}
+use Rattle.kdc_replies.specs.Incoming.{Incoming}
 use Rattle.krb_fields.specs.Name.{Components, name_cmp, name_total}
-use Rattle.krb_fields.specs.declared.moment.Moment.{Moment}
 use Rattle.krb_types.specs.declared.kdc_req.Exchange.{Exchange}
 use Rattle.krb_types.specs.declared.kdc_req.Exchange.TheVariants.{As, Tgs}
 use Rattle.krb_types.specs.KdcReq.{Received}
@@ -17,42 +17,63 @@ use Rattle.replay.specs.Opening.{opened_memory}
 use Rattle.kdc_state.specs.declared.state.State.{State}
 use Rattle.kdc_state.specs.State.{memory_of}
 use Rattle.tgs_opening.specs.Opening.{opened}
-use Rattle.kdc_core.specs.Answer.{answer, keep, next}
+use Rattle.kdc_core.specs.Answer.{answer_to, keep, next_to}
 use Rattle.kdc_core.specs.Request.{Request, request_of}
-use Rattle.kdc_core.specs.View.{Agrees, client_in, client_of, components_of, memory_named, named, named_by, row_of, ticket_view, view, view_of}
+use Rattle.kdc_core.specs.View.{Agrees, client_in, client_of, components_of, memory_named, named, named_by, row_of}
+use Rattle.kdc_core.specs.View.{ticket_view, view, view_of}
 
-same_row : (state other : State) (c : Option Components) → IfSome c (λ c. map.get other.database.rows c ≡ map.get state.database.rows c) → row_of other c ≡ row_of state c
+same_row : (state other : State) (c : Option Components)
+    → IfSome c (λ c. map.get other.database.rows c ≡ map.get state.database.rows c) → row_of other c ≡ row_of state c
 same_row state other (Some c) h = h
 same_row state other None h = refl
 
-same_memory : (state other : State) (c : Option Components) → IfSome c (λ c. (map.get other.database.rows c ≡ map.get state.database.rows c) × (memory_of other c ≡ memory_of state c))
+same_memory : (state other : State) (c : Option Components)
+    → IfSome c (λ c. (map.get other.database.rows c ≡ map.get state.database.rows c)
+    × (memory_of other c ≡ memory_of state c))
     → (row_of other c ≡ row_of state c) × (memory_named other c ≡ memory_named state c)
 same_memory state other (Some c) h = (h.0, h.1)
 same_memory state other None h = (refl, refl)
 
-same_client : (state other : State) (exchange : Exchange) (message : Received) → ticket_view other message ≡ ticket_view state message → client_in other exchange message ≡ client_in state exchange message
+same_client : (state other : State) (exchange : Exchange) (message : Received)
+    → ticket_view other message ≡ ticket_view state message
+    → client_in other exchange message ≡ client_in state exchange message
 same_client state other As message e = refl
 same_client state other Tgs message e = ap (λ v. client_of (opened v message)) e
 
 module _ (state other : State) (realm : other.database.realm ≡ state.database.realm)
-    (granter : map.get other.database.rows (ticket_granter other.database.realm) ≡ map.get state.database.rows (ticket_granter state.database.realm)) where
+    (granter : map.get other.database.rows (ticket_granter other.database.realm) ≡ map.get state.database.rows
+    (ticket_granter state.database.realm)) where
   -- the service's rows agree, so the presented ticket is opened alike, and the clients are the same
-  same_names : (o : Option Request) → row_of other (named_by state o).service ≡ row_of state (named_by state o).service → named_by other o ≡ named_by state o
+  same_names : (o : Option Request) → row_of other (named_by state o).service ≡ row_of state (named_by state o).service
+      → named_by other o ≡ named_by state o
   same_names (Some request) service =
-      let ticket : ticket_view other request.message ≡ ticket_view state request.message = (λ i. record { realm = realm i; granter = granter i; service = service i }) in
-      λ i. record { client = same_client state other request.exchange request.message ticket i; service = components_of request.message.body.value.sname }
+      let ticket : ticket_view other request.message ≡ ticket_view state request.message = (λ i.
+      record { realm = realm i; granter = granter i; service = service i }) in
+      λ i. record {
+        client = same_client state other request.exchange request.message ticket i;
+        service = components_of
+            request.message.body.value.sname;
+      }
   same_names None service = refl
 
 -- they name the same client and the same service
-pub names_agree : (state other : State) (bytes : List ℕ) → Agrees state other bytes → named other bytes ≡ named state bytes
+pub names_agree : (state other : State) (bytes : List ℕ) → Agrees state other bytes
+    → named other bytes ≡ named state bytes
 names_agree state other bytes a =
-    let granter : map.get other.database.rows (ticket_granter other.database.realm) ≡ map.get state.database.rows (ticket_granter state.database.realm) = ap (λ r. map.get other.database.rows (ticket_granter r)) a.realm ∙ a.granter in
-    same_names state other a.realm granter (request_of bytes) (same_row state other (named state bytes).service a.service)
+    let granter : map.get other.database.rows (ticket_granter other.database.realm) ≡ map.get state.database.rows
+    (ticket_granter state.database.realm) = ap (λ r. map.get other.database.rows (ticket_granter r)) a.realm
+    ∙ a.granter in
+    same_names state other a.realm granter (request_of bytes)
+    (same_row state other (named state bytes).service a.service)
 
-pub view_agrees : (state other : State) (bytes : List ℕ) → Agrees state other bytes → view other bytes ≡ view state bytes
+pub view_agrees : (state other : State) (bytes : List ℕ) → Agrees state other bytes
+    → view other bytes ≡ view state bytes
 view_agrees state other bytes a =
-    let granter : map.get other.database.rows (ticket_granter other.database.realm) ≡ map.get state.database.rows (ticket_granter state.database.realm) = ap (λ r. map.get other.database.rows (ticket_granter r)) a.realm ∙ a.granter in
-    let service : row_of other (named state bytes).service ≡ row_of state (named state bytes).service = same_row state other (named state bytes).service a.service in
+    let granter : map.get other.database.rows (ticket_granter other.database.realm) ≡ map.get state.database.rows
+    (ticket_granter state.database.realm) = ap (λ r. map.get other.database.rows (ticket_granter r)) a.realm
+    ∙ a.granter in
+    let service : row_of other (named state bytes).service ≡ row_of state
+    (named state bytes).service = same_row state other (named state bytes).service a.service in
     let client = same_memory state other (named state bytes).client a.client in
     ap (view_of other) (names_agree state other bytes a) ∙ (λ i. record {
       realm = a.realm i;
@@ -66,28 +87,45 @@ view_agrees state other bytes a =
 -- ---- and they agree there afterwards
 
 -- a memory that both keep is the same in both, and the others are as before
-kept_alike : (state other : State) (c n : Components) (m : Memory Kept) → memory_of other n ≡ memory_of state n → memory_of (keep other (Some c) (Some m)) n ≡ memory_of (keep state (Some c) (Some m)) n
+kept_alike : (state other : State) (c n : Components) (m : Memory Kept) → memory_of other n ≡ memory_of state n
+    → memory_of (keep other (Some c) (Some m)) n ≡ memory_of (keep state (Some c) (Some m)) n
 kept_alike state other c n m h =
     ap (λ o. unwrap_or o (opened_memory other.opening)) (get-insert name_total other.memories c m n)
     ∙ at (eq_by_cmp name_cmp n c)
     ∙ sym (ap (λ o. unwrap_or o (opened_memory state.opening)) (get-insert name_total state.memories c m n))
   where
-    at : (b : Bool) → unwrap_or (cond b (Some m) (map.get other.memories n)) (opened_memory other.opening) ≡ unwrap_or (cond b (Some m) (map.get state.memories n)) (opened_memory state.opening)
+    at : (b : Bool) → unwrap_or (cond b (Some m) (map.get other.memories n)) (opened_memory other.opening) ≡ unwrap_or
+        (cond b (Some m) (map.get state.memories n)) (opened_memory state.opening)
     at true = refl
     at false = h
 
-client_alike : (state other : State) (c : Components) (m : Memory Kept) (o : Option Components) → IfSome o (λ n. (map.get other.database.rows n ≡ map.get state.database.rows n) × (memory_of other n ≡ memory_of state n))
-    → IfSome o (λ n. (map.get other.database.rows n ≡ map.get state.database.rows n) × (memory_of (keep other (Some c) (Some m)) n ≡ memory_of (keep state (Some c) (Some m)) n))
+client_alike : (state other : State) (c : Components) (m : Memory Kept) (o : Option Components)
+    → IfSome o (λ n. (map.get other.database.rows n ≡ map.get state.database.rows n)
+    × (memory_of other n ≡ memory_of state n))
+    → IfSome o (λ n. (map.get other.database.rows n ≡ map.get state.database.rows n)
+    × (memory_of (keep other (Some c) (Some m)) n ≡ memory_of (keep state (Some c) (Some m)) n))
 client_alike state other c m (Some n) h = (h.0, kept_alike state other c n m h.1)
 client_alike state other c m None h = tt
 
-keep_agrees : (state other : State) (bytes : List ℕ) (c : Option Components) (m : Option (Memory Kept)) → Agrees state other bytes → Agrees (keep state c m) (keep other c m) bytes
-keep_agrees state other bytes (Some c) (Some m) a = record { realm = a.realm; limits = a.limits; granter = a.granter; client = client_alike state other c m (named state bytes).client a.client; service = a.service }
+keep_agrees : (state other : State) (bytes : List ℕ) (c : Option Components) (m : Option (Memory Kept))
+    → Agrees state other bytes → Agrees (keep state c m) (keep other c m) bytes
+keep_agrees state other bytes (Some c) (Some m) a =
+    record {
+      realm = a.realm;
+      limits = a.limits;
+      granter = a.granter;
+      client = client_alike state other c m
+          (named state bytes).client a.client;
+      service = a.service;
+    }
 keep_agrees state other bytes (Some c) None a = a
 keep_agrees state other bytes None m a = a
 
-pub next_agrees : (state other : State) (at : Moment) (words : List ℕ) (room : ℕ) (bytes : List ℕ) → Agrees state other bytes → Agrees (next state at words room bytes) (next other at words room bytes) bytes
-next_agrees state other at words room bytes a =
-    subst (λ (s : State). Agrees (next state at words room bytes) s bytes)
-    (λ i. keep other (sym (names_agree state other bytes a) i).client (answer (sym (view_agrees state other bytes a) i) at words room bytes).kept)
-    (keep_agrees state other bytes (named state bytes).client (answer (view state bytes) at words room bytes).kept a)
+pub next_agrees : (state other : State) (incoming : Incoming) → Agrees state other incoming.octets
+    → Agrees (next_to state incoming) (next_to other incoming) incoming.octets
+next_agrees state other incoming a =
+    let bytes = incoming.octets in
+    subst (λ (s : State). Agrees (next_to state incoming) s bytes)
+    (λ i. keep other (sym (names_agree state other bytes a) i).client
+    (answer_to (sym (view_agrees state other bytes a) i) incoming).kept)
+    (keep_agrees state other bytes (named state bytes).client (answer_to (view state bytes) incoming).kept a)

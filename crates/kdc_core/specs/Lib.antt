@@ -1,12 +1,13 @@
 pub mod Request
 pub mod View
+pub mod Contents
 pub mod Answer
 pub mod Issued
 pub mod AgreementLaws
 pub mod After
 pub mod RequestLaws
 pub mod Run
-pub mod PresentedLaws
+pub mod ContentsLaws
 pub mod Struck
 pub mod Tickets
 pub mod Unaffected

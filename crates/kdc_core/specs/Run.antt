@@ -18,7 +18,7 @@ use Rattle.kdc_core.specs.declared.run.Event.TheVariants.{Request, Change, Repla
 
 -- a request alone gets a reply
 abbrev pub event_reply : State → Event → Option (List ℕ)
-event_reply state (Request at words room request) = (answer (view state request) at words room request).reply
+event_reply state (Request at random room request) = (answer (view state request) at random room request).reply
 event_reply state (Change change) = None
 event_reply state (Replace database) = None
 event_reply state (Restart at) = None
@@ -30,14 +30,16 @@ unless_refused None old new = new
 
 -- a change that is refused leaves the state as it was
 abbrev pub after_change : State → PrincipalChange → State
-after_change state change = unless_refused (refusal state.database change) state (record state { database = changed state.database change })
+after_change state change =
+    unless_refused (refusal state.database change) state (record state { database = changed state.database change })
 
 -- another database of the same realm takes the place of the state's; one of another realm changes nothing
 abbrev pub replaced : State → Principals → State
-replaced state database = if pointwise nat_eq database.realm state.database.realm then record state { database = database } else state
+replaced state database =
+    if pointwise nat_eq database.realm state.database.realm then record state { database = database } else state
 
 abbrev pub after_event : State → Event → State
-after_event state (Request at words room request) = next state at words room request
+after_event state (Request at random room request) = next state at random room request
 after_event state (Change change) = after_change state change
 after_event state (Replace database) = replaced state database
 after_event state (Restart at) = restarted state at
@@ -54,19 +56,24 @@ run state [] = state
 run state (event ∷ events) = run (after_event state event) events
 
 -- each kind of event alone
-pub request_alone : (state : State) (at : Moment) (words : List ℕ) (room : ℕ) (request : List ℕ)
-    → (replies state (Request at words room request ∷ []) ≡ (answer (view state request) at words room request).reply ∷ []) × (run state (Request at words room request ∷ []) ≡ next state at words room request)
-request_alone state at words room request = (refl, refl)
+pub request_alone : (state : State) (at : Moment) (random : List ℕ) (room : ℕ) (request : List ℕ)
+    → (replies state (Request at random room request ∷ []) ≡ (answer (view state request) at random room request).reply
+    ∷ []) × (run state (Request at random room request ∷ []) ≡ next state at random room request)
+request_alone state at random room request = (refl, refl)
 
-pub change_alone : (state : State) (change : PrincipalChange) → refusal state.database change ≡ None → run state (Change change ∷ []) ≡ record state { database = changed state.database change }
-change_alone state change fits = ap (λ o. unless_refused o state (record state { database = changed state.database change })) fits
+pub change_alone : (state : State) (change : PrincipalChange) → refusal state.database change ≡ None
+    → run state (Change change ∷ []) ≡ record state { database = changed state.database change }
+change_alone state change fits =
+    ap (λ o. unless_refused o state (record state { database = changed state.database change })) fits
 
 pub restart_alone : (state : State) (at : Moment) → run state (Restart at ∷ []) ≡ restarted state at
 restart_alone state at = refl
 
-pub reopen_alone : (state : State) (database : Principals) (limits : Limits) (at : Moment) → run state (Reopen database limits at ∷ []) ≡ opened database limits (OpenedAgain at)
+pub reopen_alone : (state : State) (database : Principals) (limits : Limits) (at : Moment)
+    → run state (Reopen database limits at ∷ []) ≡ opened database limits (OpenedAgain at)
 reopen_alone state database limits at = refl
 
 -- a restart opens again with what there is
-pub restart_reopens : (state : State) (at : Moment) → restarted state at ≡ opened state.database state.limits (OpenedAgain at)
+pub restart_reopens : (state : State) (at : Moment)
+    → restarted state at ≡ opened state.database state.limits (OpenedAgain at)
 restart_reopens state at = refl

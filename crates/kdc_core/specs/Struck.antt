@@ -1,5 +1,6 @@
 -- Struck runs: what is left of a run for one client, when what others ask and change is struck out of it.
-use Rattle.std.proofs.Common.{◌≡◌, ℕ, Bool, true, false, ◌||◌, if◌then◌else◌, IsTrue, IfSome, List, [], ◌∷◌, Option, Some, None, refl, ap}
+use Rattle.std.proofs.Common.{◌≡◌, ℕ, Bool, true, false, ◌||◌, if◌then◌else◌, IsTrue, IfSome, List, [], ◌∷◌, Option}
+use Rattle.std.proofs.Common.{Some, None, refl, ap}
 use Rattle.std.specs.Prelude.{⊤}
 use Rattle.std.specs.FinMap as map
 use Rattle.std.specs.Ordering.{eq_by_cmp}
@@ -32,7 +33,7 @@ is_client c (Some name) = eq_by_cmp name_cmp c name
 is_client c None = false
 
 abbrev pub is_request : State → Event → Bool
-is_request state (Request at words room request) = true
+is_request state (Request at random room request) = true
 is_request state (Change change) = false
 is_request state (Replace database) = false
 is_request state (Restart at) = false
@@ -40,16 +41,16 @@ is_request state (Reopen database limits at) = false
 
 -- a request whose named client is c
 abbrev pub is_request_of : Components → State → Event → Bool
-is_request_of c state (Request at words room request) = is_client c (named state request).client
+is_request_of c state (Request at random room request) = is_client c (named state request).client
 is_request_of c state (Change change) = false
 is_request_of c state (Replace database) = false
 is_request_of c state (Restart at) = false
 is_request_of c state (Reopen database limits at) = false
 
--- whether an event is left for the client c, where the rows of S count: a request of c, a change of c's row or of one of
--- S, and each replacement and restart
+-- whether an event is left for the client c, where the rows of S count: a request of c, a change of c's row or of one
+-- of S, and each replacement and restart
 abbrev pub is_left : Components → Names → State → Event → Bool
-is_left c S state (Request at words room request) = is_client c (named state request).client
+is_left c S state (Request at random room request) = is_client c (named state request).client
 is_left c S state (Change change) = eq_by_cmp name_cmp c (principal_of change) || S (principal_of change)
 is_left c S state (Replace database) = true
 is_left c S state (Restart at) = true
@@ -59,28 +60,33 @@ is_left c S state (Reopen database limits at) = true
 abbrev pub strike : Components → Names → State → List Event → List Event
 strike c S state [] = []
 strike c S state (event ∷ events) =
-    if is_left c S state event then event ∷ strike c S (after_event state event) events else strike c S (after_event state event) events
+    if is_left c S state event then event ∷ strike c S (after_event state event) events
+    else strike c S (after_event state event) events
 
 -- the replies that a run gives to those events that pass a test at their places, in order
 abbrev pub replies_to : (State → Event → Bool) → State → List Event → List (Option (List ℕ))
 replies_to test state [] = []
 replies_to test state (event ∷ events) =
-    if test state event then event_reply state event ∷ replies_to test (after_event state event) events else replies_to test (after_event state event) events
+    if test state event then event_reply state event ∷ replies_to test (after_event state event) events
+    else replies_to test (after_event state event) events
 
--- the service that an event names, where it is a request of c, is in S, and so is the ticket-granting service of a realm that
--- is opened
+-- the service that an event names, where it is a request of c, is in S, and so is the ticket-granting service of a
+-- realm that is opened
 abbrev pub NamesWithin : Components → Names → State → Event → Type 0
-NamesWithin c S state (Request at words room request) = IsTrue (is_client c (named state request).client) → IfSome (named state request).service (λ service. IsTrue (S service))
+NamesWithin c S state (Request at random room request) =
+    IsTrue (is_client c (named state request).client)
+    → IfSome (named state request).service (λ service. IsTrue (S service))
 NamesWithin c S state (Change change) = ⊤
 NamesWithin c S state (Replace database) = ⊤
 NamesWithin c S state (Restart at) = ⊤
 NamesWithin c S state (Reopen database limits at) = IsTrue (S (ticket_granter database.realm))
 
--- each service that a request of c names at its place in the run is in S, and the ticket-granting service of each realm that
--- is opened
+-- each service that a request of c names at its place in the run is in S, and the ticket-granting service of each realm
+-- that is opened
 abbrev pub ServicesWithin : Components → Names → State → List Event → Type 0
 ServicesWithin c S state [] = ⊤
-ServicesWithin c S state (event ∷ events) = NamesWithin c S state event × ServicesWithin c S (after_event state event) events
+ServicesWithin c S state (event ∷ events) =
+    NamesWithin c S state event × ServicesWithin c S (after_event state event) events
 
 -- a second state has the same realm and limits, and agrees on c's row and memory, and on the rows of S
 pub record AgreesFor (c : Components) (S : Names) (state other : State) : Type 0 where
@@ -104,10 +110,13 @@ pub record IsIsolated (c : Components) (S : Names) (state other : State) (events
 -- has to follow another.
 abbrev pub Isolation : State → List Event → Type 0
 Isolation state events =
-    (c : Components) (S : Names) (other : State) → IsTrue (S (ticket_granter state.database.realm)) → ServicesWithin c S state events → AgreesFor c S state other
+    (c : Components) (S : Names) (other : State) → IsTrue (S (ticket_granter state.database.realm))
+    → ServicesWithin c S state events → AgreesFor c S state other
     → IsIsolated c S state other events (strike c S state events)
 
 -- all replies of a run are those to whatever comes
-pub replies_to_all : (state : State) (events : List Event) → replies_to (λ state event. true) state events ≡ replies state events
+pub replies_to_all : (state : State) (events : List Event)
+    → replies_to (λ state event. true) state events ≡ replies state events
 replies_to_all state [] = refl
-replies_to_all state (event ∷ events) = ap (λ l. event_reply state event ∷ l) (replies_to_all (after_event state event) events)
+replies_to_all state (event ∷ events) =
+    ap (λ l. event_reply state event ∷ l) (replies_to_all (after_event state event) events)

@@ -1,51 +1,43 @@
 -- The tickets that are issued in a run, each with the time of the authenticator that bought it.
 use Rattle.std.specs.Prelude.{ℕ, ℤ, ◌≤ℤ◌, if◌then◌else◌, ⊤, List, [], ◌∷◌, Option, Some, None}
-use Rattle.std.specs.Result.{result_ok}
 use Rattle.krb_fields.specs.Name.{Components}
-use Rattle.krb_types.specs.KdcReq.{Received}
-use Rattle.krb_types.specs.declared.kdc_req.Exchange.{Exchange}
-use Rattle.krb_types.specs.declared.kdc_req.Exchange.TheVariants.{As, Tgs}
 use Rattle.replay.specs.Run.{collected, OneForEach}
 use Rattle.replay.specs.Stamp.{Stamp}
 use Rattle.tgs_exchange.specs.Answer.{bears_ticket}
 use Rattle.tgs_exchange.specs.Decision.{stamp_of}
-use Rattle.tgs_opening.specs.Opening.{presented}
 use Rattle.tgs_opening.specs.declared.presented.Presented.{Presented}
 use Rattle.kdc_state.specs.declared.state.State.{State}
 use Rattle.kdc_core.specs.Request.{Request as Read, request_of}
 use Rattle.kdc_core.specs.Run.{after_event, event_reply}
 use Rattle.kdc_core.specs.Struck.{is_client}
-use Rattle.kdc_core.specs.View.{named, ticket_view}
+use Rattle.kdc_core.specs.Contents.{contents, presented_in}
+use Rattle.kdc_core.specs.View.{named, named_by, view_of}
 use Rattle.kdc_core.specs.declared.run.Event.{Event}
 use Rattle.kdc_core.specs.declared.run.Event.TheVariants.{Request, Change, Replace, Restart, Reopen}
 
 -- no restart is before this second
 abbrev pub RestartsFrom : ℤ → List Event → Type 0
 RestartsFrom now [] = ⊤
-RestartsFrom now (Request at words room request ∷ events) = RestartsFrom now events
+RestartsFrom now (Request at random room request ∷ events) = RestartsFrom now events
 RestartsFrom now (Change change ∷ events) = RestartsFrom now events
 RestartsFrom now (Replace database ∷ events) = RestartsFrom now events
 RestartsFrom now (Restart at ∷ events) = (now ≤ℤ at.sec) × RestartsFrom now events
 RestartsFrom now (Reopen database limits at ∷ events) = (now ≤ℤ at.sec) × RestartsFrom now events
 
--- No restart is before the second of a request that came earlier. This is all that is asked: the moments of requests may go
--- back while the KDC runs, and those of restarts among themselves.
+-- No restart is before the second of a request that came earlier. This is all that is asked, and less than that moments
+-- rise: those of requests may go back while the KDC runs, and those of restarts among themselves, so the law is
+-- stronger than one of runs whose moments rise.
 abbrev pub RestartsFollow : List Event → Type 0
 RestartsFollow [] = ⊤
-RestartsFollow (Request at words room request ∷ events) = RestartsFrom at.sec events × RestartsFollow events
+RestartsFollow (Request at random room request ∷ events) = RestartsFrom at.sec events × RestartsFollow events
 RestartsFollow (Change change ∷ events) = RestartsFollow events
 RestartsFollow (Replace database ∷ events) = RestartsFollow events
 RestartsFollow (Restart at ∷ events) = RestartsFollow events
 RestartsFollow (Reopen database limits at ∷ events) = RestartsFollow events
 
--- what a TGS-REQ presents, where ticket and authenticator are opened
-abbrev pub presented_in : State → Exchange → Received → Option Presented
-presented_in state As message = None
-presented_in state Tgs message = result_ok (presented (ticket_view state message) message)
-
+-- what a request presents, where it is a TGS-REQ that was opened
 abbrev pub presented_by : State → Option Read → Option Presented
-presented_by state (Some request) = presented_in state request.exchange request.message
-presented_by state None = None
+presented_by state request = presented_in (contents (view_of state (named_by state request)) request)
 
 -- a reply that bears a ticket, with the time of the authenticator
 abbrev pub ticket_by : Option Presented → Option (List ℕ) → Option (Stamp × List ℕ)
@@ -55,7 +47,8 @@ ticket_by None reply = None
 
 -- the ticket that a reply brings to the client c for an authenticator
 abbrev pub ticket_for : Components → State → Event → Option (List ℕ) → Option (Stamp × List ℕ)
-ticket_for c state (Request at words room request) reply = if is_client c (named state request).client then ticket_by (presented_by state (request_of request)) reply else None
+ticket_for c state (Request at random room request) reply =
+    if is_client c (named state request).client then ticket_by (presented_by state (request_of request)) reply else None
 ticket_for c state (Change change) reply = None
 ticket_for c state (Replace database) reply = None
 ticket_for c state (Restart at) reply = None

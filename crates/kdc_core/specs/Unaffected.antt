@@ -16,6 +16,7 @@ pub record GetsTheSame (c : Components) (S : Names) (state other : State) (event
 -- ticket-granting service and each service that c's requests name in either.
 abbrev pub Unaffected : Type 0
 Unaffected = (c : Components) (S : Names) (state other : State) (events others : List Event)
-    → IsTrue (S (ticket_granter state.database.realm)) → ServicesWithin c S state events → ServicesWithin c S other others → AgreesFor c S state other
+    → IsTrue (S (ticket_granter state.database.realm)) → ServicesWithin c S state events
+    → ServicesWithin c S other others → AgreesFor c S state other
     → strike c S other others ≡ strike c S state events
     → GetsTheSame c S state other events others

@@ -76,7 +76,7 @@ pub record View : Type 0 where
   pub granter : Option Row
   pub memory : Memory Kept
 
--- where no client is named, that of a first opening
+-- where no client is named, that of a first opening, of which no answer is made
 abbrev pub memory_named : State → Option Components → Memory Kept
 memory_named state (Some name) = memory_of state name
 memory_named state None = opened_memory First
@@ -97,7 +97,8 @@ view_in state exchange message = view_of state (named_in state (record { exchang
 
 -- the client of the presented ticket, and the service that is asked for
 abbrev pub names_presented : Received → Presented → Named
-names_presented message p = record { client = Some p.ticket.cname.components; service = components_of message.body.value.sname }
+names_presented message p =
+    record { client = Some p.ticket.cname.components; service = components_of message.body.value.sname }
 
 abbrev pub presented_view : State → Received → Presented → View
 presented_view state message p = view_of state (names_presented message p)
@@ -109,13 +110,16 @@ view state bytes = view_of state (named state bytes)
 pub record Agrees (state other : State) (bytes : List ℕ) : Type 0 where
   pub realm : other.database.realm ≡ state.database.realm
   pub limits : other.limits ≡ state.limits
-  pub granter : map.get other.database.rows (ticket_granter state.database.realm) ≡ map.get state.database.rows (ticket_granter state.database.realm)
-  pub client : IfSome (named state bytes).client (λ c. (map.get other.database.rows c ≡ map.get state.database.rows c) × (memory_of other c ≡ memory_of state c))
+  pub granter : map.get other.database.rows (ticket_granter state.database.realm) ≡ map.get state.database.rows
+      (ticket_granter state.database.realm)
+  pub client : IfSome (named state bytes).client
+      (λ c. (map.get other.database.rows c ≡ map.get state.database.rows c) × (memory_of other c ≡ memory_of state c))
   pub service : IfSome (named state bytes).service (λ s. map.get other.database.rows s ≡ map.get state.database.rows s)
 
 -- what the AS exchange answers from
 abbrev pub as_view : View → as_exchange.View
-as_view v = record { realm = v.realm; limits = v.limits; client = v.client; service = v.service; failures = v.memory.failures }
+as_view v =
+    record { realm = v.realm; limits = v.limits; client = v.client; service = v.service; failures = v.memory.failures }
 
 -- what the TGS exchange opens a ticket from, and what it answers from
 abbrev pub opening_view : View → tgs_opening.View

@@ -1,23 +1,26 @@
-//! From a request's octets to a reply's, and to what is kept of the client.
-ghost use Rattle.std.specs.Prelude.{◌≡◌, ◌<◌, length, Some, IfOk, IfSome, OnOk, OnErr, option_map, option_copied};
-ghost use Rattle.krb_fields.specs.PrincipalName.{name};
-ghost use Rattle.kdc_core.specs.After.{after, after_reply, MayStay};
-ghost use Rattle.kdc_core.specs.Answer.{answer, answer_in, keep, next, IsReply, OneTicketTwoKeys, OpensIn, SpelledIn};
+//! From a request's octets to a reply's, and to what is kept of the client: what they hold is read first, and decides.
+ghost use Rattle.std.specs.Prelude.{◌≡◌, None, IfOk, IfSome, OnOk, OnErr, option_map};
+ghost use Rattle.krb_types.specs.KrbError.{krb_error};
+ghost use Rattle.tgs_exchange.specs.Answer.{tgs_error};
+ghost use Rattle.krb_elements.specs.Codec.{written};
+ghost use Rattle.kdc_core.specs.After.{after_reply, MayStay};
+ghost use Rattle.kdc_core.specs.Answer.{answer_of, answer_to, keep, next_to, IsReply, IsReplyTo, OneTicketTwoKeys};
+ghost use Rattle.kdc_core.specs.Answer.{OpensOf};
+ghost use Rattle.kdc_core.specs.Contents.{AreShort, IsShortName};
+ghost use Rattle.kdc_core.specs.ContentsLaws.{names_in};
 ghost use Rattle.kdc_core.specs.Request.{request_of};
-ghost use Rattle.kdc_core.specs.View.{client_in, components_of, row_of, view, view_in};
-ghost use Rattle.tgs_opening.specs.Tickets.{tgs_data};
+ghost use Rattle.kdc_core.specs.View.{view, view_of};
 
 use crate::as_replies::as_reply;
+use crate::contents::{Contents, contents_of};
 use crate::mark::{Mark, keep_mark};
 use crate::tgs_replies::tgs_reply;
+use kdc_replies::Incoming;
 use kdc_state::State;
-use krb_fields::{Moment, NameRef};
-use krb_types::{Exchange, KdcReqRef, read_kdc_req};
-use principal_rows::Row;
+use krb_types::KdcReqRef;
 use std::alloc::{AllocError, Global};
-
-/// The most octets that are read as a request: the lengths of frames over TCP stop there (RFC 4120, section 7.2.2).
-const GREATEST_REQUEST: usize = 2_147_483_647;
+use tgs_exchange::tgs_error;
+use tgs_opening::TgsRefusal;
 
 /// A reply, and what is to be kept of the client, if anything is.
 #[derive(Debug, Drop)]
@@ -26,22 +29,25 @@ pub struct Answered {
     pub mark: Option<Mark>,
 }
 
-/// Answers the octets of a request, and keeps what has to be remembered of its client.
+/// Answers a request, and keeps what has to be remembered of its client.
 pub fn handle(
     state: &mut State,
     alloc: Global,
-    at: Moment,
-    words: &[u8; 64],
-    room: u32,
-    request: &[u8],
+    incoming: &Incoming<'_>,
 ) -> Result<Option<Vec<u8>>, AllocError>
-    ensures reply { IfOk result (λ reply. option_map (λ octets. octets.items) reply ≡ (answer (view state.old request.now) at words.now room request.now).reply) }
-    ensures spelled { IfOk result (λ reply. IsReply (view state.old request.now) at words.now (request_of request.now) (option_map (λ octets. octets.items) reply)) }
-    ensures keys { IfOk result (λ reply. OneTicketTwoKeys (view state.old request.now) at words.now (request_of request.now)) }
-    ensures state { OnOk result (state.new ≡ next state.old at words.now room request.now) }
+    ensures reply { IfOk result (λ reply.
+        option_map (λ octets. octets.items) reply
+        ≡ (answer_to (view state.old incoming.now.octets) incoming.now).reply) }
+    ensures spelled { IfOk result (λ reply.
+        IsReply (view state.old incoming.now.octets) incoming.now.at incoming.now.random
+        (request_of incoming.now.octets) (option_map (λ octets. octets.items) reply)) }
+    ensures keys { IfOk result (λ reply.
+        OneTicketTwoKeys (view state.old incoming.now.octets) incoming.now.at incoming.now.random
+        (request_of incoming.now.octets)) }
+    ensures state { OnOk result (state.new ≡ next_to state.old incoming.now) }
     ensures err { OnErr result (state.new ≡ state.old) }
 {
-    let Some(Answered { octets, mark }) = reply(state, alloc, at, words, room, request)? else {
+    let Some(Answered { octets, mark }) = reply(state, alloc, incoming)? else {
         return Ok(None);
     };
     if let Some(mark) = mark {
@@ -50,59 +56,82 @@ pub fn handle(
     Ok(Some(octets))
 }
 
-/// The reply to the octets of a request, if they spell one.
+/// The reply to a request, if its octets spell one.
 fn reply(
     state: &State,
     alloc: Global,
-    at: Moment,
-    words: &[u8; 64],
-    room: u32,
-    request: &[u8],
+    incoming: &Incoming<'_>,
 ) -> Result<Option<Answered>, AllocError>
-    ensures reply { IfOk result (λ reply. option_map (λ r. r.octets.items) reply ≡ (answer (view state.now request.now) at words.now room request.now).reply) }
-    ensures after { IfOk result (λ reply. after_reply state.now (option_map (λ r. r.mark) reply) ≡ next state.now at words.now room request.now) }
-    ensures spelled { IfOk result (λ reply. IsReply (view state.now request.now) at words.now (request_of request.now) (option_map (λ r. r.octets.items) reply)) }
-    ensures keys { IfOk result (λ reply. OneTicketTwoKeys (view state.now request.now) at words.now (request_of request.now)) }
+    ensures reply { IfOk result (λ reply.
+        option_map (λ r. r.octets.items) reply ≡ (answer_to (view state.now incoming.now.octets) incoming.now).reply) }
+    ensures after { IfOk result (λ reply.
+        after_reply state.now (option_map (λ r. r.mark) reply) ≡ next_to state.now incoming.now) }
+    ensures spelled { IfOk result (λ reply.
+        IsReply (view state.now incoming.now.octets) incoming.now.at incoming.now.random
+        (request_of incoming.now.octets) (option_map (λ r. r.octets.items) reply)) }
+    ensures keys { IfOk result (λ reply.
+        OneTicketTwoKeys (view state.now incoming.now.octets) incoming.now.at incoming.now.random
+        (request_of incoming.now.octets)) }
     ensures stays { IfOk result (λ reply. IfSome reply (λ r. IfSome r.mark (MayStay state.now))) }
 {
-    if request.len() > GREATEST_REQUEST {
-        return Ok(None);
-    }
-    let Ok((exchange, message)) = read_kdc_req(request) else {
-        return Ok(None);
-    };
-    let reply = reply_in(state, alloc, at, words, room, request, exchange, &message)?;
-    Ok(Some(reply))
+    let held = contents_of(state, alloc, incoming.octets)?;
+    reply_to(state, alloc, incoming, &held)
 }
 
-/// The reply to a request of this exchange.
-fn reply_in(
+/// The reply to what the octets of a request hold.
+fn reply_to(
     state: &State,
     alloc: Global,
-    at: Moment,
-    words: &[u8; 64],
-    room: u32,
-    request: &[u8],
-    exchange: Exchange,
-    message: &KdcReqRef<'_>,
-) -> Result<Answered, AllocError>
-    requires sname { IfSome message.now.body.value.sname (λ n. length (name.text n) < 2147483648) }
-    requires value { IfSome (tgs_data message.now) (λ value. length value < 2147483648) }
-    ensures reply { IfOk result (λ reply. Some reply.octets.items ≡ (answer_in (view_in state.now exchange message.now) at words.now room request.now exchange message.now).reply) }
-    ensures after { IfOk result (λ reply. after state.now reply.mark ≡ keep state.now (client_in state.now exchange message.now) (answer_in (view_in state.now exchange message.now) at words.now room request.now exchange message.now).kept) }
-    ensures spelled { IfOk result (λ reply. SpelledIn (view_in state.now exchange message.now) at words.now exchange message.now reply.octets.items) }
-    ensures keys { IfOk result (λ reply. OpensIn (view_in state.now exchange message.now) at words.now exchange message.now) }
-    ensures stays { IfOk result (λ reply. IfSome reply.mark (MayStay state.now)) }
+    incoming: &Incoming<'_>,
+    held: &Contents<'_>,
+) -> Result<Option<Answered>, AllocError>
+    requires { AreShort held.now }
+    ensures reply { IfOk result (λ reply.
+        option_map (λ r. r.octets.items) reply
+        ≡ (answer_of (view_of state.now (names_in held.now)) incoming.now held.now).reply) }
+    ensures after { IfOk result (λ reply.
+        after_reply state.now (option_map (λ r. r.mark) reply)
+        ≡ keep state.now (names_in held.now).client
+        (answer_of (view_of state.now (names_in held.now)) incoming.now held.now).kept) }
+    ensures spelled { IfOk result (λ reply.
+        IsReplyTo (view_of state.now (names_in held.now)) incoming.now.at incoming.now.random
+        (option_map (λ r. r.octets.items) reply) held.now) }
+    ensures keys { IfOk result (λ reply.
+        OpensOf (view_of state.now (names_in held.now)) incoming.now.at incoming.now.random held.now) }
+    ensures stays { IfOk result (λ reply. IfSome reply (λ r. IfSome r.mark (MayStay state.now))) }
 {
-    match exchange {
-        Exchange::As => as_reply(state, alloc, at, words, room, request, message),
-        Exchange::Tgs => tgs_reply(state, alloc, at, words, room, request, message),
+    match held {
+        Contents::NoRequest => Ok(None),
+        Contents::AsReq(message) => Ok(Some(as_reply(state, alloc, incoming, message)?)),
+        Contents::RefusedTgsReq(message, refusal) => {
+            Ok(Some(refused(state, alloc, incoming, message, *refusal)?))
+        }
+        Contents::TgsReq(message, presented) => {
+            Ok(Some(tgs_reply(state, alloc, incoming, message, presented)?))
+        }
     }
 }
 
-/// The row of a name that a request may hold.
-pub fn row_of<'s>(state: &'s State, name: Option<&NameRef<'_>>) -> Option<&'s Row>
-    ensures { option_copied result ≡ row_of state.now (components_of (option_copied name.entry)) }
+/// The error that refuses a TGS-REQ whose ticket or authenticator was not opened. Nothing is kept.
+fn refused(
+    state: &State,
+    alloc: Global,
+    incoming: &Incoming<'_>,
+    message: &KdcReqRef<'_>,
+    refusal: TgsRefusal,
+) -> Result<Answered, AllocError>
+    requires { IsShortName message.now }
+    ensures written { IfOk result (λ reply.
+        reply.octets.items ≡ written krb_error
+        (tgs_error state.now.database.realm incoming.now.at message.now.body.value refusal)) }
+    ensures spelled { IfOk result (λ reply.
+        krb_error.Spells (tgs_error state.now.database.realm incoming.now.at message.now.body.value
+        refusal) reply.octets.items) }
+    ensures mark { IfOk result (λ reply. reply.mark ≡ None) }
 {
-    state.database.get_ref(name?)
+    let realm = state.database.realm();
+    Ok(Answered {
+        octets: tgs_error(alloc, realm, incoming.at, &message.body.value, refusal)?,
+        mark: None,
+    })
 }

@@ -1,18 +1,21 @@
 //! The AS exchange of a KDC.
-ghost use Rattle.std.specs.Prelude.{◌≡◌, ◌<◌, length, Some, IfOk, IfSome, option_copied};
+ghost use Rattle.std.specs.Prelude.{◌≡◌, Some, IfOk, IfSome, option_copied};
 ghost use Rattle.as_exchange.specs.Known.{IsKnown};
-ghost use Rattle.krb_fields.specs.PrincipalName.{name};
 ghost use Rattle.krb_types.specs.declared.kdc_req.Exchange.TheVariants.{As};
 ghost use Rattle.kdc_core.specs.After.{after, counted_of, MayStay};
-ghost use Rattle.kdc_core.specs.Answer.{answer_in, keep, OpensIn, SpelledIn};
-ghost use Rattle.kdc_core.specs.View.{as_view, client_in, components_of, memory_named, view_in};
+ghost use Rattle.kdc_core.specs.Answer.{answer_of, keep, OpensOf, SpelledOf};
+ghost use Rattle.kdc_core.specs.Contents.{IsShortName};
+ghost use Rattle.kdc_core.specs.View.{as_view, components_of, memory_named, view_in};
+ghost use Rattle.kdc_core.specs.declared.contents.Contents.TheVariants.{AsReq};
 ghost use Rattle.kdc_state.specs.declared.state.State as states;
 
-use crate::answering::{Answered, row_of};
+use crate::answering::Answered;
+use crate::contents::row_of;
 use crate::mark::Mark;
 use as_exchange::{AsAnswer, AsView, as_answer};
+use kdc_replies::Incoming;
 use kdc_state::State;
-use krb_fields::{Moment, NameRef};
+use krb_fields::NameRef;
 use krb_types::KdcReqRef;
 use replay::Failures;
 use std::alloc::{AllocError, Global};
@@ -21,21 +24,26 @@ use std::alloc::{AllocError, Global};
 pub fn as_reply(
     state: &State,
     alloc: Global,
-    at: Moment,
-    words: &[u8; 64],
-    room: u32,
-    request: &[u8],
+    incoming: &Incoming<'_>,
     message: &KdcReqRef<'_>,
 ) -> Result<Answered, AllocError>
-    requires { IfSome message.now.body.value.sname (λ n. length (name.text n) < 2147483648) }
-    ensures reply { IfOk result (λ reply. Some reply.octets.items ≡ (answer_in (view_in state.now As message.now) at words.now room request.now As message.now).reply) }
-    ensures after { IfOk result (λ reply. after state.now reply.mark ≡ keep state.now (client_in state.now As message.now) (answer_in (view_in state.now As message.now) at words.now room request.now As message.now).kept) }
-    ensures spelled { IfOk result (λ reply. SpelledIn (view_in state.now As message.now) at words.now As message.now reply.octets.items) }
-    ensures keys { IfOk result (λ reply. OpensIn (view_in state.now As message.now) at words.now As message.now) }
+    requires { IsShortName message.now }
+    ensures reply { IfOk result (λ reply.
+        Some reply.octets.items ≡ (answer_of (view_in state.now As message.now) incoming.now
+        (AsReq message.now)).reply) }
+    ensures after { IfOk result (λ reply.
+        after state.now reply.mark
+        ≡ keep state.now (components_of message.now.body.value.cname)
+        (answer_of (view_in state.now As message.now) incoming.now (AsReq message.now)).kept) }
+    ensures spelled { IfOk result (λ reply.
+        SpelledOf (view_in state.now As message.now) incoming.now.at incoming.now.random
+        (AsReq message.now) reply.octets.items) }
+    ensures keys { IfOk result (λ reply.
+        OpensOf (view_in state.now As message.now) incoming.now.at incoming.now.random (AsReq message.now)) }
     ensures stays { IfOk result (λ reply. IfSome reply.mark (MayStay state.now)) }
 {
     let view = as_view(state, message);
-    let AsAnswer { reply, failures } = as_answer(alloc, &view, at, words, room, message)?;
+    let AsAnswer { reply, failures } = as_answer(alloc, &view, incoming, message)?;
     let mark = counted_of(alloc, message.body.value.cname.as_ref(), failures)?;
     Ok(Answered {
         octets: reply,
@@ -45,7 +53,7 @@ pub fn as_reply(
 
 /// What an AS-REQ is answered from.
 fn as_view<'s>(state: &'s State, message: &KdcReqRef<'_>) -> AsView<'s>
-    requires { IfSome message.now.body.value.sname (λ n. length (name.text n) < 2147483648) }
+    requires { IsShortName message.now }
     ensures view { result ≡ as_view (view_in state.now As message.now) }
     ensures known { IsKnown (as_view (view_in state.now As message.now)) message.now.body.value }
 {

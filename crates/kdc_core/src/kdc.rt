@@ -1,5 +1,6 @@
 //! The key distribution centre.
-ghost use Rattle.std.specs.Prelude.{◌≡◌, ◌≢◌, ◌≤◌, ◌↔◌, ℕ, List, length, Some, IfOk, IfSome, IfNone, IsOk, OnOk, OnErr, IsOkUnless, option_map};
+ghost use Rattle.std.specs.Prelude.{◌≡◌, ◌≢◌, ◌≤◌, ◌↔◌, ℕ, List, length, Some, IfOk, IfSome, IfNone, IsOk, OnOk, OnErr};
+ghost use Rattle.std.specs.Prelude.{IsOkUnless, option_map};
 ghost use Rattle.std.specs.FinMap as map;
 ghost use Rattle.std.specs.Option.{option_copied};
 ghost use Rattle.krb_fields.specs.Name.{Components};
@@ -17,7 +18,7 @@ ghost use Rattle.kdc_state.specs.declared.state.State as states;
 ghost use Rattle.principals.specs.Change.{refusal, changed};
 
 use crate::answering::handle;
-use kdc_replies::error_reply;
+use kdc_replies::{Incoming, error_reply};
 use kdc_state::{Opening, State};
 use krb_fields::{Code, Moment, Name};
 use principal_rows::{Limits, Row};
@@ -66,7 +67,8 @@ impl Kdc {
     ) -> Result<Kdc, AllocError>
         ensures opened { IfOk result (λ kdc. kdc ≡ opened database limits opening) }
         // After a restart it stands as a run does that goes on by it, whatever there was before.
-        ensures reopened { (state : states.State) (at : moments.Moment) → opening ≡ Restart at → IfOk result (λ kdc. kdc ≡ after_event state (Reopen database limits at)) }
+        ensures reopened { (state : states.State) (at : moments.Moment) → opening ≡ Restart at
+            → IfOk result (λ kdc. kdc ≡ after_event state (Reopen database limits at)) }
     {
         Ok(Kdc {
             state: State::open(alloc, database, limits, opening),
@@ -75,45 +77,63 @@ impl Kdc {
 
     /// Answers a request, whatever its octets are: the octets of the reply, or none.
     ///
-    /// `at` is the moment of the request, `words` are 64 random octets, and `room` is the most octets of a
+    /// `at` is the moment of the request, `random` are 64 random octets, and `room` is the most octets of a
     /// reply with a ticket. Octets that spell neither an AS-REQ nor a TGS-REQ (RFC 4120, section 5.4.1) get no
     /// reply, nor do more than 2147483647. A call that is refused memory changes nothing.
     pub fn handle(
         &mut self,
         alloc: Global,
         at: Moment,
-        words: &[u8; 64],
+        random: &[u8; 64],
         room: u32,
         request: &[u8],
     ) -> Result<Option<Vec<u8>>, AllocError>
         // The request is the one that the octets spell, if they spell one and are no more than 2147483647.
-        ensures request { (r : Request) → (request_of request.now ≡ Some r) ↔ (SpellsRequest r request.now × (length request.now ≤ 2147483647)) }
+        ensures request { (r : Request)
+            → (request_of request.now ≡ Some r) ↔ (SpellsRequest r request.now × (length request.now ≤ 2147483647)) }
         // The reply is the one that the rules say.
-        ensures reply { IfOk result (λ reply. option_map (λ octets. octets.items) reply ≡ (answer (view self.old request.now) at words.now room request.now).reply) }
+        ensures reply { IfOk result (λ reply.
+            option_map (λ octets. octets.items) reply
+            ≡ (answer (view self.old request.now) at random.now room request.now).reply) }
         // The octets of a reply spell the message that the rules say, or are a reply that was kept.
-        ensures spelled { IfOk result (λ reply. IsReply (view self.old request.now) at words.now (request_of request.now) (option_map (λ octets. octets.items) reply)) }
-        // Where a ticket is issued, the reply key opens the reply to the session key, flags and times that the service's
-        // key finds in the ticket.
-        ensures keys { IfOk result (λ reply. OneTicketTwoKeys (view self.old request.now) at words.now (request_of request.now)) }
-        // Where a request is issued a ticket now, the octets that are sent are that ticket's reply, which client and service open
-        // to the same, or an error where it had no room.
-        ensures issued { IfOk result (λ reply. IfSome (issued (view self.old request.now) at words.now (request_of request.now)) (λ issue. IsReplyOf issue (option_map (λ octets. octets.items) reply))) }
+        ensures spelled { IfOk result (λ reply.
+            IsReply (view self.old request.now) at random.now (request_of request.now)
+            (option_map (λ octets. octets.items) reply)) }
+        // Where a ticket is issued, the reply key opens the reply to the session key, flags and times that the
+        // service's key finds in the ticket.
+        ensures keys { IfOk result (λ reply.
+            OneTicketTwoKeys (view self.old request.now) at random.now (request_of request.now)) }
+        // Where a request is issued a ticket now, the octets that are sent are that ticket's reply, which client and
+        // service open to the same, or an error where it had no room.
+        ensures issued { IfOk result (λ reply.
+            IfSome (issued (view self.old request.now) at random.now (request_of request.now))
+            (λ issue. IsReplyOf issue (option_map (λ octets. octets.items) reply))) }
         // The state afterwards is the one that the rules say.
-        ensures state { OnOk result (self.new ≡ next self.old at words.now room request.now) }
+        ensures state { OnOk result (self.new ≡ next self.old at random.now room request.now) }
         // A second state that agrees at what the request names is answered alike.
         ensures agreement { (other : states.State) → Agrees self.old other request.now
-            → answer (view other request.now) at words.now room request.now ≡ answer (view self.old request.now) at words.now room request.now }
+            → answer (view other request.now) at random.now room request.now
+            ≡ answer (view self.old request.now) at random.now room request.now }
         // The request names the same client and service in both, and they agree there afterwards.
-        ensures same_names { (other : states.State) → Agrees self.old other request.now → named other request.now ≡ named self.old request.now }
+        ensures same_names { (other : states.State) → Agrees self.old other request.now
+            → named other request.now ≡ named self.old request.now }
         ensures afterwards { (other : states.State) → Agrees self.old other request.now
-            → Agrees (next self.old at words.now room request.now) (next other at words.now room request.now) request.now }
+            → Agrees (next self.old at random.now room request.now)
+            (next other at random.now room request.now) request.now }
         // No request changes a row, the realm or the limits, nor a memory but the named client's.
         ensures database { self.new.database ≡ self.old.database }
         ensures limits { self.new.limits ≡ self.old.limits }
-        ensures memories { (name : Components) → (named self.old request.now).client ≢ Some name → memory_of self.new name ≡ memory_of self.old name }
+        ensures memories { (name : Components) → (named self.old request.now).client ≢ Some name
+            → memory_of self.new name ≡ memory_of self.old name }
         ensures err { OnErr result (self.new ≡ self.old) }
     {
-        handle(&mut self.state, alloc, at, words, room, request)
+        let incoming = Incoming {
+            at,
+            random,
+            room,
+            octets: request,
+        };
+        handle(&mut self.state, alloc, &incoming)
     }
 
     /// Makes a change of the database. A change that is refused leaves everything as it was.
@@ -141,8 +161,8 @@ impl Kdc {
         Ok(())
     }
 
-    /// Forgets what was remembered, as a process does that ends and starts again: no authenticator that was accepted at a
-    /// moment no later than `at` is accepted again. It takes no memory.
+    /// Forgets what was remembered, as a process does that ends and starts again: no authenticator that was accepted at
+    /// a moment no later than `at` is accepted again. It takes no memory.
     pub fn restart(&mut self, at: Moment)
         ensures state { self.new ≡ restarted self.old at }
         // Each client has the memory of a restart; rows, realm and limits stay.

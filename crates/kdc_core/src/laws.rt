@@ -6,8 +6,8 @@ ghost use Rattle.kdc_core.specs.Unaffected.{Unaffected};
 ghost use Rattle.kdc_core.specs.declared.run.Event.{Event};
 ghost use Rattle.kdc_state.specs.declared.state.State.{State};
 
-/// It doesn't matter to a client what others ask, and no authenticator buys two different tickets, whatever events come and
-/// whenever.
+/// It doesn't matter to a client what others ask, and no authenticator buys two different tickets, whatever events come
+/// and whenever.
 pub fn any_run()
     // What others ask, and what is changed of others, never changes what a client gets.
     ensures isolation { (state : State) (events : List Event) → Isolation state events }

@@ -3,6 +3,7 @@
 
 mod answering;
 mod as_replies;
+mod contents;
 mod kdc;
 mod laws;
 mod mark;

@@ -1,5 +1,6 @@
 //! Runs of a key distribution centre: events in their order.
-ghost use Rattle.std.specs.Prelude.{◌≡◌, ◌<◌, ◌++◌, ◌∷◌, [], length, map, take, IfOk, IfErr, IfSome, IsOk, OnOk, OnErr, option_map};
+ghost use Rattle.std.specs.Prelude.{◌≡◌, ◌<◌, ◌++◌, ◌∷◌, [], length, map, take, IfOk, IfErr, IfSome, IsOk, OnOk, OnErr};
+ghost use Rattle.std.specs.Prelude.{option_map};
 ghost use Rattle.kdc_core.specs.Run.{after_change, after_event, event_reply, replies, run};
 ghost use Rattle.kdc_state.specs.State.{opened};
 ghost use Rattle.replay.specs.declared.opening.Opening.TheVariants.{Restart};
@@ -20,11 +21,11 @@ use std::fmt;
 /// What happens to a KDC.
 #[derive(Debug, Drop)]
 pub enum Event {
-    /// A request comes, at this moment. `words` are 64 random octets, and `room` is the most octets of a reply with
+    /// A request comes, at this moment. `random` are 64 random octets, and `room` is the most octets of a reply with
     /// a ticket.
     Request {
         at: Moment,
-        words: [u8; 64],
+        random: [u8; 64],
         room: u32,
         request: Octets,
     },
@@ -66,18 +67,21 @@ impl fmt::Display for RunFault {
 impl Error for RunFault {}
 
 impl Kdc {
-    /// Handles the requests, and makes the changes, replacements and restarts, in their order. It gives the reply, or none,
-    /// of each event: a request alone has one, and a change that is refused leaves everything as it was.
+    /// Handles the requests, and makes the changes, replacements and restarts, in their order. It gives the reply, or
+    /// none, of each event: a request alone has one, and a change that is refused leaves everything as it was.
     ///
     /// Want of memory alone ends a run early. It can go on at the first event that is not done.
     pub fn run(&mut self, alloc: Global, events: &[Event]) -> Result<Vec<Option<Vec<u8>>>, RunFault>
         // The replies are those that the rules say, each from the state that the events before it left.
-        ensures replies { IfOk result (λ r. map (option_map (λ octets. octets.items)) r.items ≡ replies self.old events.now) }
+        ensures replies { IfOk result (λ r.
+            map (option_map (λ octets. octets.items)) r.items ≡ replies self.old events.now) }
         // The state afterwards is the one that the rules say.
         ensures state { OnOk result (self.new ≡ run self.old events.now) }
         // Where memory lacks, both are as after the events that are done.
         ensures done { IfErr result (λ fault. fault.done < length events.now) }
-        ensures done_replies { IfErr result (λ fault. map (option_map (λ octets. octets.items)) fault.replies.items ≡ replies self.old (take fault.done events.now)) }
+        ensures done_replies { IfErr result (λ fault.
+            map (option_map (λ octets. octets.items)) fault.replies.items
+            ≡ replies self.old (take fault.done events.now)) }
         ensures done_state { IfErr result (λ fault. self.new ≡ run self.old (take fault.done events.now)) }
         // What others ask, and what is changed of others, never changes what a client gets.
         ensures isolation { Isolation self.old events.now }
@@ -106,7 +110,9 @@ impl Kdc {
         event: &Event,
         replies: &mut Vec<Option<Vec<u8>>>,
     ) -> Result<(), AllocError>
-        ensures reply { OnOk result (map (option_map (λ octets. octets.items)) replies.new.items ≡ map (option_map (λ octets. octets.items)) replies.old.items ++ event_reply self.old event.now ∷ []) }
+        ensures reply { OnOk result (
+            map (option_map (λ octets. octets.items)) replies.new.items
+            ≡ map (option_map (λ octets. octets.items)) replies.old.items ++ event_reply self.old event.now ∷ []) }
         ensures state { OnOk result (self.new ≡ after_event self.old event.now) }
         ensures err { OnErr result ((self.new ≡ self.old) × (replies.new.items ≡ replies.old.items)) }
     {
@@ -118,17 +124,18 @@ impl Kdc {
 
     /// The reply of an event, or none.
     fn take_event(&mut self, alloc: Global, event: &Event) -> Result<Option<Vec<u8>>, AllocError>
-        ensures reply { IfOk result (λ reply. option_map (λ octets. octets.items) reply ≡ event_reply self.old event.now) }
+        ensures reply { IfOk result (λ reply.
+            option_map (λ octets. octets.items) reply ≡ event_reply self.old event.now) }
         ensures state { OnOk result (self.new ≡ after_event self.old event.now) }
         ensures err { OnErr result (self.new ≡ self.old) }
     {
         match event {
             Event::Request {
                 at,
-                words,
+                random,
                 room,
                 request,
-            } => self.handle(alloc, *at, words, *room, request.as_slice()),
+            } => self.handle(alloc, *at, random, *room, request.as_slice()),
             Event::Change { change } => {
                 self.change(alloc, change)?;
                 Ok(None)

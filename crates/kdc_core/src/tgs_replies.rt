@@ -1,108 +1,57 @@
 //! The TGS exchange of a KDC.
-ghost use Rattle.std.specs.Prelude.{◌≡◌, ◌<◌, length, Some, Ok, IfOk, IfSome};
-ghost use Rattle.krb_elements.specs.Codec.{list_of};
-ghost use Rattle.krb_fields.specs.PrincipalName.{name};
-ghost use Rattle.krb_fields.specs.Typed.{typed};
-ghost use Rattle.krb_types.specs.declared.kdc_req.Exchange.TheVariants.{Tgs};
+ghost use Rattle.std.specs.Prelude.{◌≡◌, Some, IfOk, IfSome};
 ghost use Rattle.tgs_exchange.specs.Known.{IsKnown};
-ghost use Rattle.tgs_opening.specs.Opening.{presented};
-ghost use Rattle.tgs_opening.specs.Tickets.{tgs_data};
 ghost use Rattle.replay.specs.Opening.{opened_memory};
 ghost use Rattle.kdc_state.specs.State.{memory_of};
 ghost use Rattle.kdc_core.specs.After.{after, stamped_of, MayStay};
-ghost use Rattle.kdc_core.specs.Answer.{answer_in, answer_presented, keep, OpensIn, OpensPresented, SpelledIn, SpelledPresented};
-ghost use Rattle.kdc_core.specs.View.{client_in, presented_view, tgs_view, ticket_view, view_in};
+ghost use Rattle.kdc_core.specs.Answer.{answer_of, keep, OpensOf, SpelledOf};
+ghost use Rattle.kdc_core.specs.Contents.{IsShortData, IsShortName};
+ghost use Rattle.kdc_core.specs.View.{presented_view, tgs_view};
+ghost use Rattle.kdc_core.specs.declared.contents.Contents.TheVariants.{TgsReq};
 
-use crate::answering::{Answered, row_of};
+use crate::answering::Answered;
+use crate::contents::row_of;
 use crate::mark::Mark;
+use kdc_replies::Incoming;
 use kdc_state::State;
 use krb_fields::{Moment, Name};
 use krb_types::KdcReqRef;
 use replay::{Kept, Memory};
 use std::alloc::{AllocError, Global};
-use tgs_exchange::{TgsAnswer, TgsView, tgs_answer, tgs_error};
-use tgs_opening::{Presented, TgsRefusal, TicketView, tgs_open};
+use tgs_exchange::{TgsAnswer, TgsView, tgs_answer};
+use tgs_opening::Presented;
 
-/// The reply to a TGS-REQ.
+/// The reply to a TGS-REQ that presents what was opened.
 pub fn tgs_reply(
     state: &State,
     alloc: Global,
-    at: Moment,
-    words: &[u8; 64],
-    room: u32,
-    request: &[u8],
-    message: &KdcReqRef<'_>,
-) -> Result<Answered, AllocError>
-    requires sname { IfSome message.now.body.value.sname (λ n. length (name.text n) < 2147483648) }
-    requires value { IfSome (tgs_data message.now) (λ value. length value < 2147483648) }
-    ensures reply { IfOk result (λ reply. Some reply.octets.items ≡ (answer_in (view_in state.now Tgs message.now) at words.now room request.now Tgs message.now).reply) }
-    ensures after { IfOk result (λ reply. after state.now reply.mark ≡ keep state.now (client_in state.now Tgs message.now) (answer_in (view_in state.now Tgs message.now) at words.now room request.now Tgs message.now).kept) }
-    ensures spelled { IfOk result (λ reply. SpelledIn (view_in state.now Tgs message.now) at words.now Tgs message.now reply.octets.items) }
-    ensures keys { IfOk result (λ reply. OpensIn (view_in state.now Tgs message.now) at words.now Tgs message.now) }
-    ensures stays { IfOk result (λ reply. IfSome reply.mark (MayStay state.now)) }
-{
-    let opened = open_presented(state, alloc, message)?;
-    match opened {
-        Ok(presented) => {
-            presented_reply(state, alloc, at, words, room, request, message, &presented)
-        }
-        Err(refusal) => Ok(Answered {
-            octets: tgs_error(
-                alloc,
-                state.database.realm(),
-                at,
-                &message.body.value,
-                refusal,
-            )?,
-            mark: None,
-        }),
-    }
-}
-
-/// What a TGS-REQ presents.
-fn open_presented(
-    state: &State,
-    alloc: Global,
-    message: &KdcReqRef<'_>,
-) -> Result<Result<Presented, TgsRefusal>, AllocError>
-    requires { IfSome (tgs_data message.now) (λ value. length value < 2147483648) }
-    ensures value { IfOk result (λ opened. opened ≡ presented (ticket_view state.now message.now) message.now) }
-    ensures authorization { IfOk result (λ opened. IfOk opened (λ presented. IfSome presented.ticket.authorization_data (λ list. length ((list_of typed).text list) < 2147483648))) }
-{
-    let view = TicketView {
-        realm: state.database.realm(),
-        granter: state.database.granter(),
-        service: row_of(state, message.body.value.sname.as_ref()),
-    };
-    tgs_open(alloc, &view, message)
-}
-
-/// The reply to what a TGS-REQ presents.
-fn presented_reply(
-    state: &State,
-    alloc: Global,
-    at: Moment,
-    words: &[u8; 64],
-    room: u32,
-    request: &[u8],
+    incoming: &Incoming<'_>,
     message: &KdcReqRef<'_>,
     presented: &Presented,
 ) -> Result<Answered, AllocError>
-    requires sname { IfSome message.now.body.value.sname (λ n. length (name.text n) < 2147483648) }
-    requires authorization { IfSome presented.now.ticket.authorization_data (λ list. length ((list_of typed).text list) < 2147483648) }
-    ensures reply { IfOk result (λ reply. Some reply.octets.items ≡ (answer_presented (presented_view state.now message.now presented.now) at words.now room request.now message.now (Ok presented.now)).reply) }
-    ensures after { IfOk result (λ reply. after state.now reply.mark ≡ keep state.now (Some presented.now.ticket.cname.components) (answer_presented (presented_view state.now message.now presented.now) at words.now room request.now message.now (Ok presented.now)).kept) }
-    ensures spelled { IfOk result (λ reply. SpelledPresented (presented_view state.now message.now presented.now) at words.now message.now (Ok presented.now) reply.octets.items) }
-    ensures keys { IfOk result (λ reply. OpensPresented (presented_view state.now message.now presented.now) at words.now message.now (Ok presented.now)) }
+    requires sname { IsShortName message.now }
+    requires authorization { IsShortData presented.now }
+    ensures reply { IfOk result (λ reply.
+        Some reply.octets.items ≡ (answer_of (presented_view state.now message.now presented.now) incoming.now
+        (TgsReq message.now presented.now)).reply) }
+    ensures after { IfOk result (λ reply.
+        after state.now reply.mark
+        ≡ keep state.now (Some presented.now.ticket.cname.components)
+        (answer_of (presented_view state.now message.now presented.now) incoming.now
+        (TgsReq message.now presented.now)).kept) }
+    ensures spelled { IfOk result (λ reply.
+        SpelledOf (presented_view state.now message.now presented.now) incoming.now.at incoming.now.random
+        (TgsReq message.now presented.now) reply.octets.items) }
+    ensures keys { IfOk result (λ reply.
+        OpensOf (presented_view state.now message.now presented.now) incoming.now.at incoming.now.random
+        (TgsReq message.now presented.now)) }
     ensures stays { IfOk result (λ reply. IfSome reply.mark (MayStay state.now)) }
 {
     let opened = Memory::opened(alloc, state.opening);
     let view = tgs_view(state, message, presented, &opened);
     let body = &message.body.value;
-    let TgsAnswer { reply, kept } = tgs_answer(
-        alloc, &view, at, words, room, request, body, presented,
-    )?;
-    let mark = stamped_of(alloc, at, presented, kept)?;
+    let TgsAnswer { reply, kept } = tgs_answer(alloc, &view, incoming, body, presented)?;
+    let mark = stamped_of(alloc, incoming.at, presented, kept)?;
     Ok(Answered {
         octets: reply,
         mark,
@@ -117,10 +66,11 @@ fn tgs_view<'s>(
     opened: &'s Memory<Kept>,
 ) -> TgsView<'s>
     requires opened { opened.now ≡ opened_memory state.now.opening }
-    requires sname { IfSome message.now.body.value.sname (λ n. length (name.text n) < 2147483648) }
-    requires authorization { IfSome presented.now.ticket.authorization_data (λ list. length ((list_of typed).text list) < 2147483648) }
+    requires sname { IsShortName message.now }
+    requires authorization { IsShortData presented.now }
     ensures view { result ≡ tgs_view (presented_view state.now message.now presented.now) }
-    ensures known { IsKnown (tgs_view (presented_view state.now message.now presented.now)) message.now.body.value presented.now }
+    ensures known { IsKnown (tgs_view (presented_view state.now message.now presented.now)) message.now.body.value
+        presented.now }
 {
     TgsView {
         realm: state.database.realm(),

@@ -1,5 +1,5 @@
--- What is granted, as it stands in the ticket and in the part of the reply that the client reads (RFC 4120, sections 5.3
--- and 5.4.2).
+-- What is granted, as it stands in the ticket and in the part of the reply that the client reads (RFC 4120, sections
+-- 5.3 and 5.4.2).
 use Rattle.std.specs.Prelude.{ℕ, ℤ, pos, ◌<◌, ◌≤◌, IfSome, List, [], ◌∷◌, length, take, Some, None}
 use Rattle.enctypes.specs.declared.key.Key.{Key}
 use Rattle.enctypes.specs.Etype.{key_len}
@@ -21,7 +21,7 @@ pub record IsShort (grant : Grant) : Type 0 where
 
 -- random octets are a key as they are: the first of them, as many as the type's keys have
 abbrev pub session_key : Etype → List ℕ → Key
-session_key etype words = record { etype = etype; bytes = take (key_len etype) (take 32 words) }
+session_key etype random = record { etype = etype; bytes = take (key_len etype) (take 32 random) }
 
 -- the realms between the client's and the service's: none, in the form DOMAIN-X500-COMPRESS (section 3.3.3.2)
 abbrev pub no_realms : Typed

@@ -1,8 +1,9 @@
--- A ticket that is issued with the reply that bears it, and what the reply is to those who have its keys (RFC 4120, sections
--- 3.1.3 and 3.3.3).
+-- A ticket that is issued with the reply that bears it, and what the reply is to those who have its keys (RFC 4120,
+-- sections 3.1.3 and 3.3.3).
 use Rattle.std.specs.Prelude.{◌≡◌, ◌⊎◌, ℕ, ℤ, List, length, Option, Some}
 use Rattle.enctypes.specs.Etype.{key_len}
 use Rattle.enctypes.specs.KeyUsage.{usage_number}
+use Rattle.enctypes.specs.declared.key_usage.KeyUsage.TheVariants.{Ticket as TicketUsage}
 use Rattle.krb_fields.specs.PaData.{PaData}
 use Rattle.krb_parts.specs.EncKdcRepPart.{EncKdcRepPart, enc_kdc_rep_part}
 use Rattle.krb_parts.specs.EncTicketPart.{EncTicketPart, enc_ticket_part}
@@ -28,8 +29,8 @@ abbrev pub part_tag : Exchange → ℕ
 part_tag As = 25
 part_tag Tgs = 26
 
--- What a reply with a ticket is made of: its exchange, what is granted, the key of the service and the key of the reply, what it
--- repeats of the request, the moment's second, and the random octets.
+-- What a reply with a ticket is made of: its exchange, what is granted, the key of the service and the key of the
+-- reply, what it repeats of the request, the moment's second, and the random octets.
 pub record Issue : Type 0 where
   pub exchange : Exchange
   pub grant : Grant
@@ -38,13 +39,15 @@ pub record Issue : Type 0 where
   pub padata : Option (List PaData)
   pub nonce : ℤ
   pub now : ℤ
-  pub words : List ℕ
+  pub random : List ℕ
 
 abbrev pub issued_reply : (issue : Issue) → KdcRep (reply_type issue.exchange)
-issued_reply i = reply_of (reply_type i.exchange) (part_tag i.exchange) i.grant i.service_key i.reply_key i.padata i.nonce i.now i.words
+issued_reply i =
+    reply_of (reply_type i.exchange)
+    (part_tag i.exchange) i.grant i.service_key i.reply_key i.padata i.nonce i.now i.random
 
 abbrev pub issued_ticket : Issue → Ticket
-issued_ticket i = ticket_of i.grant i.service_key i.words
+issued_ticket i = ticket_of i.grant i.service_key i.random
 
 -- what the reply key opens, and what the service's key opens
 abbrev pub issued_part : Issue → EncKdcRepPart
@@ -53,12 +56,14 @@ issued_part i = reply_part i.grant i.nonce i.now
 abbrev pub issued_ticket_part : Issue → EncTicketPart
 issued_ticket_part i = ticket_part i.grant
 
--- These octets are the reply: they spell it, the reply key opens its part, and the service's key its ticket, to what was
--- granted. The session key is one of its type.
+-- These octets are the reply: they spell it, the reply key opens its part, and the service's key its ticket, to what
+-- was granted. The session key is one of its type.
 pub record IsIssued (issue : Issue) (octets : List ℕ) : Type 0 where
   pub spelled : (kdc_rep (reply_type issue.exchange)).Spells (issued_reply issue) octets
-  pub client_reads : decrypted (under (part_tag issue.exchange) enc_kdc_rep_part) issue.reply_key.key (usage_number issue.reply_key.usage) (issued_reply issue).enc_part ≡ Some (issued_part issue)
-  pub service_reads : decrypted enc_ticket_part issue.service_key.key 2 (issued_ticket issue).enc_part ≡ Some (issued_ticket_part issue)
+  pub client_reads : decrypted (under (part_tag issue.exchange) enc_kdc_rep_part) issue.reply_key.key
+      (usage_number issue.reply_key.usage) (issued_reply issue).enc_part ≡ Some (issued_part issue)
+  pub service_reads : decrypted enc_ticket_part issue.service_key.key (usage_number TicketUsage)
+      (issued_ticket issue).enc_part ≡ Some (issued_ticket_part issue)
   pub session_key : length issue.grant.session_key.bytes ≡ key_len issue.grant.session_key.etype
 
 -- these octets are an error

@@ -28,27 +28,37 @@ granter_short : (realm : List ℕ) → length realm ≤ 255 → length (name.tex
 unfolding name_form
 granter_short realm short = omega (arith, name.bounded (granter_name realm))
 
-error_bounded : (realm : List ℕ) (at : Moment) (code : Code) (sname : Name) (e_data : Option (List ℕ)) → length realm ≤ 255 → length (name.text sname) < 2147483648 → IfSome e_data (λ d. length d ≤ 65535)
+error_bounded : (realm : List ℕ) (at : Moment) (code : Code) (sname : Name) (e_data : Option (List ℕ))
+    → length realm ≤ 255 → length (name.text sname) < 2147483648 → IfSome e_data (λ d. length d ≤ 65535)
     → length (krb_error.text (error_reply realm at code (Some sname) e_data)) < 2 ^ 32
 unfolding krb_error_form
 error_bounded realm at code sname (Some d) short shorter few =
-    omega (arith, (krb_error_of string (measured name) octets).bounded (error_reply realm at code (Some sname) (Some d)))
+    omega (
+      arith,
+      (krb_error_of string (measured name) octets).bounded
+          (error_reply realm at code (Some sname) (Some d)),
+    )
 error_bounded realm at code sname None short shorter few =
     omega (arith, (krb_error_of string (measured name) octets).bounded (error_reply realm at code (Some sname) None))
 
-pub error_short : (realm : List ℕ) (at : Moment) (code : Code) (sname : Option Name) (e_data : Option (List ℕ)) → length realm ≤ 255 → IfSome sname (λ n. length (name.text n) < 2147483648) → IfSome e_data (λ d. length d ≤ 65535)
+pub error_short : (realm : List ℕ) (at : Moment) (code : Code) (sname : Option Name) (e_data : Option (List ℕ))
+    → length realm ≤ 255 → IfSome sname (λ n. length (name.text n) < 2147483648) → IfSome e_data (λ d. length d ≤ 65535)
     → length (krb_error.text (error_reply realm at code sname e_data)) < 2 ^ 32
 error_short realm at code (Some n) e_data short shorter few = error_bounded realm at code n e_data short shorter few
-error_short realm at code None e_data short shorter few = error_bounded realm at code (granter_name realm) e_data short (granter_short realm short) few
+error_short realm at code None e_data short shorter few =
+    error_bounded realm at code (granter_name realm) e_data short (granter_short realm short) few
 
 -- ---- tickets and replies
 
-data_short : (entries : Option (List Typed)) → IfSome entries (λ list. length ((list_of typed).text list) < 2147483648) → most_maybe {A = List Typed} (λ list. length ((list_of typed).text list)) entries ≤ 2147483660
+data_short : (entries : Option (List Typed)) → IfSome entries (λ list. length ((list_of typed).text list) < 2147483648)
+    → most_maybe {A = List Typed} (λ list. length ((list_of typed).text list)) entries ≤ 2147483660
 data_short None short = omega arith
 data_short (Some list) short = omega (arith, short)
 
-ticket_text : (grant : Grant) (renew_till : Option ℤ) → grant.times.renew_till ≡ renew_till → length grant.realm ≤ 255 → IsWithinLimits grant.client.components → length grant.session_key.bytes ≤ 32
-    → IfSome grant.authorization_data (λ list. length ((list_of typed).text list) < 2147483648) → length (enc_ticket_part.text (ticket_part grant)) ≤ 2147490000
+ticket_text : (grant : Grant) (renew_till : Option ℤ) → grant.times.renew_till ≡ renew_till → length grant.realm ≤ 255
+    → IsWithinLimits grant.client.components → length grant.session_key.bytes ≤ 32
+    → IfSome grant.authorization_data (λ list. length ((list_of typed).text list) < 2147483648)
+    → length (enc_ticket_part.text (ticket_part grant)) ≤ 2147490000
 unfolding enc_ticket_part_form typed_form
 ticket_text grant None e realm client key few =
     omega (
@@ -68,38 +78,59 @@ ticket_text grant (Some till) e realm client key few =
     )
 
 -- what a ticket holds
-pub ticket_part_short : (grant : Grant) → IsShort grant → length grant.session_key.bytes ≤ 32 → length (enc_ticket_part.text (ticket_part grant)) ≤ 2147490000
-ticket_part_short grant short key = ticket_text grant grant.times.renew_till refl short.realm short.client key short.authorization
+pub ticket_part_short : (grant : Grant) → IsShort grant → length grant.session_key.bytes ≤ 32
+    → length (enc_ticket_part.text (ticket_part grant)) ≤ 2147490000
+ticket_part_short grant short key =
+    ticket_text grant grant.times.renew_till refl short.realm short.client key short.authorization
 
-reply_text : (grant : Grant) (nonce now : ℤ) (renew_till : Option ℤ) → grant.times.renew_till ≡ renew_till → length grant.realm ≤ 255 → IsWithinLimits grant.service.components → length grant.session_key.bytes ≤ 32
+reply_text : (grant : Grant) (nonce now : ℤ) (renew_till : Option ℤ) → grant.times.renew_till ≡ renew_till
+    → length grant.realm ≤ 255 → IsWithinLimits grant.service.components → length grant.session_key.bytes ≤ 32
     → length (enc_kdc_rep_part.text (reply_part grant nonce now)) ≤ 6000
 unfolding enc_kdc_rep_part_form typed_form last_req_form
 reply_text grant nonce now None e realm service key =
-    omega (arith, (enc_kdc_rep_part_of typed (list_of last_req) string (measured name) (list_of typed)).bounded (reply_part grant nonce now), name_short grant.service service, ap (most_maybe {A = ℤ} (λ z. 15)) e)
+    omega (
+      arith,
+      (enc_kdc_rep_part_of typed (list_of last_req) string (measured name) (list_of typed)).bounded
+          (reply_part grant nonce now),
+      name_short grant.service service,
+      ap (most_maybe {A = ℤ} (λ z. 15)) e,
+    )
 reply_text grant nonce now (Some till) e realm service key =
-    omega (arith, (enc_kdc_rep_part_of typed (list_of last_req) string (measured name) (list_of typed)).bounded (reply_part grant nonce now), name_short grant.service service, ap (most_maybe {A = ℤ} (λ z. 15)) e)
+    omega (
+      arith,
+      (enc_kdc_rep_part_of typed (list_of last_req) string (measured name) (list_of typed)).bounded
+          (reply_part grant nonce now),
+      name_short grant.service service,
+      ap (most_maybe {A = ℤ} (λ z. 15)) e,
+    )
 
 -- what a reply holds
-pub reply_text_short : (grant : Grant) (nonce now : ℤ) → IsShort grant → length grant.session_key.bytes ≤ 32 → length (enc_kdc_rep_part.text (reply_part grant nonce now)) ≤ 6000
-reply_text_short grant nonce now short key = reply_text grant nonce now grant.times.renew_till refl short.realm short.service key
+pub reply_text_short : (grant : Grant) (nonce now : ℤ) → IsShort grant → length grant.session_key.bytes ≤ 32
+    → length (enc_kdc_rep_part.text (reply_part grant nonce now)) ≤ 6000
+reply_text_short grant nonce now short key =
+    reply_text grant nonce now grant.times.renew_till refl short.realm short.service key
 
 kvno_short : (kvno : Option ℤ) → most_maybe {A = ℤ} (λ z. 8) kvno ≤ 20
 kvno_short None = omega arith
 kvno_short (Some n) = omega arith
 
-padata_short : (padata : Option (List PaData)) → IfSome padata (λ list. length ((list_of pa_data).text list) ≤ 70000) → most_maybe {A = List PaData} (λ list. length ((list_of pa_data).text list)) padata ≤ 70012
+padata_short : (padata : Option (List PaData)) → IfSome padata (λ list. length ((list_of pa_data).text list) ≤ 70000)
+    → most_maybe {A = List PaData} (λ list. length ((list_of pa_data).text list)) padata ≤ 70012
 padata_short None short = omega arith
 padata_short (Some list) short = omega (arith, short)
 
 -- a reply with short names and short ciphers
-pub reply_short : (type : ℕ) (reply : KdcRep type) → length reply.crealm ≤ 255 → IsWithinLimits reply.cname.components → length reply.ticket.realm ≤ 255 → IsWithinLimits reply.ticket.sname.components
-    → length reply.ticket.enc_part.cipher ≤ 2147490100 → length reply.enc_part.cipher ≤ 6200 → IfSome reply.padata (λ list. length ((list_of pa_data).text list) ≤ 70000)
+pub reply_short : (type : ℕ) (reply : KdcRep type) → length reply.crealm ≤ 255 → IsWithinLimits reply.cname.components
+    → length reply.ticket.realm ≤ 255 → IsWithinLimits reply.ticket.sname.components
+    → length reply.ticket.enc_part.cipher ≤ 2147490100 → length reply.enc_part.cipher ≤ 6200
+    → IfSome reply.padata (λ list. length ((list_of pa_data).text list) ≤ 70000)
     → length ((kdc_rep type).text reply) < 2 ^ 32
 unfolding kdc_rep_form ticket_form encrypted_data_form
 reply_short type reply crealm cname realm sname sealed part padata =
     omega (
       arith,
-      (kdc_rep_of type (measured (list_of pa_data)) string (measured name) (ticket_of string (measured name) encrypted_data) encrypted_data).bounded reply,
+      (kdc_rep_of type (measured (list_of pa_data)) string (measured name)
+          (ticket_of string (measured name) encrypted_data) encrypted_data).bounded reply,
       name_short reply.cname cname,
       name_short reply.ticket.sname sname,
       kvno_short reply.enc_part.kvno,

@@ -1,3 +1,4 @@
+pub mod Incoming
 pub mod ErrorReply
 pub mod ServiceTerms
 pub mod ServiceTermsLaws

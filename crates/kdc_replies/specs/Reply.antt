@@ -2,6 +2,7 @@
 use Rattle.std.specs.Prelude.{◌≡◌, ℕ, ℤ, pos, List, take, drop, Option, Some}
 use Rattle.enctypes.specs.declared.key.Key.{Key}
 use Rattle.enctypes.specs.KeyUsage.{usage_number}
+use Rattle.enctypes.specs.declared.key_usage.KeyUsage.TheVariants.{Ticket as TicketUsage}
 use Rattle.krb_fields.specs.EncryptedData.{EncryptedData}
 use Rattle.krb_fields.specs.PaData.{PaData}
 use Rattle.krb_parts.specs.EncKdcRepPart.{EncKdcRepPart, enc_kdc_rep_part}
@@ -18,33 +19,38 @@ use Rattle.sealed_parts.specs.Encrypted.{encrypted, decrypted}
 use Rattle.kdc_replies.specs.Grant.{ticket_part, reply_part}
 
 abbrev pub ticket_confounder : List ℕ → List ℕ
-ticket_confounder words = take 16 (drop 32 words)
+ticket_confounder random = take 16 (drop 32 random)
 
 abbrev pub reply_confounder : List ℕ → List ℕ
-reply_confounder words = take 16 (drop 48 words)
+reply_confounder random = take 16 (drop 48 random)
 
 -- Ticket (section 5.3): sealed under the service's key
 abbrev pub ticket_of : Grant → ServiceKey → List ℕ → Ticket
-ticket_of grant service words = record {
+ticket_of grant service random = record {
   tkt_vno = pos 5;
   realm = grant.realm;
   sname = grant.service;
-  enc_part = encrypted enc_ticket_part service.key 2 (Some (pos service.version)) (ticket_confounder words) (ticket_part grant);
+  enc_part =
+      encrypted enc_ticket_part service.key (usage_number TicketUsage) (Some (pos service.version))
+      (ticket_confounder random)
+      (ticket_part grant);
 }
 
 -- the part in the tag that its exchange gives it
 abbrev pub sealed_part : ℕ → Grant → ReplyKey → ℤ → ℤ → List ℕ → EncryptedData
-sealed_part tag grant reply nonce now words =
-    encrypted (under tag enc_kdc_rep_part) reply.key (usage_number reply.usage) reply.kvno (reply_confounder words) (reply_part grant nonce now)
+sealed_part tag grant reply nonce now random =
+    encrypted (under tag enc_kdc_rep_part) reply.key (usage_number reply.usage) reply.kvno (reply_confounder random)
+    (reply_part grant nonce now)
 
 -- the reply of an exchange: `type` is its message type, and `tag` that of its sealed part
-abbrev pub reply_of : (type tag : ℕ) → Grant → ServiceKey → ReplyKey → Option (List PaData) → ℤ → ℤ → List ℕ → KdcRep type
-reply_of type tag grant service reply padata nonce now words = record {
+abbrev pub reply_of : (type tag : ℕ) → Grant → ServiceKey → ReplyKey → Option (List PaData) → ℤ → ℤ → List ℕ
+    → KdcRep type
+reply_of type tag grant service reply padata nonce now random = record {
   padata = padata;
   crealm = grant.realm;
   cname = grant.client;
-  ticket = ticket_of grant service words;
-  enc_part = sealed_part tag grant reply nonce now words;
+  ticket = ticket_of grant service random;
+  enc_part = sealed_part tag grant reply nonce now random;
 }
 
 -- the key by which these octets are sealed is the one that they name, by its type and version, in the row
@@ -60,9 +66,12 @@ pub record SayTheSame (part : EncKdcRepPart) (ticket : EncTicketPart) : Type 0 w
   pub endtime : part.endtime ≡ ticket.endtime
   pub renew_till : part.renew_till ≡ ticket.renew_till
 
--- The client's key opens its part of the reply to this part, and the service's key the ticket to what it holds, and both hold
--- the same.
-pub record OpensAlike (type tag : ℕ) (reply_key : Key) (usage : ℕ) (service_key : Key) (reply : KdcRep type) (part : EncKdcRepPart) (ticket : EncTicketPart) : Type 0 where
+-- The client's key opens its part of the reply to this part, and the service's key the ticket to what it holds, and
+-- both hold the same.
+pub record OpensAlike (type tag : ℕ) (reply_key : Key) (usage : ℕ) (service_key : Key) (reply : KdcRep type)
+    (part : EncKdcRepPart)
+    (ticket : EncTicketPart) : Type 0 where
   pub client_reads : decrypted (under tag enc_kdc_rep_part) reply_key usage reply.enc_part ≡ Some part
-  pub service_reads : decrypted enc_ticket_part service_key 2 reply.ticket.enc_part ≡ Some ticket
+  pub service_reads : decrypted enc_ticket_part service_key
+      (usage_number TicketUsage) reply.ticket.enc_part ≡ Some ticket
   pub same : SayTheSame part ticket

@@ -27,4 +27,5 @@ service_terms_by name row (Some session) None = None
 service_terms_by name row None first = None
 
 abbrev pub service_terms : List ℤ → Name → Row → Option ServiceTerms
-service_terms types name row = service_terms_by name row (first_key (current_keys row) types) (head_of (current_keys row))
+service_terms types name row =
+    service_terms_by name row (first_key (current_keys row) types) (head_of (current_keys row))

@@ -22,7 +22,8 @@ front (x ∷ xs) k e =
     let same : x ≡ k = ap (λ (o : Option Key). unwrap_or o x) e in
     ap (λ (y : Key). key_numbered (y ∷ xs) (number k.etype)) same ∙ front_found k xs
 
-found_by : (name : Name) (row : Row) (session first : Option Key) (t : ServiceTerms) → service_terms_by name row session first ≡ Some t
+found_by : (name : Name) (row : Row) (session first : Option Key) (t : ServiceTerms)
+    → service_terms_by name row session first ≡ Some t
     → (name ≡ t.name) × (first ≡ Some t.key.key) × ((current row.versions).number ≡ t.key.version)
 found_by name row None first t e = absurd cc
 found_by name row (Some s) None t e = absurd cc

@@ -25,8 +25,10 @@ pub fn error_reply(
     requires realm { length realm.now ≤ 255 }
     requires sname { IfSome (option_copied sname) (λ n. length (name.text n) < 2147483648) }
     requires e_data { IfSome e_data (λ d. length d ≤ 65535) }
-    ensures written { IfOk result (λ octets. octets.items ≡ written krb_error (error_reply realm.now at code (option_copied sname.entry) e_data)) }
-    ensures spelled { IfOk result (λ octets. krb_error.Spells (error_reply realm.now at code (option_copied sname.entry) e_data) octets.items) }
+    ensures written { IfOk result (λ octets.
+        octets.items ≡ written krb_error (error_reply realm.now at code (option_copied sname.entry) e_data)) }
+    ensures spelled { IfOk result (λ octets.
+        krb_error.Spells (error_reply realm.now at code (option_copied sname.entry) e_data) octets.items) }
 {
     let error = error_of(alloc, realm, at, code, sname, e_data)?;
     encode_krb_error(alloc, &error)

@@ -4,6 +4,7 @@
 mod authorization_data;
 mod errors;
 mod grant;
+mod incoming;
 mod replies;
 mod services;
 mod session_keys;
@@ -13,6 +14,7 @@ mod tickets;
 pub use authorization_data::copy_data;
 pub use errors::{error_reply, too_big};
 pub use grant::Grant;
+pub use incoming::Incoming;
 pub use replies::{Asked, ReplyKey, ticket_reply};
 pub use services::{ServiceTerms, service_terms};
 pub use session_keys::session_key;

@@ -29,11 +29,12 @@ pub struct ReplyKey {
     pub kvno: Option<UInt32>,
 }
 
-/// What a reply repeats of its request, and when it is made.
+/// What a reply repeats of its request, when it is made, and by which random octets.
 #[derive(Debug, Clone, Copy)]
-pub struct Asked {
+pub struct Asked<'r> {
     pub nonce: UInt32,
-    pub now: KTime,
+    pub time: KTime,
+    pub random: &'r [u8; 64],
 }
 
 /// A reply with the realm and the names that its grant lends.
@@ -53,18 +54,22 @@ pub fn ticket_reply<const TYPE: u8, const TAG: u8>(
     service: &ServiceKey,
     key: &ReplyKey,
     padata: Option<Seq<PaData>>,
-    asked: Asked,
-    words: &[u8; 64],
+    asked: &Asked<'_>,
 ) -> Result<Vec<u8>, AllocError>
     requires grant { IsShort grant.now }
     requires padata { IfSome padata (λ list. length ((list_of pa_data).text list) ≤ 70000) }
-    ensures written { IfOk result (λ octets. octets.items ≡ written (kdc_rep TYPE) (reply_of TYPE TAG grant.now service.now key.now padata asked.nonce asked.now words.now)) }
-    ensures spelled { IfOk result (λ octets. (kdc_rep TYPE).Spells (reply_of TYPE TAG grant.now service.now key.now padata asked.nonce asked.now words.now) octets.items) }
+    ensures written { IfOk result (λ octets.
+        octets.items ≡ written (kdc_rep TYPE)
+        (reply_of TYPE TAG grant.now service.now key.now padata asked.now.nonce asked.now.time asked.now.random.now)) }
+    ensures spelled { IfOk result (λ octets.
+        (kdc_rep TYPE).Spells (reply_of TYPE TAG grant.now service.now key.now padata asked.now.nonce asked.now.time
+        asked.now.random.now) octets.items) }
     // The client and the service find the same inside.
     ensures same { IfOk result (λ octets. OpensAlike TYPE TAG key.now.key (usage_number key.now.usage) service.now.key
-        (reply_of TYPE TAG grant.now service.now key.now padata asked.nonce asked.now words.now) (reply_part grant.now asked.nonce asked.now) (ticket_part grant.now)) }
+        (reply_of TYPE TAG grant.now service.now key.now padata asked.now.nonce asked.now.time asked.now.random.now)
+        (reply_part grant.now asked.now.nonce asked.now.time) (ticket_part grant.now)) }
 {
-    let reply = whole_reply::<TYPE, TAG>(alloc, grant, service, key, padata, asked, words)?;
+    let reply = whole_reply::<TYPE, TAG>(alloc, grant, service, key, padata, asked)?;
     write(alloc, &reply)
 }
 
@@ -75,17 +80,20 @@ fn whole_reply<'g, 'a, const TYPE: u8, const TAG: u8>(
     service: &ServiceKey,
     key: &ReplyKey,
     padata: Option<Seq<PaData>>,
-    asked: Asked,
-    words: &[u8; 64],
+    asked: &Asked<'_>,
 ) -> Result<LentReply<'g, 'a, TYPE>, AllocError>
     requires grant { IsShort grant.now }
     requires padata { IfSome padata (λ list. length ((list_of pa_data).text list) ≤ 70000) }
-    ensures value { IfOk result (λ reply. reply ≡ reply_of TYPE TAG grant.now service.now key.now padata asked.nonce asked.now words.now) }
+    ensures value { IfOk result (λ reply.
+        reply ≡ reply_of TYPE TAG grant.now service.now key.now padata asked.now.nonce asked.now.time
+        asked.now.random.now) }
     ensures short { IfOk result (λ reply. length ((kdc_rep TYPE).text reply) < 2 ^ 32) }
-    ensures same { IfOk result (λ reply. OpensAlike TYPE TAG key.now.key (usage_number key.now.usage) service.now.key reply (reply_part grant.now asked.nonce asked.now) (ticket_part grant.now)) }
+    ensures same { IfOk result (λ reply.
+        OpensAlike TYPE TAG key.now.key (usage_number key.now.usage) service.now.key reply
+        (reply_part grant.now asked.now.nonce asked.now.time) (ticket_part grant.now)) }
 {
-    let ticket = ticket(alloc, grant, service, words)?;
-    let enc_part = sealed::<TAG>(alloc, grant, key, asked, words)?;
+    let ticket = ticket(alloc, grant, service, asked.random)?;
+    let enc_part = sealed::<TAG>(alloc, grant, key, asked)?;
     Ok(KdcRep {
         padata,
         crealm: Lent::new(&grant.realm),
@@ -100,23 +108,25 @@ fn sealed<const TAG: u8>(
     alloc: Global,
     grant: &Grant<'_>,
     key: &ReplyKey,
-    asked: Asked,
-    words: &[u8; 64],
+    asked: &Asked<'_>,
 ) -> Result<EncryptedData, AllocError>
     requires { IsShort grant.now }
-    ensures value { IfOk result (λ sealed. sealed ≡ sealed_part TAG grant.now key.now asked.nonce asked.now words.now) }
-    ensures opens { IfOk result (λ sealed. decrypted (under TAG enc_kdc_rep_part) key.now.key (usage_number key.now.usage) sealed ≡ Some (reply_part grant.now asked.nonce asked.now)) }
+    ensures value { IfOk result (λ sealed.
+        sealed ≡ sealed_part TAG grant.now key.now asked.now.nonce asked.now.time asked.now.random.now) }
+    ensures opens { IfOk result (λ sealed.
+        decrypted (under TAG enc_kdc_rep_part) key.now.key (usage_number key.now.usage) sealed
+        ≡ Some (reply_part grant.now asked.now.nonce asked.now.time)) }
     ensures most { IfOk result (λ sealed. length sealed.cipher ≤ 6200) }
 {
     let part: Under<TAG, _> = Under {
-        value: grant.reply_part(alloc, asked.nonce, asked.now)?,
+        value: grant.reply_part(alloc, asked.nonce, asked.time)?,
     };
     encrypted(
         alloc,
         &key.key,
         key.usage,
         key.kvno,
-        &confounder(words, 48),
+        &confounder(asked.random, 48),
         &part,
     )
 }

@@ -1,5 +1,7 @@
 //! Tickets (RFC 4120, section 5.3).
 ghost use Rattle.std.specs.Prelude.{◌≡◌, ◌≤◌, ◌+◌, pos, length, take, drop, Some, IfOk};
+ghost use Rattle.enctypes.specs.KeyUsage.{usage_number};
+ghost use Rattle.enctypes.specs.declared.key_usage.KeyUsage.TheVariants.{Ticket as TicketUsage};
 ghost use Rattle.krb_parts.specs.EncTicketPart.{enc_ticket_part};
 ghost use Rattle.sealed_parts.specs.Encrypted.{decrypted};
 ghost use Rattle.kdc_replies.specs.Grant.{IsShort, ticket_part};
@@ -28,18 +30,20 @@ pub fn ticket<'g, 'a>(
     alloc: Global,
     grant: &'g Grant<'a>,
     service: &ServiceKey,
-    words: &[u8; 64],
+    random: &[u8; 64],
 ) -> Result<LentTicket<'g, 'a>, AllocError>
     requires { IsShort grant.now }
-    ensures value { IfOk result (λ ticket. ticket ≡ ticket_of grant.now service.now words.now) }
-    ensures opens { IfOk result (λ ticket. decrypted enc_ticket_part service.now.key 2 ticket.enc_part ≡ Some (ticket_part grant.now)) }
+    ensures value { IfOk result (λ ticket. ticket ≡ ticket_of grant.now service.now random.now) }
+    ensures opens { IfOk result (λ ticket.
+        decrypted enc_ticket_part service.now.key (usage_number TicketUsage) ticket.enc_part
+        ≡ Some (ticket_part grant.now)) }
     ensures most { IfOk result (λ ticket. length ticket.enc_part.cipher ≤ 2147490100) }
 {
     Ok(Ticket {
         tkt_vno: PVNO,
         realm: Lent::new(&grant.realm),
         sname: Lent::new(&grant.service),
-        enc_part: sealed(alloc, grant, service, words)?,
+        enc_part: sealed(alloc, grant, service, random)?,
     })
 }
 
@@ -47,11 +51,12 @@ fn sealed(
     alloc: Global,
     grant: &Grant<'_>,
     service: &ServiceKey,
-    words: &[u8; 64],
+    random: &[u8; 64],
 ) -> Result<EncryptedData, AllocError>
     requires { IsShort grant.now }
-    ensures value { IfOk result (λ sealed. sealed ≡ (ticket_of grant.now service.now words.now).enc_part) }
-    ensures opens { IfOk result (λ sealed. decrypted enc_ticket_part service.now.key 2 sealed ≡ Some (ticket_part grant.now)) }
+    ensures value { IfOk result (λ sealed. sealed ≡ (ticket_of grant.now service.now random.now).enc_part) }
+    ensures opens { IfOk result (λ sealed.
+        decrypted enc_ticket_part service.now.key (usage_number TicketUsage) sealed ≡ Some (ticket_part grant.now)) }
     ensures most { IfOk result (λ sealed. length sealed.cipher ≤ 2147490100) }
 {
     let part = grant.ticket_part(alloc)?;
@@ -60,7 +65,7 @@ fn sealed(
         &service.key,
         KeyUsage::Ticket,
         Some(version_number(service.version)),
-        &confounder(words, 32),
+        &confounder(random, 32),
         &part,
     )
 }
@@ -73,11 +78,11 @@ pub fn version_number(version: u32) -> UInt32
 }
 
 /// The 16 random octets from this place on.
-pub fn confounder(words: &[u8; 64], place: usize) -> [u8; 16]
+pub fn confounder(random: &[u8; 64], place: usize) -> [u8; 16]
     requires { place ≤ 48 }
-    ensures { result ≡ take 16 (drop place words.now) }
+    ensures { result ≡ take 16 (drop place random.now) }
 {
     let mut octets = [0; 16];
-    octets.copy_from_slice(&words[place..place + 16]);
+    octets.copy_from_slice(&random[place..place + 16]);
     octets
 }

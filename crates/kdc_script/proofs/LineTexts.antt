@@ -69,7 +69,7 @@ pub request_octets : (fields : List (Bor (List ℕ))) (d : Bor (List ℕ)) (line
 request_octets fields d line is = let o = request_line line (texts_of fields) is in at fields o.0 o.1
   where
     at : (fields : List (Bor (List ℕ))) (request : requests.Request) → AreRequestFields request (texts_of fields) → (octets : List ℕ) × IsOctetsText octets (get_or fields 4 d).now
-    at (sec ∷ usec ∷ words ∷ room ∷ octets ∷ []) request is = (request.octets.items, is.3)
+    at (sec ∷ usec ∷ random ∷ room ∷ octets ∷ []) request is = (request.octets.items, is.3)
     at [] request is = absurd is
     at (a ∷ []) request is = absurd is
     at (a ∷ b ∷ []) request is = absurd is

@@ -56,8 +56,8 @@ ArePolicyFields name setting (name_text ∷ setting_text ∷ []) = IsNameTextOrN
 ArePolicyFields name setting texts = ⊥
 
 abbrev pub AreRequestFields : requests.Request → List (List ℕ) → Type 0
-AreRequestFields request (sec ∷ usec ∷ words ∷ room ∷ octets ∷ []) =
-    IsMomentText request.at sec usec × (decode_sized words 64 ≡ Ok request.words) × IsU32Text request.room room
+AreRequestFields request (sec ∷ usec ∷ random ∷ room ∷ octets ∷ []) =
+    IsMomentText request.at sec usec × (decode_sized random 64 ≡ Ok request.random) × IsU32Text request.room room
     × IsOctetsText request.octets.items octets
 AreRequestFields request texts = ⊥
 

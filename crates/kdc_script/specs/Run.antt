@@ -77,8 +77,8 @@ Runs (Some kdc) (SetPolicy (Some name) setting) after printed =
     Changes kdc (policy_change kdc name setting) (refusal kdc.database (policy_change kdc name setting)) after printed
 Runs (Some kdc) (SetPolicy None setting) after printed = IsNotNamed kdc after printed
 Runs (Some kdc) (Request request) after printed =
-    (after ≡ Some (next kdc request.at request.words request.room request.octets.items))
-    × IsReply printed (answer (view kdc request.octets.items) request.at request.words request.room request.octets.items).reply
+    (after ≡ Some (next kdc request.at request.random request.room request.octets.items))
+    × IsReply printed (answer (view kdc request.octets.items) request.at request.random request.room request.octets.items).reply
 Runs (Some kdc) (Restart at) after printed = (after ≡ Some (restarted kdc at)) × (printed ≡ Done)
 Runs None line after printed = ⊥
 

@@ -48,12 +48,12 @@ pub(crate) fn limits(texts: [&str; 5]) -> Option<Limits>
 }
 
 /// The KDC's 64 random octets for a request, as 128 hexadecimal digits.
-pub(crate) fn words(text: &str) -> Option<[u8; 64]>
+pub(crate) fn random(text: &str) -> Option<[u8; 64]>
     ensures { result ≡ result_ok (decode_sized text.now 64) }
 {
-    let mut words = [0; 64];
-    hex::decode_to_slice(text, &mut words).ok()?;
-    Some(words)
+    let mut random = [0; 64];
+    hex::decode_to_slice(text, &mut random).ok()?;
+    Some(random)
 }
 
 /// Octets in hexadecimal, where `-` stands for none.

@@ -5,7 +5,7 @@ ghost use Rattle.kdc_script.specs.Line.{IsLineText, AreLineFields};
 ghost use Rattle.kdc_script.specs.declared.line.Line as lines;
 ghost use Rattle.kdc_script.specs.declared.line.LineFault.TheVariants.{Form, Memory};
 
-use crate::field::{keys, limits, moment, name, octets, realm, words};
+use crate::field::{keys, limits, moment, name, octets, random, realm};
 use krb_elements::KerberosString;
 use krb_fields::{Moment, Name};
 use principal_rows::{KeyList, Limits};
@@ -58,7 +58,7 @@ pub(crate) struct Request {
     /// When it comes.
     pub(crate) at: Moment,
     /// The random octets for its answer.
-    pub(crate) words: [u8; 64],
+    pub(crate) random: [u8; 64],
     /// The most octets of a reply with a ticket.
     pub(crate) room: u32,
     pub(crate) octets: Vec<u8>,
@@ -240,13 +240,13 @@ fn parse_request(alloc: Global, fields: &[&str]) -> Result<Line, LineFault>
     ensures ok { IfOk result (λ line. AreLineFields line (codes "request" ∷ map (λ field. field.now) fields.now)) }
     ensures form { result ≡ Err Form → (line : lines.Line) → ¬ AreLineFields line (codes "request" ∷ map (λ field. field.now) fields.now) }
 {
-    let [sec, usec, words_text, room, octets_text] = fields else {
+    let [sec, usec, random_text, room, octets_text] = fields else {
         return Err(LineFault::Form);
     };
     let Some(at) = moment(sec, usec) else {
         return Err(LineFault::Form);
     };
-    let Some(words) = words(words_text) else {
+    let Some(random) = random(random_text) else {
         return Err(LineFault::Form);
     };
     let Some(room) = number_u32(room) else {
@@ -254,7 +254,7 @@ fn parse_request(alloc: Global, fields: &[&str]) -> Result<Line, LineFault>
     };
     Ok(Line::Request(Request {
         at,
-        words,
+        random,
         room,
         octets: octets(alloc, octets_text)?,
     }))

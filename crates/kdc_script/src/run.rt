@@ -309,7 +309,7 @@ fn handle(alloc: Global, kdc: &mut Option<Kdc>, request: &Request) -> Result<Ans
     match kdc.handle(
         alloc,
         request.at,
-        &request.words,
+        &request.random,
         request.room,
         &request.octets,
     )? {

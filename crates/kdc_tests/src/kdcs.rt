@@ -150,7 +150,7 @@ fn kdc_with_lenient_user(alloc: Global) -> Result<Kdc, Fail> {
 #[derive(Clone, Copy)]
 pub struct Asked<'a> {
     pub at: Moment,
-    pub words: [u8; 64],
+    pub random: [u8; 64],
     pub room: u32,
     pub request: &'a [u8],
 }
@@ -158,20 +158,20 @@ pub struct Asked<'a> {
 impl<'a> Asked<'a> {
     /// At midnight, with the random octets 0 to 63, and room for 1,400 octets.
     pub fn at_midnight(request: &'a [u8]) -> Result<Asked<'a>, Fail> {
-        let mut words = [0; 64];
-        for (place, word) in (0..64).zip(&mut words) {
-            *word = place;
+        let mut random = [0; 64];
+        for (place, octet) in (0..64).zip(&mut random) {
+            *octet = place;
         }
         Ok(Asked {
             at: Moment::new(MIDNIGHT, 0).ok_or("a moment")?,
-            words,
+            random,
             room: 1400,
             request,
         })
     }
 
     pub fn reply(self, alloc: Global, kdc: &mut Kdc) -> Result<Option<Vec<u8>>, AllocError> {
-        kdc.handle(alloc, self.at, &self.words, self.room, self.request)
+        kdc.handle(alloc, self.at, &self.random, self.room, self.request)
     }
 
     /// Whether the reply is this one.
@@ -504,7 +504,7 @@ fn a_ticket_without_memory_is_issued_when_asked_again(rt: HostRuntime) -> Result
 fn asks(request: Vec<u8>) -> Result<Event, Fail> {
     Ok(Event::Request {
         at: Moment::new(MIDNIGHT, 0).ok_or("a moment")?,
-        words: [0; 64],
+        random: [0; 64],
         room: 1400,
         request: Octets::new(request),
     })

@@ -94,12 +94,12 @@ fn field(alloc: Global, line: &str, place: usize) -> Result<Vec<u8>, Fail> {
 }
 
 /// The random octets in a request's line.
-fn words(alloc: Global, line: &str) -> Result<[u8; 64], Fail> {
-    let mut words = [0; 64];
-    for (word, octet) in words.iter_mut().zip(&field(alloc, line, 3)?) {
+fn random(alloc: Global, line: &str) -> Result<[u8; 64], Fail> {
+    let mut random = [0; 64];
+    for (word, octet) in random.iter_mut().zip(&field(alloc, line, 3)?) {
         *word = *octet;
     }
-    Ok(words)
+    Ok(random)
 }
 
 #[test]
@@ -109,7 +109,7 @@ fn a_login_without_memory_is_answered_when_it_comes_again(rt: HostRuntime) -> Re
     let request = field(alloc, line, 5)?;
     let reply = field(alloc, answer, 1)?;
     let asked = Asked {
-        words: words(alloc, line)?,
+        random: random(alloc, line)?,
         ..Asked::at_midnight(&request)?
     };
     assert!(rt; gets_again(alloc, kdc(alloc)?, asked, &reply)?);

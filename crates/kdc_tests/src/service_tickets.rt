@@ -42,12 +42,12 @@ pub fn kdc(alloc: Global) -> Result<Kdc, Fail> {
 }
 
 /// Random octets that count up from this one.
-fn words_from(first: u8) -> [u8; 64] {
-    let mut words = [first; 64];
-    for (place, word) in (0..64).zip(&mut words) {
-        *word = word.wrapping_add(place);
+fn random_from(first: u8) -> [u8; 64] {
+    let mut random = [first; 64];
+    for (place, octet) in (0..64).zip(&mut random) {
+        *octet = octet.wrapping_add(place);
     }
-    words
+    random
 }
 
 #[test]
@@ -56,7 +56,7 @@ fn a_service_ticket_without_memory_is_issued_when_asked_again(rt: HostRuntime) -
     let request = octets(alloc, REQUEST)?;
     let reply = octets(alloc, REPLY)?;
     let asked = Asked {
-        words: words_from(64),
+        random: random_from(64),
         ..Asked::at_midnight(&request)?
     };
     assert!(rt; gets_again(alloc, kdc(alloc)?, asked, &reply)?);
@@ -71,7 +71,7 @@ fn is_kept(
     reply: &[u8],
 ) -> Result<bool, AllocError> {
     let again = Asked {
-        words: [0; 64],
+        random: [0; 64],
         ..asked
     };
     Ok(asked.gets(alloc, &mut kdc, reply)? && again.gets(alloc, &mut kdc, reply)?)
@@ -83,7 +83,7 @@ fn the_same_request_gets_the_reply_that_is_kept(rt: HostRuntime) -> Result<(), F
     let request = octets(alloc, REQUEST)?;
     let reply = octets(alloc, REPLY)?;
     let asked = Asked {
-        words: words_from(64),
+        random: random_from(64),
         ..Asked::at_midnight(&request)?
     };
     assert!(rt; is_kept(alloc, kdc(alloc)?, asked, &reply)?);

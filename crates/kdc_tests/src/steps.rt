@@ -173,7 +173,7 @@ fn new_service_keys(alloc: Global, service: &[&[u8]], octet: u8) -> Result<Event
 fn asks(alloc: Global, asked: Asked, at: Moment, step: Step) -> Result<Event, Fail> {
     Ok(Event::Request {
         at,
-        words: [step.octet; 64],
+        random: [step.octet; 64],
         room: 1400,
         request: Octets::new(request(alloc, asked, step)?),
     })

@@ -4,16 +4,14 @@ use Rattle.std.specs.Prelude.{IfSome}
 use Rattle.cred_files.specs.declared.credential.Credential.{Credential}
 use Rattle.krb_der.specs.Spelling.{IsBytes}
 use Rattle.krb_fields.specs.declared.moment.Moment.{Moment}
-use Rattle.krb_types.specs.KdcReq.{Received}
-use Rattle.krb_types.specs.declared.kdc_req.Exchange.{Exchange}
-use Rattle.krb_types.specs.declared.kdc_req.Exchange.TheVariants.{As, Tgs}
-use Rattle.tgs_opening.specs.Opening.{presented}
-use Rattle.tgs_opening.specs.declared.presented.Presented.{Presented}
-use Rattle.tgs_opening.specs.declared.refusal.TgsRefusal.{TgsRefusal}
-use Rattle.kdc_core.specs.Answer.{IsReply, OneTicketTwoKeys, answer_in, answer_presented, answer_to}
-use Rattle.kdc_core.specs.Issued.{issued, reply_is_issued}
+use Rattle.kdc_core.specs.Answer.{IsReply, OneTicketTwoKeys, answer_of}
+use Rattle.kdc_core.specs.Contents.{contents}
+use Rattle.kdc_core.specs.Issued.{issued, issued_of, reply_is_issued}
 use Rattle.kdc_core.specs.Request.{Request}
-use Rattle.kdc_core.specs.View.{View, opening_view}
+use Rattle.kdc_core.specs.View.{View}
+use Rattle.kdc_core.specs.declared.contents.Contents.{Contents}
+use Rattle.kdc_core.specs.declared.contents.Contents.TheVariants.{NoRequest, AsReq, RefusedTgsReq, TgsReq}
+use Rattle.kdc_replies.specs.Incoming.{Incoming}
 use Rattle.kdc_replies.specs.Issue.{Issue}
 use Rattle.client_core.specs.declared.asked.Asked.{Asked}
 use Rattle.krb_joined.specs.Credential.{IsCredentialOf}
@@ -26,17 +24,15 @@ use Rattle.krb_joined.proofs.Taken.{credential_taken}
 module _ (v : View) (at : Moment) (words : List ℕ) where
   -- ---- a request without a reply is issued nothing
 
-  replied : (room : ℕ) (bytes : List ℕ) (message : Received) (r : Result Presented TgsRefusal) → (answer_presented v at words room bytes message r).reply ≡ None → ⊥
-  replied room bytes message (Ok p) none = absurd cc
-  replied room bytes message (Err refusal) none = absurd cc
+  replied : (incoming : Incoming) (held : Contents) → (answer_of v incoming held).reply ≡ None → issued_of v at words held ≡ None
+  replied incoming NoRequest none = refl
+  replied incoming (AsReq message) none = absurd cc
+  replied incoming (RefusedTgsReq message refusal) none = refl
+  replied incoming (TgsReq message p) none = absurd cc
 
-  replied_in : (room : ℕ) (bytes : List ℕ) (exchange : Exchange) (message : Received) → (answer_in v at words room bytes exchange message).reply ≡ None → ⊥
-  replied_in room bytes As message none = absurd cc
-  replied_in room bytes Tgs message none = replied room bytes message (presented (opening_view v) message) none
-
-  pub none_issued : (room : ℕ) (bytes : List ℕ) (request : Option Request) → (answer_to v at words room bytes request).reply ≡ None → issued v at words request ≡ None
-  none_issued room bytes (Some request) none = absurd (replied_in room bytes request.exchange request.message none)
-  none_issued room bytes None none = refl
+  pub none_issued : (room : ℕ) (bytes : List ℕ) (request : Option Request)
+      → (answer_of v (record { at = at; random = words; room = room; octets = bytes }) (contents v request)).reply ≡ None → issued v at words request ≡ None
+  none_issued room bytes request none = replied (record { at = at; random = words; room = room; octets = bytes }) (contents v request) none
 
   -- ---- a reply
 

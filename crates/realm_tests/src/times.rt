@@ -1,10 +1,10 @@
 //! The times and flags of tickets (`ticket_times`).
 use krb_der::{DerFault, KTime};
 use krb_elements::read;
-use krb_fields::{Code, Flags, Moment};
+use krb_fields::{Flags, Moment};
 use krb_types::ReqBodyRef;
 use principal_rows::{Limits, Policy};
-use ticket_times::{TicketTerms, Times, as_flags, as_times, tgs_flags, tgs_times};
+use ticket_times::{TicketTerms, Times, as_flags, as_times, starts_too_late, tgs_flags, tgs_times};
 
 /// 2024-01-01 00:00:00.
 const MIDNIGHT: i64 = 1_704_067_200;
@@ -64,7 +64,7 @@ fn limits(renewable: u32) -> Limits {
 }
 
 /// The times and flags by the AS exchange at midnight, with lives of 36,000 seconds.
-fn granted(octets: &[u8], renewable: u32) -> Result<Result<(Times, Flags), Code>, DerFault> {
+fn granted(octets: &[u8], renewable: u32) -> Result<Option<(Times, Flags)>, DerFault> {
     let policy = Policy::default();
     let at = Moment {
         sec: MIDNIGHT,
@@ -73,10 +73,16 @@ fn granted(octets: &[u8], renewable: u32) -> Result<Result<(Times, Flags), Code>
     let body: ReqBodyRef<'_> = read(octets)?;
     Ok(
         match as_times(at, &policy, &policy, &limits(renewable), &body) {
-            Ok(times) => Ok((times, as_flags(&body, &policy, &policy, false, &times))),
-            Err(code) => Err(code),
+            Some(times) => Some((times, as_flags(&body, &policy, &policy, false, &times))),
+            None => None,
         },
     )
+}
+
+/// Whether a start is asked for, at midnight, that is too late without POSTDATED.
+fn starts_late(octets: &[u8]) -> Result<bool, DerFault> {
+    let body: ReqBodyRef<'_> = read(octets)?;
+    Ok(starts_too_late(MIDNIGHT, &body))
 }
 
 #[test]
@@ -87,8 +93,8 @@ fn a_ticket_lives_as_long_as_the_realm_allows(rt: HostRuntime) -> Result<(), Der
         renew_till: None,
     };
     let initial = Flags::from_bits(0x0040_0000);
-    assert!(rt; granted(&body(0, NO_BOUND), 0)? == Ok((times, initial)));
-    assert!(rt; granted(&body(RENEWABLE_OK, NO_BOUND), 0)? == Ok((times, initial)));
+    assert!(rt; granted(&body(0, NO_BOUND), 0)? == Some((times, initial)));
+    assert!(rt; granted(&body(RENEWABLE_OK, NO_BOUND), 0)? == Some((times, initial)));
     Ok(())
 }
 
@@ -100,7 +106,7 @@ fn a_ticket_that_ends_early_is_renewable(rt: HostRuntime) -> Result<(), DerFault
         renew_till: Some(time(86_400)),
     };
     let flags = Flags::from_bits(0x00c0_0000);
-    assert!(rt; granted(&body(RENEWABLE_OK, NEXT_DAY), 604_800)? == Ok((times, flags)));
+    assert!(rt; granted(&body(RENEWABLE_OK, NEXT_DAY), 604_800)? == Some((times, flags)));
     Ok(())
 }
 
@@ -114,9 +120,9 @@ fn a_later_start_is_for_postdated_tickets_and_an_early_end_for_none(
         renew_till: None,
     };
     let flags = Flags::from_bits(0x0740_0000);
-    assert!(rt; granted(&body_from(POSTDATED), 0)? == Ok((times, flags)));
-    assert!(rt; granted(&body_from(0), 0)? == Err(Code::KdcErrCannotPostdate));
-    assert!(rt; granted(&body(0, THAT_DAY), 0)? == Err(Code::KdcErrNeverValid));
+    assert!(rt; granted(&body_from(POSTDATED), 0)? == Some((times, flags)));
+    assert!(rt; starts_late(&body_from(0))? && !starts_late(&body_from(POSTDATED))?);
+    assert!(rt; granted(&body(0, THAT_DAY), 0)? == None);
     Ok(())
 }
 
@@ -136,7 +142,7 @@ fn exchanged(
     octets: &[u8],
     ticket: &TicketTerms,
     later: u32,
-) -> Result<Result<(Times, Flags), Code>, DerFault> {
+) -> Result<Option<(Times, Flags)>, DerFault> {
     let policy = Policy::default();
     let at = Moment {
         sec: MIDNIGHT + i64::from(later),
@@ -145,8 +151,8 @@ fn exchanged(
     let body: ReqBodyRef<'_> = read(octets)?;
     Ok(
         match tgs_times(at, ticket, &policy, &policy, &limits(0), &body) {
-            Ok(times) => Ok((times, tgs_flags(&body, ticket, &policy, &times))),
-            Err(code) => Err(code),
+            Some(times) => Some((times, tgs_flags(&body, ticket, &policy, &times))),
+            None => None,
         },
     )
 }
@@ -160,7 +166,7 @@ fn a_renewed_ticket_lives_as_long_again(rt: HostRuntime) -> Result<(), DerFault>
     };
     let flags = Flags::from_bits(0x0080_0000);
     let ticket = renewable_ticket();
-    assert!(rt; exchanged(&body(RENEW, NO_BOUND), &ticket, 36_300)? == Ok((times, flags)));
+    assert!(rt; exchanged(&body(RENEW, NO_BOUND), &ticket, 36_300)? == Some((times, flags)));
     Ok(())
 }
 
@@ -179,7 +185,7 @@ fn a_validated_ticket_keeps_its_times(rt: HostRuntime) -> Result<(), DerFault> {
         renew_till: None,
     };
     let flags = Flags::from_bits(0x0600_0000);
-    assert!(rt; exchanged(&body(VALIDATE, NO_BOUND), &ticket, 3_600)? == Ok((times, flags)));
+    assert!(rt; exchanged(&body(VALIDATE, NO_BOUND), &ticket, 3_600)? == Some((times, flags)));
     Ok(())
 }
 
@@ -192,6 +198,6 @@ fn a_new_ticket_ends_with_the_old_one(rt: HostRuntime) -> Result<(), DerFault> {
         renew_till: None,
     };
     let no_flags = Flags::from_bits(0);
-    assert!(rt; exchanged(&body(0, NO_BOUND), &ticket, 35_000)? == Ok((times, no_flags)));
+    assert!(rt; exchanged(&body(0, NO_BOUND), &ticket, 35_000)? == Some((times, no_flags)));
     Ok(())
 }

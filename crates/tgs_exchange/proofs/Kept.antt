@@ -3,8 +3,8 @@ use Rattle.std.proofs.Common.{◌≡◌, ℕ, Bool, true, false, ◌&&◌, if◌
 use Rattle.std.specs.Prelude.{nat_eq, nat_lt, nat_le}
 use Rattle.std.specs.Cmp.Lexicographic.{pointwise}
 use Rattle.std.specs.FinMap as map
+use Rattle.kdc_replies.specs.Incoming.{Incoming}
 use Rattle.krb_elements.specs.Codec.{written}
-use Rattle.krb_fields.specs.declared.moment.Moment.{Moment}
 use Rattle.krb_replies.specs.KdcRep.{kdc_rep}
 use Rattle.krb_types.specs.ReqBody.{ReqBody}
 use Rattle.replay.specs.Memory.{if_kept, recent}
@@ -25,35 +25,35 @@ new_by true kept full e = absurd cc
 new_by false (Some k) full e = absurd cc
 new_by false None full e = (refl, refl)
 
-module _ (v : View) (at : Moment) (words : List ℕ) (room : ℕ) (request : List ℕ) (body : ReqBody) (p : Presented) where
+module _ (v : View) (incoming : Incoming) (body : ReqBody) (p : Presented) where
   abbrev IsNew : Type 0
-  IsNew = (is_skewed v.memory.floor at.sec p.authenticator.ctime ≡ false) × (map.get v.memory.pairs (stamp_of p) ≡ None)
+  IsNew = (is_skewed v.memory.floor incoming.at.sec p.authenticator.ctime ≡ false) × (map.get v.memory.pairs (stamp_of p) ≡ None)
 
-  fresh_is_new : verdict_on v at.sec p ≡ Fresh → IsNew
+  fresh_is_new : verdict_on v incoming.at.sec p ≡ Fresh → IsNew
   fresh_is_new e =
-      new_by (is_skewed v.memory.floor at.sec p.authenticator.ctime) (map.get v.memory.pairs (stamp_of p)) (nat_le v.limits.remembered (recent v.memory at.sec)) e
+      new_by (is_skewed v.memory.floor incoming.at.sec p.authenticator.ctime) (map.get v.memory.pairs (stamp_of p)) (nat_le v.limits.remembered (recent v.memory incoming.at.sec)) e
 
   -- nothing is kept by either of two answers
   kept_by : (b : Bool) (x y : Answer) (P : Type 0) → IfSome x.kept (λ kept. P) → IfSome y.kept (λ kept. P) → IfSome (if b then x else y).kept (λ kept. P)
   kept_by true x y P of_x of_y = of_x
   kept_by false x y P of_x of_y = of_y
 
-  decision_kept : (decided : Decision Kept) → HasSaid v at.sec p decided → IfSome (answer_by v at words room request body p decided).kept (λ kept. IsNew)
+  decision_kept : (decided : Decision Kept) → HasSaid v incoming.at.sec p decided → IfSome (answer_by v incoming body p decided).kept (λ kept. IsNew)
   decision_kept (Refuses refusal) said = tt
   decision_kept (Remembers refusal) said = fresh_is_new said
   decision_kept (Repeats kept) said =
-      kept_by (pointwise nat_eq request kept.request) _ _ IsNew (kept_by (bears_ticket kept.reply && nat_lt room (length kept.reply)) _ _ IsNew tt tt) tt
-  decision_kept (Issues admission) said = kept_by (nat_lt room (length (written (kdc_rep 13) (tgs_rep v at words body p admission)))) _ _ IsNew tt (fresh_is_new said)
+      kept_by (pointwise nat_eq incoming.octets kept.request) _ _ IsNew (kept_by (bears_ticket kept.reply && nat_lt incoming.room (length kept.reply)) _ _ IsNew tt tt) tt
+  decision_kept (Issues admission) said = kept_by (nat_lt incoming.room (length (written (kdc_rep 13) (tgs_rep v incoming.at incoming.random body p admission)))) _ _ IsNew tt (fresh_is_new said)
 
-  answer_kept : IfSome (tgs_answer v at words room request body p).kept (λ kept. IsNew)
-  answer_kept = decision_kept (decision v at.sec body p) (has_said v at.sec body p)
+  answer_kept : IfSome (tgs_answer v incoming body p).kept (λ kept. IsNew)
+  answer_kept = decision_kept (decision v incoming.at.sec body p) (has_said v incoming.at.sec body p)
 
   of_kept : (P : Type 0) → (IsNew → P) → (o : Option Kept) → IfSome o (λ kept. IsNew) → IfSome o (λ kept. P)
   of_kept P so (Some kept) new = so new
   of_kept P so None new = tt
 
   -- the same of a call that answers so
-  pub kept_new : {A E : Type 0} (kept_of : A → Option Kept) (P : Type 0) → (IsNew → P) → (r : Result A E) → IfOk r (λ a. kept_of a ≡ (tgs_answer v at words room request body p).kept)
+  pub kept_new : {A E : Type 0} (kept_of : A → Option Kept) (P : Type 0) → (IsNew → P) → (r : Result A E) → IfOk r (λ a. kept_of a ≡ (tgs_answer v incoming body p).kept)
       → IfOk r (λ a. IfSome (kept_of a) (λ kept. P))
   kept_new kept_of P so (Ok a) is = of_kept P so (kept_of a) (subst (λ (o : Option Kept). IfSome o (λ kept. IsNew)) (sym is) answer_kept)
   kept_new kept_of P so (Err e) is = tt

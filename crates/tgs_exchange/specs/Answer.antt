@@ -1,5 +1,6 @@
 -- What the TGS exchange answers, and what it keeps of it.
-use Rattle.std.specs.Prelude.{ℕ, ⊤, ◌≡◌, ◌⊎◌, Bool, ◌&&◌, nat_eq, nat_lt, get_or, if◌then◌else◌, List, length, Option, Some, None}
+use Rattle.std.specs.Prelude.{ℕ, ⊤, ◌≡◌, ◌⊎◌, Bool, ◌&&◌, nat_eq, nat_lt, get_or, if◌then◌else◌}
+use Rattle.std.specs.Prelude.{List, length, Option, Some, None}
 use Rattle.std.specs.Cmp.Lexicographic.{pointwise}
 use Rattle.enctypes.specs.KeyUsage.{usage_number}
 use Rattle.krb_elements.specs.Codec.{written}
@@ -11,6 +12,7 @@ use Rattle.krb_types.specs.KrbError.{KrbError, krb_error}
 use Rattle.krb_types.specs.ReqBody.{ReqBody}
 use Rattle.kdc_replies.specs.ErrorReply.{error_reply, too_big}
 use Rattle.kdc_replies.specs.Grant.{reply_part, ticket_part}
+use Rattle.kdc_replies.specs.Incoming.{Incoming}
 use Rattle.kdc_replies.specs.Reply.{NamesKey, OpensAlike}
 use Rattle.replay.specs.declared.keep.Kept.{Kept}
 use Rattle.tgs_opening.specs.Refusal.{code_of}
@@ -39,20 +41,26 @@ tgs_error realm at body refusal = error_reply realm at (code_of refusal) body.sn
 abbrev pub refused : View → Moment → ReqBody → TgsRefusal → Answer
 refused v at body refusal = record { reply = written krb_error (tgs_error v.realm at body refusal); kept = None }
 
+-- the error in place of a reply that is too long: nothing is remembered
+abbrev pub refused_room : View → Moment → ReqBody → Answer
+refused_room v at body = record { reply = written krb_error (too_big v.realm at body); kept = None }
+
 -- ---- an authenticator that came before
 
 -- whether octets begin a reply with a ticket: [APPLICATION 13]
 abbrev pub bears_ticket : List ℕ → Bool
 bears_ticket octets = nat_eq (get_or octets 0 0) 109
 
-abbrev pub kept_reply : View → Moment → ℕ → ReqBody → List ℕ → Answer
-kept_reply v at room body octets =
-    if bears_ticket octets && nat_lt room (length octets) then record { reply = written krb_error (too_big v.realm at body); kept = None }
+abbrev pub kept_reply : View → Incoming → ReqBody → List ℕ → Answer
+kept_reply v incoming body octets =
+    if bears_ticket octets && nat_lt incoming.room (length octets) then refused_room v incoming.at body
     else record { reply = octets; kept = None }
 
 -- the same request gets the reply that is kept, and another one is refused
-abbrev pub repeated : View → Moment → ℕ → List ℕ → ReqBody → Kept → Answer
-repeated v at room request body kept = if pointwise nat_eq request kept.request then kept_reply v at room body kept.reply else refused v at body Repeated
+abbrev pub repeated : View → Incoming → ReqBody → Kept → Answer
+repeated v incoming body kept =
+    if pointwise nat_eq incoming.octets kept.request then kept_reply v incoming body kept.reply
+    else refused v incoming.at body Repeated
 
 -- ---- an authenticator that is new
 
@@ -60,39 +68,43 @@ abbrev pub remembering : List ℕ → List ℕ → Answer
 remembering request octets = record { reply = octets; kept = Some (record { request = request; reply = octets }) }
 
 -- a reply with a ticket that is longer than the room leaves no trace
-abbrev pub within_room : View → Moment → ℕ → List ℕ → ReqBody → List ℕ → Answer
-within_room v at room request body octets =
-    if nat_lt room (length octets) then record { reply = written krb_error (too_big v.realm at body); kept = None }
-    else remembering request octets
+abbrev pub within_room : View → Incoming → ReqBody → List ℕ → Answer
+within_room v incoming body octets =
+    if nat_lt incoming.room (length octets) then refused_room v incoming.at body
+    else remembering incoming.octets octets
 
 -- ---- answers
 
-abbrev pub answer_by : View → Moment → List ℕ → ℕ → List ℕ → ReqBody → Presented → Decision Kept → Answer
-answer_by v at words room request body p (Refuses refusal) = refused v at body refusal
-answer_by v at words room request body p (Remembers refusal) = remembering request (written krb_error (tgs_error v.realm at body refusal))
-answer_by v at words room request body p (Repeats kept) = repeated v at room request body kept
-answer_by v at words room request body p (Issues admission) = within_room v at room request body (written (kdc_rep 13) (tgs_rep v at words body p admission))
+abbrev pub answer_by : View → Incoming → ReqBody → Presented → Decision Kept → Answer
+answer_by v incoming body p (Refuses refusal) = refused v incoming.at body refusal
+answer_by v incoming body p (Remembers refusal) =
+    remembering incoming.octets (written krb_error (tgs_error v.realm incoming.at body refusal))
+answer_by v incoming body p (Repeats kept) = repeated v incoming body kept
+answer_by v incoming body p (Issues admission) =
+    within_room v incoming body (written (kdc_rep 13) (tgs_rep v incoming.at incoming.random body p admission))
 
--- `words` are 64 random octets, `room` the most octets of a reply with a ticket, and `request` the octets of the request
-abbrev pub tgs_answer : View → Moment → List ℕ → ℕ → List ℕ → ReqBody → Presented → Answer
-tgs_answer v at words room request body p = answer_by v at words room request body p (decision v at.sec body p)
+abbrev pub tgs_answer : View → Incoming → ReqBody → Presented → Answer
+tgs_answer v incoming body p = answer_by v incoming body p (decision v incoming.at.sec body p)
 
 -- ---- what the octets spell
 
 -- the reply that is kept, or an error in its place
 abbrev pub RepeatSpelled : View → Moment → ReqBody → Kept → List ℕ → Type 0
-RepeatSpelled v at body kept octets = (octets ≡ kept.reply) ⊎ (krb_error.Spells (too_big v.realm at body) octets ⊎ krb_error.Spells (tgs_error v.realm at body Repeated) octets)
+RepeatSpelled v at body kept octets =
+    (octets ≡ kept.reply)
+    ⊎ (krb_error.Spells (too_big v.realm at body) octets ⊎ krb_error.Spells (tgs_error v.realm at body Repeated) octets)
 
 -- an error where it was refused; else the TGS-REP, or the error in its place
 abbrev pub SpelledBy : View → Moment → List ℕ → ReqBody → Presented → Decision Kept → List ℕ → Type 0
-SpelledBy v at words body p (Refuses refusal) octets = krb_error.Spells (tgs_error v.realm at body refusal) octets
-SpelledBy v at words body p (Remembers refusal) octets = krb_error.Spells (tgs_error v.realm at body refusal) octets
-SpelledBy v at words body p (Repeats kept) octets = RepeatSpelled v at body kept octets
-SpelledBy v at words body p (Issues admission) octets =
-    (kdc_rep 13).Spells (tgs_rep v at words body p admission) octets ⊎ krb_error.Spells (too_big v.realm at body) octets
+SpelledBy v at random body p (Refuses refusal) octets = krb_error.Spells (tgs_error v.realm at body refusal) octets
+SpelledBy v at random body p (Remembers refusal) octets = krb_error.Spells (tgs_error v.realm at body refusal) octets
+SpelledBy v at random body p (Repeats kept) octets = RepeatSpelled v at body kept octets
+SpelledBy v at random body p (Issues admission) octets =
+    (kdc_rep 13).Spells (tgs_rep v at random body p admission) octets
+    ⊎ krb_error.Spells (too_big v.realm at body) octets
 
 abbrev pub Spelled : View → Moment → List ℕ → ReqBody → Presented → List ℕ → Type 0
-Spelled v at words body p octets = SpelledBy v at words body p (decision v at.sec body p) octets
+Spelled v at random body p octets = SpelledBy v at random body p (decision v at.sec body p) octets
 
 -- ---- one ticket, two keys
 
@@ -100,19 +112,22 @@ Spelled v at words body p octets = SpelledBy v at words body p (decision v at.se
 -- names in the service's row.
 abbrev pub OpensTo : View → Presented → Admission → KdcRep 13 → EncKdcRepPart → EncTicketPart → Type 0
 OpensTo v p admission reply part ticket =
-    OpensAlike 13 26 (reply_key_of p).key (usage_number (reply_key_of p).usage) admission.terms.service.key.key reply part ticket
+    OpensAlike 13 26 (reply_key_of p).key (usage_number (reply_key_of p).usage) admission.terms.service.key.key
+    reply part ticket
     × NamesKey v.service reply.ticket.enc_part admission.terms.service.key.key
 
 -- they find what was granted
 abbrev pub OpensFor : View → Moment → List ℕ → ReqBody → Presented → Admission → Type 0
-OpensFor v at words body p admission =
-    OpensTo v p admission (tgs_rep v at words body p admission) (reply_part (grant_by v words body p admission) body.nonce at.sec) (ticket_part (grant_by v words body p admission))
+OpensFor v at random body p admission =
+    OpensTo v p admission (tgs_rep v at random body p admission)
+    (reply_part (grant_by v random body p admission) body.nonce at.sec)
+    (ticket_part (grant_by v random body p admission))
 
 abbrev pub OpensBy : View → Moment → List ℕ → ReqBody → Presented → Decision Kept → Type 0
-OpensBy v at words body p (Refuses refusal) = ⊤
-OpensBy v at words body p (Remembers refusal) = ⊤
-OpensBy v at words body p (Repeats kept) = ⊤
-OpensBy v at words body p (Issues admission) = OpensFor v at words body p admission
+OpensBy v at random body p (Refuses refusal) = ⊤
+OpensBy v at random body p (Remembers refusal) = ⊤
+OpensBy v at random body p (Repeats kept) = ⊤
+OpensBy v at random body p (Issues admission) = OpensFor v at random body p admission
 
 abbrev pub Opens : View → Moment → List ℕ → ReqBody → Presented → Type 0
-Opens v at words body p = OpensBy v at words body p (decision v at.sec body p)
+Opens v at random body p = OpensBy v at random body p (decision v at.sec body p)

@@ -1,5 +1,5 @@
--- What is decided of a TGS-REQ whose ticket and authenticator were opened. Its reply, what that spells, what is kept, and the
--- ticket that is issued are read from it.
+-- What is decided of a TGS-REQ whose ticket and authenticator were opened. Its reply, what that spells, what is kept,
+-- and the ticket that is issued are read from it.
 use Rattle.std.specs.Borrow.{Bor}
 use Rattle.std.specs.Prelude.{◌≡◌, ℤ, ⊤, Option, Some, None, Result, Ok, Err}
 use Rattle.refusals.specs.Refusals.{first_holding}

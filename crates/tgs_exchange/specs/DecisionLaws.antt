@@ -1,4 +1,5 @@
--- What a decision stands on: what the memory said of the authenticator, and that what is issued is issued to names with rows.
+-- What a decision stands on: what the memory said of the authenticator, and that what is issued is issued to names with
+-- rows.
 use Rattle.std.proofs.Common.{◌≡◌, ℤ, Option, Some, None, Result, Ok, Err, IfOk, refl, sym, subst}
 use Rattle.std.specs.Borrow.{Bor}
 use Rattle.refusals.specs.Refusals.{first_holding}
@@ -11,10 +12,11 @@ use Rattle.tgs_opening.specs.declared.refusal.TgsRefusal.{TgsRefusal}
 use Rattle.tgs_opening.specs.declared.refusal.TgsRefusal.TheVariants.{NeverValid}
 use Rattle.tgs_exchange.specs.View.{View}
 use Rattle.tgs_exchange.specs.Known.{IsKnown}
-use Rattle.tgs_exchange.specs.Terms.{terms, ticket_terms}
+use Rattle.tgs_exchange.specs.Terms.{terms, ticket_terms, times_of}
 use Rattle.tgs_exchange.specs.Rules.{admitted, client_rules, rules_by}
 use Rattle.tgs_exchange.specs.NamedLaws.{IsNamed, admitted_named}
-use Rattle.tgs_exchange.specs.Decision.{HasSaid, IfIssued, by_admission, by_client, by_verdict, decision, decision_copied, verdict_on}
+use Rattle.tgs_exchange.specs.Decision.{HasSaid, IfIssued, by_admission, by_client, by_verdict, decision}
+use Rattle.tgs_exchange.specs.Decision.{decision_copied, verdict_on}
 use Rattle.tgs_exchange.specs.declared.decision.Decision.{Decision}
 use Rattle.tgs_exchange.specs.declared.decision.Decision.TheVariants.{Refuses, Remembers, Repeats, Issues}
 use Rattle.tgs_exchange.specs.declared.terms.Admission.{Admission}
@@ -38,15 +40,17 @@ module _ (v : View) (now : ℤ) (body : ReqBody) (p : Presented) where
   has_said = said_by_client (first_holding (client_rules v now p.ticket.authtime))
 
 module _ (v : View) (now : ℤ) (body : ReqBody) (p : Presented) (known : IsKnown v body p) where
-  named_by_admission : (r : Result Admission TgsRefusal) → IfOk r (λ a. IsNamed p v.service a.terms) → IfIssued (by_admission r) (λ a. IsNamed p v.service a.terms)
+  named_by_admission : (r : Result Admission TgsRefusal) → IfOk r (λ a. IsNamed p v.service a.terms)
+      → IfIssued (by_admission r) (λ a. IsNamed p v.service a.terms)
   named_by_admission (Ok admission) named = named
   named_by_admission (Err refusal) named = tt
 
   named_by_verdict : (w : Verdict Kept) → IfIssued (by_verdict v now body p w) (λ a. IsNamed p v.service a.terms)
   named_by_verdict Fresh =
-      let ticket = ticket_terms p.ticket in
+      let times = times_of v.limits now (ticket_terms p.ticket) body (terms v body) in
       named_by_admission (admitted v now body p)
-      (admitted_named (rules_by v now body p.service ticket (terms v body)) v now ticket body p (terms v body) NeverValid (admitted v now body p) known refl refl)
+      (admitted_named (rules_by v now body p (terms v body) times) v body p (terms v body) times NeverValid
+      (admitted v now body p) known refl refl)
   named_by_verdict Skew = tt
   named_by_verdict (Repeat kept) = tt
   named_by_verdict NoPlace = tt
@@ -55,14 +59,17 @@ module _ (v : View) (now : ℤ) (body : ReqBody) (p : Presented) (known : IsKnow
   named_by_client (Some refusal) = tt
   named_by_client None = named_by_verdict (verdict_on v now p)
 
-  copied_named : (decided : Decision (Bor Kept)) → IfIssued (decision_copied decided) (λ a. IsNamed p v.service a.terms) → IfIssued decided (λ a. IsNamed p v.service a.terms)
+  copied_named : (decided : Decision (Bor Kept)) → IfIssued (decision_copied decided) (λ a. IsNamed p v.service a.terms)
+      → IfIssued decided (λ a. IsNamed p v.service a.terms)
   copied_named (Refuses refusal) named = tt
   copied_named (Remembers refusal) named = tt
   copied_named (Repeats kept) named = tt
   copied_named (Issues admission) named = named
 
   -- what is issued names a client and a service that have rows, and a key of the service's
-  pub issued_named : (decided : Decision (Bor Kept)) → decision_copied decided ≡ decision v now body p → IfIssued decided (λ a. IsNamed p v.service a.terms)
+  pub issued_named : (decided : Decision (Bor Kept)) → decision_copied decided ≡ decision v now body p
+      → IfIssued decided (λ a. IsNamed p v.service a.terms)
   issued_named decided is =
       copied_named decided
-      (subst (λ (d : Decision Kept). IfIssued d (λ a. IsNamed p v.service a.terms)) (sym is) (named_by_client (first_holding (client_rules v now p.ticket.authtime))))
+      (subst (λ (d : Decision Kept). IfIssued d (λ a. IsNamed p v.service a.terms)) (sym is)
+      (named_by_client (first_holding (client_rules v now p.ticket.authtime))))

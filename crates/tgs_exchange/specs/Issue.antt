@@ -17,11 +17,11 @@ use Rattle.tgs_exchange.specs.declared.terms.Admission.{Admission}
 
 -- the client, its authtime and the authorization data are those of the ticket that is presented
 abbrev pub grant_by : View → List ℕ → ReqBody → Presented → Admission → Grant
-grant_by v words body p admission = record {
+grant_by v random body p admission = record {
   realm = v.realm;
   client = p.ticket.cname;
   service = admission.terms.service.name;
-  session_key = session_key admission.terms.service.session_type words;
+  session_key = session_key admission.terms.service.session_type random;
   flags = tgs_flags body (ticket_terms p.ticket) admission.terms.service.policy admission.times;
   authtime = p.ticket.authtime;
   times = admission.times;
@@ -37,4 +37,6 @@ abbrev pub reply_key_of : Presented → ReplyKey
 reply_key_of p = reply_key_by p.session_key p.subkey
 
 abbrev pub tgs_rep : View → Moment → List ℕ → ReqBody → Presented → Admission → KdcRep 13
-tgs_rep v at words body p admission = reply_of 13 26 (grant_by v words body p admission) admission.terms.service.key (reply_key_of p) None body.nonce at.sec words
+tgs_rep v at random body p admission =
+    reply_of 13 26 (grant_by v random body p admission) admission.terms.service.key
+    (reply_key_of p) None body.nonce at.sec random

@@ -1,5 +1,5 @@
--- The ticket that a TGS-REQ is issued, if it is issued one now, and that its reply is that ticket's. A reply that was kept is
--- none: it was issued by the call that made it.
+-- The ticket that a TGS-REQ is issued, if it is issued one now, and that its reply is that ticket's. A reply that was
+-- kept is none: it was issued by the call that made it.
 use Rattle.std.proofs.Common.{◌≡◌, ◌≤◌, inl, inr, ℕ, List, length, Option, Some, None, ap, subst}
 use Rattle.std.specs.Option.{unwrap_or}
 use Rattle.kdc_replies.specs.GrantLaws.{session_key_size}
@@ -19,46 +19,51 @@ use Rattle.tgs_exchange.specs.declared.terms.Admission.{Admission}
 
 -- the ticket of an admission
 abbrev pub issue_of : View → Moment → List ℕ → ReqBody → Presented → Admission → Issue
-issue_of v at words body p admission = record {
+issue_of v at random body p admission = record {
   exchange = Tgs;
-  grant = grant_by v words body p admission;
+  grant = grant_by v random body p admission;
   service_key = admission.terms.service.key;
   reply_key = reply_key_of p;
   padata = None;
   nonce = body.nonce;
   now = at.sec;
-  words = words;
+  random = random;
 }
 
 abbrev pub issued_by : View → Moment → List ℕ → ReqBody → Presented → Decision Kept → Option Issue
-issued_by v at words body p (Refuses refusal) = None
-issued_by v at words body p (Remembers refusal) = None
-issued_by v at words body p (Repeats kept) = None
-issued_by v at words body p (Issues admission) = Some (issue_of v at words body p admission)
+issued_by v at random body p (Refuses refusal) = None
+issued_by v at random body p (Remembers refusal) = None
+issued_by v at random body p (Repeats kept) = None
+issued_by v at random body p (Issues admission) = Some (issue_of v at random body p admission)
 
 abbrev pub issued : View → Moment → List ℕ → ReqBody → Presented → Option Issue
-issued v at words body p = issued_by v at words body p (decision v at.sec body p)
+issued v at random body p = issued_by v at random body p (decision v at.sec body p)
 
 -- ---- the law
 
-module _ (v : View) (at : Moment) (words octets : List ℕ) (long : 32 ≤ length words) (body : ReqBody) (p : Presented) (issue : Issue) where
-  spelled_by : (admission : Admission) → SpelledBy v at words body p (Issues admission) octets → OpensFor v at words body p admission → IsIssuedOrError (issue_of v at words body p admission) octets
+module _ (v : View) (at : Moment) (random octets : List ℕ) (long : 32 ≤ length random) (body : ReqBody) (p : Presented)
+    (issue : Issue) where
+  spelled_by : (admission : Admission) → SpelledBy v at random body p (Issues admission) octets
+      → OpensFor v at random body p admission → IsIssuedOrError (issue_of v at random body p admission) octets
   spelled_by admission (inl spelled) opens = inl (record {
     spelled = spelled;
     client_reads = opens.0.client_reads;
     service_reads = opens.0.service_reads;
-    session_key = session_key_size admission.terms.service.session_type words long;
+    session_key = session_key_size admission.terms.service.session_type random long;
   })
   spelled_by admission (inr spelled) opens = inr (_, spelled)
 
-  reply_by : (decided : Decision Kept) → SpelledBy v at words body p decided octets → OpensBy v at words body p decided → issued_by v at words body p decided ≡ Some issue → IsIssuedOrError issue octets
+  reply_by : (decided : Decision Kept) → SpelledBy v at random body p decided octets
+      → OpensBy v at random body p decided → issued_by v at random body p decided ≡ Some issue
+      → IsIssuedOrError issue octets
   reply_by (Issues admission) spelled opens e =
-      let is : issue_of v at words body p admission ≡ issue = ap (λ (o : Option Issue). unwrap_or o issue) e in
+      let is : issue_of v at random body p admission ≡ issue = ap (λ (o : Option Issue). unwrap_or o issue) e in
       subst (λ (i : Issue). IsIssuedOrError i octets) is (spelled_by admission spelled opens)
   reply_by (Refuses refusal) spelled opens e = absurd cc
   reply_by (Remembers refusal) spelled opens e = absurd cc
   reply_by (Repeats kept) spelled opens e = absurd cc
 
   -- the reply to a TGS-REQ that is issued a ticket
-  pub reply_is_issued : Spelled v at words body p octets → Opens v at words body p → issued v at words body p ≡ Some issue → IsIssuedOrError issue octets
+  pub reply_is_issued : Spelled v at random body p octets → Opens v at random body p
+      → issued v at random body p ≡ Some issue → IsIssuedOrError issue octets
   reply_is_issued spelled opens e = reply_by (decision v at.sec body p) spelled opens e

@@ -1,7 +1,8 @@
--- The rules by which TGS-REQs are refused whose ticket and authenticator were opened, in their order: those of the client
--- (RFC 4120, section 3.3.3.1 for revoked tickets), and then, once the authenticator is known to be new, those of the ticket's
--- times (section 3.2.3) and of what is asked for (section 3.3.3).
-use Rattle.std.specs.Prelude.{ℤ, pos, ◌-ℤ◌, Bool, false, not, ◌&&◌, ◌||◌, nat_eq, int_lt, is_none, is_some, List, [], ◌∷◌, Option, Some, None, Result}
+-- The rules by which TGS-REQs are refused whose ticket and authenticator were opened, in their order: those of the
+-- client (RFC 4120, section 3.3.3.1 for revoked tickets), and then, once the authenticator is known to be new, those of
+-- the ticket's times (section 3.2.3) and of what is asked for (section 3.3.3).
+use Rattle.std.specs.Prelude.{ℤ, pos, ◌-ℤ◌, Bool, false, not, ◌&&◌, ◌||◌, nat_eq, int_lt, is_none, is_some, List, []}
+use Rattle.std.specs.Prelude.{◌∷◌, Option, Some, None, Result}
 use Rattle.std.specs.Cmp.Lexicographic.{pointwise}
 use Rattle.refusals.specs.Optional.{holds_of}
 use Rattle.refusals.specs.Refusals.{Rule, decided}
@@ -9,7 +10,8 @@ use Rattle.krb_fields.specs.PrincipalName.{Name}
 use Rattle.krb_fields.specs.declared.kdc_option.KdcOption.{KdcOption}
 use Rattle.krb_fields.specs.declared.kdc_option.KdcOption as options
 use Rattle.krb_fields.specs.declared.ticket_flag.TicketFlag.{TicketFlag}
-use Rattle.krb_fields.specs.declared.ticket_flag.TicketFlag.TheVariants.{Forwardable, Proxiable, MayPostdate, Invalid, Renewable}
+use Rattle.krb_fields.specs.declared.ticket_flag.TicketFlag.TheVariants.{Forwardable, Proxiable, MayPostdate, Invalid}
+use Rattle.krb_fields.specs.declared.ticket_flag.TicketFlag.TheVariants.{Renewable}
 use Rattle.krb_types.specs.ReqBody.{ReqBody}
 use Rattle.kdc_replies.specs.Standing.{is_disabled, is_expired}
 use Rattle.principal_rows.specs.declared.row.Row.{Row}
@@ -20,11 +22,17 @@ use Rattle.ticket_times.specs.declared.ticket_terms.TicketTerms.{TicketTerms}
 use Rattle.tgs_opening.specs.Tickets.{is_named}
 use Rattle.tgs_opening.specs.declared.presented.Presented.{Presented}
 use Rattle.tgs_opening.specs.declared.refusal.TgsRefusal.{TgsRefusal}
-use Rattle.tgs_opening.specs.declared.refusal.TgsRefusal.TheVariants.{ClientUnknown, ClientRevoked, ClientExpired, TicketRevoked}
-use Rattle.tgs_opening.specs.declared.refusal.TgsRefusal.TheVariants.{NotYetValid, TicketExpired, ServiceUnknown, ServiceRevoked, ServiceExpired, OtherService, AuthorizationData}
-use Rattle.tgs_opening.specs.declared.refusal.TgsRefusal.TheVariants.{BadOption, NothingToValidate, ValidatedTooEarly, RenewedTooLate, NoCommonType, StartsTooLate, NeverValid}
+use Rattle.tgs_opening.specs.declared.refusal.TgsRefusal.TheVariants.{ClientUnknown, ClientRevoked, ClientExpired}
+use Rattle.tgs_opening.specs.declared.refusal.TgsRefusal.TheVariants.{TicketRevoked}
+use Rattle.tgs_opening.specs.declared.refusal.TgsRefusal.TheVariants.{NotYetValid, TicketExpired, ServiceUnknown}
+use Rattle.tgs_opening.specs.declared.refusal.TgsRefusal.TheVariants.{ServiceRevoked, ServiceExpired, OtherService}
+use Rattle.tgs_opening.specs.declared.refusal.TgsRefusal.TheVariants.{AuthorizationData}
+use Rattle.tgs_opening.specs.declared.refusal.TgsRefusal.TheVariants.{BadOption, NothingToValidate, ValidatedTooEarly}
+use Rattle.tgs_opening.specs.declared.refusal.TgsRefusal.TheVariants.{RenewedTooLate, NoCommonType, StartsTooLate}
+use Rattle.tgs_opening.specs.declared.refusal.TgsRefusal.TheVariants.{NeverValid}
 use Rattle.tgs_exchange.specs.View.{View}
-use Rattle.tgs_exchange.specs.Terms.{terms, admission_of, ticket_terms}
+use Rattle.ticket_times.specs.declared.times.Times.{Times}
+use Rattle.tgs_exchange.specs.Terms.{terms, admission_of, ticket_terms, times_of}
 use Rattle.tgs_exchange.specs.declared.terms.Admission.{Admission}
 use Rattle.tgs_exchange.specs.declared.terms.Terms.{Terms}
 
@@ -51,7 +59,9 @@ client_rules v now authtime =
 
 -- it starts later than the skew of clocks allows, or has yet to be validated, and this request doesn't ask for that
 abbrev pub is_not_yet_valid : TicketTerms → ℤ → ReqBody → Bool
-is_not_yet_valid ticket now body = int_lt (later now 300) (start_of_ticket ticket) || (has_flag ticket Invalid && not (asks body options.TheVariants.Validate))
+is_not_yet_valid ticket now body =
+    int_lt (later now 300) (start_of_ticket ticket)
+    || (has_flag ticket Invalid && not (asks body options.TheVariants.Validate))
 
 abbrev pub has_ended : TicketTerms → ℤ → Bool
 has_ended ticket now = int_lt ticket.endtime (now -ℤ pos 300)
@@ -103,14 +113,17 @@ starts_late body now = not (keeps_ticket body) && starts_too_late now body
 
 -- ---- in their order
 
-abbrev pub rules_by : View → ℤ → ReqBody → Name → TicketTerms → Option Terms → List (Rule TgsRefusal)
-rules_by v now body service ticket found =
+-- of the ticket that is presented and the service that it is for, of what is asked for, by the terms that are found for
+-- that, and by the times of the new ticket
+abbrev pub rules_by : View → ℤ → ReqBody → Presented → Option Terms → Option Times → List (Rule TgsRefusal)
+rules_by v now body p found times =
+    let ticket = ticket_terms p.ticket in
     (is_not_yet_valid ticket now body, NotYetValid)
     ∷ (has_ended ticket now, TicketExpired)
     ∷ (is_service_unknown v body, ServiceUnknown)
     ∷ (is_disabled v.service, ServiceRevoked)
     ∷ (is_expired v.service now, ServiceExpired)
-    ∷ (is_for_other_service body service, OtherService)
+    ∷ (is_for_other_service body p.service, OtherService)
     ∷ (is_some body.enc_authorization_data, AuthorizationData)
     ∷ (asks_bad_option body ticket, BadOption)
     ∷ (has_nothing_to_validate body ticket, NothingToValidate)
@@ -118,11 +131,16 @@ rules_by v now body service ticket found =
     ∷ (is_renewed_too_late body ticket now, RenewedTooLate)
     ∷ (is_none found, NoCommonType)
     ∷ (starts_late body now, StartsTooLate)
+    ∷ (is_none times, NeverValid)
     ∷ []
 
--- what is admitted, or why nothing is: in the end because the ticket would not end after it starts
-abbrev pub admitted_by : View → ℤ → ReqBody → Name → TicketTerms → Option Terms → Result Admission TgsRefusal
-admitted_by v now body service ticket found = decided (rules_by v now body service ticket found) (admission_of v.limits now ticket body found) NeverValid
+-- what is admitted, or the first rule by which nothing is
+abbrev pub admitted_on : View → ℤ → ReqBody → Presented → Option Terms → Option Times → Result Admission TgsRefusal
+admitted_on v now body p found times = decided (rules_by v now body p found times) (admission_of found times) NeverValid
+
+abbrev pub admitted_by : View → ℤ → ReqBody → Presented → Option Terms → Result Admission TgsRefusal
+admitted_by v now body p found =
+    admitted_on v now body p found (times_of v.limits now (ticket_terms p.ticket) body found)
 
 abbrev pub admitted : View → ℤ → ReqBody → Presented → Result Admission TgsRefusal
-admitted v now body p = admitted_by v now body p.service (ticket_terms p.ticket) (terms v body)
+admitted v now body p = admitted_by v now body p (terms v body)

@@ -1,9 +1,8 @@
 -- What the service's row has for the types that a request asks for, and the times of the ticket.
-use Rattle.std.specs.Prelude.{ℤ, List, Option, Some, None, Result, Ok, Err}
+use Rattle.std.specs.Prelude.{ℤ, List, Option, Some, None}
 use Rattle.kdc_replies.specs.ServiceTerms.{service_terms}
 use Rattle.kdc_replies.specs.declared.services.ServiceTerms.{ServiceTerms}
 use Rattle.krb_fields.specs.PrincipalName.{Name}
-use Rattle.krb_fields.specs.declared.code.Code.{Code}
 use Rattle.krb_parts.specs.EncTicketPart.{EncTicketPart}
 use Rattle.krb_types.specs.ReqBody.{ReqBody}
 use Rattle.principal_rows.specs.declared.limits.Limits.{Limits}
@@ -39,11 +38,12 @@ terms_if types None client service = None
 abbrev pub terms : View → ReqBody → Option Terms
 terms v body = terms_if body.etype body.sname v.client v.service
 
-abbrev pub admission_at : Terms → Result Times Code → Option Admission
-admission_at t (Ok times) = Some (record { terms = t; times = times })
-admission_at t (Err code) = None
+-- the times of a ticket by these terms; none where it would end no later than it starts
+abbrev pub times_of : Limits → ℤ → TicketTerms → ReqBody → Option Terms → Option Times
+times_of limits now ticket body (Some t) = tgs_times now ticket t.client t.service.policy limits body
+times_of limits now ticket body None = None
 
--- the terms, with the times of a ticket that ends after it starts
-abbrev pub admission_of : Limits → ℤ → TicketTerms → ReqBody → Option Terms → Option Admission
-admission_of limits now ticket body (Some t) = admission_at t (tgs_times now ticket t.client t.service.policy limits body)
-admission_of limits now ticket body None = None
+abbrev pub admission_of : Option Terms → Option Times → Option Admission
+admission_of (Some t) (Some times) = Some (record { terms = t; times = times })
+admission_of (Some t) None = None
+admission_of None times = None

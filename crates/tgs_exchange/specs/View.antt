@@ -5,8 +5,8 @@ use Rattle.principal_rows.specs.declared.row.Row.{Row}
 use Rattle.replay.specs.declared.keep.Kept.{Kept}
 use Rattle.replay.specs.declared.memory.Memory.{Memory}
 
--- realm and limits, the rows of the ticket's client and of the service that the request names, and what is remembered of
--- the client
+-- realm and limits, the rows of the ticket's client and of the service that the request names, and what is remembered
+-- of the client
 pub record View : Type 0 where
   pub realm : List ℕ
   pub limits : Limits

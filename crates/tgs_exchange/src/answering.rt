@@ -6,7 +6,8 @@ ghost use Rattle.krb_elements.specs.Codec.{written};
 ghost use Rattle.krb_fields.specs.PrincipalName.{name};
 ghost use Rattle.krb_types.specs.KrbError.{krb_error};
 ghost use Rattle.replay.specs.Stamp.{is_skewed};
-ghost use Rattle.tgs_exchange.specs.Answer.{answer_by, bears_ticket, kept_reply, remembering, repeated, refused, tgs_answer, tgs_error, within_room};
+ghost use Rattle.tgs_exchange.specs.Answer.{answer_by, bears_ticket, kept_reply, remembering, repeated, refused};
+ghost use Rattle.tgs_exchange.specs.Answer.{tgs_answer, tgs_error, within_room};
 ghost use Rattle.tgs_exchange.specs.Answer.{Opens, OpensBy, RepeatSpelled, Spelled, SpelledBy};
 ghost use Rattle.tgs_exchange.specs.Decision.{decision_copied, stamp_of, IfIssued};
 ghost use Rattle.tgs_exchange.specs.Known.{IsKnown};
@@ -16,7 +17,7 @@ use crate::decision::{Decision, decide};
 use crate::errors::tgs_error;
 use crate::issuing::tgs_rep;
 use crate::view::TgsView;
-use kdc_replies::too_big;
+use kdc_replies::{Incoming, too_big};
 use krb_elements::Octets;
 use krb_fields::Moment;
 use krb_types::ReqBodyRef;
@@ -34,64 +35,67 @@ pub struct TgsAnswer {
     pub kept: Option<Kept>,
 }
 
-/// Answers a TGS-REQ. `words` are 64 random octets, `room` is the most octets of a reply with a ticket, and `request` are
-/// the octets of the request.
+/// Answers a TGS-REQ that presents what was opened.
 pub fn tgs_answer(
     alloc: Global,
     view: &TgsView<'_>,
-    at: Moment,
-    words: &[u8; 64],
-    room: u32,
-    request: &[u8],
+    incoming: &Incoming<'_>,
     body: &ReqBodyRef<'_>,
     presented: &Presented,
 ) -> Result<TgsAnswer, AllocError>
     requires { IsKnown view.now body.now presented.now }
-    ensures reply { IfOk result (λ answer. answer.reply.items ≡ (tgs_answer view.now at words.now room request.now body.now presented.now).reply) }
-    ensures kept { IfOk result (λ answer. answer.kept ≡ (tgs_answer view.now at words.now room request.now body.now presented.now).kept) }
+    ensures reply { IfOk result (λ answer.
+        answer.reply.items ≡ (tgs_answer view.now incoming.now body.now presented.now).reply) }
+    ensures kept { IfOk result (λ answer.
+        answer.kept ≡ (tgs_answer view.now incoming.now body.now presented.now).kept) }
     // The octets spell the message that the rules say, or are the reply that is kept.
-    ensures spelled { IfOk result (λ answer. Spelled view.now at words.now body.now presented.now answer.reply.items) }
+    ensures spelled { IfOk result (λ answer.
+        Spelled view.now incoming.now.at incoming.now.random body.now presented.now answer.reply.items) }
     // Where a ticket is issued, the reply key and the service's key find the same inside.
-    ensures same { IfOk result (λ answer. Opens view.now at words.now body.now presented.now) }
+    ensures same { IfOk result (λ answer. Opens view.now incoming.now.at incoming.now.random body.now presented.now) }
     // What is to be remembered is neither skewed nor a repeat.
-    ensures timely { IfOk result (λ answer. IfSome answer.kept (λ kept. is_skewed view.now.memory.floor at.sec presented.now.authenticator.ctime ≡ false)) }
-    ensures new { IfOk result (λ answer. IfSome answer.kept (λ kept. map.get view.now.memory.pairs (stamp_of presented.now) ≡ None)) }
+    ensures timely { IfOk result (λ answer.
+        IfSome answer.kept (λ kept. is_skewed view.now.memory.floor incoming.now.at.sec
+        presented.now.authenticator.ctime ≡ false)) }
+    ensures new { IfOk result (λ answer.
+        IfSome answer.kept (λ kept. map.get view.now.memory.pairs (stamp_of presented.now) ≡ None)) }
 {
-    let decision = decide(alloc, view, at, body, presented)?;
-    answer_by(
-        alloc, view, at, words, room, request, body, presented, &decision,
-    )
+    let decision = decide(alloc, view, incoming.at, body, presented)?;
+    answer_by(alloc, view, incoming, body, presented, &decision)
 }
 
 /// The answer by what is decided.
 fn answer_by(
     alloc: Global,
     view: &TgsView<'_>,
-    at: Moment,
-    words: &[u8; 64],
-    room: u32,
-    request: &[u8],
+    incoming: &Incoming<'_>,
     body: &ReqBodyRef<'_>,
     presented: &Presented,
     decision: &Decision<&Kept>,
 ) -> Result<TgsAnswer, AllocError>
     requires known { IsKnown view.now body.now presented.now }
     requires named { IfIssued decision.now (λ admission. IsNamed presented.now view.now.service admission.terms) }
-    ensures reply { IfOk result (λ answer. answer.reply.items ≡ (answer_by view.now at words.now room request.now body.now presented.now (decision_copied decision.now)).reply) }
-    ensures kept { IfOk result (λ answer. answer.kept ≡ (answer_by view.now at words.now room request.now body.now presented.now (decision_copied decision.now)).kept) }
-    ensures spelled { IfOk result (λ answer. SpelledBy view.now at words.now body.now presented.now (decision_copied decision.now) answer.reply.items) }
-    ensures same { IfOk result (λ answer. OpensBy view.now at words.now body.now presented.now (decision_copied decision.now)) }
+    ensures reply { IfOk result (λ answer.
+        answer.reply.items ≡ (answer_by view.now incoming.now body.now presented.now
+        (decision_copied decision.now)).reply) }
+    ensures kept { IfOk result (λ answer.
+        answer.kept ≡ (answer_by view.now incoming.now body.now presented.now (decision_copied decision.now)).kept) }
+    ensures spelled { IfOk result (λ answer.
+        SpelledBy view.now incoming.now.at incoming.now.random body.now presented.now
+        (decision_copied decision.now) answer.reply.items) }
+    ensures same { IfOk result (λ answer.
+        OpensBy view.now incoming.now.at incoming.now.random body.now presented.now (decision_copied decision.now)) }
 {
     match decision {
-        Decision::Refuses(refusal) => refused(alloc, view, at, body, *refusal),
+        Decision::Refuses(refusal) => refused(alloc, view, incoming.at, body, *refusal),
         Decision::Remembers(refusal) => {
-            let reply = tgs_error(alloc, view.realm, at, body, *refusal)?;
-            remembering(alloc, request, reply)
+            let reply = tgs_error(alloc, view.realm, incoming.at, body, *refusal)?;
+            remembering(alloc, incoming.octets, reply)
         }
-        Decision::Repeats(kept) => repeated(alloc, view, at, room, request, body, kept),
+        Decision::Repeats(kept) => repeated(alloc, view, incoming, body, kept),
         Decision::Issues(admission) => {
-            let reply = tgs_rep(alloc, view, at, words, body, presented, admission)?;
-            within_room(alloc, view, at, room, request, body, reply)
+            let reply = tgs_rep(alloc, view, incoming, body, presented, admission)?;
+            within_room(alloc, view, incoming, body, reply)
         }
     }
 }
@@ -108,7 +112,8 @@ fn refused(
     requires sname { IfSome body.now.sname (λ n. length (name.text n) < 2147483648) }
     ensures reply { IfOk result (λ answer. answer.reply.items ≡ (refused view.now at body.now refusal).reply) }
     ensures kept { IfOk result (λ answer. answer.kept ≡ None) }
-    ensures spelled { IfOk result (λ answer. krb_error.Spells (tgs_error view.now.realm at body.now refusal) answer.reply.items) }
+    ensures spelled { IfOk result (λ answer.
+        krb_error.Spells (tgs_error view.now.realm at body.now refusal) answer.reply.items) }
 {
     Ok(TgsAnswer {
         reply: tgs_error(alloc, view.realm, at, body, refusal)?,
@@ -120,22 +125,22 @@ fn refused(
 fn repeated(
     alloc: Global,
     view: &TgsView<'_>,
-    at: Moment,
-    room: u32,
-    request: &[u8],
+    incoming: &Incoming<'_>,
     body: &ReqBodyRef<'_>,
     kept: &Kept,
 ) -> Result<TgsAnswer, AllocError>
     requires realm { length view.now.realm ≤ 255 }
     requires sname { IfSome body.now.sname (λ n. length (name.text n) < 2147483648) }
-    ensures reply { IfOk result (λ answer. answer.reply.items ≡ (repeated view.now at room request.now body.now kept.now).reply) }
+    ensures reply { IfOk result (λ answer.
+        answer.reply.items ≡ (repeated view.now incoming.now body.now kept.now).reply) }
     ensures kept { IfOk result (λ answer. answer.kept ≡ None) }
-    ensures spelled { IfOk result (λ answer. RepeatSpelled view.now at body.now kept.now answer.reply.items) }
+    ensures spelled { IfOk result (λ answer.
+        RepeatSpelled view.now incoming.now.at body.now kept.now answer.reply.items) }
 {
-    if request != kept.request.as_slice() {
-        return refused(alloc, view, at, body, TgsRefusal::Repeated);
+    if incoming.octets != kept.request.as_slice() {
+        return refused(alloc, view, incoming.at, body, TgsRefusal::Repeated);
     }
-    let reply = kept_reply(alloc, view, at, room, body, kept.reply.as_slice())?;
+    let reply = kept_reply(alloc, view, incoming, body, kept.reply.as_slice())?;
     Ok(TgsAnswer { reply, kept: None })
 }
 
@@ -143,18 +148,18 @@ fn repeated(
 fn kept_reply(
     alloc: Global,
     view: &TgsView<'_>,
-    at: Moment,
-    room: u32,
+    incoming: &Incoming<'_>,
     body: &ReqBodyRef<'_>,
     octets: &[u8],
 ) -> Result<Vec<u8>, AllocError>
     requires realm { length view.now.realm ≤ 255 }
     requires sname { IfSome body.now.sname (λ n. length (name.text n) < 2147483648) }
-    ensures reply { IfOk result (λ reply. reply.items ≡ (kept_reply view.now at room body.now octets.now).reply) }
-    ensures spelled { IfOk result (λ reply. (reply.items ≡ octets.now) ⊎ krb_error.Spells (too_big view.now.realm at body.now) reply.items) }
+    ensures reply { IfOk result (λ reply. reply.items ≡ (kept_reply view.now incoming.now body.now octets.now).reply) }
+    ensures spelled { IfOk result (λ reply.
+        (reply.items ≡ octets.now) ⊎ krb_error.Spells (too_big view.now.realm incoming.now.at body.now) reply.items) }
 {
-    if bears_ticket(octets) && octets.len() > room as usize {
-        return too_big(alloc, view.realm, at, body);
+    if bears_ticket(octets) && octets.len() > incoming.room as usize {
+        return too_big(alloc, view.realm, incoming.at, body);
     }
     Vec::from_slice(alloc, octets)
 }
@@ -173,25 +178,26 @@ fn bears_ticket(octets: &[u8]) -> bool
 fn within_room(
     alloc: Global,
     view: &TgsView<'_>,
-    at: Moment,
-    room: u32,
-    request: &[u8],
+    incoming: &Incoming<'_>,
     body: &ReqBodyRef<'_>,
     reply: Vec<u8>,
 ) -> Result<TgsAnswer, AllocError>
     requires realm { length view.now.realm ≤ 255 }
     requires sname { IfSome body.now.sname (λ n. length (name.text n) < 2147483648) }
-    ensures reply { IfOk result (λ answer. answer.reply.items ≡ (within_room view.now at room request.now body.now reply.items).reply) }
-    ensures kept { IfOk result (λ answer. answer.kept ≡ (within_room view.now at room request.now body.now reply.items).kept) }
-    ensures spelled { IfOk result (λ answer. (answer.reply.items ≡ reply.items) ⊎ krb_error.Spells (too_big view.now.realm at body.now) answer.reply.items) }
+    ensures reply { IfOk result (λ answer.
+        answer.reply.items ≡ (within_room view.now incoming.now body.now reply.items).reply) }
+    ensures kept { IfOk result (λ answer. answer.kept ≡ (within_room view.now incoming.now body.now reply.items).kept) }
+    ensures spelled { IfOk result (λ answer.
+        (answer.reply.items ≡ reply.items)
+        ⊎ krb_error.Spells (too_big view.now.realm incoming.now.at body.now) answer.reply.items) }
 {
-    if reply.len() > room as usize {
+    if reply.len() > incoming.room as usize {
         return Ok(TgsAnswer {
-            reply: too_big(alloc, view.realm, at, body)?,
+            reply: too_big(alloc, view.realm, incoming.at, body)?,
             kept: None,
         });
     }
-    remembering(alloc, request, reply)
+    remembering(alloc, incoming.octets, reply)
 }
 
 /// A reply that is kept with its request.

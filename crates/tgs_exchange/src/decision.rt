@@ -2,11 +2,12 @@
 ghost use Rattle.std.specs.Prelude.{◌≡◌, IfOk};
 ghost use Rattle.refusals.specs.Refusals.{first_holding};
 ghost use Rattle.replay.specs.Memory.{verdict_copied};
-ghost use Rattle.tgs_exchange.specs.Decision.{by_admission, by_client, by_verdict, decision, decision_copied, verdict_on};
+ghost use Rattle.tgs_exchange.specs.Decision.{by_admission, by_client, by_verdict, decision, decision_copied};
+ghost use Rattle.tgs_exchange.specs.Decision.{verdict_on};
 ghost use Rattle.tgs_exchange.specs.Rules.{admitted, client_rules};
 
 use crate::rules::{admitted, client_rules};
-use crate::terms::{Admission, terms_for, ticket_terms};
+use crate::terms::{Admission, terms_for};
 use crate::view::TgsView;
 use krb_fields::Moment;
 use krb_types::ReqBodyRef;
@@ -28,7 +29,8 @@ pub enum Decision<K> {
     Issues(Admission),
 }
 
-/// Decides in this order: the client's rules, its memory of authenticators, the rules of the ticket and of what is asked.
+/// Decides in this order: the client's rules, its memory of authenticators, the rules of the ticket and of what is
+/// asked.
 pub fn decide<'v>(
     alloc: Global,
     view: &TgsView<'v>,
@@ -59,7 +61,8 @@ fn by_client<'v>(
     presented: &Presented,
     refusal: Option<TgsRefusal>,
 ) -> Result<Decision<&'v Kept>, AllocError>
-    ensures { IfOk result (λ decided. decision_copied decided ≡ by_client view.now at.sec body.now presented.now refusal) }
+    ensures { IfOk result (λ decided.
+        decision_copied decided ≡ by_client view.now at.sec body.now presented.now refusal) }
 {
     match refusal {
         Some(refusal) => Ok(Decision::Refuses(refusal)),
@@ -88,7 +91,8 @@ fn by_verdict<'v>(
     presented: &Presented,
     verdict: Verdict<&'v Kept>,
 ) -> Result<Decision<&'v Kept>, AllocError>
-    ensures { IfOk result (λ decided. decision_copied decided ≡ by_verdict view.now at.sec body.now presented.now (verdict_copied verdict.entry)) }
+    ensures { IfOk result (λ decided.
+        decision_copied decided ≡ by_verdict view.now at.sec body.now presented.now (verdict_copied verdict.entry)) }
 {
     match verdict {
         Verdict::Skew => Ok(Decision::Refuses(TgsRefusal::Skewed)),
@@ -106,12 +110,11 @@ fn fresh<'v>(
     body: &ReqBodyRef<'_>,
     presented: &Presented,
 ) -> Result<Decision<&'v Kept>, AllocError>
-    ensures { IfOk result (λ decided. decision_copied decided ≡ by_admission (admitted view.now at.sec body.now presented.now)) }
+    ensures { IfOk result (λ decided.
+        decision_copied decided ≡ by_admission (admitted view.now at.sec body.now presented.now)) }
 {
     let terms = terms_for(alloc, view, body)?;
-    let ticket = ticket_terms(&presented.ticket);
-    let admission = admitted(view, at, body, &presented.service, &ticket, terms);
-    Ok(by_admission(admission))
+    Ok(by_admission(admitted(view, at, body, presented, terms)))
 }
 
 /// What is decided by what is admitted.

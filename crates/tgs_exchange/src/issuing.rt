@@ -13,9 +13,9 @@ ghost use Rattle.tgs_exchange.specs.Terms.{ticket_terms};
 use crate::terms::{Admission, ticket_terms};
 use crate::view::TgsView;
 use enctypes::KeyUsage;
-use kdc_replies::{Asked, Grant, ReplyKey, session_key, ticket_reply};
+use kdc_replies::{Asked, Grant, Incoming, ReplyKey, session_key, ticket_reply};
 use krb_elements::{KerberosStringRef, Lent, Seq};
-use krb_fields::{Flags, Moment, Typed};
+use krb_fields::{Flags, Typed};
 use krb_types::ReqBodyRef;
 use std::alloc::{AllocError, Global};
 use tgs_opening::Presented;
@@ -26,46 +26,50 @@ use ticket_times::tgs_flags;
 pub fn tgs_rep(
     alloc: Global,
     view: &TgsView<'_>,
-    at: Moment,
-    words: &[u8; 64],
+    incoming: &Incoming<'_>,
     body: &ReqBodyRef<'_>,
     presented: &Presented,
     admission: &Admission,
 ) -> Result<Vec<u8>, AllocError>
     requires known { IsKnown view.now body.now presented.now }
     requires named { IsNamed presented.now view.now.service admission.now.terms }
-    ensures written { IfOk result (λ octets. octets.items ≡ written (kdc_rep 13) (tgs_rep view.now at words.now body.now presented.now admission.now)) }
-    ensures spelled { IfOk result (λ octets. (kdc_rep 13).Spells (tgs_rep view.now at words.now body.now presented.now admission.now) octets.items) }
+    ensures written { IfOk result (λ octets.
+        octets.items ≡ written (kdc_rep 13)
+        (tgs_rep view.now incoming.now.at incoming.now.random body.now presented.now admission.now)) }
+    ensures spelled { IfOk result (λ octets.
+        (kdc_rep 13).Spells (tgs_rep view.now incoming.now.at incoming.now.random body.now presented.now
+        admission.now) octets.items) }
     // The client and the service find the same inside, the service by the key that is named there.
-    ensures same { IfOk result (λ octets. OpensFor view.now at words.now body.now presented.now admission.now) }
+    ensures same { IfOk result (λ octets.
+        OpensFor view.now incoming.now.at incoming.now.random body.now presented.now admission.now) }
 {
     let reply_key = reply_key_of(presented);
     let asked = Asked {
         nonce: body.nonce,
-        now: at.time(),
+        time: incoming.at.time(),
+        random: incoming.random,
     };
-    let grant = grant_of(view, words, body, presented, admission);
+    let grant = grant_of(view, incoming.random, body, presented, admission);
     ticket_reply::<13, 26>(
         alloc,
         &grant,
         &admission.terms.service.key,
         &reply_key,
         None,
-        asked,
-        words,
+        &asked,
     )
 }
 
 fn grant_of<'g>(
     view: &TgsView<'g>,
-    words: &[u8; 64],
+    random: &[u8; 64],
     body: &ReqBodyRef<'_>,
     presented: &'g Presented,
     admission: &'g Admission,
 ) -> Grant<'g>
     requires known { IsKnown view.now body.now presented.now }
     requires named { IsNamed presented.now view.now.service admission.now.terms }
-    ensures value { result ≡ grant_by view.now words.now body.now presented.now admission.now }
+    ensures value { result ≡ grant_by view.now random.now body.now presented.now admission.now }
     ensures short { IsShort result }
 {
     let Admission { terms, times } = admission;
@@ -74,7 +78,7 @@ fn grant_of<'g>(
         realm: KerberosStringRef::new(view.realm),
         client: Lent::new(&ticket.cname),
         service: Lent::new(&terms.service.name),
-        session_key: session_key(terms.service.session_type, words),
+        session_key: session_key(terms.service.session_type, random),
         flags: flags_of(body, presented, admission),
         authtime: ticket.authtime,
         times: *times,
@@ -93,7 +97,8 @@ fn lent_data(entries: &Option<Seq<Typed>>) -> Option<Lent<'_, Seq<Typed>>>
 }
 
 fn flags_of(body: &ReqBodyRef<'_>, presented: &Presented, admission: &Admission) -> Flags
-    ensures { result ≡ tgs_flags body.now (ticket_terms presented.now.ticket) admission.now.terms.service.policy admission.now.times }
+    ensures { result ≡ tgs_flags body.now
+        (ticket_terms presented.now.ticket) admission.now.terms.service.policy admission.now.times }
 {
     let ticket = ticket_terms(&presented.ticket);
     tgs_flags(

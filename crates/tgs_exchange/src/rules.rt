@@ -2,18 +2,21 @@
 //! (RFC 4120, section 3.2.3), of revoked tickets (section 3.3.3.1) and of what is asked for (section
 //! 3.3.3).
 ghost use Rattle.std.specs.Prelude.{◌≡◌, option_copied};
-ghost use Rattle.tgs_exchange.specs.Rules.{admitted_by, asks_bad_option, client_rules, has_ended, has_nothing_to_validate, is_before, is_for_other_service};
-ghost use Rattle.tgs_exchange.specs.Rules.{is_not_yet_valid, is_renewed_too_late, is_service_unknown, is_ticket_revoked, is_validated_too_early, lacks_flag, rules_by, starts_late};
+ghost use Rattle.tgs_exchange.specs.Rules.{admitted_by, asks_bad_option, client_rules, has_ended};
+ghost use Rattle.tgs_exchange.specs.Rules.{has_nothing_to_validate, is_before, is_for_other_service};
+ghost use Rattle.tgs_exchange.specs.Rules.{is_not_yet_valid, is_renewed_too_late, is_service_unknown};
+ghost use Rattle.tgs_exchange.specs.Rules.{is_ticket_revoked, is_validated_too_early, lacks_flag, rules_by};
+ghost use Rattle.tgs_exchange.specs.Rules.{starts_late};
 
-use crate::terms::{Admission, Terms, admission_of};
+use crate::terms::{Admission, Terms, admission_of, ticket_terms, times_of};
 use crate::view::TgsView;
 use kdc_replies::{is_disabled, is_expired};
 use krb_fields::{KdcOption, Moment, Name, SKEW, Second, TicketFlag};
 use krb_types::ReqBodyRef;
 use principal_rows::Row;
 use refusals::decide;
-use tgs_opening::{TgsRefusal, is_named};
-use ticket_times::{TicketTerms, asks, keeps_ticket, starts_too_late};
+use tgs_opening::{Presented, TgsRefusal, is_named};
+use ticket_times::{TicketTerms, Times, asks, keeps_ticket, starts_too_late};
 
 /// The rules of the client, in the order in which they are asked. `authtime` is the second when it was first
 /// authenticated.
@@ -31,34 +34,35 @@ pub fn client_rules(view: &TgsView<'_>, at: Moment, authtime: i64) -> [(bool, Tg
     ]
 }
 
-/// What is admitted, or why nothing is: the first rule that holds, and in the end that the ticket would not end after it
-/// starts.
+/// What is admitted, or the first rule by which nothing is.
 pub fn admitted(
     view: &TgsView<'_>,
     at: Moment,
     body: &ReqBodyRef<'_>,
-    service: &Name,
-    ticket: &TicketTerms,
+    presented: &Presented,
     terms: Option<Terms>,
 ) -> Result<Admission, TgsRefusal>
-    ensures { result ≡ admitted_by view.now at.sec body.now service.now ticket.now terms }
+    ensures { result ≡ admitted_by view.now at.sec body.now presented.now terms }
 {
-    let rules = rules_by(view, at, body, service, ticket, &terms);
-    let admission = admission_of(view.limits, at, ticket, body, terms);
+    let ticket = ticket_terms(&presented.ticket);
+    let times = times_of(view.limits, at, &ticket, body, &terms);
+    let rules = rules_by(view, at, body, presented, &terms, &times);
+    let admission = admission_of(terms, times);
     decide(&rules, admission, TgsRefusal::NeverValid)
 }
 
-/// All rules but the last, in the order in which they are asked.
+/// All rules, in the order in which they are asked.
 fn rules_by(
     view: &TgsView<'_>,
     at: Moment,
     body: &ReqBodyRef<'_>,
-    service: &Name,
-    ticket: &TicketTerms,
+    presented: &Presented,
     terms: &Option<Terms>,
-) -> [(bool, TgsRefusal); 13]
-    ensures { result ≡ rules_by view.now at.sec body.now service.now ticket.now terms.now }
+    times: &Option<Times>,
+) -> [(bool, TgsRefusal); 14]
+    ensures { result ≡ rules_by view.now at.sec body.now presented.now terms.now times.now }
 {
+    let ticket = &ticket_terms(&presented.ticket);
     [
         (is_not_yet_valid(ticket, at, body), TgsRefusal::NotYetValid),
         (has_ended(ticket, at), TgsRefusal::TicketExpired),
@@ -66,7 +70,7 @@ fn rules_by(
         (is_disabled(view.service), TgsRefusal::ServiceRevoked),
         (is_expired(view.service, at), TgsRefusal::ServiceExpired),
         (
-            is_for_other_service(body, service),
+            is_for_other_service(body, &presented.service),
             TgsRefusal::OtherService,
         ),
         (
@@ -88,6 +92,7 @@ fn rules_by(
         ),
         (terms.is_none(), TgsRefusal::NoCommonType),
         (starts_late(body, at), TgsRefusal::StartsTooLate),
+        (times.is_none(), TgsRefusal::NeverValid),
     ]
 }
 

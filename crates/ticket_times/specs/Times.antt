@@ -1,13 +1,12 @@
 -- The times of a ticket (RFC 4120 sections 3.1.3 and 3.3.3), in whole seconds since 1970. Each bound is the least
 -- element of a set.
-use Rattle.std.specs.Prelude.{ℕ, ℤ, pos, ◌+ℤ◌, ◌-ℤ◌, ◌<ℤ◌, IfSome, int_lt, int_le, Bool, true, not, ◌&&◌, if◌then◌else◌, List, [], ◌∷◌, Option, Some, None, Result, Ok, Err, option_map}
+use Rattle.std.specs.Prelude.{ℕ, ℤ, pos, ◌+ℤ◌, ◌-ℤ◌, ◌<ℤ◌, IfSome, int_lt, int_le, Bool, true, not, ◌&&◌, if◌then◌else◌}
+use Rattle.std.specs.Prelude.{List, [], ◌∷◌, Option, Some, None, option_map}
 use Rattle.std.specs.Bool.{then_some}
 use Rattle.std.specs.Int.{int_max}
 use Rattle.std.specs.Option.{unwrap_or}
 use Rattle.std.specs.Ordering.{int_eq}
 use Rattle.krb_der.specs.Civil.{IsCivilSecond}
-use Rattle.krb_fields.specs.declared.code.Code.{Code}
-use Rattle.krb_fields.specs.declared.code.Code.TheVariants.{KdcErrCannotPostdate, KdcErrNeverValid}
 use Rattle.krb_fields.specs.declared.kdc_option.KdcOption.TheVariants.{Postdated, Renewable, RenewableOk, Renew, Validate}
 use Rattle.krb_fields.specs.declared.ticket_flag.TicketFlag.TheVariants.{Renewable as RenewableFlag}
 use Rattle.krb_types.specs.ReqBody.{ReqBody}
@@ -80,9 +79,10 @@ renew_till_of start (Some wanted) ceiling client service limits = renewable_unti
 abbrev pub is_never_valid : ℤ → ℤ → Bool
 is_never_valid start end = int_le end start
 
-abbrev pub valid_times : ℤ → ℤ → Option ℤ → Result Times Code
+-- none where it would never be valid
+abbrev pub valid_times : ℤ → ℤ → Option ℤ → Option Times
 valid_times start end renew_till =
-    if is_never_valid start end then Err KdcErrNeverValid else Ok (record { start = start; end = end; renew_till = renew_till })
+    if is_never_valid start end then None else Some (record { start = start; end = end; renew_till = renew_till })
 
 -- times that a ticket can say, and a life of at least a second
 pub record IsTimes (times : Times) : Type 0 where
@@ -92,13 +92,11 @@ pub record IsTimes (times : Times) : Type 0 where
   pub lasting : times.start <ℤ times.end
 
 -- a new ticket below a ceiling
-abbrev pub fresh_times : ℤ → Ceiling → Policy → Policy → Limits → ReqBody → Result Times Code
+abbrev pub fresh_times : ℤ → Ceiling → Policy → Policy → Limits → ReqBody → Option Times
 fresh_times now ceiling client service limits body =
-    if starts_too_late now body then Err KdcErrCannotPostdate
-    else
-    (let start : ℤ = start_of now body in
+    let start : ℤ = start_of now body in
     let end : ℤ = end_of start ceiling client service limits body in
-    valid_times start end (renew_till_of start (wanted ceiling body end) ceiling client service limits))
+    valid_times start end (renew_till_of start (wanted ceiling body end) ceiling client service limits)
 
 -- ---- the AS exchange
 
@@ -106,7 +104,7 @@ fresh_times now ceiling client service limits body =
 abbrev pub no_ceiling : Ceiling
 no_ceiling = record { end = last_second; renew_till = last_second; renewable_ok = true }
 
-abbrev pub as_times : ℤ → Policy → Policy → Limits → ReqBody → Result Times Code
+abbrev pub as_times : ℤ → Policy → Policy → Limits → ReqBody → Option Times
 as_times now client service limits body = fresh_times now no_ceiling client service limits body
 
 -- ---- the TGS exchange
@@ -120,7 +118,7 @@ ceiling_of ticket =
 abbrev pub kept_renewal : TicketTerms → Option ℤ
 kept_renewal ticket = then_some (has_flag ticket RenewableFlag) (renewal_of_ticket ticket)
 
-abbrev pub validated_times : TicketTerms → Result Times Code
+abbrev pub validated_times : TicketTerms → Option Times
 validated_times ticket = valid_times (start_of_ticket ticket) ticket.endtime (kept_renewal ticket)
 
 -- when a ticket ends that starts now and lives as long as this one
@@ -130,10 +128,10 @@ lived_again now ticket = now +ℤ (ticket.endtime -ℤ start_of_ticket ticket)
 abbrev pub renewed_ends : ℤ → TicketTerms → List ℤ
 renewed_ends now ticket = lived_again now ticket ∷ renewal_of_ticket ticket ∷ []
 
-abbrev pub renewed_times : ℤ → TicketTerms → Result Times Code
+abbrev pub renewed_times : ℤ → TicketTerms → Option Times
 renewed_times now ticket = valid_times now (least (renewed_ends now ticket)) (kept_renewal ticket)
 
-abbrev pub tgs_times : ℤ → TicketTerms → Policy → Policy → Limits → ReqBody → Result Times Code
+abbrev pub tgs_times : ℤ → TicketTerms → Policy → Policy → Limits → ReqBody → Option Times
 tgs_times now ticket client service limits body =
     if asks body Validate then validated_times ticket
     else if asks body Renew then renewed_times now ticket

@@ -1,5 +1,5 @@
 //! The times of a ticket (RFC 4120 sections 3.1.3 and 3.3.3).
-ghost use Rattle.std.specs.Prelude.{◌≡◌, ◌≤ℤ◌, IfSome, IfOk};
+ghost use Rattle.std.specs.Prelude.{◌≡◌, ◌≤ℤ◌, IfSome};
 ghost use Rattle.std.specs.Option.{unwrap_or};
 ghost use Rattle.krb_der.specs.Civil.{IsCivilSecond};
 ghost use Rattle.krb_fields.specs.Moment.{IsSecond};
@@ -12,7 +12,7 @@ use crate::asked::asks;
 use crate::ceiling::Ceiling;
 use crate::earliest::earliest;
 use krb_der::KTime;
-use krb_fields::{Code, KdcOption, Moment, SKEW, TicketFlag};
+use krb_fields::{KdcOption, Moment, SKEW, TicketFlag};
 use krb_types::ReqBodyRef;
 use principal_rows::{Limits, Policy};
 
@@ -24,23 +24,22 @@ pub struct Times {
     pub renew_till: Option<KTime>,
 }
 
-/// The times of a ticket of the AS exchange, or why there is none: KDC_ERR_CANNOT_POSTDATE or
-/// KDC_ERR_NEVER_VALID.
+/// The times of a ticket of the AS exchange; `None` where it would end no later than it starts.
 pub fn as_times(
     at: Moment,
     client: &Policy,
     service: &Policy,
     limits: &Limits,
     body: &ReqBodyRef<'_>,
-) -> Result<Times, Code>
+) -> Option<Times>
     ensures value { result ≡ as_times at.sec client.now service.now limits.now body.now }
-    ensures range { IfOk result IsTimes }
+    ensures range { IfSome result IsTimes }
 {
     fresh_times(at.sec, &Ceiling::none(), client, service, limits, body)
 }
 
-/// The times of a ticket of the TGS exchange for which this one is presented, or why there is none:
-/// KDC_ERR_CANNOT_POSTDATE or KDC_ERR_NEVER_VALID.
+/// The times of a ticket of the TGS exchange for which this one is presented; `None` where it would end no later than
+/// it starts.
 pub fn tgs_times(
     at: Moment,
     ticket: &TicketTerms,
@@ -48,9 +47,9 @@ pub fn tgs_times(
     service: &Policy,
     limits: &Limits,
     body: &ReqBodyRef<'_>,
-) -> Result<Times, Code>
+) -> Option<Times>
     ensures value { result ≡ tgs_times at.sec ticket.now client.now service.now limits.now body.now }
-    ensures range { IfOk result IsTimes }
+    ensures range { IfSome result IsTimes }
 {
     if asks(body, KdcOption::Validate) {
         return validated_times(ticket);
@@ -69,14 +68,11 @@ fn fresh_times(
     service: &Policy,
     limits: &Limits,
     body: &ReqBodyRef<'_>,
-) -> Result<Times, Code>
+) -> Option<Times>
     requires { IsSecond now }
     ensures value { result ≡ fresh_times now ceiling.now client.now service.now limits.now body.now }
-    ensures range { IfOk result IsTimes }
+    ensures range { IfSome result IsTimes }
 {
-    if starts_too_late(now, body) {
-        return Err(Code::KdcErrCannotPostdate);
-    }
     let start = start_of(now, body);
     let end = end_of(start, ceiling, client, service, limits, body);
     let renew_till = match wanted(ceiling, body, end) {
@@ -87,9 +83,9 @@ fn fresh_times(
 }
 
 /// A validated ticket keeps its times.
-fn validated_times(ticket: &TicketTerms) -> Result<Times, Code>
+fn validated_times(ticket: &TicketTerms) -> Option<Times>
     ensures value { result ≡ validated_times ticket.now }
-    ensures range { IfOk result IsTimes }
+    ensures range { IfSome result IsTimes }
 {
     valid_times(
         ticket.start(),
@@ -99,10 +95,10 @@ fn validated_times(ticket: &TicketTerms) -> Result<Times, Code>
 }
 
 /// A renewed ticket lives as long as it did, and no longer than until its renew-till.
-fn renewed_times(now: i64, ticket: &TicketTerms) -> Result<Times, Code>
+fn renewed_times(now: i64, ticket: &TicketTerms) -> Option<Times>
     requires { IsSecond now }
     ensures value { result ≡ renewed_times now ticket.now }
-    ensures range { IfOk result IsTimes }
+    ensures range { IfSome result IsTimes }
 {
     valid_times(now, renewed_end(now, ticket), kept_renewal(ticket))
 }
@@ -136,17 +132,17 @@ fn kept_renewal(ticket: &TicketTerms) -> Option<KTime>
 }
 
 /// These times, where the end is after the start.
-fn valid_times(start: i64, end: i64, renew_till: Option<KTime>) -> Result<Times, Code>
+fn valid_times(start: i64, end: i64, renew_till: Option<KTime>) -> Option<Times>
     requires start { IsCivilSecond start }
     requires end { end ≤ℤ last_second }
     requires renew_till { IfSome renew_till IsCivilSecond }
     ensures value { result ≡ valid_times start end renew_till }
-    ensures range { IfOk result IsTimes }
+    ensures range { IfSome result IsTimes }
 {
     if end <= start {
-        return Err(Code::KdcErrNeverValid);
+        return None;
     }
-    Ok(Times {
+    Some(Times {
         start: KTime::of(start),
         end: KTime::of(end),
         renew_till,

@@ -1,8 +1,30 @@
-use Rattle.std.proofs.Common.{◌≤◌, length, arith}
-use Rattle.tgs_opening.specs.RequestLaws.{value_short}
+use Rattle.std.proofs.Common.{rules, ◌≡◌, option_map}
+use Rattle.kdc_core.specs.Contents.{contents}
+use Rattle.kdc_core.specs.ContentsLaws.{keys_so, leaves_so, replies_so, spells_so}
+use Rattle.kdc_core.specs.Request.{request_of}
+use Rattle.kdc_core.specs.View.{view}
 use Rattle.kdc_core.proofs.answering.reply.Goals as goal
 
-pub reply_in-requires-clause-value : goal.reply_in-requires-clause-value
-reply_in-requires-clause-value c =
-    let few : length c.args.request.now ≤ 2147483647 = omega (arith, c.if-request-gt-GREATEST_REQUEST.false) in
-    value_short c.in-Ok.exchange c.in-Ok.message c.args.request.now (λ i. omega (arith, c.type_inv.request i)) few c.in-Ok.ensures.found
+pub returns-clause-reply : goal.returns-clause-reply
+returns-clause-reply c =
+    let octets = c.args.incoming.now.octets in
+    let is : c.in_ok-held.held ≡ contents (view c.args.state.now octets) (request_of octets) = search rules in
+    replies_so c.args.state.now c.args.incoming.now c.reply_to.result c.in_ok-held.held is (λ reply. option_map (λ r. r.octets.items) reply) c.reply_to.ensures.reply
+
+pub returns-clause-after : goal.returns-clause-after
+returns-clause-after c =
+    let octets = c.args.incoming.now.octets in
+    let is : c.in_ok-held.held ≡ contents (view c.args.state.now octets) (request_of octets) = search rules in
+    leaves_so c.args.state.now c.args.incoming.now c.reply_to.result c.in_ok-held.held is (λ reply. option_map (λ r. r.mark) reply) c.reply_to.ensures.after
+
+pub returns-clause-spelled : goal.returns-clause-spelled
+returns-clause-spelled c =
+    let octets = c.args.incoming.now.octets in
+    let is : c.in_ok-held.held ≡ contents (view c.args.state.now octets) (request_of octets) = search rules in
+    spells_so c.args.state.now c.args.incoming.now c.reply_to.result c.in_ok-held.held is (λ reply. option_map (λ r. r.octets.items) reply) c.reply_to.ensures.spelled
+
+pub returns-clause-keys : goal.returns-clause-keys
+returns-clause-keys c =
+    let octets = c.args.incoming.now.octets in
+    let is : c.in_ok-held.held ≡ contents (view c.args.state.now octets) (request_of octets) = search rules in
+    keys_so c.args.state.now c.args.incoming.now c.reply_to.result c.in_ok-held.held is c.reply_to.ensures.keys

@@ -9,43 +9,43 @@ use Rattle.tgs_exchange.proofs.answering.tgs_answer.Goals as goal
 
 pub answer_by-requires-clause-named : goal.answer_by-requires-clause-named
 answer_by-requires-clause-named c =
-    let is : decision_copied c.in_ok-decision.decision ≡ decision c.args.view.now c.args.at.sec c.args.body.now c.args.presented.now = search rules in
-    issued_named c.args.view.now c.args.at.sec c.args.body.now c.args.presented.now c.requires c.in_ok-decision.decision is
+    let is : decision_copied c.in_ok-decision.decision ≡ decision c.args.view.now c.args.incoming.now.at.sec c.args.body.now c.args.presented.now = search rules in
+    issued_named c.args.view.now c.args.incoming.now.at.sec c.args.body.now c.args.presented.now c.requires c.in_ok-decision.decision is
 
 pub returns-clause-reply : goal.returns-clause-reply
 returns-clause-reply c =
-    let is : decision_copied c.in_ok-decision.decision ≡ decision c.args.view.now c.args.at.sec c.args.body.now c.args.presented.now = search rules in
-    subst (λ (d : Decision Kept). IfOk c.answer_by.result (λ answer. answer.reply.items ≡ (answer_by c.args.view.now c.args.at c.args.words.now c.args.room c.args.request.now c.args.body.now c.args.presented.now d).reply))
+    let is : decision_copied c.in_ok-decision.decision ≡ decision c.args.view.now c.args.incoming.now.at.sec c.args.body.now c.args.presented.now = search rules in
+    subst (λ (d : Decision Kept). IfOk c.answer_by.result (λ answer. answer.reply.items ≡ (answer_by c.args.view.now c.args.incoming.now c.args.body.now c.args.presented.now d).reply))
     is c.answer_by.ensures.reply
 
 pub returns-clause-kept : goal.returns-clause-kept
 returns-clause-kept c =
-    let is : decision_copied c.in_ok-decision.decision ≡ decision c.args.view.now c.args.at.sec c.args.body.now c.args.presented.now = search rules in
-    subst (λ (d : Decision Kept). IfOk c.answer_by.result (λ answer. answer.kept ≡ (answer_by c.args.view.now c.args.at c.args.words.now c.args.room c.args.request.now c.args.body.now c.args.presented.now d).kept))
+    let is : decision_copied c.in_ok-decision.decision ≡ decision c.args.view.now c.args.incoming.now.at.sec c.args.body.now c.args.presented.now = search rules in
+    subst (λ (d : Decision Kept). IfOk c.answer_by.result (λ answer. answer.kept ≡ (answer_by c.args.view.now c.args.incoming.now c.args.body.now c.args.presented.now d).kept))
     is c.answer_by.ensures.kept
 
 pub returns-clause-timely : goal.returns-clause-timely
 returns-clause-timely c =
-    let is : decision_copied c.in_ok-decision.decision ≡ decision c.args.view.now c.args.at.sec c.args.body.now c.args.presented.now = search rules in
-    kept_new c.args.view.now c.args.at c.args.words.now c.args.room c.args.request.now c.args.body.now c.args.presented.now (λ answer. answer.kept) _ (λ new. new.0) c.answer_by.result
-    (subst (λ (d : Decision Kept). IfOk c.answer_by.result (λ answer. answer.kept ≡ (answer_by c.args.view.now c.args.at c.args.words.now c.args.room c.args.request.now c.args.body.now c.args.presented.now d).kept))
+    let is : decision_copied c.in_ok-decision.decision ≡ decision c.args.view.now c.args.incoming.now.at.sec c.args.body.now c.args.presented.now = search rules in
+    kept_new c.args.view.now c.args.incoming.now c.args.body.now c.args.presented.now (λ answer. answer.kept) _ (λ new. new.0) c.answer_by.result
+    (subst (λ (d : Decision Kept). IfOk c.answer_by.result (λ answer. answer.kept ≡ (answer_by c.args.view.now c.args.incoming.now c.args.body.now c.args.presented.now d).kept))
     is c.answer_by.ensures.kept)
 
 pub returns-clause-new : goal.returns-clause-new
 returns-clause-new c =
-    let is : decision_copied c.in_ok-decision.decision ≡ decision c.args.view.now c.args.at.sec c.args.body.now c.args.presented.now = search rules in
-    kept_new c.args.view.now c.args.at c.args.words.now c.args.room c.args.request.now c.args.body.now c.args.presented.now (λ answer. answer.kept) _ (λ new. new.1) c.answer_by.result
-    (subst (λ (d : Decision Kept). IfOk c.answer_by.result (λ answer. answer.kept ≡ (answer_by c.args.view.now c.args.at c.args.words.now c.args.room c.args.request.now c.args.body.now c.args.presented.now d).kept))
+    let is : decision_copied c.in_ok-decision.decision ≡ decision c.args.view.now c.args.incoming.now.at.sec c.args.body.now c.args.presented.now = search rules in
+    kept_new c.args.view.now c.args.incoming.now c.args.body.now c.args.presented.now (λ answer. answer.kept) _ (λ new. new.1) c.answer_by.result
+    (subst (λ (d : Decision Kept). IfOk c.answer_by.result (λ answer. answer.kept ≡ (answer_by c.args.view.now c.args.incoming.now c.args.body.now c.args.presented.now d).kept))
     is c.answer_by.ensures.kept)
 
 pub returns-clause-spelled : goal.returns-clause-spelled
 returns-clause-spelled c =
-    let is : decision_copied c.in_ok-decision.decision ≡ decision c.args.view.now c.args.at.sec c.args.body.now c.args.presented.now = search rules in
-    subst (λ (d : Decision Kept). IfOk c.answer_by.result (λ answer. SpelledBy c.args.view.now c.args.at c.args.words.now c.args.body.now c.args.presented.now d answer.reply.items))
+    let is : decision_copied c.in_ok-decision.decision ≡ decision c.args.view.now c.args.incoming.now.at.sec c.args.body.now c.args.presented.now = search rules in
+    subst (λ (d : Decision Kept). IfOk c.answer_by.result (λ answer. SpelledBy c.args.view.now c.args.incoming.now.at c.args.incoming.now.random c.args.body.now c.args.presented.now d answer.reply.items))
     is c.answer_by.ensures.spelled
 
 pub returns-clause-same : goal.returns-clause-same
 returns-clause-same c =
-    let is : decision_copied c.in_ok-decision.decision ≡ decision c.args.view.now c.args.at.sec c.args.body.now c.args.presented.now = search rules in
-    subst (λ (d : Decision Kept). IfOk c.answer_by.result (λ answer. OpensBy c.args.view.now c.args.at c.args.words.now c.args.body.now c.args.presented.now d))
+    let is : decision_copied c.in_ok-decision.decision ≡ decision c.args.view.now c.args.incoming.now.at.sec c.args.body.now c.args.presented.now = search rules in
+    subst (λ (d : Decision Kept). IfOk c.answer_by.result (λ answer. OpensBy c.args.view.now c.args.incoming.now.at c.args.incoming.now.random c.args.body.now c.args.presented.now d))
     is c.answer_by.ensures.same

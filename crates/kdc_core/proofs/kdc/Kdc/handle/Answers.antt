@@ -17,18 +17,18 @@ pub returns-clause-issued : goal.returns-clause-issued
 returns-clause-issued c =
     let state = c.self.inside.state in
     let bytes = c.args.request.now in
-    let long : 32 ≤ length c.args.words.now = search rules in
+    let long : 32 ≤ length c.args.random.now = search rules in
     let is : state ≡ c.args.self.now = search rules in
-    subst (λ (s : State). IfOk c.handle.result (λ reply. IfSome (issued (view s bytes) c.args.at c.args.words.now (request_of bytes)) (λ issue. IsReplyOf issue (option_map (λ octets. octets.items) reply)))) is
-    (replies_issued (view state bytes) c.args.at c.args.words.now long (λ reply. option_map (λ octets. octets.items) reply) (request_of bytes) c.handle.result c.handle.ensures.spelled c.handle.ensures.keys)
+    subst (λ (s : State). IfOk c.handle.result (λ reply. IfSome (issued (view s bytes) c.args.at c.args.random.now (request_of bytes)) (λ issue. IsReplyOf issue (option_map (λ octets. octets.items) reply)))) is
+    (replies_issued (view state bytes) c.args.at c.args.random.now long (λ reply. option_map (λ octets. octets.items) reply) (request_of bytes) c.handle.result c.handle.ensures.spelled c.handle.ensures.keys)
 
 pub returns-clause-database : goal.returns-clause-database
 returns-clause-database c =
     let state = c.self.inside.state in
     let bytes = c.args.request.now in
     let is : state ≡ c.args.self.now = search rules in
-    of_either c.handle.result state c.handle.new.state (next state c.args.at c.args.words.now c.args.room bytes) (λ s. s.database) c.handle.ensures.state c.handle.ensures.err
-    (database_kept state (named state bytes).client (answer (view state bytes) c.args.at c.args.words.now c.args.room bytes).kept)
+    of_either c.handle.result state c.handle.new.state (next state c.args.at c.args.random.now c.args.room bytes) (λ s. s.database) c.handle.ensures.state c.handle.ensures.err
+    (database_kept state (named state bytes).client (answer (view state bytes) c.args.at c.args.random.now c.args.room bytes).kept)
     ∙ ap (λ s. s.database) is
 
 pub returns-clause-limits : goal.returns-clause-limits
@@ -36,8 +36,8 @@ returns-clause-limits c =
     let state = c.self.inside.state in
     let bytes = c.args.request.now in
     let is : state ≡ c.args.self.now = search rules in
-    of_either c.handle.result state c.handle.new.state (next state c.args.at c.args.words.now c.args.room bytes) (λ s. s.limits) c.handle.ensures.state c.handle.ensures.err
-    (limits_kept state (named state bytes).client (answer (view state bytes) c.args.at c.args.words.now c.args.room bytes).kept)
+    of_either c.handle.result state c.handle.new.state (next state c.args.at c.args.random.now c.args.room bytes) (λ s. s.limits) c.handle.ensures.state c.handle.ensures.err
+    (limits_kept state (named state bytes).client (answer (view state bytes) c.args.at c.args.random.now c.args.room bytes).kept)
     ∙ ap (λ s. s.limits) is
 
 pub returns-clause-memories : goal.returns-clause-memories
@@ -45,16 +45,17 @@ returns-clause-memories c name other =
     let state = c.self.inside.state in
     let bytes = c.args.request.now in
     let is : state ≡ c.args.self.now = search rules in
-    of_either c.handle.result state c.handle.new.state (next state c.args.at c.args.words.now c.args.room bytes) (λ s. memory_of s name) c.handle.ensures.state c.handle.ensures.err
-    (other_kept state (named state bytes).client (answer (view state bytes) c.args.at c.args.words.now c.args.room bytes).kept name
+    of_either c.handle.result state c.handle.new.state (next state c.args.at c.args.random.now c.args.room bytes) (λ s. memory_of s name) c.handle.ensures.state c.handle.ensures.err
+    (other_kept state (named state bytes).client (answer (view state bytes) c.args.at c.args.random.now c.args.room bytes).kept name
     (subst (λ (s : State). (named s bytes).client ≢ Some name) (sym is) other))
     ∙ ap (λ s. memory_of s name) is
 
 pub returns-clause-agreement : goal.returns-clause-agreement
-returns-clause-agreement c other agrees = ap (λ v. answer v c.args.at c.args.words.now c.args.room c.args.request.now) (view_agrees c.args.self.now other c.args.request.now agrees)
+returns-clause-agreement c other agrees = ap (λ v. answer v c.args.at c.args.random.now c.args.room c.args.request.now) (view_agrees c.args.self.now other c.args.request.now agrees)
 
 pub returns-clause-same_names : goal.returns-clause-same_names
 returns-clause-same_names c other agrees = names_agree c.args.self.now other c.args.request.now agrees
 
 pub returns-clause-afterwards : goal.returns-clause-afterwards
-returns-clause-afterwards c other agrees = next_agrees c.args.self.now other c.args.at c.args.words.now c.args.room c.args.request.now agrees
+returns-clause-afterwards c other agrees =
+    next_agrees c.args.self.now other (record { at = c.args.at; random = c.args.random.now; room = c.args.room; octets = c.args.request.now }) agrees

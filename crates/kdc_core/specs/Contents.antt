@@ -1,0 +1,49 @@
+-- What the octets of a request hold, as far as its ticket and its authenticator were opened. The answer, what that
+-- spells, the keys that open it, and the ticket that is issued are each read from it by a line for each case.
+use Rattle.std.specs.Prelude.{◌<◌, ⊤, IfSome, length, Option, Some, None, Result, Ok, Err}
+use Rattle.krb_elements.specs.Codec.{list_of}
+use Rattle.krb_fields.specs.PrincipalName.{name}
+use Rattle.krb_fields.specs.Typed.{typed}
+use Rattle.krb_types.specs.KdcReq.{Received}
+use Rattle.krb_types.specs.declared.kdc_req.Exchange.{Exchange}
+use Rattle.krb_types.specs.declared.kdc_req.Exchange.TheVariants.{As, Tgs}
+use Rattle.tgs_opening.specs.Opening.{presented}
+use Rattle.tgs_opening.specs.declared.presented.Presented.{Presented}
+use Rattle.tgs_opening.specs.declared.refusal.TgsRefusal.{TgsRefusal}
+use Rattle.kdc_core.specs.Request.{Request}
+use Rattle.kdc_core.specs.View.{View, opening_view}
+use Rattle.kdc_core.specs.declared.contents.Contents.{Contents}
+use Rattle.kdc_core.specs.declared.contents.Contents.TheVariants.{NoRequest, AsReq, RefusedTgsReq, TgsReq}
+
+abbrev pub tgs_contents : Received → Result Presented TgsRefusal → Contents
+tgs_contents message (Ok p) = TgsReq message p
+tgs_contents message (Err refusal) = RefusedTgsReq message refusal
+
+abbrev pub contents_in : View → Exchange → Received → Contents
+contents_in v As message = AsReq message
+contents_in v Tgs message = tgs_contents message (presented (opening_view v) message)
+
+abbrev pub contents : View → Option Request → Contents
+contents v (Some request) = contents_in v request.exchange request.message
+contents v None = NoRequest
+
+-- what a TGS-REQ presents, where ticket and authenticator were opened
+abbrev pub presented_in : Contents → Option Presented
+presented_in NoRequest = None
+presented_in (AsReq message) = None
+presented_in (RefusedTgsReq message refusal) = None
+presented_in (TgsReq message p) = Some p
+
+-- ---- the texts in them are short, as those of a request are
+
+abbrev pub IsShortName : Received → Type 0
+IsShortName message = IfSome message.body.value.sname (λ n. length (name.text n) < 2147483648)
+
+abbrev pub IsShortData : Presented → Type 0
+IsShortData p = IfSome p.ticket.authorization_data (λ list. length ((list_of typed).text list) < 2147483648)
+
+abbrev pub AreShort : Contents → Type 0
+AreShort NoRequest = ⊤
+AreShort (AsReq message) = IsShortName message
+AreShort (RefusedTgsReq message refusal) = IsShortName message
+AreShort (TgsReq message p) = IsShortName message × IsShortData p

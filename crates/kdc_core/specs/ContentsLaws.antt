@@ -1,0 +1,215 @@
+-- What the octets of a request hold names its client and its service, and so it is answered from the view of these.
+use Rattle.std.proofs.Common.{◌≡◌, ℕ, List, Option, Some, None, Result, Ok, Err, refl, sym, ap, subst}
+use Rattle.std.specs.Prelude.{⊤, IfOk}
+use Rattle.enctypes.specs.declared.key.Key.{Key}
+use Rattle.krb_fields.specs.Name.{Components}
+use Rattle.krb_parts.specs.Authenticator.{Authenticator}
+use Rattle.krb_fields.specs.declared.moment.Moment.{Moment}
+use Rattle.krb_types.specs.declared.kdc_req.Exchange.{Exchange}
+use Rattle.krb_types.specs.declared.kdc_req.Exchange.TheVariants.{As, Tgs}
+use Rattle.krb_types.specs.KdcReq.{Received}
+use Rattle.replay.specs.declared.keep.Kept.{Kept}
+use Rattle.kdc_replies.specs.Incoming.{Incoming}
+use Rattle.tgs_opening.specs.Authenticators.{session_key_of, authenticator_of, subkey_of}
+use Rattle.tgs_opening.specs.Opening.{Opened, opened, presented}
+use Rattle.tgs_opening.specs.Opening.{if_subkey, if_authenticator, if_session_key, if_ticket}
+use Rattle.tgs_opening.specs.View.{View as TicketView}
+use Rattle.tgs_opening.specs.declared.presented.Presented.{Presented}
+use Rattle.tgs_opening.specs.declared.refusal.TgsRefusal.{TgsRefusal}
+use Rattle.kdc_state.specs.State.{memory_of}
+use Rattle.kdc_state.specs.declared.state.State.{State}
+use Rattle.kdc_core.specs.After.{after, after_reply, stamped_of}
+use Rattle.kdc_core.specs.Answer.{answer_of, answer_to, keep, next_to, stamped, IsReply, IsReplyTo, OneTicketTwoKeys}
+use Rattle.kdc_core.specs.Answer.{OpensOf}
+use Rattle.kdc_core.specs.Contents.{contents, contents_in, tgs_contents}
+use Rattle.kdc_core.specs.Request.{Request, request_of}
+use Rattle.kdc_core.specs.View.{Named, client_of, components_of, named, named_by, named_in, names_presented}
+use Rattle.kdc_core.specs.View.{ticket_view, view, view_of}
+use Rattle.kdc_core.specs.declared.contents.Contents.{Contents}
+use Rattle.kdc_core.specs.declared.contents.Contents.TheVariants.{NoRequest, AsReq, RefusedTgsReq, TgsReq}
+use Rattle.kdc_core.specs.declared.mark.Mark.{Mark}
+
+-- ---- what is presented has the client of the ticket that was opened
+
+by_subkey : (o : Opened) (key : Key) (auth : Authenticator) (r : Result (Option Key) TgsRefusal) (p : Presented)
+    → if_subkey o key auth r ≡ Ok p → o.part.cname.components ≡ p.ticket.cname.components
+by_subkey o key auth (Ok subkey) p e = ap (λ (r : Result Presented TgsRefusal). again r) e
+  where
+    again : Result Presented TgsRefusal → List (List ℕ)
+    again (Ok q) = q.ticket.cname.components
+    again (Err refusal) = o.part.cname.components
+by_subkey o key auth (Err refusal) p e = absurd cc
+
+by_authenticator : (o : Opened) (body : List ℕ) (key : Key) (r : Result Authenticator TgsRefusal) (p : Presented)
+    → if_authenticator o body key r ≡ Ok p → o.part.cname.components ≡ p.ticket.cname.components
+by_authenticator o body key (Ok auth) p e = by_subkey o key auth (subkey_of o.part key body auth) p e
+by_authenticator o body key (Err refusal) p e = absurd cc
+
+by_session_key : (o : Opened) (body : List ℕ) (r : Result Key TgsRefusal) (p : Presented)
+    → if_session_key o body r ≡ Ok p → o.part.cname.components ≡ p.ticket.cname.components
+by_session_key o body (Ok key) p e = by_authenticator o body key (authenticator_of key o.request.authenticator) p e
+by_session_key o body (Err refusal) p e = absurd cc
+
+by_ticket : (v : TicketView) (message : Received) (r : Result Opened TgsRefusal) (p : Presented)
+    → if_ticket v message r ≡ Ok p → client_of r ≡ Some p.ticket.cname.components
+by_ticket v message (Ok o) p e = ap (λ c. Some c) (by_session_key o message.body.octets (session_key_of v o.part) p e)
+by_ticket v message (Err refusal) p e = absurd cc
+
+-- ---- so what the octets hold tells what the request names
+
+-- the names by which it is answered; where a TGS-REQ is refused, whatever is named gets the same answer
+abbrev pub names_in : Contents → Named
+names_in NoRequest = record { client = None; service = None }
+names_in (AsReq message) = record {
+  client = components_of message.body.value.cname;
+  service = components_of message.body.value.sname;
+}
+names_in (RefusedTgsReq message refusal) = record { client = None; service = None }
+names_in (TgsReq message p) = names_presented message p
+
+abbrev pub Tells : Named → Contents → Type 0
+Tells names NoRequest = ⊤
+Tells names (AsReq message) = names ≡ names_in (AsReq message)
+Tells names (RefusedTgsReq message refusal) = ⊤
+Tells names (TgsReq message p) = names ≡ names_in (TgsReq message p)
+
+module _ (state : State) where
+  tgs_tells : (message : Received) (r : Result Presented TgsRefusal) → presented (ticket_view state message) message ≡ r
+      → Tells (named_in state (record { exchange = Tgs; message = message })) (tgs_contents message r)
+  tgs_tells message (Ok p) is = λ i. record {
+    client =
+        by_ticket (ticket_view state message) message (opened (ticket_view state message) message) p is i;
+    service = components_of message.body.value.sname;
+  }
+  tgs_tells message (Err refusal) is = tt
+
+  tells_in : (exchange : Exchange) (message : Received)
+      → Tells (named_in state (record { exchange = exchange; message = message }))
+      (contents_in (view_of state (named_in state (record { exchange = exchange; message = message })))
+      exchange message)
+  tells_in As message = refl
+  tells_in Tgs message = tgs_tells message (presented (ticket_view state message) message) refl
+
+  pub tells : (request : Option Request)
+      → Tells (named_by state request) (contents (view_of state (named_by state request)) request)
+  tells (Some request) = tells_in request.exchange request.message
+  tells None = tt
+
+-- ---- so the answer by the names that it tells is the answer
+
+pub nothing_kept : (state : State) (c : Option Components) → keep state c None ≡ state
+nothing_kept state (Some c) = refl
+nothing_kept state None = refl
+
+module _ {A E : Type 0} (state : State) (incoming : Incoming) (r : Result A E) where
+  abbrev Answers : (A → Option (List ℕ)) → Named → Contents → Type 0
+  Answers octets names held = IfOk r (λ a. octets a ≡ (answer_of (view_of state names) incoming held).reply)
+
+  pub reply_so : (octets : A → Option (List ℕ)) (names : Named) (held : Contents) → Tells names held
+      → Answers octets (names_in held) held → Answers octets names held
+  reply_so octets names NoRequest told h = h
+  reply_so octets names (AsReq message) told h = subst (λ (n : Named). Answers octets n (AsReq message)) (sym told) h
+  reply_so octets names (RefusedTgsReq message refusal) told h = h
+  reply_so octets names (TgsReq message p) told h =
+      subst (λ (n : Named). Answers octets n (TgsReq message p)) (sym told) h
+
+  abbrev Leaves : (A → Option (Option Mark)) → Named → Contents → Type 0
+  Leaves mark names held =
+      IfOk r (λ a. after_reply state (mark a) ≡ keep state names.client
+      (answer_of (view_of state names) incoming held).kept)
+
+  nothing_left : (mark : A → Option (Option Mark)) (names : Named) → IfOk r (λ a. after_reply state (mark a) ≡ state)
+      → IfOk r (λ a. after_reply state (mark a) ≡ keep state names.client None)
+  nothing_left mark names h =
+      subst (λ (s : State). IfOk r (λ a. after_reply state (mark a) ≡ s)) (sym (nothing_kept state names.client)) h
+
+  pub after_so : (mark : A → Option (Option Mark)) (names : Named) (held : Contents) → Tells names held
+      → Leaves mark (names_in held) held → Leaves mark names held
+  after_so mark names NoRequest told h = nothing_left mark names h
+  after_so mark names (AsReq message) told h = subst (λ (n : Named). Leaves mark n (AsReq message)) (sym told) h
+  after_so mark names (RefusedTgsReq message refusal) told h = nothing_left mark names h
+  after_so mark names (TgsReq message p) told h = subst (λ (n : Named). Leaves mark n (TgsReq message p)) (sym told) h
+
+  abbrev Spells : (A → Option (List ℕ)) → Named → Contents → Type 0
+  Spells octets names held = IfOk r (λ a. IsReplyTo (view_of state names) incoming.at incoming.random (octets a) held)
+
+  -- the octets of the answer to a TGS-REQ that is refused depend on the realm alone
+  refused_so : (o : Option (List ℕ)) (names other : Named) (message : Received) (refusal : TgsRefusal)
+      → IsReplyTo (view_of state names) incoming.at incoming.random o (RefusedTgsReq message refusal)
+      → IsReplyTo (view_of state other) incoming.at incoming.random o (RefusedTgsReq message refusal)
+  refused_so (Some octets) names other message refusal h = h
+  refused_so None names other message refusal h = h
+
+  unnamed_so : (o : Option (List ℕ)) (names other : Named)
+      → IsReplyTo (view_of state names) incoming.at incoming.random o NoRequest
+      → IsReplyTo (view_of state other) incoming.at incoming.random o NoRequest
+  unnamed_so (Some octets) names other h = h
+  unnamed_so None names other h = h
+
+pub if_ok : {A E : Type 0} (r : Result A E) (P Q : A → Type 0) → ((a : A) → P a → Q a) → IfOk r P → IfOk r Q
+if_ok (Ok a) P Q f h = f a h
+if_ok (Err e) P Q f h = tt
+
+module _ {A E : Type 0} (state : State) (incoming : Incoming) (r : Result A E) where
+  pub spelled_so : (octets : A → Option (List ℕ)) (names : Named) (held : Contents) → Tells names held
+      → Spells state incoming r octets (names_in held) held → Spells state incoming r octets names held
+  spelled_so octets names NoRequest told h =
+      if_ok r _ _ (λ a. unnamed_so state incoming r (octets a) (names_in NoRequest) names) h
+  spelled_so octets names (AsReq message) told h =
+      subst (λ (n : Named). Spells state incoming r octets n (AsReq message)) (sym told) h
+  spelled_so octets names (RefusedTgsReq message refusal) told h =
+      if_ok r _ _ (λ a. refused_so state incoming r (octets a)
+      (names_in (RefusedTgsReq message refusal)) names message refusal) h
+  spelled_so octets names (TgsReq message p) told h =
+      subst (λ (n : Named). Spells state incoming r octets n (TgsReq message p)) (sym told) h
+
+  abbrev Opens : Named → Contents → Type 0
+  Opens names held = IfOk r (λ a. OpensOf (view_of state names) incoming.at incoming.random held)
+
+  pub opens_so : (names : Named) (held : Contents) → Tells names held → Opens (names_in held) held → Opens names held
+  opens_so names NoRequest told h = h
+  opens_so names (AsReq message) told h = subst (λ (n : Named). Opens n (AsReq message)) (sym told) h
+  opens_so names (RefusedTgsReq message refusal) told h = h
+  opens_so names (TgsReq message p) told h = subst (λ (n : Named). Opens n (TgsReq message p)) (sym told) h
+
+-- ---- of what was read from the octets
+
+module _ {A E : Type 0} (state : State) (incoming : Incoming) (r : Result A E) (held : Contents)
+    (is : held ≡ contents (view state incoming.octets) (request_of incoming.octets)) where
+  abbrev names : Named
+  names = named state incoming.octets
+
+  told : Tells names held
+  told = subst (λ (h : Contents). Tells names h) (sym is) (tells state (request_of incoming.octets))
+
+  pub replies_so : (octets : A → Option (List ℕ)) → Answers state incoming r octets (names_in held) held
+      → IfOk r (λ a. octets a ≡ (answer_to (view state incoming.octets) incoming).reply)
+  replies_so octets h =
+      subst (λ (h : Contents). Answers state incoming r octets names h) is
+      (reply_so state incoming r octets names held told h)
+
+  pub leaves_so : (mark : A → Option (Option Mark)) → Leaves state incoming r mark (names_in held) held
+      → IfOk r (λ a. after_reply state (mark a) ≡ next_to state incoming)
+  leaves_so mark h =
+      subst (λ (h : Contents). Leaves state incoming r mark names h) is
+      (after_so state incoming r mark names held told h)
+
+  pub spells_so : (octets : A → Option (List ℕ)) → Spells state incoming r octets (names_in held) held
+      → IfOk r (λ a. IsReply (view state incoming.octets) incoming.at incoming.random (request_of incoming.octets)
+      (octets a))
+  spells_so octets h =
+      subst (λ (h : Contents). Spells state incoming r octets names h) is
+      (spelled_so state incoming r octets names held told h)
+
+  pub keys_so : Opens state incoming r (names_in held) held
+      → IfOk r (λ a. OneTicketTwoKeys (view state incoming.octets) incoming.at incoming.random
+      (request_of incoming.octets))
+  keys_so h = subst (λ (h : Contents). Opens state incoming r names h) is (opens_so state incoming r names held told h)
+
+-- ---- what is kept of an authenticator
+
+pub stamped_after : (state : State) (at : Moment) (p : Presented) (kept : Option Kept)
+    → after state (stamped_of at p kept) ≡ keep state (Some p.ticket.cname.components)
+    (stamped (memory_of state p.ticket.cname.components) at.sec p kept)
+stamped_after state at p (Some kept) = refl
+stamped_after state at p None = refl

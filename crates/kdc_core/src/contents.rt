@@ -1,0 +1,113 @@
+//! What the octets of a request hold.
+ghost use Rattle.std.specs.Prelude.{◌≡◌, ◌<◌, length, IfOk, IfSome, option_copied};
+ghost use Rattle.krb_elements.specs.Codec.{list_of};
+ghost use Rattle.krb_fields.specs.PrincipalName.{name};
+ghost use Rattle.krb_fields.specs.Typed.{typed};
+ghost use Rattle.tgs_opening.specs.Opening.{presented};
+ghost use Rattle.tgs_opening.specs.Tickets.{tgs_data};
+ghost use Rattle.kdc_core.specs.Contents.{contents, contents_in, tgs_contents, AreShort};
+ghost use Rattle.kdc_core.specs.Request.{request_of};
+ghost use Rattle.kdc_core.specs.View.{components_of, row_of, ticket_view, view, view_in};
+
+use kdc_state::State;
+use krb_fields::NameRef;
+use krb_types::{Exchange, KdcReqRef, read_kdc_req};
+use principal_rows::Row;
+use std::alloc::{AllocError, Global};
+use tgs_opening::{Presented, TgsRefusal, TicketView, tgs_open};
+
+/// The most octets that are read as a request: the lengths of frames over TCP stop there (RFC 4120, section 7.2.2).
+const GREATEST_REQUEST: usize = 2_147_483_647;
+
+/// What the octets of a request hold, as far as they were opened.
+#[derive(Debug, Drop)]
+pub enum Contents<'a> {
+    /// Neither an AS-REQ nor a TGS-REQ, or too many octets for one.
+    NoRequest,
+    AsReq(KdcReqRef<'a>),
+    /// A TGS-REQ whose ticket or authenticator is refused.
+    RefusedTgsReq(KdcReqRef<'a>, TgsRefusal),
+    /// A TGS-REQ with the ticket and the authenticator that it presents, opened.
+    TgsReq(KdcReqRef<'a>, Presented),
+}
+
+/// Reads the octets of a request, and opens what a TGS-REQ presents.
+pub fn contents_of<'a>(
+    state: &State,
+    alloc: Global,
+    octets: &'a [u8],
+) -> Result<Contents<'a>, AllocError>
+    ensures value { IfOk result (λ held. held ≡ contents (view state.now octets.now) (request_of octets.now)) }
+    ensures short { IfOk result AreShort }
+{
+    if octets.len() > GREATEST_REQUEST {
+        return Ok(Contents::NoRequest);
+    }
+    let Ok((exchange, message)) = read_kdc_req(octets) else {
+        return Ok(Contents::NoRequest);
+    };
+    contents_in(state, alloc, exchange, message)
+}
+
+/// What a request of this exchange holds.
+fn contents_in<'a>(
+    state: &State,
+    alloc: Global,
+    exchange: Exchange,
+    message: KdcReqRef<'a>,
+) -> Result<Contents<'a>, AllocError>
+    requires sname { IfSome message.body.value.sname (λ n. length (name.text n) < 2147483648) }
+    requires value { IfSome (tgs_data message) (λ value. length value < 2147483648) }
+    ensures value { IfOk result (λ held.
+        held ≡ contents_in (view_in state.now exchange message.entry) exchange message.entry) }
+    ensures short { IfOk result AreShort }
+{
+    match exchange {
+        Exchange::As => Ok(Contents::AsReq(message)),
+        Exchange::Tgs => {
+            let opened = open_presented(state, alloc, &message)?;
+            Ok(tgs_contents(message, opened))
+        }
+    }
+}
+
+/// What a TGS-REQ holds, by what became of its ticket and its authenticator.
+fn tgs_contents(message: KdcReqRef<'_>, opened: Result<Presented, TgsRefusal>) -> Contents<'_>
+    requires sname { IfSome message.body.value.sname (λ n. length (name.text n) < 2147483648) }
+    requires authorization { IfOk opened (λ presented.
+        IfSome presented.ticket.authorization_data (λ list. length ((list_of typed).text list) < 2147483648)) }
+    ensures value { result ≡ tgs_contents message.entry opened }
+    ensures short { AreShort result }
+{
+    match opened {
+        Ok(presented) => Contents::TgsReq(message, presented),
+        Err(refusal) => Contents::RefusedTgsReq(message, refusal),
+    }
+}
+
+/// What a TGS-REQ presents.
+fn open_presented(
+    state: &State,
+    alloc: Global,
+    message: &KdcReqRef<'_>,
+) -> Result<Result<Presented, TgsRefusal>, AllocError>
+    requires { IfSome (tgs_data message.now) (λ value. length value < 2147483648) }
+    ensures value { IfOk result (λ opened. opened ≡ presented (ticket_view state.now message.now) message.now) }
+    ensures authorization { IfOk result (λ opened.
+        IfOk opened (λ presented. IfSome presented.ticket.authorization_data
+        (λ list. length ((list_of typed).text list) < 2147483648))) }
+{
+    let view = TicketView {
+        realm: state.database.realm(),
+        granter: state.database.granter(),
+        service: row_of(state, message.body.value.sname.as_ref()),
+    };
+    tgs_open(alloc, &view, message)
+}
+
+/// The row of a name that a request may hold.
+pub fn row_of<'s>(state: &'s State, name: Option<&NameRef<'_>>) -> Option<&'s Row>
+    ensures { option_copied result ≡ row_of state.now (components_of (option_copied name.entry)) }
+{
+    state.database.get_ref(name?)
+}
