@@ -1,0 +1,65 @@
+-- What the calls from C return and leave.
+use Rattle.std.specs.Prelude.{◌≡◌, ℕ, ℤ, List, Option, Some, None, length}
+use Rattle.krb_fields.specs.declared.moment.Moment.{Moment}
+use Rattle.replay.specs.declared.opening.Opening.{Opening}
+use Rattle.ap_accept.specs.Accepts.{accepts}
+use Rattle.ap_accept.specs.declared.accepted.Accepted.{Accepted}
+use Rattle.ap_accept_c.specs.Buffers.{IsGiven}
+use Rattle.ap_accept_c.specs.Numbers.{numbers_if}
+use Rattle.ap_accept_c.specs.Part.{octets_of}
+use Rattle.ap_accept_c.specs.Service.{IsOpened, IsOpenFault, IsTaken}
+use Rattle.ap_accept_c.specs.Status.{number_of}
+use Rattle.ap_accept_c.specs.declared.numbers.Numbers.{Numbers}
+use Rattle.ap_accept_c.specs.declared.part.Part.{Part}
+use Rattle.ap_accept_c.specs.declared.service.Service.{Service}
+use Rattle.ap_accept_c.specs.declared.status.Status.{Status}
+use Rattle.ap_accept_c.specs.declared.status.Status.TheVariants.{Done, NoMemory, BadArgument, Closed, Absent}
+
+-- ---- opening
+
+-- a closed acceptor opens, or says why not
+abbrev pub IsOpeningOf : Status → Option Service → List ℕ → ℕ → Opening → Type 0
+IsOpeningOf Done (Some new) keytab remembered opening = IsOpened new keytab remembered opening
+IsOpeningOf Done None keytab remembered opening = ⊥
+IsOpeningOf status new keytab remembered opening = (new ≡ None) × IsOpenFault status keytab remembered
+
+-- one that is open stays as it is
+abbrev pub IsOpening : Status → Option Service → Option Service → List ℕ → ℕ → Opening → Type 0
+IsOpening status (Some old) new keytab remembered opening = (status ≡ BadArgument) × (new ≡ Some old)
+IsOpening status None new keytab remembered opening = IsOpeningOf status new keytab remembered opening
+
+-- ---- accepting
+
+abbrev pub IsTakenBy : Status → Service → Option Service → Moment → List ℕ → List ℕ → Numbers → Type 0
+IsTakenBy status old (Some new) at confounder octets numbers = IsTaken status old new (accepts old.acceptor at confounder octets) × (numbers ≡ numbers_if new.accepted)
+IsTakenBy status old None at confounder octets numbers = ⊥
+
+-- a closed acceptor accepts nothing
+abbrev pub IsAccepted : Status → Option Service → Option Service → Moment → List ℕ → List ℕ → Numbers → Type 0
+IsAccepted status (Some old) new at confounder octets numbers = IsTakenBy status old new at confounder octets numbers
+IsAccepted status None new at confounder octets numbers = (status ≡ Closed) × (new ≡ None) × (numbers ≡ numbers_if None)
+
+-- ---- what was accepted
+
+-- the octets, if there are any, are given to the buffer, and their number told
+abbrev pub IsFetchedOf : Status → Option (List ℕ) → List ℕ → List ℕ → ℕ → Type 0
+IsFetchedOf NoMemory octets old new len = (new ≡ old) × (len ≡ 0)
+IsFetchedOf status (Some octets) old new len = IsGiven status octets old new × (len ≡ length octets)
+IsFetchedOf status None old new len = (status ≡ Absent) × (new ≡ old) × (len ≡ 0)
+
+-- nothing was accepted last
+abbrev pub IsFetchedFrom : Status → Option Accepted → Part → List ℕ → List ℕ → ℕ → Type 0
+IsFetchedFrom status (Some accepted) part old new len = IsFetchedOf status (octets_of part accepted) old new len
+IsFetchedFrom status None part old new len = (status ≡ Absent) × (new ≡ old) × (len ≡ 0)
+
+abbrev pub IsFetched : Status → Option Service → Part → List ℕ → List ℕ → ℕ → Type 0
+IsFetched status (Some service) part old new len = IsFetchedFrom status service.accepted part old new len
+IsFetched status None part old new len = (status ≡ Closed) × (new ≡ old) × (len ≡ 0)
+
+-- ---- numbers
+
+-- the number that C sees is that of a status of which this holds
+pub record Numbered (number : ℤ) (P : Status → Type 0) : Type 0 where
+  pub status : Status
+  pub is : number ≡ number_of status
+  pub holds : P status

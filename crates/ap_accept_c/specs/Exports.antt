@@ -1,0 +1,54 @@
+-- What C sees of a call: the number of a status, and what that status says.
+use Rattle.std.specs.Prelude.{◌≡◌, ◌⊎◌, ℕ, ℤ, Bool, true, false, List, Option, Some, None}
+use Rattle.krb_elements.specs.Simple.{IsMicrosecond}
+use Rattle.krb_fields.specs.Moment.{IsSecond}
+use Rattle.krb_fields.specs.declared.moment.Moment.{Moment}
+use Rattle.replay.specs.declared.opening.Opening.{Opening}
+use Rattle.replay.specs.declared.opening.Opening.TheVariants.{First, Restart}
+use Rattle.ap_accept_c.specs.Calls.{IsAccepted, IsFetched, IsOpening, Numbered}
+use Rattle.ap_accept_c.specs.Part.{part_numbered}
+use Rattle.ap_accept_c.specs.declared.numbers.Numbers.{Numbers}
+use Rattle.ap_accept_c.specs.declared.part.Part.{Part}
+use Rattle.ap_accept_c.specs.declared.service.Service.{Service}
+use Rattle.ap_accept_c.specs.declared.status.Status.{Status}
+use Rattle.ap_accept_c.specs.declared.status.Status.TheVariants.{BadArgument}
+
+abbrev pub IsAt : Moment → ℤ → ℕ → Type 0
+IsAt at sec usec = (at.sec ≡ sec) × (at.usec ≡ usec)
+
+abbrev pub opening_at : Bool → Moment → Opening
+opening_at true at = First
+opening_at false at = Restart at
+
+-- the numbers are no moment's: a bad argument, which leaves what C holds as it was
+pub record IsNoMoment (status : Status) (old new : Option Service) (sec : ℤ) (usec : ℕ) : Type 0 where
+  pub none : IsSecond sec × IsMicrosecond usec → ⊥
+  pub refused : status ≡ BadArgument
+  pub kept : new ≡ old
+
+-- the numbers are those of this moment
+pub record AtMoment (sec : ℤ) (usec : ℕ) (P : Moment → Type 0) : Type 0 where
+  pub at : Moment
+  pub same : IsAt at sec usec
+  pub holds : P at
+
+abbrev pub IsOpenAt : Status → Option Service → Option Service → List ℕ → ℕ → Bool → ℤ → ℕ → Type 0
+IsOpenAt status old new keytab remembered is_first sec usec = IsNoMoment status old new sec usec ⊎ AtMoment sec usec (λ at. IsOpening status old new keytab remembered (opening_at is_first at))
+
+-- the same of an AP-REQ that came in at the moment of these numbers, if there is one
+pub record IsAcceptedAt (status : Status) (old new : Option Service) (sec : ℤ) (usec : ℕ) (confounder octets : List ℕ) (numbers : Numbers) : Type 0 where
+  pub none : (IsSecond sec × IsMicrosecond usec → ⊥) → (status ≡ BadArgument) × (new ≡ old)
+  pub accepted : (at : Moment) → IsAt at sec usec → IsAccepted status old new at confounder octets numbers
+
+abbrev pub IsOpenCall : ℤ → Option Service → Option Service → List ℕ → ℕ → Bool → ℤ → ℕ → Type 0
+IsOpenCall n old new keytab remembered is_first sec usec = Numbered n (λ status. IsOpenAt status old new keytab remembered is_first sec usec)
+
+abbrev pub IsAcceptCall : ℤ → Option Service → Option Service → ℤ → ℕ → List ℕ → List ℕ → Numbers → Type 0
+IsAcceptCall n old new sec usec confounder octets numbers = Numbered n (λ status. IsAcceptedAt status old new sec usec confounder octets numbers)
+
+abbrev pub IsFetchPart : Status → Option Part → Option Service → List ℕ → List ℕ → ℕ → Type 0
+IsFetchPart status (Some part) service old new len = IsFetched status service part old new len
+IsFetchPart status None service old new len = (status ≡ BadArgument) × (new ≡ old) × (len ≡ 0)
+
+abbrev pub IsFetchCall : ℤ → Option Service → ℕ → List ℕ → List ℕ → ℕ → Type 0
+IsFetchCall n service part old new len = Numbered n (λ status. IsFetchPart status (part_numbered part) service old new len)

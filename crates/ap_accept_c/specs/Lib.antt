@@ -1,0 +1,9 @@
+pub mod Held
+pub mod Holder
+pub mod Status
+pub mod Service
+pub mod Part
+pub mod Numbers
+pub mod Buffers
+pub mod Calls
+pub mod Exports

@@ -1,0 +1,36 @@
+-- The numbers by which C sees how a call ended.
+use Rattle.std.specs.Prelude.{ℤ, pos, negsuc}
+use Rattle.krb_fields.specs.Code as codes
+use Rattle.ap_accept.specs.Refusal.{code_of}
+use Rattle.ap_accept.specs.declared.fault.ApFault.{ApFault}
+use Rattle.ap_accept.specs.declared.fault.ApFault.TheVariants as faults
+use Rattle.cred_files.specs.declared.fault.FileFault.{FileFault}
+use Rattle.cred_files.specs.declared.fault.FileFault.TheVariants as files
+use Rattle.ap_accept_c.specs.declared.status.Status.{Status}
+use Rattle.ap_accept_c.specs.declared.status.Status.TheVariants.{Done, NotAnApReq, NoMemory, BadArgument, TooSmall, BadKeytab, Closed, Absent, Refused}
+
+-- negsuc n is the number -n - 1
+abbrev pub number_of : Status → ℤ
+number_of Done = pos 0
+number_of NotAnApReq = negsuc 0
+number_of NoMemory = negsuc 1
+number_of BadArgument = negsuc 2
+number_of TooSmall = negsuc 3
+number_of BadKeytab = negsuc 4
+number_of Closed = negsuc 5
+number_of Absent = negsuc 6
+number_of (Refused refusal) = codes.number_of (code_of refusal)
+
+abbrev pub status_of : ApFault → Status
+status_of faults.NotAnApReq = NotAnApReq
+status_of (faults.Refused refusal) = Refused refusal
+status_of faults.Memory = NoMemory
+
+-- why a keytab is not read
+abbrev pub status_of_file : FileFault → Status
+status_of_file files.Memory = NoMemory
+status_of_file files.BadMagic = BadKeytab
+status_of_file files.Truncated = BadKeytab
+status_of_file files.BadEntry = BadKeytab
+status_of_file files.TooLate = BadKeytab
+status_of_file files.Absent = BadKeytab

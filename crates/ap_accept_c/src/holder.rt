@@ -1,0 +1,41 @@
+//! What a caller in C keeps of an acceptor.
+ghost use Rattle.std.specs.Prelude.{◌≡◌, None, Some, IfNone, IfSome};
+ghost use Rattle.ap_accept_c.specs.Holder.{IsHolder};
+
+use crate::held::Held;
+use crate::service::Service;
+use std::alloc::Global;
+use std::mem;
+
+/// The `struct ap_acceptor` of the header. It is closed until a service is put in, and C begins with all octets zero.
+#[repr(C)]
+#[derive(Drop)]
+pub struct Holder {
+    pub is_open: bool,
+    pub held: Held,
+}
+
+impl Holder {
+    /// Takes the service out, and leaves the holder closed.
+    pub fn take(&mut self, alloc: Global) -> Option<Box<Service>>
+        requires { IsHolder self.old }
+        ensures closed { IsHolder self.new × (self.new.held.value ≡ None) }
+        ensures none { IfNone result (self.old.held.value ≡ None) }
+        ensures some { IfSome result (λ service. self.old.held.value ≡ Some service.value) }
+    {
+        if !self.is_open {
+            return None;
+        }
+        self.is_open = false;
+        Some(mem::replace(&mut self.held, Held::none(alloc)).into_box())
+    }
+
+    /// Puts a service into a holder that is closed.
+    pub fn put(&mut self, service: Box<Service>)
+        requires { self.old.held.value ≡ None }
+        ensures { IsHolder self.new × (self.new.held.value ≡ Some service.value) }
+    {
+        self.held = Held::of(service);
+        self.is_open = true;
+    }
+}

@@ -1,0 +1,106 @@
+//! The numbers of what was accepted.
+ghost use Rattle.std.specs.Prelude.{◌≡◌, pos, option_copied, option_map};
+ghost use Rattle.std.specs.Option.{unwrap_or};
+ghost use Rattle.enctypes.specs.Etype.{number};
+ghost use Rattle.ap_accept_c.specs.Numbers.{numbers_if, numbers_of};
+
+use ap_accept::Accepted;
+
+/// The `struct ap_accepted` of the header. Times are seconds since 1970-01-01T00:00:00Z.
+#[repr(C)]
+#[derive(Clone, Copy)]
+pub struct Numbers {
+    pub authtime: i64,
+    /// That of the authtime, where the ticket has no starttime.
+    pub starttime: i64,
+    pub endtime: i64,
+    /// That of the end, where the ticket has no renew-till.
+    pub renew_till: i64,
+    /// 0 where the authenticator has none.
+    pub seq_number: i64,
+    /// Bit 0 of RFC 4120 is the most significant.
+    pub flags: u32,
+    pub session_key_type: i32,
+    /// 0 where the client chose no subkey.
+    pub subkey_type: i32,
+    /// 0 where the authenticator has no checksum.
+    pub checksum_type: i32,
+    pub has_seq_number: bool,
+    pub has_checksum: bool,
+    /// The client asks the service to show who it is.
+    pub has_ap_rep: bool,
+}
+
+impl Numbers {
+    /// Those of a call that accepted nothing.
+    pub const NONE: Numbers = Numbers {
+        authtime: 0,
+        starttime: 0,
+        endtime: 0,
+        renew_till: 0,
+        seq_number: 0,
+        flags: 0,
+        session_key_type: 0,
+        subkey_type: 0,
+        checksum_type: 0,
+        has_seq_number: false,
+        has_checksum: false,
+        has_ap_rep: false,
+    };
+
+    pub fn of(accepted: Option<&Accepted>) -> Numbers
+        ensures { result ≡ numbers_if (option_copied accepted.entry) }
+    {
+        match accepted {
+            Some(accepted) => Numbers::of_accepted(accepted),
+            None => Numbers::NONE,
+        }
+    }
+
+    fn of_accepted(accepted: &Accepted) -> Numbers
+        ensures { result ≡ numbers_of accepted.now }
+    {
+        let ticket = &accepted.ticket;
+        Numbers {
+            authtime: ticket.authtime.seconds(),
+            starttime: ticket.start(),
+            endtime: ticket.endtime.seconds(),
+            renew_till: ticket.renewal(),
+            seq_number: seq_number(accepted),
+            flags: ticket.flags.bits(),
+            session_key_type: accepted.session_key.etype().number(),
+            subkey_type: subkey_type(accepted),
+            checksum_type: checksum_type(accepted),
+            has_seq_number: accepted.seq_number.is_some(),
+            has_checksum: accepted.cksum.is_some(),
+            has_ap_rep: accepted.ap_rep.is_some(),
+        }
+    }
+}
+
+fn seq_number(accepted: &Accepted) -> i64
+    ensures { result ≡ unwrap_or accepted.now.seq_number (pos 0) }
+{
+    match accepted.seq_number {
+        Some(number) => number.get(),
+        None => 0,
+    }
+}
+
+fn subkey_type(accepted: &Accepted) -> i32
+    ensures { result ≡ unwrap_or (option_map (λ k. number k.etype) accepted.now.subkey) (pos 0) }
+{
+    match &accepted.subkey {
+        Some(key) => key.etype().number(),
+        None => 0,
+    }
+}
+
+fn checksum_type(accepted: &Accepted) -> i32
+    ensures { result ≡ unwrap_or (option_map (λ c. c.number) accepted.now.cksum) (pos 0) }
+{
+    match &accepted.cksum {
+        Some(cksum) => cksum.number,
+        None => 0,
+    }
+}

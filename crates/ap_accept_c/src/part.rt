@@ -1,0 +1,87 @@
+//! The octets of what was accepted.
+ghost use Rattle.std.specs.Prelude.{◌≡◌, IfOk, option_map, option_copied};
+ghost use Rattle.ap_accept_c.specs.Part.{octets_of, part_numbered};
+
+use ap_accept::Accepted;
+use std::alloc::{AllocError, Global};
+
+/// What of an AP-REQ that was accepted is octets.
+#[derive(Clone, Copy)]
+pub enum Part {
+    ClientRealm,
+    /// The text of the client's name, without its realm.
+    ClientName,
+    SessionKey,
+    Subkey,
+    Checksum,
+    ApRep,
+}
+
+impl Part {
+    pub fn numbered(number: u32) -> Option<Part>
+        ensures { result ≡ part_numbered number }
+    {
+        match number {
+            1 => Some(Part::ClientRealm),
+            2 => Some(Part::ClientName),
+            3 => Some(Part::SessionKey),
+            4 => Some(Part::Subkey),
+            5 => Some(Part::Checksum),
+            6 => Some(Part::ApRep),
+            _ => None,
+        }
+    }
+
+    /// The octets, if there are any.
+    pub fn octets(self, alloc: Global, accepted: &Accepted) -> Result<Option<Vec<u8>>, AllocError>
+        ensures { IfOk result (λ octets. option_map (λ o. o.items) octets ≡ octets_of self accepted.now) }
+    {
+        let octets = match self {
+            Part::ClientName => {
+                return Ok(Some(accepted.client.name.to_text(alloc)?.into_bytes()));
+            }
+            Part::ClientRealm => Some(accepted.client.realm.as_slice()),
+            Part::SessionKey => Some(accepted.session_key.bytes()),
+            Part::Subkey => subkey(accepted),
+            Part::Checksum => checksum(accepted),
+            Part::ApRep => ap_rep(accepted),
+        };
+        copied(alloc, octets)
+    }
+}
+
+fn copied(alloc: Global, octets: Option<&[u8]>) -> Result<Option<Vec<u8>>, AllocError>
+    ensures { IfOk result (λ copy. option_map (λ o. o.items) copy ≡ option_copied octets.entry) }
+{
+    match octets {
+        Some(octets) => Ok(Some(Vec::from_slice(alloc, octets)?)),
+        None => Ok(None),
+    }
+}
+
+fn subkey(accepted: &Accepted) -> Option<&[u8]>
+    ensures { option_copied result ≡ option_map (λ k. k.bytes) accepted.now.subkey }
+{
+    match &accepted.subkey {
+        Some(key) => Some(key.bytes()),
+        None => None,
+    }
+}
+
+fn checksum(accepted: &Accepted) -> Option<&[u8]>
+    ensures { option_copied result ≡ option_map (λ c. c.octets) accepted.now.cksum }
+{
+    match &accepted.cksum {
+        Some(cksum) => Some(cksum.octets.as_slice()),
+        None => None,
+    }
+}
+
+fn ap_rep(accepted: &Accepted) -> Option<&[u8]>
+    ensures { option_copied result ≡ accepted.now.ap_rep }
+{
+    match &accepted.ap_rep {
+        Some(octets) => Some(octets.as_slice()),
+        None => None,
+    }
+}
