@@ -29,7 +29,7 @@ const ANSWERED: Range<u32> = 500_000..505_000;
 const ROOM: u32 = 1_400;
 
 /// The second of each request: 2024-01-01 00:00:00.
-const MIDNIGHT: i64 = 1_704_067_200;
+pub const MIDNIGHT: i64 = 1_704_067_200;
 
 /// The AS-REQ of `messages`, with PA-PAC-REQUEST and a PA-ENC-TIMESTAMP of that second under the client's key, which a Python
 /// program has sealed.

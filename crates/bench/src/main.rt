@@ -4,11 +4,14 @@
 
 ghost use Rattle.std.specs.Prelude.{◌<◌};
 
+mod acceptances;
+mod ap_requests;
 mod exchanges;
 mod messages;
 mod rows;
 mod tgs_requests;
 
+use crate::acceptances::{Presented, measure_acceptances};
 use crate::exchanges::{Asked, measure_exchange};
 use crate::messages::{measure_error, read_request};
 use crate::rows::measure_rows;
@@ -21,7 +24,7 @@ use std::time::CpuClock;
 use std::{env, io};
 
 const USAGE: &str =
-    "usage: bench block | cts | pbkdf2-sha1 | pbkdf2-sha384 | seal-TYPE | string-TYPE | read-request | write-error | as | as-preauth | tgs | tgs-repeat | tgs-full | tgs-full-early | read-rows | write-rows, for TYPE 17 to 20";
+    "usage: bench block | cts | pbkdf2-sha1 | pbkdf2-sha384 | seal-TYPE | string-TYPE | read-request | write-error | as | as-preauth | tgs | tgs-repeat | tgs-full | tgs-full-early | accept | accept-many | accept-new | read-rows | write-rows, for TYPE 17 to 20";
 
 /// The status of a fault of the command line.
 pub(crate) const FAULT: u8 = 2;
@@ -136,6 +139,9 @@ fn main(rt: HostRuntime) -> io::Result<ExitCode> {
     }
     if let Some(asked) = Asked::named(word) {
         return measure_exchange(&rt, asked);
+    }
+    if let Some(presented) = Presented::named(word) {
+        return measure_acceptances(&rt, presented);
     }
     let Some(work) = Work::named(word) else {
         println!(rt; "{USAGE}")?;
