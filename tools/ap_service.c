@@ -1,0 +1,260 @@
+/*
+ * A service in C that accepts AP-REQ messages, by docs/ap_accept.h.
+ *
+ *     ap_service KEYTAB PORT [first] [CONNECTIONS]
+ *
+ * It listens on 127.0.0.1, takes an AP-REQ on each connection, prints who sent it or why it is refused, and answers with the AP-REP
+ * where the client asks for one. It ends after so many CONNECTIONS, or when a signal ends it. With the word first it never ran
+ * before: else all clients are refused for 301 seconds (docs/SERVICES.md, 'Opening, and restarts').
+ *
+ * A connection is messages, each behind its length in four octets, the most significant first, as MIT's library writes them
+ * (krb5_write_message). The client sends an AP-REQ and gets an AP-REP, or an empty message where it asked for none; or it speaks
+ * as krb5_sendauth does. Where it is refused, the connection is closed.
+ *
+ * docs/SERVICES-C.md says how it is built.
+ */
+#include "ap_accept.h"
+
+#include <arpa/inet.h>
+#include <netinet/in.h>
+#include <stdio.h>
+#include <stdlib.h>
+#include <string.h>
+#include <sys/random.h>
+#include <sys/socket.h>
+#include <sys/time.h>
+#include <time.h>
+#include <unistd.h>
+
+enum { LONGEST_MESSAGE = 65536, REMEMBERED = 1024, SECONDS_TO_WAIT = 10 };
+
+static const char SENDAUTH[] = "KRB5_SENDAUTH_V1.0";
+
+struct message {
+	uint8_t octets[LONGEST_MESSAGE];
+	size_t length;
+};
+
+struct moment {
+	int64_t sec;
+	uint32_t usec;
+};
+
+static void stop(const char *why)
+{
+	fprintf(stderr, "ap_service: %s\n", why);
+	exit(1);
+}
+
+static struct moment now(void)
+{
+	struct timespec time;
+
+	if (clock_gettime(CLOCK_REALTIME, &time) != 0)
+		stop("no clock");
+	return (struct moment){ time.tv_sec, (uint32_t)(time.tv_nsec / 1000) };
+}
+
+/* ---- messages on a connection */
+
+static bool read_all(int connection, void *to, size_t length)
+{
+	uint8_t *at = to;
+
+	while (length > 0) {
+		ssize_t got = read(connection, at, length);
+		if (got <= 0)
+			return false;
+		at += got;
+		length -= (size_t)got;
+	}
+	return true;
+}
+
+static bool write_all(int connection, const void *from, size_t length)
+{
+	const uint8_t *at = from;
+
+	while (length > 0) {
+		ssize_t put = send(connection, at, length, MSG_NOSIGNAL);
+		if (put <= 0)
+			return false;
+		at += put;
+		length -= (size_t)put;
+	}
+	return true;
+}
+
+static bool read_message(int connection, struct message *message)
+{
+	uint32_t length;
+
+	if (!read_all(connection, &length, sizeof(length)))
+		return false;
+	message->length = ntohl(length);
+	return message->length <= LONGEST_MESSAGE && read_all(connection, message->octets, message->length);
+}
+
+static bool write_message(int connection, const void *octets, size_t length)
+{
+	uint32_t prefix = htonl((uint32_t)length);
+
+	return write_all(connection, &prefix, sizeof(prefix)) && write_all(connection, octets, length);
+}
+
+/* Whether the message is the one by which krb5_sendauth begins: its text with the NUL behind it. */
+static bool is_sendauth(const struct message *message)
+{
+	return message->length == sizeof(SENDAUTH) && memcmp(message->octets, SENDAUTH, sizeof(SENDAUTH)) == 0;
+}
+
+/* After that text comes the application's own, which is taken whatever it is; an octet of 0 says so. Then the AP-REQ comes. */
+static bool read_after_sendauth(int connection, struct message *message)
+{
+	static const uint8_t taken = 0;
+
+	return read_message(connection, message) && write_all(connection, &taken, 1) && read_message(connection, message);
+}
+
+/* ---- what is accepted */
+
+/* The octets of a part, with a NUL behind them; the caller frees them. NULL where there are none. */
+static char *part_of(struct ap_acceptor *acceptor, enum ap_part part, size_t *length)
+{
+	char *octets;
+
+	if (ap_octets(acceptor, part, NULL, 0, length) != AP_TOO_SMALL)
+		return NULL;
+	octets = malloc(*length + 1);
+	if (octets == NULL || ap_octets(acceptor, part, octets, *length, length) != AP_DONE)
+		stop("no memory");
+	octets[*length] = '\0';
+	return octets;
+}
+
+static void print_accepted(struct ap_acceptor *acceptor, const struct ap_accepted *accepted)
+{
+	size_t length;
+	char *name = part_of(acceptor, AP_CLIENT_NAME, &length);
+	char *realm = part_of(acceptor, AP_CLIENT_REALM, &length);
+
+	printf("%s@%s until %lld, key type %d, subkey type %d, flags %08x", name, realm, (long long)accepted->endtime,
+	       accepted->session_key_type, accepted->subkey_type, accepted->flags);
+	if (accepted->has_seq_number)
+		printf(", number %lld", (long long)accepted->seq_number);
+	if (accepted->has_checksum) {
+		free(part_of(acceptor, AP_CHECKSUM, &length));
+		printf(", checksum of type %d and %zu octets", accepted->checksum_type, length);
+	}
+	printf("%s\n", accepted->has_ap_rep ? ", asks for a reply" : "");
+	free(name);
+	free(realm);
+}
+
+static bool answer(int connection, struct ap_acceptor *acceptor, bool sendauth)
+{
+	size_t length = 0;
+	char *reply = part_of(acceptor, AP_AP_REP, &length);
+	/* krb5_sendauth wants an empty message first, which says that there is no error, and no other where no reply was asked for */
+	bool done = !sendauth || write_message(connection, NULL, 0);
+
+	if (done && (reply != NULL || !sendauth))
+		done = write_message(connection, reply == NULL ? "" : reply, length);
+	free(reply);
+	return done;
+}
+
+static void serve(int connection, struct ap_acceptor *acceptor)
+{
+	static struct message message;
+	struct ap_accepted accepted;
+	struct moment at;
+	uint8_t random[16];
+	char why[128];
+	bool sendauth;
+	int32_t status;
+
+	if (!read_message(connection, &message)) {
+		printf("no message\n");
+		return;
+	}
+	sendauth = is_sendauth(&message);
+	if (sendauth && !read_after_sendauth(connection, &message)) {
+		printf("no message\n");
+		return;
+	}
+	if (getrandom(random, sizeof(random), 0) != sizeof(random))
+		stop("no random octets");
+	at = now();
+	status = ap_accept(acceptor, at.sec, at.usec, random, message.octets, message.length, &accepted);
+	if (status != AP_DONE) {
+		ap_text(status, why, sizeof(why));
+		printf("refused %d: %s\n", status, why);
+		return;
+	}
+	print_accepted(acceptor, &accepted);
+	if (!answer(connection, acceptor, sendauth))
+		printf("the answer is not taken\n");
+}
+
+/* ---- opening */
+
+static int listen_on(const char *port)
+{
+	struct sockaddr_in address = { .sin_family = AF_INET, .sin_port = htons((uint16_t)atoi(port)) };
+	int listener = socket(AF_INET, SOCK_STREAM, 0), one = 1;
+
+	address.sin_addr.s_addr = htonl(INADDR_LOOPBACK);
+	setsockopt(listener, SOL_SOCKET, SO_REUSEADDR, &one, sizeof(one));
+	if (listener < 0 || bind(listener, (struct sockaddr *)&address, sizeof(address)) != 0 || listen(listener, 16) != 0)
+		stop("the port can't be listened on");
+	return listener;
+}
+
+static void open_acceptor(struct ap_acceptor *acceptor, const char *path, bool is_first)
+{
+	static struct message keytab;
+	struct moment at = now();
+	char why[128];
+	FILE *file = fopen(path, "rb");
+	int32_t status;
+
+	if (file == NULL)
+		stop("the keytab can't be read");
+	keytab.length = fread(keytab.octets, 1, LONGEST_MESSAGE, file);
+	fclose(file);
+	status = ap_open(acceptor, keytab.octets, keytab.length, REMEMBERED, is_first, at.sec, at.usec);
+	if (status != AP_DONE) {
+		ap_text(status, why, sizeof(why));
+		stop(why);
+	}
+}
+
+int main(int count, char **words)
+{
+	struct ap_acceptor acceptor = { 0 };
+	const struct timeval wait = { .tv_sec = SECONDS_TO_WAIT };
+	bool is_first = count > 3 && strcmp(words[3], "first") == 0;
+	int at = is_first ? 4 : 3, listener;
+	long connections = -1;
+
+	if (count < 3 || count > at + 1)
+		stop("ap_service KEYTAB PORT [first] [CONNECTIONS]");
+	if (count > at)
+		connections = atol(words[at]);
+	setvbuf(stdout, NULL, _IOLBF, 0);
+	open_acceptor(&acceptor, words[1], is_first);
+	listener = listen_on(words[2]);
+	for (; connections != 0; connections -= connections > 0) {
+		int connection = accept(listener, NULL, NULL);
+		if (connection < 0)
+			continue;
+		setsockopt(connection, SOL_SOCKET, SO_RCVTIMEO, &wait, sizeof(wait));
+		setsockopt(connection, SOL_SOCKET, SO_SNDTIMEO, &wait, sizeof(wait));
+		serve(connection, &acceptor);
+		close(connection);
+	}
+	close(listener);
+	ap_close(&acceptor);
+	return 0;
+}
