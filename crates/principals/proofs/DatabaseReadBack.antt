@@ -55,7 +55,7 @@ set_apart m n o a b other = same_map name_total name_exact _ _ (λ q.
     at q false t i j = refl
 
 -- a member that is put sets the row of its name
-put_row : (k : List ℕ) (d : Data) (n : Components) (r : Row) → name_of k ≡ Some n → row_of Version2 d ≡ Some r → (ms : Members) (m : FinMap name_cmp Row) → map_of (entries_of Version2 ms) ≡ Some m → map_of (entries_of Version2 (put k d ms)) ≡ Some (insert m n r)
+pub put_row : (k : List ℕ) (d : Data) (n : Components) (r : Row) → name_of k ≡ Some n → row_of Version2 d ≡ Some r → (ms : Members) (m : FinMap name_cmp Row) → map_of (entries_of Version2 ms) ≡ Some m → map_of (entries_of Version2 (put k d ms)) ≡ Some (insert m n r)
 put_row k d n r named rowed no_members m is = let none : from_entries [] ≡ m = cc in rw (named, rowed) (ap (λ (x : FinMap name_cmp Row). Some (insert x n r)) none)
 put_row k d n r named rowed (member l e ms) m is =
     at (name_of l) refl (row_of Version2 e) refl (entries_of Version2 ms) refl is (slice_cmp nat_cmp k l) refl (λ m' i. put_row k d n r named rowed ms m' i)

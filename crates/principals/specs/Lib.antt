@@ -1,3 +1,4 @@
+pub mod Ahead
 pub mod Change
 pub mod Database
 pub mod FaultName

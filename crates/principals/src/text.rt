@@ -16,6 +16,7 @@ ghost use Rattle.principals.specs.Database.{AreRows};
 ghost use Rattle.principals.specs.Written.{with_rows, database_value};
 ghost use Rattle.principals.specs.Value.{format_value, entries_of, rows_of, realm_of, principals_of, database, text_database};
 
+use crate::by_rows::read_by_rows;
 use crate::format::Format;
 use crate::row_fault::RowFault;
 use crate::row_value::{member_count, read_row, row_value};
@@ -27,8 +28,20 @@ use serde_json::{Map, Value, json};
 use std::alloc::{AllocError, Global};
 
 impl Database {
-    /// The database that a text stands for.
+    /// The database that a text stands for. The rows of a text in the form that is written are read one by one, any other
+    /// text as a whole.
     pub fn read(alloc: Global, text: &str) -> Result<Database, ReadFault>
+        ensures ok { IfOk result (λ database. text_database text.now ≡ Ok database) }
+        ensures fault { IfErr result (λ fault. fault ≢ ReadFault.Memory → text_database text.now ≡ Err fault) }
+    {
+        match read_by_rows(alloc, text) {
+            Some(database) => Ok(database),
+            None => Database::read_whole(alloc, text),
+        }
+    }
+
+    /// The database that a text stands for, by the value of the whole text.
+    fn read_whole(alloc: Global, text: &str) -> Result<Database, ReadFault>
         ensures ok { IfOk result (λ database. text_database text.now ≡ Ok database) }
         ensures fault { IfErr result (λ fault. fault ≢ ReadFault.Memory → text_database text.now ≡ Err fault) }
     {
@@ -110,17 +123,25 @@ fn read_realm(alloc: Global, value: &Value) -> Result<KerberosString, RowFault>
     ensures fits { IfOk result (λ realm. IsComponent realm) }
     ensures bad { result ≡ Err RowFault.BadRow → realm_of (view value.now) ≡ None }
 {
-    let Some(text) = value.get("realm").and_then(Value::as_str) else {
-        return Err(RowFault::BadRow);
-    };
+    match value.get("realm").and_then(Value::as_str) {
+        Some(text) => read_component(alloc, text),
+        None => Err(RowFault::BadRow),
+    }
+}
+
+pub(crate) fn read_component(alloc: Global, text: &str) -> Result<KerberosString, RowFault>
+    ensures ok { IfOk result (λ octets. component_of text.now ≡ Some octets) }
+    ensures fits { IfOk result IsComponent }
+    ensures bad { result ≡ Err RowFault.BadRow → component_of text.now ≡ None }
+{
     match component_from_text(alloc, text) {
-        Ok(realm) => Ok(realm),
+        Ok(octets) => Ok(octets),
         Err(NameFault::BadName) => Err(RowFault::BadRow),
         Err(NameFault::Memory) => Err(RowFault::Memory),
     }
 }
 
-fn read_name(alloc: Global, text: &str) -> Result<Name, RowFault>
+pub(crate) fn read_name(alloc: Global, text: &str) -> Result<Name, RowFault>
     ensures ok { IfOk result (λ name. name_of text.now ≡ Some name.components) }
     ensures bad { result ≡ Err RowFault.BadRow → name_of text.now ≡ None }
 {
