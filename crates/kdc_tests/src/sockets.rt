@@ -46,13 +46,13 @@ impl Clock for Stopped {
     }
 }
 
-/// A server, and the addresses that it listens on.
+/// A server, and the two addresses of each kind that it listens on.
 #[derive(Drop)]
 struct Server {
     wire: SocketWire<Stopped>,
     hub: Hub<ChaCha20Rng>,
-    udp: SocketAddr,
-    tcp: SocketAddr,
+    udp: Vec<SocketAddr>,
+    tcp: Vec<SocketAddr>,
 }
 
 fn open(rt: &HostRuntime) -> Result<Server, Fail> {
@@ -60,13 +60,18 @@ fn open(rt: &HostRuntime) -> Result<Server, Fail> {
     let hub = Hub::new(alloc, kdc(alloc)?, ChaCha20Rng::from_seed([0; 32]));
     let here = SocketAddr::from((Ipv4Addr::LOCALHOST, 0));
     let wait = Duration::from_millis(1);
-    let wire = SocketWire::bind(alloc, Stopped, rt, here, here, wait)?;
+    let wire = SocketWire::bind(alloc, Stopped, rt, &[here, here], &[here, here], wait)?;
     Ok(Server {
-        udp: wire.udp_addr()?,
-        tcp: wire.tcp_addr()?,
+        udp: wire.udp_addresses(alloc)?,
+        tcp: wire.tcp_addresses(alloc)?,
         wire,
         hub,
     })
+}
+
+/// The address of this place.
+fn address(addresses: &[SocketAddr], place: usize) -> Result<SocketAddr, Fail> {
+    Ok(*addresses.get(place).ok_or("an address")?)
 }
 
 /// What a test does with a server, and whether what it saw is right. A server is let go in `run` alone: proofs about its
@@ -123,15 +128,16 @@ fn framed(rt: &HostRuntime, octets: &[u8]) -> Result<Vec<u8>, Fail> {
     Ok(framed)
 }
 
-fn peer(rt: &HostRuntime, server: &Server) -> Result<UdpSocket, Fail> {
+/// A peer of the address of this place. It takes replies from there alone.
+fn peer(rt: &HostRuntime, server: &Server, place: usize) -> Result<UdpSocket, Fail> {
     let peer = UdpSocket::bind(rt, SocketAddr::from((Ipv4Addr::LOCALHOST, 0)))?;
-    peer.connect(server.udp)?;
+    peer.connect(address(&server.udp, place)?)?;
     peer.set_nonblocking(true)?;
     Ok(peer)
 }
 
-fn connection(rt: &HostRuntime, server: &Server) -> Result<TcpStream, Fail> {
-    let connection = TcpStream::connect(rt, server.tcp)?;
+fn connection(rt: &HostRuntime, server: &Server, place: usize) -> Result<TcpStream, Fail> {
+    let connection = TcpStream::connect(rt, address(&server.tcp, place)?)?;
     connection.set_nonblocking(true)?;
     Ok(connection)
 }
@@ -176,8 +182,8 @@ fn has_come_for(rt: &HostRuntime, connection: &mut TcpStream, service: u8) -> Re
 }
 
 fn each_gets_its_own(rt: &HostRuntime, server: &mut Server) -> Result<bool, Fail> {
-    let (first, second) = (peer(rt, server)?, peer(rt, server)?);
-    let (mut third, mut fourth) = (connection(rt, server)?, connection(rt, server)?);
+    let (first, second) = (peer(rt, server, 0)?, peer(rt, server, 1)?);
+    let (mut third, mut fourth) = (connection(rt, server, 0)?, connection(rt, server, 1)?);
     ask(rt, &first, b'a')?;
     ask(rt, &second, b'b')?;
     ask_over(rt, &mut third, b'c')?;
@@ -199,7 +205,7 @@ fn each_peer_and_connection_gets_its_own_reply(rt: HostRuntime) -> Result<(), Fa
 }
 
 fn octets_come_one_by_one(rt: &HostRuntime, server: &mut Server) -> Result<bool, Fail> {
-    let mut client = connection(rt, server)?;
+    let mut client = connection(rt, server, 0)?;
     let request = framed(rt, &for_service(rt, REQUEST, b'a')?)?;
     for octet in &request {
         client.write_all(&[*octet])?;
@@ -216,7 +222,7 @@ fn octets_that_come_one_by_one_are_one_request(rt: HostRuntime) -> Result<(), Fa
 
 /// More comes than the server reads before it closes the connection.
 fn a_length_is_at_fault(rt: &HostRuntime, server: &mut Server) -> Result<bool, Fail> {
-    let mut client = connection(rt, server)?;
+    let mut client = connection(rt, server, 0)?;
     client.write_all(&[0x80; 5000])?;
     rounds(rt, server, 16)?;
     let mut came = Vec::new(rt.alloc());
@@ -232,7 +238,7 @@ fn a_length_at_fault_is_answered_before_the_end(rt: HostRuntime) -> Result<(), F
 
 /// The peer keeps its side open after the server closed its own. Rounds with nothing to do wait, each a millisecond.
 fn a_closed_connection_is_kept_open(rt: &HostRuntime, server: &mut Server) -> Result<bool, Fail> {
-    let mut client = connection(rt, server)?;
+    let mut client = connection(rt, server, 0)?;
     client.write_all(&[0x80; 4])?;
     rounds(rt, server, 8)?;
     let start = Instant::now(rt)?;
@@ -257,7 +263,7 @@ fn connections_come_and_go(rt: &HostRuntime, server: &mut Server) -> Result<bool
 }
 
 fn connection_is_answered(rt: &HostRuntime, server: &mut Server) -> Result<bool, Fail> {
-    let mut client = connection(rt, server)?;
+    let mut client = connection(rt, server, 0)?;
     ask_over(rt, &mut client, b'a')?;
     rounds(rt, server, 4)?;
     has_come_for(rt, &mut client, b'a')
@@ -270,7 +276,7 @@ fn connections_that_end_make_place(rt: HostRuntime) -> Result<(), Fail> {
 }
 
 fn peer_is_answered(rt: &HostRuntime, server: &mut Server) -> Result<bool, Fail> {
-    let peer = peer(rt, server)?;
+    let peer = peer(rt, server, 0)?;
     ask(rt, &peer, b'b')?;
     rounds(rt, server, 4)?;
     has_reply(rt, &peer, b'b')
@@ -280,12 +286,12 @@ fn peer_is_answered(rt: &HostRuntime, server: &mut Server) -> Result<bool, Fail>
 fn connections_are_idle(rt: &HostRuntime, server: &mut Server) -> Result<bool, Fail> {
     let mut idle = Vec::new(rt.alloc());
     for _ in 0..256u32 {
-        idle.push(connection(rt, server)?)?;
+        idle.push(connection(rt, server, 0)?)?;
     }
     if rounds(rt, server, 300)? != 256 {
         return Ok(false);
     }
-    let mut next = connection(rt, server)?;
+    let mut next = connection(rt, server, 0)?;
     Ok(peer_is_answered(rt, server)? && next.read(&mut [0; 1])? == 0)
 }
 
@@ -316,7 +322,7 @@ fn send_some(client: &mut TcpStream, octets: &[u8], place: usize) -> Option<usiz
 
 /// A peer sends long requests without end, and reads nothing.
 fn replies_are_not_read(rt: &HostRuntime, server: &mut Server) -> Result<bool, Fail> {
-    let mut client = connection(rt, server)?;
+    let mut client = connection(rt, server, 0)?;
     let request = long_request(rt)?;
     let mut place = 0usize;
     for _ in 0..10_000u32 {

@@ -1,5 +1,5 @@
 //! Why the sockets could not be opened.
-use std::alloc::AllocError;
+use std::alloc::{AllocError, AllocFailed};
 use std::error::Error;
 use std::net::SocketAddr;
 use std::{fmt, io};
@@ -7,11 +7,11 @@ use std::{fmt, io};
 /// Why the sockets could not be opened.
 #[derive(Debug, Drop)]
 pub enum BindFault {
-    /// The socket for datagrams, at this address.
+    /// A socket for datagrams, at this address.
     Udp(SocketAddr, io::Error),
-    /// The socket that takes connections, at this address.
+    /// A socket that takes connections, at this address.
     Tcp(SocketAddr, io::Error),
-    /// What waits for both, or memory.
+    /// What waits for all of them, or memory.
     Other(io::Error),
 }
 
@@ -36,5 +36,11 @@ impl From<io::Error> for BindFault {
 impl From<AllocError> for BindFault {
     fn from(error: AllocError) -> BindFault {
         BindFault::Other(io::Error::from(error))
+    }
+}
+
+impl<T: Drop> From<AllocFailed<T>> for BindFault {
+    fn from(error: AllocFailed<T>) -> BindFault {
+        BindFault::from(AllocError::from(error))
     }
 }

@@ -6,7 +6,7 @@ use framing::prefix;
 use mio::net::TcpStream;
 use std::alloc::Global;
 use std::io::{Error, ErrorKind, Read, Result, Write};
-use std::net::Shutdown;
+use std::net::{Shutdown, SocketAddr};
 
 /// The most octets that are kept for a peer that doesn't read. The greatest reply fits, behind its length.
 const MOST_UNSENT: usize = 150_000;
@@ -15,6 +15,7 @@ const MOST_UNSENT: usize = 150_000;
 #[derive(Drop)]
 pub struct Connection {
     stream: TcpStream,
+    peer: SocketAddr,
     unsent: Vec<u8>,
     /// No reply will come any more. What is unsent is written, and then the peer is told so.
     is_closing: bool,
@@ -25,14 +26,21 @@ pub struct Connection {
 }
 
 impl Connection {
-    pub fn new(alloc: Global, stream: TcpStream) -> Connection {
+    /// A connection from this address.
+    pub fn new(alloc: Global, stream: TcpStream, peer: SocketAddr) -> Connection {
         Connection {
             stream,
+            peer,
             unsent: Vec::new(alloc),
             is_closing: false,
             is_told: false,
             is_at_end: false,
         }
+    }
+
+    /// The address that it came from.
+    pub fn peer(&self) -> SocketAddr {
+        self.peer
     }
 
     /// Whether no reply will come any more.

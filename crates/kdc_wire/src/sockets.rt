@@ -15,15 +15,6 @@ use std::net::{Net, SocketAddr};
 use std::rt::Clock;
 use std::time::Duration;
 
-/// The socket for datagrams.
-const DATAGRAMS: u64 = 0;
-
-/// The socket that takes connections.
-const NEWCOMERS: u64 = 1;
-
-/// The number of the first connection.
-const FIRST_CONNECTION: u64 = 2;
-
 /// The most connections that are held. A hub has 256 of them at most; the others are being closed.
 const MOST_CONNECTIONS: usize = 512;
 
@@ -54,17 +45,23 @@ pub struct Sockets<C> {
     wait: Duration,
     poll: Poll,
     events: Events,
-    datagrams: UdpSocket,
-    newcomers: TcpListener,
+    /// The sockets for datagrams. Each is known to the poll by its place.
+    datagrams: Vec<UdpSocket>,
+    /// The sockets that take connections. The poll counts on with them.
+    newcomers: Vec<TcpListener>,
+    /// The connections, each of which is known to the poll by its number. They begin behind the sockets.
     connections: BTreeMap<u64, Connection>,
     next_connection: u64,
     turn: Turn,
-    has_datagrams: bool,
-    has_newcomers: bool,
+    /// The places of the sockets, and the connections, that may have something, in the order in which they are asked. None
+    /// stands there twice.
+    ready_datagrams: VecDeque<u64>,
+    ready_newcomers: VecDeque<u64>,
+    ready: VecDeque<u64>,
+    /// The socket that the last datagram came on, from which its reply is sent.
+    answering: usize,
     /// The second in which no connection could be taken, though one may have been there.
     refused_at: Option<i64>,
-    /// The connections that may have something, in the order in which they are asked. None stands there twice.
-    ready: VecDeque<u64>,
     /// Where a datagram is read into.
     datagram: Vec<u8>,
     /// Where a piece of what comes on a connection is read into.
@@ -72,35 +69,18 @@ pub struct Sockets<C> {
 }
 
 impl<C: Clock + Drop> Sockets<C> {
-    /// Opens both sockets.
+    /// Opens a socket at each address.
     pub fn bind(
         alloc: Global,
         clock: C,
         net: &impl Net,
-        udp: SocketAddr,
-        tcp: SocketAddr,
+        udp: &[SocketAddr],
+        tcp: &[SocketAddr],
         wait: Duration,
     ) -> Result<Sockets<C>, BindFault> {
         let poll = Poll::new(net)?;
-        let mut datagrams = match UdpSocket::bind(net, udp) {
-            Ok(socket) => socket,
-            Err(error) => return Err(BindFault::Udp(udp, error)),
-        };
-        let mut newcomers = match TcpListener::bind(net, tcp) {
-            Ok(socket) => socket,
-            Err(error) => return Err(BindFault::Tcp(tcp, error)),
-        };
-        let registry = poll.registry();
-        registry.register(
-            &mut datagrams,
-            Token(DATAGRAMS as usize),
-            Interest::READABLE,
-        )?;
-        registry.register(
-            &mut newcomers,
-            Token(NEWCOMERS as usize),
-            Interest::READABLE,
-        )?;
+        let datagrams = bind_datagrams(alloc, net, &poll, udp)?;
+        let newcomers = bind_newcomers(alloc, net, &poll, udp.len(), tcp)?;
         Ok(Sockets {
             clock,
             wait,
@@ -109,30 +89,49 @@ impl<C: Clock + Drop> Sockets<C> {
             datagrams,
             newcomers,
             connections: BTreeMap::new(alloc),
-            next_connection: FIRST_CONNECTION,
+            next_connection: (udp.len() + tcp.len()) as u64,
             turn: Turn::Datagrams,
-            has_datagrams: false,
-            has_newcomers: false,
-            refused_at: None,
+            ready_datagrams: VecDeque::with_capacity(alloc, udp.len())?,
+            ready_newcomers: VecDeque::with_capacity(alloc, tcp.len())?,
             ready: VecDeque::with_capacity(alloc, 2 * MOST_CONNECTIONS)?,
+            answering: 0,
+            refused_at: None,
             datagram: Vec::from_elem(alloc, 0, LONGEST_DATAGRAM)?,
             piece: Vec::from_elem(alloc, 0, LONGEST_PIECE)?,
         })
     }
 
-    pub fn udp_addr(&self) -> io::Result<SocketAddr> {
-        self.datagrams.local_addr()
+    /// Where datagrams are taken.
+    pub fn udp_addresses(&self, alloc: Global) -> io::Result<Vec<SocketAddr>> {
+        let mut addresses = Vec::new(alloc);
+        for socket in &self.datagrams {
+            addresses.push(socket.local_addr()?)?;
+        }
+        Ok(addresses)
     }
 
-    pub fn tcp_addr(&self) -> io::Result<SocketAddr> {
-        self.newcomers.local_addr()
+    /// Where connections are taken.
+    pub fn tcp_addresses(&self, alloc: Global) -> io::Result<Vec<SocketAddr>> {
+        let mut addresses = Vec::new(alloc);
+        for socket in &self.newcomers {
+            addresses.push(socket.local_addr()?)?;
+        }
+        Ok(addresses)
+    }
+
+    /// The address that a connection came from.
+    pub fn peer(&self, conn: u64) -> Option<SocketAddr> {
+        match self.connections.get(&conn) {
+            Some(connection) => Some(connection.peer()),
+            None => None,
+        }
     }
 
     /// The next event: of the sockets that are ready that of the one whose turn it is. Where none is ready it waits for one.
     pub fn next(&mut self, alloc: Global) -> io::Result<Option<(Moment, Event)>> {
         self.look()?;
         let at = now(&self.clock)?;
-        self.retry(at);
+        self.retry(at)?;
         for _ in 0..MOST_TURNS {
             if self.is_idle() {
                 break;
@@ -146,7 +145,7 @@ impl<C: Clock + Drop> Sockets<C> {
 
     /// Whether no socket is known to be ready.
     fn is_idle(&self) -> bool {
-        !self.has_datagrams && !self.has_newcomers && self.ready.is_empty()
+        self.ready_datagrams.is_empty() && self.ready_newcomers.is_empty() && self.ready.is_empty()
     }
 
     /// Looks which sockets are ready, and waits for one where none was.
@@ -157,27 +156,31 @@ impl<C: Clock + Drop> Sockets<C> {
             Duration::ZERO
         };
         self.poll.poll(&mut self.events, Some(wait))?;
+        let first_newcomers = self.datagrams.len() as u64;
+        let first_connection = first_newcomers + self.newcomers.len() as u64;
         for event in &self.events {
-            match event.token().0 as u64 {
-                DATAGRAMS => self.has_datagrams = true,
-                NEWCOMERS => self.has_newcomers = true,
-                conn => {
-                    flush(&mut self.connections, conn);
-                    if !self.ready.iter().any(|other| *other == conn) {
-                        self.ready.push_back(conn)?;
-                    }
-                }
+            let token = event.token().0 as u64;
+            if token < first_newcomers {
+                note(&mut self.ready_datagrams, token)?;
+            } else if token < first_connection {
+                note(&mut self.ready_newcomers, token - first_newcomers)?;
+            } else {
+                flush(&mut self.connections, token);
+                note(&mut self.ready, token)?;
             }
         }
         Ok(())
     }
 
     /// Once a second asks again for a connection that could not be taken: nothing else may tell that it is still there.
-    fn retry(&mut self, at: Moment) {
+    fn retry(&mut self, at: Moment) -> io::Result<()> {
         if self.refused_at.is_some_and(|sec| sec != at.sec) {
             self.refused_at = None;
-            self.has_newcomers = true;
+            for place in 0..self.newcomers.len() as u64 {
+                note(&mut self.ready_newcomers, place)?;
+            }
         }
+        Ok(())
     }
 
     /// What the next in turn has, if anything.
@@ -203,37 +206,39 @@ impl<C: Clock + Drop> Sockets<C> {
 
     /// A datagram, if there is one. One that is refused memory is lost.
     fn receive(&mut self, alloc: Global) -> io::Result<Option<Event>> {
-        if !self.has_datagrams {
+        let Some(place) = self.ready_datagrams.pop_front() else {
+            return Ok(None);
+        };
+        let Some(socket) = self.datagrams.get(place as usize) else {
+            return Ok(None);
+        };
+        let received = socket.recv_from(&mut self.datagram);
+        if is_drained(&received) {
             return Ok(None);
         }
-        match self.datagrams.recv_from(&mut self.datagram) {
-            Ok((len, peer)) => {
-                let request = Octets::from_slice(alloc, &self.datagram[..len])?;
-                Ok(Some(Event::Datagram { peer, request }))
-            }
-            Err(error) if error.kind() == ErrorKind::WouldBlock => {
-                self.has_datagrams = false;
-                Ok(None)
-            }
-            Err(error) => Err(error),
-        }
+        self.ready_datagrams.push_back(place)?;
+        let (len, peer) = received?;
+        self.answering = place as usize;
+        let request = Octets::from_slice(alloc, &self.datagram[..len])?;
+        Ok(Some(Event::Datagram { peer, request }))
     }
 
     /// A new connection, if there is one.
     fn accept(&mut self, alloc: Global, at: Moment) -> io::Result<Option<Event>> {
-        if !self.has_newcomers {
+        let Some(place) = self.ready_newcomers.pop_front() else {
             return Ok(None);
-        }
-        match self.newcomers.accept() {
-            Ok((stream, _)) => {
-                let conn = self.hold(alloc, stream)?;
+        };
+        let Some(socket) = self.newcomers.get(place as usize) else {
+            return Ok(None);
+        };
+        match socket.accept() {
+            Ok((stream, peer)) => {
+                self.ready_newcomers.push_back(place)?;
+                let conn = self.hold(alloc, stream, peer)?;
                 Ok(Some(Event::Opened { conn }))
             }
+            Err(error) if error.kind() == ErrorKind::WouldBlock => Ok(None),
             Err(error) => {
-                self.has_newcomers = false;
-                if error.kind() == ErrorKind::WouldBlock {
-                    return Ok(None);
-                }
                 self.refused_at = Some(at.sec);
                 Err(error)
             }
@@ -241,7 +246,7 @@ impl<C: Clock + Drop> Sockets<C> {
     }
 
     /// Holds a new connection, under a number that no other had.
-    fn hold(&mut self, alloc: Global, mut stream: TcpStream) -> io::Result<u64> {
+    fn hold(&mut self, alloc: Global, mut stream: TcpStream, peer: SocketAddr) -> io::Result<u64> {
         if self.connections.len() >= MOST_CONNECTIONS {
             self.drop_oldest_closing();
         }
@@ -252,7 +257,7 @@ impl<C: Clock + Drop> Sockets<C> {
         let token = Token(conn as usize);
         self.poll.registry().register(&mut stream, token, both)?;
         self.connections
-            .insert(conn, Connection::new(alloc, stream))?;
+            .insert(conn, Connection::new(alloc, stream, peer))?;
         Ok(conn)
     }
 
@@ -317,10 +322,7 @@ impl<C: Clock + Drop> Sockets<C> {
     /// Does an action. A connection on which that fails is let go.
     pub fn act(&mut self, action: &Action) -> io::Result<()> {
         match action {
-            Action::SendTo { peer, message } => {
-                self.datagrams.send_to(message.as_slice(), *peer)?;
-                Ok(())
-            }
+            Action::SendTo { peer, message } => self.send(*peer, message.as_slice()),
             Action::Write { conn, message } => {
                 let written = match self.connections.get_mut(conn) {
                     Some(connection) => connection.write(message.as_slice()),
@@ -335,6 +337,17 @@ impl<C: Clock + Drop> Sockets<C> {
                 self.close(*conn);
                 Ok(())
             }
+        }
+    }
+
+    /// Sends a reply from the address that the last datagram came to.
+    fn send(&self, peer: SocketAddr, message: &[u8]) -> io::Result<()> {
+        match self.datagrams.get(self.answering) {
+            Some(socket) => {
+                socket.send_to(message, peer)?;
+                Ok(())
+            }
+            None => Err(ErrorKind::NotConnected.into()),
         }
     }
 
@@ -357,5 +370,82 @@ fn flush(connections: &mut BTreeMap<u64, Connection>, conn: u64) {
     let flushed = connection.flush();
     if connection.is_closing() && (connection.is_over() || flushed.is_err()) {
         connections.remove(&conn);
+    }
+}
+
+/// Opens a socket for datagrams at each address, and has the poll know each by its place.
+fn bind_datagrams(
+    alloc: Global,
+    net: &impl Net,
+    poll: &Poll,
+    addresses: &[SocketAddr],
+) -> Result<Vec<UdpSocket>, BindFault> {
+    let mut sockets = Vec::new(alloc);
+    for (place, address) in addresses.iter().enumerate() {
+        sockets.push(bind_datagram(net, poll, place, *address)?)?;
+    }
+    Ok(sockets)
+}
+
+fn bind_datagram(
+    net: &impl Net,
+    poll: &Poll,
+    token: usize,
+    address: SocketAddr,
+) -> Result<UdpSocket, BindFault> {
+    match UdpSocket::bind(net, address) {
+        Ok(mut socket) => {
+            let registry = poll.registry();
+            registry.register(&mut socket, Token(token), Interest::READABLE)?;
+            Ok(socket)
+        }
+        Err(error) => Err(BindFault::Udp(address, error)),
+    }
+}
+
+/// Opens a socket that takes connections at each address. The poll counts from `first` with them.
+fn bind_newcomers(
+    alloc: Global,
+    net: &impl Net,
+    poll: &Poll,
+    first: usize,
+    addresses: &[SocketAddr],
+) -> Result<Vec<TcpListener>, BindFault> {
+    let mut sockets = Vec::new(alloc);
+    for (token, address) in (first..).zip(addresses) {
+        sockets.push(bind_newcomer(net, poll, token, *address)?)?;
+    }
+    Ok(sockets)
+}
+
+fn bind_newcomer(
+    net: &impl Net,
+    poll: &Poll,
+    token: usize,
+    address: SocketAddr,
+) -> Result<TcpListener, BindFault> {
+    match TcpListener::bind(net, address) {
+        Ok(mut socket) => {
+            let registry = poll.registry();
+            registry.register(&mut socket, Token(token), Interest::READABLE)?;
+            Ok(socket)
+        }
+        Err(error) => Err(BindFault::Tcp(address, error)),
+    }
+}
+
+/// Adds what may have something at the end, unless it stands there already.
+fn note(ready: &mut VecDeque<u64>, token: u64) -> io::Result<()> {
+    if !ready.iter().any(|other| *other == token) {
+        ready.push_back(token)?;
+    }
+    Ok(())
+}
+
+/// Whether nothing more is there for now.
+fn is_drained<T>(outcome: &io::Result<T>) -> bool {
+    match outcome {
+        Err(error) => error.kind() == ErrorKind::WouldBlock,
+        Ok(_) => false,
     }
 }

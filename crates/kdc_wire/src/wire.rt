@@ -3,13 +3,14 @@ use crate::bind_fault::BindFault;
 use crate::sockets::Sockets;
 use kdc_hub::{Action, Event, Wire, WireFault};
 use krb_fields::Moment;
+use observed_wire::Peers;
 use std::alloc::Global;
 use std::io;
 use std::net::{Net, SocketAddr};
 use std::rt::Clock;
 use std::time::Duration;
 
-/// A wire over one socket for datagrams and one that takes connections. It tells no record.
+/// A wire over sockets for datagrams and sockets that take connections, each at an address of its own. It tells no record.
 #[derive(Drop)]
 pub struct SocketWire<C> {
     sockets: Sockets<C>,
@@ -17,13 +18,13 @@ pub struct SocketWire<C> {
 }
 
 impl<C: Clock + Drop> SocketWire<C> {
-    /// Opens both sockets. Where nothing comes, a poll waits for so long.
+    /// Opens a socket at each address. Where nothing comes, a poll waits for so long.
     pub fn bind(
         alloc: Global,
         clock: C,
         net: &impl Net,
-        udp: SocketAddr,
-        tcp: SocketAddr,
+        udp: &[SocketAddr],
+        tcp: &[SocketAddr],
         wait: Duration,
     ) -> Result<SocketWire<C>, BindFault> {
         Ok(SocketWire {
@@ -33,13 +34,19 @@ impl<C: Clock + Drop> SocketWire<C> {
     }
 
     /// Where datagrams are taken.
-    pub fn udp_addr(&self) -> io::Result<SocketAddr> {
-        self.sockets.udp_addr()
+    pub fn udp_addresses(&self, alloc: Global) -> io::Result<Vec<SocketAddr>> {
+        self.sockets.udp_addresses(alloc)
     }
 
     /// Where connections are taken.
-    pub fn tcp_addr(&self) -> io::Result<SocketAddr> {
-        self.sockets.tcp_addr()
+    pub fn tcp_addresses(&self, alloc: Global) -> io::Result<Vec<SocketAddr>> {
+        self.sockets.tcp_addresses(alloc)
+    }
+}
+
+impl<C: Clock + Drop> Peers for SocketWire<C> {
+    fn peer(&self, conn: u64) -> Option<SocketAddr> {
+        self.sockets.peer(conn)
     }
 }
 

@@ -8,7 +8,7 @@ use crate::serving::serve_realm;
 use clap::ArgMatches;
 use clap::error::ErrorKind;
 use kdc_script::{FAILED, run_script};
-use kdcd_start::{read_words, serve_options};
+use kdcd_start::{WordsFault, read_words, serve_options};
 use std::process::ExitCode;
 use std::{env, io};
 
@@ -43,12 +43,13 @@ fn run(rt: &HostRuntime) -> io::Result<u8> {
 fn run_subcommand(rt: &HostRuntime, matches: &ArgMatches<'_>) -> io::Result<u8> {
     match matches.subcommand() {
         Some(("script", _)) => Ok(run_script(rt.alloc(), rt.stdin(), &mut rt.stdout())),
-        Some(("serve", words)) => match serve_options(words) {
+        Some(("serve", words)) => match serve_options(rt.alloc(), words) {
             Ok(options) => serve_realm(rt, &options),
-            Err(fault) => {
+            Err(WordsFault::Amiss(fault)) => {
                 println!(rt; "error: {fault}")?;
                 Ok(USAGE)
             }
+            Err(WordsFault::Memory) => Err(io::Error::from(io::ErrorKind::OutOfMemory)),
         },
         _ => Ok(USAGE),
     }

@@ -3,13 +3,14 @@ use kdc_core::{Kdc, Opening};
 use kdc_hub::Hub;
 use kdc_serving::serve_life;
 use kdc_wire::{BindFault, SocketWire, now};
-use kdcd_start::{FileFault, RowsFile, ServeOptions, read_whole, seed_of};
-use principal_rows::Limits;
+use kdcd_start::{FileFault, RequestLines, RowsFile, ServeOptions, Started, read_whole, seed_of};
+use observed_wire::Observed;
 use rand_chacha::ChaCha20Rng;
 use rand_core::SeedableRng;
 use std::alloc::AllocError;
 use std::fs::File;
 use std::io::Stderr;
+use std::random::RandomSource;
 use std::time::Duration;
 use std::{fmt, io};
 
@@ -33,6 +34,8 @@ const WAIT: u64 = 100;
 enum StartFault<'a> {
     /// The file of this path.
     File(&'a str, FileFault),
+    /// The system's source of random octets.
+    Random(io::Error),
     Clock(io::Error),
     Sockets(BindFault),
     Memory,
@@ -42,6 +45,7 @@ impl fmt::Display for StartFault<'_> {
     fn fmt<W: fmt::Write>(&self, f: &mut fmt::Formatter<W>) -> fmt::Result {
         match self {
             StartFault::File(path, fault) => write!(f, "{path}: {fault}"),
+            StartFault::Random(error) => write!(f, "random octets: {error}"),
             StartFault::Clock(error) => write!(f, "the clock: {error}"),
             StartFault::Sockets(fault) => write!(f, "{fault}"),
             StartFault::Memory => f.write_str("out of memory"),
@@ -65,11 +69,16 @@ impl StartFault<'_> {
     }
 }
 
+/// The sockets, and the log of what comes and goes through them.
+type ServerWire = Observed<SocketWire<HostRuntime>, RequestLines<Stderr>>;
+
 /// A server that listens.
 #[derive(Drop)]
 struct Server<'a> {
     hub: Hub<ChaCha20Rng>,
-    wire: SocketWire<HostRuntime>,
+    wire: ServerWire,
+    /// How many rows it starts with.
+    row_count: usize,
     /// Where its rows come from, unless they are fixed.
     rows: Option<RowsFile<'a, HostRuntime, Stderr>>,
 }
@@ -77,32 +86,63 @@ struct Server<'a> {
 /// Serves as the options say, and gives the status. An error is a failed write.
 pub fn serve_realm(rt: &HostRuntime, options: &ServeOptions<'_>) -> io::Result<u8> {
     match start(rt, options) {
-        Ok(mut server) => serve_rounds(rt, &mut server, options.rounds),
+        Ok(mut server) => serve_rounds(rt, &mut server, options),
         Err(fault) => report(rt, &fault),
     }
 }
 
-fn serve_rounds(rt: &HostRuntime, server: &mut Server<'_>, rounds: Option<u32>) -> io::Result<u8> {
-    let (udp, tcp) = (server.wire.udp_addr()?, server.wire.tcp_addr()?);
-    eprintln!(rt; "kdcd: serving on udp {udp} and tcp {tcp}")?;
-    let Server { hub, wire, rows } = server;
-    let totals = serve_life(
-        rt.alloc(),
+fn serve_rounds(
+    rt: &HostRuntime,
+    server: &mut Server<'_>,
+    options: &ServeOptions<'_>,
+) -> io::Result<u8> {
+    say_start(rt, server, options)?;
+    let rounds = options.rounds.map_or(ENDLESS, u64::from);
+    let Server {
+        hub,
         wire,
         rows,
-        hub,
-        rounds.map_or(ENDLESS, u64::from),
-    );
+        ..
+    } = server;
+    let totals = serve_life(rt.alloc(), wire, rows, hub, rounds);
     println!(rt;
         "served {} {} {}",
         totals.events, totals.faults, totals.refused
     )?;
+    say_lost(rt, &server.wire);
     Ok(DONE)
+}
+
+/// Says where it listens, and what it serves. Only an address that isn't known is an error.
+fn say_start(rt: &HostRuntime, server: &Server<'_>, options: &ServeOptions<'_>) -> io::Result<()> {
+    let sockets = server.wire.wire();
+    let udp = sockets.udp_addresses(rt.alloc())?;
+    let tcp = sockets.tcp_addresses(rt.alloc())?;
+    let started = Started {
+        udp: &udp,
+        tcp: &tcp,
+        db: options.db,
+        rows: server.row_count,
+        limits: options.limits,
+    };
+    // If that fails, there is nobody to be told.
+    let _ = eprint!(rt; "{started}");
+    Ok(())
+}
+
+/// Says how many lines of the log were lost, if any.
+fn say_lost(rt: &HostRuntime, wire: &ServerWire) {
+    if let Some(log) = wire.observer() {
+        let lost = log.lost();
+        if lost > 0 {
+            let _ = eprintln!(rt; "kdcd: log: {lost} lines are lost");
+        }
+    }
 }
 
 /// Says why a server did not start.
 fn report(rt: &HostRuntime, fault: &StartFault<'_>) -> io::Result<u8> {
-    eprintln!(rt; "kdcd: {fault}")?;
+    let _ = eprintln!(rt; "kdcd: {fault}");
     match fault.refusal() {
         Some(name) => {
             println!(rt; "refused {name}")?;
@@ -121,34 +161,67 @@ fn start<'a>(
     options: &ServeOptions<'a>,
 ) -> Result<Server<'a>, StartFault<'a>> {
     let rows = RowsFile::new(rt, options.db, rt.stderr());
-    let hub = open_hub(rt, options, &rows)?;
-    let wait = Duration::from_millis(WAIT);
-    match SocketWire::bind(rt.alloc(), rt.clone()?, rt, options.udp, options.tcp, wait) {
+    let (hub, row_count) = open_hub(rt, options, &rows)?;
+    match open_wire(rt, options) {
         Ok(wire) => Ok(Server {
             hub,
             wire,
+            row_count,
             rows: (!options.is_fixed).then_some(rows),
         }),
         Err(fault) => Err(StartFault::Sockets(fault)),
     }
 }
 
+fn open_wire(rt: &HostRuntime, options: &ServeOptions<'_>) -> Result<ServerWire, BindFault> {
+    let wait = Duration::from_millis(WAIT);
+    let sockets = SocketWire::bind(
+        rt.alloc(),
+        rt.clone()?,
+        rt,
+        &options.udp,
+        &options.tcp,
+        wait,
+    )?;
+    let lines = RequestLines::new(rt.stderr(), options.limits.greatest_life);
+    let log = options.logs.then_some(lines);
+    Ok(Observed::new(rt.alloc(), sockets, log))
+}
+
+/// A hub over the rows, and how many there are.
 fn open_hub<'a>(
     rt: &HostRuntime,
     options: &ServeOptions<'a>,
     rows: &RowsFile<'_, HostRuntime, Stderr>,
-) -> Result<Hub<ChaCha20Rng>, StartFault<'a>> {
+) -> Result<(Hub<ChaCha20Rng>, usize), StartFault<'a>> {
     let database = match rows.read(rt.alloc()) {
         Ok(database) => database,
         Err(fault) => return Err(StartFault::File(options.db, fault)),
     };
-    let seed = match read_seed(rt, options.seed) {
-        Ok(seed) => seed,
-        Err(fault) => return Err(StartFault::File(options.seed, fault)),
-    };
+    let row_count = database.len();
+    let rng = ChaCha20Rng::from_seed(seed(rt, options.seed)?);
     let opening = opening(rt, options.is_first)?;
-    let kdc = Kdc::open(rt.alloc(), database, limits(), opening)?;
-    Ok(Hub::new(rt.alloc(), kdc, ChaCha20Rng::from_seed(seed)))
+    let kdc = Kdc::open(rt.alloc(), database, options.limits, opening)?;
+    Ok((Hub::new(rt.alloc(), kdc, rng), row_count))
+}
+
+/// The seed that a file holds, or one that the system gives.
+fn seed<'a>(rt: &HostRuntime, path: Option<&'a str>) -> Result<[u8; 32], StartFault<'a>> {
+    let Some(path) = path else {
+        return system_seed(rt);
+    };
+    match read_seed(rt, path) {
+        Ok(seed) => Ok(seed),
+        Err(fault) => Err(StartFault::File(path, fault)),
+    }
+}
+
+fn system_seed<'a>(rt: &HostRuntime) -> Result<[u8; 32], StartFault<'a>> {
+    let mut seed = [0; 32];
+    match rt.fill_bytes(&mut seed) {
+        Ok(()) => Ok(seed),
+        Err(error) => Err(StartFault::Random(error)),
+    }
 }
 
 fn read_seed(rt: &HostRuntime, path: &str) -> Result<[u8; 32], FileFault> {
@@ -163,17 +236,5 @@ fn opening<'a>(rt: &HostRuntime, is_first: bool) -> Result<Opening, StartFault<'
     match now(rt) {
         Ok(at) => Ok(Opening::Restart(at)),
         Err(error) => Err(StartFault::Clock(error)),
-    }
-}
-
-/// The limits of a realm: 1,024 authenticators are remembered of each client, no account is locked, tickets last for ten
-/// hours at most and can be renewed for a week.
-fn limits() -> Limits {
-    Limits {
-        remembered: 1_024,
-        lock_after: 0,
-        lock_seconds: 0,
-        greatest_life: 36_000,
-        greatest_renewable: 604_800,
     }
 }

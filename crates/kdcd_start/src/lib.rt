@@ -2,9 +2,13 @@
 #![tactic(auto)]
 
 mod files;
+mod request_lines;
 mod rows_file;
+mod started;
 mod words;
 
 pub use crate::files::{FileFault, database_of, read_whole, seed_of};
+pub use crate::request_lines::RequestLines;
 pub use crate::rows_file::RowsFile;
-pub use crate::words::{ServeOptions, read_words, serve_options};
+pub use crate::started::Started;
+pub use crate::words::{ServeOptions, WordsFault, read_words, serve_options};

@@ -1,27 +1,56 @@
 //! The words of a command line.
 use clap::error::Error;
-use clap::{ArgMatches, Command};
-use command_options::{OptionWords, flag, option, with_options};
-use std::alloc::{AllocError, Global};
+use clap::{ArgAction, ArgMatches, Command};
+use command_options::{OptionWords, flag, option};
+use principal_rows::Limits;
+use std::alloc::{AllocError, AllocFailed, Global};
 use std::net::SocketAddr;
 use text_fields::number_u32;
 
 /// What a server is started with.
-#[derive(Clone, Copy, Debug)]
+#[derive(Debug, Drop)]
 pub struct ServeOptions<'a> {
     /// The path of the database's file.
     pub db: &'a str,
-    pub udp: SocketAddr,
-    pub tcp: SocketAddr,
+    /// Where datagrams are taken.
+    pub udp: Vec<SocketAddr>,
+    /// Where connections are taken.
+    pub tcp: Vec<SocketAddr>,
     /// How many rounds are served; `None` is as many as come.
     pub rounds: Option<u32>,
-    /// The path of the seed's file.
-    pub seed: &'a str,
+    /// The path of the seed's file; `None` is the system's own source.
+    pub seed: Option<&'a str>,
+    pub limits: Limits,
     /// Whether no request was ever answered with this database.
     pub is_first: bool,
     /// Whether the database is read once, and never looked at again.
     pub is_fixed: bool,
+    /// Whether each request is a line on standard error.
+    pub logs: bool,
 }
+
+/// Why the words behind `serve` are not taken.
+#[derive(Clone, Copy, Debug)]
+pub enum WordsFault {
+    /// What is wrong with them.
+    Amiss(&'static str),
+    Memory,
+}
+
+impl From<AllocError> for WordsFault {
+    fn from(_: AllocError) -> WordsFault {
+        WordsFault::Memory
+    }
+}
+
+impl<T: Drop> From<AllocFailed<T>> for WordsFault {
+    fn from(_: AllocFailed<T>) -> WordsFault {
+        WordsFault::Memory
+    }
+}
+
+/// The most addresses of one server.
+const MOST_ADDRESSES: usize = 8;
 
 const ABOUT: &str = "Serves a realm over UDP and TCP";
 
@@ -35,47 +64,85 @@ The file of the database is looked at before each 16 rounds. If it was changed i
 then on; all that is remembered stays. A file that can't be read, is refused, or is of another realm (OtherRealm) leaves
 the rows as they are. Standard error says so once, and the file is looked at again when it changes again.
 
-Once it listens it says so on standard error, with the addresses. A port 0 is one that the system gives.
+Once it listens it says so on standard error: the addresses, the database with its rows, and the limits. A port 0 is one that
+the system gives. With --log each request is a line there: the moment in UTC, who asked, udp or tcp, as or tgs, the client,
+the service, and what came of it. A line that can't be written is lost.
 
 Status: 0 after the last round; 1 where a file is refused (`refused NAME`: NotJson, BadVersion, BadRow, NoTicketGranter,
 ShortSeed, LongFile); 2 for these words; 3 where a file, a socket, the clock or memory failed (`failed`). Why it could not
 start stands on standard error.";
 
-/// The options of `kdcd serve` that have to be there.
-const OPTIONS: &[OptionWords] = &[
-    OptionWords {
-        name: "db",
-        shape: "FILE",
-        help: "The database, as `kadm` writes it",
-    },
+const DB: OptionWords = OptionWords {
+    name: "db",
+    shape: "FILE",
+    help: "The database, as `kadm` writes it",
+};
+
+/// The options that may stand more than once.
+const ADDRESSES: &[OptionWords] = &[
     OptionWords {
         name: "udp",
         shape: "ADDRESS:PORT",
-        help: "Where datagrams are taken, as 127.0.0.1:88 or [::]:88",
+        help: "Where datagrams are taken, as 127.0.0.1:88 or [::1]:88. It and --tcp may stand 8 times in all",
     },
     OptionWords {
         name: "tcp",
         shape: "ADDRESS:PORT",
         help: "Where connections are taken",
     },
+];
+
+/// The options that may be left away.
+const OPTIONS: &[OptionWords] = &[
+    OptionWords {
+        name: "rounds",
+        shape: "N",
+        help: "How many rounds it serves, 0 to 4294967295",
+    },
     OptionWords {
         name: "seed",
         shape: "FILE",
-        help: "32 random octets, others at each start: all keys of tickets are made of them",
+        help: "32 random octets, others at each start: all keys of tickets are made of them. Else the system gives them",
+    },
+    OptionWords {
+        name: "remembered",
+        shape: "N",
+        help: "How many authenticators are remembered of each client, 1 to 65536; else 1024",
+    },
+    OptionWords {
+        name: "lock-after",
+        shape: "N",
+        help: "After how many failed logins a client is locked; else, and with 0, never",
+    },
+    OptionWords {
+        name: "lock-seconds",
+        shape: "N",
+        help: "For how many seconds after the last failure; else 0",
+    },
+    OptionWords {
+        name: "greatest-life",
+        shape: "N",
+        help: "How many seconds a ticket lives at most; else 36000",
+    },
+    OptionWords {
+        name: "greatest-renewable",
+        shape: "N",
+        help: "For how many seconds a ticket is renewed at most; else 604800",
     },
 ];
 
-/// An option that may be left away.
-const ROUNDS: OptionWords = OptionWords {
-    name: "rounds",
-    shape: "N",
-    help: "How many rounds it serves, 0 to 4294967295",
-};
-
-const FIRST: &str =
-    "No request was ever answered with this database. Else every TGS-REQ is refused as skewed for 301 seconds";
-
-const FIXED: &str = "The database is read once, and its file never looked at again";
+/// The options without a value.
+const FLAGS: &[(&str, &str)] = &[
+    (
+        "first",
+        "No request was ever answered with this database. Else every TGS-REQ is refused as skewed for 301 seconds",
+    ),
+    (
+        "fixed",
+        "The database is read once, and its file never looked at again",
+    ),
+    ("log", "Each request is a line on standard error"),
+];
 
 /// Reads the words, the program's name in front.
 pub fn read_words<'a>(alloc: Global, words: &'a [String]) -> Result<ArgMatches<'a>, Error> {
@@ -89,38 +156,152 @@ pub fn read_words<'a>(alloc: Global, words: &'a [String]) -> Result<ArgMatches<'
 }
 
 fn serve_command<'a>(alloc: Global) -> Result<Command<'a>, AllocError> {
-    let command = Command::new(alloc, "serve")
+    let mut command = Command::new(alloc, "serve")
         .about(ABOUT)
-        .after_help(AFTER_HELP);
-    with_options(alloc, command, OPTIONS)?
-        .arg(option(alloc, &ROUNDS))?
-        .arg(flag(alloc, "first", FIRST))?
-        .arg(flag(alloc, "fixed", FIXED))
+        .after_help(AFTER_HELP)
+        .arg(option(alloc, &DB).required(true))?;
+    for words in ADDRESSES {
+        command = command.arg(option(alloc, words).action(ArgAction::Append))?;
+    }
+    for words in OPTIONS {
+        command = command.arg(option(alloc, words))?;
+    }
+    for (name, help) in FLAGS {
+        command = command.arg(flag(alloc, name, help))?;
+    }
+    Ok(command)
 }
 
-/// The options that the words behind `serve` stand for; else what is wrong with them.
-pub fn serve_options<'a>(words: &ArgMatches<'a>) -> Result<ServeOptions<'a>, &'static str> {
+/// The options that the words behind `serve` stand for.
+pub fn serve_options<'a>(
+    alloc: Global,
+    words: &ArgMatches<'a>,
+) -> Result<ServeOptions<'a>, WordsFault> {
+    let udp = addresses(
+        alloc,
+        words,
+        "udp",
+        "--udp takes an address and a port, as 127.0.0.1:88",
+    )?;
+    let tcp = addresses(
+        alloc,
+        words,
+        "tcp",
+        "--tcp takes an address and a port, as 127.0.0.1:88",
+    )?;
+    if let Some(fault) = count_fault(udp.len(), tcp.len()) {
+        return Err(WordsFault::Amiss(fault));
+    }
+    with_addresses(words, udp, tcp)
+}
+
+/// The same, where the addresses are known.
+fn with_addresses<'a>(
+    words: &ArgMatches<'a>,
+    udp: Vec<SocketAddr>,
+    tcp: Vec<SocketAddr>,
+) -> Result<ServeOptions<'a>, WordsFault> {
+    let db = words
+        .get_str("db")
+        .ok_or(WordsFault::Amiss("--db is missing"))?;
+    let rounds = rounds(words)?;
+    let limits = limits(words)?;
     Ok(ServeOptions {
-        db: words.get_str("db").ok_or("--db is missing")?,
-        udp: address(words, "udp").ok_or("--udp takes an address and a port, as 127.0.0.1:88")?,
-        tcp: address(words, "tcp").ok_or("--tcp takes an address and a port, as 127.0.0.1:88")?,
-        rounds: rounds(words)?,
-        seed: words.get_str("seed").ok_or("--seed is missing")?,
+        db,
+        udp,
+        tcp,
+        rounds,
+        seed: words.get_str("seed"),
+        limits,
         is_first: words.get_flag("first"),
         is_fixed: words.get_flag("fixed"),
+        logs: words.get_flag("log"),
     })
 }
 
-fn address(words: &ArgMatches<'_>, name: &str) -> Option<SocketAddr> {
-    words.get_str(name)?.parse().ok()
+/// The addresses that stand behind an option, each time that it stands there.
+fn addresses(
+    alloc: Global,
+    words: &ArgMatches<'_>,
+    name: &str,
+    fault: &'static str,
+) -> Result<Vec<SocketAddr>, WordsFault> {
+    let mut addresses = Vec::new(alloc);
+    let Some(texts) = words.get_strs(name) else {
+        return Ok(addresses);
+    };
+    for text in texts {
+        match text.parse() {
+            Ok(address) => addresses.push(address)?,
+            Err(_) => return Err(WordsFault::Amiss(fault)),
+        }
+    }
+    Ok(addresses)
 }
 
-fn rounds(words: &ArgMatches<'_>) -> Result<Option<u32>, &'static str> {
+/// What is wrong with so many addresses of each kind.
+fn count_fault(udp: usize, tcp: usize) -> Option<&'static str> {
+    if udp == 0 && tcp == 0 {
+        return Some("--udp or --tcp has to stand there");
+    }
+    if udp > MOST_ADDRESSES || tcp > MOST_ADDRESSES - udp {
+        return Some("--udp and --tcp may stand 8 times in all");
+    }
+    None
+}
+
+fn rounds(words: &ArgMatches<'_>) -> Result<Option<u32>, WordsFault> {
     let Some(word) = words.get_str("rounds") else {
         return Ok(None);
     };
     match number_u32(word) {
         Some(rounds) => Ok(Some(rounds)),
-        None => Err("--rounds takes a number from 0 to 4294967295"),
+        None => Err(WordsFault::Amiss("--rounds takes a number from 0 to 4294967295")),
+    }
+}
+
+const REMEMBERED_FAULT: &str = "--remembered takes a number from 1 to 65536";
+
+fn limits(words: &ArgMatches<'_>) -> Result<Limits, WordsFault> {
+    let limits = Limits::new(
+        limit(words, "remembered", 1_024, REMEMBERED_FAULT)?,
+        limit(
+            words,
+            "lock-after",
+            0,
+            "--lock-after takes a number from 0 to 4294967295",
+        )?,
+        limit(
+            words,
+            "lock-seconds",
+            0,
+            "--lock-seconds takes a number from 0 to 4294967295",
+        )?,
+        limit(
+            words,
+            "greatest-life",
+            36_000,
+            "--greatest-life takes a number from 0 to 4294967295",
+        )?,
+        limit(
+            words,
+            "greatest-renewable",
+            604_800,
+            "--greatest-renewable takes a number from 0 to 4294967295",
+        )?,
+    );
+    limits.ok_or(WordsFault::Amiss(REMEMBERED_FAULT))
+}
+
+/// The number behind an option, or another where the option is left away.
+fn limit(
+    words: &ArgMatches<'_>,
+    name: &str,
+    otherwise: u32,
+    fault: &'static str,
+) -> Result<u32, WordsFault> {
+    match words.get_str(name) {
+        Some(word) => number_u32(word).ok_or(WordsFault::Amiss(fault)),
+        None => Ok(otherwise),
     }
 }

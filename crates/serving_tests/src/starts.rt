@@ -1,51 +1,74 @@
 //! What the words of `kdcd serve` stand for, and which files are taken (`kdcd_start`).
-use kdcd_start::{FileFault, database_of, read_whole, read_words, seed_of, serve_options};
+use clap::ArgMatches;
+use kdcd_start::{
+    FileFault, Started, WordsFault, database_of, read_whole, read_words, seed_of, serve_options,
+};
+use principal_rows::Limits;
 use std::alloc::{AllocError, Global};
 use std::io::Read;
 use std::test::Fail;
 
-/// Command lines, and whether each is at fault.
-const LINES: &[(&str, bool)] = &[
+/// What stands behind `kdcd serve --db d`, and what is wrong with it: none, the option that is named, or what the reader of
+/// words says (`?`).
+const LINES: &[(&str, Option<&str>)] = &[
     (
-        "kdcd serve --db d --udp 127.0.0.1:88 --tcp [::1]:88 --rounds 007 --seed s",
-        false,
+        "--udp 127.0.0.1:88 --tcp [::1]:88 --rounds 007 --seed s",
+        None,
     ),
     (
-        "kdcd serve --db d --udp 127.0.0.1:88 --tcp [::1]:88 --rounds 4294967295 --seed s --first",
-        false,
+        "--udp 127.0.0.1:88 --tcp [::1]:88 --rounds 4294967295 --seed s --first",
+        None,
+    ),
+    ("--udp 127.0.0.1:88 --rounds 4294967296", Some("--rounds")),
+    ("--udp 127.0.0.1:88 --rounds +7", Some("--rounds")),
+    ("--udp 127.0.0.1:88 --rounds many", Some("--rounds")),
+    ("--tcp [::1]:88 --seed s --fixed --log", None),
+    ("--udp 127.0.0.1 --tcp [::1]:88", Some("--udp")),
+    ("--udp 127.0.0.1:88 --tcp localhost:88", Some("--tcp")),
+    ("--udp 127.0.0.1:88 --udp 127.0.0.2", Some("--udp")),
+    ("--seed s", Some("--udp")),
+    (
+        "--udp 127.0.0.1:1 --udp 127.0.0.1:2 --udp 127.0.0.1:3 --udp 127.0.0.1:4 --tcp [::1]:1 --tcp [::1]:2 --tcp [::1]:3 --tcp [::1]:4",
+        None,
     ),
     (
-        "kdcd serve --db d --udp 127.0.0.1:88 --tcp [::1]:88 --rounds 4294967296 --seed s",
-        true,
+        "--udp 127.0.0.1:1 --udp 127.0.0.1:2 --udp 127.0.0.1:3 --udp 127.0.0.1:4 --tcp [::1]:1 --tcp [::1]:2 --tcp [::1]:3 --tcp [::1]:4 --tcp [::1]:5",
+        Some("--udp"),
+    ),
+    ("--udp 127.0.0.1:88 --remembered 1", None),
+    ("--udp 127.0.0.1:88 --remembered 65536", None),
+    ("--udp 127.0.0.1:88 --remembered 0", Some("--remembered")),
+    (
+        "--udp 127.0.0.1:88 --remembered 65537",
+        Some("--remembered"),
+    ),
+    ("--udp 127.0.0.1:88 --remembered x", Some("--remembered")),
+    (
+        "--udp 127.0.0.1:88 --lock-after 0 --lock-seconds 0 --greatest-life 0 --greatest-renewable 0",
+        None,
     ),
     (
-        "kdcd serve --db d --udp 127.0.0.1:88 --tcp [::1]:88 --rounds +7 --seed s",
-        true,
+        "--udp 127.0.0.1:88 --lock-after 4294967295 --lock-seconds 4294967295 --greatest-life 4294967295 --greatest-renewable 4294967295",
+        None,
     ),
     (
-        "kdcd serve --db d --udp 127.0.0.1:88 --tcp [::1]:88 --seed s",
-        false,
+        "--udp 127.0.0.1:88 --lock-after 4294967296",
+        Some("--lock-after"),
     ),
     (
-        "kdcd serve --db d --udp 127.0.0.1:88 --tcp [::1]:88 --seed s --fixed",
-        false,
+        "--udp 127.0.0.1:88 --lock-seconds 4294967296",
+        Some("--lock-seconds"),
     ),
     (
-        "kdcd serve --db d --udp 127.0.0.1:88 --tcp [::1]:88 --rounds many --seed s",
-        true,
+        "--udp 127.0.0.1:88 --greatest-life 10h",
+        Some("--greatest-life"),
     ),
     (
-        "kdcd serve --db d --udp 127.0.0.1 --tcp [::1]:88 --rounds 7 --seed s",
-        true,
+        "--udp 127.0.0.1:88 --greatest-renewable 1.5",
+        Some("--greatest-renewable"),
     ),
-    (
-        "kdcd serve --db d --udp localhost:88 --tcp [::1]:88 --rounds 7 --seed s",
-        true,
-    ),
-    (
-        "kdcd serve --udp 127.0.0.1:88 --tcp [::1]:88 --rounds 7 --seed s",
-        true,
-    ),
+    ("--udp 127.0.0.1:88 --seed s --seed s", Some("?")),
+    ("--udp 127.0.0.1:88 --log yes", Some("?")),
 ];
 
 fn words_of(alloc: Global, line: &str) -> Result<Vec<String>, AllocError> {
@@ -56,23 +79,91 @@ fn words_of(alloc: Global, line: &str) -> Result<Vec<String>, AllocError> {
     Ok(words)
 }
 
-/// Whether the words are at fault.
-fn is_fault(alloc: Global, words: &[String]) -> bool {
+/// What is wrong with the words.
+fn fault(alloc: Global, words: &[String]) -> Option<&'static str> {
     match read_words(alloc, words) {
         Ok(matches) => match matches.subcommand() {
-            Some((_, words)) => serve_options(words).is_err(),
-            None => true,
+            Some((_, words)) => options_fault(alloc, words),
+            None => Some("?"),
         },
-        Err(_) => true,
+        Err(_) => Some("?"),
+    }
+}
+
+fn options_fault(alloc: Global, words: &ArgMatches<'_>) -> Option<&'static str> {
+    match serve_options(alloc, words) {
+        Ok(_) => None,
+        Err(WordsFault::Amiss(fault)) => Some(fault),
+        Err(WordsFault::Memory) => Some("memory"),
+    }
+}
+
+/// Whether a fault begins with what is wanted, or both are none.
+fn is_wanted(fault: Option<&str>, wanted: Option<&str>) -> bool {
+    match (fault, wanted) {
+        (None, None) => true,
+        (Some(fault), Some(wanted)) => fault.starts_with(wanted),
+        _ => false,
     }
 }
 
 #[test]
 fn words_that_are_read(rt: HostRuntime) -> Result<(), Fail> {
+    let alloc = rt.alloc();
     for (line, wanted) in LINES {
-        let words = words_of(rt.alloc(), line)?;
-        assert!(rt; is_fault(rt.alloc(), &words) == *wanted, "{line}");
+        let line = format!(in alloc; "kdcd serve --db d {line}")?;
+        let words = words_of(alloc, &line)?;
+        assert!(rt; is_wanted(fault(alloc, &words), *wanted), "{line}");
     }
+    let words = words_of(alloc, "kdcd serve --udp 127.0.0.1:88")?;
+    assert_eq!(rt; fault(alloc, &words), Some("?"));
+    Ok(())
+}
+
+/// The limits that these words give.
+fn limits_of(alloc: Global, line: &str) -> Result<Limits, Fail> {
+    let words = words_of(alloc, line)?;
+    let matches = match read_words(alloc, &words) {
+        Ok(matches) => matches,
+        Err(_) => Err("words")?,
+    };
+    let (_, words) = matches.subcommand().ok_or("serve")?;
+    match serve_options(alloc, words) {
+        Ok(options) => Ok(options.limits),
+        Err(_) => Err("options")?,
+    }
+}
+
+#[test]
+fn limits_are_those_of_the_words(rt: HostRuntime) -> Result<(), Fail> {
+    let limits = limits_of(rt.alloc(), "kdcd serve --db d --udp [::]:88")?;
+    assert_eq!(rt; Some(limits), Limits::new(1_024, 0, 0, 36_000, 604_800));
+    let limits = limits_of(
+        rt.alloc(),
+        "kdcd serve --db d --udp [::]:88 --greatest-renewable 5 --greatest-life 4 --lock-seconds 3 --lock-after 2 --remembered 1",
+    )?;
+    assert_eq!(rt; Some(limits), Limits::new(1, 2, 3, 4, 5));
+    Ok(())
+}
+
+const STARTED: &str = "\
+kdcd: serving on udp 192.0.2.1:88, udp [2001:db8::1]:88 and tcp 192.0.2.1:88
+kdcd: database /var/lib/kdcd/database with 3 rows
+kdcd: limits: remembered 1, lock-after 2, lock-seconds 3, greatest-life 4, greatest-renewable 5
+";
+
+#[test]
+fn a_server_says_what_it_serves(rt: HostRuntime) -> Result<(), Fail> {
+    let limits = Limits::new(1, 2, 3, 4, 5).ok_or("limits")?;
+    let started = Started {
+        udp: &["192.0.2.1:88".parse()?, "[2001:db8::1]:88".parse()?],
+        tcp: &["192.0.2.1:88".parse()?],
+        db: "/var/lib/kdcd/database",
+        rows: 3,
+        limits,
+    };
+    let text = format!(in rt.alloc(); "{started}")?;
+    assert_eq!(rt; text.as_str(), STARTED);
     Ok(())
 }
 
