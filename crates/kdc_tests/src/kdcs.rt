@@ -260,7 +260,7 @@ fn names_the_service_and_the_moment_as_they_are(rt: HostRuntime) -> Result<(), F
 }
 
 /// The first of these octets' beginnings that gets a reply, by its length.
-fn first_answered(alloc: Global, mut kdc: Kdc, octets: &[u8]) -> Result<Option<usize>, Fail> {
+pub fn first_answered(alloc: Global, mut kdc: Kdc, octets: &[u8]) -> Result<Option<usize>, Fail> {
     for end in 0..octets.len() {
         let asked = Asked::at_midnight(&octets[..end])?;
         if asked.reply(alloc, &mut kdc)?.is_some() {

@@ -1,5 +1,5 @@
 //! Service tickets (`kdc_core`).
-use crate::kdcs::{Asked, gets_again, kdc_of, name, octets};
+use crate::kdcs::{Asked, first_answered, gets_again, kdc_of, name, octets};
 use enctypes::{Etype, Key};
 use kdc_core::Kdc;
 use principal_rows::KeyList;
@@ -87,5 +87,13 @@ fn the_same_request_gets_the_reply_that_is_kept(rt: HostRuntime) -> Result<(), F
         ..Asked::at_midnight(&request)?
     };
     assert!(rt; is_kept(alloc, kdc(alloc)?, asked, &reply)?);
+    Ok(())
+}
+
+#[test]
+fn gives_no_reply_to_part_of_a_tgs_req(rt: HostRuntime) -> Result<(), Fail> {
+    let alloc = rt.alloc();
+    let request = octets(alloc, REQUEST)?;
+    assert_eq!(rt; first_answered(alloc, kdc(alloc)?, &request)?, None);
     Ok(())
 }
