@@ -1,0 +1,215 @@
+#!/usr/bin/env python3
+"""Goes a ticket's whole way with the programs, for each encryption type: `kadm` makes a realm, `kdcd serve` issues the
+tickets, `kclient` gets them, MIT's library makes AP-REQs of them (`tools/mk_req.c`), and `ap_whois` accepts them.
+
+    cc -o mk_req tools/mk_req.c -lkrb5
+    python3 tools/whole_way.py --mk-req ./mk_req
+
+What the service prints of a ticket is compared with what MIT's library reads of it, and that library takes the AP-REP.
+The programs are those that `rt run` builds. It ends with status 1 at the first difference."""
+
+import argparse
+import json
+import os
+import re
+import subprocess
+import sys
+import tempfile
+
+TYPES = (17, 18, 19, 20)
+SERVICE, OTHER = "imap/h", "imap/other"
+# What the client asks of the library, beside the AP-REQ.
+CHOICES = ((), ("mutual",), ("subkey", "mutual", "number", "checksum"))
+CONFIGURATION = "[libdefaults]\ndefault_realm = A.B\nrdns = false\ndns_lookup_kdc = false\n"
+# What both print of a ticket. The library gives 0 for a time that is absent.
+PRINTED = ("client", "session-key-type", "flags", "authtime", "starttime", "endtime", "renew-till")
+
+
+def expect(what, found, wanted):
+    if found != wanted:
+        sys.exit(f"{what}: {found!r}, and not {wanted!r}")
+
+
+class Place:
+    """A folder with the files of a realm whose keys are all of one type."""
+
+    def __init__(self, programs, folder):
+        self.programs, self.folder = programs, folder
+
+    def path(self, name):
+        return os.path.join(self.folder, name)
+
+    def write(self, name, octets):
+        with open(self.path(name), "wb") as file:
+            file.write(octets)
+        return self.path(name)
+
+    def seed(self):
+        return self.write("seed", os.urandom(32))
+
+    def run(self, program, *words):
+        """What a program prints. It has to end well."""
+        ran = subprocess.run([self.programs[program], *words], capture_output=True, text=True)
+        expect(f"the status of {program} {' '.join(words)} ({ran.stdout}{ran.stderr})", ran.returncode, 0)
+        return ran.stdout
+
+    def kadm(self, sub, *words):
+        return self.run("kadm", sub, "--db", self.path("database"), *words)
+
+    def make_realm(self, etype):
+        password = self.write("password", b"secret\n")
+        expect("init", self.kadm("init", "--realm", "A.B", "--seed", self.seed()), "ok\n")
+        expect("add", self.kadm("add", "--name", "u", "--password-file", password), "ok\n")
+        for service in (SERVICE, OTHER):
+            expect("random", self.kadm("random", "--name", service, "--seed", self.seed()), "ok\n")
+        self.keep_type(etype)
+        names = (SERVICE, OTHER, "krbtgt/A.B", "u")
+        expect("list", self.kadm("list"), "".join(f"{name} 1 {etype}\n" for name in names))
+        for service, keytab in ((SERVICE, "keytab"), (OTHER, "other.keytab")):
+            expect("keytab", self.kadm("keytab", "--name", service, "--out", self.path(keytab)), "ok\n")
+
+    def keep_type(self, etype):
+        """Takes the keys of all other types out of the database."""
+        with open(self.path("database")) as file:
+            database = json.load(file)
+        for row in database["principals"].values():
+            for version in row["keys"]:
+                version["keys"] = [key for key in version["keys"] if key["etype"] == etype]
+        self.write("database", json.dumps(database).encode())
+
+    def get_tickets(self, kdc):
+        common = ("--kdc", kdc, "--cache", self.path("cache"))
+        words = ("--realm", "A.B", "--name", "u", "--password-file", self.path("password"), "--renewable")
+        expect("kinit", self.run("kclient", "kinit", *common, *words, "--seed", self.seed()), "ok\n")
+        for service in (SERVICE, OTHER):
+            printed = self.run("kclient", "kvno", *common, "--name", service, "--seed", self.seed())
+            expect("kvno", printed, f"{service} kvno 1\n")
+
+
+class Lines:
+    """A program that is asked line by line."""
+
+    def __init__(self, *words, environment=None):
+        self.process = subprocess.Popen(
+            words, stdin=subprocess.PIPE, stdout=subprocess.PIPE, text=True, env=environment
+        )
+
+    def tell(self, line):
+        self.process.stdin.write(line + "\n")
+        self.process.stdin.flush()
+
+    def line(self):
+        return self.process.stdout.readline().rstrip("\n")
+
+    def ask(self, line):
+        self.tell(line)
+        return self.line()
+
+    def end(self):
+        self.process.stdin.close()
+        self.process.stdout.close()
+        expect("the status at the end", self.process.wait(), 0)
+
+
+class Kdc:
+    def __init__(self, place):
+        words = [place.programs["kdcd"], "serve", "--db", place.path("database"), "--seed", place.seed(), "--first"]
+        words += ["--udp", "127.0.0.1:0", "--tcp", "127.0.0.1:0"]
+        self.process = subprocess.Popen(words, stdout=subprocess.DEVNULL, stderr=subprocess.PIPE, text=True)
+        found = re.search(r"udp (\S+:\d+) and tcp", self.process.stderr.readline())
+        if not found:
+            sys.exit("kdcd does not serve")
+        self.address = found[1]
+
+    def end(self):
+        self.process.terminate()
+        self.process.wait()
+
+
+class Request:
+    """An AP-REQ by MIT's library, and what it reads of the ticket by the service's keytab."""
+
+    def __init__(self, place, service, keytab, choice):
+        environment = {
+            **os.environ,
+            "KRB5_CONFIG": place.write("krb5.conf", CONFIGURATION.encode()),
+            "KRB5CCNAME": "FILE:" + place.path("cache"),
+            "KRB5_KTNAME": "FILE:" + place.path(keytab),
+        }
+        self.maker = Lines(place.programs["mk_req"], f"{service}@A.B", *choice, environment=environment)
+        self.read = {}
+        while "renew-till" not in self.read:
+            word, _, value = self.maker.line().partition(" ")
+            if not word:
+                sys.exit("mk_req made no AP-REQ")
+            self.read[word] = value
+        self.digits = self.read["ap-req"]
+
+    def take(self, ap_rep):
+        expect("the AP-REP", self.maker.ask(ap_rep), "the AP-REP is taken")
+
+    def end(self):
+        self.maker.end()
+
+
+def told(answer):
+    """What the service says of an AP-REQ that it accepts."""
+    words = answer.split(" ")
+    expect(f"the answer ({answer})", words[0], "accepted")
+    return {"client": words[1], **dict(zip(words[2::2], words[3::2]))}
+
+
+def present(place, service, choice):
+    """Presents a ticket that is accepted, and then the same AP-REQ again."""
+    request = Request(place, SERVICE, "keytab", choice)
+    accepted = told(service.ask(request.digits))
+    for word in PRINTED:
+        expect(word, accepted.get(word, "0"), request.read[word])
+    expect("an AP-REP", "ap-rep" in accepted, "mutual" in choice)
+    if "mutual" in choice:
+        request.take(accepted["ap-rep"])
+    expect("the same again", service.ask(request.digits), "refused 34 KRB_AP_ERR_REPEAT")
+    request.end()
+    return accepted
+
+
+def refuse(place, service, name, keytab, answer):
+    request = Request(place, name, keytab, ())
+    expect(f"a ticket for {name}", service.ask(request.digits), answer)
+    expect("an AP-REQ that is cut", service.ask(request.digits[:-2]), "not an AP-REQ")
+    request.end()
+
+
+def go(programs, etype):
+    with tempfile.TemporaryDirectory() as folder:
+        place = Place(programs, folder)
+        place.make_realm(etype)
+        kdc = Kdc(place)
+        place.get_tickets(kdc.address)
+        kdc.end()
+        service = Lines(programs["ap_whois"], place.path("keytab"), "first")
+        for choice in CHOICES:
+            accepted = present(place, service, choice)
+            expect("the client", accepted["client"], "u@A.B")
+            expect("the session key's type", accepted["session-key-type"], str(etype))
+        refuse(place, service, OTHER, "other.keytab", "refused 35 KRB_AP_ERR_NOT_US")
+        service.end()
+        restarted = Lines(programs["ap_whois"], place.path("keytab"))
+        refuse(place, restarted, SERVICE, "keytab", "refused 37 KRB_AP_ERR_SKEW")
+        restarted.end()
+    print(f"type {etype}: {len(CHOICES)} AP-REQs were accepted, and refused when they came again; so were one for another")
+    print("    service, one that was cut, and one after a restart")
+
+
+def main():
+    words = argparse.ArgumentParser(description=__doc__, formatter_class=argparse.RawDescriptionHelpFormatter)
+    top = os.path.dirname(os.path.dirname(os.path.abspath(__file__)))
+    for program in ("kadm", "kdcd", "kclient", "ap_whois"):
+        words.add_argument("--" + program.replace("_", "-"), default=f"{top}/crates/{program}/out/{program}")
+    words.add_argument("--mk-req", default="./mk_req")
+    programs = vars(words.parse_args())
+    for etype in TYPES:
+        go(programs, etype)
+
+
+main()
