@@ -1,0 +1,165 @@
+//! An exchange of messages that is joined to a KDC in memory.
+ghost use Rattle.std.specs.Prelude.{◌≡◌};
+
+use kclient_run::{Exchange, Transport};
+use kdc_core::Kdc;
+use krb_fields::Moment;
+use std::alloc::{AllocError, Global};
+use std::io;
+use std::io::{Error, ErrorKind};
+use std::net::SocketAddr;
+
+/// What happens to the messages on their way.
+#[derive(Clone, Copy, Debug, PartialEq, Eq)]
+pub enum Link {
+    /// The KDC answers.
+    Good,
+    /// Datagrams get no reply.
+    NoDatagrams,
+    /// No message gets a reply.
+    Silent,
+    /// Each datagram gets KRB_ERR_RESPONSE_TOO_BIG, as though the reply had no room.
+    TooBig,
+    /// Each message gets what the KDC answered last.
+    Stale,
+    /// Each message gets these octets, in hexadecimal digits.
+    Forged(&'static str),
+}
+
+/// KRB-ERROR with code 52.
+const TOO_BIG: &str =
+    "7e4a3048a003020105a10302011ea411180f32303234303130313030303030305aa503020100a603020134a9051b03412e42aa183016a003020102a10f300d1b066b72627467741b03412e42";
+
+/// A KDC, and what happens to the messages on their way to it.
+#[derive(Drop)]
+pub struct JoinedExchange {
+    kdc: Kdc,
+    /// The moment of the KDC.
+    at: Moment,
+    link: Link,
+    /// `u` for a datagram, `t` for a message by TCP, `=` for one by TCP with the octets of the message before it.
+    ways: String,
+    /// The last message.
+    last: Vec<u8>,
+    /// What the KDC answered last.
+    answered: Vec<u8>,
+    failures: u64,
+}
+
+impl JoinedExchange {
+    pub fn new(alloc: Global, kdc: Kdc, at: Moment) -> JoinedExchange {
+        JoinedExchange {
+            kdc,
+            at,
+            link: Link::Good,
+            ways: String::new(alloc),
+            last: Vec::new(alloc),
+            answered: Vec::new(alloc),
+            failures: 0,
+        }
+    }
+
+    /// Begins the messages of a command.
+    pub fn begin(&mut self, alloc: Global, at: Moment, link: Link) {
+        self.at = at;
+        self.link = link;
+        self.ways = String::new(alloc);
+        self.failures = 0;
+    }
+
+    /// The messages of the command: `u` for a datagram, `t` for one by TCP, `=` for one by TCP with the octets of the message
+    /// before it.
+    pub fn ways(&self) -> &str {
+        self.ways.as_str()
+    }
+
+    /// What comes back.
+    fn reply(&mut self, alloc: Global, by: Transport, message: &[u8]) -> io::Result<Vec<u8>>
+        ensures { self.new.failures ≡ self.old.failures }
+    {
+        let way = way_of(by, &self.last, message);
+        note(alloc, &mut self.ways, &mut self.last, way, message)?;
+        match self.link {
+            Link::Silent => Err(silence()),
+            Link::NoDatagrams if by == Transport::Udp => Err(silence()),
+            Link::TooBig if by == Transport::Udp => octets(alloc, TOO_BIG),
+            Link::Forged(digits) => octets(alloc, digits),
+            Link::Stale => Ok(Vec::from_slice(alloc, &self.answered)?),
+            _ => ask(alloc, &mut self.kdc, self.at, message, &mut self.answered),
+        }
+    }
+}
+
+impl Exchange for JoinedExchange {
+    ghost failure_count = { λ e. e.failures };
+
+    fn exchange(
+        &mut self,
+        alloc: Global,
+        by: Transport,
+        _to: SocketAddr,
+        message: &[u8],
+    ) -> io::Result<Vec<u8>> {
+        let reply = self.reply(alloc, by, message);
+        self.failures = match &reply {
+            Ok(_) => self.failures,
+            Err(_) => self.failures.saturating_add(1),
+        };
+        reply
+    }
+
+    fn failures(&self) -> u64 {
+        self.failures
+    }
+}
+
+fn silence() -> Error {
+    Error::from(ErrorKind::TimedOut)
+}
+
+fn way_of(by: Transport, last: &[u8], message: &[u8]) -> char {
+    match by {
+        Transport::Udp => 'u',
+        Transport::Tcp if last == message => '=',
+        Transport::Tcp => 't',
+    }
+}
+
+/// Notes a message.
+fn note(
+    alloc: Global,
+    ways: &mut String,
+    last: &mut Vec<u8>,
+    way: char,
+    message: &[u8],
+) -> Result<(), AllocError> {
+    ways.push(way)?;
+    *last = Vec::from_slice(alloc, message)?;
+    Ok(())
+}
+
+/// The octets that hexadecimal digits spell.
+fn octets(alloc: Global, digits: &str) -> io::Result<Vec<u8>> {
+    match hex::decode(alloc, digits.as_bytes()) {
+        Ok(octets) => Ok(octets),
+        Err(_) => Err(Error::from(ErrorKind::InvalidData)),
+    }
+}
+
+/// Asks the KDC, whose random octets are all 7.
+fn ask(
+    alloc: Global,
+    kdc: &mut Kdc,
+    at: Moment,
+    message: &[u8],
+    answered: &mut Vec<u8>,
+) -> io::Result<Vec<u8>> {
+    match kdc.handle(alloc, at, &[7; 64], u32::MAX, message) {
+        Ok(Some(reply)) => {
+            *answered = Vec::from_slice(alloc, &reply)?;
+            Ok(reply)
+        }
+        Ok(None) => Err(silence()),
+        Err(error) => Err(Error::from(error)),
+    }
+}
