@@ -13,7 +13,7 @@ pub struct FileFault<'p> {
 /// Why what stands in a file is not taken, or could not be read or written.
 #[derive(Clone, Copy, Debug)]
 pub enum Amiss {
-    /// It has more than 16,777,216 octets.
+    /// It has more octets than are taken.
     LongFile,
     /// A file of a seed has fewer than 32 octets.
     ShortSeed,
@@ -38,7 +38,7 @@ impl Amiss {
 impl fmt::Display for Amiss {
     fn fmt<W: fmt::Write>(&self, f: &mut fmt::Formatter<W>) -> fmt::Result {
         match self {
-            Amiss::LongFile => f.write_str("it has more than 16777216 octets"),
+            Amiss::LongFile => f.write_str("it has more octets than are taken"),
             Amiss::ShortSeed => f.write_str("it has fewer than 32 octets"),
             Amiss::LongPassword => f.write_str("its first line has more than 1024 octets"),
             Amiss::Failed(error) => write!(f, "{error}"),

@@ -46,7 +46,21 @@ pub fn read_file<'p, S: Store>(
     ensures named { IfErr result (λ fault. fault.path.now ≡ path.now) }
     ensures shown { IsShown (S.fault_count store.old) result (S.fault_count store.new) }
 {
-    match store.read(alloc, path, LONGEST_FILE) {
+    read_at_most(alloc, store, path, LONGEST_FILE)
+}
+
+/// The whole of a file, at most so many octets.
+pub fn read_at_most<'p, S: Store>(
+    alloc: Global,
+    store: &mut S,
+    path: &'p str,
+    most: usize,
+) -> Result<Vec<u8>, FileFault<'p>>
+    ensures within { IfOk result (λ octets. vec_len octets ≤ most) }
+    ensures named { IfErr result (λ fault. fault.path.now ≡ path.now) }
+    ensures shown { IsShown (S.fault_count store.old) result (S.fault_count store.new) }
+{
+    match store.read(alloc, path, most) {
         Ok(Some(octets)) => Ok(octets),
         Ok(None) => Err(FileFault {
             path,

@@ -4,18 +4,15 @@ ghost use Rattle.principals.specs.Value.{text_database};
 ghost use Rattle.kdcd_start.specs.Refusal.{RefusesDatabase, refusal};
 ghost use Rattle.kdcd_start.specs.declared.files.FileFault.TheVariants.{Failed, ShortSeed};
 
-use principals::{Database, ReadFault};
+use principals::{Database, LONGEST_TEXT, ReadFault};
 use std::alloc::{AllocError, Global};
 use std::io::Read;
 use std::{fmt, io, str};
 
-/// The most octets of a file.
-const LONGEST_FILE: usize = 16_777_216;
-
 /// Why what stands in a file is not taken, or could not be read.
 #[derive(Debug, Drop)]
 pub enum FileFault {
-    /// The file has more than 16,777,216 octets.
+    /// The file has more octets than a database's text may have.
     LongFile,
     /// The file of the seed has fewer than 32 octets.
     ShortSeed,
@@ -48,7 +45,7 @@ impl FileFault {
 impl fmt::Display for FileFault {
     fn fmt<W: fmt::Write>(&self, f: &mut fmt::Formatter<W>) -> fmt::Result {
         match self {
-            FileFault::LongFile => f.write_str("it has more than 16777216 octets"),
+            FileFault::LongFile => f.write_str("it has more than 1073741824 octets"),
             FileFault::ShortSeed => f.write_str("it has fewer than 32 octets"),
             FileFault::Database(fault) => write!(f, "{fault}"),
             FileFault::Failed(error) => write!(f, "{error}"),
@@ -70,13 +67,25 @@ impl From<AllocError> for FileFault {
     }
 }
 
-/// All octets of a file. One is read past the limit, to see that there is one.
+/// All octets of a file, at most as many as a database's text may have.
 pub fn read_whole<R: Read + Drop>(alloc: Global, file: R) -> Result<Vec<u8>, FileFault>
-    ensures { IfOk result (λ octets. vec_len octets ≤ 16777216) }
+    ensures { IfOk result (λ octets. vec_len octets ≤ 1073741824) }
+{
+    read_at_most(alloc, file, LONGEST_TEXT)
+}
+
+/// All octets of a file, at most so many. One is read past the limit, to see that there is one.
+pub fn read_at_most<R: Read + Drop>(
+    alloc: Global,
+    file: R,
+    most: usize,
+) -> Result<Vec<u8>, FileFault>
+    ensures { IfOk result (λ octets. vec_len octets ≤ most) }
 {
     let mut octets = Vec::new(alloc);
-    file.take(LONGEST_FILE as u64 + 1).read_to_end(&mut octets)?;
-    if octets.len() > LONGEST_FILE {
+    file.take((most as u64).saturating_add(1))
+        .read_to_end(&mut octets)?;
+    if octets.len() > most {
         return Err(FileFault::LongFile);
     }
     Ok(octets)

@@ -7,7 +7,7 @@ mod rows_file;
 mod started;
 mod words;
 
-pub use crate::files::{FileFault, database_of, read_whole, seed_of};
+pub use crate::files::{FileFault, database_of, read_at_most, read_whole, seed_of};
 pub use crate::request_lines::RequestLines;
 pub use crate::rows_file::RowsFile;
 pub use crate::started::Started;

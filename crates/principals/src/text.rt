@@ -27,6 +27,9 @@ use principal_rows::{Entry, NameMap, Row};
 use serde_json::{Map, Value, json};
 use std::alloc::{AllocError, Global};
 
+/// The most octets of a database's text that a program takes: some two million rows.
+pub const LONGEST_TEXT: usize = 1_073_741_824;
+
 impl Database {
     /// The database that a text stands for. The rows of a text in the form that is written are read one by one, any other
     /// text as a whole.

@@ -1,7 +1,7 @@
 //! What the words of `kdcd serve` stand for, and which files are taken (`kdcd_start`).
 use clap::ArgMatches;
 use kdcd_start::{
-    FileFault, Started, WordsFault, database_of, read_whole, read_words, seed_of, serve_options,
+    FileFault, Started, WordsFault, database_of, read_at_most, read_words, seed_of, serve_options,
 };
 use principal_rows::Limits;
 use std::alloc::{AllocError, Global};
@@ -206,9 +206,9 @@ fn a_seed_is_the_first_32_octets(rt: HostRuntime) -> Result<(), Fail> {
     Ok(())
 }
 
-/// The word for a file of so many octets, if it is refused.
+/// The word for a file of so many octets, of which 1,000 are taken at most, if it is refused.
 fn refusal_of_length(alloc: Global, len: u64) -> Option<&'static str> {
-    match read_whole(alloc, std::io::repeat(0).take(len)) {
+    match read_at_most(alloc, std::io::repeat(0).take(len), 1_000) {
         Ok(_) => None,
         Err(fault) => fault.refusal(),
     }
@@ -216,6 +216,6 @@ fn refusal_of_length(alloc: Global, len: u64) -> Option<&'static str> {
 
 #[test]
 fn a_file_has_a_greatest_length(rt: HostRuntime) {
-    assert_eq!(rt; refusal_of_length(rt.alloc(), 16_777_216), None);
-    assert_eq!(rt; refusal_of_length(rt.alloc(), 16_777_217), Some("LongFile"));
+    assert_eq!(rt; refusal_of_length(rt.alloc(), 1_000), None);
+    assert_eq!(rt; refusal_of_length(rt.alloc(), 1_001), Some("LongFile"));
 }
