@@ -15,5 +15,11 @@ fn run(rt: &HostRuntime) -> io::Result<u8> {
     let alloc = rt.alloc();
     let words: Vec<String> = env::args(rt)?.collect(alloc)?;
     let mut store = FileStore::new(rt);
-    Ok(kadm_run(alloc, words.as_slice(), &mut store, rt.stdout()))
+    Ok(kadm_run(
+        alloc,
+        words.as_slice(),
+        &mut store,
+        rt.stdout(),
+        rt.stderr(),
+    ))
 }

@@ -1,6 +1,6 @@
-//! The keys that the tool makes: one of each encryption type, in one order of preference.
-ghost use Rattle.std.specs.Prelude.{◌≡◌, IfOk, map};
-ghost use Rattle.kadm_run.specs.Keys.{drawn_key, drawn_keys, offered, password_key, seeded};
+//! The keys that the tool makes: one of each encryption type that is asked for, in that order.
+ghost use Rattle.std.specs.Prelude.{◌≡◌, IfOk, OnOk, ◌++◌, ◌∷◌, [], map};
+ghost use Rattle.kadm_run.specs.Keys.{drawn_key, drawn_keys, password_key, seeded};
 ghost use Rattle.rand_core.specs.Stream.{fill_bytes};
 
 use enctypes::{Etype, Key, string_to_key};
@@ -9,17 +9,20 @@ use rand_chacha::ChaCha20Rng;
 use rand_core::{Rng, SeedableRng};
 use std::alloc::{AllocError, Global};
 
-/// The keys of a password (RFC 3961, section 5, string-to-key) with this salt and the types' default counts, for types 18,
-/// 17, 20 and 19.
-pub fn password_keys(alloc: Global, pass: &[u8], salt: &[u8]) -> Result<KeyList, AllocError>
-    ensures { IfOk result (λ keys. keys ≡ map (password_key pass.now salt.now) offered) }
+/// The keys of a password (RFC 3961, section 5, string-to-key) with this salt and the types' default counts, for these
+/// types: at least one, and none twice.
+pub fn password_keys(
+    alloc: Global,
+    etypes: &[Etype],
+    pass: &[u8],
+    salt: &[u8],
+) -> Result<KeyList, AllocError>
+    ensures { IfOk result (λ keys. keys ≡ map (password_key pass.now salt.now) etypes.now) }
 {
-    let keys = [
-        password_key(alloc, Etype::Aes256CtsHmacSha1_96, pass, salt)?,
-        password_key(alloc, Etype::Aes128CtsHmacSha1_96, pass, salt)?,
-        password_key(alloc, Etype::Aes256CtsHmacSha384_192, pass, salt)?,
-        password_key(alloc, Etype::Aes128CtsHmacSha256_128, pass, salt)?,
-    ];
+    let mut keys = Vec::new(alloc);
+    for etype in etypes {
+        keys.push(password_key(alloc, *etype, pass, salt)?)?;
+    }
     list_of(alloc, &keys)
 }
 
@@ -29,24 +32,22 @@ fn password_key(alloc: Global, etype: Etype, pass: &[u8], salt: &[u8]) -> Result
     string_to_key(alloc, etype, pass, salt, etype.default_count())
 }
 
-/// Random keys for types 18, 17, 20 and 19: for each 32 octets are drawn from ChaCha20 under the seed, and the first
-/// of them are the key.
-pub fn random_keys(alloc: Global, seed: [u8; 32]) -> Result<KeyList, AllocError>
-    ensures { IfOk result (λ keys. keys ≡ drawn_keys (seeded seed) offered) }
+/// Random keys for these types, at least one and none twice: for each 32 octets are drawn from ChaCha20 under the seed,
+/// and the first of them are the key.
+pub fn random_keys(alloc: Global, etypes: &[Etype], seed: [u8; 32]) -> Result<KeyList, AllocError>
+    ensures { IfOk result (λ keys. keys ≡ drawn_keys (seeded seed) etypes.now) }
 {
     let mut rng = ChaCha20Rng::from_seed(seed);
-    draw_keys(alloc, &mut rng)
+    draw_keys(alloc, etypes, &mut rng)
 }
 
-fn draw_keys<R: Rng>(alloc: Global, rng: &mut R) -> Result<KeyList, AllocError>
-    ensures { IfOk result (λ keys. keys ≡ drawn_keys (R.stream rng.old) offered) }
+fn draw_keys<R: Rng>(alloc: Global, etypes: &[Etype], rng: &mut R) -> Result<KeyList, AllocError>
+    ensures { IfOk result (λ keys. keys ≡ drawn_keys (R.stream rng.old) etypes.now) }
 {
-    let keys = [
-        draw_key(rng, Etype::Aes256CtsHmacSha1_96),
-        draw_key(rng, Etype::Aes128CtsHmacSha1_96),
-        draw_key(rng, Etype::Aes256CtsHmacSha384_192),
-        draw_key(rng, Etype::Aes128CtsHmacSha256_128),
-    ];
+    let mut keys = Vec::new(alloc);
+    for etype in etypes {
+        keys.push(draw_key(rng, *etype))?;
+    }
     list_of(alloc, &keys)
 }
 
@@ -59,7 +60,7 @@ fn draw_key<R: Rng>(rng: &mut R, etype: Etype) -> Key
     Key::from_random(etype, &octets)
 }
 
-/// The list of keys of four types, for which memory alone can lack.
+/// The list of keys of types that are at least one and none twice, for which memory alone can lack.
 fn list_of(alloc: Global, keys: &[Key]) -> Result<KeyList, AllocError>
     ensures { IfOk result (λ list. list ≡ keys.now) }
 {

@@ -3,9 +3,17 @@
 //! `kadm_run` takes the words of one command line and does what they say to the files of a `Store`.
 #![tactic(auto)]
 
+mod changes;
+mod databases;
+mod etypes;
+mod joining;
 mod keys;
+mod keytabs;
+mod listing;
 mod order;
+mod passwords;
 mod run;
+mod stop;
 
 pub use keys::{password_keys, random_keys};
 pub use run::{DONE, FAILED, REFUSED, USAGE, kadm_run};

@@ -9,7 +9,7 @@ use std::process::Abort;
 use std::test::Fail;
 
 /// A store with a seed of 32 octets, a short one, and two passwords, the second too long.
-fn store(rt: &impl AllocGlobal) -> io::Result<MemoryStore> {
+pub(crate) fn store(rt: &impl AllocGlobal) -> io::Result<MemoryStore> {
     let mut store = MemoryStore::new(rt.alloc());
     store.set(rt.alloc(), "seed", &[7; 40])?;
     store.set(rt.alloc(), "short", &[7; 31])?;
@@ -19,7 +19,7 @@ fn store(rt: &impl AllocGlobal) -> io::Result<MemoryStore> {
 }
 
 /// Runs a command line, whose words stand between spaces, and checks what it prints and its status.
-fn expect_run(
+pub(crate) fn expect_run(
     rt: &(impl AllocGlobal + Abort),
     store: &mut MemoryStore,
     line: &str,
@@ -28,13 +28,56 @@ fn expect_run(
 ) -> io::Result<()> {
     let words: Vec<&str> = line.split(' ').collect(rt.alloc())?;
     let mut written = Vec::new(rt.alloc());
-    let ended = kadm_run(rt.alloc(), words.as_slice(), store, &mut written);
+    let mut errors = Vec::new(rt.alloc());
+    let ended = kadm_run(
+        rt.alloc(),
+        words.as_slice(),
+        store,
+        &mut written,
+        &mut errors,
+    );
     assert_eq!(rt; str::from_utf8(&written).unwrap_or(""), printed, "{line}");
     assert_eq!(rt; ended, status, "{line}");
+    // which file failed is said beside, and of nothing that was done
+    assert_eq!(rt;
+        errors.is_empty(),
+        status != FAILED && !is_of_file(printed),
+        "{line}"
+    );
     Ok(())
 }
 
-const INIT: &str = "kadm init --db db --realm A.B --seed seed";
+/// Whether it is a file that was refused.
+fn is_of_file(printed: &str) -> bool {
+    matches!(
+        printed,
+        "refused LongFile\n" | "refused ShortSeed\n" | "refused LongPassword\n"
+    )
+}
+
+/// Runs a command line that ends early, and checks what it writes to standard error.
+pub(crate) fn expect_error(
+    rt: &(impl AllocGlobal + Abort),
+    store: &mut MemoryStore,
+    line: &str,
+    said: &str,
+) -> io::Result<()> {
+    let words: Vec<&str> = line.split(' ').collect(rt.alloc())?;
+    let mut written = Vec::new(rt.alloc());
+    let mut errors = Vec::new(rt.alloc());
+    let ended = kadm_run(
+        rt.alloc(),
+        words.as_slice(),
+        store,
+        &mut written,
+        &mut errors,
+    );
+    assert!(rt; ended != DONE, "{line}");
+    assert_eq!(rt; str::from_utf8(&errors).unwrap_or(""), said, "{line}");
+    Ok(())
+}
+
+pub(crate) const INIT: &str = "kadm init --db db --realm A.B --seed seed";
 
 #[test]
 fn a_realm_is_made_changed_and_listed(rt: HostRuntime) -> io::Result<()> {
@@ -145,25 +188,88 @@ fn what_is_refused_leaves_the_files(rt: HostRuntime) -> io::Result<()> {
     Ok(())
 }
 
+/// Command lines at fault, and what the text says of each.
+const FAULTS: [(&str, &str); 19] = [
+    ("kadm", "Usage"),
+    ("kadm list", "--db"),
+    ("kadm make --db db", "make"),
+    ("kadm show --db db", "--name"),
+    ("kadm drop --db db --name h --version +1", "--version"),
+    (
+        "kadm drop --db db --name h --version 4294967296",
+        "--version",
+    ),
+    (
+        "kadm policy --db db --name krbtgt/A.B --field life --value 1",
+        "--field",
+    ),
+    (
+        "kadm policy --db db --name krbtgt/A.B --field preauth --value 1",
+        "--value",
+    ),
+    (
+        "kadm policy --db db --name krbtgt/A.B --field expires --value 253402300800",
+        "--value",
+    ),
+    (
+        "kadm policy --db db --name krbtgt/A.B --field expires --value 2027-02-29",
+        "--value",
+    ),
+    (
+        "kadm policy --db db --name krbtgt/A.B --field expires --value 2027-01-01T12:00:00",
+        "--value",
+    ),
+    (
+        "kadm policy --db db --name krbtgt/A.B --field expires --value 1969-12-31",
+        "--value",
+    ),
+    (
+        "kadm policy --db db --name krbtgt/A.B --field greatest_life --value 2027-01-01",
+        "--value",
+    ),
+    (
+        "kadm add --db db --name u --password-file pass --types 18,21",
+        "--types",
+    ),
+    (
+        "kadm passwd --db db --name u --password-file pass --types 18,17,18",
+        "--types",
+    ),
+    (
+        "kadm random --db db --name u --seed seed --types 18,",
+        "--types",
+    ),
+    (
+        "kadm random --db db --name u --seed seed --types=",
+        "--types",
+    ),
+    ("kadm init --db db --realm A.B --types 18", "--types"),
+    (
+        "kadm keytab --db db --name u --out kt --append=1",
+        "--append",
+    ),
+];
+
 #[test]
-fn a_fault_of_the_command_line_has_status_2(rt: HostRuntime) -> io::Result<()> {
+fn a_fault_of_the_command_line_has_status_2_and_names_the_option(
+    rt: HostRuntime,
+) -> io::Result<()> {
     let mut store = store(&rt)?;
     expect_run(&rt, &mut store, INIT, "ok\n", DONE)?;
-    for line in [
-        "kadm",
-        "kadm list",
-        "kadm make --db db",
-        "kadm drop --db db --name h --version +1",
-        "kadm drop --db db --name h --version 4294967296",
-        "kadm policy --db db --name krbtgt/A.B --field life --value 1",
-        "kadm policy --db db --name krbtgt/A.B --field preauth --value 1",
-        "kadm policy --db db --name krbtgt/A.B --field expires --value 253402300800",
-    ] {
+    for (line, said) in FAULTS {
         let words: Vec<&str> = line.split(' ').collect(rt.alloc())?;
         let mut written = Vec::new(rt.alloc());
-        assert_eq!(rt;
-            kadm_run(rt.alloc(), words.as_slice(), &mut store, &mut written),
-            USAGE,
+        let mut errors = Vec::new(rt.alloc());
+        let ended = kadm_run(
+            rt.alloc(),
+            words.as_slice(),
+            &mut store,
+            &mut written,
+            &mut errors,
+        );
+        assert_eq!(rt; ended, USAGE, "{line}");
+        assert!(&rt;
+            str::from_utf8(&written).unwrap_or("").contains(said),
             "{line}"
         );
     }
@@ -209,7 +315,8 @@ fn a_keytab_has_the_current_keys(rt: HostRuntime) -> Result<(), Fail> {
     let keytab = Keytab::read(rt.alloc(), store.get("kt").unwrap_or(&[]))?;
     assert_eq!(rt; keytab.len(), 4);
     let u = Name::new(rt.alloc(), 1, &[b"u"])?;
-    let keys = password_keys(rt.alloc(), b"password", b"A.Bu")?;
+    let etypes = [Etype::Aes256CtsHmacSha1_96];
+    let keys = password_keys(rt.alloc(), &etypes, b"password", b"A.Bu")?;
     let found = keytab
         .find(b"A.B", &u, Etype::Aes256CtsHmacSha1_96, Some(1))
         .ok();
@@ -219,20 +326,23 @@ fn a_keytab_has_the_current_keys(rt: HostRuntime) -> Result<(), Fail> {
 }
 
 /// Each command, and how often it calls its store.
-const CALLS: [(&str, u32); 10] = [
-    ("kadm init --db other --realm A.B --seed seed", 3),
-    ("kadm add --db db --name u --password-file pass", 3),
-    ("kadm passwd --db db --name h --password-file pass", 3),
-    ("kadm random --db db --name h --seed seed", 3),
-    ("kadm drop --db db --name h --version 1", 2),
+const CALLS: [(&str, u32); 13] = [
+    ("kadm init --db other --realm A.B --seed seed", 4),
+    ("kadm init --db other --realm A.B", 4),
+    ("kadm add --db db --name u --password-file pass", 4),
+    ("kadm passwd --db db --name h --password-file pass", 4),
+    ("kadm random --db db --name h --seed seed", 4),
+    ("kadm drop --db db --name h --version 1", 3),
     (
         "kadm policy --db db --name h --field preauth --value false",
-        2,
+        3,
     ),
-    ("kadm remove --db db --name h", 2),
+    ("kadm remove --db db --name h", 3),
     ("kadm list --db db", 1),
-    ("kadm keytab --db db --name h --out kt", 2),
-    ("kadm migrate --db db", 2),
+    ("kadm show --db db --name h", 1),
+    ("kadm keytab --db db --name h --out kt", 3),
+    ("kadm keytab --db db --name h --out old --append", 5),
+    ("kadm migrate --db db", 3),
 ];
 
 #[test]
@@ -245,6 +355,7 @@ fn a_failed_call_of_the_store_leaves_the_files(rt: HostRuntime) -> io::Result<()
     ] {
         expect_run(&rt, &mut store, line, "ok\n", DONE)?;
     }
+    store.set(rt.alloc(), "old", b"\x05\x02")?;
     let before = Vec::from_slice(rt.alloc(), store.get("db").unwrap_or(&[]))?;
     for (line, calls) in CALLS {
         for failing in 0..calls {
@@ -253,6 +364,7 @@ fn a_failed_call_of_the_store_leaves_the_files(rt: HostRuntime) -> io::Result<()
             assert!(&rt; store.get("db") == Some(before.as_slice()), "{line}");
         }
     }
+    assert!(&rt; store.get("old") == Some(b"\x05\x02"));
     assert!(&rt; store.get("kt").is_none() && store.get("other").is_none());
     Ok(())
 }
@@ -261,7 +373,6 @@ fn a_failed_call_of_the_store_leaves_the_files(rt: HostRuntime) -> io::Result<()
 /// octets 0, 32, 64 and 96 on.
 #[test]
 fn random_keys_are_those_of_the_seed(rt: HostRuntime) -> Result<(), Fail> {
-    let keys = random_keys(rt.alloc(), [7; 32])?;
     let wanted = [
         (
             Etype::Aes256CtsHmacSha1_96,
@@ -280,6 +391,8 @@ fn random_keys_are_those_of_the_seed(rt: HostRuntime) -> Result<(), Fail> {
             b"\xde\x0e\xa8\x9a\x53\xf1\xec\xf3\xf3\xd0\xa4\x62\xfb\x77\xd2\xba".as_slice(),
         ),
     ];
+    let etypes = wanted.map(|(etype, _)| etype);
+    let keys = random_keys(rt.alloc(), &etypes, [7; 32])?;
     for (etype, octets) in wanted {
         assert!(&rt; keys.find(etype).is_some_and(|key| key.bytes() == octets));
     }

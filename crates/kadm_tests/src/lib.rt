@@ -6,3 +6,7 @@
 mod commands;
 #[cfg(test)]
 mod files;
+#[cfg(test)]
+mod given;
+#[cfg(test)]
+mod rows;

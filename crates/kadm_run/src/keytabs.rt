@@ -1,0 +1,85 @@
+//! The command that writes a keytab.
+use crate::databases::open_database;
+use crate::joining::joined;
+use crate::stop::Stop;
+use cred_files::{Keytab, KeytabEntry};
+use file_store::{FileFault, Store, has_file, read_file, write_file};
+use krb_elements::KerberosString;
+use krb_fields::Name;
+use principal_rows::Row;
+use principals::{ChangeFault, Database};
+use std::alloc::{AllocError, Global};
+
+/// Writes a keytab of a principal's current keys. With `append` the entries that the file has stay, in front of them.
+pub(crate) fn write_keytab<'p, T: Store>(
+    alloc: Global,
+    store: &mut T,
+    db: &'p str,
+    name: &str,
+    path: &'p str,
+    append: bool,
+) -> Result<(), Stop<'p>> {
+    let name = Name::from_text(alloc, name)?;
+    let database = open_database(alloc, store, db)?;
+    let old = read_old(alloc, store, path, append)?;
+    let octets = keytab_behind(alloc, &database, &name, old)?;
+    write_file(alloc, store, path, &octets)?;
+    Ok(())
+}
+
+/// What a keytab has that is added to.
+fn read_old<'p, T: Store>(
+    alloc: Global,
+    store: &mut T,
+    path: &'p str,
+    append: bool,
+) -> Result<Option<Vec<u8>>, FileFault<'p>> {
+    if append && has_file(store, path)? {
+        Ok(Some(read_file(alloc, store, path)?))
+    } else {
+        Ok(None)
+    }
+}
+
+/// A keytab of a principal's current keys, behind what an old one has.
+fn keytab_behind(
+    alloc: Global,
+    database: &Database,
+    name: &Name,
+    old: Option<Vec<u8>>,
+) -> Result<Vec<u8>, Stop<'static>> {
+    let new = keytab_of(alloc, database, name)?;
+    match old {
+        Some(old) => Ok(joined(alloc, &old, &new)?),
+        None => Ok(new),
+    }
+}
+
+/// A keytab of a principal's current keys.
+fn keytab_of(alloc: Global, database: &Database, name: &Name) -> Result<Vec<u8>, Stop<'static>> {
+    let Some(row) = database.get(name) else {
+        return Err(Stop::from(ChangeFault::Absent));
+    };
+    let entries = entries_of(alloc, database.realm(), name, row)?;
+    Ok(Keytab::new(alloc, &entries)?.write(alloc)?)
+}
+
+/// The current keys of a row, as entries of a keytab.
+fn entries_of(
+    alloc: Global,
+    realm: &[u8],
+    name: &Name,
+    row: &Row,
+) -> Result<Vec<KeytabEntry>, AllocError> {
+    let current = row.versions.current();
+    let mut entries = Vec::new(alloc);
+    for key in current.keys.keys() {
+        entries.push(KeytabEntry {
+            realm: KerberosString::from_slice(alloc, realm)?,
+            name: name.copy(alloc)?,
+            version: current.number,
+            key: *key,
+        })?;
+    }
+    Ok(entries)
+}
