@@ -1,7 +1,7 @@
 //! The database in its file.
 use crate::stop::Stop;
-use file_store::{Store, lock_file, read_file, write_file};
-use principals::{Change, Database};
+use file_store::{Store, lock_file, read_at_most, write_file};
+use principals::{Change, Database, LONGEST_TEXT};
 use std::alloc::Global;
 use std::str;
 
@@ -33,7 +33,7 @@ pub(crate) fn read_database<'p, T: Store>(
     store: &mut T,
     db: &'p str,
 ) -> Result<Database, Stop<'p>> {
-    let octets = read_file(alloc, store, db)?;
+    let octets = read_at_most(alloc, store, db, LONGEST_TEXT)?;
     let Ok(text) = str::from_utf8(&octets) else {
         return Err(Stop::Refused("NotJson"));
     };
