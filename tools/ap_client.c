@@ -9,7 +9,7 @@
  *
  * The words: 'mutual' asks for mutual authentication, 'subkey', 'number' and 'checksum' for these; 'sendauth' speaks as
  * krb5_sendauth; 'repeat' sends the same octets on a second connection; 'none' sends octets that are no AP-REQ; 'cut' sends the AP-REQ
- * without its last octet; 'wait=SECONDS' waits between the ticket and the AP-REQ; 'skew=SECONDS' sets the client's clock ahead.
+ * without its last octet; 'old' takes the cache's ticket whatever its end is; 'skew=SECONDS' sets the client's clock ahead.
  */
 #include <arpa/inet.h>
 #include <krb5.h>
@@ -65,6 +65,16 @@ static int connected(void)
 	return connection;
 }
 
+/* A ticket of the cache, which may have ended. The library makes no AP-REQ of one that has, so another end is put beside it. */
+static krb5_creds *old_credentials(krb5_ccache cache, krb5_creds *wanted)
+{
+	static krb5_creds found;
+
+	check(krb5_cc_retrieve_cred(context, cache, 0, wanted, &found), words[2]);
+	found.times.endtime = (krb5_timestamp)(time(NULL) + 3600);
+	return &found;
+}
+
 static krb5_creds *credentials(krb5_ccache cache)
 {
 	krb5_creds wanted, *found;
@@ -72,6 +82,8 @@ static krb5_creds *credentials(krb5_ccache cache)
 	memset(&wanted, 0, sizeof(wanted));
 	check(krb5_cc_get_principal(context, cache, &wanted.client), "the client of the cache");
 	check(krb5_parse_name(context, words[2], &wanted.server), words[2]);
+	if (is_asked("old"))
+		return old_credentials(cache, &wanted);
 	check(krb5_get_credentials(context, 0, cache, &wanted, &found), words[2]);
 	krb5_free_cred_contents(context, &wanted);
 	return found;
@@ -164,7 +176,6 @@ int main(int given, char **texts)
 	ticket = credentials(cache);
 	printf("ticket of type %d: ", ticket->keyblock.enctype);
 	fflush(stdout);
-	sleep((unsigned int)number_of("wait="));
 	if (number_of("skew=") != 0)
 		check(krb5_set_real_time(context, (krb5_timestamp)(time(NULL) + number_of("skew=")), 0), "the clock");
 	if (is_asked("sendauth"))
