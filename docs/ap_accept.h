@@ -16,7 +16,7 @@
  * A pointer that is null, a length of more than PTRDIFF_MAX and a number out of its range are AP_BAD_ARGUMENT: then the
  * call has done nothing. What no call can judge is the caller's part: that a pointer that is not null is one to as much
  * memory as is said, that no two arguments of a call overlap, that nobody writes into a struct ap_acceptor or copies it, and
- * that one acceptor is in one call at a time.
+ * that it stays on the thread that opened it.
  */
 #ifndef AP_ACCEPT_H
 #define AP_ACCEPT_H
@@ -58,7 +58,7 @@ enum ap_refusal {
 
 /*
  * The services of a process: their keys, and what is remembered of each one's clients. All octets are zero before ap_open.
- * It may be moved (the old one is then not used any more), and never copied.
+ * It is never copied.
  */
 struct ap_acceptor {
 	bool is_open;
