@@ -1,18 +1,16 @@
 -- What the octets of a request hold names its client and its service, and so it is answered from the view of these.
-use Rattle.std.proofs.Common.{◌≡◌, ℕ, List, Option, Some, None, Result, Ok, Err, refl, sym, ap, subst}
+use Rattle.std.proofs.Common.{◌≡◌, ℕ, List, Option, Some, None, Result, Ok, Err, refl, sym, ap, subst, ◌∙◌}
 use Rattle.std.specs.Prelude.{⊤, IfOk}
-use Rattle.enctypes.specs.declared.key.Key.{Key}
 use Rattle.krb_fields.specs.Name.{Components}
-use Rattle.krb_parts.specs.Authenticator.{Authenticator}
+use Rattle.krb_parts.specs.EncTicketPart.{EncTicketPart}
 use Rattle.krb_fields.specs.declared.moment.Moment.{Moment}
 use Rattle.krb_types.specs.declared.kdc_req.Exchange.{Exchange}
 use Rattle.krb_types.specs.declared.kdc_req.Exchange.TheVariants.{As, Tgs}
 use Rattle.krb_types.specs.KdcReq.{Received}
 use Rattle.replay.specs.declared.keep.Kept.{Kept}
 use Rattle.kdc_replies.specs.Incoming.{Incoming}
-use Rattle.tgs_opening.specs.Authenticators.{session_key_of, authenticator_of, subkey_of}
-use Rattle.tgs_opening.specs.Opening.{Opened, opened, presented}
-use Rattle.tgs_opening.specs.Opening.{if_subkey, if_authenticator, if_session_key, if_ticket}
+use Rattle.tgs_opening.specs.Opening.{opened, presented}
+use Rattle.tgs_opening.specs.OpeningLaws.{opened_ticket}
 use Rattle.tgs_opening.specs.View.{View as TicketView}
 use Rattle.tgs_opening.specs.declared.presented.Presented.{Presented}
 use Rattle.tgs_opening.specs.declared.refusal.TgsRefusal.{TgsRefusal}
@@ -31,29 +29,11 @@ use Rattle.kdc_core.specs.declared.mark.Mark.{Mark}
 
 -- ---- what is presented has the client of the ticket that was opened
 
-by_subkey : (o : Opened) (key : Key) (auth : Authenticator) (r : Result (Option Key) TgsRefusal) (p : Presented)
-    → if_subkey o key auth r ≡ Ok p → o.part.cname.components ≡ p.ticket.cname.components
-by_subkey o key auth (Ok subkey) p e = ap (λ (r : Result Presented TgsRefusal). again r) e
-  where
-    again : Result Presented TgsRefusal → List (List ℕ)
-    again (Ok q) = q.ticket.cname.components
-    again (Err refusal) = o.part.cname.components
-by_subkey o key auth (Err refusal) p e = absurd cc
-
-by_authenticator : (o : Opened) (body : List ℕ) (key : Key) (r : Result Authenticator TgsRefusal) (p : Presented)
-    → if_authenticator o body key r ≡ Ok p → o.part.cname.components ≡ p.ticket.cname.components
-by_authenticator o body key (Ok auth) p e = by_subkey o key auth (subkey_of o.part key body auth) p e
-by_authenticator o body key (Err refusal) p e = absurd cc
-
-by_session_key : (o : Opened) (body : List ℕ) (r : Result Key TgsRefusal) (p : Presented)
-    → if_session_key o body r ≡ Ok p → o.part.cname.components ≡ p.ticket.cname.components
-by_session_key o body (Ok key) p e = by_authenticator o body key (authenticator_of key o.request.authenticator) p e
-by_session_key o body (Err refusal) p e = absurd cc
-
-by_ticket : (v : TicketView) (message : Received) (r : Result Opened TgsRefusal) (p : Presented)
-    → if_ticket v message r ≡ Ok p → client_of r ≡ Some p.ticket.cname.components
-by_ticket v message (Ok o) p e = ap (λ c. Some c) (by_session_key o message.body.octets (session_key_of v o.part) p e)
-by_ticket v message (Err refusal) p e = absurd cc
+presented_client : (v : TicketView) (message : Received) (p : Presented) → presented v message ≡ Ok p
+    → client_of (opened v message) ≡ Some p.ticket.cname.components
+presented_client v message p e =
+    let (o, opens, same) = opened_ticket v message p e in
+    ap client_of opens ∙ ap (λ (part : EncTicketPart). Some part.cname.components) same
 
 -- ---- so what the octets hold tells what the request names
 
@@ -77,8 +57,7 @@ module _ (state : State) where
   tgs_tells : (message : Received) (r : Result Presented TgsRefusal) → presented (ticket_view state message) message ≡ r
       → Tells (named_in state (record { exchange = Tgs; message = message })) (tgs_contents message r)
   tgs_tells message (Ok p) is = λ i. record {
-    client =
-        by_ticket (ticket_view state message) message (opened (ticket_view state message) message) p is i;
+    client = presented_client (ticket_view state message) message p is i;
     service = components_of message.body.value.sname;
   }
   tgs_tells message (Err refusal) is = tt

@@ -1,8 +1,9 @@
 //! What the octets of a request hold.
-ghost use Rattle.std.specs.Prelude.{◌≡◌, ◌<◌, length, IfOk, IfSome, option_copied};
+ghost use Rattle.std.specs.Prelude.{◌≡◌, ◌<◌, length, IfOk, IfSome, Result, option_copied};
 ghost use Rattle.krb_elements.specs.Codec.{list_of};
 ghost use Rattle.krb_fields.specs.PrincipalName.{name};
 ghost use Rattle.krb_fields.specs.Typed.{typed};
+ghost use Rattle.tgs_opening.specs.Fault.{Gives};
 ghost use Rattle.tgs_opening.specs.Opening.{presented};
 ghost use Rattle.tgs_opening.specs.Tickets.{tgs_data};
 ghost use Rattle.kdc_core.specs.Contents.{contents, contents_in, tgs_contents, AreShort};
@@ -14,7 +15,7 @@ use krb_fields::NameRef;
 use krb_types::{Exchange, KdcReqRef, read_kdc_req};
 use principal_rows::Row;
 use std::alloc::{AllocError, Global};
-use tgs_opening::{Presented, TgsRefusal, TicketView, tgs_open};
+use tgs_opening::{Presented, TgsFault, TgsRefusal, TicketView, tgs_open};
 
 /// The most octets that are read as a request: the lengths of frames over TCP stop there (RFC 4120, section 7.2.2).
 const GREATEST_REQUEST: usize = 2_147_483_647;
@@ -65,23 +66,28 @@ fn contents_in<'a>(
     match exchange {
         Exchange::As => Ok(Contents::AsReq(message)),
         Exchange::Tgs => {
-            let opened = open_presented(state, alloc, &message)?;
-            Ok(tgs_contents(message, opened))
+            let opened = open_presented(state, alloc, &message);
+            tgs_contents(message, opened)
         }
     }
 }
 
 /// What a TGS-REQ holds, by what became of its ticket and its authenticator.
-fn tgs_contents(message: KdcReqRef<'_>, opened: Result<Presented, TgsRefusal>) -> Contents<'_>
+fn tgs_contents(
+    message: KdcReqRef<'_>,
+    opened: Result<Presented, TgsFault>,
+) -> Result<Contents<'_>, AllocError>
     requires sname { IfSome message.body.value.sname (λ n. length (name.text n) < 2147483648) }
     requires authorization { IfOk opened (λ presented.
         IfSome presented.ticket.authorization_data (λ list. length ((list_of typed).text list) < 2147483648)) }
-    ensures value { result ≡ tgs_contents message.entry opened }
-    ensures short { AreShort result }
+    ensures value { (wanted : Result Presented TgsRefusal) → Gives opened wanted
+        → IfOk result (λ held. held ≡ tgs_contents message.entry wanted) }
+    ensures short { IfOk result AreShort }
 {
     match opened {
-        Ok(presented) => Contents::TgsReq(message, presented),
-        Err(refusal) => Contents::RefusedTgsReq(message, refusal),
+        Ok(presented) => Ok(Contents::TgsReq(message, presented)),
+        Err(TgsFault::Refused(refusal)) => Ok(Contents::RefusedTgsReq(message, refusal)),
+        Err(TgsFault::Memory) => Err(AllocError),
     }
 }
 
@@ -90,12 +96,11 @@ fn open_presented(
     state: &State,
     alloc: Global,
     message: &KdcReqRef<'_>,
-) -> Result<Result<Presented, TgsRefusal>, AllocError>
+) -> Result<Presented, TgsFault>
     requires { IfSome (tgs_data message.now) (λ value. length value < 2147483648) }
-    ensures value { IfOk result (λ opened. opened ≡ presented (ticket_view state.now message.now) message.now) }
-    ensures authorization { IfOk result (λ opened.
-        IfOk opened (λ presented. IfSome presented.ticket.authorization_data
-        (λ list. length ((list_of typed).text list) < 2147483648))) }
+    ensures value { Gives result (presented (ticket_view state.now message.now) message.now) }
+    ensures authorization { IfOk result (λ presented.
+        IfSome presented.ticket.authorization_data (λ list. length ((list_of typed).text list) < 2147483648)) }
 {
     let view = TicketView {
         realm: state.database.realm(),

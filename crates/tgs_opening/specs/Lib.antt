@@ -1,7 +1,9 @@
 pub mod View
 pub mod Refusal
+pub mod Fault
 pub mod Tickets
 pub mod Authenticators
 pub mod Opening
+pub mod OpeningLaws
 pub mod PartLaws
 pub mod RequestLaws

@@ -2,9 +2,21 @@
 use Rattle.krb_fields.specs.declared.code.Code.{Code}
 use Rattle.krb_fields.specs.declared.code.Code as codes
 use Rattle.tgs_opening.specs.declared.refusal.TgsRefusal.{TgsRefusal}
-use Rattle.tgs_opening.specs.declared.refusal.TgsRefusal.TheVariants.{BadVersion, BadMessageType, NoApReq, MalformedApReq, BadTicketVersion, BadApMessageType, SessionKeyAsked, NotForUs, NoKey, BadKeyVersion, TicketNotOpened, ForeignClient, BoundAddress, BadSessionKey}
-use Rattle.tgs_opening.specs.declared.refusal.TgsRefusal.TheVariants.{AuthenticatorNotOpened, BadMatch, NoChecksum, BadChecksumType, Modified, BadSubkey, ClientUnknown, ClientRevoked, ClientExpired, TicketRevoked, Skewed, Repeated, Full, NotYetValid}
-use Rattle.tgs_opening.specs.declared.refusal.TgsRefusal.TheVariants.{TicketExpired, ServiceUnknown, ServiceRevoked, ServiceExpired, OtherService, AuthorizationData, BadOption, NothingToValidate, ValidatedTooEarly, RenewedTooLate, NoCommonType, StartsTooLate, NeverValid}
+use Rattle.tgs_opening.specs.declared.refusal.TgsRefusal.TheVariants.{BadVersion, BadMessageType, NoApReq}
+use Rattle.tgs_opening.specs.declared.refusal.TgsRefusal.TheVariants.{MalformedApReq, BadTicketVersion}
+use Rattle.tgs_opening.specs.declared.refusal.TgsRefusal.TheVariants.{BadApMessageType, SessionKeyAsked, NotForUs}
+use Rattle.tgs_opening.specs.declared.refusal.TgsRefusal.TheVariants.{NoKey, BadKeyVersion, TicketNotOpened}
+use Rattle.tgs_opening.specs.declared.refusal.TgsRefusal.TheVariants.{ForeignClient, BoundAddress, BadSessionKey}
+use Rattle.tgs_opening.specs.declared.refusal.TgsRefusal.TheVariants.{AuthenticatorNotOpened, BadMatch, NoChecksum}
+use Rattle.tgs_opening.specs.declared.refusal.TgsRefusal.TheVariants.{BadChecksumType, Modified, BadSubkey}
+use Rattle.tgs_opening.specs.declared.refusal.TgsRefusal.TheVariants.{ClientUnknown, ClientRevoked, ClientExpired}
+use Rattle.tgs_opening.specs.declared.refusal.TgsRefusal.TheVariants.{TicketRevoked, Skewed, Repeated, Full}
+use Rattle.tgs_opening.specs.declared.refusal.TgsRefusal.TheVariants.{NotYetValid}
+use Rattle.tgs_opening.specs.declared.refusal.TgsRefusal.TheVariants.{TicketExpired, ServiceUnknown, ServiceRevoked}
+use Rattle.tgs_opening.specs.declared.refusal.TgsRefusal.TheVariants.{ServiceExpired, OtherService, AuthorizationData}
+use Rattle.tgs_opening.specs.declared.refusal.TgsRefusal.TheVariants.{BadOption, NothingToValidate, ValidatedTooEarly}
+use Rattle.tgs_opening.specs.declared.refusal.TgsRefusal.TheVariants.{RenewedTooLate, NoCommonType, StartsTooLate}
+use Rattle.tgs_opening.specs.declared.refusal.TgsRefusal.TheVariants.{NeverValid}
 
 abbrev pub code_of : TgsRefusal → Code
 code_of BadVersion = codes.TheVariants.KdcErrBadPvno

@@ -1,5 +1,7 @@
--- The ticket that a TGS-REQ presents, and the key that opens it (RFC 4120, sections 3.2.3 and 3.3.2).
-use Rattle.std.specs.Prelude.{ℕ, ℤ, pos, Bool, true, false, not, ◌&&◌, ◌||◌, nat_eq, if◌then◌else◌, is_some, is_none, List, [], ◌∷◌, Option, Some, None, Result}
+-- The ticket that a TGS-REQ presents, and the key that opens it (RFC 4120, sections 3.2.3 and 3.3.2). At each rule
+-- stands its section.
+use Rattle.std.specs.Prelude.{ℕ, ℤ, pos, Bool, true, false, not, ◌&&◌, ◌||◌, nat_eq, if◌then◌else◌, is_some, is_none}
+use Rattle.std.specs.Prelude.{List, [], ◌∷◌, Option, Some, None, Result}
 use Rattle.std.specs.List.{list_any}
 use Rattle.std.specs.Ordering.{int_eq, eq_by_cmp}
 use Rattle.std.specs.Cmp.Lexicographic.{pointwise}
@@ -17,7 +19,9 @@ use Rattle.krb_parts.specs.EncTicketPart.{EncTicketPart, enc_ticket_part}
 use Rattle.krb_types.specs.KdcReq.{Received}
 use Rattle.krb_types.specs.ReqBody.{ReqBody}
 use Rattle.krb_types.specs.Ticket.{Ticket}
+use Rattle.enctypes.specs.KeyUsage.{usage_number}
 use Rattle.enctypes.specs.declared.key.Key.{Key}
+use Rattle.enctypes.specs.declared.key_usage.KeyUsage.TheVariants.{Ticket as TicketUsage}
 use Rattle.sealed_parts.specs.Parts.{ok_of, opened_as}
 use Rattle.preauth.specs.Keys.{has_key, key_named}
 use Rattle.preauth.specs.Timestamp.{first_of}
@@ -27,8 +31,11 @@ use Rattle.principals.specs.Database.{ticket_granter}
 use Rattle.ticket_times.specs.Asked.{keeps_ticket}
 use Rattle.tgs_opening.specs.View.{View}
 use Rattle.tgs_opening.specs.declared.refusal.TgsRefusal.{TgsRefusal}
-use Rattle.tgs_opening.specs.declared.refusal.TgsRefusal.TheVariants.{BadVersion, BadMessageType, NoApReq, MalformedApReq}
-use Rattle.tgs_opening.specs.declared.refusal.TgsRefusal.TheVariants.{BadTicketVersion, BadApMessageType, SessionKeyAsked, NotForUs, NoKey, BadKeyVersion, TicketNotOpened}
+use Rattle.tgs_opening.specs.declared.refusal.TgsRefusal.TheVariants.{BadVersion, BadMessageType, NoApReq}
+use Rattle.tgs_opening.specs.declared.refusal.TgsRefusal.TheVariants.{MalformedApReq}
+use Rattle.tgs_opening.specs.declared.refusal.TgsRefusal.TheVariants.{BadTicketVersion, BadApMessageType}
+use Rattle.tgs_opening.specs.declared.refusal.TgsRefusal.TheVariants.{SessionKeyAsked, NotForUs, NoKey, BadKeyVersion}
+use Rattle.tgs_opening.specs.declared.refusal.TgsRefusal.TheVariants.{TicketNotOpened}
 use Rattle.tgs_opening.specs.declared.tickets.Addressee.{Addressee}
 use Rattle.tgs_opening.specs.declared.tickets.Addressee.TheVariants.{Granter, Asked, Other}
 
@@ -44,12 +51,12 @@ ap_req_in None = None
 
 abbrev pub request_rules : Received → List (Rule TgsRefusal)
 request_rules message =
-    (not (int_eq message.pvno (pos 5)), BadVersion)
-    ∷ (not (int_eq message.msg_type (pos 12)), BadMessageType)
-    ∷ (is_none (tgs_data message), NoApReq)
+    (not (int_eq message.pvno (pos 5)), BadVersion)  -- 5.4.1
+    ∷ (not (int_eq message.msg_type (pos 12)), BadMessageType)  -- 5.4.1
+    ∷ (is_none (tgs_data message), NoApReq)  -- 3.3.2
     ∷ []
 
--- the AP-REQ that comes with the request
+-- the AP-REQ that comes with the request (section 5.2.7.1)
 abbrev pub ap_req_of : Received → Result ApReq TgsRefusal
 ap_req_of message = decided (request_rules message) (ap_req_in (tgs_data message)) MalformedApReq
 
@@ -59,7 +66,7 @@ ap_req_of message = decided (request_rules message) (ap_req_in (tgs_data message
 abbrev pub is_same : Name → Name → Bool
 is_same a b = eq_by_cmp name_cmp a.components b.components
 
--- the ticket-granting service
+-- the ticket-granting service (section 3.3.2)
 abbrev pub is_for_granter : List ℕ → Name → Bool
 is_for_granter realm service = eq_by_cmp name_cmp service.components (ticket_granter realm)
 
@@ -67,7 +74,7 @@ abbrev pub is_named : Option Name → Name → Bool
 is_named (Some name) service = is_same name service
 is_named None service = false
 
--- the service that is asked for, which counts where the ticket is to be renewed or validated
+-- the service that is asked for, which counts where the ticket is to be renewed or validated (section 3.3.2)
 abbrev pub is_for_asked : ReqBody → Name → Bool
 is_for_asked body service = keeps_ticket body && is_named body.sname service
 
@@ -90,7 +97,8 @@ is_other Other = true
 
 -- another realm's, or another service's
 abbrev pub is_not_for_us : View → ReqBody → Ticket → Bool
-is_not_for_us v body ticket = not (pointwise nat_eq ticket.realm v.realm) || is_other (addressee v.realm body ticket.sname)
+is_not_for_us v body ticket =
+    not (pointwise nat_eq ticket.realm v.realm) || is_other (addressee v.realm body ticket.sname)
 
 -- ---- the key that it is sealed under
 
@@ -104,7 +112,8 @@ holds_type versions etype = list_any (λ v. has_key v.keys etype) versions
 
 -- there is no row; or it has no key of the type; or no version is named, and the current one has none
 abbrev pub lacks_key : Option Row → EncryptedData → Bool
-lacks_key (Some row) sealed = not (holds_type row.versions sealed.etype) || (is_none sealed.kvno && is_none (ticket_key (Some row) sealed))
+lacks_key (Some row) sealed =
+    not (holds_type row.versions sealed.etype) || (is_none sealed.kvno && is_none (ticket_key (Some row) sealed))
 lacks_key None sealed = true
 
 -- a version is named that has no key of the type
@@ -119,12 +128,12 @@ holder v body ticket = row_of v (addressee v.realm body ticket.sname)
 
 abbrev pub ticket_rules : View → ReqBody → ApReq → List (Rule TgsRefusal)
 ticket_rules v body ap =
-    (not (int_eq ap.pvno (pos 5)) || not (int_eq ap.ticket.tkt_vno (pos 5)), BadTicketVersion)
-    ∷ (not (int_eq ap.msg_type (pos 14)), BadApMessageType)
-    ∷ (has_bit ap.ap_options (ap_option_number UseSessionKey), SessionKeyAsked)
-    ∷ (is_not_for_us v body ap.ticket, NotForUs)
-    ∷ (lacks_key (holder v body ap.ticket) ap.ticket.enc_part, NoKey)
-    ∷ (lacks_version (holder v body ap.ticket) ap.ticket.enc_part, BadKeyVersion)
+    (not (int_eq ap.pvno (pos 5)) || not (int_eq ap.ticket.tkt_vno (pos 5)), BadTicketVersion)  -- 5.5.1, 5.3
+    ∷ (not (int_eq ap.msg_type (pos 14)), BadApMessageType)  -- 3.2.3
+    ∷ (has_bit ap.ap_options (ap_option_number UseSessionKey), SessionKeyAsked)  -- 3.2.3
+    ∷ (is_not_for_us v body ap.ticket, NotForUs)  -- 3.3.2
+    ∷ (lacks_key (holder v body ap.ticket) ap.ticket.enc_part, NoKey)  -- 3.2.3
+    ∷ (lacks_version (holder v body ap.ticket) ap.ticket.enc_part, BadKeyVersion)  -- 3.2.3
     ∷ []
 
 -- what the key opens, if there is one
@@ -132,9 +141,12 @@ abbrev pub opened_with : {A : Type 0} → Codec A → ℕ → Option Key → Lis
 opened_with c usage (Some key) cipher = opened_as c key.etype key.bytes usage cipher
 opened_with c usage None cipher = None
 
--- what the ticket holds: key usage 2
+-- what the ticket holds
 abbrev pub part_of : View → ReqBody → Ticket → Option EncTicketPart
-part_of v body ticket = opened_with enc_ticket_part 2 (ticket_key (holder v body ticket) ticket.enc_part) ticket.enc_part.cipher
+part_of v body ticket =
+    opened_with enc_ticket_part (usage_number TicketUsage)
+    (ticket_key (holder v body ticket) ticket.enc_part) ticket.enc_part.cipher
 
+-- a ticket that is not opened is the last reason (section 3.2.3)
 abbrev pub ticket_of : View → ReqBody → ApReq → Result EncTicketPart TgsRefusal
 ticket_of v body ap = decided (ticket_rules v body ap) (part_of v body ap.ticket) TicketNotOpened

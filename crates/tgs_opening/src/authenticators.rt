@@ -2,10 +2,14 @@
 //! request (RFC 4120, sections 3.2.3, 3.3.2 and 5.5.1).
 ghost use Rattle.std.specs.Prelude.{◌≡◌, nat_eq, IfOk, option_copied};
 ghost use Rattle.std.specs.Cmp.Lexicographic.{pointwise};
+ghost use Rattle.enctypes.specs.KeyUsage.{usage_number};
 ghost use Rattle.enctypes.specs.Sealing.{mac};
-ghost use Rattle.tgs_opening.specs.Authenticators.{authenticator_in, authenticator_of, authenticator_rules, is_mismatched, is_modified, is_other_type};
+ghost use Rattle.tgs_opening.specs.Fault.{Gives};
+ghost use Rattle.tgs_opening.specs.Authenticators.{authenticator_in, authenticator_of, authenticator_rules};
+ghost use Rattle.tgs_opening.specs.Authenticators.{is_mismatched, is_modified, is_other_type};
 ghost use Rattle.tgs_opening.specs.Authenticators.{part_rules, session_key_of, subkey_in, subkey_of};
 
+use crate::fault::TgsFault;
 use crate::refusal::TgsRefusal;
 use crate::view::TicketView;
 use enctypes::{Key, KeyUsage, verify};
@@ -42,11 +46,11 @@ pub fn authenticator_of(
     alloc: Global,
     key: &Key,
     sealed: &EncryptedDataRef<'_>,
-) -> Result<Result<Authenticator, TgsRefusal>, AllocError>
-    ensures { IfOk result (λ found. found ≡ authenticator_of key.now sealed.now) }
+) -> Result<Authenticator, TgsFault>
+    ensures { Gives result (authenticator_of key.now sealed.now) }
 {
     let found = authenticator_in(alloc, key, sealed)?;
-    Ok(found.ok_or(TgsRefusal::AuthenticatorNotOpened))
+    Ok(found.ok_or(TgsRefusal::AuthenticatorNotOpened)?)
 }
 
 fn authenticator_in(
@@ -122,7 +126,9 @@ fn is_modified(key: &Key, body: &[u8], cksum: Option<&Typed>) -> bool
 }
 
 fn is_checksum(key: &Key, body: &[u8], octets: &[u8]) -> bool
-    ensures { result ≡ pointwise nat_eq octets.now (mac key.now.etype key.now.bytes 6 body.now) }
+    ensures { result
+        ≡ pointwise nat_eq octets.now
+        (mac key.now.etype key.now.bytes (usage_number KeyUsage.TgsReqAuthenticatorChecksum) body.now) }
 {
     verify(key, KeyUsage::TgsReqAuthenticatorChecksum, body, octets)
 }

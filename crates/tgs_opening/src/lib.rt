@@ -5,12 +5,14 @@
 #![tactic(auto)]
 
 mod authenticators;
+mod fault;
 mod opening;
 mod presented;
 mod refusal;
 mod tickets;
 mod view;
 
+pub use fault::TgsFault;
 pub use opening::tgs_open;
 pub use presented::Presented;
 pub use refusal::TgsRefusal;

@@ -2,19 +2,17 @@
 ghost use Rattle.std.specs.Prelude.{◌≡◌, ◌<◌, length, IfOk, IfSome};
 ghost use Rattle.krb_elements.specs.Codec.{list_of};
 ghost use Rattle.krb_fields.specs.Typed.{typed};
-ghost use Rattle.tgs_opening.specs.Authenticators.{session_key_of};
-ghost use Rattle.tgs_opening.specs.Opening.{if_session_key, presented};
+ghost use Rattle.tgs_opening.specs.Fault.{Gives};
+ghost use Rattle.tgs_opening.specs.Opening.{presented};
 ghost use Rattle.tgs_opening.specs.Tickets.{tgs_data};
 
 use crate::authenticators::{authenticator_of, session_key_of, subkey_of};
+use crate::fault::TgsFault;
 use crate::presented::Presented;
-use crate::refusal::TgsRefusal;
 use crate::tickets::{ap_req_of, ticket_of};
 use crate::view::TicketView;
-use krb_ap::ApReqRef;
-use krb_parts::EncTicketPart;
 use krb_types::KdcReqRef;
-use std::alloc::{AllocError, Global};
+use std::alloc::Global;
 
 /// What a TGS-REQ presents, or the first rule by which that is refused.
 ///
@@ -23,21 +21,26 @@ pub fn tgs_open(
     alloc: Global,
     view: &TicketView<'_>,
     request: &KdcReqRef<'_>,
-) -> Result<Result<Presented, TgsRefusal>, AllocError>
+) -> Result<Presented, TgsFault>
     requires { IfSome (tgs_data request.now) (λ value. length value < 2147483648) }
-    ensures value { IfOk result (λ opened. opened ≡ presented view.now request.now) }
+    ensures value { Gives result (presented view.now request.now) }
     // The authorization data are short enough for another ticket.
-    ensures authorization { IfOk result (λ opened. IfOk opened (λ presented. IfSome presented.ticket.authorization_data (λ list. length ((list_of typed).text list) < 2147483648))) }
+    ensures authorization { IfOk result (λ presented.
+        IfSome presented.ticket.authorization_data (λ list. length ((list_of typed).text list) < 2147483648)) }
 {
-    let ap = match ap_req_of(request) {
-        Ok(ap) => ap,
-        Err(refusal) => return Ok(Err(refusal)),
-    };
-    let part = match ticket_of(alloc, view, &request.body.value, &ap)? {
-        Ok(part) => part,
-        Err(refusal) => return Ok(Err(refusal)),
-    };
-    authenticated(alloc, view, body_octets(request), &ap, part)
+    let ap = ap_req_of(request)?;
+    let ticket = ticket_of(alloc, view, &request.body.value, &ap)?;
+    let session_key = session_key_of(view, &ticket)?;
+    let authenticator = authenticator_of(alloc, &session_key, &ap.authenticator)?;
+    let body = body_octets(request);
+    let subkey = subkey_of(&ticket, &session_key, body, &authenticator)?;
+    Ok(Presented {
+        service: ap.ticket.sname.to_name(alloc)?,
+        ticket,
+        session_key,
+        authenticator,
+        subkey,
+    })
 }
 
 /// The octets of the request's body, as they were sent.
@@ -45,36 +48,4 @@ fn body_octets<'a>(request: &KdcReqRef<'a>) -> &'a [u8]
     ensures { result.now ≡ request.now.body.octets }
 {
     request.body.octets
-}
-
-/// What is presented with a ticket that holds this part.
-fn authenticated(
-    alloc: Global,
-    view: &TicketView<'_>,
-    body: &[u8],
-    ap: &ApReqRef<'_>,
-    part: EncTicketPart,
-) -> Result<Result<Presented, TgsRefusal>, AllocError>
-    ensures value { IfOk result (λ opened. opened ≡ if_session_key (record { request = ap.now; part = part }) body.now (session_key_of view.now part)) }
-    ensures same { IfOk result (λ opened. IfOk opened (λ presented. presented.ticket ≡ part)) }
-{
-    let session_key = match session_key_of(view, &part) {
-        Ok(key) => key,
-        Err(refusal) => return Ok(Err(refusal)),
-    };
-    let authenticator = match authenticator_of(alloc, &session_key, &ap.authenticator)? {
-        Ok(authenticator) => authenticator,
-        Err(refusal) => return Ok(Err(refusal)),
-    };
-    let subkey = match subkey_of(&part, &session_key, body, &authenticator) {
-        Ok(subkey) => subkey,
-        Err(refusal) => return Ok(Err(refusal)),
-    };
-    Ok(Ok(Presented {
-        service: ap.ticket.sname.to_name(alloc)?,
-        ticket: part,
-        session_key,
-        authenticator,
-        subkey,
-    }))
 }

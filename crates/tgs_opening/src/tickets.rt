@@ -1,12 +1,18 @@
 //! The ticket that a TGS-REQ presents, and the key that opens it (RFC 4120, sections 3.2.3 and
 //! 3.3.2).
-ghost use Rattle.std.specs.Prelude.{◌≡◌, ◌<◌, length, ◌&&◌, ◌||◌, not, nat_eq, IfOk, IfSome, is_none, is_some, option_copied};
+ghost use Rattle.std.specs.Prelude.{◌≡◌, ◌<◌, length, ◌&&◌, ◌||◌, not, nat_eq, IfOk, IfSome, is_none, is_some};
+ghost use Rattle.std.specs.Prelude.{option_copied};
 ghost use Rattle.std.specs.Cmp.Lexicographic.{pointwise};
+ghost use Rattle.enctypes.specs.KeyUsage.{usage_number};
 ghost use Rattle.krb_parts.specs.EncTicketPart.{enc_ticket_part};
 ghost use Rattle.sealed_parts.specs.Parts.{IsSpelledWithin};
-ghost use Rattle.tgs_opening.specs.Tickets.{addressee, ap_req_in, ap_req_of, holder, holds_type, is_for_asked, is_named, is_other};
-ghost use Rattle.tgs_opening.specs.Tickets.{lacks_key, opened_with, request_rules, row_of, tgs_data, ticket_key, ticket_of, ticket_rules};
+ghost use Rattle.tgs_opening.specs.Fault.{Gives};
+ghost use Rattle.tgs_opening.specs.Tickets.{addressee, ap_req_in, ap_req_of, holder, holds_type, is_for_asked};
+ghost use Rattle.tgs_opening.specs.Tickets.{is_named, is_other};
+ghost use Rattle.tgs_opening.specs.Tickets.{lacks_key, opened_with, request_rules, row_of, tgs_data, ticket_key};
+ghost use Rattle.tgs_opening.specs.Tickets.{ticket_of, ticket_rules};
 
+use crate::fault::TgsFault;
 use crate::refusal::TgsRefusal;
 use crate::view::TicketView;
 use enctypes::{Key, KeyUsage};
@@ -37,7 +43,8 @@ pub enum Addressee {
 /// The AP-REQ that comes with the request.
 pub fn ap_req_of<'a>(request: &KdcReqRef<'a>) -> Result<ApReqRef<'a>, TgsRefusal>
     ensures value { result ≡ ap_req_of request.now }
-    ensures short { IfOk result (λ ap. IfSome (tgs_data request.now) (λ value. length ap.ticket.enc_part.cipher < length value)) }
+    ensures short { IfOk result (λ ap.
+        IfSome (tgs_data request.now) (λ value. length ap.ticket.enc_part.cipher < length value)) }
 {
     let value = first_of(PA_TGS_REQ, request.padata.as_ref());
     let rules = request_rules(request, value.is_none());
@@ -61,7 +68,8 @@ fn request_rules(request: &KdcReqRef<'_>, lacks_value: bool) -> [(bool, TgsRefus
 /// The AP-REQ that the value of a PA-TGS-REQ spells.
 fn ap_req_in(value: Option<OctetsRef<'_>>) -> Option<ApReqRef<'_>>
     ensures value { result ≡ ap_req_in value.entry }
-    ensures short { IfSome result (λ ap. IfSome value.entry (λ octets. length ap.ticket.enc_part.cipher < length octets)) }
+    ensures short { IfSome result (λ ap.
+        IfSome value.entry (λ octets. length ap.ticket.enc_part.cipher < length octets)) }
 {
     read_ap_req(value?.as_slice()).ok()
 }
@@ -72,16 +80,16 @@ pub fn ticket_of(
     view: &TicketView<'_>,
     body: &ReqBodyRef<'_>,
     ap: &ApReqRef<'_>,
-) -> Result<Result<EncTicketPart, TgsRefusal>, AllocError>
-    ensures value { IfOk result (λ found. found ≡ ticket_of view.now body.now ap.now) }
-    ensures within { IfOk result (λ found. IfOk found (λ part. IsSpelledWithin enc_ticket_part part ap.now.ticket.enc_part.cipher)) }
+) -> Result<EncTicketPart, TgsFault>
+    ensures value { Gives result (ticket_of view.now body.now ap.now) }
+    ensures within { IfOk result (λ part. IsSpelledWithin enc_ticket_part part ap.now.ticket.enc_part.cipher) }
 {
     let whom = addressee_of(alloc, view.realm, body, &ap.ticket.sname)?;
     let row = row_of(view, whom);
     let key = ticket_key(row, &ap.ticket.enc_part);
     let rules = ticket_rules(view, body, ap, whom, row, key);
     let part = part_of(alloc, key, &ap.ticket.enc_part)?;
-    Ok(decide(&rules, part, TgsRefusal::TicketNotOpened))
+    Ok(decide(&rules, part, TgsRefusal::TicketNotOpened)?)
 }
 
 fn ticket_rules(
@@ -215,8 +223,11 @@ fn part_of(
     key: Option<&Key>,
     sealed: &EncryptedDataRef<'_>,
 ) -> Result<Option<EncTicketPart>, AllocError>
-    ensures value { IfOk result (λ found. found ≡ opened_with enc_ticket_part 2 (option_copied key.entry) sealed.now.cipher) }
-    ensures within { IfOk result (λ found. IfSome found (λ part. IsSpelledWithin enc_ticket_part part sealed.now.cipher)) }
+    ensures value { IfOk result (λ found.
+        found
+        ≡ opened_with enc_ticket_part (usage_number KeyUsage.Ticket) (option_copied key.entry) sealed.now.cipher) }
+    ensures within { IfOk result (λ found.
+        IfSome found (λ part. IsSpelledWithin enc_ticket_part part sealed.now.cipher)) }
 {
     match key {
         Some(key) => open_part(alloc, key, KeyUsage::Ticket, sealed.cipher.as_slice()),

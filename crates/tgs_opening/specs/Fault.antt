@@ -1,0 +1,14 @@
+-- What a call gave, where memory may run out.
+use Rattle.std.specs.Prelude.{◌≡◌, ⊤, Result, Ok, Err}
+use Rattle.tgs_opening.specs.declared.fault.TgsFault.{TgsFault}
+use Rattle.tgs_opening.specs.declared.fault.TgsFault.TheVariants.{Refused, Memory}
+use Rattle.tgs_opening.specs.declared.refusal.TgsRefusal.{TgsRefusal}
+
+abbrev pub Fails : {A : Type 0} → TgsFault → Result A TgsRefusal → Type 0
+Fails (Refused refusal) wanted = wanted ≡ Err refusal
+Fails Memory wanted = ⊤
+
+-- It is what is wanted, found or refused, unless memory ran out.
+abbrev pub Gives : {A : Type 0} → Result A TgsFault → Result A TgsRefusal → Type 0
+Gives (Ok x) wanted = wanted ≡ Ok x
+Gives (Err fault) wanted = Fails fault wanted
