@@ -1,4 +1,5 @@
--- The rules by which AS-REQs are refused (RFC 4120, section 3.1.3), in their order.
+-- The rules by which AS-REQs are refused (RFC 4120, sections 3.1.2 and 3.1.3), in their order. At each rule stands its
+-- section; the codes of rows that are disabled or have expired are those of section 7.5.9.
 use Rattle.std.specs.Prelude.{ℤ, pos, Bool, true, false, not, ◌&&◌, ◌||◌, nat_eq, is_none, List, [], ◌∷◌, Option}
 use Rattle.std.specs.Prelude.{Some, None, Result}
 use Rattle.std.specs.Ordering.{int_eq}
@@ -103,23 +104,23 @@ lacks_preauth row timestamp = is_absent timestamp && needs_preauth row
 -- by what became of the timestamp, by the terms, and by the times of a ticket
 abbrev pub rules_by : View → ℤ → Received → Outcome → Option Terms → Option Times → List (Rule AsRefusal)
 rules_by v now message timestamp found times =
-    (is_bad_version message, BadVersion)
-    ∷ (is_bad_message_type message, BadMessageType)
-    ∷ (is_client_unknown v message.body.value, ClientUnknown)
-    ∷ (is_service_unknown v message.body.value, ServiceUnknown)
-    ∷ (is_client_revoked v now, ClientRevoked)
-    ∷ (is_expired v.client now, ClientExpired)
-    ∷ (has_expired_password v.client now, PasswordExpired)
-    ∷ (is_disabled v.service, ServiceRevoked)
-    ∷ (is_expired v.service now, ServiceExpired)
-    ∷ (asks_bad_option message.body.value, BadOption)
-    ∷ (is_none found, NoCommonType)
-    ∷ (is_bad timestamp, PreauthFailed)
-    ∷ (is_skewed timestamp, TimestampSkewed)
-    ∷ (lacks_preauth v.client timestamp, PreauthRequired)
-    ∷ (is_postdating_refused v message.body.value, PostdatingRefused)
-    ∷ (starts_too_late now message.body.value, StartsTooLate)
-    ∷ (is_none times, NeverValid)
+    (is_bad_version message, BadVersion)  -- 3.1.2, 5.4.1
+    ∷ (is_bad_message_type message, BadMessageType)  -- 3.1.2, 5.4.1
+    ∷ (is_client_unknown v message.body.value, ClientUnknown)  -- 3.1.3
+    ∷ (is_service_unknown v message.body.value, ServiceUnknown)  -- 3.1.3
+    ∷ (is_client_revoked v now, ClientRevoked)  -- 3.1.3
+    ∷ (is_expired v.client now, ClientExpired)  -- 3.1.3
+    ∷ (has_expired_password v.client now, PasswordExpired)  -- 3.1.3
+    ∷ (is_disabled v.service, ServiceRevoked)  -- 3.1.3
+    ∷ (is_expired v.service now, ServiceExpired)  -- 3.1.3
+    ∷ (asks_bad_option message.body.value, BadOption)  -- 5.4.1
+    ∷ (is_none found, NoCommonType)  -- 3.1.3
+    ∷ (is_bad timestamp, PreauthFailed)  -- 3.1.3
+    ∷ (is_skewed timestamp, TimestampSkewed)  -- 3.1.3, 5.2.7.2
+    ∷ (lacks_preauth v.client timestamp, PreauthRequired)  -- 3.1.3
+    ∷ (is_postdating_refused v message.body.value, PostdatingRefused)  -- 3.1.3
+    ∷ (starts_too_late now message.body.value, StartsTooLate)  -- 3.1.3
+    ∷ (is_none times, NeverValid)  -- 3.1.3
     ∷ []
 
 -- what is admitted, or the first rule by which nothing is

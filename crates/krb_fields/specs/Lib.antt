@@ -9,6 +9,7 @@ pub mod NameLimitsLaws
 pub mod NameLengthLaws
 pub mod NameText
 pub mod Salt
+pub mod Skew
 pub mod TicketFlag
 pub mod PrincipalName
 pub mod EncryptedData

@@ -1,11 +1,15 @@
 -- What a request's PA-ENC-TIMESTAMP shows (RFC 4120, section 5.2.7.2).
-use Rattle.std.specs.Prelude.{ℕ, ℤ, pos, ◌-ℤ◌, Bool, nat_lt, unsigned_abs, if◌then◌else◌, List, Option, Some, None, option_map, find}
+use Rattle.std.specs.Prelude.{ℕ, ℤ, pos, ◌-ℤ◌, Bool, nat_lt, unsigned_abs, if◌then◌else◌, List, Option, Some, None}
+use Rattle.std.specs.Prelude.{option_map, find}
 use Rattle.std.specs.Ordering.{int_eq}
 use Rattle.krb_elements.specs.Format.{whole}
 use Rattle.krb_fields.specs.PaData.{PaData}
+use Rattle.krb_fields.specs.Skew.{skew}
 use Rattle.krb_fields.specs.EncryptedData.{EncryptedData, encrypted_data}
 use Rattle.krb_parts.specs.PaEncTsEnc.{PaEncTsEnc, pa_enc_ts_enc}
+use Rattle.enctypes.specs.KeyUsage.{usage_number}
 use Rattle.enctypes.specs.declared.key.Key.{Key}
+use Rattle.enctypes.specs.declared.key_usage.KeyUsage.TheVariants.{PaEncTimestamp}
 use Rattle.sealed_parts.specs.Parts.{ok_of, opened_as}
 use Rattle.principal_rows.specs.declared.row.Row.{Row}
 use Rattle.principal_rows.specs.Versions.{current}
@@ -22,10 +26,10 @@ first_of number (Some padata) = option_map (λ p. p.padata_value) (find (λ p. i
 abbrev pub encrypted_in : List ℕ → Option EncryptedData
 encrypted_in octets = ok_of (whole encrypted_data.at octets)
 
--- what the key opens: key usage 1
+-- what the key opens
 abbrev pub opened_by : Option Key → List ℕ → Option PaEncTsEnc
 opened_by None cipher = None
-opened_by (Some key) cipher = opened_as pa_enc_ts_enc key.etype key.bytes 1 cipher
+opened_by (Some key) cipher = opened_as pa_enc_ts_enc key.etype key.bytes (usage_number PaEncTimestamp) cipher
 
 -- what the key of its type opens; its kvno is ignored
 abbrev pub opened_of : List Key → Option EncryptedData → Option PaEncTsEnc
@@ -35,9 +39,9 @@ opened_of keys (Some sealed) = opened_by (key_numbered keys sealed.etype) sealed
 abbrev pub time_of : Option PaEncTsEnc → Option ℤ
 time_of opened = option_map (λ part. part.patimestamp) opened
 
--- more than 300 seconds from now
+-- further from now than clocks may differ
 abbrev pub is_skewed : ℤ → ℤ → Bool
-is_skewed now time = nat_lt 300 (unsigned_abs (time -ℤ now))
+is_skewed now time = nat_lt skew (unsigned_abs (time -ℤ now))
 
 -- by the time that was opened, if one was
 abbrev pub judged : ℤ → Option ℤ → Outcome

@@ -29,7 +29,7 @@ decision_copied (Issues admission) = Issues admission
 abbrev pub stamp_of : Presented → Stamp
 stamp_of p = (p.authenticator.ctime, p.authenticator.cusec)
 
--- what the client's memory says of it
+-- what the client's memory says of it (RFC 4120, section 3.2.3)
 abbrev pub verdict_on : View → ℤ → Presented → Verdict Kept
 verdict_on v now p = verdict v.memory now (stamp_of p) v.limits.remembered
 
@@ -40,6 +40,7 @@ abbrev pub by_admission : Result Admission TgsRefusal → Decision Kept
 by_admission (Err refusal) = Remembers refusal
 by_admission (Ok admission) = Issues admission
 
+-- skewed, full (section 3.2.3), or a repeat (section 3.3.2)
 abbrev pub by_verdict : View → ℤ → ReqBody → Presented → Verdict Kept → Decision Kept
 by_verdict v now body p Skew = Refuses Skewed
 by_verdict v now body p (Repeat kept) = Repeats kept

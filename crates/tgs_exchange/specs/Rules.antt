@@ -1,12 +1,13 @@
 -- The rules by which TGS-REQs are refused whose ticket and authenticator were opened, in their order: those of the
--- client (RFC 4120, section 3.3.3.1 for revoked tickets), and then, once the authenticator is known to be new, those of
--- the ticket's times (section 3.2.3) and of what is asked for (section 3.3.3).
+-- client, and then, once the authenticator is known to be new, those of the ticket and of what is asked for. At each
+-- rule stands its section of RFC 4120; the codes of rows that are disabled or have expired are those of section 7.5.9.
 use Rattle.std.specs.Prelude.{ℤ, pos, ◌-ℤ◌, Bool, false, not, ◌&&◌, ◌||◌, nat_eq, int_lt, is_none, is_some, List, []}
 use Rattle.std.specs.Prelude.{◌∷◌, Option, Some, None, Result}
 use Rattle.std.specs.Cmp.Lexicographic.{pointwise}
 use Rattle.refusals.specs.Optional.{holds_of}
 use Rattle.refusals.specs.Refusals.{Rule, decided}
 use Rattle.krb_fields.specs.PrincipalName.{Name}
+use Rattle.krb_fields.specs.Skew.{skew}
 use Rattle.krb_fields.specs.declared.kdc_option.KdcOption.{KdcOption}
 use Rattle.krb_fields.specs.declared.kdc_option.KdcOption as options
 use Rattle.krb_fields.specs.declared.ticket_flag.TicketFlag.{TicketFlag}
@@ -49,10 +50,10 @@ is_ticket_revoked row authtime = holds_of (λ row. is_before authtime row.policy
 
 abbrev pub client_rules : View → ℤ → ℤ → List (Rule TgsRefusal)
 client_rules v now authtime =
-    (is_none v.client, ClientUnknown)
-    ∷ (is_disabled v.client, ClientRevoked)
-    ∷ (is_expired v.client now, ClientExpired)
-    ∷ (is_ticket_revoked v.client authtime, TicketRevoked)
+    (is_none v.client, ClientUnknown)  -- 3.3.3.1
+    ∷ (is_disabled v.client, ClientRevoked)  -- 3.3.3.1
+    ∷ (is_expired v.client now, ClientExpired)  -- 3.3.3.1
+    ∷ (is_ticket_revoked v.client authtime, TicketRevoked)  -- 3.3.3.1
     ∷ []
 
 -- ---- the ticket
@@ -60,11 +61,11 @@ client_rules v now authtime =
 -- it starts later than the skew of clocks allows, or has yet to be validated, and this request doesn't ask for that
 abbrev pub is_not_yet_valid : TicketTerms → ℤ → ReqBody → Bool
 is_not_yet_valid ticket now body =
-    int_lt (later now 300) (start_of_ticket ticket)
+    int_lt (later now skew) (start_of_ticket ticket)
     || (has_flag ticket Invalid && not (asks body options.TheVariants.Validate))
 
 abbrev pub has_ended : TicketTerms → ℤ → Bool
-has_ended ticket now = int_lt ticket.endtime (now -ℤ pos 300)
+has_ended ticket now = int_lt ticket.endtime (now -ℤ pos skew)
 
 -- ---- the service
 
@@ -118,20 +119,20 @@ starts_late body now = not (keeps_ticket body) && starts_too_late now body
 abbrev pub rules_by : View → ℤ → ReqBody → Presented → Option Terms → Option Times → List (Rule TgsRefusal)
 rules_by v now body p found times =
     let ticket = ticket_terms p.ticket in
-    (is_not_yet_valid ticket now body, NotYetValid)
-    ∷ (has_ended ticket now, TicketExpired)
-    ∷ (is_service_unknown v body, ServiceUnknown)
-    ∷ (is_disabled v.service, ServiceRevoked)
-    ∷ (is_expired v.service now, ServiceExpired)
-    ∷ (is_for_other_service body p.service, OtherService)
-    ∷ (is_some body.enc_authorization_data, AuthorizationData)
-    ∷ (asks_bad_option body ticket, BadOption)
-    ∷ (has_nothing_to_validate body ticket, NothingToValidate)
-    ∷ (is_validated_too_early body ticket now, ValidatedTooEarly)
-    ∷ (is_renewed_too_late body ticket now, RenewedTooLate)
-    ∷ (is_none found, NoCommonType)
-    ∷ (starts_late body now, StartsTooLate)
-    ∷ (is_none times, NeverValid)
+    (is_not_yet_valid ticket now body, NotYetValid)  -- 3.2.3
+    ∷ (has_ended ticket now, TicketExpired)  -- 3.2.3
+    ∷ (is_service_unknown v body, ServiceUnknown)  -- 3.3.3
+    ∷ (is_disabled v.service, ServiceRevoked)  -- 3.3.3
+    ∷ (is_expired v.service now, ServiceExpired)  -- 3.3.3
+    ∷ (is_for_other_service body p.service, OtherService)  -- 3.3.2
+    ∷ (is_some body.enc_authorization_data, AuthorizationData)  -- 3.3.3
+    ∷ (asks_bad_option body ticket, BadOption)  -- 3.3.3
+    ∷ (has_nothing_to_validate body ticket, NothingToValidate)  -- 3.3.3
+    ∷ (is_validated_too_early body ticket now, ValidatedTooEarly)  -- 3.3.3
+    ∷ (is_renewed_too_late body ticket now, RenewedTooLate)  -- 3.3.3
+    ∷ (is_none found, NoCommonType)  -- 3.3.3, 3.1.3
+    ∷ (starts_late body now, StartsTooLate)  -- 3.3.3, 3.1.3
+    ∷ (is_none times, NeverValid)  -- 3.3.3, 3.1.3
     ∷ []
 
 -- what is admitted, or the first rule by which nothing is

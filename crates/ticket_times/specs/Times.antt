@@ -7,6 +7,7 @@ use Rattle.std.specs.Int.{int_max}
 use Rattle.std.specs.Option.{unwrap_or}
 use Rattle.std.specs.Ordering.{int_eq}
 use Rattle.krb_der.specs.Civil.{IsCivilSecond}
+use Rattle.krb_fields.specs.Skew.{skew}
 use Rattle.krb_fields.specs.declared.kdc_option.KdcOption.TheVariants.{Postdated, Renewable, RenewableOk, Renew, Validate}
 use Rattle.krb_fields.specs.declared.ticket_flag.TicketFlag.TheVariants.{Renewable as RenewableFlag}
 use Rattle.krb_types.specs.ReqBody.{ReqBody}
@@ -29,7 +30,7 @@ later time seconds = time +ℤ pos seconds
 
 -- a start that is asked for without POSTDATED, and lies beyond the skew
 abbrev pub starts_too_late : ℤ → ReqBody → Bool
-starts_too_late now body = not (asks body Postdated) && int_lt (later now 300) (unwrap_or body.from now)
+starts_too_late now body = not (asks body Postdated) && int_lt (later now skew) (unwrap_or body.from now)
 
 abbrev pub start_of : ℤ → ReqBody → ℤ
 start_of now body = if asks body Postdated then int_max now (unwrap_or body.from now) else now
