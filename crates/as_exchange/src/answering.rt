@@ -92,7 +92,8 @@ fn refused(
     refusal: AsRefusal,
 ) -> Result<AsAnswer, AllocError>
     requires { IsKnown view.now body.now }
-    ensures reply { IfOk result (λ answer. answer.reply.items ≡ (refused view.now at body.now timestamp refusal).reply) }
+    ensures reply { IfOk result (λ answer.
+        answer.reply.items ≡ (refused view.now at body.now timestamp refusal).reply) }
     ensures failures { IfOk result (λ answer.
         answer.failures ≡ (refused view.now at body.now timestamp refusal).failures) }
     ensures spelled { IfOk result (λ answer.

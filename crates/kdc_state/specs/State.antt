@@ -13,7 +13,8 @@ use Rattle.kdc_state.specs.declared.state.State.{State}
 use Rattle.replay.specs.Opening.{opened_memory}
 
 abbrev pub opened : Principals → Limits → Opening → State
-opened database limits opening = record { database = database; limits = limits; opening = opening; memories = map.empty }
+opened database limits opening =
+    record { database = database; limits = limits; opening = opening; memories = map.empty }
 
 -- a name that has no memory stored has that of the opening
 abbrev pub memory_of : State → Components → Memory Kept

@@ -7,7 +7,8 @@ use Rattle.principal_rows.specs.declared.limits.Limits.{Limits}
 -- enough failures, and the last of them not lock_seconds ago; a lock_after of 0 locks nobody
 abbrev pub is_locked : Failures → Limits → ℤ → Bool
 is_locked failures limits now =
-    not (limits.lock_after == 0) && nat_le limits.lock_after failures.count && int_lt now (failures.last.sec +ℤ pos limits.lock_seconds)
+    not (limits.lock_after == 0) && nat_le limits.lock_after failures.count
+    && int_lt now (failures.last.sec +ℤ pos limits.lock_seconds)
 
 -- one more, up to the greatest count
 abbrev pub after_failure : Failures → Moment → Failures

@@ -10,7 +10,8 @@ info_entry salt etype = record { etype = etype; salt = Some salt; s2kparams = No
 
 -- PA-ETYPE-INFO2 of these types
 abbrev pub etype_info2 : List ℕ → List ℤ → PaData
-etype_info2 salt types = record { padata_type = pos 19; padata_value = written (list_of etype_info2_entry) (map (info_entry salt) types) }
+etype_info2 salt types =
+    record { padata_type = pos 19; padata_value = written (list_of etype_info2_entry) (map (info_entry salt) types) }
 
 -- an empty PA-ENC-TIMESTAMP, which asks for one
 abbrev pub timestamp_wanted : PaData
