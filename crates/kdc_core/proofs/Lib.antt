@@ -4,4 +4,5 @@ pub mod Reading
 pub mod Runs
 pub mod Changes
 pub mod Isolation
+pub mod Marking
 pub mod Tickets

@@ -1,5 +1,5 @@
 -- A run gets a client one reply with a ticket for each authenticator: the state is a machine that keeps its memory.
-use Rattle.std.proofs.Common.{◌≡◌, ℕ, ℤ, Bool, true, false, cond, ◌&&◌, if◌then◌else◌, IfSome, List, [], ◌∷◌, length, Option, Some, None, option_map, Result, Ok, Err, refl, ap, sym, subst, ◌∙◌}
+use Rattle.std.proofs.Common.{◌≡◌, ℕ, ℤ, Bool, true, false, cond, ◌&&◌, if◌then◌else◌, IfSome, List, [], ◌∷◌, length, Option, Some, None, option_map, refl, ap, sym, subst, ◌∙◌}
 use Rattle.std.specs.Prelude.{⊤, nat_eq, nat_lt}
 use Rattle.std.specs.Cmp.Lexicographic.{pointwise}
 use Rattle.std.specs.FinMap as map
@@ -9,7 +9,6 @@ use Rattle.std.specs.Ordering.{eq_by_cmp}
 use Rattle.as_exchange.specs.Answer.{as_answer}
 use Rattle.kdc_replies.specs.ErrorReply.{too_big}
 use Rattle.kdc_replies.specs.Incoming.{Incoming}
-use Rattle.krb_der.specs.Spelling.{tlv}
 use Rattle.krb_elements.specs.Codec.{written}
 use Rattle.krb_fields.specs.Name.{Components, name_cmp, name_total, same_name}
 use Rattle.krb_fields.specs.declared.moment.Moment.{Moment}
@@ -20,19 +19,18 @@ use Rattle.replay.specs.Machine.{IsGiven, Keeps, next_if}
 use Rattle.replay.specs.Run.{Event as Happening, Asked, Counted, Restarted, after_verdict, collected, with_any, RestartsFrom as MemoryFrom, RestartsFollow as MemoryFollow}
 use Rattle.replay.specs.Stamp.{Stamp}
 use Rattle.replay.specs.declared.failures.Failures.{Failures}
+use Rattle.replay.specs.declared.keep.Bears.TheVariants.{Ticket}
 use Rattle.replay.specs.declared.keep.Kept.{Kept}
 use Rattle.replay.specs.declared.memory.Memory.{Memory}
 use Rattle.replay.specs.declared.verdict.Verdict.{Verdict}
 use Rattle.replay.specs.declared.verdict.Verdict.TheVariants.{Fresh, Skew, Repeat, Full as NoPlace}
-use Rattle.tgs_exchange.specs.Answer.{Answer as TgsAnswer, answer_by, bears_ticket, kept_reply, refused, remembering, tgs_answer, tgs_error, within_room}
+use Rattle.tgs_exchange.specs.Answer.{Answer as TgsAnswer, answer_by, is_ticket, kept_reply, refused, remembering, tgs_answer, tgs_error, within_room}
 use Rattle.tgs_exchange.specs.Decision.{HasSaid, decision, stamp_of, verdict_on}
 use Rattle.tgs_exchange.specs.DecisionLaws.{has_said}
 use Rattle.tgs_exchange.specs.View.{View as TgsView}
 use Rattle.tgs_exchange.specs.declared.decision.Decision.{Decision}
 use Rattle.tgs_exchange.specs.declared.decision.Decision.TheVariants.{Refuses, Remembers, Repeats, Issues}
-use Rattle.tgs_exchange.specs.declared.terms.Admission.{Admission}
 use Rattle.tgs_opening.specs.declared.presented.Presented.{Presented}
-use Rattle.tgs_opening.specs.declared.refusal.TgsRefusal.{TgsRefusal}
 use Rattle.tgs_opening.specs.declared.refusal.TgsRefusal.TheVariants.{Repeated}
 use Rattle.replay.specs.Opening.{opened_memory}
 use Rattle.kdc_state.specs.State.{memory_of}
@@ -48,7 +46,8 @@ use Rattle.kdc_core.specs.ContentsLaws.{Tells, names_in, nothing_kept, tells}
 use Rattle.kdc_core.specs.Request.{request_of}
 use Rattle.kdc_core.specs.Run.{after_event, unless_refused}
 use Rattle.kdc_core.specs.Struck.{is_client}
-use Rattle.kdc_core.specs.Tickets.{OneTicket, RestartsFollow, RestartsFrom, ticket_by, ticket_to}
+use Rattle.kdc_core.proofs.Marking.{error_bears_none}
+use Rattle.kdc_core.specs.Tickets.{bears_ticket, OneTicket, RestartsFollow, RestartsFrom, ticket_by, ticket_to}
 use Rattle.kdc_core.specs.View.{Named, View, as_view, components_of, memory_named, named, presented_view, tgs_view, view, view_of}
 use Rattle.kdc_core.specs.declared.contents.Contents.{Contents}
 use Rattle.kdc_core.specs.declared.contents.Contents.TheVariants.{NoRequest, AsReq, RefusedTgsReq, TgsReq}
@@ -75,10 +74,6 @@ gives_kept = record {
 }
 
 -- ---- errors bear no ticket
-
-error_bears_none : (e : KrbError) → bears_ticket (written krb_error e) ≡ false
-unfolding tlv
-error_bears_none e = refl
 
 -- the octets with a stamp, if they bear a ticket
 abbrev handed : Stamp → List ℕ → Option (Stamp × List ℕ)
@@ -129,8 +124,8 @@ module _ (v : TgsView) (incoming : Incoming) (body : ReqBody) (p : Presented) wh
   kept_none octets true = refl
   kept_none octets false = refl
 
-  repeat_none : (kept : Kept) (same : Bool) → (if same then kept_reply v incoming body kept.reply else refused v incoming.at body Repeated).kept ≡ None
-  repeat_none kept true = kept_none kept.reply (bears_ticket kept.reply && nat_lt incoming.room (length kept.reply))
+  repeat_none : (kept : Kept) (same : Bool) → (if same then kept_reply v incoming body kept else refused v incoming.at body Repeated).kept ≡ None
+  repeat_none kept true = kept_none kept.reply (is_ticket kept.bears && nat_lt incoming.room (length kept.reply))
   repeat_none kept false = refl
 
   decision_moves : (decided : Decision Kept) → HasSaid v incoming.at.sec p decided → unwrap_or (stamped v.memory incoming.at.sec p (answered decided).kept) v.memory ≡ next_if v.limits.remembered v.memory (happens_by decided)
@@ -153,10 +148,10 @@ module _ (v : TgsView) (incoming : Incoming) (body : ReqBody) (p : Presented) wh
   room_gives e octets = by_length (nat_lt incoming.room (length octets))
     where
       by_length : (long : Bool)
-          → IfSome (handed (stamp_of p) (if long then too_long else remembering incoming.octets octets).reply)
-          (Gives (option_map asked (if long then too_long else remembering incoming.octets octets).kept))
+          → IfSome (handed (stamp_of p) (if long then too_long else remembering incoming.octets Ticket octets).reply)
+          (Gives (option_map asked (if long then too_long else remembering incoming.octets Ticket octets).kept))
       by_length true = error_handed (stamp_of p) (too_big v.realm incoming.at body) _
-      by_length false = handed_where (bears_ticket octets) (stamp_of p, octets) _ (refl, ap (give (record { request = incoming.octets; reply = octets })) e)
+      by_length false = handed_where (bears_ticket octets) (stamp_of p, octets) _ (refl, ap (give (record { request = incoming.octets; reply = octets; bears = Ticket })) e)
 
   kept_gives : (kept : Kept) → verdict_on v incoming.at.sec p ≡ Repeat kept → (long : Bool)
       → IfSome (handed (stamp_of p) (if long then too_long else no_trace kept.reply).reply) (Gives (Some (asked kept)))
@@ -164,8 +159,8 @@ module _ (v : TgsView) (incoming : Incoming) (body : ReqBody) (p : Presented) wh
   kept_gives kept e false = handed_where (bears_ticket kept.reply) (stamp_of p, kept.reply) _ (refl, ap (give kept) e)
 
   repeat_gives : (kept : Kept) → verdict_on v incoming.at.sec p ≡ Repeat kept → (same : Bool)
-      → IfSome (handed (stamp_of p) (if same then kept_reply v incoming body kept.reply else refused v incoming.at body Repeated).reply) (Gives (Some (asked kept)))
-  repeat_gives kept e true = kept_gives kept e (bears_ticket kept.reply && nat_lt incoming.room (length kept.reply))
+      → IfSome (handed (stamp_of p) (if same then kept_reply v incoming body kept else refused v incoming.at body Repeated).reply) (Gives (Some (asked kept)))
+  repeat_gives kept e true = kept_gives kept e (is_ticket kept.bears && nat_lt incoming.room (length kept.reply))
   repeat_gives kept e false = error_handed (stamp_of p) (tgs_error v.realm incoming.at body Repeated) _
 
   decision_gives : (decided : Decision Kept) → HasSaid v incoming.at.sec p decided → IfSome (handed (stamp_of p) (answered decided).reply) (Gives (happens_by decided))

@@ -10,4 +10,5 @@ pub mod Run
 pub mod ContentsLaws
 pub mod Struck
 pub mod Tickets
+pub mod Marked
 pub mod Unaffected

@@ -1,9 +1,9 @@
 -- The tickets that are issued in a run, each with the time of the authenticator that bought it.
-use Rattle.std.specs.Prelude.{ℕ, ℤ, ◌≤ℤ◌, if◌then◌else◌, ⊤, List, [], ◌∷◌, Option, Some, None}
+use Rattle.std.specs.Prelude.{ℕ, ◌+◌, ℤ, ◌≤ℤ◌, Bool, nat_eq, get_or, if◌then◌else◌, ⊤, List, [], ◌∷◌, Option}
+use Rattle.std.specs.Prelude.{Some, None}
 use Rattle.krb_fields.specs.Name.{Components}
 use Rattle.replay.specs.Run.{collected, OneForEach}
 use Rattle.replay.specs.Stamp.{Stamp}
-use Rattle.tgs_exchange.specs.Answer.{bears_ticket}
 use Rattle.tgs_exchange.specs.Decision.{stamp_of}
 use Rattle.tgs_opening.specs.declared.presented.Presented.{Presented}
 use Rattle.kdc_state.specs.declared.state.State.{State}
@@ -38,6 +38,10 @@ RestartsFollow (Reopen database limits at ∷ events) = RestartsFollow events
 -- what a request presents, where it is a TGS-REQ that was opened
 abbrev pub presented_by : State → Option Read → Option Presented
 presented_by state request = presented_in (contents (view_of state (named_by state request)) request)
+
+-- whether a reply bears a ticket: its octets begin with the tag of a TGS-REP, [APPLICATION 13]
+abbrev pub bears_ticket : List ℕ → Bool
+bears_ticket octets = nat_eq (get_or octets 0 0) (96 + 13)
 
 -- a reply that bears a ticket, with the time of the authenticator
 abbrev pub ticket_by : Option Presented → Option (List ℕ) → Option (Stamp × List ℕ)

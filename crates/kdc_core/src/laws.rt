@@ -1,5 +1,6 @@
 //! What holds of every run, from whatever state: a law over the definitions that `Kdc::run` meets.
 ghost use Rattle.std.specs.Prelude.{List};
+ghost use Rattle.kdc_core.specs.Marked.{KeepsMarked};
 ghost use Rattle.kdc_core.specs.Struck.{Isolation};
 ghost use Rattle.kdc_core.specs.Tickets.{OneTicket};
 ghost use Rattle.kdc_core.specs.Unaffected.{Unaffected};
@@ -15,4 +16,6 @@ pub fn any_run()
     ensures unaffected { Unaffected }
     // Where two TGS-REQs of one client have the same authenticator and both get a ticket, they get the same.
     ensures one_ticket { (state : State) (events : List Event) → OneTicket state events }
+    // What is kept of an authenticator says whether its reply bears a ticket, in every run that begins with an opening.
+    ensures marked { KeepsMarked }
 {}

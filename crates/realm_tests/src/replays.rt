@@ -1,7 +1,7 @@
 //! What is remembered of a client (`replay`): worked cases of replays, restarts and limits, at the second 1704067200.
 use krb_elements::Octets;
 use krb_fields::Moment;
-use replay::{Failures, Keep, Kept, Memory, Verdict};
+use replay::{Bears, Failures, Keep, Kept, Memory, Verdict};
 use std::alloc::{AllocError, Global};
 
 const T: i64 = 1_704_067_200;
@@ -32,6 +32,7 @@ fn kept(alloc: Global) -> Result<Kept, AllocError> {
     Ok(Kept {
         request: Octets::from_slice(alloc, b"asked".as_slice())?,
         reply: Octets::from_slice(alloc, b"told".as_slice())?,
+        bears: Bears::Ticket,
     })
 }
 
@@ -41,6 +42,7 @@ fn is_repeat(verdict: Verdict<&Kept>) -> bool {
         Verdict::Repeat(kept) => {
             kept.request.as_slice() == b"asked".as_slice()
                 && kept.reply.as_slice() == b"told".as_slice()
+                && kept.bears == Bears::Ticket
         }
         _ => false,
     }

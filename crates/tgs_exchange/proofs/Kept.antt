@@ -14,7 +14,7 @@ use Rattle.replay.specs.declared.verdict.Verdict.TheVariants.{Fresh, Skew, Full 
 use Rattle.tgs_opening.specs.declared.presented.Presented.{Presented}
 use Rattle.tgs_exchange.specs.View.{View}
 use Rattle.tgs_exchange.specs.Issue.{tgs_rep}
-use Rattle.tgs_exchange.specs.Answer.{Answer, answer_by, bears_ticket, tgs_answer}
+use Rattle.tgs_exchange.specs.Answer.{Answer, answer_by, is_ticket, tgs_answer}
 use Rattle.tgs_exchange.specs.Decision.{HasSaid, decision, stamp_of, verdict_on}
 use Rattle.tgs_exchange.specs.DecisionLaws.{has_said}
 use Rattle.tgs_exchange.specs.declared.decision.Decision.{Decision}
@@ -42,7 +42,7 @@ module _ (v : View) (incoming : Incoming) (body : ReqBody) (p : Presented) where
   decision_kept (Refuses refusal) said = tt
   decision_kept (Remembers refusal) said = fresh_is_new said
   decision_kept (Repeats kept) said =
-      kept_by (pointwise nat_eq incoming.octets kept.request) _ _ IsNew (kept_by (bears_ticket kept.reply && nat_lt incoming.room (length kept.reply)) _ _ IsNew tt tt) tt
+      kept_by (pointwise nat_eq incoming.octets kept.request) _ _ IsNew (kept_by (is_ticket kept.bears && nat_lt incoming.room (length kept.reply)) _ _ IsNew tt tt) tt
   decision_kept (Issues admission) said = kept_by (nat_lt incoming.room (length (written (kdc_rep 13) (tgs_rep v incoming.at incoming.random body p admission)))) _ _ IsNew tt (fresh_is_new said)
 
   answer_kept : IfSome (tgs_answer v incoming body p).kept (λ kept. IsNew)

@@ -1,5 +1,5 @@
 -- What the TGS exchange answers, and what it keeps of it.
-use Rattle.std.specs.Prelude.{ℕ, ⊤, ◌≡◌, ◌⊎◌, Bool, ◌&&◌, nat_eq, nat_lt, get_or, if◌then◌else◌}
+use Rattle.std.specs.Prelude.{ℕ, ⊤, ◌≡◌, ◌⊎◌, Bool, true, false, ◌&&◌, nat_eq, nat_lt, if◌then◌else◌}
 use Rattle.std.specs.Prelude.{List, length, Option, Some, None}
 use Rattle.std.specs.Cmp.Lexicographic.{pointwise}
 use Rattle.enctypes.specs.KeyUsage.{usage_number}
@@ -14,6 +14,8 @@ use Rattle.kdc_replies.specs.ErrorReply.{error_reply, too_big}
 use Rattle.kdc_replies.specs.Grant.{reply_part, ticket_part}
 use Rattle.kdc_replies.specs.Incoming.{Incoming}
 use Rattle.kdc_replies.specs.Reply.{NamesKey, OpensAlike}
+use Rattle.replay.specs.declared.keep.Bears.{Bears}
+use Rattle.replay.specs.declared.keep.Bears.TheVariants.{Ticket, Error}
 use Rattle.replay.specs.declared.keep.Kept.{Kept}
 use Rattle.tgs_opening.specs.Refusal.{code_of}
 use Rattle.tgs_opening.specs.declared.presented.Presented.{Presented}
@@ -47,38 +49,42 @@ refused_room v at body = record { reply = written krb_error (too_big v.realm at 
 
 -- ---- an authenticator that came before
 
--- whether octets begin a reply with a ticket: [APPLICATION 13]
-abbrev pub bears_ticket : List ℕ → Bool
-bears_ticket octets = nat_eq (get_or octets 0 0) 109
+abbrev pub is_ticket : Bears → Bool
+is_ticket Ticket = true
+is_ticket Error = false
 
-abbrev pub kept_reply : View → Incoming → ReqBody → List ℕ → Answer
-kept_reply v incoming body octets =
-    if bears_ticket octets && nat_lt incoming.room (length octets) then refused_room v incoming.at body
-    else record { reply = octets; kept = None }
+-- the reply that is kept, but for one with a ticket that is longer than the room
+abbrev pub kept_reply : View → Incoming → ReqBody → Kept → Answer
+kept_reply v incoming body kept =
+    if is_ticket kept.bears && nat_lt incoming.room (length kept.reply) then refused_room v incoming.at body
+    else record { reply = kept.reply; kept = None }
 
 -- the same request gets the reply that is kept, and another one is refused
 abbrev pub repeated : View → Incoming → ReqBody → Kept → Answer
 repeated v incoming body kept =
-    if pointwise nat_eq incoming.octets kept.request then kept_reply v incoming body kept.reply
+    if pointwise nat_eq incoming.octets kept.request then kept_reply v incoming body kept
     else refused v incoming.at body Repeated
 
 -- ---- an authenticator that is new
 
-abbrev pub remembering : List ℕ → List ℕ → Answer
-remembering request octets = record { reply = octets; kept = Some (record { request = request; reply = octets }) }
+abbrev pub remembering : List ℕ → Bears → List ℕ → Answer
+remembering request bears octets = record {
+  reply = octets;
+  kept = Some (record { request = request; reply = octets; bears = bears });
+}
 
 -- a reply with a ticket that is longer than the room leaves no trace
 abbrev pub within_room : View → Incoming → ReqBody → List ℕ → Answer
 within_room v incoming body octets =
     if nat_lt incoming.room (length octets) then refused_room v incoming.at body
-    else remembering incoming.octets octets
+    else remembering incoming.octets Ticket octets
 
 -- ---- answers
 
 abbrev pub answer_by : View → Incoming → ReqBody → Presented → Decision Kept → Answer
 answer_by v incoming body p (Refuses refusal) = refused v incoming.at body refusal
 answer_by v incoming body p (Remembers refusal) =
-    remembering incoming.octets (written krb_error (tgs_error v.realm incoming.at body refusal))
+    remembering incoming.octets Error (written krb_error (tgs_error v.realm incoming.at body refusal))
 answer_by v incoming body p (Repeats kept) = repeated v incoming body kept
 answer_by v incoming body p (Issues admission) =
     within_room v incoming body (written (kdc_rep 13) (tgs_rep v incoming.at incoming.random body p admission))

@@ -6,7 +6,7 @@ ghost use Rattle.krb_elements.specs.Codec.{written};
 ghost use Rattle.krb_fields.specs.PrincipalName.{name};
 ghost use Rattle.krb_types.specs.KrbError.{krb_error};
 ghost use Rattle.replay.specs.Stamp.{is_skewed};
-ghost use Rattle.tgs_exchange.specs.Answer.{answer_by, bears_ticket, kept_reply, remembering, repeated, refused};
+ghost use Rattle.tgs_exchange.specs.Answer.{answer_by, is_ticket, kept_reply, remembering, repeated, refused};
 ghost use Rattle.tgs_exchange.specs.Answer.{tgs_answer, tgs_error, within_room};
 ghost use Rattle.tgs_exchange.specs.Answer.{Opens, OpensBy, RepeatSpelled, Spelled, SpelledBy};
 ghost use Rattle.tgs_exchange.specs.Decision.{decision_copied, stamp_of, IfIssued};
@@ -21,12 +21,9 @@ use kdc_replies::{Incoming, too_big};
 use krb_elements::Octets;
 use krb_fields::Moment;
 use krb_types::ReqBodyRef;
-use replay::Kept;
+use replay::{Bears, Kept};
 use std::alloc::{AllocError, Global};
 use tgs_opening::{Presented, TgsRefusal};
-
-/// The first octet of a reply with a ticket: the tag of a TGS-REP.
-const TICKET_TAG: u8 = 0x6d;
 
 /// The reply to a TGS-REQ, and what is to be remembered with its authenticator: `None` where nothing is.
 #[derive(Debug, Drop)]
@@ -90,7 +87,7 @@ fn answer_by(
         Decision::Refuses(refusal) => refused(alloc, view, incoming.at, body, *refusal),
         Decision::Remembers(refusal) => {
             let reply = tgs_error(alloc, view.realm, incoming.at, body, *refusal)?;
-            remembering(alloc, incoming.octets, reply)
+            remembering(alloc, incoming.octets, Bears::Error, reply)
         }
         Decision::Repeats(kept) => repeated(alloc, view, incoming, body, kept),
         Decision::Issues(admission) => {
@@ -140,7 +137,7 @@ fn repeated(
     if incoming.octets != kept.request.as_slice() {
         return refused(alloc, view, incoming.at, body, TgsRefusal::Repeated);
     }
-    let reply = kept_reply(alloc, view, incoming, body, kept.reply.as_slice())?;
+    let reply = kept_reply(alloc, view, incoming, body, kept)?;
     Ok(TgsAnswer { reply, kept: None })
 }
 
@@ -150,28 +147,26 @@ fn kept_reply(
     view: &TgsView<'_>,
     incoming: &Incoming<'_>,
     body: &ReqBodyRef<'_>,
-    octets: &[u8],
+    kept: &Kept,
 ) -> Result<Vec<u8>, AllocError>
     requires realm { length view.now.realm ≤ 255 }
     requires sname { IfSome body.now.sname (λ n. length (name.text n) < 2147483648) }
-    ensures reply { IfOk result (λ reply. reply.items ≡ (kept_reply view.now incoming.now body.now octets.now).reply) }
+    ensures reply { IfOk result (λ reply. reply.items ≡ (kept_reply view.now incoming.now body.now kept.now).reply) }
     ensures spelled { IfOk result (λ reply.
-        (reply.items ≡ octets.now) ⊎ krb_error.Spells (too_big view.now.realm incoming.now.at body.now) reply.items) }
+        (reply.items ≡ kept.now.reply)
+        ⊎ krb_error.Spells (too_big view.now.realm incoming.now.at body.now) reply.items) }
 {
-    if bears_ticket(octets) && octets.len() > incoming.room as usize {
+    let octets = kept.reply.as_slice();
+    if bears_ticket(kept) && octets.len() > incoming.room as usize {
         return too_big(alloc, view.realm, incoming.at, body);
     }
     Vec::from_slice(alloc, octets)
 }
 
-/// Whether octets begin a reply with a ticket.
-fn bears_ticket(octets: &[u8]) -> bool
-    ensures { result ≡ bears_ticket octets.now }
+fn bears_ticket(kept: &Kept) -> bool
+    ensures { result ≡ is_ticket kept.now.bears }
 {
-    match octets.first() {
-        Some(tag) => *tag == TICKET_TAG,
-        None => false,
-    }
+    matches!(kept.bears, Bears::Ticket)
 }
 
 /// The reply with a ticket, or an error in its place where it is longer than the room.
@@ -197,17 +192,23 @@ fn within_room(
             kept: None,
         });
     }
-    remembering(alloc, incoming.octets, reply)
+    remembering(alloc, incoming.octets, Bears::Ticket, reply)
 }
 
 /// A reply that is kept with its request.
-fn remembering(alloc: Global, request: &[u8], reply: Vec<u8>) -> Result<TgsAnswer, AllocError>
+fn remembering(
+    alloc: Global,
+    request: &[u8],
+    bears: Bears,
+    reply: Vec<u8>,
+) -> Result<TgsAnswer, AllocError>
     ensures reply { IfOk result (λ answer. answer.reply.items ≡ reply.items) }
-    ensures kept { IfOk result (λ answer. answer.kept ≡ (remembering request.now reply.items).kept) }
+    ensures kept { IfOk result (λ answer. answer.kept ≡ (remembering request.now bears reply.items).kept) }
 {
     let kept = Kept {
         request: Octets::from_slice(alloc, request)?,
         reply: Octets::from_slice(alloc, &reply)?,
+        bears,
     };
     Ok(TgsAnswer {
         reply,

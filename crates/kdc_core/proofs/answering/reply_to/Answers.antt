@@ -1,4 +1,4 @@
-use Rattle.std.proofs.Common.{◌≡◌, sym, subst}
+use Rattle.std.proofs.Common.{sym, subst}
 use Rattle.kdc_core.specs.Answer.{SpelledOf}
 use Rattle.kdc_core.specs.ContentsLaws.{names_in}
 use Rattle.kdc_core.specs.View.{view_of}

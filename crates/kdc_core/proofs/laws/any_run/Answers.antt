@@ -1,4 +1,5 @@
 use Rattle.kdc_core.proofs.Isolation.{isolation, unaffected}
+use Rattle.kdc_core.proofs.Marking.{keeps_marked}
 use Rattle.kdc_core.proofs.Tickets.{one_ticket}
 use Rattle.kdc_core.proofs.laws.any_run.Goals as goal
 
@@ -10,3 +11,6 @@ returns-clause-one_ticket c = one_ticket
 
 pub returns-clause-unaffected : goal.returns-clause-unaffected
 returns-clause-unaffected c = unaffected
+
+pub returns-clause-marked : goal.returns-clause-marked
+returns-clause-marked c = keeps_marked

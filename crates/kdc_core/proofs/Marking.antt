@@ -1,0 +1,191 @@
+-- What is kept of an authenticator says rightly whether its reply bears a ticket.
+use Rattle.std.proofs.Common.{◌≡◌, ℤ, Bool, true, false, cond, ◌&&◌, if◌then◌else◌, IfSome, List, [], ◌∷◌, length}
+use Rattle.std.proofs.Common.{Option, Some, None, refl, ap, sym, subst}
+use Rattle.std.specs.Prelude.{nat_eq, nat_lt}
+use Rattle.std.specs.Cmp.Lexicographic.{pointwise}
+use Rattle.std.specs.FinMap as map
+use Rattle.std.specs.FinMap.{get-empty, get-insert, get-retain_keys}
+use Rattle.std.specs.Option.{unwrap_or}
+use Rattle.std.specs.Ordering.{eq_by_cmp}
+use Rattle.as_exchange.specs.Answer.{as_answer}
+use Rattle.kdc_replies.specs.Incoming.{Incoming}
+use Rattle.krb_der.specs.Spelling.{tlv}
+use Rattle.krb_elements.specs.Codec.{written}
+use Rattle.krb_fields.specs.Name.{Components, name_cmp, name_total}
+use Rattle.krb_replies.specs.KdcRep.{KdcRep, kdc_rep}
+use Rattle.krb_types.specs.KrbError.{KrbError, krb_error}
+use Rattle.krb_types.specs.ReqBody.{ReqBody}
+use Rattle.kdc_state.specs.State.{opened}
+use Rattle.kdc_state.specs.declared.state.State.{State}
+use Rattle.principals.specs.Change.{changed, refusal}
+use Rattle.principals.specs.Database.{Principals}
+use Rattle.principals.specs.declared.change.Change.{Change as PrincipalChange}
+use Rattle.principals.specs.declared.change.ChangeFault.{ChangeFault}
+use Rattle.replay.proofs.Stamps.{stamp_exact, stamp_total}
+use Rattle.replay.specs.Memory.{floor_at, remembered}
+use Rattle.replay.specs.Opening.{opened_memory}
+use Rattle.replay.specs.Stamp.{Stamp, is_from, stamp_cmp}
+use Rattle.replay.specs.declared.failures.Failures.{Failures}
+use Rattle.replay.specs.declared.keep.Kept.{Kept}
+use Rattle.replay.specs.declared.memory.Memory.{Memory}
+use Rattle.replay.specs.declared.opening.Opening.{Opening}
+use Rattle.replay.specs.declared.opening.Opening.TheVariants.{First, Restart as OpenedAgain}
+use Rattle.tgs_exchange.specs.Answer.{Answer as TgsAnswer, answer_by, is_ticket, tgs_answer, tgs_error}
+use Rattle.tgs_exchange.specs.Decision.{decision}
+use Rattle.tgs_exchange.specs.Issue.{tgs_rep}
+use Rattle.tgs_exchange.specs.View.{View as TgsView}
+use Rattle.tgs_exchange.specs.declared.decision.Decision.{Decision}
+use Rattle.tgs_exchange.specs.declared.decision.Decision.TheVariants.{Refuses, Remembers, Repeats, Issues}
+use Rattle.tgs_opening.specs.declared.presented.Presented.{Presented}
+use Rattle.kdc_core.specs.Answer.{answer_of, counted, keep, stamped}
+use Rattle.kdc_core.specs.Contents.{contents}
+use Rattle.kdc_core.specs.Marked.{AllMarked, AreMarked, IsMarked, KeepsMarked}
+use Rattle.kdc_core.specs.Request.{request_of}
+use Rattle.kdc_core.specs.Run.{after_event, run, unless_refused}
+use Rattle.kdc_core.specs.Tickets.{bears_ticket}
+use Rattle.kdc_core.specs.View.{View, as_view, memory_named, named, tgs_view, view}
+use Rattle.kdc_core.specs.declared.contents.Contents.{Contents}
+use Rattle.kdc_core.specs.declared.contents.Contents.TheVariants.{NoRequest, AsReq, RefusedTgsReq, TgsReq}
+use Rattle.kdc_core.specs.declared.run.Event.{Event}
+use Rattle.kdc_core.specs.declared.run.Event.TheVariants.{Request, Change, Replace, Restart, Reopen}
+
+-- ---- replies
+
+pub error_bears_none : (e : KrbError) → bears_ticket (written krb_error e) ≡ false
+unfolding tlv
+error_bears_none e = refl
+
+reply_bears_one : (r : KdcRep 13) → bears_ticket (written (kdc_rep 13) r) ≡ true
+unfolding tlv
+reply_bears_one r = refl
+
+-- ---- what the TGS exchange keeps
+
+module _ (v : TgsView) (incoming : Incoming) (body : ReqBody) (p : Presented) where
+  -- nothing is kept by either of two answers, or what is marked
+  either : (b : Bool) (x y : TgsAnswer) → IfSome x.kept IsMarked → IfSome y.kept IsMarked
+      → IfSome (if b then x else y).kept IsMarked
+  either true x y of_x of_y = of_x
+  either false x y of_x of_y = of_y
+
+  decision_marked : (decided : Decision Kept) → IfSome (answer_by v incoming body p decided).kept IsMarked
+  decision_marked (Refuses refusal) = tt
+  decision_marked (Remembers refusal) = sym (error_bears_none (tgs_error v.realm incoming.at body refusal))
+  decision_marked (Repeats kept) =
+      either (pointwise nat_eq incoming.octets kept.request) _ _
+      (either (is_ticket kept.bears && nat_lt incoming.room (length kept.reply)) _ _ tt tt) tt
+  decision_marked (Issues admission) =
+      let reply = tgs_rep v incoming.at incoming.random body p admission in
+      either (nat_lt incoming.room (length (written (kdc_rep 13) reply))) _ _ tt (sym (reply_bears_one reply))
+
+  tgs_marked : IfSome (tgs_answer v incoming body p).kept IsMarked
+  tgs_marked = decision_marked (decision v incoming.at.sec body p)
+
+-- ---- memories
+
+remembered_marked : (m : Memory Kept) (now : ℤ) (stamp : Stamp) (made : Kept) → AreMarked m → IsMarked made
+    → AreMarked (remembered m now stamp made)
+remembered_marked m now stamp made marked is s =
+    let late = is_from (floor_at m.floor now) in
+    subst (λ (o : Option Kept). IfSome o IsMarked)
+    (sym (get-insert stamp_total (map.retain_keys m.pairs late) stamp made s)) (at (eq_by_cmp stamp_cmp s stamp))
+  where
+    left : (b : Bool) (o : Option Kept) → IfSome o IsMarked → IfSome (cond b o None) IsMarked
+    left true o h = h
+    left false o h = tt
+
+    retained : IfSome (map.get (map.retain_keys m.pairs (is_from (floor_at m.floor now))) s) IsMarked
+    retained =
+        subst (λ (o : Option Kept). IfSome o IsMarked)
+        (sym (get-retain_keys m.pairs (is_from (floor_at m.floor now)) s
+        (λ x t. ap (is_from (floor_at m.floor now)) (sym (stamp_exact s x t)))))
+        (left (is_from (floor_at m.floor now) s) (map.get m.pairs s) (marked s))
+
+    at : (b : Bool) → IfSome (cond b (Some made) (map.get (map.retain_keys m.pairs (is_from (floor_at m.floor now))) s))
+        IsMarked
+    at true = is
+    at false = retained
+
+stamped_marked : (m : Memory Kept) (now : ℤ) (p : Presented) (k : Option Kept) → AreMarked m → IfSome k IsMarked
+    → IfSome (stamped m now p k) AreMarked
+stamped_marked m now p (Some kept) marked is =
+    remembered_marked m now (p.authenticator.ctime, p.authenticator.cusec) kept marked is
+stamped_marked m now p None marked is = tt
+
+counted_marked : (m : Memory Kept) (failures : Option Failures) → AreMarked m → IfSome (counted m failures) AreMarked
+counted_marked m (Some failures) marked = marked
+counted_marked m None marked = tt
+
+opened_marked : (opening : Opening) → AreMarked (opened_memory opening)
+opened_marked First stamp = subst (λ (o : Option Kept). IfSome o IsMarked) (sym (get-empty stamp_cmp stamp)) tt
+opened_marked (OpenedAgain at) stamp =
+    subst (λ (o : Option Kept). IfSome o IsMarked) (sym (get-empty stamp_cmp stamp)) tt
+
+-- where nothing is stored
+unstored_marked : (opening : Opening) (client : Components)
+    → AreMarked (unwrap_or (map.get (map.empty {R = name_cmp}) client) (opened_memory opening))
+unstored_marked opening client =
+    subst (λ (o : Option (Memory Kept)). AreMarked (unwrap_or o (opened_memory opening)))
+    (sym (get-empty name_cmp client)) (opened_marked opening)
+
+-- ---- answers
+
+answer_marked : (v : View) (incoming : Incoming) (held : Contents) → AreMarked v.memory
+    → IfSome (answer_of v incoming held).kept AreMarked
+answer_marked v incoming NoRequest marked = tt
+answer_marked v incoming (AsReq message) marked =
+    counted_marked v.memory (as_answer (as_view v) incoming message).failures marked
+answer_marked v incoming (RefusedTgsReq message refusal) marked = tt
+answer_marked v incoming (TgsReq message p) marked =
+    stamped_marked v.memory incoming.at.sec p (tgs_answer (tgs_view v) incoming message.body.value p).kept marked
+    (tgs_marked (tgs_view v) incoming message.body.value p)
+
+-- ---- states
+
+module _ (state : State) (marked : AllMarked state) where
+  named_marked : (o : Option Components) → AreMarked (memory_named state o)
+  named_marked (Some name) = marked name
+  named_marked None = opened_marked First
+
+  keep_marked : (o : Option Components) (m : Option (Memory Kept)) → IfSome m AreMarked → AllMarked (keep state o m)
+  keep_marked (Some name) (Some m) is client =
+      subst (λ (o : Option (Memory Kept)). AreMarked (unwrap_or o (opened_memory state.opening)))
+      (sym (get-insert name_total state.memories name m client)) (at (eq_by_cmp name_cmp client name))
+    where
+      at : (b : Bool)
+          → AreMarked (unwrap_or (cond b (Some m) (map.get state.memories client)) (opened_memory state.opening))
+      at true = is
+      at false = marked client
+  keep_marked (Some name) None is client = marked client
+  keep_marked None m is client = marked client
+
+  change_marked : (change : PrincipalChange) (fault : Option ChangeFault)
+      → AllMarked (unless_refused fault state (record state { database = changed state.database change }))
+  change_marked change (Some fault) = marked
+  change_marked change None = marked
+
+  replaced_marked : (database : Principals) (same : Bool)
+      → AllMarked (if same then record state { database = database } else state)
+  replaced_marked database true = marked
+  replaced_marked database false = marked
+
+  event_marked : (event : Event) → AllMarked (after_event state event)
+  event_marked (Request at random room octets) client =
+      let incoming : Incoming = record { at = at; random = random; room = room; octets = octets } in
+      keep_marked (named state octets).client
+      (answer_of (view state octets) incoming (contents (view state octets) (request_of octets))).kept
+      (answer_marked (view state octets) incoming (contents (view state octets) (request_of octets))
+      (named_marked (named state octets).client)) client
+  event_marked (Change change) client = change_marked change (refusal state.database change) client
+  event_marked (Replace database) client =
+      replaced_marked database (pointwise nat_eq database.realm state.database.realm) client
+  event_marked (Restart at) client = unstored_marked (OpenedAgain at) client
+  event_marked (Reopen database limits at) client = unstored_marked (OpenedAgain at) client
+
+run_marked : (state : State) (events : List Event) → AllMarked state → AllMarked (run state events)
+run_marked state [] marked = marked
+run_marked state (event ∷ events) marked = run_marked (after_event state event) events (event_marked state marked event)
+
+pub keeps_marked : KeepsMarked
+keeps_marked database limits opening events =
+    run_marked (opened database limits opening) events (unstored_marked opening)
