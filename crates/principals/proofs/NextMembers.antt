@@ -60,11 +60,13 @@ whole o = option_and_then of_json (option_and_then (λ p. if_last p.0 p.1) o)
 pub whole_text : (text : List ℕ) (d : Data) → value_at 127 (tokens text) ≡ Some (d, []) → read text ≡ Some d
 whole_text text d e = let j = converted_some of_json (value 127 (tokens text)) d [] e in ap whole j.1 ∙ j.2
 
+-- a text with the tokens of a value is read as that value
+pub read-tokens : (j : json.Json) (text : List ℕ) → depth j ≤ 127 → tokens text ≡ json_tokens j → read text ≡ of_json j
+read-tokens j text shallow is = ap (λ ts. whole (value 127 ts)) (is ∙ sym (append-nil (json_tokens j))) ∙ ap whole (value-json_tokens j 127 [] shallow)
+
 -- what is printed of a value is read as that value
 pub read-print : (j : json.Json) (text : List ℕ) → HasNumbers j → depth j ≤ 127 → text ≡ print (json_tokens j) → read text ≡ of_json j
-read-print j text numbers shallow is =
-    ap (λ ts. whole (value 127 ts)) (ap tokens is ∙ tokens-print (json_tokens j) (ArePrintable-json_tokens j numbers) ∙ sym (append-nil (json_tokens j)))
-    ∙ ap whole (value-json_tokens j 127 [] shallow)
+read-print j text numbers shallow is = read-tokens j text shallow (ap tokens is ∙ tokens-print (json_tokens j) (ArePrintable-json_tokens j numbers))
 
 -- the value that comes next is printed, and read again
 pub read_again : (n : ℕ) (ts r : List Token) (j : json.Json) (text : List ℕ) (d : Data) → n ≤ 127 → value n ts ≡ Some (j, r) → HasNumbers j → depth j ≤ n → text ≡ print (json_tokens j) → read text ≡ Some d → value_at n ts ≡ Some (d, r)

@@ -9,7 +9,6 @@ use Rattle.hex.specs.Hex as hex
 use Rattle.hex.proofs.HexLemmas.{decode_sized-encode_lower}
 use Rattle.serde_json.specs.Data.{Data}
 use Rattle.serde_json.specs.View.{items_of}
-use Rattle.krb_fields.specs.Moment.{IsSecond}
 use Rattle.enctypes.specs.declared.etype.Etype.{Etype}
 use Rattle.enctypes.specs.declared.etype.Etype.TheVariants.{Aes128CtsHmacSha1_96, Aes256CtsHmacSha1_96, Aes128CtsHmacSha256_128, Aes256CtsHmacSha384_192}
 use Rattle.enctypes.specs.declared.key.Key.{Key}
@@ -22,7 +21,7 @@ use Rattle.principal_rows.specs.declared.row.Row.{Row}
 use Rattle.principals.specs.declared.format.Format.TheVariants.{Version2}
 use Rattle.principals.specs.RowValue.{each, time_of, key_of, keys_of, version_of, versions_of, policy_of, row_of}
 use Rattle.principals.specs.RowWritten.{time_value, key_value, keys_value, version_value, versions_value, row_value}
-use Rattle.principals.specs.ReadBack.{IsTimeReadBack}
+use Rattle.principals.specs.ReadBack.{IsTime, IsTimeReadBack}
 
 -- what holds of the elements up to one, and of that one
 pub one_more_read : {A : Type 0} (P : A → Type 0) (xs : List A) (i : ℕ) (x : A) → AllWithin P xs 0 i → i < length xs → x ≡ get_or xs i x → P x → AllWithin P xs 0 (i + 1)
@@ -91,11 +90,6 @@ versions_read vs is =
     rw (each_read, versions_tested vs is) refl
 
 -- ---- policies
-
--- a second that is in its range
-abbrev pub IsTime : Option ℤ → Type 0
-IsTime None = Unit {0}
-IsTime (Some z) = IsSecond z
 
 pub time_read : (time : Option ℤ) → IsTime time → time_of (time_value time) ≡ Some time
 time_read None is = refl

@@ -7,5 +7,6 @@ pub mod ReadBack
 pub mod ReadFault
 pub mod RowValue
 pub mod RowWritten
+pub mod Tokens
 pub mod Value
 pub mod Written

@@ -3,8 +3,6 @@ ghost use Rattle.std.specs.Prelude.{◌≡◌, None, Some, IfOk};
 ghost use Rattle.serde_json.specs.View.{view};
 ghost use Rattle.principal_rows.specs.Row.{IsRow};
 ghost use Rattle.principal_rows.specs.Versions.{IsVersions};
-ghost use Rattle.principals.specs.ReadBack.{IsTimeReadBack, AreVersionsReadBack, IsRowReadBack};
-ghost use Rattle.principals.specs.RowWritten as written;
 ghost use Rattle.principals.specs.RowValue.{member_count, u32_of, flag, life, time, revoked_before, etype_value, key_of, keys_of, version_of, versions_of, policy_of, row_of};
 
 use crate::format::Format;
@@ -12,8 +10,8 @@ use crate::row_fault::RowFault;
 use enctypes::{Etype, Key};
 use krb_fields::Second;
 use principal_rows::{KeyList, KeyListFault, KeyVersion, Policy, Row, Versions};
-use serde_json::{Value, json};
-use std::alloc::{AllocError, Global};
+use serde_json::Value;
+use std::alloc::Global;
 
 /// The most octets that a key has.
 const LONGEST_KEY: usize = 32;
@@ -103,7 +101,7 @@ fn read_versions(alloc: Global, value: &Value) -> Result<Versions, RowFault>
     let Some(items) = value.as_array() else {
         return Err(RowFault::BadRow);
     };
-    let mut versions = Vec::new(alloc);
+    let mut versions = Vec::with_capacity(alloc, items.len())?;
     for item in items {
         versions.push(read_version(alloc, item)?)?;
     }
@@ -180,78 +178,5 @@ pub(crate) fn read_row(alloc: Global, value: &Value, format: Format) -> Result<R
     Ok(Row {
         versions: read_versions(alloc, versions)?,
         policy,
-    })
-}
-
-// ---- what is written
-
-fn time_value(time: Option<Second>) -> Value
-    ensures value { view result ≡ written.time_value time }
-    ensures reads { IsTimeReadBack time }
-{
-    match time {
-        Some(second) => Value::from(second.get()),
-        None => Value::Null,
-    }
-}
-
-fn key_value(alloc: Global, key: &Key) -> Result<Value, AllocError>
-    ensures { IfOk result (λ value. view value ≡ written.key_value key.now) }
-{
-    json!(in alloc; {
-        "etype": key.etype().number(),
-        "key": hex::encode(alloc, key.bytes())?
-    })
-}
-
-fn keys_value(alloc: Global, keys: &KeyList) -> Result<Value, AllocError>
-    ensures { IfOk result (λ value. view value ≡ written.keys_value keys.now) }
-{
-    let mut values = Vec::new(alloc);
-    for key in keys.keys() {
-        values.push(key_value(alloc, key)?)?;
-    }
-    Ok(Value::from(values))
-}
-
-fn version_value(alloc: Global, version: &KeyVersion) -> Result<Value, AllocError>
-    ensures { IfOk result (λ value. view value ≡ written.version_value version.now) }
-{
-    json!(in alloc; {
-        "keys": keys_value(alloc, &version.keys)?,
-        "version": version.number
-    })
-}
-
-fn versions_value(alloc: Global, versions: &Versions) -> Result<Value, AllocError>
-    ensures value { IfOk result (λ value. view value ≡ written.versions_value versions.now) }
-    ensures reads { IfOk result (λ _. AreVersionsReadBack versions.now) }
-{
-    let mut values = Vec::new(alloc);
-    for version in versions.as_slice() {
-        values.push(version_value(alloc, version)?)?;
-    }
-    Ok(Value::from(values))
-}
-
-/// The value that stands for a row in version 2.
-pub(crate) fn row_value(alloc: Global, row: &Row) -> Result<Value, AllocError>
-    ensures value { IfOk result (λ value. view value ≡ written.row_value row.now) }
-    ensures reads { IfOk result (λ _. IsRowReadBack row.now) }
-{
-    let policy = row.policy;
-    json!(in alloc; {
-        "disabled": policy.disabled,
-        "expires": time_value(policy.expires),
-        "forwardable": policy.forwardable,
-        "greatest_life": row.policy.greatest_life,
-        "greatest_renewable": row.policy.greatest_renewable,
-        "keys": versions_value(alloc, &row.versions)?,
-        "ok_as_delegate": policy.ok_as_delegate,
-        "password_expires": time_value(policy.password_expires),
-        "postdate": policy.postdate,
-        "preauth": policy.preauth,
-        "proxiable": policy.proxiable,
-        "revoked_before": time_value(policy.revoked_before)
     })
 }

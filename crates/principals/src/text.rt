@@ -1,30 +1,32 @@
 //! The text of a database: a JSON object (RFC 8259), written in version 2 and read in versions 1 and 2.
-ghost use Rattle.std.specs.Prelude.{◌≡◌, ◌≢◌, All, IsSome, None, Some, IfOk, IfErr, IfSome, IfNone, string_bytes};
+ghost use Rattle.std.specs.Prelude.{◌≡◌, ◌≢◌, All, IsSome, None, Some, IfOk, IfErr, IfSome, IfNone, OnOk, string_bytes};
 ghost use Rattle.std.specs.FinMap as map;
-ghost use Rattle.serde_json.specs.Data.{no_members};
 ghost use Rattle.serde_json.specs.Find.{as_object};
 ghost use Rattle.serde_json.specs.Read.{read as read_text};
 ghost use Rattle.serde_json.specs.View.{view, members_view};
 ghost use Rattle.serde_json.specs.Written.{compact_text};
 ghost use Rattle.krb_fields.specs.NameLimits.{IsComponent};
 ghost use Rattle.principals.specs.NameOf.{name_of, component_of};
-ghost use Rattle.principals.specs.ReadBack.{IsEntryReadBack};
 ghost use Rattle.principals.specs.RowValue.{member_count};
 ghost use Rattle.principal_rows.specs.NameMap.{pairs};
 ghost use Rattle.principal_rows.specs.Row.{IsRow};
 ghost use Rattle.principals.specs.Database.{AreRows};
-ghost use Rattle.principals.specs.Written.{with_rows, database_value};
+ghost use Rattle.principals.specs.Ahead.{text_value};
+ghost use Rattle.principals.specs.Tokens.{IsKept, IsLonger, data_tokens, named_members};
+ghost use Rattle.principals.specs.Written.{database_value};
 ghost use Rattle.principals.specs.Value.{format_value, entries_of, rows_of, realm_of, principals_of, database, text_database};
 
 use crate::by_rows::read_by_rows;
 use crate::format::Format;
 use crate::row_fault::RowFault;
-use crate::row_value::{member_count, read_row, row_value};
+use crate::row_tokens::{NamedRows, named_rows, write_rows};
+use crate::row_value::{member_count, read_row};
 use crate::{Database, ReadFault, granter_name};
+use json::Writer;
 use krb_elements::KerberosString;
 use krb_fields::{Name, NameFault, component_from_text, component_to_text};
 use principal_rows::{Entry, NameMap, Row};
-use serde_json::{Map, Value, json};
+use serde_json::{Map, Value};
 use std::alloc::{AllocError, Global};
 
 /// The most octets of a database's text that a program takes: some two million rows.
@@ -70,35 +72,50 @@ impl Database {
         ensures value { IfOk result (λ text. read_text (string_bytes text) ≡ Some (database_value self.now)) }
         ensures reads_back { IfOk result (λ text. text_database (string_bytes text) ≡ Ok self.now) }
     {
-        self.to_value(alloc)?.to_string(alloc)
+        let mut out = Writer::new(Vec::new(alloc));
+        self.write_tokens(alloc, &mut out)?;
+        text_of(out.into_inner())
     }
 
-    fn to_value(&self, alloc: Global) -> Result<Value, AllocError>
-        ensures value { IfOk result (λ value. view value ≡ database_value self.now) }
-        ensures reads { IfOk result (λ _. database (database_value self.now) ≡ Ok self.now) }
+    /// Writes the value of the database, token by token.
+    fn write_tokens(&self, alloc: Global, out: &mut Writer) -> Result<(), AllocError>
+        ensures tokens { OnOk result (IsLonger out.old out.new (data_tokens (database_value self.now))) }
+        ensures reads { OnOk result (database (database_value self.now) ≡ Ok self.now) }
+        ensures kept { OnOk result (IsKept (database_value self.now)) }
     {
-        let principals = row_members(alloc, self.rows.entries())?;
+        let rows = named_rows(alloc, self.rows.entries())?;
         let realm = component_to_text(alloc, self.realm.as_slice())?;
-        json!(in alloc; {
-            "principals": Value::from(principals),
-            "realm": realm,
-            "version": 2u32
-        })
+        write_parts(alloc, out, &rows, realm.as_str())
     }
 }
 
-/// A member for each row.
-fn row_members(alloc: Global, entries: &[Entry<Row>]) -> Result<Map<String, Value>, AllocError>
-    ensures members { IfOk result (λ members. members_view members.entries ≡ with_rows no_members (pairs entries.now)) }
-    ensures reads { IfOk result (λ _. All IsEntryReadBack entries.now) }
+/// The text that octets are.
+fn text_of(octets: Vec<u8>) -> Result<String, AllocError>
+    ensures { IfOk result (λ text. string_bytes text ≡ octets.items) }
 {
-    let mut members = Map::new(alloc);
-    for entry in entries {
-        let text = entry.name.to_text(alloc)?;
-        let value = row_value(alloc, &entry.value)?;
-        members.insert(text, value)?;
+    match String::from_utf8(octets) {
+        Ok(text) => Ok(text),
+        Err(_) => Err(AllocError),
     }
-    Ok(members)
+}
+
+/// Writes the object of a database, of its rows and the text of its realm.
+fn write_parts(
+    alloc: Global,
+    out: &mut Writer,
+    rows: &NamedRows<'_>,
+    realm: &str,
+) -> Result<(), AllocError>
+    ensures { OnOk result (IsLonger out.old out.new (data_tokens (text_value (named_members rows.now.entries) realm.now))) }
+{
+    out.begin_object()?;
+    out.key("principals")?;
+    write_rows(alloc, out, rows)?;
+    out.key("realm")?;
+    out.string(realm)?;
+    out.key("version")?;
+    out.u64(2)?;
+    out.end_object()
 }
 
 /// The object that a text is read as.

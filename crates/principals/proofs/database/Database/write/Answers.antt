@@ -1,22 +1,35 @@
-use Rattle.std.proofs.Common.{◌≤◌, Some, sym, ap, subst, ◌∙◌}
+use Rattle.std.proofs.Common.{◌≡◌, ◌++◌, ap, subst, ◌∙◌}
 use Rattle.std.proofs.lemmas.Result.{IfOk-weaker}
-use Rattle.serde_json.specs.Data.{depth}
-use Rattle.serde_json.specs.Written.{has_float, compact_text}
+use Rattle.json.specs.Lex.{tokens}
+use Rattle.json.specs.Print.{print}
+use Rattle.serde_json.proofs.Texts.{print-outline}
+use Rattle.principals.specs.Tokens.{data_tokens}
 use Rattle.principals.specs.Value.{database_or}
-use Rattle.principals.proofs.Shapes.{no_float, nests}
+use Rattle.principals.specs.Written.{database_value}
+use Rattle.principals.proofs.KeptRows.{kept_text}
+use Rattle.principals.proofs.RowTokens.{from_nothing}
+use Rattle.principals.proofs.Shapes.{nests}
 use Rattle.principals.proofs.database.Database.write.Goals as goal
 
 pub returns-clause-text : goal.returns-clause-text
 returns-clause-text c =
-    let is = c.in_ok-to_value.ensures.value in
-    IfOk-weaker c.to_string.result _ _ (λ s h. h (ap has_float is ∙ no_float c.args.self.now) ∙ ap compact_text is) c.to_string.ensures.text
+    let d = database_value c.args.self.now in
+    let held = from_nothing _ _ (data_tokens d) (c.new-out.ensures.before ∙ c.new.ensures.items) c.new-out.ensures.tokens c.in_ok-write_tokens.ensures.tokens in
+    let items = c.into_inner.ensures.items ∙ (λ i. held.1 i ++ print (held.0 i)) in
+    IfOk-weaker c.text_of.result _ _ (λ s is. is ∙ items ∙ print-outline d) c.text_of.ensures
 
 pub returns-clause-value : goal.returns-clause-value
 returns-clause-value c =
-    let is = c.in_ok-to_value.ensures.value in
-    IfOk-weaker c.to_string.result _ _ (λ s h. h (subst (λ d. depth d ≤ 127) (sym is) (nests c.args.self.now)) ∙ ap Some is) c.to_string.ensures.reads_back
+    let d = database_value c.args.self.now in
+    let held = from_nothing _ _ (data_tokens d) (c.new-out.ensures.before ∙ c.new.ensures.items) c.new-out.ensures.tokens c.in_ok-write_tokens.ensures.tokens in
+    let items = c.into_inner.ensures.items ∙ (λ i. held.1 i ++ print (held.0 i)) in
+    let back = subst (λ ts. tokens (print ts) ≡ ts) held.0 c.into_inner.ensures.reads_back in
+    IfOk-weaker c.text_of.result _ _ (λ s is. kept_text d _ c.in_ok-write_tokens.ensures.kept (nests c.args.self.now) (ap tokens (is ∙ items) ∙ back)) c.text_of.ensures
 
 pub returns-clause-reads_back : goal.returns-clause-reads_back
 returns-clause-reads_back c =
-    let is = c.in_ok-to_value.ensures.value in
-    IfOk-weaker c.to_string.result _ _ (λ s h. ap database_or (h (subst (λ d. depth d ≤ 127) (sym is) (nests c.args.self.now)) ∙ ap Some is) ∙ c.in_ok-to_value.ensures.reads) c.to_string.ensures.reads_back
+    let d = database_value c.args.self.now in
+    let held = from_nothing _ _ (data_tokens d) (c.new-out.ensures.before ∙ c.new.ensures.items) c.new-out.ensures.tokens c.in_ok-write_tokens.ensures.tokens in
+    let items = c.into_inner.ensures.items ∙ (λ i. held.1 i ++ print (held.0 i)) in
+    let back = subst (λ ts. tokens (print ts) ≡ ts) held.0 c.into_inner.ensures.reads_back in
+    IfOk-weaker c.text_of.result _ _ (λ s is. ap database_or (kept_text d _ c.in_ok-write_tokens.ensures.kept (nests c.args.self.now) (ap tokens (is ∙ items) ∙ back)) ∙ c.in_ok-write_tokens.ensures.reads) c.text_of.ensures
