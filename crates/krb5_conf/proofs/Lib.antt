@@ -1,0 +1,3 @@
+mod AddressLaws
+mod FirstLaws
+mod LineLaws

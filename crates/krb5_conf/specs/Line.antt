@@ -1,0 +1,58 @@
+-- What a line of a krb5.conf says.
+use Rattle.std.specs.Prelude.{◌==◌, ◌-◌, ℕ, List, [], ◌∷◌, length, take, drop, codes, bytes_eq, nat_lt, if◌then◌else◌}
+use Rattle.std.specs.Char.{is_ascii_whitespace}
+use Rattle.std.specs.List.{after_first, before_first, position_or_len, prefix_len, suffix_len}
+use Rattle.krb5_conf.specs.declared.line.Line as lines
+use Rattle.krb5_conf.specs.declared.line.Line.TheVariants as says
+
+pub data Said : Type 0 where
+  Nothing : Said
+  -- a section begins
+  Section : List ℕ → Said
+  -- a group opens
+  Open : List ℕ → Said
+  -- the group that was opened last is closed
+  Close : Said
+  -- a relation holds: its tag and its value
+  Relation : List ℕ → List ℕ → Said
+
+-- the same of the code's type, whose octets stand in the text
+abbrev pub said : lines.Line → Said
+said says.Nothing = Nothing
+said (says.Section name) = Section name.now
+said (says.Open name) = Open name.now
+said says.Close = Close
+said (says.Relation tag value) = Relation tag.now value.now
+
+-- without the blanks at its start
+abbrev pub unindented : List ℕ → List ℕ
+unindented text = drop (prefix_len is_ascii_whitespace text) text
+
+-- without the blanks at both ends
+unfoldable pub trimmed : List ℕ → List ℕ
+trimmed text = take (length (unindented text) - suffix_len is_ascii_whitespace (unindented text)) (unindented text)
+
+-- `TAG = VALUE`, or `TAG = {`
+abbrev pub tag_of : List ℕ → List ℕ
+tag_of text = trimmed (before_first (λ o. o == 0x3D) text)
+
+abbrev pub value_of : List ℕ → List ℕ
+value_of text = trimmed (after_first (λ o. o == 0x3D) text)
+
+abbrev pub relation_said : List ℕ → Said
+relation_said text = if nat_lt (position_or_len (λ o. o == 0x3D) text) (length text)
+    then (if bytes_eq (value_of text) (codes "{") then Open (tag_of text) else Relation (tag_of text) (value_of text))
+    else Nothing
+
+-- what is told by the first octet: `#`, `;`, `[` or `}`
+abbrev pub trimmed_said : List ℕ → Said
+trimmed_said [] = Nothing
+trimmed_said (first ∷ rest) =
+    if first == 0x23 then Nothing
+    else (if first == 0x3B then Nothing
+    else (if first == 0x5B then Section (trimmed (before_first (λ o. o == 0x5D) rest))
+    else (if first == 0x7D then Close
+    else relation_said (first ∷ rest))))
+
+abbrev pub line_said : List ℕ → Said
+line_said text = trimmed_said (trimmed text)

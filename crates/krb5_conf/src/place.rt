@@ -1,0 +1,90 @@
+//! Where a line stands.
+ghost use Rattle.std.specs.Prelude.{◌≡◌, ◌<◌, ◌≤◌, ◌+◌, ◌-◌, ◌^◌};
+ghost use Rattle.krb5_conf.specs.Line.{said};
+ghost use Rattle.krb5_conf.specs.Place.{behind, closed, group_place, is_place, opened, place_of, section_place};
+
+use crate::line::Line;
+
+/// Where a line stands.
+#[derive(Clone, Copy)]
+pub(crate) struct Place<'a> {
+    pub section: &'a [u8],
+    /// The outermost group that is open; empty where none is.
+    pub group: &'a [u8],
+    /// How many groups are open.
+    pub depth: usize,
+}
+
+impl<'a> Place<'a> {
+    /// In a section, and in no group of it.
+    pub(crate) fn of_section(section: &'a [u8]) -> Place<'a>
+        ensures place { place_of result ≡ section_place section.now }
+        ensures depth { result.depth ≡ 0 }
+    {
+        Place {
+            section,
+            group: b"",
+            depth: 0,
+        }
+    }
+
+    /// In a group of a section, and in no other.
+    pub(crate) fn of_group(section: &'a [u8], group: &'a [u8]) -> Place<'a>
+        ensures { place_of result ≡ group_place section.now group.now }
+    {
+        Place {
+            section,
+            group,
+            depth: 1,
+        }
+    }
+
+    pub(crate) fn is(self, other: Place<'_>) -> bool
+        ensures { result ≡ is_place (place_of self.entry) (place_of other.entry) }
+    {
+        self.depth == other.depth && self.section == other.section && self.group == other.group
+    }
+
+    /// Where the next line stands, behind this one.
+    pub(crate) fn behind(self, line: Line<'a>) -> Place<'a>
+        requires { self.depth < 2 ^ 64 - 1 }
+        ensures place { place_of result ≡ behind (place_of self.entry) (said line.entry) }
+        ensures depth { result.depth ≤ self.entry.depth + 1 }
+    {
+        match line {
+            Line::Nothing | Line::Relation(..) => self,
+            Line::Section(section) => Place::of_section(section),
+            Line::Open(group) => self.opened(group),
+            Line::Close => self.closed(),
+        }
+    }
+
+    /// In one group more.
+    fn opened(self, group: &'a [u8]) -> Place<'a>
+        requires { self.depth < 2 ^ 64 - 1 }
+        ensures place { place_of result ≡ opened (place_of self.entry) group.now }
+        ensures depth { result.depth ≤ self.entry.depth + 1 }
+    {
+        let group = if self.depth == 0 { group } else { self.group };
+        Place {
+            section: self.section,
+            group,
+            depth: self.depth + 1,
+        }
+    }
+
+    /// In one group less.
+    fn closed(self) -> Place<'a>
+        ensures place { place_of result ≡ closed (place_of self.entry) }
+        ensures depth { result.depth ≤ self.entry.depth + 1 }
+    {
+        if self.depth <= 1 {
+            return Place::of_section(self.section);
+        }
+        Place {
+            section: self.section,
+            group: self.group,
+            depth: self.depth - 1,
+        }
+    }
+}
