@@ -181,6 +181,13 @@ impl Keytab {
         self.entries.len()
     }
 
+    /// The keys with their principals and versions, in the order of the file.
+    pub fn entries(&self) -> &[KeytabEntry]
+        ensures { result.now ≡ self.now }
+    {
+        &self.entries
+    }
+
     /// The keytab that the octets of a file are.
     pub fn read(alloc: Global, bytes: &[u8]) -> Result<Keytab, FileFault>
         // What is read, the file is.

@@ -8,7 +8,7 @@ use std::fmt;
 
 /// A second that is printed as its date and its time of day.
 #[derive(Clone, Copy)]
-pub(crate) struct UtcDate(pub Second);
+pub struct UtcDate(pub Second);
 
 impl fmt::Display for UtcDate {
     fn fmt<W: fmt::Write>(&self, f: &mut fmt::Formatter<W>) -> fmt::Result {

@@ -5,5 +5,6 @@ mod dates;
 mod numbers;
 mod settings;
 
+pub use dates::UtcDate;
 pub use numbers::{number, number_u32};
 pub use settings::{FlagField, LifeField, Setting, TimeField};
