@@ -89,9 +89,15 @@ class Place:
 class Lines:
     """A program that is asked line by line."""
 
-    def __init__(self, *words, environment=None):
+    def __init__(self, *words, environment=None, errors=False):
+        """With `errors` it says nothing on standard error, or that is a fault."""
         self.process = subprocess.Popen(
-            words, stdin=subprocess.PIPE, stdout=subprocess.PIPE, text=True, env=environment
+            words,
+            stdin=subprocess.PIPE,
+            stdout=subprocess.PIPE,
+            stderr=subprocess.PIPE if errors else None,
+            text=True,
+            env=environment,
         )
 
     def tell(self, line):
@@ -108,7 +114,9 @@ class Lines:
     def end(self):
         self.process.stdin.close()
         self.process.stdout.close()
-        expect("the status at the end", self.process.wait(), 0)
+        said = self.process.stderr.read() if self.process.stderr else ""
+        expect(f"the status at the end ({said})", self.process.wait(), 0)
+        expect("what it said on standard error", said, "")
 
 
 class Kdc:
@@ -201,15 +209,21 @@ def go(programs, etype):
     print("    service, one that was cut, and one after a restart")
 
 
+def add_programs(words, *programs):
+    """Options for where the repository's programs are: by default where `rt run` builds them."""
+    top = os.path.dirname(os.path.dirname(os.path.abspath(__file__)))
+    for program in programs:
+        words.add_argument("--" + program.replace("_", "-"), default=f"{top}/crates/{program}/out/{program}")
+
+
 def main():
     words = argparse.ArgumentParser(description=__doc__, formatter_class=argparse.RawDescriptionHelpFormatter)
-    top = os.path.dirname(os.path.dirname(os.path.abspath(__file__)))
-    for program in ("kadm", "kdcd", "kclient", "ap_whois"):
-        words.add_argument("--" + program.replace("_", "-"), default=f"{top}/crates/{program}/out/{program}")
+    add_programs(words, "kadm", "kdcd", "kclient", "ap_whois")
     words.add_argument("--mk-req", default="./mk_req")
     programs = vars(words.parse_args())
     for etype in TYPES:
         go(programs, etype)
 
 
-main()
+if __name__ == "__main__":
+    main()

@@ -56,6 +56,13 @@ abbrev pub IsFetched : Status → Option Service → Part → List ℕ → List 
 IsFetched status (Some service) part old new len = IsFetchedFrom status service.accepted part old new len
 IsFetched status None part old new len = (status ≡ Closed) × (new ≡ old) × (len ≡ 0)
 
+-- ---- closing
+
+-- done, or closed already
+abbrev pub IsClosing : Status → Option Service → Type 0
+IsClosing status (Some service) = status ≡ Done
+IsClosing status None = status ≡ Closed
+
 -- ---- numbers
 
 -- the number that C sees is that of a status of which this holds

@@ -1,11 +1,12 @@
 -- What C sees of a call: the number of a status, and what that status says.
-use Rattle.std.specs.Prelude.{◌≡◌, ◌⊎◌, ℕ, ℤ, Bool, true, false, List, Option, Some, None}
+use Rattle.std.specs.Prelude.{◌≡◌, ◌⊎◌, ℕ, ℤ, Bool, true, false, List, Option, Some, None, length}
 use Rattle.krb_elements.specs.Simple.{IsMicrosecond}
 use Rattle.krb_fields.specs.Moment.{IsSecond}
 use Rattle.krb_fields.specs.declared.moment.Moment.{Moment}
 use Rattle.replay.specs.declared.opening.Opening.{Opening}
 use Rattle.replay.specs.declared.opening.Opening.TheVariants.{First, Restart}
-use Rattle.ap_accept_c.specs.Calls.{IsAccepted, IsFetched, IsOpening, Numbered}
+use Rattle.ap_accept_c.specs.Buffers.{texted}
+use Rattle.ap_accept_c.specs.Calls.{IsAccepted, IsClosing, IsFetched, IsOpening, Numbered}
 use Rattle.ap_accept_c.specs.Part.{part_numbered}
 use Rattle.ap_accept_c.specs.declared.numbers.Numbers.{Numbers}
 use Rattle.ap_accept_c.specs.declared.part.Part.{Part}
@@ -52,3 +53,12 @@ IsFetchPart status None service old new len = (status ≡ BadArgument) × (new �
 
 abbrev pub IsFetchCall : ℤ → Option Service → ℕ → List ℕ → List ℕ → ℕ → Type 0
 IsFetchCall n service part old new len = Numbered n (λ status. IsFetchPart status (part_numbered part) service old new len)
+
+abbrev pub IsCloseCall : ℤ → Option Service → Type 0
+IsCloseCall n old = Numbered n (λ status. IsClosing status old)
+
+-- a text stands in the buffer, cut so that it ends with a NUL there, and this is how long the whole text is
+pub record IsTextCall (len : ℕ) (old new : List ℕ) : Type 0 where
+  pub text : List ℕ
+  pub given : new ≡ texted text old
+  pub long : len ≡ length text

@@ -1,6 +1,6 @@
 //! The calls of a caller in C, over what it holds.
 ghost use Rattle.std.specs.Prelude.{◌≡◌, None, IfOk, IfErr};
-ghost use Rattle.ap_accept_c.specs.Calls.{IsAccepted, IsFetched, IsOpening};
+ghost use Rattle.ap_accept_c.specs.Calls.{IsAccepted, IsClosing, IsFetched, IsOpening};
 ghost use Rattle.ap_accept_c.specs.Exports.{opening_at, IsAcceptedAt, IsFetchPart, IsOpenAt};
 ghost use Rattle.ap_accept_c.specs.Holder.{IsHolder};
 ghost use Rattle.ap_accept_c.specs.Part.{part_numbered};
@@ -164,7 +164,8 @@ fn fetch(holder: &mut Holder, alloc: Global, part: Part, to: &mut [u8], len: &mu
 /// Lets go of an acceptor, and of what it remembers.
 pub fn close(holder: &mut Holder, alloc: Global) -> Status
     requires { IsHolder holder.old }
-    ensures { IsHolder holder.new × (holder.new.held.value ≡ None) }
+    ensures holder { IsHolder holder.new × (holder.new.held.value ≡ None) }
+    ensures closed { IsClosing result holder.old.held.value }
 {
     match holder.take(alloc) {
         Some(_) => Status::Done,

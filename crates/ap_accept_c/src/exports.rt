@@ -3,8 +3,7 @@
 //!
 //! The header's own functions judge what can't be judged here: that no pointer is null, and no length negative.
 ghost use Rattle.std.specs.Prelude.{◌≡◌, None};
-ghost use Rattle.ap_accept_c.specs.Buffers.{texted};
-ghost use Rattle.ap_accept_c.specs.Exports.{IsAcceptCall, IsFetchCall, IsOpenCall};
+ghost use Rattle.ap_accept_c.specs.Exports.{IsAcceptCall, IsCloseCall, IsFetchCall, IsOpenCall, IsTextCall};
 ghost use Rattle.ap_accept_c.specs.Holder.{IsHolder};
 
 use crate::buffers::give_text;
@@ -70,13 +69,16 @@ pub extern "C" fn ap_accept_c_octets(
 #[unsafe(no_mangle)]
 pub extern "C" fn ap_accept_c_close(alloc: Global, holder: &mut Holder) -> i32
     requires { IsHolder holder.old }
-    ensures { IsHolder holder.new × (holder.new.held.value ≡ None) }
+    ensures holder { IsHolder holder.new × (holder.new.held.value ≡ None) }
+    ensures closed { IsCloseCall result holder.old.held.value }
 {
     calls::close(holder, alloc).number()
 }
 
 /// Writes what a number says that a call returned, and tells how long that is.
 #[unsafe(no_mangle)]
-pub extern "C" fn ap_accept_c_text(number: i32, to: &mut [u8]) -> usize {
+pub extern "C" fn ap_accept_c_text(number: i32, to: &mut [u8]) -> usize
+    ensures { IsTextCall result to.old to.new }
+{
     give_text(text_of(number).as_bytes(), to)
 }

@@ -1,0 +1,153 @@
+#!/usr/bin/env python3
+"""Tries the service in C (`tools/ap_service.c`) in a realm of this repository, for each encryption type: `kadm` makes the realm and
+the keytab, `kdcd serve` issues the tickets, MIT's `kinit` logs in, and `tools/ap_client.c` presents tickets by MIT's library.
+
+    cc -g -fsanitize=address,undefined -I docs -o ap_service tools/ap_service.c crates/ap_accept_c/out/libap_accept_c.a KIT/c/liblibc_c.a
+    cc -o ap_client tools/ap_client.c -lkrb5
+    python3 tools/services_in_c.py --ap-service ./ap_service --ap-client ./ap_client
+
+KIT is the toolchain's folder. `rt run` builds the programs, and `rt lib` the library. It ends with status 1 at the first answer that is
+another, and where a sanitizer finds something. It takes six minutes, since a ticket has to be past its end."""
+
+import argparse
+import os
+import re
+import socket
+import subprocess
+import tempfile
+import time
+
+from whole_way import OTHER, SERVICE, TYPES, Kdc, Lines, Place, add_programs, expect
+
+# How long a ticket lives that is presented past its end, and by how much a service lets it be past.
+SHORT_LIFE, LENIENCE = 20, 300
+TAKEN, GOOD, CLOSED = "taken, with no AP-REP", "taken, and the AP-REP is good", "closed"
+REPEAT = "refused 34: KRB_AP_ERR_REPEAT: the authenticator came before"
+SKEW = "refused 37: KRB_AP_ERR_SKEW: the clocks differ too much, or the service was just restarted"
+EXPIRED = "refused 32: KRB_AP_ERR_TKT_EXPIRED: the ticket has expired"
+NOT_US = "refused 35: KRB_AP_ERR_NOT_US: the keytab has no key of the ticket's service"
+NO_AP_REQ = "refused -1: the octets spell no AP-REQ"
+
+
+def accepted(subkey=0, rest=""):
+    """What the service prints of a client that it accepts, as a pattern with the session key's type left open."""
+    return rf"u@A\.B until \d+, key type TYPE, subkey type {subkey}, flags [0-9a-f]{{8}}{rest}"
+
+
+# A number, and the checksum of the text 'checksum', whose type and length are those of the key's type.
+TOLD = r", number \d+, checksum of type \d+ and \d+ octets"
+# The client's words, what it prints for each connection, and what the service prints.
+NEW = (
+    ((), (TAKEN,), (accepted(),)),
+    (("mutual",), (GOOD,), (accepted(rest=", asks for a reply"),)),
+    (("subkey", "number", "checksum"), (TAKEN,), (accepted("TYPE", TOLD),)),
+    (("mutual", "subkey", "number", "checksum"), (GOOD,), (accepted("TYPE", TOLD + ", asks for a reply"),)),
+    (("sendauth",), (TAKEN,), (accepted(rest=r".*"),)),
+    (("sendauth", "mutual", "subkey"), (GOOD,), (accepted("TYPE", r".*, asks for a reply"),)),
+    (("repeat",), (TAKEN, CLOSED), (accepted(), re.escape(REPEAT))),
+    (("repeat", "mutual"), (GOOD, CLOSED), (accepted(rest=", asks for a reply"), re.escape(REPEAT))),
+    (("none",), (CLOSED,), (re.escape(NO_AP_REQ),)),
+    (("cut",), (CLOSED,), (re.escape(NO_AP_REQ),)),
+    (("skew=400",), (CLOSED,), (re.escape(SKEW),)),
+    (("skew=-400",), (CLOSED,), (re.escape(SKEW),)),
+)
+OLD = ((("old", "repeat"), (CLOSED, CLOSED), (re.escape(EXPIRED), re.escape(REPEAT))),)
+FOREIGN = (((), (CLOSED,), (re.escape(NOT_US),)),)
+RESTARTED = (((), (CLOSED,), (re.escape(SKEW),)),)
+
+
+def connections(*lists):
+    return sum(len(says) for tries in lists for _, says, _ in tries)
+
+
+def free_port():
+    with socket.socket() as probe:
+        probe.bind(("127.0.0.1", 0))
+        return str(probe.getsockname()[1])
+
+
+class Way:
+    """A realm of one type, a client that has logged in, and a service."""
+
+    def __init__(self, programs, folder, etype):
+        self.place, self.etype, self.port = Place(programs, folder), etype, None
+        self.place.make_realm(etype)
+        self.kdc = Kdc(self.place)
+        configuration = f"[libdefaults]\ndefault_realm = A.B\nrdns = false\n[realms]\nA.B = {{\nkdc = {self.kdc.address}\n}}\n"
+        self.place.write("krb5.conf", configuration.encode())
+
+    def environment(self, cache):
+        return {
+            **os.environ,
+            "KRB5_CONFIG": self.place.path("krb5.conf"),
+            "KRB5CCNAME": "FILE:" + self.place.path(cache),
+        }
+
+    def log_in(self, cache, *words):
+        kinit = [self.place.programs["kinit"], *words, "u@A.B"]
+        ran = subprocess.run(kinit, input="secret\n", capture_output=True, text=True, env=self.environment(cache))
+        expect(f"the status of kinit ({ran.stderr})", ran.returncode, 0)
+
+    def start(self, count, *words):
+        self.port = free_port()
+        keytab = self.place.path("keytab")
+        self.service = Lines(self.place.programs["ap_service"], keytab, self.port, *words, str(count), errors=True)
+
+    def client(self, cache, service, words):
+        """What a client prints. The service may not listen yet."""
+        command = [self.place.programs["ap_client"], self.port, f"{service}@A.B", *words]
+        for _ in range(100):
+            ran = subprocess.run(command, capture_output=True, text=True, env=self.environment(cache))
+            if "no connection" not in ran.stdout:
+                return ran.stdout
+            time.sleep(0.1)
+        return "no connection"
+
+    def present(self, cache, service, tries):
+        for words, says, lines in tries:
+            wanted = f"ticket of type {self.etype}: " + "\n".join(says) + "\n"
+            expect(f"type {self.etype}, the client with {words}", self.client(cache, service, words), wanted)
+            for line in lines:
+                found, pattern = self.service.line(), line.replace("TYPE", str(self.etype))
+                if not re.fullmatch(pattern, found):
+                    expect(f"type {self.etype}, the service with {words}", found, pattern)
+
+    def begin(self):
+        self.log_in("cache")
+        self.log_in("old", "-l", f"{SHORT_LIFE}s")
+        self.start(connections(NEW, FOREIGN, OLD) + 1, "first")
+        self.present("old", SERVICE, NEW[:1])
+        self.ended = time.time() + SHORT_LIFE + LENIENCE
+        self.present("cache", SERVICE, NEW)
+        self.present("cache", OTHER, FOREIGN)
+
+    def finish(self):
+        self.present("old", SERVICE, OLD)
+        self.service.end()
+        self.start(connections(RESTARTED))
+        self.present("cache", SERVICE, RESTARTED)
+        self.service.end()
+        self.kdc.end()
+
+
+def main():
+    words = argparse.ArgumentParser(description=__doc__, formatter_class=argparse.RawDescriptionHelpFormatter)
+    add_programs(words, "kadm", "kdcd")
+    for program in ("kinit", "ap-service", "ap-client"):
+        words.add_argument("--" + program, default="kinit" if program == "kinit" else "./" + program.replace("-", "_"))
+    programs = vars(words.parse_args())
+    with tempfile.TemporaryDirectory() as top:
+        ways = []
+        for etype in TYPES:
+            folder = os.path.join(top, str(etype))
+            os.mkdir(folder)
+            ways.append(Way(programs, folder, etype))
+            ways[-1].begin()
+        time.sleep(max(0, ways[-1].ended + 2 - time.time()))
+        for way in ways:
+            way.finish()
+            print(f"type {way.etype}: {connections(NEW, FOREIGN, OLD, RESTARTED) + 1} connections were answered as they have to be")
+
+
+if __name__ == "__main__":
+    main()
