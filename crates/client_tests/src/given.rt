@@ -1,5 +1,6 @@
 //! What the tests have in common.
 use client_core::{Asked, ClientFault, Mismatch, read_as_reply, read_tgs_reply};
+use cred_files::Credential;
 use enctypes::{Etype, Key};
 use krb_der::KTime;
 use krb_elements::{KerberosString, Seq};
@@ -82,6 +83,14 @@ impl Kind {
         }
     }
 
+    /// The session key in it.
+    pub fn session_key(self) -> Key {
+        match self {
+            Kind::As => key_from(0),
+            Kind::Tgs => key_from(64),
+        }
+    }
+
     fn service(self, alloc: Global) -> Result<Name, Fail> {
         Ok(match self {
             Kind::As => Name::new(alloc, 2, &[b"krbtgt", b"A.B"])?,
@@ -121,14 +130,7 @@ pub enum Outcome {
     Memory,
 }
 
-pub fn outcome_in<T>(found: &Result<T, ClientFault>) -> Outcome {
-    match found {
-        Ok(_) => Outcome::Taken,
-        Err(fault) => outcome_by(fault),
-    }
-}
-
-fn outcome_by(fault: &ClientFault) -> Outcome {
+pub fn outcome_by(fault: &ClientFault) -> Outcome {
     match fault {
         ClientFault::NotAReply => Outcome::NotAReply,
         ClientFault::Refused(refusal) => Outcome::Refused(refusal.code),
@@ -136,6 +138,62 @@ fn outcome_by(fault: &ClientFault) -> Outcome {
         ClientFault::CannotOpen => Outcome::CannotOpen,
         ClientFault::CountTooLarge => Outcome::CountTooLarge,
         ClientFault::Memory => Outcome::Memory,
+    }
+}
+
+/// What is seen of the reply to a KDC's client. Credentials are let go where they are read, and nothing else is there
+/// then: proofs about their end take long for each place.
+#[derive(Clone, Copy)]
+pub struct Seen {
+    pub outcome: Outcome,
+    /// Whether the credential has the session key of the reply, of type 18, and the times of a ticket of ten hours.
+    pub is_whole: bool,
+}
+
+fn is_whole(credential: &Credential, key: &Key) -> bool {
+    credential.key.key_type == 18
+        && credential.key.octets.as_slice() == key.bytes()
+        && credential.times.start_time.seconds() == 1_704_067_200
+        && credential.times.end_time.seconds() == 1_704_103_200
+        && credential.times.renew_till.seconds() == 0
+}
+
+fn seen_in(found: &Result<Credential, ClientFault>, session_key: &Key) -> Seen {
+    match found {
+        Ok(credential) => Seen {
+            outcome: Outcome::Taken,
+            is_whole: is_whole(credential, session_key),
+        },
+        Err(fault) => Seen {
+            outcome: outcome_by(fault),
+            is_whole: false,
+        },
+    }
+}
+
+fn see_as(alloc: Global, asked: &Asked, key: &Key, at: Moment, reply: &[u8]) -> Seen {
+    let found = read_as_reply(alloc, asked, key, at, reply);
+    seen_in(&found, &Kind::As.session_key())
+}
+
+/// What is seen of these octets as a TGS-REP that is sealed under the session key or under a subkey.
+pub fn see_tgs(
+    alloc: Global,
+    asked: &Asked,
+    key: &Key,
+    is_subkey: bool,
+    at: Moment,
+    reply: &[u8],
+) -> Seen {
+    let found = read_tgs_reply(alloc, asked, key, is_subkey, at, reply);
+    seen_in(&found, &Kind::Tgs.session_key())
+}
+
+/// What is seen of these octets as the reply.
+pub fn see(alloc: Global, kind: Kind, asked: &Asked, key: &Key, at: Moment, reply: &[u8]) -> Seen {
+    match kind {
+        Kind::As => see_as(alloc, asked, key, at, reply),
+        Kind::Tgs => see_tgs(alloc, asked, key, false, at, reply),
     }
 }
 
@@ -148,8 +206,19 @@ pub fn come_of(
     at: Moment,
     reply: &[u8],
 ) -> Outcome {
-    match kind {
-        Kind::As => outcome_in(&read_as_reply(alloc, asked, key, at, reply)),
-        Kind::Tgs => outcome_in(&read_tgs_reply(alloc, asked, key, false, at, reply)),
+    see(alloc, kind, asked, key, at, reply).outcome
+}
+
+/// The credential of the reply.
+pub fn credential(alloc: Global, kind: Kind, asked: &Asked) -> Result<Credential, Fail> {
+    let reply = octets(alloc, kind.reply())?;
+    let at = midnight(0)?;
+    let found = match kind {
+        Kind::As => read_as_reply(alloc, asked, &kind.key(), at, &reply),
+        Kind::Tgs => read_tgs_reply(alloc, asked, &kind.key(), false, at, &reply),
+    };
+    match found {
+        Ok(credential) => Ok(credential),
+        Err(_) => Err(Fail::from("no credential")),
     }
 }

@@ -9,7 +9,6 @@ use krb_der::KTime;
 use krb_elements::KerberosString;
 use krb_fields::{Flags, KdcOption, Moment, Name};
 use std::alloc::{AllocError, Global};
-use std::process::Abort;
 use std::test::Fail;
 
 const CLIENT: Outcome = Differs(Mismatch::Client);
@@ -133,35 +132,34 @@ fn first_prefix(
     None
 }
 
-fn expect_changed(
-    rt: &impl Abort,
+/// What comes of the reply, of each change of it, and of its beginnings: whether it is taken, the first octet of which
+/// another thing comes than is due, and the first beginning that is taken.
+type Changes = (Outcome, Option<(usize, Outcome)>, Option<usize>);
+
+fn changes_of(
     alloc: Global,
     kind: Kind,
     asked: &Asked,
     parts: &[(usize, Outcome)],
-) -> Result<(), Fail> {
-    let mut reply = octets(alloc, kind.reply())?;
+) -> Result<Changes, Fail> {
     let at = midnight(0)?;
-    assert_eq!(rt; come_of(alloc, kind, asked, &kind.key(), at, &reply), Taken);
-    assert_eq!(rt;
-        first_other(alloc, kind, asked, at, parts, &mut reply),
-        None,
-        "{kind:?}"
-    );
-    assert_eq!(rt;
-        first_prefix(alloc, kind, asked, at, &reply),
-        None,
-        "{kind:?}"
-    );
-    Ok(())
+    let mut reply = octets(alloc, kind.reply())?;
+    let whole = come_of(alloc, kind, asked, &kind.key(), at, &reply);
+    let other = first_other(alloc, kind, asked, at, parts, &mut reply);
+    let prefix = first_prefix(alloc, kind, asked, at, &reply);
+    Ok((whole, other, prefix))
+}
+
+fn changes(alloc: Global, kind: Kind, parts: &[(usize, Outcome)]) -> Result<Changes, Fail> {
+    let asked = asked(alloc, kind)?;
+    changes_of(alloc, kind, &asked, parts)
 }
 
 #[test]
 fn a_reply_with_a_changed_octet_or_cut(rt: HostRuntime) -> Result<(), Fail> {
-    let alloc = rt.alloc();
     for (kind, parts) in [(Kind::As, AS_PARTS), (Kind::Tgs, TGS_PARTS)] {
-        let asked = asked(alloc, kind)?;
-        expect_changed(&rt, alloc, kind, &asked, parts)?;
+        let changes = changes(rt.alloc(), kind, parts)?;
+        assert_eq!(rt; changes, (Taken, None, None), "{kind:?}");
     }
     Ok(())
 }
@@ -230,24 +228,30 @@ fn clock_by(by: Twist) -> Result<Moment, Fail> {
     }
 }
 
-/// What comes of the reply to another request.
+/// What comes of these digits as the reply to another request.
 fn come_of_twisted(
     alloc: Global,
     kind: Kind,
     by: Twist,
+    digits: &str,
     asked: &mut Asked,
 ) -> Result<Outcome, Fail> {
     apply(alloc, asked, by)?;
-    let reply = octets(alloc, kind.reply())?;
-    Ok(come_of(alloc, kind, asked, &key_by(kind, by), clock_by(by)?, &reply))
+    let at = clock_by(by)?;
+    let reply = octets(alloc, digits)?;
+    Ok(come_of(alloc, kind, asked, &key_by(kind, by), at, &reply))
+}
+
+fn twisted(alloc: Global, kind: Kind, by: Twist, digits: &str) -> Result<Outcome, Fail> {
+    let mut asked = asked(alloc, kind)?;
+    come_of_twisted(alloc, kind, by, digits, &mut asked)
 }
 
 #[test]
 fn a_reply_to_another_request(rt: HostRuntime) -> Result<(), Fail> {
     for kind in [Kind::As, Kind::Tgs] {
         for (by, due) in TWISTS {
-            let mut asked = asked(rt.alloc(), kind)?;
-            let found = come_of_twisted(rt.alloc(), kind, *by, &mut asked)?;
+            let found = twisted(rt.alloc(), kind, *by, kind.reply())?;
             assert_eq!(rt; found, *due, "{kind:?} {by:?}");
         }
     }
@@ -278,24 +282,8 @@ const REPLIES: &[(Kind, &str, Outcome)] = &[
 #[test]
 fn other_replies(rt: HostRuntime) -> Result<(), Fail> {
     for (kind, digits, due) in REPLIES {
-        let asked = asked(rt.alloc(), *kind)?;
-        expect_reply(&rt, rt.alloc(), *kind, &asked, digits, *due)?;
+        let found = twisted(rt.alloc(), *kind, Twist::Nothing, digits)?;
+        assert_eq!(rt; found, *due);
     }
-    Ok(())
-}
-
-fn expect_reply(
-    rt: &impl Abort,
-    alloc: Global,
-    kind: Kind,
-    asked: &Asked,
-    digits: &str,
-    due: Outcome,
-) -> Result<(), Fail> {
-    let reply = octets(alloc, digits)?;
-    assert_eq!(rt;
-        come_of(alloc, kind, asked, &kind.key(), midnight(0)?, &reply),
-        due
-    );
     Ok(())
 }

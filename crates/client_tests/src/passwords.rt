@@ -1,71 +1,93 @@
 //! Keys of passwords.
-use client_core::{ClientFault, password_key};
+use crate::given::{Outcome, octets, outcome_by};
+use client_core::password_key;
 use enctypes::Key;
 use krb_elements::{KerberosString, Octets, Seq};
 use krb_fields::Name;
 use krb_parts::EtypeInfo2Entry;
-use std::alloc::Global;
+use std::alloc::{AllocError, Global};
 use std::test::Fail;
 
-/// The key of "password" by one entry with these parameters; its salt is `ATHENA.MIT.EDUraeburn`.
+/// The key of RFC 3962, appendix B: one iteration, 256 bits.
+const PUBLISHED: &str = "fe697b52bc0d3ce14432ba036a92e65bbb52280990a2fa27883998d72af30161";
+
+fn salt(alloc: Global, salted: bool) -> Result<Option<KerberosString>, AllocError> {
+    if salted {
+        return Ok(Some(KerberosString::from_slice(alloc, b"ATHENA.MIT.EDUraeburn")?));
+    }
+    Ok(None)
+}
+
+/// An entry with these parameters; its salt is `ATHENA.MIT.EDUraeburn`.
+fn entry(
+    alloc: Global,
+    etype: i32,
+    salted: bool,
+    params: &[u8],
+) -> Result<EtypeInfo2Entry, AllocError> {
+    let params = Octets::from_slice(alloc, params)?;
+    Ok(EtypeInfo2Entry {
+        etype,
+        salt: salt(alloc, salted)?,
+        s2kparams: Some(params),
+    })
+}
+
+/// The key of "password" by these entries.
+fn key_in(alloc: Global, name: &Name, info: &Seq<EtypeInfo2Entry>) -> Result<Key, Outcome> {
+    match password_key(alloc, b"password", b"ATHENA.MIT.EDU", name, info) {
+        Ok(key) => Ok(key),
+        Err(fault) => Err(outcome_by(&fault)),
+    }
+}
+
+/// The same by one entry, for `raeburn`.
 fn key_by(
     alloc: Global,
     etype: i32,
-    salt: bool,
+    salted: bool,
     params: &[u8],
-) -> Result<Result<Key, ClientFault>, Fail> {
-    let mut info = Seq::new(alloc);
-    let salt = if salt {
-        Some(KerberosString::from_slice(alloc, b"ATHENA.MIT.EDUraeburn")?)
-    } else {
-        None
-    };
-    info.push(EtypeInfo2Entry {
-        etype,
-        salt,
-        s2kparams: Some(Octets::from_slice(alloc, params)?),
-    })?;
+) -> Result<Result<Key, Outcome>, Fail> {
     let name = Name::new(alloc, 1, &[b"raeburn"])?;
-    Ok(password_key(alloc, b"password", b"ATHENA.MIT.EDU", &name, &info))
+    let mut info = Seq::new(alloc);
+    info.push(entry(alloc, etype, salted, params)?)?;
+    Ok(key_in(alloc, &name, &info))
 }
 
-/// Whether it is the key of RFC 3962, appendix B: one iteration, 256 bits.
-fn is_published(alloc: Global, found: &Result<Key, ClientFault>) -> Result<bool, Fail> {
-    let wanted = hex::decode(
-        alloc,
-        b"fe697b52bc0d3ce14432ba036a92e65bbb52280990a2fa27883998d72af30161",
-    )?;
-    Ok(match found {
-        Ok(key) => key.bytes() == wanted.as_slice(),
+fn is_key(found: Result<Key, Outcome>, octets: &[u8]) -> bool {
+    match found {
+        Ok(key) => key.bytes() == octets,
         Err(_) => false,
-    })
+    }
 }
 
 #[test]
 fn the_key_of_rfc_3962(rt: HostRuntime) -> Result<(), Fail> {
     let alloc = rt.alloc();
-    let found = key_by(alloc, 18, true, &[0, 0, 0, 1])?;
-    assert!(rt; is_published(alloc, &found)?);
-    let by_default_salt = key_by(alloc, 18, false, &[0, 0, 0, 1])?;
-    assert!(rt; is_published(alloc, &by_default_salt)?);
+    let wanted = octets(alloc, PUBLISHED)?;
+    // the salt is that of the entry, or the one of the realm and the name
+    for salted in [true, false] {
+        assert!(rt; is_key(key_by(alloc, 18, salted, &[0, 0, 0, 1])?, &wanted));
+    }
     Ok(())
 }
 
+/// An encryption type, parameters, and why they give no key.
+const AMISS: &[(i32, &[u8], Outcome)] = &[
+    (18, &[], Outcome::CountTooLarge),
+    (18, &[0, 0, 1], Outcome::CountTooLarge),
+    (18, &[0, 0, 0, 0], Outcome::CountTooLarge),
+    (18, &[0, 16, 0, 1], Outcome::CountTooLarge),
+    (18, &[0, 0, 0, 1, 0], Outcome::CountTooLarge),
+    (18, &[255, 255, 255, 255], Outcome::CountTooLarge),
+    (23, &[0, 0, 0, 1], Outcome::CannotOpen),
+];
+
 #[test]
-fn counts_out_of_range(rt: HostRuntime) -> Result<(), Fail> {
-    const PARAMS: &[&[u8]] = &[
-        &[],
-        &[0, 0, 1],
-        &[0, 0, 0, 0],
-        &[0, 16, 0, 1],
-        &[0, 0, 0, 1, 0],
-        &[255, 255, 255, 255],
-    ];
-    for params in PARAMS {
-        let found = key_by(rt.alloc(), 18, true, params)?;
-        assert!(rt; matches!(&found, Err(ClientFault::CountTooLarge)));
+fn parameters_that_give_no_key(rt: HostRuntime) -> Result<(), Fail> {
+    for (etype, params, due) in AMISS {
+        let found = key_by(rt.alloc(), *etype, true, params)?;
+        assert!(rt; matches!(&found, Err(outcome) if outcome == due));
     }
-    let found = key_by(rt.alloc(), 23, true, &[0, 0, 0, 1])?;
-    assert!(rt; matches!(&found, Err(ClientFault::CannotOpen)));
     Ok(())
 }

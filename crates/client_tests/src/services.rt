@@ -4,16 +4,13 @@ ghost use Rattle.client_core.specs.Presenting.{IsShortChecksum};
 
 use crate::given::Outcome::{CannotOpen, Differs, NotAReply, Taken};
 use crate::given::{
-    Kind, Outcome, TGS_REP, asked, confounder, key_from, midnight, octets, outcome_in,
+    Kind, Outcome, asked, confounder, credential, key_from, midnight, octets, outcome_by,
 };
-use client_core::{
-    Asked, Mismatch, ServiceAsked, ap_request, is_presentable, read_ap_reply, read_tgs_reply,
-};
+use client_core::{Asked, Mismatch, ServiceAsked, ap_request, is_presentable, read_ap_reply};
 use cred_files::Credential;
 use krb_elements::Octets;
-use krb_fields::Typed;
+use krb_fields::{Moment, Typed};
 use std::alloc::Global;
-use std::process::Abort;
 use std::test::Fail;
 
 /// An AP-REQ with the ticket of `h`: mutual-required, a checksum of type 32771, 7 microseconds, a subkey of the octets 32 to
@@ -39,16 +36,7 @@ fn service_asked(alloc: Global) -> Result<ServiceAsked, Fail>
     })
 }
 
-/// The credential of `TGS_REP`.
-fn credential(alloc: Global, asked: &Asked) -> Result<Credential, Fail> {
-    let reply = octets(alloc, TGS_REP)?;
-    match read_tgs_reply(alloc, asked, &key_from(0), false, midnight(0)?, &reply) {
-        Ok(credential) => Ok(credential),
-        Err(_) => Err(Fail::from("no credential")),
-    }
-}
-
-fn ap_req(alloc: Global, credential: &Credential) -> Result<Vec<u8>, Fail> {
+fn ap_req_of(alloc: Global, credential: &Credential) -> Result<Vec<u8>, Fail> {
     if !is_presentable(credential) {
         return Err(Fail::from("it can't be presented"));
     }
@@ -56,17 +44,21 @@ fn ap_req(alloc: Global, credential: &Credential) -> Result<Vec<u8>, Fail> {
     Ok(ap_request(alloc, credential, midnight(7)?, &wanted, &confounder())?)
 }
 
-fn expect_ap_req(rt: &impl Abort, alloc: Global, asked: &Asked) -> Result<(), Fail> {
-    let credential = credential(alloc, asked)?;
-    let request = ap_req(alloc, &credential)?;
-    assert!(rt; request == octets(alloc, AP_REQ)?);
-    Ok(())
+/// The AP-REQ with the credential of `TGS_REP`, the answer to this.
+fn req_after(alloc: Global, asked: &Asked) -> Result<Vec<u8>, Fail> {
+    let credential = credential(alloc, Kind::Tgs, asked)?;
+    ap_req_of(alloc, &credential)
+}
+
+fn ap_req(alloc: Global) -> Result<Vec<u8>, Fail> {
+    let asked = asked(alloc, Kind::Tgs)?;
+    req_after(alloc, &asked)
 }
 
 #[test]
 fn an_ap_request(rt: HostRuntime) -> Result<(), Fail> {
-    let asked = asked(rt.alloc(), Kind::Tgs)?;
-    expect_ap_req(&rt, rt.alloc(), &asked)
+    assert!(rt; ap_req(rt.alloc())? == octets(rt.alloc(), AP_REQ)?);
+    Ok(())
 }
 
 /// The first octet of a key, the microseconds of the AP-REQ, and what comes of the AP-REP.
@@ -77,13 +69,20 @@ const AP_REPLIES: &[(u8, u32, &str, Outcome)] = &[
     (64, 7, AP_REQ, NotAReply),
 ];
 
+/// What comes of these octets as the AP-REP, by the key that counts up from this octet.
+fn come_of_ap(alloc: Global, first: u8, at: Moment, reply: &[u8]) -> Outcome {
+    match read_ap_reply(alloc, &key_from(first), at, reply) {
+        Ok(_) => Taken,
+        Err(fault) => outcome_by(&fault),
+    }
+}
+
 #[test]
 fn an_ap_reply_repeats_the_moment(rt: HostRuntime) -> Result<(), Fail> {
-    let alloc = rt.alloc();
     for (first, usec, digits, due) in AP_REPLIES {
-        let reply = octets(alloc, digits)?;
-        let found = outcome_in(&read_ap_reply(alloc, &key_from(*first), midnight(*usec)?, &reply));
-        assert_eq!(rt; found, *due);
+        let at = midnight(*usec)?;
+        let reply = octets(rt.alloc(), digits)?;
+        assert_eq!(rt; come_of_ap(rt.alloc(), *first, at, &reply), *due);
     }
     Ok(())
 }
