@@ -1,4 +1,5 @@
-//! `ap_whois KEYTAB [first]`: a service that says of each AP-REQ, a line of hexadecimal digits on standard input, who sent it.
+//! `ap_whois KEYTAB [first]`: a service that says of each AP-REQ, a line of hexadecimal digits on
+//! standard input, who sent it.
 #![tactic(auto)]
 
 use ap_accept::{Accepted, Acceptor, ApFault, Opening};

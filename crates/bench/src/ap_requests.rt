@@ -5,8 +5,8 @@
 use enctypes::{Etype, Key, KeyUsage, seal};
 use std::alloc::{AllocError, Global};
 
-/// An AP-REQ for `host/n1.example.org` in `A.B` with MUTUAL-REQUIRED, up to the octets of its ticket's cipher, which is sealed
-/// under version 1 of a key of type 18.
+/// An AP-REQ for `host/n1.example.org` in `A.B` with MUTUAL-REQUIRED, up to the octets of its ticket's cipher, which is
+/// sealed under version 1 of a key of type 18.
 const FRONT: &[u8; 105] = b"\x6e\x82\x01\x74\x30\x82\x01\x70\
     \xa0\x03\x02\x01\x05\
     \xa1\x03\x02\x01\x0e\
@@ -25,8 +25,8 @@ const MIDDLE: &[u8; 13] = b"\xa4\x66\x30\x64\
     \xa0\x03\x02\x01\x12\
     \xa2\x5d\x04\x5b";
 
-/// What a ticket of 2024-01-01, from 00:00:00 to 10:00:00, holds; the client's digits are written over. The session key is 32
-/// octets of 7.
+/// What a ticket of 2024-01-01, from 00:00:00 to 10:00:00, holds; the client's digits are written over. The
+/// session key is 32 octets of 7.
 const PART: &[u8; 139] = b"\x63\x81\x88\x30\x81\x85\
     \xa0\x07\x03\x05\x00\x00\x00\x00\x00\
     \xa1\x2b\x30\x29\xa0\x03\x02\x01\x12\xa1\x22\x04\x20\
@@ -60,8 +60,8 @@ pub fn service_key() -> Key {
     Key::from_random(Etype::Aes256CtsHmacSha1_96, &[9; 32])
 }
 
-/// The AP-REQ of a client, `u` and five digits, whose authenticator bears these microseconds: 100,000 to 999,999, whose INTEGERs
-/// have three octets.
+/// The AP-REQ of a client, `u` and five digits, whose authenticator bears these microseconds: 100,000 to 999,999, whose
+/// INTEGERs have three octets.
 pub fn ap_req(alloc: Global, client: u32, cusec: u32) -> Result<Vec<u8>, AllocError> {
     let digits = digits(client);
     let session_key = Key::from_random(Etype::Aes256CtsHmacSha1_96, &[7; 32]);

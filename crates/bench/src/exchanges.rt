@@ -31,8 +31,8 @@ const ROOM: u32 = 1_400;
 /// The second of each request: 2024-01-01 00:00:00.
 pub const MIDNIGHT: i64 = 1_704_067_200;
 
-/// The AS-REQ of `messages`, with PA-PAC-REQUEST and a PA-ENC-TIMESTAMP of that second under the client's key, which a Python
-/// program has sealed.
+/// The AS-REQ of `messages`, with PA-PAC-REQUEST and a PA-ENC-TIMESTAMP of that second under the client's key, which a
+/// Python program has sealed.
 const WITH_TIMESTAMP: &[u8; 210] = b"\x6a\x81\xcf\x30\x81\xcc\
     \xa1\x03\x02\x01\x05\
     \xa2\x03\x02\x01\x0a\

@@ -1,5 +1,5 @@
-//! Measures the cryptography, messages, whole requests, and the text of a database: `bench WORD` prints how many nanoseconds of
-//! processor time a call takes.
+//! Measures the cryptography, messages, whole requests, and the text of a database: `bench WORD` prints how many
+//! nanoseconds of processor time a call takes.
 #![tactic(auto)]
 
 ghost use Rattle.std.specs.Prelude.{◌<◌};
@@ -24,7 +24,9 @@ use std::time::CpuClock;
 use std::{env, io};
 
 const USAGE: &str =
-    "usage: bench block | cts | pbkdf2-sha1 | pbkdf2-sha384 | seal-TYPE | string-TYPE | read-request | write-error | as | as-preauth | tgs | tgs-repeat | tgs-full | tgs-full-early | accept | accept-many | accept-new | read-rows | write-rows, for TYPE 17 to 20";
+    "usage: bench block | cts | pbkdf2-sha1 | pbkdf2-sha384 | seal-TYPE | string-TYPE | read-request \
+    | write-error | as | as-preauth | tgs | tgs-repeat | tgs-full | tgs-full-early | accept | accept-many | accept-new \
+    | read-rows | write-rows, for TYPE 17 to 20";
 
 /// The status of a fault of the command line.
 pub(crate) const FAULT: u8 = 2;

@@ -7,7 +7,7 @@ use std::io;
 use std::process::ExitCode;
 use std::time::CpuClock;
 
-/// How many principals it has: with them its text comes near the greatest size of a file.
+/// How many principals it has.
 const ROWS: u32 = 30_000;
 
 /// What every row is but for its name: two keys, and the policy of a new principal.

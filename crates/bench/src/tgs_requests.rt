@@ -1,7 +1,7 @@
 //! TGS-REQs, each with an authenticator of its own.
 //!
-//! Their octets are those of a Python program that knows nothing of this code: the ticket is the one that `exchanges`'s KDC
-//! gives to `u` where its random octets are all 7, so that the session key is 32 octets of 7.
+//! Their octets are those of a Python program that knows nothing of this code: the ticket is the one that `exchanges`'s
+//! KDC gives to `u` where its random octets are all 7, so that the session key is 32 octets of 7.
 
 use enctypes::{Etype, Key, KeyUsage, seal};
 use std::alloc::{AllocError, Global};

@@ -1,9 +1,12 @@
 -- A keytab.
-use Rattle.std.specs.Prelude.{◌≡◌, ◌⊎◌, ℕ, ◌-◌, ◌^◌, ◌%◌, ◌<◌, ◌≤◌, ◌==◌, ◌&&◌, Bool, true, nat_lt, unsigned_abs, All, List, [], ◌∷◌, ◌++◌, length, take, flat_map, option_to_list, if◌then◌else◌, Option, Some, None, Result, Ok, Err, refl}
+use Rattle.std.specs.Prelude.{◌≡◌, ◌⊎◌, ℕ, ◌-◌, ◌^◌, ◌%◌, ◌<◌, ◌≤◌, ◌==◌, ◌&&◌, Bool, true, nat_lt, unsigned_abs, All}
+use Rattle.std.specs.Prelude.{List, [], ◌∷◌, ◌++◌, length, take, flat_map, option_to_list, if◌then◌else◌, Option, Some}
+use Rattle.std.specs.Prelude.{None, Result, Ok, Err, refl}
 use Rattle.std.specs.Ordering.{eq_by_cmp}
 use Rattle.std.specs.Int.{w32, to_be_bytes, from_be_bytes}
 use Rattle.enctypes.specs.declared.etype.Etype.{Etype}
-use Rattle.enctypes.specs.declared.etype.Etype.TheVariants.{Aes128CtsHmacSha1_96, Aes256CtsHmacSha1_96, Aes128CtsHmacSha256_128, Aes256CtsHmacSha384_192}
+use Rattle.enctypes.specs.declared.etype.Etype.TheVariants.{Aes128CtsHmacSha1_96, Aes256CtsHmacSha1_96}
+use Rattle.enctypes.specs.declared.etype.Etype.TheVariants.{Aes128CtsHmacSha256_128, Aes256CtsHmacSha384_192}
 use Rattle.enctypes.specs.Etype.{key_len, number, is_same}
 use Rattle.enctypes.specs.Key.{ProtocolKey}
 use Rattle.krb_elements.specs.Spells.{Items}
@@ -15,14 +18,23 @@ use Rattle.cred_files.specs.declared.keytab_entry.KeytabEntry.{KeytabEntry}
 use Rattle.cred_files.specs.declared.keytab.Miss.{Miss}
 use Rattle.cred_files.specs.declared.keytab.Miss.TheVariants.{NoService, NoEtype, NoVersion}
 use Rattle.cred_files.specs.declared.width.Width.TheVariants.{Two}
-use Rattle.cred_files.specs.Format.{Format, ◌>>◌, octet, word16, signed32, blank, counted_octets, after_count, structure}
+use Rattle.cred_files.specs.Format.{Format, ◌>>◌, octet, word16, signed32, blank, counted_octets, after_count}
+use Rattle.cred_files.specs.Format.{structure}
 
 -- ---- an entry
 
 -- the number of components, the realm, the components, the name-type, a time, the version, the key's type, the key
 unfoldable pub entry_fields : Format EntryFields
-entry_fields = structure (after_count Two (counted_octets Two) (counted_octets Two) >> signed32 >> blank 4 >> octet >> word16 >> counted_octets Two)
-    (λ v. record { realm = v.0.0; name = record { name_type = v.1.0; components = v.0.1 }; version = v.1.1.1.0; key_type = v.1.1.1.1.0; key = v.1.1.1.1.1 })
+entry_fields =
+    structure (after_count Two (counted_octets Two)
+    (counted_octets Two) >> signed32 >> blank 4 >> octet >> word16 >> counted_octets Two)
+    (λ v. record {
+      realm = v.0.0;
+      name = record { name_type = v.1.0; components = v.0.1 };
+      version = v.1.1.1.0;
+      key_type = v.1.1.1.1.0;
+      key = v.1.1.1.1.1;
+    })
     (λ e. ((e.realm, e.name.components), (e.name.name_type, (tt, (e.version, (e.key_type, e.key))))))
     (λ v. refl) (λ e. refl)
 
@@ -46,7 +58,12 @@ abbrev pub entry_of : EntryFields → ℕ → Option Etype → Result (Option Ke
 entry_of fields version None = Ok None
 entry_of fields version (Some etype) =
     if length fields.key == key_len etype
-    then Ok (Some (record { realm = fields.realm; name = fields.name; version = version; key = record { etype = etype; bytes = fields.key } }))
+    then Ok (Some (record {
+      realm = fields.realm;
+      name = fields.name;
+      version = version;
+      key = record { etype = etype; bytes = fields.key };
+    }))
     else Err BadEntry
 
 -- what these octets of an entry say: its fields, a version or none, and octets that are ignored
@@ -62,11 +79,15 @@ pub record IsEntry (found : Option KeytabEntry) (content : List ℕ) : Type 0 wh
 
 -- an entry after its length
 abbrev pub IsHeld : Option KeytabEntry → List ℕ → Type 0
-IsHeld found bytes = (content : List ℕ) × (0 < length content) × (length content < 2 ^ 31) × IsEntry found content × (bytes ≡ to_be_bytes w32 (length content) ++ content)
+IsHeld found bytes =
+    (content : List ℕ) × (0 < length content) × (length content < 2 ^ 31) × IsEntry found content
+    × (bytes ≡ to_be_bytes w32 (length content) ++ content)
 
 -- a hole after its length, which is written as a number below zero
 abbrev pub IsHole : List ℕ → Type 0
-IsHole bytes = (content : List ℕ) × (0 < length content) × (length content ≤ 2 ^ 31) × (bytes ≡ to_be_bytes w32 (2 ^ 32 - length content) ++ content)
+IsHole bytes =
+    (content : List ℕ) × (0 < length content) × (length content ≤ 2 ^ 31)
+    × (bytes ≡ to_be_bytes w32 (2 ^ 32 - length content) ++ content)
 
 abbrev pub IsPart : Option KeytabEntry → List ℕ → Type 0
 IsPart found bytes = IsHeld found bytes ⊎ (IsHole bytes × (found ≡ None))
@@ -89,7 +110,13 @@ pub record IsKeytab (entries : List KeytabEntry) (bytes : List ℕ) : Type 0 whe
 
 -- the fields of an entry: of the version the last octet, and no time
 abbrev pub written_fields : KeytabEntry → EntryFields
-written_fields e = record { realm = e.realm; name = e.name; version = e.version % 256; key_type = unsigned_abs (number e.key.etype); key = e.key.bytes }
+written_fields e = record {
+  realm = e.realm;
+  name = e.name;
+  version = e.version % 256;
+  key_type = unsigned_abs (number e.key.etype);
+  key = e.key.bytes;
+}
 
 -- the version stands behind them in four octets
 abbrev pub entry_text : KeytabEntry → List ℕ
@@ -104,7 +131,8 @@ keytab_text entries = 5 ∷ 2 ∷ flat_map part_text entries
 
 -- that the lengths and the count, of two octets each, are enough for the texts of an entry
 abbrev pub HasCounts : KeytabEntry → Type 0
-HasCounts e = (length e.name.components < 2 ^ 16) × (length e.realm < 2 ^ 16) × All (λ c. length c < 2 ^ 16) e.name.components
+HasCounts e =
+    (length e.name.components < 2 ^ 16) × (length e.realm < 2 ^ 16) × All (λ c. length c < 2 ^ 16) e.name.components
 
 -- and that its length is below those that stand for holes
 abbrev pub HasRoom : KeytabEntry → Type 0
@@ -152,4 +180,5 @@ miss_of (Some e) None = NoEtype
 miss_of (Some e) (Some f) = NoVersion
 
 abbrev pub missing : List KeytabEntry → Components → Etype → Miss
-missing entries service etype = miss_of (newest (passes service None None) entries) (newest (passes service (Some etype) None) entries)
+missing entries service etype =
+    miss_of (newest (passes service None None) entries) (newest (passes service (Some etype) None) entries)

@@ -1,6 +1,8 @@
 //! Keytabs: the keys of services.
-ghost use Rattle.std.specs.Prelude.{◌≡◌, ◌++◌, ◌∷◌, List, All, IfOk, IfErr, IfSome, IfNone, OnOk, Some, None, flat_map, is_some, length, option_map};
-ghost use Rattle.cred_files.specs.Keytab.{HasRoom, IsKeytab, IsNotWritten, IsPart, keytab_text, missing, newer, newest, part_text, passes};
+ghost use Rattle.std.specs.Prelude.{◌≡◌, ◌++◌, ◌∷◌, List, All, IfOk, IfErr, IfSome, IfNone, OnOk, Some, None, flat_map};
+ghost use Rattle.std.specs.Prelude.{is_some, length, option_map};
+ghost use Rattle.cred_files.specs.Keytab.{HasRoom, IsKeytab, IsNotWritten, IsPart, keytab_text, missing, newer, newest};
+ghost use Rattle.cred_files.specs.Keytab.{part_text, passes};
 ghost use Rattle.cred_files.specs.KeytabReading.{Gives, GivesBy, GivesNext, entries_at, keytab_at, next_at};
 ghost use Rattle.cred_files.specs.Reading.{IsReadUnlessMemory};
 ghost use Rattle.cred_files.specs.declared.keytab_entry.KeytabEntry as entries;
@@ -146,7 +148,8 @@ fn newest<'a>(
     etype: Option<Etype>,
     version: Option<u32>,
 ) -> Option<&'a KeytabEntry>
-    ensures some { IfSome result (λ e. newest (passes (realm.now ∷ name.now.components) etype version) entries.now ≡ Some e.now) }
+    ensures some { IfSome result (λ e. newest (passes (realm.now ∷ name.now.components) etype version) entries.now
+        ≡ Some e.now) }
     ensures none { IfNone result (newest (passes (realm.now ∷ name.now.components) etype version) entries.now ≡ None) }
 {
     let mut found: Option<&KeytabEntry> = None;
@@ -193,7 +196,8 @@ impl Keytab {
         // What is read, the file is.
         ensures found { IfOk result (λ keytab. IsKeytab keytab bytes.now) }
         // What the file is, is read, unless memory runs out.
-        ensures only { (keytab : List entries.KeytabEntry) → IsKeytab keytab bytes.now → IsReadUnlessMemory result keytab }
+        ensures only { (keytab : List entries.KeytabEntry) → IsKeytab keytab bytes.now
+            → IsReadUnlessMemory result keytab }
         // Which fault it is.
         ensures exact { Gives result (keytab_at bytes.now) }
     {
@@ -224,8 +228,11 @@ impl Keytab {
         etype: Etype,
         version: Option<u32>,
     ) -> Result<&Key, Miss>
-        ensures found { IfOk result (λ key. option_map (λ e. e.key) (newest (passes (realm.now ∷ name.now.components) (Some etype) version) self.now) ≡ Some key.now) }
-        ensures none { IfErr result (λ miss. newest (passes (realm.now ∷ name.now.components) (Some etype) version) self.now ≡ None) }
+        ensures found { IfOk result (λ key. option_map
+            (λ e. e.key) (newest (passes (realm.now ∷ name.now.components) (Some etype) version) self.now)
+            ≡ Some key.now) }
+        ensures none { IfErr result (λ miss. newest (passes (realm.now ∷ name.now.components) (Some etype) version)
+            self.now ≡ None) }
         ensures miss { IfErr result (λ miss. miss ≡ missing self.now (realm.now ∷ name.now.components) etype) }
     {
         match newest(&self.entries, realm, name, Some(etype), version) {

@@ -2,7 +2,8 @@
 ghost use Rattle.std.specs.Prelude.{◌≡◌, ◌∷◌, nat_lt, length, unsigned_abs, IsTrue, IfOk, IfErr, OnOk, Some};
 ghost use Rattle.std.specs.List.{list_all};
 ghost use Rattle.enctypes.specs.Etype.{key_len, number};
-ghost use Rattle.cred_files.specs.Keytab.{HasCounts, HasRoom, IsEntry, IsNotWritten, entry_fields, entry_text, etype_of, is_numbered, is_typed, passes, version_of, written_fields};
+ghost use Rattle.cred_files.specs.Keytab.{HasCounts, HasRoom, IsEntry, IsNotWritten, entry_fields, entry_text};
+ghost use Rattle.cred_files.specs.Keytab.{etype_of, is_numbered, is_typed, passes, version_of, written_fields};
 ghost use Rattle.cred_files.specs.KeytabReading.{Gives, content_at};
 ghost use Rattle.cred_files.specs.Reading.{Reads};
 

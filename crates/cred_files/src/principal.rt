@@ -44,7 +44,8 @@ impl Principal {
 
 /// Whether both are one principal: their realms are equal, and their names but for the name-types.
 pub fn is_same(realm: &KerberosString, name: &Name, other_realm: &[u8], other_name: &Name) -> bool
-    ensures { result ≡ eq_by_cmp name_cmp (realm.now ∷ name.now.components) (other_realm.now ∷ other_name.now.components) }
+    ensures { result ≡ eq_by_cmp name_cmp (realm.now ∷ name.now.components)
+        (other_realm.now ∷ other_name.now.components) }
 {
     realm.as_slice() == other_realm && name.is_same(other_name)
 }

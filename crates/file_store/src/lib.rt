@@ -1,4 +1,5 @@
-//! The files of the programs, and what they take where no file is named: random octets, and a password from standard input.
+//! The files of the programs, and what they take where no file is named: random octets, and a
+//! password from standard input.
 //!
 //! A program works on a `Store`, so that its tests run over files in memory. A fault says which file it is of.
 #![tactic(auto)]

@@ -39,9 +39,9 @@ pub trait Store {
     /// Whether standard input is a terminal.
     fn is_terminal(&self) -> bool;
 
-    /// The next line of standard input without its line feed, or `None` where it has more than so many octets. At a
-    /// terminal the question is written first, to standard error. Where the input has ended there is no line, and that is an
-    /// `Err`.
+    /// The next line of standard input without its line feed, or `None` where it has more than so many octets.
+    /// At a terminal the question is written first, to standard error. Where the input has ended there is no
+    /// line, and that is an `Err`.
     fn ask(&mut self, alloc: Global, question: &str, most: usize) -> io::Result<Option<Vec<u8>>>
         ensures within { IfOk result (λ found. IfSome found (λ octets. vec_len octets ≤ most)) }
         ensures counted { IsCounted (fault_count self.old) result (fault_count self.new) };

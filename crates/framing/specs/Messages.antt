@@ -1,5 +1,6 @@
 -- The messages of a whole stream.
-use Rattle.std.specs.Prelude.{◌≡◌, ℕ, zero, suc, ◌+◌, ◌<◌, ◌≤◌, List, [], ◌∷◌, ◌++◌, length, drop, Option, Some, None, Ok, Err}
+use Rattle.std.specs.Prelude.{◌≡◌, ℕ, zero, suc, ◌+◌, ◌<◌, ◌≤◌, List, [], ◌∷◌, ◌++◌, length, drop, Option, Some, None}
+use Rattle.std.specs.Prelude.{Ok, Err}
 use Rattle.std.specs.List.{All, flat_map}
 use Rattle.framing.specs.declared.fault.FrameFault.{FrameFault}
 use Rattle.framing.specs.Stream.{Front, framed, front, high_bit}
@@ -47,7 +48,8 @@ messages greatest bytes = cut (length bytes) greatest bytes
 
 -- Each stream has a cutting.
 abbrev pub HasCutting : Type 0
-HasCutting = (greatest : ℕ) (bytes : List ℕ) → All (λ octet. octet < 256) bytes → Cuts greatest bytes (messages greatest bytes)
+HasCutting =
+    (greatest : ℕ) (bytes : List ℕ) → All (λ octet. octet < 256) bytes → Cuts greatest bytes (messages greatest bytes)
 
 -- No stream has two.
 abbrev pub HasOneCutting : Type 0
@@ -55,4 +57,6 @@ HasOneCutting = (greatest : ℕ) (bytes : List ℕ) (c : Cutting) → Cuts great
 
 -- Framing is undone by cutting.
 abbrev pub CutsWhatWasFramed : Type 0
-CutsWhatWasFramed = (greatest : ℕ) (all : List (List ℕ)) → All (IsMessage greatest) all → messages greatest (flat_map framed all) ≡ record { messages = all; rest = []; fault = None }
+CutsWhatWasFramed =
+    (greatest : ℕ) (all : List (List ℕ)) → All (IsMessage greatest) all
+    → messages greatest (flat_map framed all) ≡ record { messages = all; rest = []; fault = None }

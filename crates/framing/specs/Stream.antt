@@ -1,5 +1,6 @@
 -- What stands at the front of a stream (RFC 4120, section 7.2.2).
-use Rattle.std.specs.Prelude.{ℕ, ◌^◌, List, ◌++◌, length, take, drop, Option, Some, None, Result, Ok, Err, nat_lt, nat_le, if◌then◌else◌}
+use Rattle.std.specs.Prelude.{ℕ, ◌^◌, List, ◌++◌, length, take, drop, Option, Some, None, Result, Ok, Err, nat_lt}
+use Rattle.std.specs.Prelude.{nat_le, if◌then◌else◌}
 use Rattle.std.specs.Int.{w32, to_be_bytes, from_be_bytes}
 use Rattle.framing.specs.declared.fault.FrameFault.{FrameFault}
 use Rattle.framing.specs.declared.fault.FrameFault.TheVariants.{HighBit, TooLong}

@@ -14,7 +14,8 @@ const HIGH_BIT: u32 = 1 << 31;
 /// The message at the front, once it is there whole. Its length is judged as soon as its four octets are there.
 #[tactic(auto, unfolding(crate::specs::Stream::front))]
 pub fn first_message(bytes: &[u8], greatest: u32) -> Result<Option<&[u8]>, FrameFault>
-    ensures message { IfOk result (λ found. IfSome found (λ message. front greatest bytes.now ≡ Ok (Some message.now))) }
+    ensures message { IfOk result (λ found. IfSome found
+        (λ message. front greatest bytes.now ≡ Ok (Some message.now))) }
     ensures none { result ≡ Ok None → front greatest bytes.now ≡ Ok None }
     ensures fault { IfErr result (λ fault. front greatest bytes.now ≡ Err fault) }
     // The message stands behind its length.

@@ -64,8 +64,8 @@ impl Splitter {
         &self.bytes[self.start..]
     }
 
-    /// Drops what was handed out from the front, once it is no less than what has to move. So no more octets are moved in
-    /// all than are handed out.
+    /// Drops what was handed out from the front, once it is no less than what has to move. So no more octets are moved
+    /// in all than are handed out.
     fn compact(&mut self)
         ensures { self.new ≡ self.old }
     {
@@ -81,7 +81,8 @@ impl Splitter {
     /// nothing.
     pub fn next(&mut self, alloc: Global) -> Result<Option<Vec<u8>>, FrameFault>
         // A message is the first of those that are there.
-        ensures message { IfOk result (λ found. IfSome found (λ message. handed_out self.old ≡ message_then message.items (handed_out self.new))) }
+        ensures message { IfOk result (λ found. IfSome found
+            (λ message. handed_out self.old ≡ message_then message.items (handed_out self.new))) }
         // Without one, the octets are less than a message, and stay.
         ensures rest { result ≡ Ok None → handed_out self.old ≡ only_rest self.old.bytes None }
         ensures none { result ≡ Ok None → self.new ≡ self.old }
@@ -89,7 +90,8 @@ impl Splitter {
         ensures left { IfOk result (λ _. left self.new ≡ left self.old) }
         ensures settled { result ≡ Ok None → self.new ≡ left self.old }
 
-        ensures fault { IfErr result (λ fault. fault ≢ Memory → handed_out self.old ≡ only_rest self.old.bytes (Some fault)) }
+        ensures fault { IfErr result (λ fault. fault ≢ Memory
+            → handed_out self.old ≡ only_rest self.old.bytes (Some fault)) }
         ensures told { IfErr result (λ fault. fault ≢ Memory → self.new ≡ record self.old { fault = Some fault }) }
         // Memory is wanted for a message alone.
         ensures memory { result ≡ Err Memory → self.new ≡ self.old }

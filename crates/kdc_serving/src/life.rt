@@ -10,8 +10,8 @@ use kdc_hub::{Hub, Served, Wire, one_run, serve};
 use rand_core::Rng;
 use std::alloc::Global;
 
-/// Serves for so many rounds. Before the first, and again after each 16, it looks whether the source has other rows; those of
-/// the same realm take the place of the ones that are served, and all that is remembered stays.
+/// Serves for so many rounds. Before the first, and again after each 16, it looks whether the source has other rows;
+/// those of the same realm take the place of the ones that are served, and all that is remembered stays.
 pub fn serve_life<W: Wire, S: RowSource, R: Rng>(
     alloc: Global,
     wire: &mut W,
@@ -19,9 +19,11 @@ pub fn serve_life<W: Wire, S: RowSource, R: Rng>(
     hub: &mut Hub<R>,
     rounds: u64,
 ) -> Totals
-    // What the Wire and the source tell of it, and the hub in the end, are those of one history; it is one run of the key
-    // distribution centre, in which no authenticator buys two different tickets, and what others send changes nothing for a client.
-    ensures life { IsLife (W.told wire.old) (S.told source.old) (standing R.stream hub.old) (periods_of rounds) result (W.told wire.new) (S.told source.new) (standing R.stream hub.new) }
+    // What the Wire and the source tell of it, and the hub in the end, are those of one history; it is one run of
+    // the key distribution centre, in which no authenticator buys two different tickets, and what others send
+    // changes nothing for a client.
+    ensures life { IsLife (W.told wire.old) (S.told source.old) (standing R.stream hub.old) (periods_of rounds) result
+        (W.told wire.new) (S.told source.new) (standing R.stream hub.new) }
     ensures counted { IsCounted (W.fault_count wire.old) result.faults (W.fault_count wire.new) }
 {
     one_run();
@@ -43,7 +45,8 @@ fn serve_period<W: Wire, S: RowSource, R: Rng>(
     hub: &mut Hub<R>,
     rounds: u32,
 ) -> Served
-    ensures period { IsPeriod (W.told wire.old) (S.told source.old) (standing R.stream hub.old) rounds result (W.told wire.new) (S.told source.new) (standing R.stream hub.new) }
+    ensures period { IsPeriod (W.told wire.old) (S.told source.old) (standing R.stream hub.old) rounds result
+        (W.told wire.new) (S.told source.new) (standing R.stream hub.new) }
     ensures counted { IsCounted (W.fault_count wire.old) result.faults (W.fault_count wire.new) }
     ensures few_events { result.events ≤ rounds }
     ensures few_refused { result.refused ≤ rounds }
@@ -54,7 +57,8 @@ fn serve_period<W: Wire, S: RowSource, R: Rng>(
 
 /// Puts the rows of a source in the place of those that are served, where there are others.
 fn take_rows<S: RowSource, R: Rng>(alloc: Global, source: &mut S, hub: &mut Hub<R>)
-    ensures { HasLooked (S.told source.old) (standing R.stream hub.old) (S.told source.new) (standing R.stream hub.new) }
+    ensures { HasLooked (S.told source.old) (standing R.stream hub.old) (S.told source.new)
+        (standing R.stream hub.new) }
 {
     match source.look(alloc) {
         Look::Changed(database) => {

@@ -48,8 +48,8 @@ impl Connection {
         self.is_closing
     }
 
-    /// Whether both sides are done. A connection that is let go earlier could take replies from its peer that the peer has
-    /// not read yet.
+    /// Whether both sides are done. A connection that is let go earlier could take replies from its peer that
+    /// the peer has not read yet.
     pub fn is_over(&self) -> bool {
         self.is_closing && self.is_at_end && self.unsent.is_empty()
     }
@@ -87,8 +87,8 @@ impl Connection {
         self.close()
     }
 
-    /// Writes what fits. After the last octet of the last reply the peer is told that no more will come: once, since each
-    /// time would be an event of the connection.
+    /// Writes what fits. After the last octet of the last reply the peer is told that no more will come: once, since
+    /// each time would be an event of the connection.
     pub fn flush(&mut self) -> Result<()> {
         for _ in 0..self.unsent.len() {
             if self.unsent.is_empty() || !self.write_once()? {

@@ -53,8 +53,8 @@ pub struct Sockets<C> {
     connections: BTreeMap<u64, Connection>,
     next_connection: u64,
     turn: Turn,
-    /// The places of the sockets, and the connections, that may have something, in the order in which they are asked. None
-    /// stands there twice.
+    /// The places of the sockets, and the connections, that may have something, in the order in which they are
+    /// asked. None stands there twice.
     ready_datagrams: VecDeque<u64>,
     ready_newcomers: VecDeque<u64>,
     ready: VecDeque<u64>,
@@ -127,7 +127,8 @@ impl<C: Clock + Drop> Sockets<C> {
         }
     }
 
-    /// The next event: of the sockets that are ready that of the one whose turn it is. Where none is ready it waits for one.
+    /// The next event: of the sockets that are ready that of the one whose turn it is. Where none
+    /// is ready it waits for one.
     pub fn next(&mut self, alloc: Global) -> io::Result<Option<(Moment, Event)>> {
         self.look()?;
         let at = now(&self.clock)?;

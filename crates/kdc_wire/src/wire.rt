@@ -10,7 +10,8 @@ use std::net::{Net, SocketAddr};
 use std::rt::Clock;
 use std::time::Duration;
 
-/// A wire over sockets for datagrams and sockets that take connections, each at an address of its own. It tells no record.
+/// A wire over sockets for datagrams and sockets that take connections, each at an address of
+/// its own. It tells no record.
 #[derive(Drop)]
 pub struct SocketWire<C> {
     sockets: Sockets<C>,

@@ -1,5 +1,5 @@
-//! The program of the KDC: `kdcd script` runs a script from standard input to standard output, `kdcd serve` serves a realm
-//! over UDP and TCP.
+//! The program of the KDC: `kdcd script` runs a script from standard input to standard output, `kdcd serve` serves
+//! a realm over UDP and TCP.
 #![tactic(auto)]
 
 mod serving;

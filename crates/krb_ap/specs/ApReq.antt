@@ -17,7 +17,13 @@ ap_req_form t e = record {
       (field 3 (λ x. x.ticket) t
       (field 4 (λ x. x.authenticator) e
       end))));
-  to = λ (pvno, (msg_type, (ap_options, (ticket, (authenticator, _))))). record { pvno = pvno; msg_type = msg_type; ap_options = ap_options; ticket = ticket; authenticator = authenticator };
+  to = λ (pvno, (msg_type, (ap_options, (ticket, (authenticator, _))))). record {
+    pvno = pvno;
+    msg_type = msg_type;
+    ap_options = ap_options;
+    ticket = ticket;
+    authenticator = authenticator;
+  };
   there = λ v. refl;
   back = λ x. refl;
   rising = refl;

@@ -70,7 +70,13 @@ impl<T: Encode, E: Encode> EncodeFields for ApReq<T, E> {
 impl<T: MakeOwned, E: MakeOwned> MakeOwned for ApReq<T, E> {
     type Owned = ApReq<T::Owned, E::Owned>;
 
-    ghost same = { λ x. record { pvno = x.pvno; msg_type = x.msg_type; ap_options = x.ap_options; ticket = T.same x.ticket; authenticator = E.same x.authenticator } };
+    ghost same = { λ x. record {
+      pvno = x.pvno;
+      msg_type = x.msg_type;
+      ap_options = x.ap_options;
+      ticket = T.same x.ticket;
+      authenticator = E.same x.authenticator;
+    } };
 
     fn copy(&self, alloc: Global) -> Result<ApReq<T::Owned, E::Owned>, AllocError> {
         Ok(ApReq {
@@ -101,7 +107,8 @@ pub fn read_ap_req(bytes: &[u8]) -> Result<ApReqRef<'_>, DerFault>
     // What is read is spelled so.
     ensures found { IfOk result (λ request. ap_req.Spells request bytes.now) }
     // What is spelled so is read.
-    ensures only { (request : trees.ApReq) → ap_req.Spells request bytes.now → IsOkAnd result (λ found. found ≡ request) }
+    ensures only { (request : trees.ApReq) → ap_req.Spells request bytes.now
+        → IsOkAnd result (λ found. found ≡ request) }
     // Which fault it is.
     ensures exact { Sees result (whole ap_req.at bytes.now) }
     // What stands inside is shorter than the octets.

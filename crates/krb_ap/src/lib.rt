@@ -1,4 +1,5 @@
-//! The messages between a client and a service (RFC 4120, section 5.5), each with the relation between it and its octets.
+//! The messages between a client and a service (RFC 4120, section 5.5), each with the relation
+//! between it and its octets.
 #![tactic(auto)]
 
 mod ap_rep;

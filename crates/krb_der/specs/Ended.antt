@@ -18,12 +18,14 @@ ended_is before contents tag =
     let parts : written ≡ tagged ++ 0 ∷ contents =
     append_assoc before (tag ∷ 0 ∷ []) contents ∙ sym (append_assoc before (tag ∷ []) (0 ∷ contents)) in
     let one : length tagged ≡ length before + 1 = omega (arith, length-append before (tag ∷ [])) in
-    let two : length (before ++ tag ∷ 0 ∷ []) ≡ length before + 2 = omega (arith, length-append before (tag ∷ 0 ∷ [])) in
+    let two : length (before ++ tag ∷ 0 ∷ []) ≡ length before + 2 =
+    omega (arith, length-append before (tag ∷ 0 ∷ [])) in
     let front : take (length before + 1) written ≡ tagged =
     ap (take (length before + 1)) parts ∙ take_at tagged (0 ∷ contents) (length before + 1) one in
     let rest : drop (length before + 2) written ≡ contents =
     drop_at (before ++ tag ∷ 0 ∷ []) contents (length before + 2) two in
-    ap (λ (l : List ℕ). l ++ (length_octets (length (drop (length before + 2) written)) ++ drop (length before + 2) written)) front
+    ap (λ (l : List ℕ). l ++ (length_octets (length (drop (length before + 2) written))
+    ++ drop (length before + 2) written)) front
     ∙ ap (λ (l : List ℕ). tagged ++ (length_octets (length l) ++ l)) rest
     ∙ append_assoc before (tag ∷ []) (length_octets (length contents) ++ contents)
 

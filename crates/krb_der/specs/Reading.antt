@@ -1,11 +1,13 @@
 -- Reading from left to right, with the first fault that is met.
-use Rattle.std.specs.Prelude.{◌≡◌, ℕ, ℤ, Bool, List, [], ◌∷◌, length, take, drop, Result, Ok, Err, nat_lt, ◌==◌, if◌then◌else◌}
+use Rattle.std.specs.Prelude.{◌≡◌, ℕ, ℤ, Bool, List, [], ◌∷◌, length, take, drop, Result, Ok, Err, nat_lt, ◌==◌}
+use Rattle.std.specs.Prelude.{if◌then◌else◌}
 use Rattle.std.specs.Int.{w32, from_be_bytes}
 use Rattle.krb_der.specs.Int.{is_int, int_value}
 use Rattle.krb_der.specs.Bits.{is_bits, bits_value}
 use Rattle.krb_der.specs.Time.{is_time, time_value}
 use Rattle.krb_der.specs.declared.fault.DerFault.{DerFault}
-use Rattle.krb_der.specs.declared.fault.DerFault.TheVariants.{Truncated, BadTag, BadLength, BadInteger, BadBits, BadTime}
+use Rattle.krb_der.specs.declared.fault.DerFault.TheVariants.{Truncated, BadTag, BadLength, BadInteger, BadBits}
+use Rattle.krb_der.specs.declared.fault.DerFault.TheVariants.{BadTime}
 
 infixl 10 ◌>>=◌
 abbrev pub ◌>>=◌ : {A B : Type 0} → Result A DerFault → (A → Result B DerFault) → Result B DerFault
@@ -18,7 +20,8 @@ Gives view (Ok x) read = read ≡ Ok (view x)
 Gives view (Err e) read = read ≡ Err e
 
 -- The value was read and what is left is left, or the fault was met and nothing is read.
-abbrev pub Reads : {X Y : Type 0} → (X → Y) → Result X DerFault → List ℕ → List ℕ → Result (Y × List ℕ) DerFault → Type 0
+abbrev pub Reads : {X Y : Type 0} → (X → Y) → Result X DerFault → List ℕ → List ℕ → Result (Y × List ℕ) DerFault
+    → Type 0
 Reads view (Ok x) old new read = read ≡ Ok (view x, new)
 Reads view (Err e) old new read = (read ≡ Err e) × (new ≡ old)
 
@@ -58,7 +61,8 @@ tlv_at tag (first ∷ rest) =
     else Err BadTag
 
 -- a value of a simple type, whose contents pass a test
-abbrev pub leaf_at : {A : Type 0} → ℕ → (List ℕ → Bool) → (List ℕ → A) → DerFault → List ℕ → Result (A × List ℕ) DerFault
+abbrev pub leaf_at : {A : Type 0} → ℕ → (List ℕ → Bool) → (List ℕ → A) → DerFault → List ℕ
+    → Result (A × List ℕ) DerFault
 leaf_at tag test value fault bytes = tlv_at tag bytes >>= λ c. if test c.0 then Ok (value c.0, c.1) else Err fault
 
 unfoldable pub int_at : List ℕ → Result (ℤ × List ℕ) DerFault

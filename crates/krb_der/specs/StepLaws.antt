@@ -1,5 +1,6 @@
 -- Laws of steps of reading that did not fail, and of lists of octets.
-use Rattle.std.proofs.Common.{◌≡◌, ℕ, zero, suc, ◌<◌, Bool, true, false, cond, List, [], ◌∷◌, ◌++◌, replicate, Result, Ok, Err, refl, arith, inl, inr, ◌⊎◌}
+use Rattle.std.proofs.Common.{◌≡◌, ℕ, zero, suc, ◌<◌, Bool, true, false, cond, List, [], ◌∷◌, ◌++◌, replicate, Result}
+use Rattle.std.proofs.Common.{Ok, Err, refl, arith, inl, inr, ◌⊎◌}
 use Rattle.krb_der.specs.declared.fault.DerFault.{DerFault}
 use Rattle.krb_der.specs.Spelling.{IsBytes}
 use Rattle.krb_der.specs.Reading.{◌>>=◌}
@@ -17,7 +18,8 @@ IsBytes-front (b ∷ front) rest h zero = h 0
 IsBytes-front (b ∷ front) rest h (suc i) = IsBytes-front front rest (λ j. h (suc j)) i
 
 -- the value of a step that did not fail
-pub bind_ok : {A B : Type 0} (r : Result A DerFault) (f : A → Result B DerFault) (y : B) → (r >>= f) ≡ Ok y → (x : A) × (r ≡ Ok x) × (f x ≡ Ok y)
+pub bind_ok : {A B : Type 0} (r : Result A DerFault) (f : A → Result B DerFault) (y : B) → (r >>= f) ≡ Ok y
+    → (x : A) × (r ≡ Ok x) × (f x ≡ Ok y)
 bind_ok (Ok x) f y e = (x, refl, e)
 bind_ok (Err d) f y e = absurd cc
 

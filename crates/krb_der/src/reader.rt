@@ -72,7 +72,8 @@ impl<'a> Reader<'a> {
     /// The INTEGER at the front, of at most eight octets.
     pub fn read_int(&mut self) -> Result<i64, DerFault>
         ensures found { IfOk result (λ z. Stands (Int z) self.old self.new) }
-        ensures only { (z : ℤ) (rest : List ℕ) → Stands (Int z) self.old rest → IsOkAnd result (λ y. y ≡ z) × (self.new ≡ rest) }
+        ensures only { (z : ℤ) (rest : List ℕ) → Stands (Int z) self.old rest
+            → IsOkAnd result (λ y. y ≡ z) × (self.new ≡ rest) }
         ensures exact { Reads (λ z. z) result self.old self.new (int_at self.old) }
     {
         let (value, rest) = split_int(self.rest)?;
@@ -84,7 +85,8 @@ impl<'a> Reader<'a> {
     /// ones are zero), and how many bits it has.
     pub fn read_bits(&mut self) -> Result<(u32, u64), DerFault>
         ensures found { IfOk result (λ b. Stands (Bits b) self.old self.new) }
-        ensures only { (b : ℕ × ℕ) (rest : List ℕ) → Stands (Bits b) self.old rest → IsOkAnd result (λ x. x ≡ b) × (self.new ≡ rest) }
+        ensures only { (b : ℕ × ℕ) (rest : List ℕ) → Stands (Bits b) self.old rest
+            → IsOkAnd result (λ x. x ≡ b) × (self.new ≡ rest) }
         ensures exact { Reads (λ b. b) result self.old self.new (bits_at self.old) }
     {
         let (bits, rest) = split_bits(self.rest)?;
@@ -95,7 +97,8 @@ impl<'a> Reader<'a> {
     /// The KerberosTime at the front.
     pub fn read_time(&mut self) -> Result<KTime, DerFault>
         ensures found { IfOk result (λ z. Stands (Time z) self.old self.new) }
-        ensures only { (z : ℤ) (rest : List ℕ) → Stands (Time z) self.old rest → IsOkAnd result (λ y. y ≡ z) × (self.new ≡ rest) }
+        ensures only { (z : ℤ) (rest : List ℕ) → Stands (Time z) self.old rest
+            → IsOkAnd result (λ y. y ≡ z) × (self.new ≡ rest) }
         ensures exact { Reads (λ z. z) result self.old self.new (time_at self.old) }
     {
         match split_time(self.rest) {

@@ -78,7 +78,8 @@ pub fn split_tlv(bytes: &[u8], tag: u8) -> Result<(&[u8], &[u8]), DerFault>
 /// The INTEGER at the front, and the octets after it.
 pub fn split_int(bytes: &[u8]) -> Result<(i64, &[u8]), DerFault>
     ensures found { IfOk result (λ x. Stands (Int x.0) bytes.now x.1.now) }
-    ensures only { (z : ℤ) (rest : List ℕ) → Stands (Int z) bytes.now rest → IsOkAnd result (λ x. (x.0 ≡ z) × (x.1.now ≡ rest)) }
+    ensures only { (z : ℤ) (rest : List ℕ) → Stands (Int z) bytes.now rest
+        → IsOkAnd result (λ x. (x.0 ≡ z) × (x.1.now ≡ rest)) }
     ensures exact { Gives (λ x. (x.0, x.1.now)) result (int_at bytes.now) }
 {
     int_parts(bytes)
@@ -87,7 +88,8 @@ pub fn split_int(bytes: &[u8]) -> Result<(i64, &[u8]), DerFault>
 /// The BIT STRING at the front, its first 32 bits and how many there are, and the octets after it.
 pub fn split_bits(bytes: &[u8]) -> Result<((u32, u64), &[u8]), DerFault>
     ensures found { IfOk result (λ x. Stands (Bits x.0) bytes.now x.1.now) }
-    ensures only { (b : ℕ × ℕ) (rest : List ℕ) → Stands (Bits b) bytes.now rest → IsOkAnd result (λ x. (x.0 ≡ b) × (x.1.now ≡ rest)) }
+    ensures only { (b : ℕ × ℕ) (rest : List ℕ) → Stands (Bits b) bytes.now rest
+        → IsOkAnd result (λ x. (x.0 ≡ b) × (x.1.now ≡ rest)) }
     ensures exact { Gives (λ x. (x.0, x.1.now)) result (bits_at bytes.now) }
 {
     bits_parts(bytes)
@@ -96,7 +98,8 @@ pub fn split_bits(bytes: &[u8]) -> Result<((u32, u64), &[u8]), DerFault>
 /// The KerberosTime at the front, and the octets after it.
 pub fn split_time(bytes: &[u8]) -> Result<(KTime, &[u8]), DerFault>
     ensures found { IfOk result (λ x. Stands (Time x.0) bytes.now x.1.now) }
-    ensures only { (z : ℤ) (rest : List ℕ) → Stands (Time z) bytes.now rest → IsOkAnd result (λ x. (x.0 ≡ z) × (x.1.now ≡ rest)) }
+    ensures only { (z : ℤ) (rest : List ℕ) → Stands (Time z) bytes.now rest
+        → IsOkAnd result (λ x. (x.0 ≡ z) × (x.1.now ≡ rest)) }
     ensures exact { Gives (λ x. (x.0, x.1.now)) result (time_at bytes.now) }
 {
     time_parts(bytes)

@@ -1,7 +1,8 @@
 -- A type's octets: one definition says which octets spell a value, how it is read, and how it is written.
 -- A message is one such definition, with one line for each field.
 use Rattle.std.proofs.Common.{◌≤◌, length, refl}
-use Rattle.std.specs.Prelude.{◌≡◌, ℕ, ℤ, ◌+◌, ◌&&◌, nat_lt, Bool, true, false, IsTrue, IfSome, List, ◌++◌, Option, Some, None, Result}
+use Rattle.std.specs.Prelude.{◌≡◌, ℕ, ℤ, ◌+◌, ◌&&◌, nat_lt, Bool, true, false, IsTrue, IfSome, List, ◌++◌, Option, Some}
+use Rattle.std.specs.Prelude.{None, Result}
 use Rattle.krb_der.specs.declared.fault.DerFault.{DerFault}
 use Rattle.krb_der.specs.Spelling.{tlv}
 use Rattle.krb_der.specs.Reading.{time_at}
@@ -14,9 +15,49 @@ use Rattle.krb_elements.specs.FieldReading.{nothing, then_field, then_maybe, the
 use Rattle.krb_elements.specs.Written.{field_then, optional_then, no_more, items_text}
 use Rattle.krb_elements.specs.Simple as simple
 use Rattle.krb_elements.specs.Sent.{WithOctets}
-use Rattle.krb_elements.specs.TextLengthLaws.{as_long, end_bounded, most_maybe, most_items, int_bounded, microseconds_bounded, fixed_bounded, time_bounded, flags_bounded, round_bounded, then_bounded, optional_bounded, sent_bounded, items_bounded}
+use Rattle.krb_elements.specs.TextLengthLaws.{
+  as_long,
+  end_bounded,
+  most_maybe,
+  most_items,
+  int_bounded,
+  microseconds_bounded,
+  fixed_bounded,
+  time_bounded,
+  flags_bounded,
+  round_bounded,
+  then_bounded,
+  optional_bounded,
+  sent_bounded,
+  items_bounded,
+}
 use Rattle.krb_elements.specs.WritableLaws.{Any}
-use Rattle.krb_elements.specs.CodecLaws.{Laws, FieldLaws, ended_onto, field_onto, maybe_onto, sent_then, sent_onto, sent_laws, AllFit, Is32Bits, int32_laws, uint32_laws, microseconds_laws, fixed_laws, time_laws, octets_laws, string_laws, flags_laws, list_laws, end_laws, field_laws, optional_laws, sequence_laws, round_laws}
+use Rattle.krb_elements.specs.CodecLaws.{
+  Laws,
+  FieldLaws,
+  ended_onto,
+  field_onto,
+  maybe_onto,
+  sent_then,
+  sent_onto,
+  sent_laws,
+  AllFit,
+  Is32Bits,
+  int32_laws,
+  uint32_laws,
+  microseconds_laws,
+  fixed_laws,
+  time_laws,
+  octets_laws,
+  string_laws,
+  flags_laws,
+  list_laws,
+  end_laws,
+  field_laws,
+  optional_laws,
+  sequence_laws,
+  round_laws,
+}
 
 -- a type whose values have a tag of their own
 pub record Codec (A : Type 0) : Type 1 where
@@ -62,7 +103,21 @@ pub record Fields (X : Type 0) : Type 1 where
 
 -- no more fields: the greatest tag of one octet is [30]
 abbrev pub end : {X : Type 0} → Fields X
-end = record { Values = Unit {0}; of = λ x. tt; Spells = End; at = nothing; text = no_more; onto = ended_onto; Fits = Any; has_one = true; low = 191; rising = true; laws = λ up. end_laws 191; most = λ v. 0; bounded = end_bounded }
+end = record {
+  Values = Unit {0};
+  of = λ x. tt;
+  Spells = End;
+  at = nothing;
+  text = no_more;
+  onto = ended_onto;
+  Fits = Any;
+  has_one = true;
+  low = 191;
+  rising = true;
+  laws = λ up. end_laws 191;
+  most = λ v. 0;
+  bounded = end_bounded;
+}
 
 -- the field with the tag [n], and the later ones
 abbrev pub field : {X A : Type 0} → ℕ → (X → A) → Codec A → Fields X → Fields X
@@ -77,7 +132,8 @@ field {X} {A} n get c rest = record {
   has_one = c.has_one && rest.has_one;
   low = 160 + n;
   rising = nat_lt (160 + n) rest.low && rest.rising;
-  laws = field_laws (160 + n) rest.low c.Spells c.at c.tag c.text c.Fits c.has_one rest.Spells rest.at rest.text rest.onto rest.Fits rest.has_one rest.rising c.laws rest.laws;
+  laws = field_laws (160 + n) rest.low c.Spells c.at c.tag c.text c.Fits c.has_one rest.Spells rest.at rest.text
+      rest.onto rest.Fits rest.has_one rest.rising c.laws rest.laws;
   most = λ v. c.most v.0 + 12 + rest.most v.1;
   bounded = then_bounded (160 + n) c.tag c.text c.most rest.text rest.most c.bounded rest.bounded;
 }
@@ -95,7 +151,8 @@ optional {X} {A} n get c rest = record {
   has_one = c.has_one && rest.has_one;
   low = 160 + n;
   rising = nat_lt (160 + n) rest.low && rest.rising;
-  laws = optional_laws (160 + n) rest.low c.Spells c.at c.tag c.text c.Fits c.has_one rest.Spells rest.at rest.text rest.onto rest.Fits rest.has_one rest.rising c.laws rest.laws;
+  laws = optional_laws (160 + n) rest.low c.Spells c.at c.tag c.text c.Fits c.has_one rest.Spells rest.at rest.text
+      rest.onto rest.Fits rest.has_one rest.rising c.laws rest.laws;
   most = λ v. most_maybe c.most v.0 + rest.most v.1;
   bounded = optional_bounded (160 + n) c.tag c.text c.most rest.text rest.most c.bounded rest.bounded;
 }
@@ -113,7 +170,8 @@ sent_field {X} {A} n get c rest = record {
   has_one = rest.has_one;
   low = 160 + n;
   rising = nat_lt (160 + n) rest.low && rest.rising;
-  laws = sent_laws (160 + n) rest.low c.Spells c.at rest.Spells rest.at rest.text rest.onto rest.Fits rest.has_one rest.rising c.laws.element rest.laws;
+  laws = sent_laws (160 + n) rest.low c.Spells c.at rest.Spells rest.at rest.text rest.onto rest.Fits rest.has_one
+      rest.rising c.laws.element rest.laws;
   most = λ v. length v.0.octets + 6 + rest.most v.1;
   bounded = sent_bounded (160 + n) rest.text rest.most rest.bounded;
 }
@@ -154,7 +212,8 @@ sequence r = record {
   text = fields_text r;
   Fits = FitFields r;
   has_one = r.fields.has_one;
-  laws = sequence_laws r.fields.low r.fields.of r.to r.fields.Spells r.fields.at r.fields.text r.fields.onto r.fields.Fits r.fields.has_one r.there r.back (r.fields.laws r.rising);
+  laws = sequence_laws r.fields.low r.fields.of r.to r.fields.Spells r.fields.at r.fields.text r.fields.onto
+      r.fields.Fits r.fields.has_one r.there r.back (r.fields.laws r.rising);
   most = λ x. r.fields.most (r.fields.of x);
   bounded = λ x. r.fields.bounded (r.fields.of x);
 }
@@ -209,26 +268,106 @@ measured c = record c { most = λ x. length (c.text x); bounded = λ x. as_long 
 -- ---- the simple types
 
 abbrev pub int32 : Codec ℤ
-int32 = record { Spells = simple.Int32; at = simple.int32_at; tag = 2; text = int_octets; Fits = simple.IsInt32; has_one = true; laws = int32_laws; most = λ z. 8; bounded = int_bounded }
+int32 = record {
+  Spells = simple.Int32;
+  at = simple.int32_at;
+  tag = 2;
+  text = int_octets;
+  Fits = simple.IsInt32;
+  has_one = true;
+  laws = int32_laws;
+  most = λ z. 8;
+  bounded = int_bounded;
+}
 
 abbrev pub uint32 : Codec ℤ
-uint32 = record { Spells = simple.UInt32; at = simple.uint32_at; tag = 2; text = int_octets; Fits = simple.IsUInt32; has_one = true; laws = uint32_laws; most = λ z. 8; bounded = int_bounded }
+uint32 = record {
+  Spells = simple.UInt32;
+  at = simple.uint32_at;
+  tag = 2;
+  text = int_octets;
+  Fits = simple.IsUInt32;
+  has_one = true;
+  laws = uint32_laws;
+  most = λ z. 8;
+  bounded = int_bounded;
+}
 
 abbrev pub microseconds : Codec ℕ
-microseconds = record { Spells = simple.Microseconds; at = simple.microseconds_at; tag = 2; text = simple.microseconds_text; Fits = simple.IsMicrosecond; has_one = true; laws = microseconds_laws; most = λ n. 8; bounded = microseconds_bounded }
+microseconds = record {
+  Spells = simple.Microseconds;
+  at = simple.microseconds_at;
+  tag = 2;
+  text = simple.microseconds_text;
+  Fits = simple.IsMicrosecond;
+  has_one = true;
+  laws = microseconds_laws;
+  most = λ n. 8;
+  bounded = microseconds_bounded;
+}
 
 -- a number that is fixed
 abbrev pub fixed : (n : ℤ) → IsTrue (simple.is_within n n n) → simple.IsInt32 n → Codec (Unit {0})
-fixed n same fits = record { Spells = simple.Fixed n; at = simple.fixed_at n; tag = 2; text = simple.fixed_text n; Fits = Any; has_one = true; laws = fixed_laws n same fits; most = λ x. 8; bounded = fixed_bounded n }
+fixed n same fits = record {
+  Spells = simple.Fixed n;
+  at = simple.fixed_at n;
+  tag = 2;
+  text = simple.fixed_text n;
+  Fits = Any;
+  has_one = true;
+  laws = fixed_laws n same fits;
+  most = λ x. 8;
+  bounded = fixed_bounded n;
+}
 
 abbrev pub time : Codec ℤ
-time = record { Spells = Time; at = time_at; tag = 24; text = time_octets; Fits = IsCivilSecond; has_one = true; laws = time_laws; most = λ z. 15; bounded = time_bounded }
+time = record {
+  Spells = Time;
+  at = time_at;
+  tag = 24;
+  text = time_octets;
+  Fits = IsCivilSecond;
+  has_one = true;
+  laws = time_laws;
+  most = λ z. 15;
+  bounded = time_bounded;
+}
 
 abbrev pub octets : Codec (List ℕ)
-octets = record { Spells = simple.Octets; at = simple.octets_at; tag = 4; text = simple.as_they_are; Fits = Any; has_one = true; laws = octets_laws; most = length; bounded = as_long }
+octets = record {
+  Spells = simple.Octets;
+  at = simple.octets_at;
+  tag = 4;
+  text = simple.as_they_are;
+  Fits = Any;
+  has_one = true;
+  laws = octets_laws;
+  most = length;
+  bounded = as_long;
+}
 
 abbrev pub string : Codec (List ℕ)
-string = record { Spells = simple.KerberosString; at = simple.string_at; tag = 27; text = simple.as_they_are; Fits = Any; has_one = true; laws = string_laws; most = length; bounded = as_long }
+string = record {
+  Spells = simple.KerberosString;
+  at = simple.string_at;
+  tag = 27;
+  text = simple.as_they_are;
+  Fits = Any;
+  has_one = true;
+  laws = string_laws;
+  most = length;
+  bounded = as_long;
+}
 
 abbrev pub flags : Codec ℕ
-flags = record { Spells = simple.KerberosFlags; at = simple.flags_at; tag = 3; text = simple.flags_text; Fits = Is32Bits; has_one = false; laws = flags_laws; most = λ bits. 5; bounded = flags_bounded }
+flags = record {
+  Spells = simple.KerberosFlags;
+  at = simple.flags_at;
+  tag = 3;
+  text = simple.flags_text;
+  Fits = Is32Bits;
+  has_one = false;
+  laws = flags_laws;
+  most = λ bits. 5;
+  bounded = flags_bounded;
+}

@@ -1,5 +1,6 @@
 -- How the parts of a message are read: each word is one way to put readings together.
-use Rattle.std.specs.Prelude.{◌≡◌, ℕ, suc, zero, Bool, false, List, [], ◌∷◌, length, Option, Some, None, Result, Ok, Err, ◌==◌, if◌then◌else◌}
+use Rattle.std.specs.Prelude.{◌≡◌, ℕ, suc, zero, Bool, false, List, [], ◌∷◌, length, Option, Some, None, Result, Ok}
+use Rattle.std.specs.Prelude.{Err, ◌==◌, if◌then◌else◌}
 use Rattle.krb_der.specs.declared.fault.DerFault.{DerFault}
 use Rattle.krb_der.specs.declared.fault.DerFault.TheVariants.{Trailing}
 use Rattle.krb_der.specs.Reading.{◌>>=◌, tlv_at}
@@ -44,11 +45,13 @@ abbrev pub inside : {A : Type 0} → ℕ → (List ℕ → Result A DerFault) �
 inside tag f bytes = tlv_at tag bytes >>= λ c. f c.0 >>= λ x. Ok (x, c.1)
 
 -- a value that passes a test
-abbrev pub such : {A : Type 0} → (A → Bool) → DerFault → (List ℕ → Result (A × List ℕ) DerFault) → List ℕ → Result (A × List ℕ) DerFault
+abbrev pub such : {A : Type 0} → (A → Bool) → DerFault → (List ℕ → Result (A × List ℕ) DerFault) → List ℕ
+    → Result (A × List ℕ) DerFault
 such test fault f bytes = f bytes >>= λ x. if test x.0 then Ok x else Err fault
 
 -- what is kept of a value
-abbrev pub seen_as : {A B : Type 0} → (A → B) → (List ℕ → Result (A × List ℕ) DerFault) → List ℕ → Result (B × List ℕ) DerFault
+abbrev pub seen_as : {A B : Type 0} → (A → B) → (List ℕ → Result (A × List ℕ) DerFault) → List ℕ
+    → Result (B × List ℕ) DerFault
 seen_as to f bytes = f bytes >>= λ x. Ok (to x.0, x.1)
 
 -- ---- fields, one after another, of which nothing is left
@@ -62,11 +65,13 @@ abbrev pub end : List ℕ → Result (Unit {0}) DerFault
 end bytes = if length bytes == 0 then Ok tt else Err Trailing
 
 -- a field with contents that are read as a whole, and all later ones
-abbrev pub field_of : {A B : Type 0} → ℕ → (List ℕ → Result A DerFault) → (List ℕ → Result B DerFault) → List ℕ → Result (A × B) DerFault
+abbrev pub field_of : {A B : Type 0} → ℕ → (List ℕ → Result A DerFault) → (List ℕ → Result B DerFault) → List ℕ
+    → Result (A × B) DerFault
 field_of tag w g bytes = inside tag w bytes >>= λ x. g x.1 >>= λ y. Ok (x.0, y)
 
 -- a field, and all later ones
-abbrev pub field : {A B : Type 0} → ℕ → (List ℕ → Result (A × List ℕ) DerFault) → (List ℕ → Result B DerFault) → List ℕ → Result (A × B) DerFault
+abbrev pub field : {A B : Type 0} → ℕ → (List ℕ → Result (A × List ℕ) DerFault) → (List ℕ → Result B DerFault) → List ℕ
+    → Result (A × B) DerFault
 field tag f = field_of tag (whole f)
 
 -- a value and its octets as they were sent
@@ -77,10 +82,13 @@ abbrev pub sent : {A : Type 0} → (List ℕ → Result A DerFault) → List ℕ
 sent w bytes = w bytes >>= λ x. Ok (with_octets bytes x)
 
 -- a field that may be absent
-abbrev pub maybe : {A : Type 0} → ℕ → (List ℕ → Result (A × List ℕ) DerFault) → List ℕ → Result (Option A × List ℕ) DerFault
-maybe tag f bytes = if starts tag bytes then (inside tag (whole f) bytes >>= λ x. Ok (Some x.0, x.1)) else Ok (None, bytes)
+abbrev pub maybe : {A : Type 0} → ℕ → (List ℕ → Result (A × List ℕ) DerFault) → List ℕ
+    → Result (Option A × List ℕ) DerFault
+maybe tag f bytes =
+    if starts tag bytes then (inside tag (whole f) bytes >>= λ x. Ok (Some x.0, x.1)) else Ok (None, bytes)
 
-abbrev pub optional : {A B : Type 0} → ℕ → (List ℕ → Result (A × List ℕ) DerFault) → (List ℕ → Result B DerFault) → List ℕ → Result (Option A × B) DerFault
+abbrev pub optional : {A B : Type 0} → ℕ → (List ℕ → Result (A × List ℕ) DerFault) → (List ℕ → Result B DerFault)
+    → List ℕ → Result (Option A × B) DerFault
 optional tag f g bytes = maybe tag f bytes >>= λ x. g x.1 >>= λ y. Ok (x.0, y)
 
 -- the value that is made of the fields

@@ -8,4 +8,5 @@ pub record WithOctets (A : Type 0) : Type 0 where
 
 abbrev pub with_octets_code : {A : Type 0} → Coded A → Coded (WithOctets A)
 with_octets_code {A} code =
-    code_by (A × List ℕ) (coded× code (coded_list coded_ℕ)) (λ x. (x.value, x.octets)) (λ y. record { value = y.0; octets = y.1 }) (λ _. refl)
+    code_by (A × List ℕ) (coded× code (coded_list coded_ℕ)) (λ x. (x.value, x.octets))
+    (λ y. record { value = y.0; octets = y.1 }) (λ _. refl)

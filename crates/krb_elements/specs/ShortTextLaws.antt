@@ -1,6 +1,7 @@
 -- The spelling that is written is at most three times as long as any other, so what was read can be written.
 use Rattle.std.specs.Prelude.{nat_lt}
-use Rattle.std.proofs.Common.{◌≡◌, ℕ, ◌+◌, ◌*◌, ◌^◌, ◌≤◌, true, List, [], ◌∷◌, ◌++◌, length, Option, Some, None, refl, ap, subst, arith, inl, inr}
+use Rattle.std.proofs.Common.{◌≡◌, ℕ, ◌+◌, ◌*◌, ◌^◌, ◌≤◌, true, List, [], ◌∷◌, ◌++◌, length, Option, Some, None, refl}
+use Rattle.std.proofs.Common.{ap, subst, arith, inl, inr}
 use Rattle.std.proofs.lemmas.Bool.{cases_Bool}
 use Rattle.std.proofs.lemmas.List.{length-append}
 use Rattle.krb_der.specs.Spelling.{tlv, length_octets, IsBytes}
@@ -39,14 +40,17 @@ length_bounds n =
 
 pub tlv_short : (tag : ℕ) (contents : List ℕ) → length (tlv tag contents) ≤ length contents + 6
 unfolding tlv
-tlv_short tag contents = omega (arith, length-append (length_octets (length contents)) contents, (length_bounds (length contents)).1)
+tlv_short tag contents =
+    omega (arith, length-append (length_octets (length contents)) contents, (length_bounds (length contents)).1)
 
 pub tlv_long : (tag : ℕ) (contents : List ℕ) → length contents + 2 ≤ length (tlv tag contents)
 unfolding tlv
-tlv_long tag contents = omega (arith, length-append (length_octets (length contents)) contents, (length_bounds (length contents)).0)
+tlv_long tag contents =
+    omega (arith, length-append (length_octets (length contents)) contents, (length_bounds (length contents)).0)
 
 -- what has one spelling is written so
-pub one_short : {A : Type 0} (S : A → List ℕ → Type 0) (tag : ℕ) (text : A → List ℕ) → HasOneSpelling S tag text → IsShort S tag text
+pub one_short : {A : Type 0} (S : A → List ℕ → Type 0) (tag : ℕ) (text : A → List ℕ) → HasOneSpelling S tag text
+    → IsShort S tag text
 one_short S tag text one = record { is = λ x bytes fits s. omega (arith, ap length (one.is x bytes fits s)) }
 
 -- contents that are not empty
@@ -60,38 +64,69 @@ unfolding tlv length_octets
 flags_length bits = refl
 
 pub flags_short : IsShort KerberosFlags 3 flags_text
-flags_short = record { is = λ bits bytes fits s. omega (arith, flags_length bits, ap length s.1.3, tlv_long 3 s.1.0, bits_some s.1.0 s.1.2.passes) }
+flags_short = record {
+  is = λ bits bytes fits s. omega (arith, flags_length bits, ap length s.1.3, tlv_long 3 s.1.0, bits_some s.1.0 s.1.2.passes);
+}
 
 -- the contents, and all that stands in them
-pub inside_short : {A B : Type 0} (tag : ℕ) (G : A → List ℕ → Type 0) (text : A → List ℕ) (from : B → A) → AreShort G text → IsShort (Inside tag (λ y. G (from y))) tag (λ y. text (from y))
+pub inside_short : {A B : Type 0} (tag : ℕ) (G : A → List ℕ → Type 0) (text : A → List ℕ) (from : B → A)
+    → AreShort G text → IsShort (Inside tag (λ y. G (from y))) tag (λ y. text (from y))
 inside_short tag G text from short = record {
-  is = λ y bytes fits s. omega (arith, tlv_short tag (text (from y)), short.are (from y) s.0 (inside_fits tag bytes s.0 fits s.3) s.2, tlv_long tag s.0, ap length s.3);
+  is = λ y bytes fits s. omega (
+    arith,
+    tlv_short tag (text (from y)),
+    short.are (from y) s.0 (inside_fits tag bytes s.0 fits s.3) s.2,
+    tlv_long tag s.0,
+    ap length s.3,
+  );
 }
 
 -- a value round a value
-pub round_short : {A : Type 0} (outer tag : ℕ) (S : A → List ℕ → Type 0) (text : A → List ℕ) → IsShort S tag text → IsShort (Inside outer S) outer (λ x. tlv tag (text x))
+pub round_short : {A : Type 0} (outer tag : ℕ) (S : A → List ℕ → Type 0) (text : A → List ℕ) → IsShort S tag text
+    → IsShort (Inside outer S) outer (λ x. tlv tag (text x))
 round_short outer tag S text short = record {
-  is = λ x bytes fits s. omega (arith, tlv_short outer (tlv tag (text x)), short.is x s.0 (inside_fits outer bytes s.0 fits s.3) s.2, tlv_long outer s.0, ap length s.3);
+  is = λ x bytes fits s. omega (
+    arith,
+    tlv_short outer (tlv tag (text x)),
+    short.is x s.0 (inside_fits outer bytes s.0 fits s.3) s.2,
+    tlv_long outer s.0,
+    ap length s.3,
+  );
 }
 
 pub end_short : AreShort End no_more
 end_short = record { are = λ x bytes fits s. omega arith }
 
-pub field_short : {A B : Type 0} (outer tag : ℕ) (S : A → List ℕ → Type 0) (text : A → List ℕ) (G : B → List ℕ → Type 0) (others : B → List ℕ)
+pub field_short : {A B : Type 0} (outer tag : ℕ) (S : A → List ℕ → Type 0) (text : A → List ℕ) (G : B → List ℕ → Type 0)
+    (others : B → List ℕ)
     → IsShort S tag text → AreShort G others → AreShort (Field outer S G) (field_then outer tag text others)
 field_short outer tag S text G others short all = record {
   are = λ x bytes fits s.
       let both : IsBytes (s.0 ++ s.1) = subst IsBytes s.4 fits in
-      let here : length (field_text outer tag (text x.0)) ≤ 3 * length s.0 = (round_short outer tag S text short).is x.0 s.0 (IsBytes-front s.0 s.1 both) s.2 in
+      let here : length (field_text outer tag (text x.0)) ≤ 3 * length s.0 =
+      (round_short outer tag S text short).is x.0 s.0 (IsBytes-front s.0 s.1 both) s.2 in
       let later : length (others x.1) ≤ 3 * length s.1 = all.are x.1 s.1 (IsBytes-back s.0 s.1 both) s.3 in
-      omega (arith, here, later, length-append (field_text outer tag (text x.0)) (others x.1), ap length s.4, length-append s.0 s.1);
+      omega (
+        arith,
+        here,
+        later,
+        length-append (field_text outer tag (text x.0)) (others x.1),
+        ap length s.4,
+        length-append s.0 s.1,
+      );
 }
 
-each_short : {A B : Type 0} (outer tag : ℕ) (S : A → List ℕ → Type 0) (text : A → List ℕ) (G : B → List ℕ → Type 0) (others : B → List ℕ)
-    → IsShort S tag text → AreShort G others → (o : Option A) (y : B) (bytes : List ℕ) → IsBytes bytes → OptionalOf outer S G o y bytes → length (maybe_text outer tag text o ++ others y) ≤ 3 * length bytes
+each_short : {A B : Type 0} (outer tag : ℕ) (S : A → List ℕ → Type 0) (text : A → List ℕ) (G : B → List ℕ → Type 0)
+    (others : B → List ℕ)
+    → IsShort S tag text → AreShort G others → (o : Option A) (y : B) (bytes : List ℕ) → IsBytes bytes
+    → OptionalOf outer S G o y bytes → length (maybe_text outer tag text o ++ others y) ≤ 3 * length bytes
 each_short outer tag S text G others short all None y bytes fits s = all.are y bytes fits s
-each_short outer tag S text G others short all (Some x) y bytes fits s = (field_short outer tag S text G others short all).are (x, y) bytes fits s
+each_short outer tag S text G others short all (Some x) y bytes fits s =
+    (field_short outer tag S text G others short all).are (x, y) bytes fits s
 
-pub optional_short : {A B : Type 0} (outer tag : ℕ) (S : A → List ℕ → Type 0) (text : A → List ℕ) (G : B → List ℕ → Type 0) (others : B → List ℕ)
+pub optional_short : {A B : Type 0} (outer tag : ℕ) (S : A → List ℕ → Type 0) (text : A → List ℕ)
+    (G : B → List ℕ → Type 0) (others : B → List ℕ)
     → IsShort S tag text → AreShort G others → AreShort (Optional outer S G) (optional_then outer tag text others)
-optional_short outer tag S text G others short all = record { are = λ x bytes fits s. each_short outer tag S text G others short all x.0 x.1 bytes fits s }
+optional_short outer tag S text G others short all = record {
+  are = λ x bytes fits s. each_short outer tag S text G others short all x.0 x.1 bytes fits s;
+}

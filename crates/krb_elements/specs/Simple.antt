@@ -1,5 +1,6 @@
 -- The simple types of Kerberos (RFC 4120, section 5.2): which octets spell them, and how they are read.
-use Rattle.std.specs.Prelude.{◌≡◌, ℕ, ℤ, pos, negsuc, ◌<◌, ◌^◌, int_lt, ◌||◌, not, Bool, IsTrue, List, ◌∷◌, length, Result, unsigned_abs}
+use Rattle.std.specs.Prelude.{◌≡◌, ℕ, ℤ, pos, negsuc, ◌<◌, ◌^◌, int_lt, ◌||◌, not, Bool, IsTrue, List, ◌∷◌, length}
+use Rattle.std.specs.Prelude.{Result, unsigned_abs}
 use Rattle.std.specs.Int.{w32, to_be_bytes}
 use Rattle.krb_der.specs.declared.fault.DerFault.{DerFault}
 use Rattle.krb_der.specs.declared.fault.DerFault.TheVariants.{BadInteger}

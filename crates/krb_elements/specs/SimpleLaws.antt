@@ -1,5 +1,6 @@
 -- The simple types are read where they are spelled.
-use Rattle.std.proofs.Common.{◌≡◌, ℕ, ℤ, pos, negsuc, ◌^◌, ◌<◌, List, [], ◌∷◌, refl, subst, arith, true, w64, FitsSigned}
+use Rattle.std.proofs.Common.{◌≡◌, ℕ, ℤ, pos, negsuc, ◌^◌, ◌<◌, List, [], ◌∷◌, refl, subst, arith, true, w64}
+use Rattle.std.proofs.Common.{FitsSigned}
 use Rattle.std.specs.Prelude.{unsigned_abs}
 use Rattle.krb_der.specs.declared.fault.DerFault.TheVariants.{BadInteger, BadBits, BadTime}
 use Rattle.krb_der.specs.StepLaws.{IsBytes-rest}
@@ -9,7 +10,9 @@ use Rattle.krb_der.specs.Bits.{is_bits, bits_value, first_bits, Bits}
 use Rattle.krb_der.specs.Reading.{int_at, bits_at, time_at}
 use Rattle.krb_der.specs.Time.{is_time, time_value, Time}
 use Rattle.std.proofs.lemmas.Int.{ints}
-use Rattle.krb_elements.specs.Simple.{is_within, Int32, int32_at, UInt32, uint32_at, Microseconds, microseconds_at, Fixed, fixed_at, Octets, octets_at, KerberosString, string_at, first, KerberosFlags, flags_at}
+use Rattle.krb_elements.specs.Simple.{is_within, Int32, int32_at, UInt32, uint32_at, Microseconds, microseconds_at}
+use Rattle.krb_elements.specs.Simple.{Fixed, fixed_at, Octets, octets_at, KerberosString, string_at, first}
+use Rattle.krb_elements.specs.Simple.{KerberosFlags, flags_at}
 use Rattle.krb_elements.specs.Laws.{IsElement, leaf_element, tlv_element, such_ok, seen_ok}
 
 pub int_element : IsElement Int int_at
@@ -66,4 +69,5 @@ first_bits_fit (a ∷ b ∷ c ∷ d ∷ l) fits = omega (arith, fits 0, fits 1, 
 pub flags_fit : (contents : List ℕ) (bits : ℕ × ℕ) → IsBytes contents → bits_value contents ≡ bits → bits.0 < 2 ^ 32
 unfolding bits_value
 flags_fit [] bits fits e = subst (λ (b : ℕ × ℕ). b.0 < 2 ^ 32) e (omega arith)
-flags_fit (unused ∷ octets) bits fits e = subst (λ (b : ℕ × ℕ). b.0 < 2 ^ 32) e (first_bits_fit octets (IsBytes-rest unused octets fits))
+flags_fit (unused ∷ octets) bits fits e =
+    subst (λ (b : ℕ × ℕ). b.0 < 2 ^ 32) e (first_bits_fit octets (IsBytes-rest unused octets fits))

@@ -21,9 +21,11 @@ End x bytes = bytes ≡ []
 
 -- a field with this tag, and then the others
 abbrev pub Field : {A B : Type 0} → ℕ → (A → List ℕ → Type 0) → (B → List ℕ → Type 0) → A × B → List ℕ → Type 0
-Field tag S G x bytes = (front : List ℕ) × (back : List ℕ) × Inside tag S x.0 front × G x.1 back × (bytes ≡ front ++ back)
+Field tag S G x bytes =
+    (front : List ℕ) × (back : List ℕ) × Inside tag S x.0 front × G x.1 back × (bytes ≡ front ++ back)
 
-abbrev pub OptionalOf : {A B : Type 0} → ℕ → (A → List ℕ → Type 0) → (B → List ℕ → Type 0) → Option A → B → List ℕ → Type 0
+abbrev pub OptionalOf : {A B : Type 0} → ℕ → (A → List ℕ → Type 0) → (B → List ℕ → Type 0) → Option A → B → List ℕ
+    → Type 0
 OptionalOf tag S G None y bytes = G y bytes
 OptionalOf tag S G (Some x) y bytes = Field tag S G (x, y) bytes
 
@@ -32,7 +34,8 @@ abbrev pub Sent : {A : Type 0} → (A → List ℕ → Type 0) → WithOctets A 
 Sent S x bytes = S x.value bytes × (x.octets ≡ bytes)
 
 -- a field that may be absent, and then the others
-abbrev pub Optional : {A B : Type 0} → ℕ → (A → List ℕ → Type 0) → (B → List ℕ → Type 0) → Option A × B → List ℕ → Type 0
+abbrev pub Optional : {A B : Type 0} → ℕ → (A → List ℕ → Type 0) → (B → List ℕ → Type 0) → Option A × B → List ℕ
+    → Type 0
 Optional tag S G x bytes = OptionalOf tag S G x.0 x.1 bytes
 
 -- values one after another

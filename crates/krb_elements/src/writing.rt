@@ -96,7 +96,8 @@ pub fn write_optional<T: Encode>(
 /// Appends what is made of a type's fields.
 fn put_made<T: EncodeFields>(out: &mut Writer, value: &T) -> Result<(), AllocError>
     requires { length ((in_tag T.In.TAG (sequence T.form)).text value.now) < 2 ^ 32 }
-    ensures ok { OnOk result (out.new ≡ out.old ++ tlv (in_tag T.In.TAG (sequence T.form)).tag ((in_tag T.In.TAG (sequence T.form)).text value.now)) }
+    ensures ok { OnOk result (out.new ≡ out.old ++ tlv (in_tag T.In.TAG (sequence T.form)).tag
+        ((in_tag T.In.TAG (sequence T.form)).text value.now)) }
     ensures fits { OnOk result ((in_tag T.In.TAG (sequence T.form)).Fits value.now) }
 {
     match T::In::TAG {

@@ -1,7 +1,46 @@
 -- The numbers of the error codes (RFC 4120 section 7.5.9).
 use Rattle.std.specs.Prelude.{ℤ, pos}
 use Rattle.krb_fields.specs.declared.code.Code.{Code}
-use Rattle.krb_fields.specs.declared.code.Code.TheVariants.{KdcErrNameExp, KdcErrServiceExp, KdcErrBadPvno, KdcErrCPrincipalUnknown, KdcErrSPrincipalUnknown, KdcErrCannotPostdate, KdcErrNeverValid, KdcErrPolicy, KdcErrBadoption, KdcErrEtypeNosupp, KdcErrSumtypeNosupp, KdcErrPadataTypeNosupp, KdcErrClientRevoked, KdcErrServiceRevoked, KdcErrTgtRevoked, KdcErrKeyExpired, KdcErrPreauthFailed, KdcErrPreauthRequired, KdcErrServerNomatch, KdcErrSvcUnavailable, KrbApErrBadIntegrity, KrbApErrTktExpired, KrbApErrTktNyv, KrbApErrRepeat, KrbApErrNotUs, KrbApErrBadmatch, KrbApErrSkew, KrbApErrBadaddr, KrbApErrBadversion, KrbApErrMsgType, KrbApErrModified, KrbApErrBadkeyver, KrbApErrNokey, KrbApErrInappCksum, KrbApPathNotAccepted, KrbErrResponseTooBig, KrbErrGeneric, KrbErrFieldToolong}
+use Rattle.krb_fields.specs.declared.code.Code.TheVariants.{
+  KdcErrNameExp,
+  KdcErrServiceExp,
+  KdcErrBadPvno,
+  KdcErrCPrincipalUnknown,
+  KdcErrSPrincipalUnknown,
+  KdcErrCannotPostdate,
+  KdcErrNeverValid,
+  KdcErrPolicy,
+  KdcErrBadoption,
+  KdcErrEtypeNosupp,
+  KdcErrSumtypeNosupp,
+  KdcErrPadataTypeNosupp,
+  KdcErrClientRevoked,
+  KdcErrServiceRevoked,
+  KdcErrTgtRevoked,
+  KdcErrKeyExpired,
+  KdcErrPreauthFailed,
+  KdcErrPreauthRequired,
+  KdcErrServerNomatch,
+  KdcErrSvcUnavailable,
+  KrbApErrBadIntegrity,
+  KrbApErrTktExpired,
+  KrbApErrTktNyv,
+  KrbApErrRepeat,
+  KrbApErrNotUs,
+  KrbApErrBadmatch,
+  KrbApErrSkew,
+  KrbApErrBadaddr,
+  KrbApErrBadversion,
+  KrbApErrMsgType,
+  KrbApErrModified,
+  KrbApErrBadkeyver,
+  KrbApErrNokey,
+  KrbApErrInappCksum,
+  KrbApPathNotAccepted,
+  KrbErrResponseTooBig,
+  KrbErrGeneric,
+  KrbErrFieldToolong,
+}
 
 abbrev pub number_of : Code → ℤ
 number_of KdcErrNameExp = pos 1

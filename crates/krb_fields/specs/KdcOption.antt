@@ -1,7 +1,20 @@
 -- The options of a request to a KDC (RFC 4120 section 5.4.1).
 use Rattle.std.specs.Prelude.{ℕ}
 use Rattle.krb_fields.specs.declared.kdc_option.KdcOption.{KdcOption}
-use Rattle.krb_fields.specs.declared.kdc_option.KdcOption.TheVariants.{Forwardable, Forwarded, Proxiable, Proxy, AllowPostdate, Postdated, Renewable, DisableTransitedCheck, RenewableOk, EncTktInSkey, Renew, Validate}
+use Rattle.krb_fields.specs.declared.kdc_option.KdcOption.TheVariants.{
+  Forwardable,
+  Forwarded,
+  Proxiable,
+  Proxy,
+  AllowPostdate,
+  Postdated,
+  Renewable,
+  DisableTransitedCheck,
+  RenewableOk,
+  EncTktInSkey,
+  Renew,
+  Validate,
+}
 
 -- the number of its bit
 abbrev pub kdc_option_number : KdcOption → ℕ

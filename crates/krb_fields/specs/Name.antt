@@ -31,4 +31,5 @@ same_name a b e = name_exact a b ((Equal-is (name_cmp a b)).0 e)
 
 -- names tie in the order exactly where they are equal
 pub tied_exactly : (a b : Components) → IsTrue (eq_by_cmp name_cmp a b) ↔ (a ≡ b)
-tied_exactly a b = (same_name a b, λ e. subst (λ c. IsTrue (eq_by_cmp name_cmp a c)) e (ap is_eq (tied_itself name_total a)))
+tied_exactly a b =
+    (same_name a b, λ e. subst (λ c. IsTrue (eq_by_cmp name_cmp a c)) e (ap is_eq (tied_itself name_total a)))

@@ -7,9 +7,15 @@ use Rattle.krb_fields.specs.NameLimits.{IsComponent, IsWithinLimits}
 use Rattle.krb_fields.specs.NameLimitsLaws.{component_facts, name_facts}
 use Rattle.krb_fields.specs.PrincipalName.{Name, name, name_form}
 
-components_bounded : (components : List (List ℕ)) → All IsComponent components → most_items length components ≤ 261 * length components
+components_bounded : (components : List (List ℕ)) → All IsComponent components
+    → most_items length components ≤ 261 * length components
 components_bounded [] all = omega arith
-components_bounded (c ∷ cs) all = omega (arith, (component_facts c (All-head IsComponent c cs all)).1, components_bounded cs (All-tail IsComponent c cs all))
+components_bounded (c ∷ cs) all =
+    omega (
+      arith,
+      (component_facts c (All-head IsComponent c cs all)).1,
+      components_bounded cs (All-tail IsComponent c cs all),
+    )
 
 -- how long the text of a name is at most
 pub name_most : (n : Name) → IsWithinLimits n.components → name.most n ≤ 5000

@@ -17,8 +17,10 @@ NameFacts name = (0 < length name) × (length name ≤ 16) × All IsComponent na
 
 pub is_component-decides : (octets : List ℕ) → Decides (is_component octets) (ComponentFacts octets)
 is_component-decides octets = Decides-like _ (λ p. (p.0.0, p.0.1, p.1)) (λ p. ((p.0, p.1), p.2)) (
-    Decides-and _ _ (Decides-and _ _ (Decides-ltb 0 (length octets)) (leb-true (length octets) 255, le-leb (length octets) 255))
-    (Decides-by_and (λ o. nat_lt o 256) _ (list_all (λ o. nat_lt o 256)) (λ o. Decides-ltb o 256) refl (λ _ _. refl) octets))
+    Decides-and _ _ (Decides-and _ _ (Decides-ltb 0 (length octets))
+    (leb-true (length octets) 255, le-leb (length octets) 255))
+    (Decides-by_and (λ o. nat_lt o 256) _ (list_all (λ o. nat_lt o 256)) (λ o. Decides-ltb o 256) refl
+    (λ _ _. refl) octets))
 
 component-decides : (octets : List ℕ) → Decides (is_component octets) (IsComponent octets)
 component-decides octets = (λ e. e, λ e. e)
@@ -49,9 +51,12 @@ some_octets octets e = lt-ltb 0 (length octets) (grind (arith, nat_tests))
 
 below_256 : (octets : List ℕ) → ((i : ℕ) → get_or octets i 0 < 256) → list_all (λ o. nat_lt o 256) octets ≡ true
 below_256 octets below =
-    (Decides-by_and (λ o. nat_lt o 256) (λ o. o < 256) (list_all (λ o. nat_lt o 256)) (λ o. Decides-ltb o 256) refl (λ _ _. refl) octets).1
+    (Decides-by_and (λ o. nat_lt o 256) (λ o. o < 256) (list_all (λ o. nat_lt o 256)) (λ o. Decides-ltb o 256) refl
+    (λ _ _. refl) octets).1
     (All-from_get_or (λ o. o < 256) octets 0 (λ i lt. below i))
 
 -- octets that are not empty are a component by their length alone
-pub by_length : (octets : List ℕ) → ((i : ℕ) → get_or octets i 0 < 256) → (length octets == 0) ≡ false → nat_le (length octets) 255 ≡ is_component octets
-by_length octets below some = rw (some_octets octets some, below_256 octets below) (and_true (nat_le (length octets) 255))
+pub by_length : (octets : List ℕ) → ((i : ℕ) → get_or octets i 0 < 256) → (length octets == 0) ≡ false
+    → nat_le (length octets) 255 ≡ is_component octets
+by_length octets below some =
+    rw (some_octets octets some, below_256 octets below) (and_true (nat_le (length octets) 255))

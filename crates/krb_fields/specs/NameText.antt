@@ -1,5 +1,6 @@
 -- The text of a name.
-use Rattle.std.specs.Prelude.{◌≡◌, ◌==◌, ℕ, ◌+◌, ◌-◌, ◌/◌, ◌%◌, ◌&&◌, not, nat_le, nat_lt, Bool, List, [], ◌∷◌, if◌then◌else◌, map}
+use Rattle.std.specs.Prelude.{◌≡◌, ◌==◌, ℕ, ◌+◌, ◌-◌, ◌/◌, ◌%◌, ◌&&◌, not, nat_le, nat_lt, Bool, List, [], ◌∷◌}
+use Rattle.std.specs.Prelude.{if◌then◌else◌, map}
 use Rattle.std.specs.List.{flat_map, join_with_byte}
 use Rattle.krb_fields.specs.Name.{Components}
 use Rattle.krb_fields.specs.NameLimits.{IsComponent, IsWithinLimits}

@@ -1,7 +1,21 @@
 -- The flags of a ticket (RFC 4120 sections 2 and 5.3).
 use Rattle.std.specs.Prelude.{ℕ}
 use Rattle.krb_fields.specs.declared.ticket_flag.TicketFlag.{TicketFlag}
-use Rattle.krb_fields.specs.declared.ticket_flag.TicketFlag.TheVariants.{Forwardable, Forwarded, Proxiable, Proxy, MayPostdate, Postdated, Invalid, Renewable, Initial, PreAuthent, HwAuthent, TransitedPolicyChecked, OkAsDelegate}
+use Rattle.krb_fields.specs.declared.ticket_flag.TicketFlag.TheVariants.{
+  Forwardable,
+  Forwarded,
+  Proxiable,
+  Proxy,
+  MayPostdate,
+  Postdated,
+  Invalid,
+  Renewable,
+  Initial,
+  PreAuthent,
+  HwAuthent,
+  TransitedPolicyChecked,
+  OkAsDelegate,
+}
 
 -- the number of its bit
 abbrev pub ticket_flag_number : TicketFlag → ℕ

@@ -22,7 +22,11 @@ pub type NameRef<'a> = Name<SeqRef<'a, KerberosStringRef<'a>>>;
 impl Name {
     /// The name of these components.
     pub fn new(alloc: Global, name_type: i32, components: &[&[u8]]) -> Result<Name, AllocError>
-        ensures { IfOk result (λ name. name ≡ record { name_type = name_type; components = map (λ c. c.now) components.now }) }
+        ensures { IfOk result (λ name. name ≡ record {
+          name_type = name_type;
+          components = map
+              (λ c. c.now) components.now;
+        }) }
     {
         let mut owned = Seq::new(alloc);
         for component in components {

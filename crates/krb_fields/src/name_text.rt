@@ -3,10 +3,12 @@
 //! The components are joined by `/`. The octets 21 to 7E (hexadecimal) are written as they are, except
 //! `/`, `\` and `@`; those three and every other octet are written as `\` and two lower case
 //! hexadecimal digits. Nothing else is read, so a name has one text alone.
-ghost use Rattle.std.specs.Prelude.{◌≡◌, ◌≢◌, ◌<◌, ◌++◌, ℕ, List, false, IfOk, IfSome, IfNone, OnOk, MatchResult, pos, string_bytes};
+ghost use Rattle.std.specs.Prelude.{◌≡◌, ◌≢◌, ◌<◌, ◌++◌, ℕ, List, false, IfOk, IfSome, IfNone, OnOk, MatchResult, pos};
+ghost use Rattle.std.specs.Prelude.{string_bytes};
 ghost use Rattle.krb_fields.specs.Name.{Components};
 ghost use Rattle.krb_fields.specs.NameLimits.{IsWithinLimits};
-ghost use Rattle.krb_fields.specs.NameText.{is_plain, hex_digit, digits_of, octet_text, component_text, text_of, IsComponentText, IsNameText};
+ghost use Rattle.krb_fields.specs.NameText.{is_plain, hex_digit, digits_of, octet_text, component_text, text_of};
+ghost use Rattle.krb_fields.specs.NameText.{IsComponentText, IsNameText};
 ghost use Rattle.krb_fields.specs.declared.name_text.NameFault.TheVariants.{Memory};
 
 use crate::Name;

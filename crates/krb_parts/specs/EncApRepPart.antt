@@ -1,6 +1,7 @@
 -- EncAPRepPart (RFC 4120, section 5.5.2).
 use Rattle.std.proofs.Common.{refl}
-use Rattle.krb_elements.specs.Codec.{Codec, Record, field, optional, end, sequence, application, microseconds, time, uint32}
+use Rattle.krb_elements.specs.Codec.{Codec, Record, field, optional, end, sequence, application, microseconds, time}
+use Rattle.krb_elements.specs.Codec.{uint32}
 use Rattle.krb_fields.specs.Typed.{Typed, typed}
 use Rattle.krb_parts.specs.declared.enc_ap_rep_part.EncApRepPart as trees
 
@@ -15,7 +16,8 @@ enc_ap_rep_part_form t = record {
       (optional 2 (λ x. x.subkey) t
       (optional 3 (λ x. x.seq_number) uint32
       end)));
-  to = λ (ctime, (cusec, (subkey, (seq_number, _)))). record { ctime = ctime; cusec = cusec; subkey = subkey; seq_number = seq_number };
+  to = λ (ctime, (cusec, (subkey, (seq_number, _)))).
+      record { ctime = ctime; cusec = cusec; subkey = subkey; seq_number = seq_number };
   there = λ v. refl;
   back = λ x. refl;
   rising = refl;

@@ -27,6 +27,7 @@ pub pa_enc_ts_enc_short : (x : PaEncTsEnc) → length (pa_enc_ts_enc.text x) < 2
 unfolding pa_enc_ts_enc_form
 pa_enc_ts_enc_short x = timestamp_short x.pausec (pa_enc_ts_enc.bounded x)
   where
-    timestamp_short : (o : Option ℕ) → length (pa_enc_ts_enc.text x) ≤ 15 + 12 + (most_maybe (λ n. 8) o + 0) → length (pa_enc_ts_enc.text x) < 2 ^ 32
+    timestamp_short : (o : Option ℕ) → length (pa_enc_ts_enc.text x) ≤ 15 + 12 + (most_maybe (λ n. 8) o + 0)
+        → length (pa_enc_ts_enc.text x) < 2 ^ 32
     timestamp_short None le = omega (arith, le)
     timestamp_short (Some n) le = omega (arith, le)

@@ -86,7 +86,16 @@ impl<S: MakeOwned, N: MakeOwned, T: MakeOwned, L: MakeOwned> MakeOwned
     for Authenticator<S, N, T, L> {
     type Owned = Authenticator<S::Owned, N::Owned, T::Owned, L::Owned>;
 
-    ghost same = { λ x. record { crealm = S.same x.crealm; cname = N.same x.cname; cksum = option_map T.same x.cksum; cusec = x.cusec; ctime = x.ctime; subkey = option_map T.same x.subkey; seq_number = x.seq_number; authorization_data = option_map L.same x.authorization_data } };
+    ghost same = { λ x. record {
+      crealm = S.same x.crealm;
+      cname = N.same x.cname;
+      cksum = option_map T.same x.cksum;
+      cusec = x.cusec;
+      ctime = x.ctime;
+      subkey = option_map T.same x.subkey;
+      seq_number = x.seq_number;
+      authorization_data = option_map L.same x.authorization_data;
+    } };
 
     fn copy(
         &self,

@@ -63,7 +63,12 @@ impl<T: Encode> EncodeFields for EncApRepPart<T> {
 impl<T: MakeOwned> MakeOwned for EncApRepPart<T> {
     type Owned = EncApRepPart<T::Owned>;
 
-    ghost same = { λ x. record { ctime = x.ctime; cusec = x.cusec; subkey = option_map T.same x.subkey; seq_number = x.seq_number } };
+    ghost same = { λ x. record {
+      ctime = x.ctime;
+      cusec = x.cusec;
+      subkey = option_map T.same x.subkey;
+      seq_number = x.seq_number;
+    } };
 
     fn copy(&self, alloc: Global) -> Result<EncApRepPart<T::Owned>, AllocError> {
         Ok(EncApRepPart {

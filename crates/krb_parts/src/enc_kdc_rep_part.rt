@@ -106,7 +106,20 @@ impl<T: MakeOwned, R: MakeOwned, S: MakeOwned, N: MakeOwned, L: MakeOwned> MakeO
     for EncKdcRepPart<T, R, S, N, L> {
     type Owned = EncKdcRepPart<T::Owned, R::Owned, S::Owned, N::Owned, L::Owned>;
 
-    ghost same = { λ x. record { key = T.same x.key; last_req = R.same x.last_req; nonce = x.nonce; key_expiration = x.key_expiration; flags = x.flags; authtime = x.authtime; starttime = x.starttime; endtime = x.endtime; renew_till = x.renew_till; srealm = S.same x.srealm; sname = N.same x.sname; caddr = option_map L.same x.caddr } };
+    ghost same = { λ x. record {
+      key = T.same x.key;
+      last_req = R.same x.last_req;
+      nonce = x.nonce;
+      key_expiration = x.key_expiration;
+      flags = x.flags;
+      authtime = x.authtime;
+      starttime = x.starttime;
+      endtime = x.endtime;
+      renew_till = x.renew_till;
+      srealm = S.same x.srealm;
+      sname = N.same x.sname;
+      caddr = option_map L.same x.caddr;
+    } };
 
     fn copy(
         &self,

@@ -98,7 +98,19 @@ impl<T: MakeOwned, S: MakeOwned, N: MakeOwned, L: MakeOwned> MakeOwned
     for EncTicketPart<T, S, N, L> {
     type Owned = EncTicketPart<T::Owned, S::Owned, N::Owned, L::Owned>;
 
-    ghost same = { λ x. record { flags = x.flags; key = T.same x.key; crealm = S.same x.crealm; cname = N.same x.cname; transited = T.same x.transited; authtime = x.authtime; starttime = x.starttime; endtime = x.endtime; renew_till = x.renew_till; caddr = option_map L.same x.caddr; authorization_data = option_map L.same x.authorization_data } };
+    ghost same = { λ x. record {
+      flags = x.flags;
+      key = T.same x.key;
+      crealm = S.same x.crealm;
+      cname = N.same x.cname;
+      transited = T.same x.transited;
+      authtime = x.authtime;
+      starttime = x.starttime;
+      endtime = x.endtime;
+      renew_till = x.renew_till;
+      caddr = option_map L.same x.caddr;
+      authorization_data = option_map L.same x.authorization_data;
+    } };
 
     fn copy(
         &self,

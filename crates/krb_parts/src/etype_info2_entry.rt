@@ -58,7 +58,11 @@ impl<S: Encode, O: Encode> EncodeFields for EtypeInfo2Entry<S, O> {
 impl<S: MakeOwned, O: MakeOwned> MakeOwned for EtypeInfo2Entry<S, O> {
     type Owned = EtypeInfo2Entry<S::Owned, O::Owned>;
 
-    ghost same = { λ x. record { etype = x.etype; salt = option_map S.same x.salt; s2kparams = option_map O.same x.s2kparams } };
+    ghost same = { λ x. record {
+      etype = x.etype;
+      salt = option_map S.same x.salt;
+      s2kparams = option_map O.same x.s2kparams;
+    } };
 
     fn copy(&self, alloc: Global) -> Result<EtypeInfo2Entry<S::Owned, O::Owned>, AllocError> {
         Ok(EtypeInfo2Entry {

@@ -21,13 +21,15 @@ small_number n lt = grind (arith, ints)
 
 -- a message type, as the number of a tag below 32
 abbrev pub message_type : ℕ → Codec (Unit {0})
-message_type n = fixed (pos (bit_and n 31)) (same_number (bit_and n 31) (mask_lt n 5)) (small_number (bit_and n 31) (mask_lt n 5))
+message_type n =
+    fixed (pos (bit_and n 31)) (same_number (bit_and n 31) (mask_lt n 5)) (small_number (bit_and n 31) (mask_lt n 5))
 
 abbrev pub KdcRep : ℕ → Type 0
 KdcRep type = trees.KdcRep type (List PaData) (List ℕ) Name Ticket EncryptedData
 
 -- pvno and msg-type are fixed, so no value holds them
-unfoldable pub kdc_rep_form : {P S N T E : Type 0} → (type : ℕ) → Codec P → Codec S → Codec N → Codec T → Codec E → Record (trees.KdcRep type P S N T E)
+unfoldable pub kdc_rep_form : {P S N T E : Type 0} → (type : ℕ) → Codec P → Codec S → Codec N → Codec T → Codec E
+    → Record (trees.KdcRep type P S N T E)
 kdc_rep_form type p s n t e = record {
   fields =
       field 0 (λ x. tt) (fixed (pos 5) refl refl)
@@ -38,13 +40,20 @@ kdc_rep_form type p s n t e = record {
       (field 5 (λ x. x.ticket) t
       (field 6 (λ x. x.enc_part) e
       end))))));
-  to = λ (_, (_, (padata, (crealm, (cname, (ticket, (enc_part, _))))))). record { padata = padata; crealm = crealm; cname = cname; ticket = ticket; enc_part = enc_part };
+  to = λ (_, (_, (padata, (crealm, (cname, (ticket, (enc_part, _))))))). record {
+    padata = padata;
+    crealm = crealm;
+    cname = cname;
+    ticket = ticket;
+    enc_part = enc_part;
+  };
   there = λ v. refl;
   back = λ x. refl;
   rising = refl;
 }
 
-abbrev pub kdc_rep_of : {P S N T E : Type 0} → (type : ℕ) → Codec P → Codec S → Codec N → Codec T → Codec E → Codec (trees.KdcRep type P S N T E)
+abbrev pub kdc_rep_of : {P S N T E : Type 0} → (type : ℕ) → Codec P → Codec S → Codec N → Codec T → Codec E
+    → Codec (trees.KdcRep type P S N T E)
 kdc_rep_of type p s n t e = under type (sequence (kdc_rep_form type p s n t e))
 
 abbrev pub kdc_rep : (type : ℕ) → Codec (KdcRep type)

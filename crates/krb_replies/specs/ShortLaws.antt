@@ -13,7 +13,9 @@ use Rattle.krb_types.specs.Ticket.{ticket}
 use Rattle.krb_types.specs.TicketLaws.{ticket_size, ticket_inside}
 use Rattle.krb_replies.specs.KdcRep.{KdcRep, kdc_rep, kdc_rep_form}
 
-ticket_in : (type : ℕ) → IsInside ticket_size (sequence (kdc_rep_form type (list_of pa_data) string name ticket encrypted_data)).Spells (λ (x : KdcRep type). Some x.ticket)
+ticket_in : (type : ℕ) → IsInside ticket_size
+    (sequence (kdc_rep_form type (list_of pa_data) string name ticket encrypted_data)).Spells
+    (λ (x : KdcRep type). Some x.ticket)
 unfolding kdc_rep_form
 ticket_in type =
     let form = kdc_rep_form type (list_of pa_data) string name ticket encrypted_data in
@@ -25,9 +27,11 @@ ticket_in type =
     (past_field ticket_size 164 _ _ (λ y. Some y.0)
     (in_field ticket_size 165 _ _ (λ t. Some t) ticket_inside))))))
 
-ticket_short : (type : ℕ) (x : KdcRep type) (bytes : List ℕ) → IsBytes bytes → (kdc_rep type).Spells x bytes → length (ticket.text x.ticket) < 2 ^ 32
+ticket_short : (type : ℕ) (x : KdcRep type) (bytes : List ℕ) → IsBytes bytes → (kdc_rep type).Spells x bytes
+    → length (ticket.text x.ticket) < 2 ^ 32
 ticket_short type x bytes fits s = omega (arith, s.1, (ticket_in type).is x s.0 (inside_fits _ bytes s.0 fits s.3) s.2)
 
-pub short_if_read : {E : Type 0} (type : ℕ) (r : Result (KdcRep type) E) (bytes : List ℕ) → IsBytes bytes → IfOk r (λ x. (kdc_rep type).Spells x bytes) → IfOk r (λ x. length (ticket.text x.ticket) < 2 ^ 32)
+pub short_if_read : {E : Type 0} (type : ℕ) (r : Result (KdcRep type) E) (bytes : List ℕ) → IsBytes bytes
+    → IfOk r (λ x. (kdc_rep type).Spells x bytes) → IfOk r (λ x. length (ticket.text x.ticket) < 2 ^ 32)
 short_if_read type (Ok x) bytes fits h = ticket_short type x bytes fits h
 short_if_read type (Err e) bytes fits h = tt

@@ -21,9 +21,12 @@ unfolding ticket_form name_form encrypted_data_form
 ticket_one = ticket.laws.one refl
 
 ticket_inside : IsInside size ticket.Spells (λ t. Some t)
-ticket_inside = record { is = λ t bytes fits s. omega (arith, ap length (ticket_one.is t bytes fits s), tlv_longer 97 (ticket.text t)) }
+ticket_inside = record {
+  is = λ t bytes fits s. omega (arith, ap length (ticket_one.is t bytes fits s), tlv_longer 97 (ticket.text t));
+}
 
-in_fields : (type : ℕ) → IsInside size (sequence (kdc_rep_form type (list_of pa_data) string name ticket encrypted_data)).Spells (λ r. Some r.ticket)
+in_fields : (type : ℕ) → IsInside size (sequence
+    (kdc_rep_form type (list_of pa_data) string name ticket encrypted_data)).Spells (λ r. Some r.ticket)
 unfolding kdc_rep_form
 in_fields type =
     let fields = (kdc_rep_form type (list_of pa_data) string name ticket encrypted_data).fields in
@@ -36,7 +39,8 @@ in_fields type =
     (in_field size 165 _ _ (λ t. Some t) ticket_inside))))))
 
 -- the ticket's own octets spell it
-pub ticket_spelled : (type : ℕ) (r : KdcRep type) (bytes : List ℕ) → IsBytes bytes → (kdc_rep type).Spells r bytes → ticket.Spells r.ticket (written ticket r.ticket)
+pub ticket_spelled : (type : ℕ) (r : KdcRep type) (bytes : List ℕ) → IsBytes bytes → (kdc_rep type).Spells r bytes
+    → ticket.Spells r.ticket (written ticket r.ticket)
 unfolding kdc_rep_form
 ticket_spelled type r bytes fits s =
     let within = (in_fields type).is r s.0 (inside_fits _ bytes s.0 fits s.3) s.2 in
@@ -45,5 +49,8 @@ ticket_spelled type r bytes fits s =
     ticket.laws.writable.spells r.ticket range.1.1.1.1.1.0 few
 
 -- and are read to it again
-pub ticket_again : (type : ℕ) (r : KdcRep type) (bytes : List ℕ) → IsBytes bytes → (kdc_rep type).Spells r bytes → whole ticket.at (written ticket r.ticket) ≡ Ok r.ticket
-ticket_again type r bytes fits s = (whole_ok ticket.Spells ticket.at ticket.laws.element.reading).again r.ticket (written ticket r.ticket) (ticket_spelled type r bytes fits s)
+pub ticket_again : (type : ℕ) (r : KdcRep type) (bytes : List ℕ) → IsBytes bytes → (kdc_rep type).Spells r bytes
+    → whole ticket.at (written ticket r.ticket) ≡ Ok r.ticket
+ticket_again type r bytes fits s =
+    (whole_ok ticket.Spells ticket.at ticket.laws.element.reading).again r.ticket (written ticket r.ticket)
+    (ticket_spelled type r bytes fits s)

@@ -121,7 +121,13 @@ impl<const TYPE: u8, P: MakeOwned, S: MakeOwned, N: MakeOwned, T: MakeOwned, E: 
     for KdcRep<TYPE, P, S, N, T, E> {
     type Owned = KdcRep<TYPE, P::Owned, S::Owned, N::Owned, T::Owned, E::Owned>;
 
-    ghost same = { λ x. record { padata = option_map P.same x.padata; crealm = S.same x.crealm; cname = N.same x.cname; ticket = T.same x.ticket; enc_part = E.same x.enc_part } };
+    ghost same = { λ x. record {
+      padata = option_map P.same x.padata;
+      crealm = S.same x.crealm;
+      cname = N.same x.cname;
+      ticket = T.same x.ticket;
+      enc_part = E.same x.enc_part;
+    } };
 
     fn copy(
         &self,
@@ -142,7 +148,8 @@ pub fn read_kdc_rep<const TYPE: u8>(bytes: &[u8]) -> Result<KdcRepRef<'_, TYPE>,
     // What is read is spelled so.
     ensures found { IfOk result (λ reply. (kdc_rep TYPE).Spells reply bytes.now) }
     // What is spelled so is read.
-    ensures only { (reply : trees.KdcRep TYPE) → (kdc_rep TYPE).Spells reply bytes.now → IsOkAnd result (λ found. found ≡ reply) }
+    ensures only { (reply : trees.KdcRep TYPE) → (kdc_rep TYPE).Spells reply bytes.now
+        → IsOkAnd result (λ found. found ≡ reply) }
     // Which fault it is.
     ensures exact { Sees result (whole (kdc_rep TYPE).at bytes.now) }
     // The ticket can be written.

@@ -15,7 +15,20 @@ pub ticket_copied : (t : Ticket) → same_ticket t ≡ t
 ticket_copied t = rw (map_all (λ (x : List ℕ). x) (λ x. refl) t.sname.components) refl
 
 abbrev pub same_body : ReqBody → ReqBody
-same_body b = record { kdc_options = b.kdc_options; cname = option_map same_name b.cname; realm = b.realm; sname = option_map same_name b.sname; from = b.from; till = b.till; rtime = b.rtime; nonce = b.nonce; etype = map (λ x. x) b.etype; addresses = option_map (map (λ x. x)) b.addresses; enc_authorization_data = option_map (λ x. x) b.enc_authorization_data; additional_tickets = option_map (map same_ticket) b.additional_tickets }
+same_body b = record {
+  kdc_options = b.kdc_options;
+  cname = option_map same_name b.cname;
+  realm = b.realm;
+  sname = option_map same_name b.sname;
+  from = b.from;
+  till = b.till;
+  rtime = b.rtime;
+  nonce = b.nonce;
+  etype = map (λ x. x) b.etype;
+  addresses = option_map (map (λ x. x)) b.addresses;
+  enc_authorization_data = option_map (λ x. x) b.enc_authorization_data;
+  additional_tickets = option_map (map same_ticket) b.additional_tickets;
+}
 
 pub body_copied : (b : ReqBody) → same_body b ≡ b
 body_copied b =
@@ -32,7 +45,19 @@ pub data_copied : (o : Option (List PaData)) → option_map (map (λ x. x)) o �
 data_copied o = option_all (map (λ x. x)) (map_all (λ x. x) (λ x. refl)) o
 
 abbrev pub same_error : KrbError → KrbError
-same_error e = record { ctime = e.ctime; cusec = e.cusec; stime = e.stime; susec = e.susec; error_code = e.error_code; crealm = option_map (λ x. x) e.crealm; cname = option_map same_name e.cname; realm = e.realm; sname = same_name e.sname; e_text = option_map (λ x. x) e.e_text; e_data = option_map (λ x. x) e.e_data }
+same_error e = record {
+  ctime = e.ctime;
+  cusec = e.cusec;
+  stime = e.stime;
+  susec = e.susec;
+  error_code = e.error_code;
+  crealm = option_map (λ x. x) e.crealm;
+  cname = option_map same_name e.cname;
+  realm = e.realm;
+  sname = same_name e.sname;
+  e_text = option_map (λ x. x) e.e_text;
+  e_data = option_map (λ x. x) e.e_data;
+}
 
 pub error_copied : (e : KrbError) → same_error e ≡ e
 error_copied e =

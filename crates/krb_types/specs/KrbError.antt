@@ -1,6 +1,7 @@
 -- KRB-ERROR (RFC 4120, section 5.9.1).
 use Rattle.std.proofs.Common.{ℕ, pos, List, refl}
-use Rattle.krb_elements.specs.Codec.{Codec, Record, field, optional, end, sequence, application, int32, microseconds, fixed, time, octets, string}
+use Rattle.krb_elements.specs.Codec.{Codec, Record, field, optional, end, sequence, application, int32, microseconds}
+use Rattle.krb_elements.specs.Codec.{fixed, time, octets, string}
 use Rattle.krb_elements.specs.OneSpellingLaws.{HasOneSpelling}
 use Rattle.krb_fields.specs.PrincipalName.{Name, name, name_form}
 use Rattle.krb_types.specs.declared.krb_error.KrbError as trees
@@ -26,7 +27,19 @@ krb_error_form s n o = record {
       (optional 11 (λ x. x.e_text) s
       (optional 12 (λ x. x.e_data) o
       end))))))))))));
-  to = λ (_, (_, (ctime, (cusec, (stime, (susec, (error_code, (crealm, (cname, (realm, (sname, (e_text, (e_data, _))))))))))))). record { ctime = ctime; cusec = cusec; stime = stime; susec = susec; error_code = error_code; crealm = crealm; cname = cname; realm = realm; sname = sname; e_text = e_text; e_data = e_data };
+  to = λ (_, (_, (ctime, (cusec, (stime, (susec, (error_code, (crealm, (cname, (realm, (sname, (e_text, (e_data, _))))))))))))). record {
+    ctime = ctime;
+    cusec = cusec;
+    stime = stime;
+    susec = susec;
+    error_code = error_code;
+    crealm = crealm;
+    cname = cname;
+    realm = realm;
+    sname = sname;
+    e_text = e_text;
+    e_data = e_data;
+  };
   there = λ v. refl;
   back = λ x. refl;
   rising = refl;

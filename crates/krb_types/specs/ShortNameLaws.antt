@@ -19,9 +19,11 @@ names_short = record {
 }
 
 -- the service that a request names has a text shorter than the request
-pub request_short : (exchange : Exchange) (x : KdcReq) (bytes : List ℕ) → IsBytes bytes → SpellsKdcReq (exchange, x) bytes → IsShorter bytes x.body.sname
+pub request_short : (exchange : Exchange) (x : KdcReq) (bytes : List ℕ) → IsBytes bytes
+    → SpellsKdcReq (exchange, x) bytes → IsShorter bytes x.body.sname
 request_short exchange x bytes fits s = in_request _ names_short exchange x bytes fits s
 
-pub short_if_read : {E : Type 0} (r : Result (Exchange × Received) E) (bytes : List ℕ) → IsBytes bytes → IfOk r (λ x. SpellsReceived x bytes) → IfOk r (λ x. IsShorter bytes x.1.body.value.sname)
+pub short_if_read : {E : Type 0} (r : Result (Exchange × Received) E) (bytes : List ℕ) → IsBytes bytes
+    → IfOk r (λ x. SpellsReceived x bytes) → IfOk r (λ x. IsShorter bytes x.1.body.value.sname)
 short_if_read (Ok x) bytes fits h = request_short x.0 (without_octets x.1) bytes fits (is_request x.0 x.1 bytes h)
 short_if_read (Err e) bytes fits h = tt

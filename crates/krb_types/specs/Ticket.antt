@@ -16,7 +16,8 @@ ticket_form s n e = record {
       (field 2 (λ x. x.sname) n
       (field 3 (λ x. x.enc_part) e
       end)));
-  to = λ (number, (realm, (sname, (enc_part, _)))). record { tkt_vno = number; realm = realm; sname = sname; enc_part = enc_part };
+  to = λ (number, (realm, (sname, (enc_part, _)))).
+      record { tkt_vno = number; realm = realm; sname = sname; enc_part = enc_part };
   there = λ v. refl;
   back = λ x. refl;
   rising = refl;

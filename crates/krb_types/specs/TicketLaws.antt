@@ -16,4 +16,6 @@ ticket_size t = length (ticket.text t) + 1
 
 -- its text is shorter than the octets that spell it
 pub ticket_inside : IsInside ticket_size ticket.Spells (λ t. Some t)
-ticket_inside = record { is = λ t bytes fits s. omega (arith, ap length (ticket_one.is t bytes fits s), tlv_longer 97 (ticket.text t)) }
+ticket_inside = record {
+  is = λ t bytes fits s. omega (arith, ap length (ticket_one.is t bytes fits s), tlv_longer 97 (ticket.text t));
+}

@@ -2,7 +2,8 @@
 ghost use Rattle.std.specs.Prelude.{◌≡◌, ◌<◌, ◌^◌, ◌*◌, length, IfOk, OnOk, IsOkAnd};
 ghost use Rattle.krb_elements.specs.Codec.{itself, sequence, written};
 ghost use Rattle.krb_elements.specs.Format.{Decodes, IsReadUnlessMemory, Sees, whole};
-ghost use Rattle.krb_types.specs.KdcReq.{kdc_req_form, received_form, request_type, message_tag, message, Received, SpellsKdcReq, kdc_req_at, SpellsReceived, received_at, without_octets};
+ghost use Rattle.krb_types.specs.KdcReq.{kdc_req_form, received_form, request_type, message_tag, message, Received};
+ghost use Rattle.krb_types.specs.KdcReq.{SpellsKdcReq, kdc_req_at, SpellsReceived, received_at, without_octets};
 ghost use Rattle.krb_types.specs.KdcReq as trees;
 ghost use Rattle.krb_types.specs.ShortNameLaws.{IsShorter};
 ghost use Rattle.krb_types.specs.declared.kdc_req.Exchange as exchanges;

@@ -89,7 +89,19 @@ impl<S: Encode, N: Encode, O: Encode> EncodeFields for KrbError<S, N, O> {
 impl<S: MakeOwned, N: MakeOwned, O: MakeOwned> MakeOwned for KrbError<S, N, O> {
     type Owned = KrbError<S::Owned, N::Owned, O::Owned>;
 
-    ghost same = { λ x. record { ctime = x.ctime; cusec = x.cusec; stime = x.stime; susec = x.susec; error_code = x.error_code; crealm = option_map S.same x.crealm; cname = option_map N.same x.cname; realm = S.same x.realm; sname = N.same x.sname; e_text = option_map S.same x.e_text; e_data = option_map O.same x.e_data } };
+    ghost same = { λ x. record {
+      ctime = x.ctime;
+      cusec = x.cusec;
+      stime = x.stime;
+      susec = x.susec;
+      error_code = x.error_code;
+      crealm = option_map S.same x.crealm;
+      cname = option_map N.same x.cname;
+      realm = S.same x.realm;
+      sname = N.same x.sname;
+      e_text = option_map S.same x.e_text;
+      e_data = option_map O.same x.e_data;
+    } };
 
     fn copy(&self, alloc: Global) -> Result<KrbError<S::Owned, N::Owned, O::Owned>, AllocError> {
         Ok(KrbError {

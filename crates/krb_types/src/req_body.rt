@@ -119,7 +119,20 @@ impl<S: MakeOwned, N: MakeOwned, L: MakeOwned, A: MakeOwned, E: MakeOwned, T: Ma
     for ReqBody<S, N, L, A, E, T> {
     type Owned = ReqBody<S::Owned, N::Owned, L::Owned, A::Owned, E::Owned, T::Owned>;
 
-    ghost same = { λ x. record { kdc_options = x.kdc_options; cname = option_map N.same x.cname; realm = S.same x.realm; sname = option_map N.same x.sname; from = x.from; till = x.till; rtime = x.rtime; nonce = x.nonce; etype = L.same x.etype; addresses = option_map A.same x.addresses; enc_authorization_data = option_map E.same x.enc_authorization_data; additional_tickets = option_map T.same x.additional_tickets } };
+    ghost same = { λ x. record {
+      kdc_options = x.kdc_options;
+      cname = option_map N.same x.cname;
+      realm = S.same x.realm;
+      sname = option_map N.same x.sname;
+      from = x.from;
+      till = x.till;
+      rtime = x.rtime;
+      nonce = x.nonce;
+      etype = L.same x.etype;
+      addresses = option_map A.same x.addresses;
+      enc_authorization_data = option_map E.same x.enc_authorization_data;
+      additional_tickets = option_map T.same x.additional_tickets;
+    } };
 
     fn copy(
         &self,

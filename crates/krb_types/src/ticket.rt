@@ -60,7 +60,12 @@ impl<S: Encode, N: Encode, E: Encode> EncodeFields for Ticket<S, N, E> {
 impl<S: MakeOwned, N: MakeOwned, E: MakeOwned> MakeOwned for Ticket<S, N, E> {
     type Owned = Ticket<S::Owned, N::Owned, E::Owned>;
 
-    ghost same = { λ x. record { tkt_vno = x.tkt_vno; realm = S.same x.realm; sname = N.same x.sname; enc_part = E.same x.enc_part } };
+    ghost same = { λ x. record {
+      tkt_vno = x.tkt_vno;
+      realm = S.same x.realm;
+      sname = N.same x.sname;
+      enc_part = E.same x.enc_part;
+    } };
 
     fn copy(&self, alloc: Global) -> Result<Ticket<S::Owned, N::Owned, E::Owned>, AllocError> {
         Ok(Ticket {

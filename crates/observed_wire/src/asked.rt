@@ -15,8 +15,8 @@ const GREATEST_REQUEST: u32 = 65_535;
 /// The octets of a length in front of a request.
 const PREFIX: usize = 4;
 
-/// The requests that the last event completed and that have no reply yet, and the streams of the connections. Where memory is
-/// wanting, some requests are not known, and no reply is told with another's.
+/// The requests that the last event completed and that have no reply yet, and the streams of the connections. Where
+/// memory is wanting, some requests are not known, and no reply is told with another's.
 #[derive(Debug, Drop)]
 pub struct Asked {
     /// Who asked at what moment, in the last event that may complete requests.

@@ -6,9 +6,9 @@ use krb_fields::Moment;
 use request_log::Observer;
 use std::alloc::Global;
 
-/// A Wire whose events and actions an observer hears of, if there is one. Each poll and each act is one of the Wire inside, and
-/// has its outcome: what it tells is what that one tells. So a run over it is one over the Wire inside, whatever the observer
-/// does.
+/// A Wire whose events and actions an observer hears of, if there is one. Each poll and each act is one of the Wire
+/// inside, and has its outcome: what it tells is what that one tells. So a run over it is one over the Wire inside,
+/// whatever the observer does.
 #[derive(Drop)]
 pub struct Observed<W, O> {
     wire: W,

@@ -1,9 +1,9 @@
 //! The n-fold of RFC 3961, section 5.1.
 //!
 //! The constants of usages are folded to a block: their copies are numbers, added as they stand. Their length is a
-//! constant, so that the compiler knows how far each copy is turned. Otherwise the copies of the input are never written
-//! down: each of their octets is cut out of the input when it is added. Places in them are `u128`, since there may be more
-//! than a `usize` counts.
+//! constant, so that the compiler knows how far each copy is turned. Otherwise the copies of the input are never
+//! written down: each of their octets is cut out of the input when it is added. Places in them are `u128`, since there
+//! may be more than a `usize` counts.
 
 ghost use Rattle.std.specs.Prelude.{◌≡◌, ◌<◌, ◌≤◌, ◌+◌, ◌*◌, ◌%◌, ◌^◌, length};
 ghost use Rattle.std.specs.Int.{IsGcd};
@@ -34,8 +34,9 @@ pub fn n_fold(input: &[u8], out: &mut [u8])
     }
 }
 
-// The n-fold of a usage's constant to a block, as a number. Under end-around carry 2^128 counts as 1, so that the copies
-// need not be cut into pieces: what stands before a copy is turned left by the copy's bits, and the copy is added.
+// The n-fold of a usage's constant to a block, as a number. Under end-around carry 2^128 counts as 1, so
+// that the copies need not be cut into pieces: what stands before a copy is turned left by the copy's
+// bits, and the copy is added.
 fn fold_to_block(input: &[u8]) -> u128
     requires { length input.now ≡ 5 }
     ensures { octets_of 16 result ≡ n_fold input.now 16 }

@@ -1,8 +1,9 @@
 //! Maps from names.
 //!
-//! Names are compared by their components alone (RFC 4120 section 6.2), so a map has at most one value for all the names
-//! that differ in their name-type.
-ghost use Rattle.std.specs.Prelude.{◌≡◌, T, Bool, false, IfOk, IfErr, IsOk, OnOk, OnErr, IsTrue, option_copied, option_map, slice_get};
+//! Names are compared by their components alone (RFC 4120 section 6.2), so a map has at most one value for all the
+//! names that differ in their name-type.
+ghost use Rattle.std.specs.Prelude.{◌≡◌, T, Bool, false, IfOk, IfErr, IsOk, OnOk, OnErr, IsTrue, option_copied};
+ghost use Rattle.std.specs.Prelude.{option_map, slice_get};
 ghost use Rattle.std.specs.FinMap as map;
 ghost use Rattle.krb_fields.specs.Name.{Components, name_cmp};
 ghost use Rattle.sorted_entries.specs.Entries.{IsAt, IsGap};

@@ -43,7 +43,8 @@ const WORDS: &[(Code, &str)] = &[
     (Code::KrbErrFieldToolong, "field-too-long"),
 ];
 
-/// The word for the error of this number (RFC 4120, section 7.5.9), or `other` for one that no KDC of this repository gives.
+/// The word for the error of this number (RFC 4120, section 7.5.9), or `other` for one that no KDC
+/// of this repository gives.
 pub fn code_word(number: i32) -> &'static str {
     for (code, word) in WORDS {
         if code.number() == number {

@@ -3,8 +3,8 @@ use krb_der::KTime;
 use krb_fields::Moment;
 use std::alloc::{AllocError, Global};
 
-/// How many seconds a ticket lives at most that is asked for from one time to another: no more than the realm grants, and all
-/// of that where the end is zero, which asks for as much as there is (RFC 4120, section 3.1.3).
+/// How many seconds a ticket lives at most that is asked for from one time to another: no more than the realm grants,
+/// and all of that where the end is zero, which asks for as much as there is (RFC 4120, section 3.1.3).
 pub fn asked_life(at: Moment, from: Option<KTime>, till: KTime, greatest: u32) -> u32 {
     let till = till.seconds();
     if till == 0 {

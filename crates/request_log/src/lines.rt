@@ -17,8 +17,8 @@ use std::alloc::{AllocError, Global};
 const TGS_REP: u8 = 13;
 
 /// The line of a request and its reply, with the line feed at its end: the moment in UTC, the peer, the transport, the
-/// exchange, the client, the service, and what came of it. A ticket has the life that was asked for, at most the realm's
-/// `greatest_life` in seconds.
+/// exchange, the client, the service, and what came of it. A ticket has the life that was asked for, at most the
+/// realm's `greatest_life` in seconds.
 pub fn request_line(
     alloc: Global,
     asker: Asker,

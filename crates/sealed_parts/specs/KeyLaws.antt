@@ -11,7 +11,8 @@ use Rattle.sealed_parts.specs.Keys.{key_of}
 abbrev key_by : Etype → List ℕ → Bool → Option Key
 key_by etype bytes size = cond size (Some (record { etype = etype; bytes = bytes })) None
 
-of_type : (etype : Etype) (bytes : List ℕ) → length bytes ≡ key_len etype → key_of (number etype) bytes ≡ Some (record { etype = etype; bytes = bytes })
+of_type : (etype : Etype) (bytes : List ℕ) → length bytes ≡ key_len etype
+    → key_of (number etype) bytes ≡ Some (record { etype = etype; bytes = bytes })
 of_type Aes128CtsHmacSha1_96 bytes size = ap (key_by Aes128CtsHmacSha1_96 bytes) (eq-eqb (length bytes) 16 size)
 of_type Aes256CtsHmacSha1_96 bytes size = ap (key_by Aes256CtsHmacSha1_96 bytes) (eq-eqb (length bytes) 32 size)
 of_type Aes128CtsHmacSha256_128 bytes size = ap (key_by Aes128CtsHmacSha256_128 bytes) (eq-eqb (length bytes) 16 size)

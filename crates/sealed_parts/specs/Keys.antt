@@ -17,7 +17,8 @@ type_numbered n = find (λ e. int_eq (number e) n) all_types
 
 -- a key of the type has so many octets
 abbrev pub key_if : Option Etype → List ℕ → Option Key
-key_if (Some etype) octets = if nat_eq (length octets) (key_len etype) then Some (record { etype = etype; bytes = octets }) else None
+key_if (Some etype) octets =
+    if nat_eq (length octets) (key_len etype) then Some (record { etype = etype; bytes = octets }) else None
 key_if None octets = None
 
 abbrev pub key_of : ℤ → List ℕ → Option Key

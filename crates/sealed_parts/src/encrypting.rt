@@ -19,7 +19,8 @@ pub fn encrypted<T: Encode>(
     part: &T,
 ) -> Result<EncryptedData, AllocError>
     requires { length (T.codec.text part.now) < 2 ^ 32 }
-    ensures value { IfOk result (λ sealed. sealed ≡ encrypted T.codec key.now (usage_number usage) kvno confounder.now part.now) }
+    ensures value { IfOk result (λ sealed. sealed
+        ≡ encrypted T.codec key.now (usage_number usage) kvno confounder.now part.now) }
     ensures opens { IfOk result (λ sealed. decrypted T.codec key.now (usage_number usage) sealed ≡ Some part.now) }
     ensures most { IfOk result (λ sealed. length sealed.cipher ≤ 46 + length (T.codec.text part.now)) }
 {

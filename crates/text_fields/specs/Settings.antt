@@ -1,11 +1,13 @@
 -- Settings of a policy, each with the text that spells it.
-use Rattle.std.specs.Prelude.{◌≡◌, ◌==◌, ℕ, ℤ, pos, ◌<◌, Bool, true, false, List, length, Option, Some, None, codes, bytes_eq, if◌then◌else◌}
+use Rattle.std.specs.Prelude.{◌≡◌, ◌==◌, ℕ, ℤ, pos, ◌<◌, Bool, true, false, List, length, Option, Some, None, codes}
+use Rattle.std.specs.Prelude.{bytes_eq, if◌then◌else◌}
 use Rattle.std.specs.List.{before_first, after_first, position_or_len}
 use Rattle.std.specs.Str.Parse.{IsNumeral, digits_value}
 use Rattle.krb_fields.specs.Moment.{IsSecond}
 use Rattle.principal_rows.specs.declared.policy.Policy.{Policy}
 use Rattle.text_fields.specs.declared.settings.FlagField.{FlagField}
-use Rattle.text_fields.specs.declared.settings.FlagField.TheVariants.{Disabled, Preauth, Forwardable, Proxiable, Postdate, OkAsDelegate}
+use Rattle.text_fields.specs.declared.settings.FlagField.TheVariants.{Disabled, Preauth, Forwardable, Proxiable}
+use Rattle.text_fields.specs.declared.settings.FlagField.TheVariants.{Postdate, OkAsDelegate}
 use Rattle.text_fields.specs.declared.settings.LifeField.{LifeField}
 use Rattle.text_fields.specs.declared.settings.LifeField.TheVariants.{GreatestLife, GreatestRenewable}
 use Rattle.text_fields.specs.declared.settings.TimeField.{TimeField}

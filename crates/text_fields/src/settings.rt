@@ -3,7 +3,8 @@
 ghost use Rattle.std.specs.Prelude.{◌≡◌, ℤ, ℕ, Bool, Option, Some, IfSome, IfNone};
 ghost use Rattle.std.specs.List.{fold};
 ghost use Rattle.principal_rows.specs.declared.policy.Policy as policies;
-ghost use Rattle.text_fields.specs.Settings.{flag_of, life_of, time_of, IsFlagText, IsTimeText, IsSettingOf, IsSettingText, IsDateOf, with_setting};
+ghost use Rattle.text_fields.specs.Settings.{flag_of, life_of, time_of, IsFlagText, IsTimeText, IsSettingOf};
+ghost use Rattle.text_fields.specs.Settings.{IsSettingText, IsDateOf, with_setting};
 ghost use Rattle.text_fields.specs.declared.settings.FlagField as flags;
 ghost use Rattle.text_fields.specs.declared.settings.LifeField as lives;
 ghost use Rattle.text_fields.specs.declared.settings.TimeField as times;
@@ -115,7 +116,8 @@ impl Setting {
         time_setting(name, value)
     }
 
-    /// The field of this name, which is a time, with the date that this text spells. `None` for another name, or no date.
+    /// The field of this name, which is a time, with the date that this text spells. `None` for
+    /// another name, or no date.
     pub fn of_date(name: &str, value: &str) -> Option<Setting>
         ensures read { IfSome result (λ setting. IsDateOf setting name.now value.now) }
         ensures none { IfNone result ((setting : settings.Setting) → ¬ IsDateOf setting name.now value.now) }
@@ -180,21 +182,24 @@ impl fmt::Display for Setting {
 
 fn flag_setting(name: &str, value: &str) -> Option<Setting>
     ensures read { IfSome result (λ setting. IsSettingOf setting name.now value.now) }
-    ensures none { IfNone result ((field : flags.FlagField) (on : Bool) → ¬ IsSettingOf (kinds.Flag field on) name.now value.now) }
+    ensures none { IfNone result ((field : flags.FlagField) (on : Bool)
+        → ¬ IsSettingOf (kinds.Flag field on) name.now value.now) }
 {
     Some(Setting::Flag(flag_field(name)?, flag(value)?))
 }
 
 fn life_setting(name: &str, value: &str) -> Option<Setting>
     ensures read { IfSome result (λ setting. IsSettingOf setting name.now value.now) }
-    ensures none { IfNone result ((field : lives.LifeField) (life : ℕ) → ¬ IsSettingOf (kinds.Life field life) name.now value.now) }
+    ensures none { IfNone result ((field : lives.LifeField) (life : ℕ)
+        → ¬ IsSettingOf (kinds.Life field life) name.now value.now) }
 {
     Some(Setting::Life(life_field(name)?, number_u32(value)?))
 }
 
 fn time_setting(name: &str, value: &str) -> Option<Setting>
     ensures read { IfSome result (λ setting. IsSettingOf setting name.now value.now) }
-    ensures none { IfNone result ((field : times.TimeField) (time : Option ℤ) → ¬ IsSettingOf (kinds.Time field time) name.now value.now) }
+    ensures none { IfNone result ((field : times.TimeField) (time : Option ℤ)
+        → ¬ IsSettingOf (kinds.Time field time) name.now value.now) }
 {
     Some(Setting::Time(time_field(name)?, time(value)?))
 }

@@ -1,7 +1,9 @@
 -- The flags of a ticket (RFC 4120 sections 2, 3.1.3 and 3.3.3).
 use Rattle.std.specs.Prelude.{ℕ, Bool, true, ◌&&◌, ◌||◌, if◌then◌else◌, [], ◌∷◌, is_some}
 use Rattle.krb_fields.specs.Flags.{without_bit}
-use Rattle.krb_fields.specs.declared.ticket_flag.TicketFlag.TheVariants.{Forwardable, Forwarded, Proxiable, Proxy, MayPostdate, Postdated, Invalid, Renewable, Initial, PreAuthent, OkAsDelegate}
+use Rattle.krb_fields.specs.declared.ticket_flag.TicketFlag.TheVariants.{Forwardable, Forwarded, Proxiable, Proxy}
+use Rattle.krb_fields.specs.declared.ticket_flag.TicketFlag.TheVariants.{MayPostdate, Postdated, Invalid, Renewable}
+use Rattle.krb_fields.specs.declared.ticket_flag.TicketFlag.TheVariants.{Initial, PreAuthent, OkAsDelegate}
 use Rattle.krb_fields.specs.TicketFlag.{ticket_flag_number}
 use Rattle.krb_fields.specs.declared.kdc_option.KdcOption as options
 use Rattle.krb_types.specs.ReqBody.{ReqBody}

@@ -4,8 +4,10 @@ ghost use Rattle.std.specs.Option.{unwrap_or};
 ghost use Rattle.krb_der.specs.Civil.{IsCivilSecond};
 ghost use Rattle.krb_fields.specs.Moment.{IsSecond};
 ghost use Rattle.ticket_times.specs.Least.{last_second, least};
-ghost use Rattle.ticket_times.specs.Times.{bound_asked, later, starts_too_late, start_of, end_of, wanted, renewable_until, renew_till_of};
-ghost use Rattle.ticket_times.specs.Times.{IsTimes, valid_times, fresh_times, as_times, kept_renewal, validated_times, lived_again, renewed_ends, renewed_times, tgs_times};
+ghost use Rattle.ticket_times.specs.Times.{bound_asked, later, starts_too_late, start_of, end_of, wanted};
+ghost use Rattle.ticket_times.specs.Times.{renewable_until, renew_till_of};
+ghost use Rattle.ticket_times.specs.Times.{IsTimes, valid_times, fresh_times, as_times, kept_renewal, validated_times};
+ghost use Rattle.ticket_times.specs.Times.{lived_again, renewed_ends, renewed_times, tgs_times};
 
 use crate::TicketTerms;
 use crate::asked::asks;
