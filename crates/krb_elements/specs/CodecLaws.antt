@@ -187,7 +187,8 @@ pub flags_laws : Laws KerberosFlags flags_at 3 flags_text Is32Bits false
 flags_laws = record {
   element = flags_ok;
   range = record {
-    fits = λ bits bytes fits s. subst Is32Bits s.2 (flags_fit s.1.0 s.0 (inside_fits 3 bytes s.1.0 fits s.1.3) s.1.2.stands);
+    fits = λ bits bytes fits s. subst Is32Bits s.2
+        (flags_fit s.1.0 s.0 (inside_fits 3 bytes s.1.0 fits s.1.3) s.1.2.stands);
   };
   writable = record { spells = λ bits fits lt. ((bits, 32), bits_spelled bits fits, refl) };
   short = flags_short;
@@ -248,7 +249,13 @@ list_laws S at tag text Fits has_one laws = record {
     spells = λ xs fit lt. (items_text tag text xs, lt, items_spelled Fits S tag text laws.writable xs fit lt, refl);
   };
   short = record {
-    is = λ xs bytes fits s. omega (arith, tlv_short 48 (items_text tag text xs), items_short S tag text laws.short xs s.0 (inside_fits 48 bytes s.0 fits s.3) s.2, tlv_long 48 s.0, ap length s.3);
+    is = λ xs bytes fits s. omega (
+      arith,
+      tlv_short 48 (items_text tag text xs),
+      items_short S tag text laws.short xs s.0 (inside_fits 48 bytes s.0 fits s.3) s.2,
+      tlv_long 48 s.0,
+      ap length s.3,
+    );
   };
   one = λ e. list_one S tag text (laws.one e);
 }
@@ -410,7 +417,10 @@ sent_laws {A} {B} outer next S at G g others onto Fit have_one rising is all up 
           (field_of_ok outer outer next (Sent S) (sent (whole at)) G (whole g) (omega arith)
           (sent_ok S (whole at) (whole_ok S at is.reading)) rest.fields);
       range = record {
-        fits = λ v bytes fits s. (subst (λ (l : List ℕ). S v.0.value l) (sym s.2.2.1) s.2.2.0, rest.range.fits v.1 s.1 (IsBytes-back s.0 s.1 (subst IsBytes s.4 fits)) s.3);
+        fits = λ v bytes fits s. (
+          subst (λ (l : List ℕ). S v.0.value l) (sym s.2.2.1) s.2.2.0,
+          rest.range.fits v.1 s.1 (IsBytes-back s.0 s.1 (subst IsBytes s.4 fits)) s.3,
+        );
       };
       writable = record {
         spell = λ v fit lt.

@@ -40,7 +40,8 @@ within_one n z e = grind (arith, ints)
 
 pub fixed_one : (n : ℤ) → HasOneSpelling (Fixed n) 2 (fixed_text n)
 fixed_one n = record {
-  is = λ x bytes fits s. int_unique s.0 bytes fits s.1.1 ∙ ap (λ (z : ℤ). tlv 2 (int_octets z)) (within_one n s.0 s.1.0);
+  is = λ x bytes fits s. int_unique s.0 bytes fits s.1.1 ∙ ap
+      (λ (z : ℤ). tlv 2 (int_octets z)) (within_one n s.0 s.1.0);
 }
 
 pub time_one : HasOneSpelling Time 24 time_octets

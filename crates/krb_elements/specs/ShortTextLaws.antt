@@ -65,7 +65,13 @@ flags_length bits = refl
 
 pub flags_short : IsShort KerberosFlags 3 flags_text
 flags_short = record {
-  is = λ bits bytes fits s. omega (arith, flags_length bits, ap length s.1.3, tlv_long 3 s.1.0, bits_some s.1.0 s.1.2.passes);
+  is = λ bits bytes fits s. omega (
+    arith,
+    flags_length bits,
+    ap length s.1.3,
+    tlv_long 3 s.1.0,
+    bits_some s.1.0 s.1.2.passes,
+  );
 }
 
 -- the contents, and all that stands in them
