@@ -9,7 +9,7 @@ use enctypes::{Etype, Key};
 use kdc_core::{Kdc, Opening};
 use krb_fields::{Moment, Name};
 use principal_rows::{KeyList, Limits, Policy};
-use principals::{Change, Database};
+use principals::{Change, Database, RowChange};
 use std::alloc::{AllocError, Global};
 use std::io;
 use std::ops::Range;
@@ -215,9 +215,9 @@ fn client(alloc: Global) -> Option<Change> {
         *octet = place;
     }
     let key = Key::from_random(Etype::Aes256CtsHmacSha1_96, &octets);
-    Some(Change::Add {
+    Some(Change {
         name: name(alloc)?,
-        keys: KeyList::new(alloc, &[key]).ok()?,
+        what: RowChange::Add(KeyList::new(alloc, &[key]).ok()?),
     })
 }
 
@@ -226,8 +226,8 @@ fn policy(alloc: Global, asked: Asked) -> Option<Change> {
         preauth: asked == Asked::AsPreauth,
         ..Policy::default()
     };
-    Some(Change::SetPolicy {
+    Some(Change {
         name: name(alloc)?,
-        policy,
+        what: RowChange::SetPolicy(policy),
     })
 }

@@ -7,7 +7,7 @@ use kdc_core::{Kdc, Opening};
 use krb_elements::KerberosString;
 use krb_fields::Name;
 use principal_rows::{KeyList, Limits, Policy};
-use principals::{Change, Database};
+use principals::{Change, Database, RowChange};
 use std::alloc::Global;
 use std::test::Fail;
 
@@ -51,9 +51,9 @@ fn keys(alloc: Global, key: Key) -> Result<KeyList, Fail> {
 }
 
 fn add(alloc: Global, database: &mut Database, name: Name, key: Key) -> Result<(), Fail> {
-    let change = Change::Add {
+    let change = Change {
         name,
-        keys: keys(alloc, key)?,
+        what: RowChange::Add(keys(alloc, key)?),
     };
     Ok(database.apply(alloc, &change)?)
 }
@@ -64,7 +64,10 @@ fn allow_postdating(alloc: Global, database: &mut Database, name: Name) -> Resul
         postdate: true,
         ..Policy::default()
     };
-    let change = Change::SetPolicy { name, policy };
+    let change = Change {
+        name,
+        what: RowChange::SetPolicy(policy),
+    };
     Ok(database.apply(alloc, &change)?)
 }
 

@@ -8,7 +8,7 @@ use enctypes::Etype;
 use file_store::{Store, has_file, read_or_draw_seed};
 use krb_fields::{Name, component_from_text};
 use principal_rows::KeyList;
-use principals::{Change, ChangeFault, Database};
+use principals::{ChangeFault, Database, RowChange};
 use std::alloc::{AllocError, Global};
 
 pub(crate) fn make_realm<'p, T: Store>(
@@ -41,8 +41,8 @@ pub(crate) fn add<'p, T: Store>(
     let mut database = open_database(alloc, store, db)?;
     let pass = new_password(alloc, store, password, name, database.realm())?;
     let keys = keys_of_password(alloc, &pass, &who, database.realm(), etypes)?;
-    let change = Change::Add { name: who, keys };
-    make_change(alloc, store, db, &mut database, &change)
+    let what = RowChange::Add(keys);
+    make_change(alloc, store, db, &mut database, who, what)
 }
 
 /// Gives a principal the keys of a password, as a new version.
@@ -58,8 +58,8 @@ pub(crate) fn set_password<'p, T: Store>(
     let mut database = open_database(alloc, store, db)?;
     let pass = new_password(alloc, store, password, name, database.realm())?;
     let keys = keys_of_password(alloc, &pass, &who, database.realm(), etypes)?;
-    let change = Change::NewKeys { name: who, keys };
-    make_change(alloc, store, db, &mut database, &change)
+    let what = RowChange::NewKeys(keys);
+    make_change(alloc, store, db, &mut database, who, what)
 }
 
 /// The keys of a password, with the principal's default salt.
@@ -87,12 +87,12 @@ pub(crate) fn give_random_keys<'p, T: Store>(
     let mut database = open_database(alloc, store, db)?;
     let keys = random_keys(alloc, etypes, read_or_draw_seed(alloc, store, seed)?)?;
     let there = database.get(&name).is_some();
-    let made = if there {
-        Change::NewKeys { name, keys }
+    let what = if there {
+        RowChange::NewKeys(keys)
     } else {
-        Change::Add { name, keys }
+        RowChange::Add(keys)
     };
-    make_change(alloc, store, db, &mut database, &made)
+    make_change(alloc, store, db, &mut database, name, what)
 }
 
 pub(crate) fn drop_keys<'p, T: Store>(
@@ -104,8 +104,8 @@ pub(crate) fn drop_keys<'p, T: Store>(
 ) -> Result<(), Stop<'p>> {
     let name = Name::from_text(alloc, name)?;
     let mut database = open_database(alloc, store, db)?;
-    let change = Change::DropKeys { name, version };
-    make_change(alloc, store, db, &mut database, &change)
+    let what = RowChange::DropKeys(version);
+    make_change(alloc, store, db, &mut database, name, what)
 }
 
 pub(crate) fn set_policy<'p, T: Store>(
@@ -125,8 +125,8 @@ pub(crate) fn set_policy<'p, T: Store>(
         return Err(Stop::Usage);
     };
     let policy = setting.on(row.policy);
-    let change = Change::SetPolicy { name, policy };
-    make_change(alloc, store, db, &mut database, &change)
+    let what = RowChange::SetPolicy(policy);
+    make_change(alloc, store, db, &mut database, name, what)
 }
 
 pub(crate) fn remove<'p, T: Store>(
@@ -137,7 +137,7 @@ pub(crate) fn remove<'p, T: Store>(
 ) -> Result<(), Stop<'p>> {
     let name = Name::from_text(alloc, name)?;
     let mut database = open_database(alloc, store, db)?;
-    make_change(alloc, store, db, &mut database, &Change::Remove { name })
+    make_change(alloc, store, db, &mut database, name, RowChange::Remove)
 }
 
 /// Writes what was read, in the version that is written.

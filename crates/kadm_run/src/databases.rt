@@ -1,7 +1,8 @@
 //! The database in its file.
 use crate::stop::Stop;
 use file_store::{Store, lock_file, read_at_most, write_file};
-use principals::{Change, Database, LONGEST_TEXT};
+use krb_fields::Name;
+use principals::{Change, Database, LONGEST_TEXT, RowChange};
 use std::alloc::Global;
 use std::str;
 
@@ -51,14 +52,15 @@ pub(crate) fn write_database<'p, T: Store>(
     Ok(())
 }
 
-/// Makes a change and writes the database; a change that is refused writes nothing.
+/// Changes a principal and writes the database; a change that is refused writes nothing.
 pub(crate) fn make_change<'p, T: Store>(
     alloc: Global,
     store: &mut T,
     db: &'p str,
     database: &mut Database,
-    change: &Change,
+    name: Name,
+    what: RowChange,
 ) -> Result<(), Stop<'p>> {
-    database.apply(alloc, change)?;
+    database.apply(alloc, &Change { name, what })?;
     write_database(alloc, store, db, database)
 }

@@ -25,7 +25,7 @@ use Rattle.kdc_core.proofs.Frame.{database_kept, limits_kept, other_kept}
 use Rattle.kdc_core.specs.AgreementLaws.{names_agree, view_agrees}
 use Rattle.kdc_core.specs.Answer.{answer, answer_to, keep, next_to}
 use Rattle.kdc_core.specs.Run.{after_change, after_event, event_reply, replaced, run, unless_refused}
-use Rattle.kdc_core.specs.Struck.{AgreesFor, IsIsolated, Isolation, Names, NamesWithin, ServicesWithin, is_client, is_left, is_request, is_request_of, principal_of, replies_to, strike}
+use Rattle.kdc_core.specs.Struck.{AgreesFor, IsIsolated, Isolation, Names, NamesWithin, ServicesWithin, is_client, is_left, is_request, is_request_of, replies_to, strike}
 use Rattle.kdc_core.specs.Unaffected.{Unaffected}
 use Rattle.kdc_core.specs.View.{Agrees, named, view}
 use Rattle.kdc_core.specs.declared.run.Event.{Event}
@@ -124,13 +124,13 @@ module _ (c : Components) (S : Names) where
 
   module _ (state other : State) (change : PrincipalChange) (a : AgreesFor c S state other) where
     -- both have the same row of a name that is c or in S
-    same_row : (eq_by_cmp name_cmp c (principal_of change) || S (principal_of change)) ≡ true → map.get other.database.rows (principal_of change) ≡ map.get state.database.rows (principal_of change)
-    same_row left = elim (either (eq_by_cmp name_cmp c (principal_of change)) (S (principal_of change)) left) [
-      | inl same ↦ subst (λ n. map.get other.database.rows n ≡ map.get state.database.rows n) (same_name c (principal_of change) same) a.row
-      | inr within ↦ a.rows (principal_of change) within
+    same_row : (eq_by_cmp name_cmp c change.name.components || S change.name.components) ≡ true → map.get other.database.rows change.name.components ≡ map.get state.database.rows change.name.components
+    same_row left = elim (either (eq_by_cmp name_cmp c change.name.components) (S change.name.components) left) [
+      | inl same ↦ subst (λ n. map.get other.database.rows n ≡ map.get state.database.rows n) (same_name c change.name.components same) a.row
+      | inr within ↦ a.rows change.name.components within
     ]
 
-    changed_alike : map.get other.database.rows (principal_of change) ≡ map.get state.database.rows (principal_of change)
+    changed_alike : map.get other.database.rows change.name.components ≡ map.get state.database.rows change.name.components
         → AgreesFor c S (record state { database = changed state.database change }) (record other { database = changed other.database change })
     changed_alike own = record {
       realm = realm_stays other.database change ∙ a.realm ∙ sym (realm_stays state.database change);
@@ -140,27 +140,27 @@ module _ (c : Components) (S : Names) where
       rows = λ name within. same_row_after state.database other.database change name own (a.rows name within);
     }
 
-    alike_unless : (fault : Option ChangeFault) → map.get other.database.rows (principal_of change) ≡ map.get state.database.rows (principal_of change)
+    alike_unless : (fault : Option ChangeFault) → map.get other.database.rows change.name.components ≡ map.get state.database.rows change.name.components
         → AgreesFor c S (unless_refused fault state (record state { database = changed state.database change })) (unless_refused fault other (record other { database = changed other.database change }))
     alike_unless (Some fault) own = a
     alike_unless None own = changed_alike own
 
     -- a change of such a name is refused in both or in neither, and changes both alike
-    own_change : (eq_by_cmp name_cmp c (principal_of change) || S (principal_of change)) ≡ true → AgreesFor c S (after_change state change) (after_change other change)
+    own_change : (eq_by_cmp name_cmp c change.name.components || S change.name.components) ≡ true → AgreesFor c S (after_change state change) (after_change other change)
     own_change left =
         let own = same_row left in
         let refused : refusal other.database change ≡ refusal state.database change = same_refusal state.database other.database change a.realm own in
         subst (λ fault. AgreesFor c S (after_change state change) (unless_refused fault other (record other { database = changed other.database change }))) (sym refused)
         (alike_unless (refusal state.database change) own)
 
-    apart_from : (name : Components) → IsTrue (S name) → S (principal_of change) ≡ false → eq_by_cmp name_cmp name (principal_of change) ≡ false
-    apart_from name within without = by_test (eq_by_cmp name_cmp name (principal_of change)) refl
+    apart_from : (name : Components) → IsTrue (S name) → S change.name.components ≡ false → eq_by_cmp name_cmp name change.name.components ≡ false
+    apart_from name within without = by_test (eq_by_cmp name_cmp name change.name.components) refl
       where
-        by_test : (b : Bool) → eq_by_cmp name_cmp name (principal_of change) ≡ b → b ≡ false
-        by_test true same = absurd (not_both (S name) within (ap S (same_name name (principal_of change) same) ∙ without))
+        by_test : (b : Bool) → eq_by_cmp name_cmp name change.name.components ≡ b → b ≡ false
+        by_test true same = absurd (not_both (S name) within (ap S (same_name name change.name.components same) ∙ without))
         by_test false apart = refl
 
-    changed_elsewhere : eq_by_cmp name_cmp c (principal_of change) ≡ false → S (principal_of change) ≡ false → AgreesFor c S (record state { database = changed state.database change }) other
+    changed_elsewhere : eq_by_cmp name_cmp c change.name.components ≡ false → S change.name.components ≡ false → AgreesFor c S (record state { database = changed state.database change }) other
     changed_elsewhere apart without = record {
       realm = a.realm ∙ sym (realm_stays state.database change);
       limits = a.limits;
@@ -169,15 +169,15 @@ module _ (c : Components) (S : Names) where
       rows = λ name within. a.rows name within ∙ sym (other_row state.database change name (apart_from name within without));
     }
 
-    elsewhere_unless : (fault : Option ChangeFault) → eq_by_cmp name_cmp c (principal_of change) ≡ false → S (principal_of change) ≡ false
+    elsewhere_unless : (fault : Option ChangeFault) → eq_by_cmp name_cmp c change.name.components ≡ false → S change.name.components ≡ false
         → AgreesFor c S (unless_refused fault state (record state { database = changed state.database change })) other
     elsewhere_unless (Some fault) apart without = a
     elsewhere_unless None apart without = changed_elsewhere apart without
 
     -- a change of another name is struck out
-    other_change : (eq_by_cmp name_cmp c (principal_of change) || S (principal_of change)) ≡ false → AgreesFor c S (after_change state change) other
+    other_change : (eq_by_cmp name_cmp c change.name.components || S change.name.components) ≡ false → AgreesFor c S (after_change state change) other
     other_change struck =
-        let both = neither (eq_by_cmp name_cmp c (principal_of change)) (S (principal_of change)) struck in
+        let both = neither (eq_by_cmp name_cmp c change.name.components) (S change.name.components) struck in
         elsewhere_unless (refusal state.database change) both.0 both.1
 
   -- ---- replacements

@@ -6,8 +6,6 @@ use Rattle.std.specs.FinMap as map
 use Rattle.std.specs.Ordering.{eq_by_cmp}
 use Rattle.krb_fields.specs.Name.{Components, name_cmp}
 use Rattle.principals.specs.Database.{ticket_granter}
-use Rattle.principals.specs.declared.change.Change.{Change as PrincipalChange}
-use Rattle.principals.specs.declared.change.Change.TheVariants.{Add, Remove, NewKeys, DropKeys, SetPolicy}
 use Rattle.kdc_state.specs.State.{memory_of}
 use Rattle.kdc_state.specs.declared.state.State.{State}
 use Rattle.kdc_core.specs.Run.{after_event, event_reply, replies, run}
@@ -18,14 +16,6 @@ use Rattle.kdc_core.specs.declared.run.Event.TheVariants.{Request, Change, Repla
 -- a set of names, as a test
 abbrev pub Names : Type 0
 Names = Components → Bool
-
--- the principal that a change is about
-abbrev pub principal_of : PrincipalChange → Components
-principal_of (Add name keys) = name.components
-principal_of (Remove name) = name.components
-principal_of (NewKeys name keys) = name.components
-principal_of (DropKeys name version) = name.components
-principal_of (SetPolicy name policy) = name.components
 
 -- whether this client is named
 abbrev pub is_client : Components → Option Components → Bool
@@ -51,7 +41,7 @@ is_request_of c state (Reopen database limits at) = false
 -- of S, and each replacement and restart
 abbrev pub is_left : Components → Names → State → Event → Bool
 is_left c S state (Request at random room request) = is_client c (named state request).client
-is_left c S state (Change change) = eq_by_cmp name_cmp c (principal_of change) || S (principal_of change)
+is_left c S state (Change change) = eq_by_cmp name_cmp c change.name.components || S change.name.components
 is_left c S state (Replace database) = true
 is_left c S state (Restart at) = true
 is_left c S state (Reopen database limits at) = true

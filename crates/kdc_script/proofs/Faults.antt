@@ -7,10 +7,10 @@ use Rattle.enctypes.specs.declared.key.Key.{Key}
 use Rattle.principal_rows.specs.declared.limits.Limits.{Limits}
 use Rattle.kdc_state.specs.declared.state.State.{State}
 use Rattle.kdc_script.specs.declared.line.Line.{Line}
-use Rattle.kdc_script.specs.declared.line.Line.TheVariants.{Open, Add, NewKeys, DropKeys, Remove, SetPolicy, Request, Restart}
+use Rattle.kdc_script.specs.declared.line.Line.TheVariants.{Open, Change, Request, Restart}
 use Rattle.kdc_script.specs.Line.{word_of, AreFields, AreLineFields, AreOpenFields, IsLineText}
 use Rattle.kdc_script.specs.Run.{CannotRun}
-use Rattle.kdc_script.proofs.LineTexts.{apart}
+use Rattle.kdc_script.proofs.LineTexts.{apart, no_change}
 
 -- an opening's realm is the text of a component
 realm_of_open : (realm : List ℕ) (limits : Limits) (keys : List Key) (texts : List (List ℕ)) → AreOpenFields realm limits keys texts → IsComponent realm
@@ -27,33 +27,21 @@ realm_of_open realm limits keys (a ∷ b ∷ c ∷ d ∷ e ∷ f ∷ g ∷ h ∷
 -- with a KDC, each line that has fields can run
 runs_when_open : (kdc : State) (line : Line) (texts : List (List ℕ)) → AreFields line texts → ¬ CannotRun (Some kdc) line
 runs_when_open kdc (Open realm limits keys) texts are cannot = cannot (realm_of_open realm limits keys texts are)
-runs_when_open kdc (Add name keys) texts are cannot = cannot
-runs_when_open kdc (NewKeys name keys) texts are cannot = cannot
-runs_when_open kdc (DropKeys name version) texts are cannot = cannot
-runs_when_open kdc (Remove name) texts are cannot = cannot
-runs_when_open kdc (SetPolicy name setting) texts are cannot = cannot
+runs_when_open kdc (Change name what) texts are cannot = cannot
 runs_when_open kdc (Request request) texts are cannot = cannot
 runs_when_open kdc (Restart at) texts are cannot = cannot
 
 -- with none, an opening can
 opens : (line : Line) (texts : List (List ℕ)) → AreFields line texts → CannotRun None line → ¬ (word_of line ≡ codes "open")
 opens (Open realm limits keys) texts are cannot is = cannot (realm_of_open realm limits keys texts are)
-opens (Add name keys) texts are cannot is = apart _ _ refl is
-opens (NewKeys name keys) texts are cannot is = apart _ _ refl is
-opens (DropKeys name version) texts are cannot is = apart _ _ refl is
-opens (Remove name) texts are cannot is = apart _ _ refl is
-opens (SetPolicy name setting) texts are cannot is = apart _ _ refl is
+opens (Change name what) texts are cannot is = no_change _ refl what (sym is)
 opens (Request request) texts are cannot is = apart _ _ refl is
 opens (Restart at) texts are cannot is = apart _ _ refl is
 
 -- and no other line
 only_opens : (line : Line) → ¬ (word_of line ≡ codes "open") → CannotRun None line
 only_opens (Open realm limits keys) other = absurd (other refl)
-only_opens (Add name keys) other = tt
-only_opens (NewKeys name keys) other = tt
-only_opens (DropKeys name version) other = tt
-only_opens (Remove name) other = tt
-only_opens (SetPolicy name setting) other = tt
+only_opens (Change name what) other = tt
 only_opens (Request request) other = tt
 only_opens (Restart at) other = tt
 

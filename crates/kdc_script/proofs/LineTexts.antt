@@ -1,14 +1,17 @@
 -- The fields of a line, one by one.
-use Rattle.std.proofs.Common.{◌≡◌, ℕ, false, List, [], ◌∷◌, get_or, map, codes, refl, sym, subst, ◌∙◌, Bor, bytes_eq, true≢false}
+use Rattle.std.proofs.Common.{◌≡◌, ℕ, Bool, true, false, ◌||◌, List, [], ◌∷◌, get_or, map, codes, refl, ap, sym, subst, ◌∙◌}
+use Rattle.std.proofs.Common.{Bor, bytes_eq, true≢false}
 use Rattle.std.proofs.lemmas.Slice.Eq.{bytes_eq-Decides}
 use Rattle.enctypes.specs.declared.key.Key.{Key}
 use Rattle.principal_rows.specs.declared.limits.Limits.{Limits}
 use Rattle.krb_fields.specs.NameText.{IsComponentText}
 use Rattle.kdc_script.specs.declared.line.Line.{Line}
-use Rattle.kdc_script.specs.declared.line.Line.TheVariants.{Open, Add, NewKeys, DropKeys, Remove, SetPolicy, Request, Restart}
+use Rattle.kdc_script.specs.declared.line.Line.TheVariants.{Open, Change, Request, Restart}
+use Rattle.kdc_script.specs.declared.line.LineChange.{LineChange}
+use Rattle.kdc_script.specs.declared.line.LineChange.TheVariants.{Add, NewKeys, DropKeys, Remove, Set}
 use Rattle.kdc_script.specs.declared.line.Request as requests
 use Rattle.kdc_script.specs.Field.{AreLimitsTexts, IsOctetsText, IsKeysText}
-use Rattle.kdc_script.specs.Line.{word_of, AreOpenFields, AreRequestFields, AreLineFields}
+use Rattle.kdc_script.specs.Line.{change_word, word_of, AreOpenFields, AreRequestFields, AreLineFields}
 
 -- what stands in the fields of a slice
 abbrev pub texts_of : List (Bor (List ℕ)) → List (List ℕ)
@@ -20,24 +23,32 @@ apart v w other same = true≢false (sym ((bytes_eq-Decides v w).1 same) ∙ oth
 
 -- ---- which line a word is of
 
+abbrev is_change_word : List ℕ → Bool
+is_change_word word =
+    bytes_eq word (codes "add") || bytes_eq word (codes "keys") || bytes_eq word (codes "drop")
+    || bytes_eq word (codes "remove") || bytes_eq word (codes "policy")
+
+each_change : (what : LineChange) → is_change_word (change_word what) ≡ true
+each_change (Add keys) = refl
+each_change (NewKeys keys) = refl
+each_change (DropKeys version) = refl
+each_change Remove = refl
+each_change (Set setting) = refl
+
+-- another word is that of no change
+pub no_change : (word : List ℕ) → is_change_word word ≡ false → (what : LineChange) → word ≡ change_word what → ⊥
+no_change word other what is = true≢false (sym (each_change what) ∙ ap is_change_word (sym is) ∙ other)
+
 open_line : (line : Line) (texts : List (List ℕ)) → AreLineFields line (codes "open" ∷ texts) → (realm : List ℕ) × (limits : Limits) × (keys : List Key) × AreOpenFields realm limits keys texts
 open_line (Open realm limits keys) texts is = (realm, limits, keys, is.1)
-open_line (Add name keys) texts is = absurd (apart _ _ refl is.0)
-open_line (NewKeys name keys) texts is = absurd (apart _ _ refl is.0)
-open_line (DropKeys name version) texts is = absurd (apart _ _ refl is.0)
-open_line (Remove name) texts is = absurd (apart _ _ refl is.0)
-open_line (SetPolicy name setting) texts is = absurd (apart _ _ refl is.0)
+open_line (Change name what) texts is = absurd (no_change _ refl what is.0)
 open_line (Request request) texts is = absurd (apart _ _ refl is.0)
 open_line (Restart at) texts is = absurd (apart _ _ refl is.0)
 
 request_line : (line : Line) (texts : List (List ℕ)) → AreLineFields line (codes "request" ∷ texts) → (request : requests.Request) × AreRequestFields request texts
 request_line (Request request) texts is = (request, is.1)
 request_line (Open realm limits keys) texts is = absurd (apart _ _ refl is.0)
-request_line (Add name keys) texts is = absurd (apart _ _ refl is.0)
-request_line (NewKeys name keys) texts is = absurd (apart _ _ refl is.0)
-request_line (DropKeys name version) texts is = absurd (apart _ _ refl is.0)
-request_line (Remove name) texts is = absurd (apart _ _ refl is.0)
-request_line (SetPolicy name setting) texts is = absurd (apart _ _ refl is.0)
+request_line (Change name what) texts is = absurd (no_change _ refl what is.0)
 request_line (Restart at) texts is = absurd (apart _ _ refl is.0)
 
 -- ---- the fields behind the word
@@ -84,12 +95,15 @@ pub other_word : (fields rest : List (Bor (List ℕ))) (word : Bor (List ℕ)) �
 other_word fields rest word e not_open not_add not_keys not_drop not_remove not_policy not_request not_restart line are =
     at line (subst (λ (fs : List (Bor (List ℕ))). AreLineFields line (texts_of fs)) e are).0
   where
+    at_change : (what : LineChange) → word.now ≡ change_word what → ⊥
+    at_change (Add keys) is = not_add is
+    at_change (NewKeys keys) is = not_keys is
+    at_change (DropKeys version) is = not_drop is
+    at_change Remove is = not_remove is
+    at_change (Set setting) is = not_policy is
+
     at : (line : Line) → word.now ≡ word_of line → ⊥
     at (Open realm limits keys) is = not_open is
-    at (Add name keys) is = not_add is
-    at (NewKeys name keys) is = not_keys is
-    at (DropKeys name version) is = not_drop is
-    at (Remove name) is = not_remove is
-    at (SetPolicy name setting) is = not_policy is
+    at (Change name what) is = at_change what is
     at (Request request) is = not_request is
     at (Restart moment) is = not_restart is

@@ -23,7 +23,8 @@ pub record IsMomentText (at : Moment) (sec_text usec_text : List ℕ) : Type 0 w
 -- the limits are five numbers; from 1 to 65536 authenticators are remembered
 abbrev pub AreLimitsTexts : Limits → List (List ℕ) → Type 0
 AreLimitsTexts limits (remembered ∷ lock_after ∷ lock_seconds ∷ life ∷ renewable ∷ []) =
-    IsU32Text limits.remembered remembered × IsU32Text limits.lock_after lock_after × IsU32Text limits.lock_seconds lock_seconds
+    IsU32Text limits.remembered remembered × IsU32Text limits.lock_after lock_after
+    × IsU32Text limits.lock_seconds lock_seconds
     × IsU32Text limits.greatest_life life × IsU32Text limits.greatest_renewable renewable
     × (1 ≤ limits.remembered) × (limits.remembered ≤ 65536)
 AreLimitsTexts limits texts = ⊥

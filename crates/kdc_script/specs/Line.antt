@@ -10,7 +10,9 @@ use Rattle.enctypes.specs.declared.key.Key.{Key}
 use Rattle.principal_rows.specs.declared.limits.Limits.{Limits}
 use Rattle.kdc_script.specs.declared.line.Line.{Line}
 use Rattle.kdc_script.specs.declared.line.Request as requests
-use Rattle.kdc_script.specs.declared.line.Line.TheVariants.{Open, Add, NewKeys, DropKeys, Remove, SetPolicy, Request, Restart}
+use Rattle.kdc_script.specs.declared.line.Line.TheVariants.{Open, Change, Request, Restart}
+use Rattle.kdc_script.specs.declared.line.LineChange.{LineChange}
+use Rattle.kdc_script.specs.declared.line.LineChange.TheVariants.{Add, NewKeys, DropKeys, Remove, Set}
 use Rattle.text_fields.specs.declared.settings.Setting.{Setting}
 use Rattle.text_fields.specs.Numbers.{IsU32Text}
 use Rattle.text_fields.specs.Settings.{IsSettingText}
@@ -21,21 +23,26 @@ abbrev pub IsNameTextOrNone : Option Name → List ℕ → Type 0
 IsNameTextOrNone (Some name) text = IsNameText name.components text × (name.name_type ≡ pos 1)
 IsNameTextOrNone None text = (name : Components) → ¬ IsNameText name text
 
+abbrev pub change_word : LineChange → List ℕ
+change_word (Add keys) = codes "add"
+change_word (NewKeys keys) = codes "keys"
+change_word (DropKeys version) = codes "drop"
+change_word Remove = codes "remove"
+change_word (Set setting) = codes "policy"
+
 -- the word that says what a line does
 abbrev pub word_of : Line → List ℕ
 word_of (Open realm limits keys) = codes "open"
-word_of (Add name keys) = codes "add"
-word_of (NewKeys name keys) = codes "keys"
-word_of (DropKeys name version) = codes "drop"
-word_of (Remove name) = codes "remove"
-word_of (SetPolicy name setting) = codes "policy"
+word_of (Change name what) = change_word what
 word_of (Request request) = codes "request"
 word_of (Restart at) = codes "restart"
 
 -- the fields behind it
 abbrev pub AreOpenFields : List ℕ → Limits → List Key → List (List ℕ) → Type 0
-AreOpenFields realm limits keys (realm_text ∷ remembered ∷ lock_after ∷ lock_seconds ∷ life ∷ renewable ∷ keys_text ∷ []) =
-    IsComponentText realm realm_text × AreLimitsTexts limits (remembered ∷ lock_after ∷ lock_seconds ∷ life ∷ renewable ∷ [])
+AreOpenFields realm limits keys
+    (realm_text ∷ remembered ∷ lock_after ∷ lock_seconds ∷ life ∷ renewable ∷ keys_text ∷ []) =
+    IsComponentText realm realm_text
+    × AreLimitsTexts limits (remembered ∷ lock_after ∷ lock_seconds ∷ life ∷ renewable ∷ [])
     × IsKeysText keys keys_text
 AreOpenFields realm limits keys texts = ⊥
 
@@ -44,7 +51,8 @@ AreKeysFields name keys (name_text ∷ keys_text ∷ []) = IsNameTextOrNone name
 AreKeysFields name keys texts = ⊥
 
 abbrev pub AreDropFields : Option Name → ℕ → List (List ℕ) → Type 0
-AreDropFields name version (name_text ∷ version_text ∷ []) = IsNameTextOrNone name name_text × IsU32Text version version_text
+AreDropFields name version (name_text ∷ version_text ∷ []) =
+    IsNameTextOrNone name name_text × IsU32Text version version_text
 AreDropFields name version texts = ⊥
 
 abbrev pub AreRemoveFields : Option Name → List (List ℕ) → Type 0
@@ -52,8 +60,16 @@ AreRemoveFields name (name_text ∷ []) = IsNameTextOrNone name name_text
 AreRemoveFields name texts = ⊥
 
 abbrev pub ArePolicyFields : Option Name → Setting → List (List ℕ) → Type 0
-ArePolicyFields name setting (name_text ∷ setting_text ∷ []) = IsNameTextOrNone name name_text × IsSettingText setting setting_text
+ArePolicyFields name setting (name_text ∷ setting_text ∷ []) =
+    IsNameTextOrNone name name_text × IsSettingText setting setting_text
 ArePolicyFields name setting texts = ⊥
+
+abbrev pub AreChangeFields : Option Name → LineChange → List (List ℕ) → Type 0
+AreChangeFields name (Add keys) texts = AreKeysFields name keys texts
+AreChangeFields name (NewKeys keys) texts = AreKeysFields name keys texts
+AreChangeFields name (DropKeys version) texts = AreDropFields name version texts
+AreChangeFields name Remove texts = AreRemoveFields name texts
+AreChangeFields name (Set setting) texts = ArePolicyFields name setting texts
 
 abbrev pub AreRequestFields : requests.Request → List (List ℕ) → Type 0
 AreRequestFields request (sec ∷ usec ∷ random ∷ room ∷ octets ∷ []) =
@@ -68,11 +84,7 @@ AreRestartFields at texts = ⊥
 
 abbrev pub AreFields : Line → List (List ℕ) → Type 0
 AreFields (Open realm limits keys) texts = AreOpenFields realm limits keys texts
-AreFields (Add name keys) texts = AreKeysFields name keys texts
-AreFields (NewKeys name keys) texts = AreKeysFields name keys texts
-AreFields (DropKeys name version) texts = AreDropFields name version texts
-AreFields (Remove name) texts = AreRemoveFields name texts
-AreFields (SetPolicy name setting) texts = ArePolicyFields name setting texts
+AreFields (Change name what) texts = AreChangeFields name what texts
 AreFields (Request request) texts = AreRequestFields request texts
 AreFields (Restart at) texts = AreRestartFields at texts
 

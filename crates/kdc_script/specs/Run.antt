@@ -6,8 +6,9 @@ use Rattle.krb_fields.specs.NameLimits.{IsComponent}
 use Rattle.principal_rows.specs.Policy.{default_policy}
 use Rattle.principal_rows.specs.declared.policy.Policy.{Policy}
 use Rattle.principal_rows.specs.declared.row.Row.{Row}
-use Rattle.principals.specs.declared.change.Change.{Change}
-use Rattle.principals.specs.declared.change.Change.TheVariants as changes
+use Rattle.principals.specs.declared.change.Change.{Change as PrincipalChange}
+use Rattle.principals.specs.declared.change.RowChange.{RowChange}
+use Rattle.principals.specs.declared.change.RowChange.TheVariants as changes
 use Rattle.principals.specs.declared.change.ChangeFault.{ChangeFault}
 use Rattle.principals.specs.declared.change.ChangeFault.TheVariants.{BadName}
 use Rattle.principals.specs.Change.{refusal, changed}
@@ -18,7 +19,6 @@ use Rattle.kdc_state.specs.State.{opened, restarted}
 use Rattle.kdc_core.specs.View.{view}
 use Rattle.kdc_core.specs.Answer.{answer, next}
 use Rattle.text_fields.specs.Settings.{with_setting}
-use Rattle.text_fields.specs.declared.settings.Setting.{Setting}
 use Rattle.kdc_script.specs.declared.answer.Answer.{Answer}
 use Rattle.kdc_script.specs.declared.answer.Answer.TheVariants.{Done, Refused, Reply, NoReply}
 use Rattle.kdc_script.specs.declared.line.LineFault.{LineFault}
@@ -26,7 +26,9 @@ use Rattle.kdc_script.specs.declared.line.LineFault.TheVariants.{Form, Memory}
 use Rattle.kdc_script.specs.declared.run.Stop.{Stop}
 use Rattle.kdc_script.specs.declared.run.Stop.TheVariants.{Fault, Failed}
 use Rattle.kdc_script.specs.declared.line.Line.{Line}
-use Rattle.kdc_script.specs.declared.line.Line.TheVariants.{Open, Add, NewKeys, DropKeys, Remove, SetPolicy, Request, Restart}
+use Rattle.kdc_script.specs.declared.line.Line.TheVariants.{Open, Change, Request, Restart}
+use Rattle.kdc_script.specs.declared.line.LineChange.{LineChange}
+use Rattle.kdc_script.specs.declared.line.LineChange.TheVariants.{Add, NewKeys, DropKeys, Remove, Set}
 
 -- a line of another form is a fault
 abbrev pub stop_of : LineFault → Stop
@@ -40,8 +42,9 @@ IsReply NoReply None = Unit {0}
 IsReply printed reply = ⊥
 
 -- a change is done, or refused for this reason, and then the KDC is as before
-abbrev pub Changes : State → Change → Option ChangeFault → Option State → Answer → Type 0
-Changes kdc change None after printed = (after ≡ Some (record kdc { database = changed kdc.database change })) × (printed ≡ Done)
+abbrev pub Changes : State → PrincipalChange → Option ChangeFault → Option State → Answer → Type 0
+Changes kdc change None after printed =
+    (after ≡ Some (record kdc { database = changed kdc.database change })) × (printed ≡ Done)
 Changes kdc change (Some fault) after printed = (after ≡ Some kdc) × (printed ≡ Refused fault)
 
 -- a change of what has no name is refused
@@ -53,32 +56,29 @@ abbrev pub policy_of : Option Row → Policy
 policy_of None = default_policy
 policy_of (Some row) = row.policy
 
--- a name's policy, with a field set
-abbrev pub policy_change : State → Name → Setting → Change
-policy_change kdc name setting = changes.SetPolicy name (with_setting setting (policy_of (get kdc.database.rows name.components)))
+-- what becomes of the row of a name; the fields of its policy that a line doesn't set stay
+abbrev pub row_change : State → Name → LineChange → RowChange
+row_change kdc name (Add keys) = changes.Add keys
+row_change kdc name (NewKeys keys) = changes.NewKeys keys
+row_change kdc name (DropKeys version) = changes.DropKeys version
+row_change kdc name Remove = changes.Remove
+row_change kdc name (Set setting) =
+    changes.SetPolicy (with_setting setting (policy_of (get kdc.database.rows name.components)))
+
+abbrev pub change_of : State → Name → LineChange → PrincipalChange
+change_of kdc name what = record { name = name; what = row_change kdc name what }
 
 -- the KDC before a line, if one was opened, and after it, and what the line prints
 abbrev pub Runs : Option State → Line → Option State → Answer → Type 0
 Runs before (Open realm limits keys) after printed =
     (after ≡ Some (opened (first_database realm keys) limits First)) × (printed ≡ Done)
-Runs (Some kdc) (Add (Some name) keys) after printed =
-    Changes kdc (changes.Add name keys) (refusal kdc.database (changes.Add name keys)) after printed
-Runs (Some kdc) (Add None keys) after printed = IsNotNamed kdc after printed
-Runs (Some kdc) (NewKeys (Some name) keys) after printed =
-    Changes kdc (changes.NewKeys name keys) (refusal kdc.database (changes.NewKeys name keys)) after printed
-Runs (Some kdc) (NewKeys None keys) after printed = IsNotNamed kdc after printed
-Runs (Some kdc) (DropKeys (Some name) version) after printed =
-    Changes kdc (changes.DropKeys name version) (refusal kdc.database (changes.DropKeys name version)) after printed
-Runs (Some kdc) (DropKeys None version) after printed = IsNotNamed kdc after printed
-Runs (Some kdc) (Remove (Some name)) after printed =
-    Changes kdc (changes.Remove name) (refusal kdc.database (changes.Remove name)) after printed
-Runs (Some kdc) (Remove None) after printed = IsNotNamed kdc after printed
-Runs (Some kdc) (SetPolicy (Some name) setting) after printed =
-    Changes kdc (policy_change kdc name setting) (refusal kdc.database (policy_change kdc name setting)) after printed
-Runs (Some kdc) (SetPolicy None setting) after printed = IsNotNamed kdc after printed
+Runs (Some kdc) (Change (Some name) what) after printed =
+    Changes kdc (change_of kdc name what) (refusal kdc.database (change_of kdc name what)) after printed
+Runs (Some kdc) (Change None what) after printed = IsNotNamed kdc after printed
 Runs (Some kdc) (Request request) after printed =
     (after ≡ Some (next kdc request.at request.random request.room request.octets.items))
-    × IsReply printed (answer (view kdc request.octets.items) request.at request.random request.room request.octets.items).reply
+    × IsReply printed
+    (answer (view kdc request.octets.items) request.at request.random request.room request.octets.items).reply
 Runs (Some kdc) (Restart at) after printed = (after ≡ Some (restarted kdc at)) × (printed ≡ Done)
 Runs None line after printed = ⊥
 

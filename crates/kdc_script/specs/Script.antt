@@ -1,5 +1,6 @@
 -- A script: the lines of an input, run one after the other.
-use Rattle.std.specs.Prelude.{◌≡◌, ◌≢◌, ℕ, ◌+◌, ◌≤◌, ◌==◌, if◌then◌else◌, ◌⊎◌, List, [], ◌∷◌, ◌++◌, length, Option, None, codes, decimal}
+use Rattle.std.specs.Prelude.{◌≡◌, ◌≢◌, ℕ, ◌+◌, ◌≤◌, ◌==◌, if◌then◌else◌, ◌⊎◌, List, [], ◌∷◌, ◌++◌, length, Option}
+use Rattle.std.specs.Prelude.{None, codes, decimal}
 use Rattle.std.specs.Io.BufRead.{strip_last}
 use Rattle.std.specs.Io.KnownBytes.{Appends}
 use Rattle.hex.specs.Hex.{encode_lower}
@@ -50,7 +51,8 @@ pub record IsFaultText (kdc : Option State) (text : List ℕ) : Type 0 where
 abbrev pub RunsText : Option State → List ℕ → Option State → List ℕ → Type 0
 RunsText before [] after printed = (after ≡ before) × (printed ≡ [])
 RunsText before (o ∷ os) after printed =
-    (line : Line) × (answer : Answer) × IsLineText line (o ∷ os) × Runs before line after answer × (printed ≡ answer_text answer)
+    (line : Line) × (answer : Answer) × IsLineText line (o ∷ os) × Runs before line after answer
+    × (printed ≡ answer_text answer)
 
 -- a line, after so many octets, that ends the run
 abbrev pub EndsRun : Option State → ℕ → List ℕ → Type 0
@@ -61,7 +63,9 @@ abbrev pub IsRun : Option State → ℕ → ℕ → List (List ℕ) → List ℕ
 IsRun kdc number before [] printed status = (printed ≡ []) × (status ≡ 0)
 IsRun kdc number before (line ∷ lines) printed status =
     (EndsRun kdc before line × (printed ≡ fault_text (number + 1)) × (status ≡ 1))
-    ⊎ ((after : Option State) × (first later : List ℕ) × IsWithinLimits before line × RunsText kdc (line_text line) after first
+    ⊎
+    ((after : Option State) × (first later : List ℕ) × IsWithinLimits before line
+    × RunsText kdc (line_text line) after first
     × IsRun after (number + 1) (before + length line) lines later status × (printed ≡ first ++ later))
 
 -- what a script prints, and its status; no KDC is open at first
@@ -74,7 +78,8 @@ PrintsScript octets old new status = (printed : List ℕ) × IsScript octets pri
 
 -- they grew by all of it but the text of the fault that ends it
 abbrev pub PrintsUpToFault : List ℕ → Option (List ℕ) → Option (List ℕ) → ℕ → Type 0
-PrintsUpToFault octets old new number = (printed : List ℕ) × IsScript octets (printed ++ fault_text number) 1 × Appends old new printed
+PrintsUpToFault octets old new number =
+    (printed : List ℕ) × IsScript octets (printed ++ fault_text number) 1 × Appends old new printed
 
 -- a text that was run, with what it printed
 abbrev pub PrintsText : Option State → List ℕ → Option State → Option (List ℕ) → Option (List ℕ) → Type 0

@@ -1,5 +1,6 @@
 //! The fields of a line.
-ghost use Rattle.std.specs.Prelude.{◌≡◌, ◌↔◌, ◌⊎◌, ◌^◌, ◌<◌, ℕ, pos, true, false, List, [], map, IsSome, IfSome, IfOk, IfErr, IfNone};
+ghost use Rattle.std.specs.Prelude.{◌≡◌, ◌↔◌, ◌⊎◌, ◌^◌, ◌<◌, ℕ, pos, true, false, List, [], map, IsSome, IfSome, IfOk};
+ghost use Rattle.std.specs.Prelude.{IfErr, IfNone};
 ghost use Rattle.std.specs.Str.Parse.{IsNumeral, digits_value};
 ghost use Rattle.std.specs.Result.{result_ok};
 ghost use Rattle.hex.specs.Hex.{decode_sized};
@@ -35,7 +36,8 @@ pub(crate) fn moment(sec: &str, usec: &str) -> Option<Moment>
 /// The limits of a KDC, by five numbers.
 pub(crate) fn limits(texts: [&str; 5]) -> Option<Limits>
     ensures read { IfSome result (λ limits. AreLimitsTexts limits (map (λ text. text.now) texts.entry)) }
-    ensures none { IfNone result ((limits : ranges.Limits) → ¬ AreLimitsTexts limits (map (λ text. text.now) texts.entry)) }
+    ensures none { IfNone result
+        ((limits : ranges.Limits) → ¬ AreLimitsTexts limits (map (λ text. text.now) texts.entry)) }
 {
     let [remembered, lock_after, lock_seconds, life, renewable] = texts;
     Limits::new(

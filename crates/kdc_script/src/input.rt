@@ -1,5 +1,6 @@
 //! The input of a script, line by line, within its limits.
-ghost use Rattle.std.specs.Prelude.{◌≡◌, ◌⊎◌, true, IsOk, ◌≤◌, ◌<◌, ◌+◌, [], IfOk, IfSome, OnOk, IsTrue, IsFalse, length, take, drop, Some};
+ghost use Rattle.std.specs.Prelude.{◌≡◌, ◌⊎◌, true, IsOk, ◌≤◌, ◌<◌, ◌+◌, [], IfOk, IfSome, OnOk, IsTrue, IsFalse};
+ghost use Rattle.std.specs.Prelude.{length, take, drop, Some};
 ghost use Rattle.std.specs.Io.BufRead.{take_through, strip_last};
 ghost use Rattle.std.specs.Io.KnownBytes.{IsAtEnd};
 ghost use Rattle.kdc_script.specs.Octets.{octets_of};
@@ -57,7 +58,10 @@ impl<R: Read + Drop> Input<R> {
     /// greatest input.
     pub(crate) fn next_line(&mut self, line: &mut Vec<u8>) -> Result<bool, Stop>
         requires { self.old.taken ≤ 16777216 }
-        ensures line { IfOk result (λ more. IsTrue more → TakesLine (octets_of R.remaining self.old.octets) (octets_of R.remaining self.new.octets) self.old.taken self.new.taken line.new.items) }
+        ensures line { IfOk result (λ more.
+            IsTrue more
+            → TakesLine (octets_of R.remaining self.old.octets)
+            (octets_of R.remaining self.new.octets) self.old.taken self.new.taken line.new.items) }
         ensures end { IfOk result (λ more. IsFalse more → IsAtEnd (octets_of R.remaining self.old.octets)) }
         ensures fault { result ≡ Err Fault → IsBeyond (octets_of R.remaining self.old.octets) self.old.taken }
         ensures number { (result ≡ Ok true ⊎ result ≡ Err Fault) → self.new.number ≡ self.old.number + 1 }
@@ -85,8 +89,10 @@ fn take_line<R: Read + Drop>(
     most: usize,
     line: &mut Vec<u8>,
 ) -> io::Result<usize>
-    ensures line { OnOk result (IfSome (octets_of R.remaining octets.old) (λ xs. line.new.items ≡ take most (take_through 0x0A xs))) }
-    ensures rest { IfOk result (λ n. IfSome (octets_of R.remaining octets.old) (λ xs. octets_of R.remaining octets.new ≡ Some (drop n xs))) }
+    ensures line { OnOk result
+        (IfSome (octets_of R.remaining octets.old) (λ xs. line.new.items ≡ take most (take_through 0x0A xs))) }
+    ensures rest { IfOk result (λ n.
+        IfSome (octets_of R.remaining octets.old) (λ xs. octets_of R.remaining octets.new ≡ Some (drop n xs))) }
     ensures count { IfOk result (λ n. n ≡ length line.new.items) }
     ensures most { IfOk result (λ n. n ≤ most) }
 {

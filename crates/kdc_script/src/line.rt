@@ -21,35 +21,31 @@ pub(crate) enum Line {
         limits: Limits,
         krbtgt_keys: KeyList,
     },
-    /// A new principal; its name is `None` where the text is read as no name.
-    Add {
+    /// A change of a principal; its name is `None` where the text is read as no name.
+    Change {
         name: Option<Name>,
-        keys: KeyList,
-    },
-    /// New current keys of a principal.
-    NewKeys {
-        name: Option<Name>,
-        keys: KeyList,
-    },
-    /// The keys of a version go.
-    DropKeys {
-        name: Option<Name>,
-        version: u32,
-    },
-    /// A principal goes.
-    Remove {
-        name: Option<Name>,
-    },
-    /// A field of a principal's policy is set.
-    SetPolicy {
-        name: Option<Name>,
-        setting: Setting,
+        what: LineChange,
     },
     Request(Request),
     /// What was remembered is lost, and the KDC starts again at this moment.
     Restart {
         at: Moment,
     },
+}
+
+/// What a line changes of a principal.
+#[derive(Debug, Drop)]
+pub(crate) enum LineChange {
+    /// It is new, with these keys.
+    Add(KeyList),
+    /// It has new current keys.
+    NewKeys(KeyList),
+    /// The keys of a version go.
+    DropKeys(u32),
+    /// It goes.
+    Remove,
+    /// A field of its policy is set.
+    Set(Setting),
 }
 
 /// A request for the KDC.
@@ -111,7 +107,8 @@ fn fields_of<'a>(alloc: Global, text: &'a str) -> Result<Vec<&'a str>, AllocErro
 /// Reads the fields of a line: the word in front says what it does.
 fn parse_fields(alloc: Global, fields: &[&str]) -> Result<Line, LineFault>
     ensures ok { IfOk result (λ line. AreLineFields line (map (λ field. field.now) fields.now)) }
-    ensures form { result ≡ Err Form → (line : lines.Line) → ¬ AreLineFields line (map (λ field. field.now) fields.now) }
+    ensures form { result ≡ Err Form → (line : lines.Line)
+        → ¬ AreLineFields line (map (λ field. field.now) fields.now) }
 {
     let Some((word, fields)) = fields.split_first() else {
         return Err(LineFault::Form);
@@ -142,7 +139,8 @@ fn ascii_text(octets: &[u8]) -> Option<&str>
 
 fn parse_open(alloc: Global, fields: &[&str]) -> Result<Line, LineFault>
     ensures ok { IfOk result (λ line. AreLineFields line (codes "open" ∷ map (λ field. field.now) fields.now)) }
-    ensures form { result ≡ Err Form → (line : lines.Line) → ¬ AreLineFields line (codes "open" ∷ map (λ field. field.now) fields.now) }
+    ensures form { result ≡ Err Form → (line : lines.Line)
+        → ¬ AreLineFields line (codes "open" ∷ map (λ field. field.now) fields.now) }
 {
     let [
         realm_text,
@@ -168,33 +166,36 @@ fn parse_open(alloc: Global, fields: &[&str]) -> Result<Line, LineFault>
 
 fn parse_add(alloc: Global, fields: &[&str]) -> Result<Line, LineFault>
     ensures ok { IfOk result (λ line. AreLineFields line (codes "add" ∷ map (λ field. field.now) fields.now)) }
-    ensures form { result ≡ Err Form → (line : lines.Line) → ¬ AreLineFields line (codes "add" ∷ map (λ field. field.now) fields.now) }
+    ensures form { result ≡ Err Form → (line : lines.Line)
+        → ¬ AreLineFields line (codes "add" ∷ map (λ field. field.now) fields.now) }
 {
     let [name_text, keys_text] = fields else {
         return Err(LineFault::Form);
     };
-    Ok(Line::Add {
+    Ok(Line::Change {
         name: name(alloc, name_text)?,
-        keys: keys(alloc, keys_text)?,
+        what: LineChange::Add(keys(alloc, keys_text)?),
     })
 }
 
 fn parse_new_keys(alloc: Global, fields: &[&str]) -> Result<Line, LineFault>
     ensures ok { IfOk result (λ line. AreLineFields line (codes "keys" ∷ map (λ field. field.now) fields.now)) }
-    ensures form { result ≡ Err Form → (line : lines.Line) → ¬ AreLineFields line (codes "keys" ∷ map (λ field. field.now) fields.now) }
+    ensures form { result ≡ Err Form → (line : lines.Line)
+        → ¬ AreLineFields line (codes "keys" ∷ map (λ field. field.now) fields.now) }
 {
     let [name_text, keys_text] = fields else {
         return Err(LineFault::Form);
     };
-    Ok(Line::NewKeys {
+    Ok(Line::Change {
         name: name(alloc, name_text)?,
-        keys: keys(alloc, keys_text)?,
+        what: LineChange::NewKeys(keys(alloc, keys_text)?),
     })
 }
 
 fn parse_drop_keys(alloc: Global, fields: &[&str]) -> Result<Line, LineFault>
     ensures ok { IfOk result (λ line. AreLineFields line (codes "drop" ∷ map (λ field. field.now) fields.now)) }
-    ensures form { result ≡ Err Form → (line : lines.Line) → ¬ AreLineFields line (codes "drop" ∷ map (λ field. field.now) fields.now) }
+    ensures form { result ≡ Err Form → (line : lines.Line)
+        → ¬ AreLineFields line (codes "drop" ∷ map (λ field. field.now) fields.now) }
 {
     let [name_text, version_text] = fields else {
         return Err(LineFault::Form);
@@ -202,27 +203,30 @@ fn parse_drop_keys(alloc: Global, fields: &[&str]) -> Result<Line, LineFault>
     let Some(version) = number_u32(version_text) else {
         return Err(LineFault::Form);
     };
-    Ok(Line::DropKeys {
+    Ok(Line::Change {
         name: name(alloc, name_text)?,
-        version,
+        what: LineChange::DropKeys(version),
     })
 }
 
 fn parse_remove(alloc: Global, fields: &[&str]) -> Result<Line, LineFault>
     ensures ok { IfOk result (λ line. AreLineFields line (codes "remove" ∷ map (λ field. field.now) fields.now)) }
-    ensures form { result ≡ Err Form → (line : lines.Line) → ¬ AreLineFields line (codes "remove" ∷ map (λ field. field.now) fields.now) }
+    ensures form { result ≡ Err Form → (line : lines.Line)
+        → ¬ AreLineFields line (codes "remove" ∷ map (λ field. field.now) fields.now) }
 {
     let [name_text] = fields else {
         return Err(LineFault::Form);
     };
-    Ok(Line::Remove {
+    Ok(Line::Change {
         name: name(alloc, name_text)?,
+        what: LineChange::Remove,
     })
 }
 
 fn parse_policy(alloc: Global, fields: &[&str]) -> Result<Line, LineFault>
     ensures ok { IfOk result (λ line. AreLineFields line (codes "policy" ∷ map (λ field. field.now) fields.now)) }
-    ensures form { result ≡ Err Form → (line : lines.Line) → ¬ AreLineFields line (codes "policy" ∷ map (λ field. field.now) fields.now) }
+    ensures form { result ≡ Err Form → (line : lines.Line)
+        → ¬ AreLineFields line (codes "policy" ∷ map (λ field. field.now) fields.now) }
 {
     let [name_text, setting_text] = fields else {
         return Err(LineFault::Form);
@@ -230,15 +234,16 @@ fn parse_policy(alloc: Global, fields: &[&str]) -> Result<Line, LineFault>
     let Some(setting) = Setting::parse(setting_text) else {
         return Err(LineFault::Form);
     };
-    Ok(Line::SetPolicy {
+    Ok(Line::Change {
         name: name(alloc, name_text)?,
-        setting,
+        what: LineChange::Set(setting),
     })
 }
 
 fn parse_request(alloc: Global, fields: &[&str]) -> Result<Line, LineFault>
     ensures ok { IfOk result (λ line. AreLineFields line (codes "request" ∷ map (λ field. field.now) fields.now)) }
-    ensures form { result ≡ Err Form → (line : lines.Line) → ¬ AreLineFields line (codes "request" ∷ map (λ field. field.now) fields.now) }
+    ensures form { result ≡ Err Form → (line : lines.Line)
+        → ¬ AreLineFields line (codes "request" ∷ map (λ field. field.now) fields.now) }
 {
     let [sec, usec, random_text, room, octets_text] = fields else {
         return Err(LineFault::Form);
@@ -262,7 +267,8 @@ fn parse_request(alloc: Global, fields: &[&str]) -> Result<Line, LineFault>
 
 fn parse_restart(fields: &[&str]) -> Result<Line, LineFault>
     ensures ok { IfOk result (λ line. AreLineFields line (codes "restart" ∷ map (λ field. field.now) fields.now)) }
-    ensures form { result ≡ Err Form → (line : lines.Line) → ¬ AreLineFields line (codes "restart" ∷ map (λ field. field.now) fields.now) }
+    ensures form { result ≡ Err Form → (line : lines.Line)
+        → ¬ AreLineFields line (codes "restart" ∷ map (λ field. field.now) fields.now) }
 {
     let [sec] = fields else {
         return Err(LineFault::Form);

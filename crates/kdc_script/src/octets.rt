@@ -27,7 +27,8 @@ impl<R: Read + Drop> Octets<R> {
 
     /// The next octet; none at the end.
     pub(crate) fn next(&mut self) -> io::Result<Option<u8>>
-        ensures octet { IfOk result (λ octet. Consumes (octets_of R.remaining self.old) (octets_of R.remaining self.new) (option_to_list octet)) }
+        ensures octet { IfOk result (λ octet.
+            Consumes (octets_of R.remaining self.old) (octets_of R.remaining self.new) (option_to_list octet)) }
         ensures end { IfOk result (λ octet. octet ≡ None → IsAtEnd (octets_of R.remaining self.new)) }
     {
         if self.ended {

@@ -3,7 +3,7 @@ ghost use Rattle.std.specs.Prelude.{◌≡◌, ◌≢◌, ◌⊎◌, IfOk, IfSom
 ghost use Rattle.std.specs.FinMap as map;
 ghost use Rattle.std.specs.Io.KnownBytes.{Appends};
 ghost use Rattle.kdc_script.specs.Octets.{octets_of};
-ghost use Rattle.kdc_script.specs.Run.{CannotRun, Changes, Runs, policy_of, stop_of};
+ghost use Rattle.kdc_script.specs.Run.{CannotRun, Changes, Runs, policy_of, row_change, stop_of};
 ghost use Rattle.kdc_script.specs.Script.{fault_text, IsFaultText, PrintsScript, PrintsText, PrintsUpToFault};
 ghost use Rattle.kdc_script.specs.declared.line.Line.TheVariants as lines;
 ghost use Rattle.kdc_script.specs.declared.run.Stop.TheVariants.{Failed, Fault};
@@ -15,16 +15,15 @@ ghost use Rattle.principals.specs.Database.{first_database};
 
 use crate::answer::Answer;
 use crate::input::Input;
-use crate::line::{Line, LineFault, Request};
+use crate::line::{Line, LineChange, LineFault, Request};
 use kdc_core::{Kdc, Opening};
 use krb_elements::KerberosString;
 use krb_fields::{Moment, Name};
 use principal_rows::{KeyList, Limits, Policy};
-use principals::{Change, ChangeFault, Database, FirstFault};
+use principals::{Change, ChangeFault, Database, FirstFault, RowChange};
 use std::alloc::{AllocError, Global};
 use std::io;
 use std::io::{Read, Write};
-use text_fields::Setting;
 
 /// The status of a run that came to the end of its input.
 pub const DONE: u8 = 0;
@@ -73,11 +72,14 @@ impl From<LineFault> for Stop {
 
 /// Runs the script that a reader gives and prints its answers: `DONE`, `FAULT` or `FAILED`.
 ///
-/// Where it is not `FAILED`, the writer took what the script prints, and the status is the script's; of a run that failed
+/// Where it is not `FAILED`, the writer took what the script prints, and the status is the script's; of a run that
+/// failed
 /// nothing is said.
 pub fn run_script<R: Read + Drop, W: Write>(alloc: Global, reader: R, writer: &mut W) -> u8
     ensures status { (result ≡ 0) ⊎ ((result ≡ 1) ⊎ (result ≡ 3)) }
-    ensures run { result ≢ 3 → IfSome (R.remaining reader) (λ octets. PrintsScript octets (W.contents writer.old) (W.contents writer.new) result) }
+    ensures run { result ≢ 3
+        → IfSome (R.remaining reader) (λ octets.
+        PrintsScript octets (W.contents writer.old) (W.contents writer.new) result) }
 {
     let Ok(mut input) = Input::new(alloc, reader) else {
         return FAILED;
@@ -106,8 +108,12 @@ fn run_lines<R: Read + Drop, W: Write>(
 ) -> Result<(), Stop>
     requires octets { input.old.taken ≡ 0 }
     requires lines { input.old.number ≡ 0 }
-    ensures done { OnOk result (IfSome (octets_of R.remaining input.old.octets) (λ octets. PrintsScript octets (W.contents writer.old) (W.contents writer.new) 0)) }
-    ensures fault { result ≡ Err Fault → IfSome (octets_of R.remaining input.old.octets) (λ octets. PrintsUpToFault octets (W.contents writer.old) (W.contents writer.new) input.new.number) }
+    ensures done { OnOk result
+        (IfSome (octets_of R.remaining input.old.octets) (λ octets.
+        PrintsScript octets (W.contents writer.old) (W.contents writer.new) 0)) }
+    ensures fault { result ≡ Err Fault
+        → IfSome (octets_of R.remaining input.old.octets) (λ octets.
+        PrintsUpToFault octets (W.contents writer.old) (W.contents writer.new) input.new.number) }
 {
     let mut kdc = None;
     let mut line = Vec::new(alloc);
@@ -152,11 +158,7 @@ fn run_line(alloc: Global, kdc: &mut Option<Kdc>, line: Line) -> Result<Answer, 
             *kdc = Some(open(alloc, &realm, limits, krbtgt_keys)?);
             Ok(Answer::Done)
         }
-        Line::Add { name, keys } => add(alloc, kdc, name, keys),
-        Line::NewKeys { name, keys } => new_keys(alloc, kdc, name, keys),
-        Line::DropKeys { name, version } => drop_keys(alloc, kdc, name, version),
-        Line::Remove { name } => remove(alloc, kdc, name),
-        Line::SetPolicy { name, setting } => set_policy(alloc, kdc, name, setting),
+        Line::Change { name, what } => change(alloc, kdc, name, what),
         Line::Request(request) => handle(alloc, kdc, &request),
         Line::Restart { at } => restart(kdc, at),
     }
@@ -179,14 +181,15 @@ fn open(
     Ok(Kdc::open(alloc, database, limits, Opening::First)?)
 }
 
-fn add(
+/// Makes a change of a principal, which may be refused.
+fn change(
     alloc: Global,
     kdc: &mut Option<Kdc>,
     name: Option<Name>,
-    keys: KeyList,
+    what: LineChange,
 ) -> Result<Answer, Stop>
-    ensures ok { IfOk result (λ answer. Runs kdc.old (lines.Add name keys) kdc.new answer) }
-    ensures fault { result ≡ Err Fault → CannotRun kdc.old (lines.Add name keys) }
+    ensures ok { IfOk result (λ answer. Runs kdc.old (lines.Change name what) kdc.new answer) }
+    ensures fault { result ≡ Err Fault → CannotRun kdc.old (lines.Change name what) }
 {
     let Some(kdc) = kdc else {
         return Err(Stop::Fault);
@@ -194,75 +197,21 @@ fn add(
     let Some(name) = name else {
         return Ok(Answer::Refused(ChangeFault::BadName));
     };
-    apply(alloc, kdc, &Change::Add { name, keys })
+    let what = row_change(kdc, &name, what);
+    apply(alloc, kdc, &Change { name, what })
 }
 
-fn new_keys(
-    alloc: Global,
-    kdc: &mut Option<Kdc>,
-    name: Option<Name>,
-    keys: KeyList,
-) -> Result<Answer, Stop>
-    ensures ok { IfOk result (λ answer. Runs kdc.old (lines.NewKeys name keys) kdc.new answer) }
-    ensures fault { result ≡ Err Fault → CannotRun kdc.old (lines.NewKeys name keys) }
+/// What becomes of the row of a name: the fields of its policy that a line doesn't set stay.
+fn row_change(kdc: &Kdc, name: &Name, what: LineChange) -> RowChange
+    ensures { result ≡ row_change kdc.now name.now what }
 {
-    let Some(kdc) = kdc else {
-        return Err(Stop::Fault);
-    };
-    let Some(name) = name else {
-        return Ok(Answer::Refused(ChangeFault::BadName));
-    };
-    apply(alloc, kdc, &Change::NewKeys { name, keys })
-}
-
-fn drop_keys(
-    alloc: Global,
-    kdc: &mut Option<Kdc>,
-    name: Option<Name>,
-    version: u32,
-) -> Result<Answer, Stop>
-    ensures ok { IfOk result (λ answer. Runs kdc.old (lines.DropKeys name version) kdc.new answer) }
-    ensures fault { result ≡ Err Fault → CannotRun kdc.old (lines.DropKeys name version) }
-{
-    let Some(kdc) = kdc else {
-        return Err(Stop::Fault);
-    };
-    let Some(name) = name else {
-        return Ok(Answer::Refused(ChangeFault::BadName));
-    };
-    apply(alloc, kdc, &Change::DropKeys { name, version })
-}
-
-fn remove(alloc: Global, kdc: &mut Option<Kdc>, name: Option<Name>) -> Result<Answer, Stop>
-    ensures ok { IfOk result (λ answer. Runs kdc.old (lines.Remove name) kdc.new answer) }
-    ensures fault { result ≡ Err Fault → CannotRun kdc.old (lines.Remove name) }
-{
-    let Some(kdc) = kdc else {
-        return Err(Stop::Fault);
-    };
-    let Some(name) = name else {
-        return Ok(Answer::Refused(ChangeFault::BadName));
-    };
-    apply(alloc, kdc, &Change::Remove { name })
-}
-
-fn set_policy(
-    alloc: Global,
-    kdc: &mut Option<Kdc>,
-    name: Option<Name>,
-    setting: Setting,
-) -> Result<Answer, Stop>
-    ensures ok { IfOk result (λ answer. Runs kdc.old (lines.SetPolicy name setting) kdc.new answer) }
-    ensures fault { result ≡ Err Fault → CannotRun kdc.old (lines.SetPolicy name setting) }
-{
-    let Some(kdc) = kdc else {
-        return Err(Stop::Fault);
-    };
-    let Some(name) = name else {
-        return Ok(Answer::Refused(ChangeFault::BadName));
-    };
-    let policy = setting.on(policy_of(kdc, &name));
-    apply(alloc, kdc, &Change::SetPolicy { name, policy })
+    match what {
+        LineChange::Add(keys) => RowChange::Add(keys),
+        LineChange::NewKeys(keys) => RowChange::NewKeys(keys),
+        LineChange::DropKeys(version) => RowChange::DropKeys(version),
+        LineChange::Remove => RowChange::Remove,
+        LineChange::Set(setting) => RowChange::SetPolicy(setting.on(policy_of(kdc, name))),
+    }
 }
 
 /// The policy of a principal; where the name has no row, that of a new one, which no change takes.
@@ -277,7 +226,8 @@ fn policy_of(kdc: &Kdc, name: &Name) -> Policy
 
 /// Makes a change, which may be refused.
 fn apply(alloc: Global, kdc: &mut Kdc, change: &Change) -> Result<Answer, Stop>
-    ensures ok { IfOk result (λ answer. Changes kdc.old change.now (refusal kdc.old.database change.now) (Some kdc.new) answer) }
+    ensures ok { IfOk result (λ answer.
+        Changes kdc.old change.now (refusal kdc.old.database change.now) (Some kdc.new) answer) }
     ensures fault { result ≢ Err Fault }
 {
     match kdc.apply(alloc, change) {

@@ -4,7 +4,7 @@ use kdc_core::{Event, Kdc, Opening, RunFault};
 use krb_elements::{KerberosString, Octets, Seq};
 use krb_fields::{Moment, Name};
 use principal_rows::{KeyList, Limits, Policy};
-use principals::{Change, ChangeFault, Database};
+use principals::{Change, ChangeFault, Database, RowChange};
 use std::alloc::{AllocError, Global};
 use std::test::Fail;
 
@@ -94,9 +94,9 @@ pub fn name(alloc: Global, components: &[&[u8]]) -> Result<Name, Fail> {
 
 /// `u` comes to be.
 fn addition(alloc: Global) -> Result<Change, Fail> {
-    Ok(Change::Add {
+    Ok(Change {
         name: name(alloc, &[b"u"])?,
-        keys: keys(alloc)?,
+        what: RowChange::Add(keys(alloc)?),
     })
 }
 
@@ -106,9 +106,9 @@ fn leniency(alloc: Global) -> Result<Change, Fail> {
         preauth: false,
         ..Policy::default()
     };
-    Ok(Change::SetPolicy {
+    Ok(Change {
         name: name(alloc, &[b"u"])?,
-        policy,
+        what: RowChange::SetPolicy(policy),
     })
 }
 

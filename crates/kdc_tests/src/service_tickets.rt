@@ -3,7 +3,7 @@ use crate::kdcs::{Asked, first_answered, gets_again, kdc_of, name, octets};
 use enctypes::{Etype, Key};
 use kdc_core::Kdc;
 use principal_rows::KeyList;
-use principals::Change;
+use principals::{Change, RowChange};
 use std::alloc::{AllocError, Global};
 use std::test::Fail;
 
@@ -26,9 +26,9 @@ fn key_from(first: u8) -> Key {
 }
 
 fn add(alloc: Global, kdc: &mut Kdc, component: &[u8], first: u8) -> Result<(), Fail> {
-    let change = Change::Add {
+    let change = Change {
         name: name(alloc, &[component])?,
-        keys: KeyList::new(alloc, &[key_from(first)])?,
+        what: RowChange::Add(KeyList::new(alloc, &[key_from(first)])?),
     };
     Ok(kdc.apply(alloc, &change)?)
 }

@@ -6,7 +6,7 @@ use kdc_core::{Event, Kdc, Opening};
 use krb_elements::Octets;
 use krb_fields::{Moment, Second};
 use principal_rows::{KeyList, Limits, Policy};
-use principals::{Change, Database};
+use principals::{Change, Database, RowChange};
 use std::alloc::{AllocError, Global};
 use std::test::Fail;
 
@@ -101,9 +101,9 @@ fn client_keys(alloc: Global, octet: u8) -> Result<KeyList, Fail> {
 /// A KDC of `A.B` that has no clients, only the service `h`.
 fn opened(alloc: Global, limits: Limits) -> Result<Kdc, Fail> {
     let mut database = Database::first(alloc, b"A.B", service_keys(alloc, FIRST)?)?;
-    let add = Change::Add {
+    let add = Change {
         name: name(alloc, &[b"h"])?,
-        keys: service_keys(alloc, FIRST)?,
+        what: RowChange::Add(service_keys(alloc, FIRST)?),
     };
     database.apply(alloc, &add)?;
     Ok(Kdc::open(alloc, database, limits, Opening::First)?)
@@ -151,21 +151,21 @@ fn policy(changed: Changed, at: u32) -> Policy {
 fn change(alloc: Global, changed: Changed, step: Step) -> Result<Change, Fail> {
     let name = name(alloc, &[&[step.client]])?;
     let keys = client_keys(alloc, step.octet)?;
-    Ok(match changed {
-        Changed::Add => Change::Add { name, keys },
-        Changed::Remove => Change::Remove { name },
-        Changed::NewKeys => Change::NewKeys { name, keys },
-        Changed::Free | Changed::Disable | Changed::Revoke => Change::SetPolicy {
-            name,
-            policy: policy(changed, step.at),
-        },
-    })
+    let what = match changed {
+        Changed::Add => RowChange::Add(keys),
+        Changed::Remove => RowChange::Remove,
+        Changed::NewKeys => RowChange::NewKeys(keys),
+        Changed::Free | Changed::Disable | Changed::Revoke => {
+            RowChange::SetPolicy(policy(changed, step.at))
+        }
+    };
+    Ok(Change { name, what })
 }
 
 fn new_service_keys(alloc: Global, service: &[&[u8]], octet: u8) -> Result<Event, Fail> {
-    let change = Change::NewKeys {
+    let change = Change {
         name: name(alloc, service)?,
-        keys: service_keys(alloc, octet)?,
+        what: RowChange::NewKeys(service_keys(alloc, octet)?),
     };
     Ok(Event::Change { change })
 }

@@ -10,16 +10,19 @@ use Rattle.principal_rows.specs.Row.{first_row}
 use Rattle.principal_rows.specs.Versions.{current, version_of, with_keys, without}
 use Rattle.principal_rows.specs.declared.row.Row.{Row}
 use Rattle.principals.specs.declared.change.Change.{Change}
-use Rattle.principals.specs.declared.change.Change.TheVariants.{Add, Remove, NewKeys, DropKeys, SetPolicy}
+use Rattle.principals.specs.declared.change.RowChange.{RowChange}
+use Rattle.principals.specs.declared.change.RowChange.TheVariants.{Add, Remove, NewKeys, DropKeys, SetPolicy}
 use Rattle.principals.specs.declared.change.ChangeFault.{ChangeFault}
-use Rattle.principals.specs.declared.change.ChangeFault.TheVariants.{BadName, Exists, Protected, Absent, LastVersion, CurrentKeys}
+use Rattle.principals.specs.declared.change.ChangeFault.TheVariants.{BadName, Exists, Protected, Absent, LastVersion}
+use Rattle.principals.specs.declared.change.ChangeFault.TheVariants.{CurrentKeys}
 use Rattle.principals.specs.Database.{Principals, ticket_granter}
 
 abbrev pub add_rules : Principals → Components → List (Rule ChangeFault)
 add_rules p name = (not (is_within_limits name), BadName) ∷ (contains_key p.rows name, Exists) ∷ []
 
 abbrev pub remove_rules : Principals → Components → List (Rule ChangeFault)
-remove_rules p name = (eq_by_cmp name_cmp name (ticket_granter p.realm), Protected) ∷ (not (contains_key p.rows name), Absent) ∷ []
+remove_rules p name =
+    (eq_by_cmp name_cmp name (ticket_granter p.realm), Protected) ∷ (not (contains_key p.rows name), Absent) ∷ []
 
 abbrev pub new_keys_rules : Option Row → List (Rule ChangeFault)
 new_keys_rules row =
@@ -37,27 +40,37 @@ drop_keys_rules version row =
 abbrev pub set_policy_rules : Option Row → List (Rule ChangeFault)
 set_policy_rules row = (is_none row, Absent) ∷ []
 
--- the conditions under which a change is refused, in their order
-abbrev pub rules : Principals → Change → List (Rule ChangeFault)
-rules p (Add name keys) = add_rules p name.components
-rules p (Remove name) = remove_rules p name.components
-rules p (NewKeys name keys) = new_keys_rules (get p.rows name.components)
-rules p (DropKeys name version) = drop_keys_rules version (get p.rows name.components)
-rules p (SetPolicy name policy) = set_policy_rules (get p.rows name.components)
+-- the conditions under which a change of a name's row is refused, in their order
+abbrev pub rules : Principals → Components → RowChange → List (Rule ChangeFault)
+rules p name (Add keys) = add_rules p name
+rules p name Remove = remove_rules p name
+rules p name (NewKeys keys) = new_keys_rules (get p.rows name)
+rules p name (DropKeys version) = drop_keys_rules version (get p.rows name)
+rules p name (SetPolicy policy) = set_policy_rules (get p.rows name)
 
--- why the change is refused, if it is
-abbrev pub refusal : Principals → Change → Option ChangeFault
-refusal p change = first_holding (rules p change)
+abbrev pub row_refusal : Principals → Components → RowChange → Option ChangeFault
+row_refusal p name what = first_holding (rules p name what)
 
 -- the row of a name is exchanged for what is made of it
 abbrev pub with_row : Principals → Components → (Row → Row) → Option Row → Principals
 with_row p name change None = p
 with_row p name change (Some row) = record p { rows = insert p.rows name (change row) }
 
--- what the change makes where it is not refused
+abbrev pub row_changed : Principals → Components → RowChange → Principals
+row_changed p name (Add keys) = record p { rows = insert p.rows name (first_row keys) }
+row_changed p name Remove = record p { rows = remove p.rows name }
+row_changed p name (NewKeys keys) =
+    with_row p name (λ row. record row { versions = with_keys keys row.versions }) (get p.rows name)
+row_changed p name (DropKeys version) =
+    with_row p name (λ row. record row { versions = without version row.versions }) (get p.rows name)
+row_changed p name (SetPolicy policy) = with_row p name (λ row. record row { policy = policy }) (get p.rows name)
+
+-- ---- of a change
+
+-- why it is refused, if it is
+abbrev pub refusal : Principals → Change → Option ChangeFault
+refusal p change = row_refusal p change.name.components change.what
+
+-- what it makes where it is not refused
 abbrev pub changed : Principals → Change → Principals
-changed p (Add name keys) = record p { rows = insert p.rows name.components (first_row keys) }
-changed p (Remove name) = record p { rows = remove p.rows name.components }
-changed p (NewKeys name keys) = with_row p name.components (λ row. record row { versions = with_keys keys row.versions }) (get p.rows name.components)
-changed p (DropKeys name version) = with_row p name.components (λ row. record row { versions = without version row.versions }) (get p.rows name.components)
-changed p (SetPolicy name policy) = with_row p name.components (λ row. record row { policy = policy }) (get p.rows name.components)
+changed p change = row_changed p change.name.components change.what

@@ -10,17 +10,25 @@ use std::fmt;
 
 /// A change of one principal's row.
 #[derive(Debug, Drop)]
-pub enum Change {
-    /// A new principal, with these keys as version 1 and the default policy.
-    Add { name: Name, keys: KeyList },
-    /// The principal's row goes.
-    Remove { name: Name },
-    /// The keys become the principal's current ones, with the next version number.
-    NewKeys { name: Name, keys: KeyList },
-    /// The keys of a version that is not current go.
-    DropKeys { name: Name, version: u32 },
+pub struct Change {
+    /// Whose row: the name counts by its components.
+    pub name: Name,
+    pub what: RowChange,
+}
+
+/// What becomes of a row.
+#[derive(Debug, Drop)]
+pub enum RowChange {
+    /// It is a new principal's, with these keys as version 1 and the default policy.
+    Add(KeyList),
+    /// It goes.
+    Remove,
+    /// The keys become the current ones, with the next version number.
+    NewKeys(KeyList),
+    /// The keys of this version, which is not the current one, go.
+    DropKeys(u32),
     /// The policy becomes the principal's.
-    SetPolicy { name: Name, policy: Policy },
+    SetPolicy(Policy),
 }
 
 /// Why a change is refused.

@@ -1,5 +1,6 @@
 //! Databases.
-ghost use Rattle.std.specs.Prelude.{◌≡◌, ◌↔◌, ◌≤◌, length, IfOk, IfSome, IfNone, IsTrue, OnOk, OnErr, IsOkUnless, option_copied, option_map, slice_get};
+ghost use Rattle.std.specs.Prelude.{◌≡◌, ◌↔◌, ◌≤◌, length, IfOk, IfSome, IfNone, IsTrue, OnOk, OnErr, IsOkUnless};
+ghost use Rattle.std.specs.Prelude.{option_copied, option_map, slice_get};
 ghost use Rattle.std.specs.FinMap as map;
 ghost use Rattle.refusals.specs.Refusals.{first_holding};
 ghost use Rattle.krb_fields.specs.NameLimits.{IsComponent};
@@ -7,10 +8,10 @@ ghost use Rattle.std.specs.Ordering.{eq_by_cmp};
 ghost use Rattle.krb_fields.specs.Name.{name_cmp};
 ghost use Rattle.principal_rows.specs.Row.{IsRow};
 ghost use Rattle.principals.specs.Database.{IsDatabase, first_database, granter_name, ticket_granter};
-ghost use Rattle.principals.specs.Change.{refusal, add_rules, changed};
+ghost use Rattle.principals.specs.Change.{refusal, add_rules, changed, row_changed, row_refusal};
 
 use crate::granting::GranterOf;
-use crate::{Change, ChangeFault};
+use crate::{Change, ChangeFault, RowChange};
 use krb_elements::KerberosString;
 use krb_fields::{Name, NameRef, is_component};
 use principal_rows::{Entry, KeyList, NameMap, Policy, Row};
@@ -156,19 +157,37 @@ impl Database {
         ensures otherwise { IfNone (refusal self.old change.now) (IsOkUnless result ChangeFault.Memory) }
         ensures err { OnErr result (self.new ≡ self.old) }
     {
-        match change {
-            Change::Add { name, keys } => self.add(alloc, name, keys),
-            Change::Remove { name } => self.remove(name),
-            Change::NewKeys { name, keys } => self.new_keys(alloc, name, keys),
-            Change::DropKeys { name, version } => self.drop_keys(alloc, name, *version),
-            Change::SetPolicy { name, policy } => self.set_policy(alloc, name, *policy),
+        self.change_row(alloc, &change.name, &change.what)
+    }
+
+    /// Makes a change of this name's row.
+    fn change_row(
+        &mut self,
+        alloc: Global,
+        name: &Name,
+        what: &RowChange,
+    ) -> Result<(), ChangeFault>
+        ensures changed { OnOk result (self.new ≡ row_changed self.old name.now.components what.now) }
+        ensures refused { IfSome (row_refusal self.old name.now.components what.now) (λ fault. result ≡ Err fault) }
+        ensures otherwise { IfNone (row_refusal self.old name.now.components what.now)
+            (IsOkUnless result ChangeFault.Memory) }
+        ensures err { OnErr result (self.new ≡ self.old) }
+    {
+        match what {
+            RowChange::Add(keys) => self.add(alloc, name, keys),
+            RowChange::Remove => self.remove(name),
+            RowChange::NewKeys(keys) => self.new_keys(alloc, name, keys),
+            RowChange::DropKeys(version) => self.drop_keys(alloc, name, *version),
+            RowChange::SetPolicy(policy) => self.set_policy(alloc, name, *policy),
         }
     }
 
     fn add(&mut self, alloc: Global, name: &Name, keys: &KeyList) -> Result<(), ChangeFault>
-        ensures changed { OnOk result (self.new ≡ changed self.old (Change.Add name.now keys.now)) }
-        ensures refused { IfSome (refusal self.old (Change.Add name.now keys.now)) (λ fault. result ≡ Err fault) }
-        ensures otherwise { IfNone (refusal self.old (Change.Add name.now keys.now)) (IsOkUnless result ChangeFault.Memory) }
+        ensures changed { OnOk result (self.new ≡ row_changed self.old name.now.components (RowChange.Add keys.now)) }
+        ensures refused { IfSome (row_refusal self.old name.now.components (RowChange.Add keys.now)) (λ fault.
+            result ≡ Err fault) }
+        ensures otherwise { IfNone (row_refusal self.old name.now.components (RowChange.Add keys.now))
+            (IsOkUnless result ChangeFault.Memory) }
         ensures err { OnErr result (self.new ≡ self.old) }
     {
         if let Some(fault) = self.add_refusal(name) {
@@ -180,9 +199,10 @@ impl Database {
     }
 
     fn remove(&mut self, name: &Name) -> Result<(), ChangeFault>
-        ensures changed { OnOk result (self.new ≡ changed self.old (Change.Remove name.now)) }
-        ensures refused { IfSome (refusal self.old (Change.Remove name.now)) (λ fault. result ≡ Err fault) }
-        ensures otherwise { IfNone (refusal self.old (Change.Remove name.now)) (result ≡ Ok tt) }
+        ensures changed { OnOk result (self.new ≡ row_changed self.old name.now.components RowChange.Remove) }
+        ensures refused { IfSome (row_refusal self.old name.now.components RowChange.Remove) (λ fault.
+            result ≡ Err fault) }
+        ensures otherwise { IfNone (row_refusal self.old name.now.components RowChange.Remove) (result ≡ Ok tt) }
         ensures err { OnErr result (self.new ≡ self.old) }
     {
         if is_granter(name, self.realm.as_slice()) {
@@ -196,9 +216,12 @@ impl Database {
     }
 
     fn new_keys(&mut self, alloc: Global, name: &Name, keys: &KeyList) -> Result<(), ChangeFault>
-        ensures changed { OnOk result (self.new ≡ changed self.old (Change.NewKeys name.now keys.now)) }
-        ensures refused { IfSome (refusal self.old (Change.NewKeys name.now keys.now)) (λ fault. result ≡ Err fault) }
-        ensures otherwise { IfNone (refusal self.old (Change.NewKeys name.now keys.now)) (IsOkUnless result ChangeFault.Memory) }
+        ensures changed { OnOk result
+            (self.new ≡ row_changed self.old name.now.components (RowChange.NewKeys keys.now)) }
+        ensures refused { IfSome (row_refusal self.old name.now.components (RowChange.NewKeys keys.now)) (λ fault.
+            result ≡ Err fault) }
+        ensures otherwise { IfNone (row_refusal self.old name.now.components (RowChange.NewKeys keys.now))
+            (IsOkUnless result ChangeFault.Memory) }
         ensures err { OnErr result (self.new ≡ self.old) }
     {
         let Some(row) = self.rows.get(name) else {
@@ -214,9 +237,12 @@ impl Database {
     }
 
     fn drop_keys(&mut self, alloc: Global, name: &Name, version: u32) -> Result<(), ChangeFault>
-        ensures changed { OnOk result (self.new ≡ changed self.old (Change.DropKeys name.now version)) }
-        ensures refused { IfSome (refusal self.old (Change.DropKeys name.now version)) (λ fault. result ≡ Err fault) }
-        ensures otherwise { IfNone (refusal self.old (Change.DropKeys name.now version)) (IsOkUnless result ChangeFault.Memory) }
+        ensures changed { OnOk result
+            (self.new ≡ row_changed self.old name.now.components (RowChange.DropKeys version)) }
+        ensures refused { IfSome (row_refusal self.old name.now.components (RowChange.DropKeys version)) (λ fault.
+            result ≡ Err fault) }
+        ensures otherwise { IfNone (row_refusal self.old name.now.components (RowChange.DropKeys version))
+            (IsOkUnless result ChangeFault.Memory) }
         ensures err { OnErr result (self.new ≡ self.old) }
     {
         let Some(row) = self.rows.get(name) else {
@@ -235,9 +261,12 @@ impl Database {
     }
 
     fn set_policy(&mut self, alloc: Global, name: &Name, policy: Policy) -> Result<(), ChangeFault>
-        ensures changed { OnOk result (self.new ≡ changed self.old (Change.SetPolicy name.now policy)) }
-        ensures refused { IfSome (refusal self.old (Change.SetPolicy name.now policy)) (λ fault. result ≡ Err fault) }
-        ensures otherwise { IfNone (refusal self.old (Change.SetPolicy name.now policy)) (IsOkUnless result ChangeFault.Memory) }
+        ensures changed { OnOk result
+            (self.new ≡ row_changed self.old name.now.components (RowChange.SetPolicy policy)) }
+        ensures refused { IfSome (row_refusal self.old name.now.components (RowChange.SetPolicy policy)) (λ fault.
+            result ≡ Err fault) }
+        ensures otherwise { IfNone (row_refusal self.old name.now.components (RowChange.SetPolicy policy))
+            (IsOkUnless result ChangeFault.Memory) }
         ensures err { OnErr result (self.new ≡ self.old) }
     {
         let Some(row) = self.rows.get(name) else {

@@ -1,7 +1,7 @@
 //! Changes of a database (`principals`).
 use crate::given::{LONGEST, TOO_LONG, add, database, has, keys, name};
 use principal_rows::{Policy, Row};
-use principals::{Change, ChangeFault, Database, FirstFault};
+use principals::{Change, ChangeFault, Database, FirstFault, RowChange};
 use std::alloc::Global;
 use std::test::Fail;
 
@@ -64,13 +64,15 @@ fn what_has_to_stay_stays(rt: HostRuntime) -> Result<(), Fail> {
 
 fn remove(alloc: Global, database: &mut Database, components: &[&[u8]]) -> Result<(), ChangeFault> {
     let name = name(alloc, components)?;
-    database.apply(alloc, &Change::Remove { name })
+    let what = RowChange::Remove;
+    database.apply(alloc, &Change { name, what })
 }
 
 /// Drops a version of the keys of `u`.
 fn drop_keys(alloc: Global, database: &mut Database, version: u32) -> Result<(), ChangeFault> {
     let name = name(alloc, &[b"u"])?;
-    database.apply(alloc, &Change::DropKeys { name, version })
+    let what = RowChange::DropKeys(version);
+    database.apply(alloc, &Change { name, what })
 }
 
 #[test]
@@ -87,8 +89,8 @@ fn keys_come_and_go(rt: HostRuntime) -> Result<(), Fail> {
 /// Gives `u` new keys.
 fn new_keys(alloc: Global, database: &mut Database) -> Result<(), ChangeFault> {
     let name = name(alloc, &[b"u"])?;
-    let keys = keys(alloc)?;
-    database.apply(alloc, &Change::NewKeys { name, keys })
+    let what = RowChange::NewKeys(keys(alloc)?);
+    database.apply(alloc, &Change { name, what })
 }
 
 /// Whether the current keys of `u` have this number, and it has so many versions of them.
@@ -130,5 +132,6 @@ fn disable(alloc: Global, database: &mut Database) -> Result<(), ChangeFault> {
         disabled: true,
         ..Policy::default()
     };
-    database.apply(alloc, &Change::SetPolicy { name, policy })
+    let what = RowChange::SetPolicy(policy);
+    database.apply(alloc, &Change { name, what })
 }

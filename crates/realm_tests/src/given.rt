@@ -2,7 +2,7 @@
 use enctypes::{Etype, Key};
 use krb_fields::Name;
 use principal_rows::KeyList;
-use principals::{Change, ChangeFault, Database, FirstFault};
+use principals::{Change, ChangeFault, Database, FirstFault, RowChange};
 use std::alloc::{AllocError, Global};
 
 /// As many octets as a realm, and a component of a name, has at most.
@@ -37,7 +37,8 @@ pub fn add(
 ) -> Result<(), ChangeFault> {
     let name = name(alloc, components)?;
     let keys = keys(alloc)?;
-    database.apply(alloc, &Change::Add { name, keys })
+    let what = RowChange::Add(keys);
+    database.apply(alloc, &Change { name, what })
 }
 
 pub fn has(alloc: Global, database: &Database, components: &[&[u8]]) -> Result<bool, AllocError> {
