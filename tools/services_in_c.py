@@ -6,8 +6,9 @@ the keytab, `kdcd serve` issues the tickets, MIT's `kinit` logs in, and `tools/a
     cc -o ap_client tools/ap_client.c -lkrb5
     python3 tools/services_in_c.py --ap-service ./ap_service --ap-client ./ap_client
 
-KIT is the toolchain's folder. `rt run` builds the programs, and `rt lib` the library. It ends with status 1 at the first answer that is
-another, and where a sanitizer finds something. It takes six minutes, since a ticket has to be past its end."""
+KIT is the toolchain's folder. `rt run -- --help` builds `kadm` and `kdcd`, each in its folder, and `rt lib` the library in that of
+`ap_accept_c`. It takes six minutes, since a ticket has to be past its end. It ends with status 1 at the first answer that is another,
+and where a sanitizer finds something."""
 
 import argparse
 import os
@@ -49,7 +50,6 @@ NEW = (
     (("none",), (CLOSED,), (re.escape(NO_AP_REQ),)),
     (("cut",), (CLOSED,), (re.escape(NO_AP_REQ),)),
     (("skew=400",), (CLOSED,), (re.escape(SKEW),)),
-    (("skew=-400",), (CLOSED,), (re.escape(SKEW),)),
 )
 OLD = ((("old", "repeat"), (CLOSED, CLOSED), (re.escape(EXPIRED), re.escape(REPEAT))),)
 FOREIGN = (((), (CLOSED,), (re.escape(NOT_US),)),)

@@ -2,11 +2,12 @@
 """Goes a ticket's whole way with the programs, for each encryption type: `kadm` makes a realm, `kdcd serve` issues the
 tickets, `kclient` gets them, MIT's library makes AP-REQs of them (`tools/mk_req.c`), and `ap_whois` accepts them.
 
-    cc -o mk_req tools/mk_req.c -lkrb5
+    for program in kadm kdcd kclient ap_whois; do (cd crates/$program && rt run -- --help); done
+    cc -o mk_req tools/mk_req.c -lkrb5                        # Debian: libkrb5-dev
     python3 tools/whole_way.py --mk-req ./mk_req
 
-What the service prints of a ticket is compared with what MIT's library reads of it, and that library takes the AP-REP.
-The programs are those that `rt run` builds. It ends with status 1 at the first difference."""
+The first line proves and builds the programs, each at crates/NAME/out/NAME. What the service prints of a ticket is compared with what
+MIT's library reads of it, and that library takes the AP-REP. It ends with status 1 at the first difference."""
 
 import argparse
 import json
