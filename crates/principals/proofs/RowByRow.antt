@@ -32,7 +32,7 @@ pub key_is : {E : Type 0} (r : Result (Option (Bor (List ℕ))) E) (ts s : List 
 key_is (Ok x) ts s k value is = let same : k ≡ x = cc in subst (λ (o : Option (Bor (List ℕ))). read_key ts ≡ Some (option_map (λ (t : Bor (List ℕ)). t.now) o, s)) (sym same) value
 key_is (Err e) ts s k value is = cc
 
-pub if_ok : {A E : Type 0} (r : Result A E) (x : A) (made pushed kept : List (Entry Row)) → made ≡ (if is_ok r then pushed else kept) → Some x ≡ result_ok r → made ≡ pushed
+pub if_ok : {A B E : Type 0} (r : Result A E) (x : A) (made pushed kept : List B) → made ≡ (if is_ok r then pushed else kept) → Some x ≡ result_ok r → made ≡ pushed
 if_ok (Ok y) x made pushed kept held is = held
 if_ok (Err e) x made pushed kept held is = cc
 

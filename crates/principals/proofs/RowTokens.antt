@@ -76,7 +76,7 @@ module _ {A : Type 0} (f : A → Data) where
   pub values_done : (xs : List A) (i : ℕ) (done : List Token) → length xs ≤ i → done ++ values_tokens f (drop i xs) ≡ values_tokens f xs → done ≡ values_tokens f xs
   values_done xs i done past so_far = sym (append-nil done) ∙ ap (λ l. done ++ l) (sym (none xs i past)) ∙ so_far
 
-  array_end : (xs : List A) → values_tokens f xs ++ Token.end_array ∷ [] ≡ tree.items_tokens (items_outline (items_of (map f xs)))
+  pub array_end : (xs : List A) → values_tokens f xs ++ Token.end_array ∷ [] ≡ tree.items_tokens (items_outline (items_of (map f xs)))
   array_end [] = refl
   array_end (x ∷ xs) = append_assoc (data_tokens (f x)) (values_tokens f xs) (Token.end_array ∷ []) ∙ ap (λ l. data_tokens (f x) ++ l) (array_end xs)
 

@@ -1,7 +1,7 @@
 //! Texts that are read row by row.
 //!
 //! The value of a whole text takes some thirteen times the text's room, and what is made of it lies scattered among it.
-//! So a text of the form that is written is taken member by member, and the value of a row is let go once its row is made.
+//! So a text of the form that is written is taken member by member, and its rows token by token.
 ghost use Rattle.std.specs.Prelude.{ℕ, ◌≡◌, ◌∷◌, ◌<◌, [], List, All, IfSome, IsSome, Ok, Some, length, reverse};
 ghost use Rattle.std.specs.FinMap.{from_entries};
 ghost use Rattle.json.specs.Lex.{tokens};
@@ -16,18 +16,15 @@ ghost use Rattle.principals.specs.RowValue.{row_of};
 ghost use Rattle.principals.specs.declared.format.Format.TheVariants.{Version2};
 ghost use Rattle.principals.specs.Value.{text_database};
 
-use crate::format::Format;
-use crate::next_value::{next_value, takes_end, takes_key, takes_object, takes_version};
-use crate::row_value::read_row;
+use crate::next_value::{takes_end, takes_key, takes_object, takes_version};
+use crate::row_reading::take_row;
+use crate::row_tokens::know_row;
 use crate::text::{read_component, read_name};
 use crate::{Database, GranterOf};
 use json::{Reader, Scratch, Token};
 use krb_elements::KerberosString;
 use principal_rows::{Entry, NameMap, Row};
 use std::alloc::Global;
-
-/// How deep a row may nest. `serde_json` takes 127 levels, of which the objects around it are two.
-const ROW_DEPTH: usize = 125;
 
 /// What a text has beside its version.
 struct Parts {
@@ -36,8 +33,9 @@ struct Parts {
     entries: Vec<Entry<Row>>,
 }
 
-/// The database of a text in version 2 whose members stand in the order in which they are written, those of each row in
-/// any order. None says nothing of a text: it may have another form, or stand for no database, or memory may be short.
+/// The database of a text in version 2 whose members, and those of each row, stand in the order in which they are written,
+/// with numbers and keys in the same digits. None says nothing of a text: it may have another form, or stand for no
+/// database, or memory may be short.
 pub(crate) fn read_by_rows(alloc: Global, text: &str) -> Option<Database>
     ensures { IfSome result (λ database. text_database text.now ≡ Ok database) }
 {
@@ -117,10 +115,8 @@ fn read_entry(alloc: Global, text: &str, reader: &mut Reader<'_>) -> Option<Entr
     let Ok(name) = read_name(alloc, text) else {
         return None;
     };
-    let value = next_value(alloc, reader, ROW_DEPTH)?;
-    let Ok(value) = read_row(alloc, &value, Format::Version2) else {
-        return None;
-    };
+    let value = take_row(alloc, reader)?;
+    know_row(&value);
     Some(Entry { name, value })
 }
 
