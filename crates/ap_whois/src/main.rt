@@ -4,6 +4,7 @@
 
 use ap_accept::{Accepted, Acceptor, ApFault, Opening};
 use cred_files::{Keytab, Principal};
+use hex::FromHexError;
 use krb_der::KTime;
 use krb_fields::{Moment, component_to_text};
 use principal_rows::Limits;
@@ -67,6 +68,7 @@ fn answer_lines(rt: &HostRuntime, acceptor: &mut Acceptor) -> io::Result<()> {
         let line = line?;
         match hex::decode(rt.alloc(), line.as_bytes()) {
             Ok(ap_req) => answer(rt, acceptor, &ap_req)?,
+            Err(FromHexError::OutOfMemory) => println!(rt; "out of memory")?,
             Err(_) => println!(rt; "not hexadecimal digits")?,
         }
     }
