@@ -90,81 +90,120 @@ fn key(octets: &[u8]) -> Result<Key, Fail> {
     }
 }
 
-/// The entry of `KEYTAB`, of this version.
-fn entry(rt: &HostRuntime, version: u32) -> Result<KeytabEntry, Fail> {
+/// The entry of `KEYTAB`, of this version, in this realm.
+fn entry(alloc: Global, realm: Vec<u8>, version: u32) -> Result<KeytabEntry, Fail> {
+    let key = key(&KEYTAB[29..45])?;
+    let name = Name::new(alloc, 1, &[b"h"])?;
     Ok(KeytabEntry {
-        realm: KerberosString::from_slice(rt.alloc(), b"A.B")?,
-        name: Name::new(rt.alloc(), 1, &[b"h"])?,
+        realm: KerberosString::new(realm),
+        name,
         version,
-        key: key(&KEYTAB[29..45])?,
+        key,
     })
 }
 
+/// How many entries a keytab has.
+fn count(alloc: Global, octets: &[u8]) -> Result<usize, FileFault> {
+    let keytab = Keytab::read(alloc, octets)?;
+    Ok(keytab.len())
+}
+
 #[test]
-fn reads_keytabs(rt: HostRuntime) -> Result<(), Fail> {
-    let files = [
+fn reads_keytabs(rt: HostRuntime) {
+    for (octets, wanted) in [
         (KEYTAB.as_slice(), 1usize),
         (STOCK_KEYTAB.as_slice(), 2),
         (HEIMDAL_KEYTAB.as_slice(), 2),
-    ];
-    for (octets, wanted) in files {
-        assert_eq!(rt; Keytab::read(rt.alloc(), octets)?.len(), wanted);
+    ] {
+        assert_eq!(rt; count(rt.alloc(), octets), Ok(wanted));
     }
-    Ok(())
+}
+
+/// What is written of a keytab that is read.
+fn rewritten(alloc: Global, octets: &[u8]) -> Result<Vec<u8>, FileFault> {
+    let keytab = Keytab::read(alloc, octets)?;
+    Ok(keytab.write(alloc)?)
+}
+
+/// What is written of a keytab with these entries.
+fn written_of(alloc: Global, entries: &[KeytabEntry]) -> Result<Vec<u8>, FileFault> {
+    let keytab = Keytab::new(alloc, entries)?;
+    Ok(keytab.write(alloc)?)
+}
+
+/// What is written of a keytab with an entry of version 1 in this realm.
+fn written(alloc: Global, realm: Vec<u8>) -> Result<Result<Vec<u8>, FileFault>, Fail> {
+    let entries = vec![in alloc; entry(alloc, realm, 1)?]?;
+    Ok(written_of(alloc, &entries))
 }
 
 #[test]
 fn writes_keytabs(rt: HostRuntime) -> Result<(), Fail> {
-    let entries = vec![in rt.alloc(); entry(&rt, 1)?]?;
-    let keytab = Keytab::new(rt.alloc(), &entries)?;
-    assert_eq!(rt; keytab.write(rt.alloc())?.as_slice(), KEYTAB.as_slice());
-    let read = Keytab::read(rt.alloc(), &KEYTAB)?;
-    assert_eq!(rt; read.write(rt.alloc())?.as_slice(), KEYTAB.as_slice());
+    let alloc = rt.alloc();
+    let written = written(alloc, Vec::from_slice(alloc, b"A.B")?)?;
+    assert!(rt; written?.as_slice() == KEYTAB.as_slice());
+    assert!(rt; rewritten(alloc, &KEYTAB)?.as_slice() == KEYTAB.as_slice());
     Ok(())
+}
+
+/// Why a search of the keytab for `h` in a realm finds no key, by a version or by the highest.
+fn miss(
+    keytab: &Keytab,
+    h: &Name,
+    realm: &[u8],
+    etype: Etype,
+    version: Option<u32>,
+) -> Option<Miss> {
+    match keytab.find(realm, h, etype, version) {
+        Ok(_) => None,
+        Err(miss) => Some(miss),
+    }
+}
+
+fn has_key(keytab: &Keytab, h: &Name, octets: &[u8]) -> bool {
+    match keytab.find(b"A.B", h, Etype::Aes256CtsHmacSha1_96, None) {
+        Ok(key) => key.bytes() == octets,
+        Err(_) => false,
+    }
+}
+
+fn expect_finds(rt: &impl Abort, keytab: &Keytab, h: &Name) {
+    let aes256 = Etype::Aes256CtsHmacSha1_96;
+    assert!(rt; has_key(keytab, h, &HEIMDAL_H));
+    for (realm, etype, version, wanted) in [
+        (b"A.C", aes256, None, Miss::NoService),
+        (b"A.B", Etype::Aes128CtsHmacSha1_96, None, Miss::NoEtype),
+        (b"A.B", aes256, Some(1), Miss::NoVersion),
+    ] {
+        assert_eq!(rt; miss(keytab, h, realm, etype, version), Some(wanted));
+    }
 }
 
 #[test]
 fn finds_keys_of_a_stock_keytab(rt: HostRuntime) -> Result<(), Fail> {
-    let keytab = Keytab::read(rt.alloc(), &HEIMDAL_KEYTAB)?;
     let h = Name::new(rt.alloc(), 3, &[b"h"])?;
-    let aes256 = Etype::Aes256CtsHmacSha1_96;
-    let found = keytab.find(b"A.B", &h, aes256, None).ok();
-    assert!(rt; found.is_some_and(|key| key.bytes() == HEIMDAL_H.as_slice()));
-    let misses = [
-        (b"A.C", aes256, None, Miss::NoService),
-        (b"A.B", Etype::Aes128CtsHmacSha1_96, None, Miss::NoEtype),
-        (b"A.B", aes256, Some(1), Miss::NoVersion),
-    ];
-    for (realm, etype, version, wanted) in misses {
-        assert_eq!(rt;
-            keytab.find(realm.as_slice(), &h, etype, version).err(),
-            Some(wanted)
-        );
-    }
+    let keytab = Keytab::read(rt.alloc(), &HEIMDAL_KEYTAB)?;
+    expect_finds(&rt, &keytab, &h);
     Ok(())
+}
+
+/// What is wrong with `KEYTAB` where one octet of it is changed.
+fn fault_at(alloc: Global, place: usize, octet: u8) -> Option<FileFault> {
+    let mut octets = KEYTAB;
+    if let Some(changed) = octets.get_mut(place) {
+        *changed = octet;
+    }
+    count(alloc, &octets).err()
 }
 
 #[test]
 fn tells_entries_that_are_amiss(rt: HostRuntime) -> Result<(), Fail> {
-    let mut short_key = KEYTAB;
-    short_key[28] = 15;
-    assert_eq!(rt;
-        Keytab::read(rt.alloc(), &short_key).err(),
-        Some(FileFault::BadEntry)
-    );
-    let mut long_field = KEYTAB;
-    long_field[14] = 0x40;
-    assert_eq!(rt;
-        Keytab::read(rt.alloc(), &long_field).err(),
-        Some(FileFault::BadEntry)
-    );
-    let mut entry = entry(&rt, 1)?;
-    entry.realm = KerberosString::new(vec![in rt.alloc(); 0x41; 0x1_0000]?);
-    let entries = vec![in rt.alloc(); entry]?;
-    assert_eq!(rt;
-        Keytab::new(rt.alloc(), &entries).err(),
-        Some(FileFault::BadEntry)
-    );
+    let alloc = rt.alloc();
+    // a key that is too short; a field that is longer than the entry
+    assert_eq!(rt; fault_at(alloc, 28, 15), Some(FileFault::BadEntry));
+    assert_eq!(rt; fault_at(alloc, 14, 0x40), Some(FileFault::BadEntry));
+    let written = written(alloc, vec![in alloc; 0x41; 0x1_0000]?)?;
+    assert_eq!(rt; written.err(), Some(FileFault::BadEntry));
     Ok(())
 }
 
@@ -176,24 +215,24 @@ fn tells_where_a_keytab_ends(rt: HostRuntime) {
             2 => None,
             _ => Some(FileFault::Truncated),
         };
-        assert_eq!(rt; Keytab::read(rt.alloc(), &KEYTAB[..len]).err(), wanted);
+        assert_eq!(rt; count(rt.alloc(), &KEYTAB[..len]).err(), wanted);
     }
     assert_eq!(rt;
-        Keytab::read(rt.alloc(), &[5, 1, 0, 0]).err(),
+        count(rt.alloc(), &[5, 1, 0, 0]).err(),
         Some(FileFault::BadMagic)
     );
 }
 
 /// What is written of a cache that is read.
-fn written_again(rt: &HostRuntime, octets: &[u8]) -> Result<Vec<u8>, FileFault> {
-    let cache = Cache::read(rt.alloc(), octets)?;
-    Ok(cache.write(rt.alloc())?)
+fn written_again(alloc: Global, octets: &[u8]) -> Result<Vec<u8>, FileFault> {
+    let cache = Cache::read(alloc, octets)?;
+    Ok(cache.write(alloc)?)
 }
 
 #[test]
 fn reads_and_writes_caches(rt: HostRuntime) -> Result<(), Fail> {
     for octets in [CACHE.as_slice(), STOCK_CACHE.as_slice()] {
-        assert_eq!(rt; written_again(&rt, octets)?.as_slice(), octets);
+        assert!(rt; written_again(rt.alloc(), octets)?.as_slice() == octets);
     }
     Ok(())
 }
@@ -205,18 +244,31 @@ fn tells_where_a_cache_ends(rt: HostRuntime) {
             0 | 1 => FileFault::BadMagic,
             _ => FileFault::Truncated,
         };
-        assert_eq!(rt; Cache::read(rt.alloc(), &CACHE[..len]).err(), Some(wanted));
+        assert_eq!(rt;
+            written_again(rt.alloc(), &CACHE[..len]).err(),
+            Some(wanted)
+        );
     }
 }
 
-/// A credential of `u` for `h`, with this end.
-#[tactic(auto, unfolding(cred_files::specs::Credential::credential, cred_files::specs::Credential::session_key))]
-fn credential(alloc: Global, end: i64) -> Result<Credential, Fail>
-    ensures { IfOk result (λ c. FitsButForTimes c) }
-{
+/// The times of a credential with this end.
+fn times(end: i64) -> Result<Times, Fail> {
     let (Some(start), Some(end)) = (KTime::new(1_704_067_200), KTime::new(end)) else {
         return Err(Fail::new("a time"));
     };
+    Ok(Times {
+        auth_time: start,
+        start_time: start,
+        end_time: end,
+        renew_till: start,
+    })
+}
+
+/// A credential of `u` for `h`, with these times.
+#[tactic(auto, unfolding(cred_files::specs::Credential::credential, cred_files::specs::Credential::session_key))]
+fn credential(alloc: Global, times: Times) -> Result<Credential, Fail>
+    ensures { IfOk result (λ c. FitsButForTimes c) }
+{
     let octets = Octets::from_slice(alloc, &[7; 16])?;
     let ticket = Octets::from_slice(alloc, &[0x61, 0x00])?;
     let client = principal(alloc, b"u")?;
@@ -228,12 +280,7 @@ fn credential(alloc: Global, end: i64) -> Result<Credential, Fail>
             key_type: 17,
             octets,
         },
-        times: Times {
-            auth_time: start,
-            start_time: start,
-            end_time: end,
-            renew_till: start,
-        },
+        times,
         flags: Flags::from_bits(0x40e0_0000),
         addresses: Seq::new(alloc),
         authorization: Seq::new(alloc),
@@ -262,54 +309,58 @@ fn cache(alloc: Global) -> Result<Cache, Fail> {
 
 #[test]
 fn writes_an_empty_cache(rt: HostRuntime) -> Result<(), Fail> {
-    let cache = cache(rt.alloc())?;
-    assert_eq!(rt; cache.write(rt.alloc())?.as_slice(), CACHE.as_slice());
+    let written = written_empty(rt.alloc())?;
+    assert!(rt; written.as_slice() == CACHE.as_slice());
     Ok(())
 }
 
-/// Puts a credential with this end.
-fn expect_put(
-    rt: &impl Abort,
-    alloc: Global,
-    cache: &mut Cache,
-    end: i64,
-    wanted: Option<FileFault>,
-) -> Result<(), Fail> {
-    let credential = credential(alloc, end)?;
-    assert_eq!(rt; cache.put(alloc, &credential).err(), wanted);
-    Ok(())
+fn written_empty(alloc: Global) -> Result<Vec<u8>, Fail> {
+    let cache = cache(alloc)?;
+    Ok(cache.write(alloc)?)
 }
 
-/// Finds the credential for a service, by its end.
-fn expect_end(
-    rt: &impl Abort,
-    alloc: Global,
-    cache: &Cache,
-    service: &[u8],
-    wanted: Result<i64, FileFault>,
-) -> Result<(), Fail> {
-    let service = Name::new(alloc, 2, &[service])?;
-    let found = match cache.find(&service) {
+/// What comes of putting a credential with this end.
+fn put(alloc: Global, cache: &mut Cache, end: i64) -> Result<Option<FileFault>, Fail> {
+    let times = times(end)?;
+    let credential = credential(alloc, times)?;
+    Ok(cache.put(alloc, &credential).err())
+}
+
+/// The end of the credential for a service.
+fn end_of(cache: &Cache, service: &Name) -> Result<i64, FileFault> {
+    match cache.find(service) {
         Ok(found) => Ok(found.times.end_time.seconds()),
         Err(fault) => Err(fault),
-    };
-    assert_eq!(rt; found, wanted);
+    }
+}
+
+fn expect_puts(rt: &impl Abort, alloc: Global, cache: &mut Cache) -> Result<(), Fail> {
+    for (end, wanted) in [
+        (1_704_103_200, None),
+        (4_294_967_296, Some(FileFault::TooLate)),
+        (1_704_103_201, None),
+    ] {
+        assert_eq!(rt; put(alloc, cache, end)?, wanted);
+    }
     Ok(())
+}
+
+fn expect_ends(rt: &impl Abort, alloc: Global, cache: &Cache) -> Result<(), Fail> {
+    for (service, wanted) in [(b"h", Ok(1_704_103_201)), (b"u", Err(FileFault::Absent))] {
+        let service = Name::new(alloc, 2, &[service])?;
+        assert_eq!(rt; end_of(cache, &service), wanted);
+    }
+    Ok(())
+}
+
+fn expect_found(rt: &impl Abort, alloc: Global, cache: &mut Cache) -> Result<(), Fail> {
+    expect_puts(rt, alloc, cache)?;
+    expect_ends(rt, alloc, cache)
 }
 
 #[test]
 fn puts_and_finds_credentials(rt: HostRuntime) -> Result<(), Fail> {
     let alloc = rt.alloc();
     let mut cache = cache(alloc)?;
-    expect_put(&rt, alloc, &mut cache, 1_704_103_200, None)?;
-    expect_put(
-        &rt,
-        alloc,
-        &mut cache,
-        4_294_967_296,
-        Some(FileFault::TooLate),
-    )?;
-    expect_put(&rt, alloc, &mut cache, 1_704_103_201, None)?;
-    expect_end(&rt, alloc, &cache, b"h", Ok(1_704_103_201))?;
-    expect_end(&rt, alloc, &cache, b"u", Err(FileFault::Absent))
+    expect_found(&rt, alloc, &mut cache)
 }

@@ -10,3 +10,5 @@ mod files;
 mod given;
 #[cfg(test)]
 mod rows;
+#[cfg(test)]
+mod steps;

@@ -1,10 +1,14 @@
 //! What a row shows: policies by seconds and by dates, types of keys, and keytabs with older keys.
-use crate::commands::{INIT, expect_run, store};
+use crate::commands::INIT;
+use crate::steps::Step::{Contains, Holds, Put, Run};
+use crate::steps::{Step, file_after, run};
 use cred_files::Keytab;
 use enctypes::Etype;
 use kadm_run::{DONE, REFUSED};
 use krb_fields::Name;
+use std::alloc::Global;
 use std::io;
+use std::process::Abort;
 use std::test::Fail;
 
 const SHOW: &str = "kadm show --db db --name u";
@@ -42,40 +46,45 @@ version 2 19
 version 1 18,20
 ";
 
-#[test]
-fn a_row_shows_its_policy_and_its_versions(rt: HostRuntime) -> io::Result<()> {
-    let mut store = store(&rt)?;
-    for line in [
-        INIT,
+const POLICIES: &[Step] = &[
+    Run(INIT, "ok\n", DONE),
+    Run(
         "kadm add --db db --name u --password-file pass",
+        "ok\n",
+        DONE,
+    ),
+    Run(
         "kadm policy --db db --name u --field expires --value 2027-01-01",
+        "ok\n",
+        DONE,
+    ),
+    Run(
         "kadm policy --db db --name u --field password_expires --value 2027-01-01T12:00:00Z",
+        "ok\n",
+        DONE,
+    ),
+    Run(
         "kadm policy --db db --name u --field revoked_before --value 951827696",
+        "ok\n",
+        DONE,
+    ),
+    Run(
         "kadm policy --db db --name u --field preauth --value false",
+        "ok\n",
+        DONE,
+    ),
+    Run(
         "kadm policy --db db --name u --field greatest_life --value 36000",
-    ] {
-        expect_run(&rt, &mut store, line, "ok\n", DONE)?;
-    }
-    expect_run(&rt, &mut store, SHOW, SHOWN, DONE)?;
-    let line = "kadm show --db db --name x";
-    expect_run(&rt, &mut store, line, "refused Absent\n", REFUSED)
-}
+        "ok\n",
+        DONE,
+    ),
+    Run(SHOW, SHOWN, DONE),
+    Run("kadm show --db db --name x", "refused Absent\n", REFUSED),
+];
 
 #[test]
-fn keys_are_of_the_types_that_are_named(rt: HostRuntime) -> io::Result<()> {
-    let mut store = store(&rt)?;
-    for line in [
-        INIT,
-        "kadm add --db db --name u --password-file pass --types 18,20",
-        "kadm passwd --db db --name u --password-file pass --types 19",
-        "kadm random --db db --name u --seed seed --types 20,17",
-    ] {
-        expect_run(&rt, &mut store, line, "ok\n", DONE)?;
-    }
-    expect_run(&rt, &mut store, SHOW, SHOWN_NEW, DONE)?;
-    let text = str::from_utf8(store.get("db").unwrap_or(&[])).unwrap_or("");
-    assert!(&rt; text.contains(DRAWN));
-    Ok(())
+fn a_row_shows_its_policy_and_its_versions(rt: HostRuntime) -> io::Result<()> {
+    run(&rt, rt.alloc(), POLICIES)
 }
 
 /// The octets that ChaCha20 gives under the seed, as Python's `cryptography` computes them: 32 for type 20, and of the
@@ -83,63 +92,118 @@ fn keys_are_of_the_types_that_are_named(rt: HostRuntime) -> io::Result<()> {
 const DRAWN: &str =
     r#"[{"etype":20,"key":"f400927857aaf64114f561baacb379708c79a1dc1476ab573216a4020764bde5"},{"etype":17,"key":"45c143dbb9609c22ab855d60925a9976"}]"#;
 
-/// An entry of `h` in `A.B`, version 1, with a key of type 23 of 16 octets, at a time that is not zero.
-const OTHER_TYPE: &[u8] =
-    b"\x05\x02\x00\x00\x00\x2b\x00\x01\x00\x03A.B\x00\x01h\x00\x00\x00\x01\x65\x92\x00\x80\x01\x00\x17\x00\x10\x00\x01\x02\x03\x04\x05\x06\x07\x08\x09\x0a\x0b\x0c\x0d\x0e\x0f\x00\x00\x00\x01";
+const VERSIONS: &[Step] = &[
+    Run(INIT, "ok\n", DONE),
+    Run(
+        "kadm add --db db --name u --password-file pass --types 18,20",
+        "ok\n",
+        DONE,
+    ),
+    Run(
+        "kadm passwd --db db --name u --password-file pass --types 19",
+        "ok\n",
+        DONE,
+    ),
+    Run(
+        "kadm random --db db --name u --seed seed --types 20,17",
+        "ok\n",
+        DONE,
+    ),
+    Run(SHOW, SHOWN_NEW, DONE),
+    Contains("db", DRAWN),
+];
+
+#[test]
+fn keys_are_of_the_types_that_are_named(rt: HostRuntime) -> io::Result<()> {
+    run(&rt, rt.alloc(), VERSIONS)
+}
+
+const APPEND: &str = "kadm keytab --db db --name u --out kt --append";
+
+const APPENDED: &[Step] = &[
+    Run(INIT, "ok\n", DONE),
+    Run(
+        "kadm add --db db --name u --password-file pass",
+        "ok\n",
+        DONE,
+    ),
+    Run(APPEND, "ok\n", DONE),
+    Run(
+        "kadm passwd --db db --name u --password-file pass --types 18",
+        "ok\n",
+        DONE,
+    ),
+    Run(APPEND, "ok\n", DONE),
+];
 
 #[test]
 fn a_keytab_keeps_its_older_keys(rt: HostRuntime) -> Result<(), Fail> {
-    let mut store = store(&rt)?;
-    let append = "kadm keytab --db db --name u --out kt --append";
-    for line in [
-        INIT,
-        "kadm add --db db --name u --password-file pass",
-        append,
-        "kadm passwd --db db --name u --password-file pass --types 18",
-        append,
-    ] {
-        expect_run(&rt, &mut store, line, "ok\n", DONE)?;
-    }
-    let keytab = Keytab::read(rt.alloc(), store.get("kt").unwrap_or(&[]))?;
-    assert_eq!(&rt; keytab.len(), 5);
-    let u = Name::new(rt.alloc(), 1, &[b"u"])?;
+    let octets = file_after(&rt, rt.alloc(), APPENDED, "kt")?;
+    expect_versions(&rt, rt.alloc(), &octets)
+}
+
+fn expect_versions(rt: &impl Abort, alloc: Global, octets: &[u8]) -> Result<(), Fail> {
+    let keytab = Keytab::read(alloc, octets)?;
+    assert_eq!(rt; keytab.len(), 5);
+    let u = Name::new(alloc, 1, &[b"u"])?;
     for (etype, version, found) in [
         (Etype::Aes256CtsHmacSha1_96, 1, true),
         (Etype::Aes256CtsHmacSha1_96, 2, true),
         (Etype::Aes128CtsHmacSha256_128, 1, true),
         (Etype::Aes128CtsHmacSha256_128, 2, false),
     ] {
-        assert_eq!(&rt;
-            keytab.find(b"A.B", &u, etype, Some(version)).is_ok(),
-            found
-        );
+        assert!(rt; keytab.find(b"A.B", &u, etype, Some(version)).is_ok() == found);
     }
     Ok(())
 }
 
+/// An entry of `h` in `A.B`, version 1, with a key of type 23 of 16 octets, at a time that is not zero.
+const OTHER_TYPE: &[u8] =
+    b"\x05\x02\x00\x00\x00\x2b\x00\x01\x00\x03A.B\x00\x01h\x00\x00\x00\x01\x65\x92\x00\x80\x01\x00\x17\x00\x10\x00\x01\x02\x03\x04\x05\x06\x07\x08\x09\x0a\x0b\x0c\x0d\x0e\x0f\x00\x00\x00\x01";
+
+/// That entry, the end, and what stands behind it.
+const OLD: &[u8] =
+    b"\x05\x02\x00\x00\x00\x2b\x00\x01\x00\x03A.B\x00\x01h\x00\x00\x00\x01\x65\x92\x00\x80\x01\x00\x17\x00\x10\x00\x01\x02\x03\x04\x05\x06\x07\x08\x09\x0a\x0b\x0c\x0d\x0e\x0f\x00\x00\x00\x01\x00\x00\x00\x00behind";
+
+const APPENDED_TO_OLD: &[Step] = &[
+    Run(INIT, "ok\n", DONE),
+    Run(
+        "kadm add --db db --name u --password-file pass --types 17",
+        "ok\n",
+        DONE,
+    ),
+    Put("kt", OLD),
+    Run(APPEND, "ok\n", DONE),
+];
+
 #[test]
 fn a_keytab_keeps_what_it_has_octet_by_octet(rt: HostRuntime) -> io::Result<()> {
-    let mut store = store(&rt)?;
-    let line = "kadm add --db db --name u --password-file pass --types 17";
-    expect_run(&rt, &mut store, INIT, "ok\n", DONE)?;
-    expect_run(&rt, &mut store, line, "ok\n", DONE)?;
-    let mut old = Vec::from_slice(rt.alloc(), OTHER_TYPE)?;
-    old.extend_from_slice(b"\x00\x00\x00\x00behind")?;
-    store.set(rt.alloc(), "kt", &old)?;
-    let append = "kadm keytab --db db --name u --out kt --append";
-    expect_run(&rt, &mut store, append, "ok\n", DONE)?;
-    let made = store.get("kt").unwrap_or(&[]);
+    let made = file_after(&rt, rt.alloc(), APPENDED_TO_OLD, "kt")?;
     // the entry of `u` has as many octets as that of `h`
     assert_eq!(&rt; made.len(), OTHER_TYPE.len() + 47);
     assert!(&rt; made.starts_with(OTHER_TYPE));
-    for (octets, printed) in [
-        (b"".as_slice(), "refused BadMagic\n"),
-        (b"\x05\x01", "refused BadMagic\n"),
-        (b"\x05\x02\x00", "refused Truncated\n"),
-    ] {
-        store.set(rt.alloc(), "kt", octets)?;
-        expect_run(&rt, &mut store, append, printed, REFUSED)?;
-        assert!(&rt; store.get("kt") == Some(octets));
-    }
     Ok(())
+}
+
+const NO_KEYTABS: &[Step] = &[
+    Run(INIT, "ok\n", DONE),
+    Run(
+        "kadm add --db db --name u --password-file pass --types 17",
+        "ok\n",
+        DONE,
+    ),
+    Put("kt", b""),
+    Run(APPEND, "refused BadMagic\n", REFUSED),
+    Holds("kt", b""),
+    Put("kt", b"\x05\x01"),
+    Run(APPEND, "refused BadMagic\n", REFUSED),
+    Holds("kt", b"\x05\x01"),
+    Put("kt", b"\x05\x02\x00"),
+    Run(APPEND, "refused Truncated\n", REFUSED),
+    Holds("kt", b"\x05\x02\x00"),
+];
+
+#[test]
+fn what_is_no_keytab_is_left(rt: HostRuntime) -> io::Result<()> {
+    run(&rt, rt.alloc(), NO_KEYTABS)
 }

@@ -1,0 +1,287 @@
+//! Steps over files in memory: command lines, and what happens beside them, each with what it has to bring.
+//!
+//! A store is let go in `file_after` alone, and all else borrows it: proofs about its end take long for each place.
+use file_store::{LONGEST_FILE, MemoryStore};
+use kadm_run::{DONE, FAILED, USAGE, kadm_run};
+use std::alloc::{AllocError, Global};
+use std::io;
+use std::process::Abort;
+
+/// What is done with a store, or is looked at in it.
+#[derive(Clone, Copy, Debug)]
+pub enum Step {
+    /// A command line, whose words stand between spaces, prints this and has this status.
+    Run(&'static str, &'static str, u8),
+    /// The same, and it leaves `db` as `before` is.
+    Leaves(&'static str, &'static str, u8),
+    /// So does a command line at each of so many calls of the store, if that call fails.
+    FailsAtEach(&'static str, u32),
+    /// A command line that ends early writes this to standard error.
+    Says(&'static str, &'static str),
+    /// A command line is at fault, and what is printed has this in it.
+    IsAtFault(&'static str, &'static str),
+    /// A file is made of these octets.
+    Put(&'static str, &'static [u8]),
+    /// A file is made that is longer than the longest that is read.
+    PutTooLong(&'static str),
+    /// The second file is made of what the first one holds.
+    Copy(&'static str, &'static str),
+    /// These octets are the input that is left. It is a terminal's, or not.
+    Input(&'static [u8], bool),
+    /// So many letters `a` are the input that is left.
+    Letters(usize),
+    /// What the system draws is octets 7.
+    Draw,
+    /// Another program keeps each file.
+    Keep,
+    /// Two files hold the same.
+    Same(&'static str, &'static str),
+    /// A file holds these octets.
+    Holds(&'static str, &'static [u8]),
+    /// A file has this text in it.
+    Contains(&'static str, &'static str),
+    /// There is no such file.
+    Absent(&'static str),
+    /// All that was asked at the terminal.
+    Asked(&'static str),
+}
+
+/// What a command line came to.
+#[derive(Drop)]
+struct Ended {
+    written: Vec<u8>,
+    errors: Vec<u8>,
+    status: u8,
+}
+
+/// A store with a seed of 40 octets 7, a short one, and two passwords, the second too long.
+fn store(alloc: Global) -> Result<MemoryStore, AllocError> {
+    let mut store = MemoryStore::new(alloc);
+    fill(alloc, &mut store)?;
+    Ok(store)
+}
+
+fn fill(alloc: Global, store: &mut MemoryStore) -> Result<(), AllocError> {
+    store.set(alloc, "seed", &[7; 40])?;
+    store.set(alloc, "short", &[7; 31])?;
+    store.set(alloc, "pass", b"password\nmore")?;
+    store.set(alloc, "long", letters(alloc, 1_025)?.as_slice())
+}
+
+fn letters(alloc: Global, len: usize) -> Result<Vec<u8>, AllocError> {
+    vec![in alloc; b'a'; len]
+}
+
+fn run_line(alloc: Global, store: &mut MemoryStore, line: &str) -> io::Result<Ended> {
+    let words: Vec<&str> = line.split(' ').collect(alloc)?;
+    let mut written = Vec::new(alloc);
+    let mut errors = Vec::new(alloc);
+    let status = kadm_run(alloc, words.as_slice(), store, &mut written, &mut errors);
+    Ok(Ended {
+        written,
+        errors,
+        status,
+    })
+}
+
+fn text(octets: &[u8]) -> &str {
+    str::from_utf8(octets).unwrap_or("")
+}
+
+/// Whether it is a file that was refused.
+fn is_of_file(printed: &str) -> bool {
+    matches!(
+        printed,
+        "refused LongFile\n" | "refused ShortSeed\n" | "refused LongPassword\n"
+    )
+}
+
+fn expect_run(
+    rt: &impl Abort,
+    alloc: Global,
+    store: &mut MemoryStore,
+    line: &str,
+    printed: &str,
+    status: u8,
+) -> io::Result<()> {
+    let ended = run_line(alloc, store, line)?;
+    assert_eq!(rt; text(&ended.written), printed, "{line}");
+    assert_eq!(rt; ended.status, status, "{line}");
+    // which file failed is said beside, and of nothing that was done
+    let is_quiet = status != FAILED && !is_of_file(printed);
+    assert!(rt; ended.errors.is_empty() == is_quiet, "{line}");
+    Ok(())
+}
+
+fn expect_left(
+    rt: &impl Abort,
+    alloc: Global,
+    store: &mut MemoryStore,
+    line: &str,
+    printed: &str,
+    status: u8,
+) -> io::Result<()> {
+    expect_run(rt, alloc, store, line, printed, status)?;
+    assert!(rt; are_same(store, "db", "before"), "{line}");
+    Ok(())
+}
+
+fn expect_failures(
+    rt: &impl Abort,
+    alloc: Global,
+    store: &mut MemoryStore,
+    line: &str,
+    calls: u32,
+) -> io::Result<()> {
+    for failing in 0..calls {
+        store.fail_at(failing.wrapping_add(1));
+        expect_left(rt, alloc, store, line, "failed\n", FAILED)?;
+    }
+    Ok(())
+}
+
+fn expect_error(
+    rt: &impl Abort,
+    alloc: Global,
+    store: &mut MemoryStore,
+    line: &str,
+    said: &str,
+) -> io::Result<()> {
+    let ended = run_line(alloc, store, line)?;
+    assert!(rt; ended.status != DONE, "{line}");
+    assert_eq!(rt; text(&ended.errors), said, "{line}");
+    Ok(())
+}
+
+fn expect_fault(
+    rt: &impl Abort,
+    alloc: Global,
+    store: &mut MemoryStore,
+    line: &str,
+    said: &str,
+) -> io::Result<()> {
+    let ended = run_line(alloc, store, line)?;
+    assert_eq!(rt; ended.status, USAGE, "{line}");
+    assert!(rt; text(&ended.written).contains(said), "{line}");
+    Ok(())
+}
+
+fn put_too_long(alloc: Global, store: &mut MemoryStore, path: &str) -> io::Result<()> {
+    let octets = letters(alloc, LONGEST_FILE + 1)?;
+    Ok(store.set(alloc, path, &octets)?)
+}
+
+/// What a file holds. No octets where there is none.
+fn copy_of(alloc: Global, store: &MemoryStore, path: &str) -> Result<Vec<u8>, AllocError> {
+    Vec::from_slice(alloc, store.get(path).unwrap_or(&[]))
+}
+
+fn copy(alloc: Global, store: &mut MemoryStore, from: &str, to: &str) -> io::Result<()> {
+    let octets = copy_of(alloc, store, from)?;
+    Ok(store.set(alloc, to, &octets)?)
+}
+
+fn set_letters(alloc: Global, store: &mut MemoryStore, len: usize) -> io::Result<()> {
+    let octets = letters(alloc, len)?;
+    Ok(store.set_input(alloc, &octets, false)?)
+}
+
+fn are_same(store: &MemoryStore, path: &str, other: &str) -> bool {
+    match store.get(path) {
+        Some(octets) => holds(store, other, octets),
+        None => false,
+    }
+}
+
+fn holds(store: &MemoryStore, path: &str, octets: &[u8]) -> bool {
+    match store.get(path) {
+        Some(found) => found == octets,
+        None => false,
+    }
+}
+
+fn contains(store: &MemoryStore, path: &str, said: &str) -> bool {
+    match store.get(path) {
+        Some(octets) => text(octets).contains(said),
+        None => false,
+    }
+}
+
+/// Does what a step says to a store. A command line is looked at here too.
+fn do_step(rt: &impl Abort, alloc: Global, store: &mut MemoryStore, step: Step) -> io::Result<()> {
+    match step {
+        Step::Run(line, printed, status) => expect_run(rt, alloc, store, line, printed, status),
+        Step::Leaves(line, printed, status) => expect_left(rt, alloc, store, line, printed, status),
+        Step::FailsAtEach(line, calls) => expect_failures(rt, alloc, store, line, calls),
+        Step::Says(line, said) => expect_error(rt, alloc, store, line, said),
+        Step::IsAtFault(line, said) => expect_fault(rt, alloc, store, line, said),
+        Step::PutTooLong(path) => put_too_long(alloc, store, path),
+        Step::Copy(from, to) => copy(alloc, store, from, to),
+        Step::Put(path, octets) => Ok(store.set(alloc, path, octets)?),
+        Step::Input(octets, terminal) => Ok(store.set_input(alloc, octets, terminal)?),
+        Step::Letters(len) => set_letters(alloc, store, len),
+        _ => Ok(set(store, step)),
+    }
+}
+
+/// Does of these steps what can't fail.
+fn set(store: &mut MemoryStore, step: Step) {
+    match step {
+        Step::Draw => store.set_random([7; 32]),
+        Step::Keep => store.keep(true),
+        _ => {}
+    }
+}
+
+/// Whether a store is as a step says, if the step says how it is.
+fn is_so(store: &MemoryStore, step: Step) -> bool {
+    match step {
+        Step::Same(path, other) => are_same(store, path, other),
+        Step::Holds(path, octets) => holds(store, path, octets),
+        Step::Contains(path, said) => contains(store, path, said),
+        Step::Absent(path) => store.get(path).is_none(),
+        Step::Asked(said) => store.asked() == said,
+        _ => true,
+    }
+}
+
+fn do_steps(
+    rt: &impl Abort,
+    alloc: Global,
+    store: &mut MemoryStore,
+    steps: &[Step],
+) -> io::Result<()> {
+    for step in steps {
+        do_step(rt, alloc, store, *step)?;
+        assert!(rt; is_so(store, *step), "{step:?}");
+    }
+    Ok(())
+}
+
+/// Does the steps, and gives what a file holds then.
+pub fn file_after(
+    rt: &impl Abort,
+    alloc: Global,
+    steps: &[Step],
+    path: &str,
+) -> io::Result<Vec<u8>> {
+    let mut store = store(alloc)?;
+    do_steps_for(rt, alloc, &mut store, steps, path)
+}
+
+fn do_steps_for(
+    rt: &impl Abort,
+    alloc: Global,
+    store: &mut MemoryStore,
+    steps: &[Step],
+    path: &str,
+) -> io::Result<Vec<u8>> {
+    do_steps(rt, alloc, store, steps)?;
+    Ok(copy_of(alloc, store, path)?)
+}
+
+/// Does the steps.
+pub fn run(rt: &impl Abort, alloc: Global, steps: &[Step]) -> io::Result<()> {
+    let _ = file_after(rt, alloc, steps, "db")?;
+    Ok(())
+}
