@@ -19,6 +19,15 @@ impl Deadline {
         })
     }
 
+    /// So many seconds from now, or this one where it is sooner. Where it has passed that is an error.
+    pub(crate) fn sooner(&self, clock: &impl Clock, seconds: u64) -> Result<Deadline> {
+        let left = self.left(clock)?;
+        Ok(Deadline {
+            begun: Instant::now(clock)?,
+            wait: left.min(Duration::from_secs(seconds)),
+        })
+    }
+
     /// How long it is until then. Where it has passed that is an error.
     pub(crate) fn left(&self, clock: &impl Clock) -> Result<Duration> {
         let gone = Instant::now(clock)?.saturating_duration_since(self.begun);

@@ -1,4 +1,5 @@
 //! Messages over sockets (RFC 4120, section 7.2).
+ghost use Rattle.std.specs.Prelude.{◌≡◌};
 ghost use Rattle.file_store.specs.Counting.{IsCounted};
 
 use crate::deadline::Deadline;
@@ -19,6 +20,9 @@ const UDP_WAITS: [u64; 3] = [1, 2, 4];
 /// For how many seconds a connection is held.
 const TCP_WAIT: u64 = 8;
 
+/// For how many seconds all messages of an exchange are waited for, from the first one on.
+const WHOLE_WAIT: u64 = 30;
+
 /// The longest datagram.
 const LONGEST_DATAGRAM: usize = 65_535;
 
@@ -27,6 +31,9 @@ const LONGEST_DATAGRAM: usize = 65_535;
 #[derive(Drop)]
 pub struct SocketExchange<'a, R> {
     system: &'a R,
+    /// When all waiting ends; `None` before the first message.
+    end: Option<Deadline>,
+    answered: Option<SocketAddr>,
     failures: u64,
 }
 
@@ -34,15 +41,41 @@ impl<'a, R: Net + Clock> SocketExchange<'a, R> {
     pub fn new(system: &'a R) -> SocketExchange<'a, R> {
         SocketExchange {
             system,
+            end: None,
+            answered: None,
             failures: 0,
         }
+    }
+
+    /// Sends a message, and gives what comes back before all waiting ends.
+    fn send(
+        &mut self,
+        alloc: Global,
+        by: Transport,
+        to: SocketAddr,
+        message: &[u8],
+    ) -> io::Result<Vec<u8>>
+        ensures { self.new.failures ≡ self.old.failures }
+    {
+        let end = match self.end {
+            Some(end) => end,
+            None => Deadline::after(self.system, WHOLE_WAIT)?,
+        };
+        self.end = Some(end);
+        let reply = match by {
+            Transport::Udp => by_datagrams(alloc, self.system, end, to, message),
+            Transport::Tcp => by_connection(alloc, self.system, end, to, message),
+        }?;
+        self.answered = Some(to);
+        Ok(reply)
     }
 }
 
 impl<'a, R: Net + Clock> Exchange for SocketExchange<'a, R> {
     ghost failure_count = { λ e. e.failures };
 
-    /// A datagram is sent three times, and its reply waited for 1, 2 and 4 seconds. A connection is held for 8 seconds.
+    /// A datagram is sent three times, and its reply waited for 1, 2 and 4 seconds. A connection is held for 8 seconds. All
+    /// of it ends 30 seconds after the first message was sent.
     fn exchange(
         &mut self,
         alloc: Global,
@@ -50,12 +83,13 @@ impl<'a, R: Net + Clock> Exchange for SocketExchange<'a, R> {
         to: SocketAddr,
         message: &[u8],
     ) -> io::Result<Vec<u8>> {
-        let found = match by {
-            Transport::Udp => by_datagrams(alloc, self.system, to, message),
-            Transport::Tcp => by_connection(alloc, self.system, to, message),
-        };
+        let found = self.send(alloc, by, to, message);
         self.failures = counted(self.failures, &found);
         found
+    }
+
+    fn answered(&self) -> Option<SocketAddr> {
+        self.answered
     }
 
     fn failures(&self) -> u64 {
@@ -76,6 +110,7 @@ fn counted<T>(failures: u64, done: &io::Result<T>) -> u64
 fn by_datagrams<R: Net + Clock>(
     alloc: Global,
     system: &R,
+    end: Deadline,
     to: SocketAddr,
     message: &[u8],
 ) -> io::Result<Vec<u8>> {
@@ -83,8 +118,8 @@ fn by_datagrams<R: Net + Clock>(
     socket.connect(to)?;
     let mut datagram = Vec::from_elem(alloc, 0, LONGEST_DATAGRAM)?;
     for seconds in UDP_WAITS {
+        let deadline = end.sooner(system, seconds)?;
         socket.send(message)?;
-        let deadline = Deadline::after(system, seconds)?;
         socket.set_read_timeout(Some(deadline.left(system)?))?;
         match socket.recv(&mut datagram) {
             Ok(len) => {
@@ -114,18 +149,19 @@ fn is_silence(kind: ErrorKind) -> bool {
 fn by_connection<R: Net + Clock>(
     alloc: Global,
     system: &R,
+    end: Deadline,
     to: SocketAddr,
     message: &[u8],
 ) -> io::Result<Vec<u8>> {
-    let deadline = Deadline::after(system, TCP_WAIT)?;
+    let deadline = end.sooner(system, TCP_WAIT)?;
     let stream = TcpStream::connect_timeout(system, &to, deadline.left(system)?)?;
     let mut stream = TimedStream::new(stream, system, deadline);
-    send(alloc, &mut stream, message)?;
+    send_framed(alloc, &mut stream, message)?;
     receive(alloc, &mut stream)
 }
 
 /// Sends a message behind its length, four octets (RFC 4120, section 7.2.2).
-fn send<W: Write>(alloc: Global, stream: &mut W, message: &[u8]) -> io::Result<()> {
+fn send_framed<W: Write>(alloc: Global, stream: &mut W, message: &[u8]) -> io::Result<()> {
     let Ok(len) = u32::try_from(message.len()) else {
         return Err(Error::from(ErrorKind::InvalidInput));
     };

@@ -5,29 +5,69 @@ use krb_elements::read;
 use krb_fields::Code;
 use krb_types::KrbErrorRef;
 use std::alloc::Global;
+use std::io::{Error, ErrorKind};
 use std::net::SocketAddr;
 
-/// Where the KDC is, and whether it is asked by TCP alone.
+/// Where the KDCs are, in the order in which they are asked, and whether they are asked by TCP alone.
 #[derive(Clone, Copy, Debug)]
-pub(crate) struct KdcPlace {
-    pub address: SocketAddr,
+pub(crate) struct KdcPlace<'a> {
+    pub addresses: &'a [SocketAddr],
     pub tcp_only: bool,
 }
 
-/// The reply to a request. It goes by UDP, and by TCP where no reply comes or the KDC says that it is too big for a
-/// datagram.
+/// The reply to a request. The KDC that gave the last reply is asked first, so that all requests of a command go to one;
+/// where it gives nothing, the others are asked in their order. What comes back ends it, also where it is an error.
 pub(crate) fn ask<X: Exchange>(
     alloc: Global,
     exchange: &mut X,
-    kdc: KdcPlace,
+    kdc: KdcPlace<'_>,
     request: &[u8],
 ) -> Result<Vec<u8>, Stop> {
-    if kdc.tcp_only {
-        return ask_by_tcp(alloc, exchange, kdc.address, request);
+    let last = exchange.answered();
+    if let Some(address) = last
+        && let Ok(reply) = ask_at(alloc, exchange, address, kdc.tcp_only, request)
+    {
+        return Ok(reply);
     }
-    match exchange.exchange(alloc, Transport::Udp, kdc.address, request) {
+    ask_others(alloc, exchange, kdc, last, request)
+}
+
+/// The reply of the first KDC that gives one, but for the one that was asked before.
+fn ask_others<X: Exchange>(
+    alloc: Global,
+    exchange: &mut X,
+    kdc: KdcPlace<'_>,
+    last: Option<SocketAddr>,
+    request: &[u8],
+) -> Result<Vec<u8>, Stop> {
+    let mut stop = Stop::Failed(Error::from(ErrorKind::TimedOut), Place::Kdc);
+    for address in kdc.addresses {
+        if last == Some(*address) {
+            continue;
+        }
+        match ask_at(alloc, exchange, *address, kdc.tcp_only, request) {
+            Ok(reply) => return Ok(reply),
+            Err(silence) => stop = silence,
+        }
+    }
+    Err(stop)
+}
+
+/// The reply of one KDC. The request goes by UDP, and by TCP where no reply comes or the KDC says that it is too big for
+/// a datagram.
+fn ask_at<X: Exchange>(
+    alloc: Global,
+    exchange: &mut X,
+    address: SocketAddr,
+    tcp_only: bool,
+    request: &[u8],
+) -> Result<Vec<u8>, Stop> {
+    if tcp_only {
+        return ask_by_tcp(alloc, exchange, address, request);
+    }
+    match exchange.exchange(alloc, Transport::Udp, address, request) {
         Ok(reply) if !is_too_big(&reply) => Ok(reply),
-        _ => ask_by_tcp(alloc, exchange, kdc.address, request),
+        _ => ask_by_tcp(alloc, exchange, address, request),
     }
 }
 

@@ -1,6 +1,7 @@
 //! Credentials go into a cache, and the cache into its file.
-ghost use Rattle.std.specs.Prelude.{◌≡◌, OnErr, OnOk};
+ghost use Rattle.std.specs.Prelude.{◌≡◌, IfOk, OnErr, OnOk};
 ghost use Rattle.cred_files.specs.Cache.{put_first};
+ghost use Rattle.kclient_run.specs.Caches.{new_cache};
 
 use crate::faults::{Place, Reason, Stop};
 use crate::files::of;
@@ -10,7 +11,9 @@ use std::alloc::Global;
 
 /// Makes a new cache of the credential's client, with the credential.
 #[tactic(auto, unfolding(cred_files::specs::Cache::cache_head))]
-fn make_cache(alloc: Global, credential: &Credential) -> Result<Cache, Stop> {
+fn make_cache(alloc: Global, credential: &Credential) -> Result<Cache, Stop>
+    ensures { IfOk result (λ cache. cache ≡ new_cache credential.now) }
+{
     if !credential.has_room() {
         return Err(Stop::Refused(Reason::BadEntry, Place::Cache));
     }

@@ -1,29 +1,27 @@
-//! What a client draws at random.
+//! What a client draws at random. Each call takes its octets from the generator once.
 ghost use Rattle.std.specs.Prelude.{◌≡◌, ◌<◌};
+ghost use Rattle.kclient_run.specs.Draws.{drawn_confounder, drawn_nonce};
+ghost use Rattle.rand_core.specs.Stream.{fill_bytes};
 
-use rand_chacha::ChaCha20Rng;
-use rand_core::{Rng, SeedableRng};
+use rand_core::Rng;
 
-/// What is drawn for one command.
-#[derive(Clone, Copy, Debug)]
-pub struct Draws {
-    /// The number that each reply repeats.
-    pub nonce: u32,
-    /// The confounder of what the client seals.
-    pub confounder: [u8; 16],
-}
-
-/// What ChaCha20 gives under a seed. A nonce is below 2147483648, since many KDCs drop a request with a larger one.
-pub fn draw(seed: [u8; 32]) -> Draws
-    ensures { result.nonce < 2147483648 }
+/// The number that a reply repeats. It is below 2147483648, since many KDCs drop a request with a larger one.
+pub fn draw_nonce<R: Rng>(rng: &mut R) -> u32
+    ensures value { result ≡ drawn_nonce (R.stream rng.old) }
+    ensures small { result < 2147483648 }
+    ensures drawn { R.stream rng.new ≡ (fill_bytes 4 (R.stream rng.old)).1 }
 {
-    let mut rng = ChaCha20Rng::from_seed(seed);
     let mut octets = [0; 4];
     rng.fill_bytes(&mut octets);
-    let mut confounder = [0; 16];
-    rng.fill_bytes(&mut confounder);
-    Draws {
-        nonce: u32::from_be_bytes(octets) % 0x8000_0000,
-        confounder,
-    }
+    u32::from_be_bytes(octets) % 0x8000_0000
+}
+
+/// The confounder of what the client seals: 16 octets.
+pub fn draw_confounder<R: Rng>(rng: &mut R) -> [u8; 16]
+    ensures value { result ≡ drawn_confounder (R.stream rng.old) }
+    ensures drawn { R.stream rng.new ≡ (fill_bytes 16 (R.stream rng.old)).1 }
+{
+    let mut octets = [0; 16];
+    rng.fill_bytes(&mut octets);
+    octets
 }

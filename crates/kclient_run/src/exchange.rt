@@ -29,6 +29,9 @@ pub trait Exchange {
     ) -> io::Result<Vec<u8>>
         ensures { IsCounted (failure_count self.old) result (failure_count self.new) };
 
+    /// The address from which the last message came back; `None` before the first.
+    fn answered(&self) -> Option<SocketAddr>;
+
     /// How many messages got no reply. The count stops at the greatest `u64`.
     fn failures(&self) -> u64
         ensures { result ≡ failure_count self.now };

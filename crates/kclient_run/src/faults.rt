@@ -11,10 +11,14 @@ use std::io::ErrorKind;
 pub(crate) enum Place {
     Realm,
     Name,
+    Service,
     Password,
+    Keytab,
     Cache,
     Seed,
     Kdc,
+    /// A `krb5.conf`.
+    Config,
     Memory,
 }
 
@@ -34,6 +38,22 @@ pub(crate) enum Reason {
     Mismatch,
     CannotOpen,
     CountTooLarge,
+    /// A `krb5.conf` names no default realm.
+    NoRealm,
+    /// A `krb5.conf` has no KDC of the realm.
+    NoKdc,
+    /// What stands for a KDC in a `krb5.conf` is no address.
+    NotAnAddress,
+    /// It is no keytab.
+    NoKeytab,
+    /// An entry of a keytab has no key of its type.
+    BadKey,
+    /// The keytab has no key of the client, of a type that the KDC names.
+    NoKey,
+    /// The keytab has no key of the type and version that a ticket names.
+    NoTicketKey,
+    /// The keytab's key doesn't open the ticket.
+    Unopened,
 }
 
 /// Why a command ends before it is done.
@@ -55,6 +75,17 @@ impl Stop {
     }
 }
 
+impl Stop {
+    /// Whether it is what came back from a KDC that ends the command.
+    pub(crate) fn is_of_reply(self) -> bool {
+        match self {
+            Stop::Error(_) => true,
+            Stop::Refused(_, place) => place == Place::Kdc,
+            Stop::Failed(..) => false,
+        }
+    }
+}
+
 impl Reason {
     /// The word for it on standard output.
     pub(crate) fn name(self) -> &'static str {
@@ -72,6 +103,14 @@ impl Reason {
             Reason::Mismatch => "Mismatch",
             Reason::CannotOpen => "CannotOpen",
             Reason::CountTooLarge => "CountTooLarge",
+            Reason::NoKeytab => "BadMagic",
+            Reason::BadKey => "BadEntry",
+            Reason::NoKey => "Absent",
+            Reason::NoTicketKey => "Absent",
+            Reason::Unopened => "CannotOpen",
+            Reason::NoRealm => "NoRealm",
+            Reason::NoKdc => "NoKdc",
+            Reason::NotAnAddress => "NotAnAddress",
         }
     }
 
@@ -94,6 +133,17 @@ impl Reason {
                 "the key does not open the reply: the password is another, or the KDC",
             Reason::CountTooLarge =>
                 "the KDC asks for more iterations of string-to-key than 1048576, or none",
+            Reason::NoKeytab => "the file is no keytab of version 2",
+            Reason::BadKey => "an entry's key has not as many octets as keys of its type have",
+            Reason::NoKey => "no key of the client is there, of a type that the KDC names",
+            Reason::NoTicketKey =>
+                "no key of the service is there, of the ticket's type and version",
+            Reason::Unopened =>
+                "its key does not open the ticket: it is another of the same version",
+            Reason::NoRealm => "it has no default_realm in [libdefaults]; --realm names one",
+            Reason::NoKdc => "it has no kdc of the realm in [realms]; --kdc takes its address",
+            Reason::NotAnAddress =>
+                "a kdc of the realm is no address, and no name is looked up; --kdc takes its address",
         }
     }
 }
@@ -137,6 +187,17 @@ impl From<ClientFault> for Stop {
             ClientFault::CountTooLarge => Stop::Refused(Reason::CountTooLarge, Place::Kdc),
             ClientFault::Memory => out_of_memory(),
         }
+    }
+}
+
+/// What is wrong with a keytab.
+pub(crate) fn of_keytab(fault: FileFault) -> Stop {
+    match fault {
+        FileFault::BadMagic => Stop::Refused(Reason::NoKeytab, Place::Keytab),
+        FileFault::Truncated => Stop::Refused(Reason::Truncated, Place::Keytab),
+        FileFault::BadEntry => Stop::Refused(Reason::BadKey, Place::Keytab),
+        // the others are of caches
+        FileFault::TooLate | FileFault::Absent | FileFault::Memory => out_of_memory(),
     }
 }
 

@@ -1,4 +1,4 @@
-//! `kinit`: the Authentication Service exchange (RFC 4120, section 3.1).
+//! `kinit`: a first ticket, by the Authentication Service exchange (RFC 4120, section 3.1).
 ghost use Rattle.std.specs.Prelude.{IfOk};
 ghost use Rattle.client_core.specs.Asked.{IsAskable};
 ghost use Rattle.client_core.specs.Taken.{IsTaken};
@@ -6,70 +6,97 @@ ghost use Rattle.client_core.specs.declared.key_role.KeyRole.TheVariants as role
 
 use crate::asking::{KdcPlace, ask};
 use crate::caches::write_new_cache;
-use crate::draws::{Draws, draw};
+use crate::draws::{draw_confounder, draw_nonce};
 use crate::exchange::Exchange;
 use crate::faults::{Place, Reason, Stop, of_name};
-use crate::files::of;
-use crate::infos::{info_of_refusal, info_of_reply};
-use crate::kvno::etypes;
-use crate::words::{CommonWords, KinitWords};
+use crate::files::{of, read_keytab};
+use crate::infos::info_of_refusal;
+use crate::secrets::{Secret, key_of_next_reply, key_of_reply, key_wanted};
+use crate::wishes::{Wishes, first_asked};
+use crate::words::{CommonWords, KinitWords, SecretWords};
 use client_core::{
-    Asked, ClientFault, EtypeInfo2, Refusal, as_request, password_key, read_as_reply, refusal_in,
-    with_timestamp,
+    Asked, ClientFault, EtypeInfo2, Refusal, as_request, read_as_reply, refusal_in, with_timestamp,
 };
-use cred_files::Credential;
+use cred_files::{Credential, Principal};
 use enctypes::Key;
-use file_store::{Store, read_password, read_seed};
-use krb_der::KTime;
+use file_store::{Store, ask_password, read_or_draw_seed, read_password};
 use krb_elements::KerberosString;
-use krb_fields::{Code, Flags, KdcOption, Moment, Name, component_from_text};
+use krb_fields::{Code, Moment, Name, component_from_text};
+use rand_chacha::ChaCha20Rng;
+use rand_core::SeedableRng;
 use std::alloc::{AllocError, Global};
 
 /// The name-type of a service with its instance, NT-SRV-INST (RFC 4120, section 6.2).
 const SERVICE_AND_INSTANCE: i32 = 2;
 
-/// Who logs in.
+/// Who logs in, and the service that the ticket is for.
 #[derive(Drop)]
-struct ClientName {
-    realm: KerberosString,
-    name: Name,
+struct Names {
+    client: Principal,
+    service: Name,
 }
 
-/// Gets a ticket for tickets, and writes a cache of it.
+/// Gets a first ticket, and writes a cache of it.
 pub(crate) fn log_in<T: Store, X: Exchange>(
     alloc: Global,
     common: &CommonWords<'_>,
     words: &KinitWords<'_>,
-    kdc: KdcPlace,
+    kdc: KdcPlace<'_>,
     store: &mut T,
     exchange: &mut X,
     at: Moment,
 ) -> Result<(), Stop> {
-    let client = read_client(alloc, words.realm, common.name)?;
-    let pass = of(read_password(alloc, store, words.password), Place::Password)?;
-    let draws = draw(of(read_seed(alloc, store, common.seed), Place::Seed)?);
-    let credential = ticket_of(alloc, exchange, kdc, words, client, &pass, &draws, at)?;
+    let names = read_names(alloc, words)?;
+    let secret = read_secret(alloc, store, words)?;
+    let mut rng = generator(alloc, store, common)?;
+    let credential = ticket_of(
+        alloc,
+        exchange,
+        kdc,
+        &words.wishes,
+        &names,
+        &secret,
+        &mut rng,
+        at,
+    )?;
     write_new_cache(alloc, store, common.cache, &credential)
 }
 
 fn ticket_of<X: Exchange>(
     alloc: Global,
     exchange: &mut X,
-    kdc: KdcPlace,
-    words: &KinitWords<'_>,
-    client: ClientName,
-    pass: &[u8],
-    draws: &Draws,
+    kdc: KdcPlace<'_>,
+    wishes: &Wishes,
+    names: &Names,
+    secret: &Secret,
+    rng: &mut ChaCha20Rng,
     at: Moment,
 ) -> Result<Credential, Stop> {
-    let asked = asked_by(alloc, words, client, at, draws.nonce)?;
-    first_ticket(alloc, exchange, kdc, &asked, pass, draws, at)
+    let nonce = draw_nonce(rng);
+    let asked = first_asked(alloc, wishes, &names.client, &names.service, at, nonce)?;
+    first_ticket(alloc, exchange, kdc, &asked, secret, rng, at)
 }
 
-fn read_client(alloc: Global, realm: &str, name: &str) -> Result<ClientName, Stop> {
-    let realm = read_realm(alloc, realm)?;
-    let name = read_name(alloc, name)?;
-    Ok(ClientName { realm, name })
+/// The generator of what a command draws: ChaCha20 under the seed of a file, or under the system's random octets.
+pub(crate) fn generator<T: Store>(
+    alloc: Global,
+    store: &mut T,
+    common: &CommonWords<'_>,
+) -> Result<ChaCha20Rng, Stop> {
+    let seed = of(read_or_draw_seed(alloc, store, common.seed), Place::Seed)?;
+    Ok(ChaCha20Rng::from_seed(seed))
+}
+
+fn read_names(alloc: Global, words: &KinitWords<'_>) -> Result<Names, Stop> {
+    let client = read_client(alloc, words)?;
+    let service = read_service(alloc, words.service, &client.realm)?;
+    Ok(Names { client, service })
+}
+
+fn read_client(alloc: Global, words: &KinitWords<'_>) -> Result<Principal, Stop> {
+    let realm = read_realm(alloc, words.realm)?;
+    let name = read_name(alloc, words.name, Place::Name)?;
+    Ok(Principal { realm, name })
 }
 
 fn read_realm(alloc: Global, text: &str) -> Result<KerberosString, Stop> {
@@ -79,34 +106,19 @@ fn read_realm(alloc: Global, text: &str) -> Result<KerberosString, Stop> {
     }
 }
 
-pub(crate) fn read_name(alloc: Global, text: &str) -> Result<Name, Stop> {
+pub(crate) fn read_name(alloc: Global, text: &str, place: Place) -> Result<Name, Stop> {
     match Name::from_text(alloc, text) {
         Ok(name) => Ok(name),
-        Err(fault) => Err(of_name(fault, Place::Name)),
+        Err(fault) => Err(of_name(fault, place)),
     }
 }
 
-/// What is asked of the Authentication Service.
-fn asked_by(
-    alloc: Global,
-    words: &KinitWords<'_>,
-    client: ClientName,
-    at: Moment,
-    nonce: u32,
-) -> Result<Asked, AllocError> {
-    let service = granter(alloc, &client.realm)?;
-    let etypes = etypes(alloc)?;
-    Ok(Asked {
-        options: options(words),
-        client: client.name,
-        realm: client.realm,
-        service,
-        from: None,
-        till: till(words.life, at),
-        rtime: rtime(words.renewable),
-        nonce,
-        etypes,
-    })
+/// The service that is named, else the ticket-granting one.
+fn read_service(alloc: Global, text: Option<&str>, realm: &KerberosString) -> Result<Name, Stop> {
+    match text {
+        Some(text) => read_name(alloc, text, Place::Service),
+        None => Ok(granter(alloc, realm)?),
+    }
 }
 
 /// The ticket-granting service of a realm.
@@ -114,38 +126,33 @@ pub(crate) fn granter(alloc: Global, realm: &KerberosString) -> Result<Name, All
     Name::new(alloc, SERVICE_AND_INSTANCE, &[b"krbtgt", realm.as_slice()])
 }
 
-fn options(words: &KinitWords<'_>) -> Flags {
-    let mut options = Flags::from_bits(0);
-    if words.renewable {
-        options = options.with(KdcOption::Renewable);
+/// What a file has of the client's key, or a password from standard input.
+fn read_secret<T: Store>(
+    alloc: Global,
+    store: &mut T,
+    words: &KinitWords<'_>,
+) -> Result<Secret, Stop> {
+    match words.secret {
+        SecretWords::PasswordFile(path) => {
+            let pass = of(read_password(alloc, store, path), Place::Password)?;
+            Ok(Secret::Password(pass))
+        }
+        SecretWords::Keytab(path) => Ok(Secret::Keytab(read_keytab(alloc, store, path)?)),
+        SecretWords::Asked => {
+            let pass = ask_password(alloc, store, words.name, words.realm);
+            Ok(Secret::Password(of(pass, Place::Password)?))
+        }
     }
-    if words.forwardable {
-        options = options.with(KdcOption::Forwardable);
-    }
-    options
-}
-
-/// Now and so many seconds, at most the end of the year 9999; the start of 1970 asks for no bound.
-fn till(life: Option<u32>, at: Moment) -> KTime {
-    match life {
-        Some(life) => KTime::of((at.sec + i64::from(life)).min(Moment::LAST_SECOND)),
-        None => KTime::of(0),
-    }
-}
-
-/// The start of 1970 asks for as long as the KDC gives.
-fn rtime(renewable: bool) -> Option<KTime> {
-    if renewable { Some(KTime::of(0)) } else { None }
 }
 
 /// Asks without a timestamp, and once more with one where the KDC wants it.
 fn first_ticket<X: Exchange>(
     alloc: Global,
     exchange: &mut X,
-    kdc: KdcPlace,
+    kdc: KdcPlace<'_>,
     asked: &Asked,
-    pass: &[u8],
-    draws: &Draws,
+    secret: &Secret,
+    rng: &mut ChaCha20Rng,
     at: Moment,
 ) -> Result<Credential, Stop> {
     if !asked.is_askable() {
@@ -153,15 +160,13 @@ fn first_ticket<X: Exchange>(
     }
     let request = as_request(alloc, asked)?;
     let reply = ask(alloc, exchange, kdc, &request)?;
-    match info_of_reply(alloc, &reply)? {
-        Some(info) => {
-            let key = key_of(alloc, pass, asked, &info)?;
-            take(alloc, asked, &key, at, &reply)
-        }
+    match key_of_reply(alloc, secret, asked, &reply)? {
+        Some(key) => take(alloc, asked, &key, at, &reply),
         None => {
             let info = info_wanted(alloc, &reply)?;
-            let key = key_of(alloc, pass, asked, &info)?;
-            ask_with_timestamp(alloc, exchange, kdc, asked, &key, draws, at)
+            let key = key_wanted(alloc, secret, asked, &info)?;
+            let confounder = draw_confounder(rng);
+            ask_with_timestamp(alloc, exchange, kdc, asked, secret, &key, &confounder, at)
         }
     }
 }
@@ -170,17 +175,19 @@ fn first_ticket<X: Exchange>(
 fn ask_with_timestamp<X: Exchange>(
     alloc: Global,
     exchange: &mut X,
-    kdc: KdcPlace,
+    kdc: KdcPlace<'_>,
     asked: &Asked,
+    secret: &Secret,
     key: &Key,
-    draws: &Draws,
+    confounder: &[u8; 16],
     at: Moment,
 ) -> Result<Credential, Stop>
     requires { IsAskable asked.now }
 {
-    let request = with_timestamp(alloc, asked, key, at, &draws.confounder)?;
+    let request = with_timestamp(alloc, asked, key, at, confounder)?;
     let reply = ask(alloc, exchange, kdc, &request)?;
-    take(alloc, asked, key, at, &reply)
+    let key = key_of_next_reply(secret, asked, key, &reply)?;
+    take(alloc, asked, &key, at, &reply)
 }
 
 /// What the KDC says of the client's keys where it wants preauthentication; else why it gives no ticket.
@@ -196,13 +203,6 @@ fn info_in_refusal(alloc: Global, refusal: &Refusal) -> Result<EtypeInfo2, Stop>
         return Err(Stop::Error(refusal.code));
     }
     Ok(info_of_refusal(alloc, &refusal.e_data)?)
-}
-
-fn key_of(alloc: Global, pass: &[u8], asked: &Asked, info: &EtypeInfo2) -> Result<Key, Stop> {
-    match password_key(alloc, pass, asked.realm.as_slice(), &asked.client, info) {
-        Ok(key) => Ok(key),
-        Err(fault) => Err(Stop::from(fault)),
-    }
 }
 
 fn take(

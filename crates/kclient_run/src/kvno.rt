@@ -1,143 +1,226 @@
-//! `kvno`: the Ticket-Granting Service exchange (RFC 4120, section 3.3).
-ghost use Rattle.std.specs.Prelude.{IfOk};
-ghost use Rattle.client_core.specs.Taken.{IsTaken};
-ghost use Rattle.client_core.specs.declared.key_role.KeyRole.TheVariants as roles;
-
-use crate::asking::{KdcPlace, ask};
+//! `kvno`: tickets for services, one after the other.
+use crate::asking::KdcPlace;
 use crate::caches::{put, read_cache, write_cache};
-use crate::draws::{Draws, draw};
 use crate::exchange::Exchange;
-use crate::faults::{Place, Reason, Stop};
-use crate::files::of;
-use crate::kinit::{granter, read_name};
-use crate::words::CommonWords;
-use client_core::{Asked, is_presentable, read_tgs_reply, session_key, tgs_request};
-use cred_files::{Cache, Credential, Principal};
-use enctypes::{Etype, Key};
-use file_store::{Store, read_seed};
-use krb_der::KTime;
-use krb_elements::{Seq, read};
-use krb_fields::{Flags, Moment, Name};
+use crate::faults::{Place, Stop};
+use crate::files::read_keytab;
+use crate::granting::service_ticket;
+use crate::holding::good_credential;
+use crate::kinit::{generator, read_name};
+use crate::moments::next_moment;
+use crate::opening::check_ticket;
+use crate::words::{CommonWords, KvnoWords};
+use cred_files::{Cache, Credential, Keytab};
+use file_store::Store;
+use krb_elements::read;
+use krb_fields::{Moment, Name};
 use krb_types::TicketRef;
-use std::alloc::{AllocError, Global};
+use rand_chacha::ChaCha20Rng;
+use std::alloc::Global;
 
-/// There is no ticket to ask with.
-const NO_TICKET: Stop = Stop::Refused(Reason::Absent, Place::Cache);
+/// Why `kvno` ends before it is done.
+#[derive(Clone, Copy, Debug)]
+pub(crate) struct KvnoStop {
+    pub stop: Stop,
+    /// The place of the name at which it ends; absent: at none.
+    pub index: Option<usize>,
+}
 
-/// Gets a ticket for a service, puts it into the cache, and gives the version of the key that it is sealed under.
-pub(crate) fn get_ticket<T: Store, X: Exchange>(
+impl From<Stop> for KvnoStop {
+    fn from(stop: Stop) -> KvnoStop {
+        KvnoStop { stop, index: None }
+    }
+}
+
+/// What is done, or why the command ends at the name of this place.
+fn at_name<T: Drop>(done: Result<T, Stop>, index: usize) -> Result<T, KvnoStop> {
+    match done {
+        Ok(value) => Ok(value),
+        Err(stop) => Err(KvnoStop {
+            stop,
+            index: Some(index),
+        }),
+    }
+}
+
+/// What the command works with.
+#[derive(Drop)]
+struct Desk {
+    cache: Cache,
+    keytab: Option<Keytab>,
+    rng: ChaCha20Rng,
+    /// The moment of the next request.
+    at: Moment,
+    /// Whether the cache has more than its file.
+    is_changed: bool,
+}
+
+/// Gets a ticket for each service, unless the cache has a good one, and puts it into the cache. The versions of the
+/// keys that the tickets are sealed under go to `versions`, in the order of the names.
+pub(crate) fn get_tickets<T: Store, X: Exchange>(
     alloc: Global,
     common: &CommonWords<'_>,
-    kdc: KdcPlace,
+    words: &KvnoWords<'_>,
+    names: &[&str],
+    kdc: KdcPlace<'_>,
     store: &mut T,
     exchange: &mut X,
     at: Moment,
-) -> Result<i64, Stop> {
-    let service = read_name(alloc, common.name)?;
-    let mut cache = read_cache(alloc, store, common.cache)?;
-    let draws = draw(of(read_seed(alloc, store, common.seed), Place::Seed)?);
-    let version = put_ticket(alloc, exchange, kdc, &mut cache, service, &draws, at)?;
-    write_cache(alloc, store, common.cache, &cache)?;
-    Ok(version)
+    versions: &mut Vec<i64>,
+) -> Result<(), KvnoStop> {
+    let services = read_services(alloc, names)?;
+    let mut desk = read_desk(alloc, common, words, store, at)?;
+    get_each(
+        alloc,
+        words.fresh,
+        kdc,
+        &mut desk,
+        exchange,
+        &services,
+        versions,
+    )?;
+    Ok(write_changed(alloc, common, store, &desk)?)
 }
 
-/// Gets the ticket and puts it into the cache.
-fn put_ticket<X: Exchange>(
-    alloc: Global,
-    exchange: &mut X,
-    kdc: KdcPlace,
-    cache: &mut Cache,
-    service: Name,
-    draws: &Draws,
-    at: Moment,
-) -> Result<i64, Stop> {
-    let credential = service_ticket(alloc, exchange, kdc, cache, service, draws, at)?;
-    put(alloc, cache, &credential)?;
-    Ok(version_of(&credential))
-}
-
-/// Asks with the cache's ticket for tickets.
-fn service_ticket<X: Exchange>(
-    alloc: Global,
-    exchange: &mut X,
-    kdc: KdcPlace,
-    cache: &Cache,
-    service: Name,
-    draws: &Draws,
-    at: Moment,
-) -> Result<Credential, Stop> {
-    let client = cache.principal();
-    let asked = asked_by(alloc, client, service, draws.nonce)?;
-    let service = granter(alloc, &client.realm)?;
-    match cache.find(&service) {
-        Ok(granting) => ask_with_ticket(alloc, exchange, kdc, granting, &asked, draws, at),
-        Err(_) => Err(NO_TICKET),
+fn read_services(alloc: Global, names: &[&str]) -> Result<Vec<Name>, KvnoStop> {
+    let mut services = Vec::new(alloc);
+    for (index, name) in names.iter().enumerate() {
+        at_name(add_service(alloc, &mut services, name), index)?;
     }
+    Ok(services)
 }
 
-fn ask_with_ticket<X: Exchange>(
+fn add_service(alloc: Global, services: &mut Vec<Name>, name: &str) -> Result<(), Stop> {
+    let service = read_name(alloc, name, Place::Name)?;
+    Ok(services.push(service)?)
+}
+
+fn read_desk<T: Store>(
     alloc: Global,
-    exchange: &mut X,
-    kdc: KdcPlace,
-    granting: &Credential,
-    asked: &Asked,
-    draws: &Draws,
+    common: &CommonWords<'_>,
+    words: &KvnoWords<'_>,
+    store: &mut T,
     at: Moment,
-) -> Result<Credential, Stop> {
-    if !is_presentable(granting) || !asked.is_askable() {
-        return Err(NO_TICKET);
-    }
-    let Some(key) = session_key(granting) else {
-        return Err(NO_TICKET);
-    };
-    let request = tgs_request(alloc, asked, granting, None, at, &draws.confounder)?;
-    let reply = ask(alloc, exchange, kdc, &request)?;
-    take(alloc, asked, &key, at, &reply)
-}
-
-fn take(
-    alloc: Global,
-    asked: &Asked,
-    key: &Key,
-    at: Moment,
-    reply: &[u8],
-) -> Result<Credential, Stop>
-    ensures { IfOk result (λ credential. IsTaken 13 roles.Session asked.now key.now at.sec reply.now credential) }
-{
-    match read_tgs_reply(alloc, asked, key, false, at, reply) {
-        Ok(credential) => Ok(credential),
-        Err(fault) => Err(Stop::from(fault)),
-    }
-}
-
-/// What is asked of the Ticket-Granting Service.
-fn asked_by(
-    alloc: Global,
-    client: &Principal,
-    service: Name,
-    nonce: u32,
-) -> Result<Asked, AllocError> {
-    Ok(Asked {
-        options: Flags::from_bits(0),
-        client: client.name.copy(alloc)?,
-        realm: client.realm.copy(alloc)?,
-        service,
-        from: None,
-        till: KTime::of(0),
-        rtime: None,
-        nonce,
-        etypes: etypes(alloc)?,
+) -> Result<Desk, Stop> {
+    let cache = read_cache(alloc, store, common.cache)?;
+    let keytab = read_checking_keytab(alloc, store, words.keytab)?;
+    let rng = generator(alloc, store, common)?;
+    Ok(Desk {
+        cache,
+        keytab,
+        rng,
+        at,
+        is_changed: false,
     })
 }
 
-/// The encryption types that a client takes, in the order of its preference.
-pub(crate) fn etypes(alloc: Global) -> Result<Seq<Etype>, AllocError> {
-    let mut etypes = Seq::new(alloc);
-    etypes.push(Etype::Aes256CtsHmacSha1_96)?;
-    etypes.push(Etype::Aes128CtsHmacSha1_96)?;
-    etypes.push(Etype::Aes256CtsHmacSha384_192)?;
-    etypes.push(Etype::Aes128CtsHmacSha256_128)?;
-    Ok(etypes)
+fn read_checking_keytab<T: Store>(
+    alloc: Global,
+    store: &mut T,
+    path: Option<&str>,
+) -> Result<Option<Keytab>, Stop> {
+    match path {
+        Some(path) => Ok(Some(read_keytab(alloc, store, path)?)),
+        None => Ok(None),
+    }
+}
+
+fn write_changed<T: Store>(
+    alloc: Global,
+    common: &CommonWords<'_>,
+    store: &mut T,
+    desk: &Desk,
+) -> Result<(), Stop> {
+    if desk.is_changed {
+        write_cache(alloc, store, common.cache, &desk.cache)
+    } else {
+        Ok(())
+    }
+}
+
+fn get_each<X: Exchange>(
+    alloc: Global,
+    fresh: bool,
+    kdc: KdcPlace<'_>,
+    desk: &mut Desk,
+    exchange: &mut X,
+    services: &[Name],
+    versions: &mut Vec<i64>,
+) -> Result<(), KvnoStop> {
+    for (index, service) in services.iter().enumerate() {
+        let got = get_ticket(alloc, fresh, kdc, desk, exchange, service, versions);
+        at_name(got, index)?;
+    }
+    Ok(())
+}
+
+fn get_ticket<X: Exchange>(
+    alloc: Global,
+    fresh: bool,
+    kdc: KdcPlace<'_>,
+    desk: &mut Desk,
+    exchange: &mut X,
+    service: &Name,
+    versions: &mut Vec<i64>,
+) -> Result<(), Stop> {
+    let version = match held_version(alloc, fresh, desk, service)? {
+        Some(version) => version,
+        None => new_version(alloc, kdc, desk, exchange, service)?,
+    };
+    Ok(versions.push(version)?)
+}
+
+/// The version of the key of the cache's own ticket, where it need not be asked for again.
+fn held_version(
+    alloc: Global,
+    fresh: bool,
+    desk: &Desk,
+    service: &Name,
+) -> Result<Option<i64>, Stop> {
+    if fresh {
+        return Ok(None);
+    }
+    match good_credential(&desk.cache, service, desk.at) {
+        Some(credential) => Ok(Some(checked_version(alloc, &desk.keytab, credential)?)),
+        None => Ok(None),
+    }
+}
+
+/// Asks for a ticket, puts it into the cache, and gives the version of its key.
+fn new_version<X: Exchange>(
+    alloc: Global,
+    kdc: KdcPlace<'_>,
+    desk: &mut Desk,
+    exchange: &mut X,
+    service: &Name,
+) -> Result<i64, Stop> {
+    let at = desk.at;
+    desk.at = next_moment(at);
+    let credential = service_ticket(
+        alloc,
+        exchange,
+        kdc,
+        &desk.cache,
+        service,
+        &mut desk.rng,
+        at,
+    )?;
+    let version = checked_version(alloc, &desk.keytab, &credential)?;
+    put(alloc, &mut desk.cache, &credential)?;
+    desk.is_changed = true;
+    Ok(version)
+}
+
+/// The version of the ticket's key. Where there is a keytab it has to open the ticket.
+fn checked_version(
+    alloc: Global,
+    keytab: &Option<Keytab>,
+    credential: &Credential,
+) -> Result<i64, Stop> {
+    if let Some(keytab) = keytab {
+        check_ticket(alloc, keytab, credential.ticket.as_slice())?;
+    }
+    Ok(version_of(credential))
 }
 
 /// The version of the key that the ticket is sealed under; 0 where it names none.

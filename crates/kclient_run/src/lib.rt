@@ -1,5 +1,5 @@
-//! The client's tool: `kinit` gets a ticket for tickets by a password and makes a credential cache of it, `kvno` gets a
-//! ticket for a service and puts it into the cache.
+//! The client's tool: `kinit` gets a ticket for tickets, by a password or a keytab, and makes a credential cache of it;
+//! `kvno` gets tickets for services and puts them into the cache; `klist` prints what a cache or a keytab holds.
 //!
 //! `kclient_run` takes the words of one command line and does what they say with the files of a `Store`, over an
 //! `Exchange` of messages.
@@ -12,12 +12,23 @@ mod draws;
 mod exchange;
 mod faults;
 mod files;
+mod granting;
+mod holding;
 mod infos;
 mod kinit;
+mod klist;
 mod kvno;
+mod listing;
+mod moments;
+mod opening;
+mod places;
+mod renewing;
 mod run;
+mod secrets;
+mod wishes;
 mod words;
 
-pub use draws::{Draws, draw};
+pub use draws::{draw_confounder, draw_nonce};
 pub use exchange::{Exchange, Transport};
+pub use places::Defaults;
 pub use run::{DONE, FAILED, REFUSED, USAGE, kclient_run};

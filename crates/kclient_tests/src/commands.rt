@@ -1,59 +1,8 @@
-//! Command lines over files in memory and a KDC in memory.
-use crate::joined::{JoinedExchange, Link};
-use crate::realm::open;
-use cred_files::{Cache, Credential};
-use file_store::{LONGEST_FILE, MemoryStore};
-use kclient_run::{DONE, FAILED, REFUSED, USAGE, kclient_run};
-use krb_fields::{Moment, Name};
-use std::alloc::{AllocError, Global};
-use std::process::Abort;
+//! Command lines: what comes of each, its messages, and its refusals.
+use crate::joined::Link;
+use crate::runs::{KINIT, KINIT_V, KVNO, Run, expect_runs};
+use kclient_run::{FAILED, REFUSED, USAGE};
 use std::test::Fail;
-
-/// 2024-01-01 00:00:00, when the first command line of a table is run. Each later one is run ten seconds later.
-const MIDNIGHT: i64 = 1_704_067_200;
-
-/// The moment of the command line at this place of a table.
-fn moment(place: usize) -> Result<Moment, Fail> {
-    let after = u32::try_from(place)?.saturating_mul(10);
-    Ok(Moment::new(MIDNIGHT + i64::from(after), 0).ok_or("a moment")?)
-}
-
-/// A command line, its words between spaces, and what comes of it.
-struct Run {
-    line: &'static str,
-    link: Link,
-    status: u8,
-    out: &'static str,
-    errors: &'static str,
-    /// The messages, as `JoinedExchange` notes them.
-    ways: &'static str,
-    /// Which call of the store fails, where the first one has the number 1; with 0 none does.
-    failing: u32,
-}
-
-const KINIT: Run = Run {
-    line: "kclient kinit --kdc 192.0.2.1:88 --realm A.B --name u --password-file pass --cache cc --seed seed",
-    link: Link::Good,
-    status: DONE,
-    out: "ok\n",
-    errors: "",
-    ways: "uu",
-    failing: 0,
-};
-
-/// Of a client that need not preauthenticate.
-const KINIT_V: Run = Run {
-    line: "kclient kinit --kdc 192.0.2.1:88 --realm A.B --name v --password-file pass --cache cc --seed seed",
-    ways: "u",
-    ..KINIT
-};
-
-const KVNO: Run = Run {
-    line: "kclient kvno --kdc 192.0.2.1:88 --cache cc --name h --seed seed",
-    out: "h kvno 1\n",
-    ways: "u",
-    ..KINIT
-};
 
 const GOT: &[Run] = &[
     KINIT,
@@ -99,14 +48,14 @@ const REFUSED_BY_A_REPLY: &[Run] = &[
         ..KVNO
     },
     Run {
-        line: "kclient kinit --kdc 192.0.2.1:88 --realm A.B --name u --password-file other --cache cc --seed seed",
+        line: "kclient kinit --kdc 192.0.2.1:88 --realm A.B --name u --password-file wrong --cache cc --seed seed",
         status: REFUSED,
         out: "refused 24\n",
         errors: "kclient: 192.0.2.1:88: error 24: the preauthentication failed: the password is another, or the clocks differ\n",
         ..KINIT
     },
     Run {
-        line: "kclient kinit --kdc 192.0.2.1:88 --realm A.B --name v --password-file other --cache cc --seed seed",
+        line: "kclient kinit --kdc 192.0.2.1:88 --realm A.B --name v --password-file wrong --cache cc --seed seed",
         status: REFUSED,
         out: "refused CannotOpen\n",
         errors: "kclient: 192.0.2.1:88: the key does not open the reply: the password is another, or the KDC\n",
@@ -252,7 +201,43 @@ const FAILED_BY_A_FILE: &[Run] = &[
         ..FAILING_KVNO
     },
     FAILING_KVNO,
+    Run {
+        line: "kclient kinit --kdc 192.0.2.1:88 --realm A.B --name u --keytab keys --cache cc --seed seed",
+        errors: "kclient: keys: permission denied\n",
+        ..FAILING
+    },
+    Run {
+        line: "kclient kinit --kdc 192.0.2.1:88 --realm A.B --name u --cache cc --seed seed",
+        input: "password\n",
+        errors: "kclient: standard input: permission denied\n",
+        ..FAILING
+    },
+    Run {
+        line: "kclient kinit --kdc 192.0.2.1:88 --realm A.B --name u --password-file pass --cache cc",
+        errors: "kclient: the system's random octets: permission denied\n",
+        failing: 2,
+        ..FAILING
+    },
+    Run {
+        line: "kclient kvno --kdc 192.0.2.1:88 --cache cc --name h --keytab keys --seed seed",
+        errors: "kclient: keys: permission denied\n",
+        ways: "",
+        failing: 2,
+        ..FAILING_KVNO
+    },
+    FAILING_RENEWAL,
+    Run {
+        errors: "kclient: seed: permission denied\n",
+        failing: 2,
+        ..FAILING_RENEWAL
+    },
 ];
+
+const FAILING_RENEWAL: Run = Run {
+    line: "kclient kinit --renew --kdc 192.0.2.1:88 --cache cc --seed seed",
+    errors: "kclient: cc: permission denied\n",
+    ..FAILING
+};
 
 const FAILING: Run = Run {
     failing: 1,
@@ -271,10 +256,11 @@ const FAILING_KVNO: Run = Run {
     ..KVNO
 };
 
-/// What is printed is not compared.
+/// Of what is printed nothing is compared.
 const FAULT: Run = Run {
     line: "kclient",
     status: USAGE,
+    out: "",
     ways: "",
     ..KINIT
 };
@@ -303,205 +289,118 @@ const FAULTS: &[Run] = &[
         ..FAULT
     },
     Run {
-        line: "kclient kvno --kdc 192.0.2.1:88 --cache cc --name h",
+        line: "kclient kvno --kdc 192.0.2.1:88 --name h",
+        out: "--cache",
+        ..FAULT
+    },
+    Run {
+        line: "kclient kvno --kdc 192.0.2.1:88 --cache cc",
+        out: "--name",
+        ..FAULT
+    },
+    Run {
+        line: "kclient kinit --kdc 192.0.2.1:88 --realm A.B --password-file pass --cache cc",
+        out: "--name",
+        ..FAULT
+    },
+    Run {
+        line: "kclient kinit --kdc 192.0.2.1:88 --realm A.B --name u --password-file pass --cache cc --start +1",
+        out: "--start",
+        ..FAULT
+    },
+    Run {
+        line: "kclient kinit --kdc 192.0.2.1:88 --realm A.B --name u --password-file pass --cache cc --start 4294967296",
+        out: "--start",
+        ..FAULT
+    },
+    Run {
+        line: "kclient kinit --kdc 192.0.2.1:88 --realm A.B --name u --password-file pass --cache cc --keytab keys",
+        out: "--keytab",
+        ..FAULT
+    },
+    Run {
+        line: "kclient kinit --kdc 192.0.2.1:88 --cache cc --renew --validate",
+        out: "--renew and --validate",
+        ..FAULT
+    },
+    Run {
+        line: "kclient kinit --kdc 192.0.2.1:88 --cache cc --renew --realm A.B",
+        out: "--renew",
+        ..FAULT
+    },
+    Run {
+        line: "kclient kinit --kdc 192.0.2.1:88 --cache cc --renew --name u",
+        out: "--renew",
+        ..FAULT
+    },
+    Run {
+        line: "kclient kinit --kdc 192.0.2.1:88 --cache cc --renew --password-file pass",
+        out: "--renew",
+        ..FAULT
+    },
+    Run {
+        line: "kclient kinit --kdc 192.0.2.1:88 --cache cc --renew --keytab keys",
+        out: "--renew",
+        ..FAULT
+    },
+    Run {
+        line: "kclient kinit --kdc 192.0.2.1:88 --cache cc --renew --service h",
+        out: "--renew",
+        ..FAULT
+    },
+    Run {
+        line: "kclient kinit --kdc 192.0.2.1:88 --cache cc --renew --life 1",
+        out: "--renew",
+        ..FAULT
+    },
+    Run {
+        line: "kclient kinit --kdc 192.0.2.1:88 --cache cc --renew --start 1",
+        out: "--renew",
+        ..FAULT
+    },
+    Run {
+        line: "kclient kinit --kdc 192.0.2.1:88 --cache cc --renew --renewable",
+        out: "--renew",
+        ..FAULT
+    },
+    Run {
+        line: "kclient kinit --kdc 192.0.2.1:88 --cache cc --renew --forwardable",
+        out: "--renew",
+        ..FAULT
+    },
+    Run {
+        line: "kclient kinit --kdc 192.0.2.1:88 --cache cc --renew --proxiable",
+        out: "--renew",
+        ..FAULT
+    },
+    Run {
+        line: "kclient kinit --kdc 192.0.2.1:88 --cache cc --validate --name u",
+        out: "--validate",
         ..FAULT
     },
 ];
 
-/// A cache of `u` in `A.B` without credentials.
-const EMPTY_CACHE: &[u8] =
-    b"\x05\x04\x00\x00\x00\x00\x00\x01\x00\x00\x00\x01\x00\x00\x00\x03A.B\x00\x00\x00\x01u";
-
-/// Two seeds and a short one; a password, another and one that is too long; a file that is too long; a cache without credentials
-/// and one that is cut.
-fn store(alloc: Global) -> Result<MemoryStore, Fail> {
-    let mut store = MemoryStore::new(alloc);
-    fill(alloc, &mut store)?;
-    Ok(store)
-}
-
-fn fill(alloc: Global, store: &mut MemoryStore) -> Result<(), AllocError> {
-    store.set(alloc, "seed", &[7; 40])?;
-    store.set(alloc, "seed2", &[8; 32])?;
-    store.set(alloc, "short", &[7; 31])?;
-    store.set(alloc, "pass", b"password\nmore")?;
-    store.set(alloc, "other", b"passw0rd")?;
-    store.set(alloc, "long", &[0x61; 1_025])?;
-    store.set(alloc, "big", &vec![in alloc; 0x20; LONGEST_FILE + 1]?)?;
-    store.set(alloc, "empty", EMPTY_CACHE)?;
-    store.set(alloc, "cut", b"\x05\x04\x00")
-}
-
-/// What the cache `cc` holds.
-fn held(alloc: Global, store: &MemoryStore) -> Result<Vec<u8>, AllocError> {
-    Vec::from_slice(alloc, store.get("cc").unwrap_or(&[]))
-}
-
-/// What a command line ends with, and prints.
-#[derive(Drop)]
-struct Ended {
-    status: u8,
-    out: Vec<u8>,
-    errors: Vec<u8>,
-}
-
-fn run_line(
-    alloc: Global,
-    store: &mut MemoryStore,
-    exchange: &mut JoinedExchange,
-    at: Moment,
-    line: &str,
-) -> Result<Ended, AllocError> {
-    let words: Vec<&str> = line.split(' ').collect(alloc)?;
-    let mut out = Vec::new(alloc);
-    let mut errors = Vec::new(alloc);
-    let status = kclient_run(
-        alloc,
-        words.as_slice(),
-        store,
-        exchange,
-        at,
-        &mut out,
-        &mut errors,
-    );
-    Ok(Ended {
-        status,
-        out,
-        errors,
-    })
-}
-
-fn text(octets: &[u8]) -> &str {
-    str::from_utf8(octets).unwrap_or("")
-}
-
-/// Checks what a command line ends with and prints, and which messages went.
-fn expect_ended(rt: &impl Abort, run: &Run, ended: &Ended, ways: &str) {
-    assert_eq!(rt; text(&ended.errors), run.errors, "{}", run.line);
-    if run.status != USAGE {
-        assert_eq!(rt; text(&ended.out), run.out, "{}", run.line);
-    }
-    assert_eq!(rt; ended.status, run.status, "{}", run.line);
-    assert_eq!(rt; ways, run.ways, "{}", run.line);
-}
-
-/// Runs a command line. Unless it is done, the cache is as it was.
-fn expect_run(
-    rt: &impl Abort,
-    alloc: Global,
-    store: &mut MemoryStore,
-    exchange: &mut JoinedExchange,
-    run: &Run,
-    at: Moment,
-) -> Result<(), AllocError> {
-    let before = held(alloc, store)?;
-    exchange.begin(alloc, at, run.link);
-    store.fail_at(run.failing);
-    let ended = run_line(alloc, store, exchange, at, run.line)?;
-    expect_ended(rt, run, &ended, exchange.ways());
-    let after = held(alloc, store)?;
-    assert!(rt; run.status == DONE || before == after, "{}", run.line);
-    Ok(())
-}
-
-fn expect_each(
-    rt: &impl Abort,
-    alloc: Global,
-    store: &mut MemoryStore,
-    exchange: &mut JoinedExchange,
-    runs: &[Run],
-) -> Result<(), Fail> {
-    for (place, run) in runs.iter().enumerate() {
-        expect_run(rt, alloc, store, exchange, run, moment(place)?)?;
-    }
-    Ok(())
-}
-
-/// Runs the command lines of a table, each after the one before it, in a new realm.
-fn expect_runs(
-    rt: &impl Abort,
-    alloc: Global,
-    store: &mut MemoryStore,
-    runs: &[Run],
-) -> Result<(), Fail> {
-    let mut exchange = JoinedExchange::new(alloc, open(alloc)?, moment(0)?);
-    expect_each(rt, alloc, store, &mut exchange, runs)
-}
-
 #[test]
 fn tickets_are_got(rt: HostRuntime) -> Result<(), Fail> {
-    let mut store = store(rt.alloc())?;
-    expect_runs(&rt, rt.alloc(), &mut store, GOT)
+    expect_runs(&rt, rt.alloc(), GOT)
 }
 
 #[test]
 fn a_reply_that_is_refused_leaves_the_cache(rt: HostRuntime) -> Result<(), Fail> {
-    let mut store = store(rt.alloc())?;
-    expect_runs(&rt, rt.alloc(), &mut store, REFUSED_BY_A_REPLY)
+    expect_runs(&rt, rt.alloc(), REFUSED_BY_A_REPLY)
 }
 
 #[test]
 fn a_word_that_is_refused_leaves_the_cache(rt: HostRuntime) -> Result<(), Fail> {
-    let mut store = store(rt.alloc())?;
-    expect_runs(&rt, rt.alloc(), &mut store, REFUSED_BY_A_WORD)
+    expect_runs(&rt, rt.alloc(), REFUSED_BY_A_WORD)
 }
 
 #[test]
 fn a_failed_call_of_the_store_leaves_the_cache(rt: HostRuntime) -> Result<(), Fail> {
-    let mut store = store(rt.alloc())?;
-    expect_runs(&rt, rt.alloc(), &mut store, FAILED_BY_A_FILE)
+    expect_runs(&rt, rt.alloc(), FAILED_BY_A_FILE)
 }
 
 #[test]
 fn a_fault_of_the_command_line_has_status_2(rt: HostRuntime) -> Result<(), Fail> {
-    let mut store = store(rt.alloc())?;
-    expect_runs(&rt, rt.alloc(), &mut store, FAULTS)
-}
-
-const ASKED: &[Run] = &[
-    Run {
-        line: "kclient kinit --kdc 192.0.2.1:88 --realm A.B --name u --password-file pass --cache cc --seed seed --life 3600 --renewable --forwardable",
-        ..KINIT
-    },
-    KVNO,
-];
-
-/// FORWARDABLE, RENEWABLE, INITIAL and PRE-AUTHENT (RFC 4120, section 5.3): bit 0 is the most significant.
-const ASKED_FLAGS: u32 = 1 << 30 | 1 << 23 | 1 << 22 | 1 << 21;
-
-/// Whether it is the ticket for tickets that was asked at midnight: it lives for an hour and is renewable for a week.
-fn is_asked(credential: &Credential) -> bool {
-    credential.flags.bits() == ASKED_FLAGS
-        && credential.times.auth_time.seconds() == MIDNIGHT
-        && credential.times.end_time.seconds() == MIDNIGHT + 3_600
-        && credential.times.renew_till.seconds() == MIDNIGHT + 604_800
-        && credential.key.key_type == 18
-}
-
-/// Whether the cache has the ticket for tickets that was asked, and one of `h`, which ends as early.
-fn has_both(cache: &Cache, granter: &Name, host: &Name) -> bool {
-    let granted = match cache.find(granter) {
-        Ok(credential) => is_asked(credential),
-        Err(_) => false,
-    };
-    let of_host = match cache.find(host) {
-        Ok(credential) => credential.times.end_time.seconds() == MIDNIGHT + 3_600,
-        Err(_) => false,
-    };
-    granted && of_host
-}
-
-fn holds_both(alloc: Global, octets: &[u8]) -> Result<bool, Fail> {
-    let granter = Name::new(alloc, 2, &[b"krbtgt", b"A.B"])?;
-    let host = Name::new(alloc, 1, &[b"h"])?;
-    let cache = Cache::read(alloc, octets)?;
-    Ok(has_both(&cache, &granter, &host))
-}
-
-#[test]
-fn the_cache_has_what_was_asked(rt: HostRuntime) -> Result<(), Fail> {
-    let mut store = store(rt.alloc())?;
-    expect_runs(&rt, rt.alloc(), &mut store, ASKED)?;
-    assert!(rt; holds_both(rt.alloc(), store.get("cc").unwrap_or(&[]))?);
-    Ok(())
+    expect_runs(&rt, rt.alloc(), FAULTS)
 }

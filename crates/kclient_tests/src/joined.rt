@@ -18,6 +18,8 @@ pub enum Link {
     NoDatagrams,
     /// No message gets a reply.
     Silent,
+    /// Messages to the first KDC get no reply.
+    FirstSilent,
     /// Each datagram gets KRB_ERR_RESPONSE_TOO_BIG, as though the reply had no room.
     TooBig,
     /// Each message gets what the KDC answered last.
@@ -30,6 +32,9 @@ pub enum Link {
 const TOO_BIG: &str =
     "7e4a3048a003020105a10302011ea411180f32303234303130313030303030305aa503020100a603020134a9051b03412e42aa183016a003020102a10f300d1b066b72627467741b03412e42";
 
+/// The port of the second KDC.
+const SECOND_PORT: u16 = 89;
+
 /// A KDC, and what happens to the messages on their way to it.
 #[derive(Drop)]
 pub struct JoinedExchange {
@@ -37,12 +42,15 @@ pub struct JoinedExchange {
     /// The moment of the KDC.
     at: Moment,
     link: Link,
-    /// `u` for a datagram, `t` for a message by TCP, `=` for one by TCP with the octets of the message before it.
+    /// `u` for a datagram, `t` for a message by TCP, `=` for one by TCP with the octets of the message before it; `U`, `T` and
+    /// `#` for those to the second KDC.
     ways: String,
     /// The last message.
     last: Vec<u8>,
     /// What the KDC answered last.
     answered: Vec<u8>,
+    /// The address that gave the last reply.
+    from: Option<SocketAddr>,
     failures: u64,
 }
 
@@ -55,6 +63,7 @@ impl JoinedExchange {
             ways: String::new(alloc),
             last: Vec::new(alloc),
             answered: Vec::new(alloc),
+            from: None,
             failures: 0,
         }
     }
@@ -64,23 +73,32 @@ impl JoinedExchange {
         self.at = at;
         self.link = link;
         self.ways = String::new(alloc);
+        self.from = None;
         self.failures = 0;
     }
 
     /// The messages of the command: `u` for a datagram, `t` for one by TCP, `=` for one by TCP with the octets of the message
-    /// before it.
+    /// before it; `U`, `T` and `#` for those to the second KDC.
     pub fn ways(&self) -> &str {
         self.ways.as_str()
     }
 
     /// What comes back.
-    fn reply(&mut self, alloc: Global, by: Transport, message: &[u8]) -> io::Result<Vec<u8>>
+    fn reply(
+        &mut self,
+        alloc: Global,
+        by: Transport,
+        to: SocketAddr,
+        message: &[u8],
+    ) -> io::Result<Vec<u8>>
         ensures { self.new.failures ≡ self.old.failures }
     {
-        let way = way_of(by, &self.last, message);
+        let is_second = to.port() == SECOND_PORT;
+        let way = way_of(by, is_second, &self.last, message);
         note(alloc, &mut self.ways, &mut self.last, way, message)?;
         match self.link {
             Link::Silent => Err(silence()),
+            Link::FirstSilent if !is_second => Err(silence()),
             Link::NoDatagrams if by == Transport::Udp => Err(silence()),
             Link::TooBig if by == Transport::Udp => octets(alloc, TOO_BIG),
             Link::Forged(digits) => octets(alloc, digits),
@@ -97,15 +115,22 @@ impl Exchange for JoinedExchange {
         &mut self,
         alloc: Global,
         by: Transport,
-        _to: SocketAddr,
+        to: SocketAddr,
         message: &[u8],
     ) -> io::Result<Vec<u8>> {
-        let reply = self.reply(alloc, by, message);
+        let reply = self.reply(alloc, by, to, message);
+        if reply.is_ok() {
+            self.from = Some(to);
+        }
         self.failures = match &reply {
             Ok(_) => self.failures,
             Err(_) => self.failures.saturating_add(1),
         };
         reply
+    }
+
+    fn answered(&self) -> Option<SocketAddr> {
+        self.from
     }
 
     fn failures(&self) -> u64 {
@@ -117,11 +142,12 @@ fn silence() -> Error {
     Error::from(ErrorKind::TimedOut)
 }
 
-fn way_of(by: Transport, last: &[u8], message: &[u8]) -> char {
+fn way_of(by: Transport, is_second: bool, last: &[u8], message: &[u8]) -> char {
     match by {
+        Transport::Udp if is_second => 'U',
         Transport::Udp => 'u',
-        Transport::Tcp if last == message => '=',
-        Transport::Tcp => 't',
+        Transport::Tcp if last == message => if is_second { '#' } else { '=' },
+        Transport::Tcp => if is_second { 'T' } else { 't' },
     }
 }
 

@@ -5,6 +5,20 @@
 #[cfg(test)]
 mod commands;
 #[cfg(test)]
+mod conf;
+#[cfg(test)]
 mod joined;
 #[cfg(test)]
+mod klist;
+#[cfg(test)]
+mod logins;
+#[cfg(test)]
+mod places;
+#[cfg(test)]
 mod realm;
+#[cfg(test)]
+mod runs;
+#[cfg(test)]
+mod services;
+#[cfg(test)]
+mod silent;

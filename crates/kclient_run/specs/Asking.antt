@@ -1,0 +1,98 @@
+-- What the commands ask of a KDC (RFC 4120, section 5.4.1).
+use Rattle.std.specs.Prelude.{ℕ, ℤ, pos, ◌+◌, ◌+ℤ◌, int_lt, Bool, true, if◌then◌else◌, is_some, List, [], ◌∷◌, Option, Some, None, option_map}
+use Rattle.std.specs.Option.{unwrap_or}
+use Rattle.cred_files.specs.declared.principal.Principal.{Principal}
+use Rattle.client_core.specs.declared.asked.Asked.{Asked}
+use Rattle.enctypes.specs.declared.etype.Etype.{Etype}
+use Rattle.enctypes.specs.declared.etype.Etype.TheVariants.{Aes128CtsHmacSha1_96, Aes256CtsHmacSha1_96, Aes128CtsHmacSha256_128, Aes256CtsHmacSha384_192}
+use Rattle.krb_fields.specs.Flags.{has_bit, with_bit}
+use Rattle.krb_fields.specs.KdcOption.{kdc_option_number}
+use Rattle.krb_fields.specs.PrincipalName.{Name}
+use Rattle.krb_fields.specs.declared.kdc_option.KdcOption.{KdcOption}
+use Rattle.krb_fields.specs.declared.kdc_option.KdcOption.TheVariants.{AllowPostdate, Forwardable, Postdated, Proxiable, Renewable}
+use Rattle.krb_fields.specs.declared.kdc_option.KdcOption.TheVariants as options
+use Rattle.kclient_run.specs.declared.wishes.Again.{Again}
+use Rattle.kclient_run.specs.declared.wishes.Again.TheVariants.{Renew, Validate}
+use Rattle.kclient_run.specs.declared.wishes.Wishes.{Wishes}
+
+-- ---- the options
+
+abbrev pub with_if : Bool → KdcOption → ℕ → ℕ
+with_if wanted option bits = if wanted then with_bit bits (kdc_option_number option) else bits
+
+-- of a ticket that is wished for; one that starts later is asked to be postdated
+abbrev pub options_of : Wishes → ℕ
+options_of w =
+    with_if (is_some w.start) Postdated (with_if w.proxiable Proxiable (with_if w.forwardable Forwardable (with_if w.renewable Renewable 0)))
+
+-- an option is kept where the ticket has the flag of its number
+abbrev pub with_kept : ℕ → KdcOption → ℕ → ℕ
+with_kept flags option bits = with_if (has_bit flags (kdc_option_number option)) option bits
+
+abbrev pub again_option : Again → KdcOption
+again_option Renew = options.Renew
+again_option Validate = options.Validate
+
+-- of a ticket with these flags that is renewed or validated: some KDCs clear a flag whose option is not asked for again
+abbrev pub again_options : Again → ℕ → ℕ
+again_options again flags =
+    with_kept flags Renewable (with_kept flags AllowPostdate (with_kept flags Proxiable (with_kept flags Forwardable (with_if true (again_option again) 0))))
+
+-- ---- the times
+
+-- the second, or the last one of the year 9999 where it is later
+abbrev pub up_to_last : ℤ → ℤ
+up_to_last second = if int_lt (pos 253402300799) second then pos 253402300799 else second
+
+abbrev pub time_after : ℤ → ℕ → ℤ
+time_after now seconds = up_to_last (now +ℤ pos seconds)
+
+-- when it starts: so many seconds from now; absent: at once
+abbrev pub from_of : ℤ → Wishes → Option ℤ
+from_of now w = option_map (time_after now) w.start
+
+-- when it ends: so many seconds after its start; the start of 1970 asks for no bound
+abbrev pub till_by : ℤ → ℕ → Option ℕ → ℤ
+till_by now start (Some life) = time_after now (life + start)
+till_by now start None = pos 0
+
+abbrev pub till_of : ℤ → Wishes → ℤ
+till_of now w = till_by now (unwrap_or w.start 0) w.life
+
+-- until when it is to be renewable: the start of 1970 asks for no bound
+abbrev pub rtime_of : Wishes → Option ℤ
+rtime_of w = if w.renewable then Some (pos 0) else None
+
+-- ---- the whole
+
+-- the types that a client takes, the preferred one first
+abbrev pub offered : List Etype
+offered = Aes256CtsHmacSha1_96 ∷ Aes128CtsHmacSha1_96 ∷ Aes256CtsHmacSha384_192 ∷ Aes128CtsHmacSha256_128 ∷ []
+
+-- a first ticket for a service of the client's realm
+abbrev pub first_asked : Wishes → Principal → Name → ℤ → ℕ → Asked
+first_asked w client service now nonce = record {
+  options = options_of w;
+  client = client.name;
+  realm = client.realm;
+  service = service;
+  from = from_of now w;
+  till = till_of now w;
+  rtime = rtime_of w;
+  nonce = nonce;
+  etypes = offered;
+}
+
+-- with a ticket for tickets: a ticket that ends as late as that one
+abbrev pub further_asked : ℕ → Principal → Name → ℕ → Asked
+further_asked option_bits client service nonce = record {
+  options = option_bits;
+  client = client.name;
+  realm = client.realm;
+  service = service;
+  from = None;
+  till = pos 0;
+  rtime = None;
+  nonce = nonce;
+  etypes = offered;
+}

@@ -1,0 +1,74 @@
+//! Whether a service's keytab opens a ticket (RFC 4120, section 5.3).
+ghost use Rattle.std.specs.Prelude.{◌≡◌, ◌∷◌, IfOk, option_copied, option_map};
+ghost use Rattle.kclient_run.specs.Opening.{IsOpened, entry_for, part_under, ticket_key};
+
+use crate::faults::{Place, Reason, Stop};
+use cred_files::Keytab;
+use enctypes::{Etype, Key, KeyUsage};
+use krb_elements::{UInt32, read};
+use krb_fields::Name;
+use krb_parts::EncTicketPart;
+use krb_types::TicketRef;
+use sealed_parts::{open_part, type_numbered};
+use std::alloc::{AllocError, Global};
+
+/// Opens a ticket by the key that it names.
+pub(crate) fn check_ticket(alloc: Global, keytab: &Keytab, octets: &[u8]) -> Result<(), Stop>
+    ensures { IfOk result (λ done. IsOpened keytab.now octets.now) }
+{
+    let Ok(ticket) = read::<TicketRef<'_>>(octets) else {
+        return Err(UNOPENED);
+    };
+    let service = ticket.sname.to_name(alloc)?;
+    let Some(key) = ticket_key(keytab, &ticket, &service) else {
+        return Err(Stop::Refused(Reason::NoTicketKey, Place::Keytab));
+    };
+    match part_under(alloc, key, &ticket)? {
+        Some(_) => Ok(()),
+        None => Err(UNOPENED),
+    }
+}
+
+const UNOPENED: Stop = Stop::Refused(Reason::Unopened, Place::Keytab);
+
+fn part_under(
+    alloc: Global,
+    key: &Key,
+    ticket: &TicketRef<'_>,
+) -> Result<Option<EncTicketPart>, AllocError>
+    ensures { IfOk result (λ found. found ≡ part_under key.now ticket.now) }
+{
+    open_part(
+        alloc,
+        key,
+        KeyUsage::Ticket,
+        ticket.enc_part.cipher.as_slice(),
+    )
+}
+
+/// The key that the ticket names by its type and version.
+fn ticket_key<'k>(keytab: &'k Keytab, ticket: &TicketRef<'_>, service: &Name) -> Option<&'k Key>
+    requires { service.now ≡ ticket.now.sname }
+    ensures { option_copied result ≡ ticket_key keytab.now ticket.now }
+{
+    let etype = type_numbered(ticket.enc_part.etype)?;
+    let realm = ticket.realm.as_slice();
+    match ticket.enc_part.kvno {
+        Some(kvno) => numbered_key(keytab, realm, service, etype, kvno),
+        None => keytab.find(realm, service, etype, None).ok(),
+    }
+}
+
+/// The service's key of this type in the version of this number.
+fn numbered_key<'k>(
+    keytab: &'k Keytab,
+    realm: &[u8],
+    service: &Name,
+    etype: Etype,
+    kvno: UInt32,
+) -> Option<&'k Key>
+    ensures { option_copied result ≡ option_map (λ e. e.key) (entry_for keytab.now (realm.now ∷ service.now.components) (Some etype) (Some kvno)) }
+{
+    let version = u32::try_from(kvno.get()).ok()?;
+    keytab.find(realm, service, etype, Some(version)).ok()
+}

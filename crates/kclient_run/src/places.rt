@@ -1,0 +1,329 @@
+//! Where a command works: its cache, its realm and its KDCs, as its words say, or else what stands for them.
+use crate::caches::read_cache;
+use crate::faults::{Place, Reason, Stop, of_name};
+use crate::files::of;
+use clap::ArgMatches;
+use file_store::{Store, read_file};
+use krb_fields::{component_from_text, component_to_text};
+use krb5_conf::{KdcFault, default_realm, kdcs};
+use std::alloc::{AllocError, AllocFailed, Global};
+use std::net::SocketAddr;
+
+/// What stands for words that a command line lacks, as the environment has it.
+#[derive(Clone, Copy, Debug)]
+pub struct Defaults<'a> {
+    /// The value of `KRB5CCNAME`: the cache, as `FILE:PATH` or as a path.
+    pub cache: Option<&'a str>,
+    /// The value of `KRB5_CONFIG`: the path of a `krb5.conf`.
+    pub config: Option<&'a str>,
+}
+
+impl<'a> Defaults<'a> {
+    /// The path of the `krb5.conf`.
+    pub(crate) fn config_path(&self) -> &'a str {
+        self.config.unwrap_or("/etc/krb5.conf")
+    }
+}
+
+/// Why a command does not begin.
+#[derive(Clone, Copy, Debug)]
+pub(crate) enum Unplaced {
+    /// By a fault of the command line.
+    Usage(&'static str),
+    Stopped(Stop),
+}
+
+impl From<Stop> for Unplaced {
+    fn from(stop: Stop) -> Unplaced {
+        Unplaced::Stopped(stop)
+    }
+}
+
+impl From<AllocError> for Unplaced {
+    fn from(error: AllocError) -> Unplaced {
+        Unplaced::Stopped(Stop::from(error))
+    }
+}
+
+impl<T: Drop> From<AllocFailed<T>> for Unplaced {
+    fn from(_: AllocFailed<T>) -> Unplaced {
+        Unplaced::from(AllocError)
+    }
+}
+
+/// KDCs, and what is said of them where they fail.
+#[derive(Debug, Drop)]
+pub(crate) struct Kdcs {
+    /// In the order in which they are asked.
+    pub addresses: Vec<SocketAddr>,
+    pub text: String,
+}
+
+/// A realm, and its KDCs.
+#[derive(Debug, Drop)]
+struct Realm {
+    /// The text of its name.
+    text: String,
+    kdcs: Kdcs,
+}
+
+/// Where a command works. What it needs none of is empty.
+#[derive(Debug, Drop)]
+pub(crate) struct Places {
+    /// The path of the cache.
+    pub cache: String,
+    /// The text of the realm's name.
+    pub realm: String,
+    pub kdcs: Kdcs,
+}
+
+const NO_CACHE: &str =
+    "--cache has to stand there, or the environment variable KRB5CCNAME name a file";
+
+const OTHER_CACHE: &str =
+    "KRB5CCNAME names a cache of another type than FILE, which kclient has not: --cache takes a file";
+
+const NO_ADDRESS: &str = "--kdc takes an address and a port, as 127.0.0.1:88 or [::1]:88";
+
+const TWO_FILES: &str = "--cache and --keytab don't go together";
+
+/// Where a command works, by the words behind its name.
+pub(crate) fn find_places<T: Store>(
+    alloc: Global,
+    command: &str,
+    words: &ArgMatches<'_>,
+    defaults: &Defaults<'_>,
+    store: &mut T,
+) -> Result<Places, Unplaced> {
+    match command {
+        "kinit" if !is_again(words) => kinit_places(alloc, words, defaults, store),
+        "kinit" | "kvno" => kvno_places(alloc, words, defaults, store),
+        _ => klist_places(alloc, words, defaults),
+    }
+}
+
+/// Whether a ticket of the cache is asked for again: then the realm is the cache's.
+fn is_again(words: &ArgMatches<'_>) -> bool {
+    words.get_flag("renew") || words.get_flag("validate")
+}
+
+fn kinit_places<T: Store>(
+    alloc: Global,
+    words: &ArgMatches<'_>,
+    defaults: &Defaults<'_>,
+    store: &mut T,
+) -> Result<Places, Unplaced> {
+    let cache = cache_path(alloc, words, defaults)?;
+    let Realm { text, kdcs } = find_realm(alloc, words, defaults, store)?;
+    Ok(Places {
+        cache,
+        realm: text,
+        kdcs,
+    })
+}
+
+fn kvno_places<T: Store>(
+    alloc: Global,
+    words: &ArgMatches<'_>,
+    defaults: &Defaults<'_>,
+    store: &mut T,
+) -> Result<Places, Unplaced> {
+    let cache = cache_path(alloc, words, defaults)?;
+    let kdcs = find_kdcs(alloc, words, defaults, store, cache.as_str())?;
+    Ok(Places {
+        cache,
+        realm: String::new(alloc),
+        kdcs,
+    })
+}
+
+fn klist_places(
+    alloc: Global,
+    words: &ArgMatches<'_>,
+    defaults: &Defaults<'_>,
+) -> Result<Places, Unplaced> {
+    Ok(Places {
+        cache: listed_path(alloc, words, defaults)?,
+        realm: String::new(alloc),
+        kdcs: no_kdcs(alloc),
+    })
+}
+
+/// The path of the cache that is listed; empty where it is a keytab.
+fn listed_path(
+    alloc: Global,
+    words: &ArgMatches<'_>,
+    defaults: &Defaults<'_>,
+) -> Result<String, Unplaced> {
+    if words.get_str("keytab").is_none() {
+        return cache_path(alloc, words, defaults);
+    }
+    if words.get_str("cache").is_some() {
+        return Err(Unplaced::Usage(TWO_FILES));
+    }
+    Ok(String::new(alloc))
+}
+
+/// The path of the cache.
+fn cache_path(
+    alloc: Global,
+    words: &ArgMatches<'_>,
+    defaults: &Defaults<'_>,
+) -> Result<String, Unplaced> {
+    if let Some(path) = words.get_str("cache") {
+        return Ok(String::from_str(alloc, path)?);
+    }
+    let Some(name) = defaults.cache else {
+        return Err(Unplaced::Usage(NO_CACHE));
+    };
+    match path_in(name) {
+        Ok(path) => Ok(String::from_str(alloc, path)?),
+        Err(fault) => Err(Unplaced::Usage(fault)),
+    }
+}
+
+/// The path in a cache's name: a path, or `FILE:` and one.
+fn path_in(name: &str) -> Result<&str, &'static str> {
+    match name.split_once(':') {
+        Some(("FILE", path)) => path_there(path),
+        Some((front, _)) if !front.contains('/') => Err(OTHER_CACHE),
+        _ => path_there(name),
+    }
+}
+
+fn path_there(path: &str) -> Result<&str, &'static str> {
+    if path.is_empty() {
+        return Err(NO_CACHE);
+    }
+    Ok(path)
+}
+
+/// The realm and the KDCs of `kinit`.
+fn find_realm<T: Store>(
+    alloc: Global,
+    words: &ArgMatches<'_>,
+    defaults: &Defaults<'_>,
+    store: &mut T,
+) -> Result<Realm, Unplaced> {
+    let given = given_kdcs(alloc, words)?;
+    match (words.get_str("realm"), given) {
+        (Some(realm), Some(kdcs)) => Ok(Realm {
+            text: String::from_str(alloc, realm)?,
+            kdcs,
+        }),
+        (realm, given) => {
+            let config = read_config(alloc, defaults, store)?;
+            configured(alloc, &config, realm, given)
+        }
+    }
+}
+
+/// The KDCs of the realm of a cache.
+fn find_kdcs<T: Store>(
+    alloc: Global,
+    words: &ArgMatches<'_>,
+    defaults: &Defaults<'_>,
+    store: &mut T,
+    cache: &str,
+) -> Result<Kdcs, Unplaced> {
+    if let Some(kdcs) = given_kdcs(alloc, words)? {
+        return Ok(kdcs);
+    }
+    let cache = read_cache(alloc, store, cache)?;
+    let config = read_config(alloc, defaults, store)?;
+    Ok(configured_kdcs(alloc, &config, cache.principal().realm.as_slice())?)
+}
+
+/// The KDCs of the words; `None` where no word names one.
+fn given_kdcs(alloc: Global, words: &ArgMatches<'_>) -> Result<Option<Kdcs>, Unplaced> {
+    let Some(texts) = words.get_strs("kdc") else {
+        return Ok(None);
+    };
+    let mut kdcs = no_kdcs(alloc);
+    for text in texts {
+        let Ok(address) = text.parse() else {
+            return Err(Unplaced::Usage(NO_ADDRESS));
+        };
+        add_kdc(&mut kdcs, address, text)?;
+    }
+    Ok(Some(kdcs))
+}
+
+fn no_kdcs(alloc: Global) -> Kdcs {
+    Kdcs {
+        addresses: Vec::new(alloc),
+        text: String::new(alloc),
+    }
+}
+
+fn add_kdc(kdcs: &mut Kdcs, address: SocketAddr, text: &str) -> Result<(), AllocError> {
+    if !kdcs.text.is_empty() {
+        kdcs.text.push_str(", ")?;
+    }
+    kdcs.text.push_str(text)?;
+    Ok(kdcs.addresses.push(address)?)
+}
+
+fn read_config<T: Store>(
+    alloc: Global,
+    defaults: &Defaults<'_>,
+    store: &mut T,
+) -> Result<Vec<u8>, Stop> {
+    of(
+        read_file(alloc, store, defaults.config_path()),
+        Place::Config,
+    )
+}
+
+/// What a `krb5.conf` says where words lack.
+fn configured(
+    alloc: Global,
+    config: &[u8],
+    realm: Option<&str>,
+    given: Option<Kdcs>,
+) -> Result<Realm, Unplaced> {
+    let text = match realm {
+        Some(realm) => String::from_str(alloc, realm)?,
+        None => configured_realm(alloc, config)?,
+    };
+    let kdcs = match given {
+        Some(kdcs) => kdcs,
+        None => kdcs_of_realm(alloc, config, text.as_str())?,
+    };
+    Ok(Realm { text, kdcs })
+}
+
+/// The text of the default realm's name.
+fn configured_realm(alloc: Global, config: &[u8]) -> Result<String, Stop> {
+    match default_realm(alloc, config)? {
+        Some(realm) => Ok(component_to_text(alloc, realm)?),
+        None => Err(Stop::Refused(Reason::NoRealm, Place::Config)),
+    }
+}
+
+fn kdcs_of_realm(alloc: Global, config: &[u8], realm: &str) -> Result<Kdcs, Stop> {
+    match component_from_text(alloc, realm) {
+        Ok(realm) => configured_kdcs(alloc, config, realm.as_slice()),
+        Err(fault) => Err(of_name(fault, Place::Realm)),
+    }
+}
+
+fn configured_kdcs(alloc: Global, config: &[u8], realm: &[u8]) -> Result<Kdcs, Stop> {
+    match kdcs(alloc, config, realm) {
+        Ok(addresses) if addresses.is_empty() => Err(Stop::Refused(Reason::NoKdc, Place::Config)),
+        Ok(addresses) => Ok(described(alloc, addresses)?),
+        Err(KdcFault::NotAnAddress(_)) => Err(Stop::Refused(Reason::NotAnAddress, Place::Config)),
+        Err(KdcFault::Memory) => Err(Stop::from(AllocError)),
+    }
+}
+
+fn described(alloc: Global, addresses: Vec<SocketAddr>) -> Result<Kdcs, AllocError> {
+    let mut text = String::new(alloc);
+    for address in &addresses {
+        if !text.is_empty() {
+            text.push_str(", ")?;
+        }
+        write!(text, "{address}")?;
+    }
+    Ok(Kdcs { addresses, text })
+}

@@ -1,0 +1,165 @@
+//! By what a client shows that it is itself: a password, or a keytab (RFC 4120, section 5.2.7.5).
+ghost use Rattle.std.specs.Prelude.{◌≡◌, ◌∷◌, option_copied};
+ghost use Rattle.kclient_run.specs.Keys.{key_named, key_numbered, key_typed, type_of_reply};
+
+use crate::faults::{Place, Reason, Stop};
+use crate::infos::info_of_reply;
+use client_core::{Asked, EtypeInfo2, password_key};
+use cred_files::Keytab;
+use enctypes::{Etype, Key};
+use krb_fields::Name;
+use krb_parts::EtypeInfo2Entry;
+use krb_replies::read_kdc_rep;
+use sealed_parts::type_numbered;
+use std::alloc::Global;
+
+/// The message type of an AS-REP.
+const AS_REP: u8 = 11;
+
+/// What a client's key is made of, or where it stands.
+#[derive(Drop)]
+pub(crate) enum Secret {
+    Password(Vec<u8>),
+    Keytab(Keytab),
+}
+
+/// The key for a timestamp, by what the KDC says of the client's keys. Of a keytab it is that of the first type which
+/// the KDC names and the keytab has.
+pub(crate) fn key_wanted(
+    alloc: Global,
+    secret: &Secret,
+    asked: &Asked,
+    info: &EtypeInfo2,
+) -> Result<Key, Stop> {
+    match secret {
+        Secret::Password(pass) => key_of_password(alloc, pass, asked, info),
+        Secret::Keytab(keytab) => given(named_key(keytab, asked, info)),
+    }
+}
+
+/// The key by which an AS-REP is opened; `None` where the octets are none. Of a keytab it is that of the reply's type.
+pub(crate) fn key_of_reply(
+    alloc: Global,
+    secret: &Secret,
+    asked: &Asked,
+    reply: &[u8],
+) -> Result<Option<Key>, Stop> {
+    match secret {
+        Secret::Password(pass) => password_for_reply(alloc, pass, asked, reply),
+        Secret::Keytab(keytab) => keytab_for_reply(keytab, asked, reply),
+    }
+}
+
+/// The key by which the reply to a request with a timestamp is opened: of a password the timestamp's.
+pub(crate) fn key_of_next_reply(
+    secret: &Secret,
+    asked: &Asked,
+    key: &Key,
+    reply: &[u8],
+) -> Result<Key, Stop> {
+    match secret {
+        Secret::Password(_) => Ok(*key),
+        Secret::Keytab(keytab) => match keytab_for_reply(keytab, asked, reply)? {
+            Some(found) => Ok(found),
+            None => Ok(*key),
+        },
+    }
+}
+
+fn password_for_reply(
+    alloc: Global,
+    pass: &[u8],
+    asked: &Asked,
+    reply: &[u8],
+) -> Result<Option<Key>, Stop> {
+    let Some(info) = info_of_reply(alloc, reply)? else {
+        return Ok(None);
+    };
+    Ok(Some(key_of_password(alloc, pass, asked, &info)?))
+}
+
+fn key_of_password(
+    alloc: Global,
+    pass: &[u8],
+    asked: &Asked,
+    info: &EtypeInfo2,
+) -> Result<Key, Stop> {
+    match password_key(alloc, pass, asked.realm.as_slice(), &asked.client, info) {
+        Ok(key) => Ok(key),
+        Err(fault) => Err(Stop::from(fault)),
+    }
+}
+
+fn keytab_for_reply(keytab: &Keytab, asked: &Asked, reply: &[u8]) -> Result<Option<Key>, Stop> {
+    let Some(number) = type_of_reply(reply) else {
+        return Ok(None);
+    };
+    let found = key_numbered(keytab, asked.realm.as_slice(), &asked.client, number);
+    Ok(Some(given(found)?))
+}
+
+fn named_key<'k>(keytab: &'k Keytab, asked: &Asked, info: &EtypeInfo2) -> Option<&'k Key>
+    ensures { option_copied result ≡ key_named keytab.now (asked.now.realm ∷ asked.now.client.components) info.now }
+{
+    key_named(
+        keytab,
+        asked.realm.as_slice(),
+        &asked.client,
+        info.as_slice(),
+    )
+}
+
+fn given(found: Option<&Key>) -> Result<Key, Stop> {
+    match found {
+        Some(key) => Ok(*key),
+        None => Err(Stop::Refused(Reason::NoKey, Place::Keytab)),
+    }
+}
+
+/// The type by whose key an AS-REP is sealed; `None` where the octets are none.
+fn type_of_reply(bytes: &[u8]) -> Option<i32>
+    ensures { result ≡ type_of_reply bytes.now }
+{
+    match read_kdc_rep::<AS_REP>(bytes) {
+        Ok(reply) => Some(reply.enc_part.etype),
+        Err(_) => None,
+    }
+}
+
+/// The key of the first type that the KDC names and the keytab has.
+fn key_named<'k>(
+    keytab: &'k Keytab,
+    realm: &[u8],
+    name: &Name,
+    info: &[EtypeInfo2Entry],
+) -> Option<&'k Key>
+    ensures { option_copied result ≡ key_named keytab.now (realm.now ∷ name.now.components) info.now }
+{
+    for entry in info {
+        if let Some(key) = key_numbered(keytab, realm, name, entry.etype) {
+            return Some(key);
+        }
+    }
+    None
+}
+
+fn key_numbered<'k>(keytab: &'k Keytab, realm: &[u8], name: &Name, number: i32) -> Option<&'k Key>
+    ensures { option_copied result ≡ key_numbered keytab.now (realm.now ∷ name.now.components) number }
+{
+    key_typed(keytab, realm, name, type_numbered(number))
+}
+
+/// The key of a type, of the greatest version.
+fn key_typed<'k>(
+    keytab: &'k Keytab,
+    realm: &[u8],
+    name: &Name,
+    etype: Option<Etype>,
+) -> Option<&'k Key>
+    ensures { option_copied result ≡ key_typed keytab.now (realm.now ∷ name.now.components) etype }
+{
+    match etype {
+        Some(etype) => keytab.find(realm, name, etype, None).ok(),
+        None => None,
+    }
+}

@@ -1,0 +1,187 @@
+//! What the commands ask of a KDC (RFC 4120, section 5.4.1).
+ghost use Rattle.std.specs.Prelude.{◌≡◌, ◌<◌, ◌^◌, IfOk};
+ghost use Rattle.kclient_run.specs.Asking.{again_option, again_options, first_asked, from_of, further_asked, offered, options_of, rtime_of, till_of, time_after, up_to_last, with_if, with_kept};
+
+use client_core::Asked;
+use cred_files::Principal;
+use enctypes::Etype;
+use krb_der::KTime;
+use krb_elements::Seq;
+use krb_fields::{Flags, KdcOption, Moment, Name};
+use std::alloc::{AllocError, Global};
+
+/// What a first ticket is to be.
+#[derive(Clone, Copy, Debug)]
+pub(crate) struct Wishes {
+    /// For how many seconds; absent: for as long as the KDC gives.
+    pub life: Option<u32>,
+    /// In how many seconds it starts; absent: at once.
+    pub start: Option<u32>,
+    pub renewable: bool,
+    pub forwardable: bool,
+    pub proxiable: bool,
+}
+
+/// What is to be done with a ticket that the client has.
+#[derive(Clone, Copy, Debug, PartialEq, Eq)]
+pub(crate) enum Again {
+    Renew,
+    Validate,
+}
+
+/// What is asked for a first ticket.
+pub(crate) fn first_asked(
+    alloc: Global,
+    wishes: &Wishes,
+    client: &Principal,
+    service: &Name,
+    at: Moment,
+    nonce: u32,
+) -> Result<Asked, AllocError>
+    ensures { IfOk result (λ asked. asked ≡ first_asked wishes.now client.now service.now at.sec nonce) }
+{
+    Ok(Asked {
+        options: options(wishes),
+        client: client.name.copy(alloc)?,
+        realm: client.realm.copy(alloc)?,
+        service: service.copy(alloc)?,
+        from: from(wishes, at),
+        till: till(wishes, at),
+        rtime: rtime(wishes),
+        nonce,
+        etypes: offered(alloc)?,
+    })
+}
+
+/// What is asked with a ticket for tickets: a ticket that ends as late as that one.
+pub(crate) fn further_asked(
+    alloc: Global,
+    options: Flags,
+    client: &Principal,
+    service: &Name,
+    nonce: u32,
+) -> Result<Asked, AllocError>
+    ensures { IfOk result (λ asked. asked ≡ further_asked options client.now service.now nonce) }
+{
+    Ok(Asked {
+        options,
+        client: client.name.copy(alloc)?,
+        realm: client.realm.copy(alloc)?,
+        service: service.copy(alloc)?,
+        from: None,
+        till: KTime::of(0),
+        rtime: None,
+        nonce,
+        etypes: offered(alloc)?,
+    })
+}
+
+/// The encryption types that a client takes, in the order of its preference.
+fn offered(alloc: Global) -> Result<Seq<Etype>, AllocError>
+    ensures { IfOk result (λ etypes. etypes ≡ offered) }
+{
+    let mut etypes = Seq::new(alloc);
+    etypes.push(Etype::Aes256CtsHmacSha1_96)?;
+    etypes.push(Etype::Aes128CtsHmacSha1_96)?;
+    etypes.push(Etype::Aes256CtsHmacSha384_192)?;
+    etypes.push(Etype::Aes128CtsHmacSha256_128)?;
+    Ok(etypes)
+}
+
+fn options(wishes: &Wishes) -> Flags
+    ensures { result ≡ options_of wishes.now }
+{
+    let options = with_if(Flags::from_bits(0), wishes.renewable, KdcOption::Renewable);
+    let options = with_if(options, wishes.forwardable, KdcOption::Forwardable);
+    let options = with_if(options, wishes.proxiable, KdcOption::Proxiable);
+    with_if(options, wishes.start.is_some(), KdcOption::Postdated)
+}
+
+fn with_if(options: Flags, wanted: bool, option: KdcOption) -> Flags
+    ensures { result ≡ with_if wanted option options }
+{
+    if wanted {
+        options.with(option)
+    } else {
+        options
+    }
+}
+
+/// To renew or validate a ticket with these flags. An option is asked for again where the ticket has its flag, since
+/// some KDCs clear the flag otherwise.
+pub(crate) fn again_options(again: Again, flags: Flags) -> Flags
+    ensures { result ≡ again_options again flags }
+{
+    let options = with_if(Flags::from_bits(0), true, again_option(again));
+    let options = with_kept(options, flags, KdcOption::Forwardable);
+    let options = with_kept(options, flags, KdcOption::Proxiable);
+    let options = with_kept(options, flags, KdcOption::AllowPostdate);
+    with_kept(options, flags, KdcOption::Renewable)
+}
+
+fn again_option(again: Again) -> KdcOption
+    ensures { result ≡ again_option again }
+{
+    match again {
+        Again::Renew => KdcOption::Renew,
+        Again::Validate => KdcOption::Validate,
+    }
+}
+
+/// An option and the flag that it gives a ticket have one number.
+fn with_kept(options: Flags, flags: Flags, option: KdcOption) -> Flags
+    ensures { result ≡ with_kept flags option options }
+{
+    with_if(options, flags.has(option), option)
+}
+
+/// So many seconds from now, at most the end of the year 9999.
+fn time_after(at: Moment, seconds: u64) -> KTime
+    requires { seconds < 2 ^ 33 }
+    ensures { result ≡ time_after at.sec seconds }
+{
+    KTime::of(up_to_last(at.sec + seconds as i64))
+}
+
+fn up_to_last(second: i64) -> i64
+    ensures { result ≡ up_to_last second }
+{
+    if second > Moment::LAST_SECOND {
+        Moment::LAST_SECOND
+    } else {
+        second
+    }
+}
+
+fn from(wishes: &Wishes, at: Moment) -> Option<KTime>
+    ensures { result ≡ from_of at.sec wishes.now }
+{
+    match wishes.start {
+        Some(start) => Some(time_after(at, u64::from(start))),
+        None => None,
+    }
+}
+
+/// The life counts from the start; the start of 1970 asks for no bound.
+fn till(wishes: &Wishes, at: Moment) -> KTime
+    ensures { result ≡ till_of at.sec wishes.now }
+{
+    match wishes.life {
+        Some(life) => {
+            let start = wishes.start.unwrap_or(0);
+            time_after(at, u64::from(life) + u64::from(start))
+        }
+        None => KTime::of(0),
+    }
+}
+
+/// The start of 1970 asks for as long as the KDC gives.
+fn rtime(wishes: &Wishes) -> Option<KTime>
+    ensures { result ≡ rtime_of wishes.now }
+{
+    if wishes.renewable {
+        Some(KTime::of(0))
+    } else {
+        None
+    }
+}

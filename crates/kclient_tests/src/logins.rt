@@ -1,0 +1,222 @@
+//! First tickets, by passwords and keytabs, and those that are renewed and validated.
+use crate::runs::{KINIT, KINIT_V, KVNO, Run, expect_runs};
+use kclient_run::{FAILED, REFUSED};
+use std::test::Fail;
+
+/// What `kinit` asks for, and by which keys. Of a keytab the greatest version is the one that counts.
+const FIRST: &[Run] = &[
+    Run {
+        held: "krbtgt/A.B 0 0 36000 - 00600000 18\n",
+        ..KINIT
+    },
+    Run {
+        line: "kclient kinit --kdc 192.0.2.1:88 --realm A.B --name u --password-file pass --cache cc",
+        held: "krbtgt/A.B 10 10 36010 - 00600000 18\n",
+        ..KINIT
+    },
+    Run {
+        line: "kclient kinit --kdc 192.0.2.1:88 --realm A.B --name u --keytab keys --cache cc --seed seed",
+        held: "krbtgt/A.B 20 20 36020 - 00600000 18\n",
+        ..KINIT
+    },
+    Run {
+        line: "kclient kinit --kdc 192.0.2.1:88 --realm A.B --name v --keytab keys --cache cc --seed seed",
+        held: "krbtgt/A.B 30 30 36030 - 00400000 18\n",
+        ..KINIT_V
+    },
+    Run {
+        line: "kclient kinit --kdc 192.0.2.1:88 --realm A.B --name u --keytab old --cache cc --seed seed",
+        status: REFUSED,
+        out: "refused 24\n",
+        errors: "kclient: 192.0.2.1:88: error 24: the preauthentication failed: the password is another, or the clocks differ\n",
+        ..KINIT
+    },
+    Run {
+        line: "kclient kinit --kdc 192.0.2.1:88 --realm A.B --name v --keytab old --cache cc --seed seed",
+        status: REFUSED,
+        out: "refused CannotOpen\n",
+        errors: "kclient: 192.0.2.1:88: the key does not open the reply: the password is another, or the KDC\n",
+        ..KINIT_V
+    },
+    Run {
+        line: "kclient kinit --kdc 192.0.2.1:88 --realm A.B --name u --keytab other --cache cc --seed seed",
+        ..NO_KEY
+    },
+    Run {
+        line: "kclient kinit --kdc 192.0.2.1:88 --realm A.B --name v --keytab other --cache cc --seed seed",
+        ..NO_KEY
+    },
+    Run {
+        line: "kclient kinit --kdc 192.0.2.1:88 --realm A.B --name u --keytab pass --cache cc --seed seed",
+        out: "refused BadMagic\n",
+        errors: "kclient: pass: the file is no keytab of version 2\n",
+        ways: "",
+        ..NO_KEY
+    },
+    Run {
+        line: "kclient kinit --kdc 192.0.2.1:88 --realm A.B --name u --password-file pass --cache cc --seed seed --service h",
+        held: "h 90 90 36090 - 00600000 18\n",
+        ..KINIT
+    },
+    Run {
+        line: "kclient kinit --kdc 192.0.2.1:88 --realm A.B --name u --password-file pass --cache cc --seed seed --service h/",
+        out: "refused BadName\n",
+        errors: "kclient: h/: no name is written so\n",
+        ways: "",
+        ..NO_KEY
+    },
+    Run {
+        line: "kclient kinit --kdc 192.0.2.1:88 --realm A.B --name u --password-file pass --cache cc --seed seed --proxiable --life 60",
+        held: "krbtgt/A.B 110 110 170 - 10600000 18\n",
+        ..KINIT
+    },
+    Run {
+        line: "kclient kinit --kdc 192.0.2.1:88 --realm A.B --name u --cache cc --seed seed",
+        input: "password\nmore\n",
+        held: "krbtgt/A.B 120 120 36120 - 00600000 18\n",
+        ..KINIT
+    },
+    Run {
+        line: "kclient kinit --kdc 192.0.2.1:88 --realm A.B --name u --cache cc --seed seed",
+        status: FAILED,
+        out: "failed\n",
+        errors: "kclient: standard input: unexpected end of file\n",
+        ways: "",
+        ..KINIT
+    },
+    Run {
+        line: "kclient kinit --kdc 192.0.2.1:88 --realm A.B --name u --cache cc --seed seed",
+        input: "passw0rd\n",
+        status: REFUSED,
+        out: "refused 24\n",
+        errors: "kclient: 192.0.2.1:88: error 24: the preauthentication failed: the password is another, or the clocks differ\n",
+        ..KINIT
+    },
+    Run {
+        line: "kclient kinit --kdc 192.0.2.1:88 --realm A.B --name u --cache cc --seed seed",
+        input: "password",
+        terminal: true,
+        asked: "Password for u@A.B: ",
+        held: "krbtgt/A.B 150 150 36150 - 00600000 18\n",
+        ..KINIT
+    },
+];
+
+const NO_KEY: Run = Run {
+    status: REFUSED,
+    out: "refused Absent\n",
+    errors: "kclient: other: no key of the client is there, of a type that the KDC names\n",
+    ways: "u",
+    ..KINIT
+};
+
+/// A ticket is renewed: it starts now, lives as long as it lived, and keeps until when it is renewable.
+const RENEWED: &[Run] = &[
+    Run {
+        line: "kclient kinit --kdc 192.0.2.1:88 --realm A.B --name u --password-file pass --cache cc --seed seed --life 3600 --renewable --forwardable",
+        held: "krbtgt/A.B 0 0 3600 604800 40e00000 18\n",
+        ..KINIT
+    },
+    Run {
+        held: "krbtgt/A.B 0 0 3600 604800 40e00000 18\nh 0 10 3600 - 00200000 18\n",
+        ..KVNO
+    },
+    Run {
+        line: "kclient kinit --renew --kdc 192.0.2.1:88 --cache cc --seed seed",
+        ways: "u",
+        held: "krbtgt/A.B 0 20 3620 604800 40a00000 18\n",
+        ..KINIT
+    },
+    Run {
+        line: "kclient kinit --renew --tcp --kdc 192.0.2.1:88 --cache cc",
+        ways: "t",
+        held: "krbtgt/A.B 0 30 3630 604800 40a00000 18\n",
+        ..KINIT
+    },
+    Run {
+        line: "kclient kinit --renew --kdc 192.0.2.1:88 --cache empty --seed seed",
+        status: REFUSED,
+        out: "refused Absent\n",
+        errors: "kclient: empty: no usable ticket for tickets of the realm is there; kinit gets one\n",
+        ways: "",
+        ..KINIT
+    },
+    Run {
+        line: "kclient kinit --validate --kdc 192.0.2.1:88 --cache cc --seed seed",
+        status: REFUSED,
+        out: "refused 12\n",
+        errors: "kclient: 192.0.2.1:88: error 12: the KDC's policy refuses the request\n",
+        ways: "u",
+        ..KINIT
+    },
+    KINIT,
+    Run {
+        line: "kclient kinit --renew --kdc 192.0.2.1:88 --cache cc --seed seed",
+        status: REFUSED,
+        out: "refused 13\n",
+        errors: "kclient: 192.0.2.1:88: error 13: the KDC does not grant an option that was asked\n",
+        ways: "u",
+        ..KINIT
+    },
+];
+
+/// A ticket that starts later is validated from its start on, and keeps its times. Its life counts from its start.
+const VALIDATED: &[Run] = &[
+    Run {
+        line: "kclient kinit --kdc 192.0.2.1:88 --realm A.B --name u --password-file pass --cache cc --seed seed --start 20 --life 100",
+        held: "krbtgt/A.B 0 20 120 - 03600000 18\n",
+        ..KINIT
+    },
+    Run {
+        line: "kclient kinit --validate --kdc 192.0.2.1:88 --cache cc --seed seed",
+        status: REFUSED,
+        out: "refused 33\n",
+        errors: "kclient: 192.0.2.1:88: error 33: the ticket for tickets is not yet valid\n",
+        ways: "u",
+        ..KINIT
+    },
+    Run {
+        line: "kclient kinit --validate --kdc 192.0.2.1:88 --cache cc --seed seed",
+        ways: "u",
+        held: "krbtgt/A.B 0 20 120 - 02200000 18\n",
+        ..KINIT
+    },
+    Run {
+        held: "krbtgt/A.B 0 20 120 - 02200000 18\nh 0 30 120 - 00200000 18\n",
+        ..KVNO
+    },
+    Run {
+        line: "kclient kinit --validate --kdc 192.0.2.1:88 --cache cc --seed seed",
+        status: REFUSED,
+        out: "refused 12\n",
+        errors: "kclient: 192.0.2.1:88: error 12: the KDC's policy refuses the request\n",
+        ways: "u",
+        ..KINIT
+    },
+    Run {
+        line: "kclient kinit --kdc 192.0.2.1:88 --realm A.B --name u --password-file pass --cache cc --seed seed --start 20",
+        held: "krbtgt/A.B 50 70 36070 - 03600000 18\n",
+        ..KINIT
+    },
+    Run {
+        status: REFUSED,
+        out: "refused 33\n",
+        errors: "kclient: 192.0.2.1:88: error 33: the ticket for tickets is not yet valid\n",
+        ..KVNO
+    },
+];
+
+#[test]
+fn a_first_ticket_is_what_was_asked(rt: HostRuntime) -> Result<(), Fail> {
+    expect_runs(&rt, rt.alloc(), FIRST)
+}
+
+#[test]
+fn a_ticket_is_renewed(rt: HostRuntime) -> Result<(), Fail> {
+    expect_runs(&rt, rt.alloc(), RENEWED)
+}
+
+#[test]
+fn a_postdated_ticket_is_validated(rt: HostRuntime) -> Result<(), Fail> {
+    expect_runs(&rt, rt.alloc(), VALIDATED)
+}

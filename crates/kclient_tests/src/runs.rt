@@ -1,0 +1,312 @@
+//! A command line over files in memory and a KDC in memory, and what comes of it.
+use crate::joined::{JoinedExchange, Link};
+use crate::realm::open;
+use cred_files::{Cache, Credential};
+use file_store::{LONGEST_FILE, MemoryStore};
+use kclient_run::{DONE, Defaults, USAGE, kclient_run};
+use krb_der::KTime;
+use krb_fields::{Moment, Name};
+use std::alloc::{AllocError, Global};
+use std::fmt::Write;
+use std::process::Abort;
+use std::test::Fail;
+
+/// 2024-01-01 00:00:00, when the first command line of a table is run. Each later one is run ten seconds later.
+const MIDNIGHT: i64 = 1_704_067_200;
+
+/// The moment of the command line at this place of a table.
+fn moment(place: usize) -> Result<Moment, Fail> {
+    let after = u32::try_from(place)?.saturating_mul(10);
+    Ok(Moment::new(MIDNIGHT + i64::from(after), 0).ok_or("a moment")?)
+}
+
+/// A command line, its words between spaces, and what comes of it.
+pub struct Run {
+    pub line: &'static str,
+    /// What stands for words that the line lacks.
+    pub defaults: Defaults<'static>,
+    pub link: Link,
+    /// What standard input has.
+    pub input: &'static str,
+    /// Whether that is a terminal.
+    pub terminal: bool,
+    pub status: u8,
+    /// Of a fault of the command line words that are among those that are printed.
+    pub out: &'static str,
+    pub errors: &'static str,
+    /// All that was asked at the terminal.
+    pub asked: &'static str,
+    /// The messages, as `JoinedExchange` notes them.
+    pub ways: &'static str,
+    /// What the cache then holds, as `held_text` tells it; empty where that is not compared.
+    pub held: &'static str,
+    /// Which call of the store fails, where the first one has the number 1; with 0 none does.
+    pub failing: u32,
+}
+
+/// A first ticket of a client that has to preauthenticate.
+pub const KINIT: Run = Run {
+    line: "kclient kinit --kdc 192.0.2.1:88 --realm A.B --name u --password-file pass --cache cc --seed seed",
+    defaults: Defaults {
+        cache: None,
+        config: None,
+    },
+    link: Link::Good,
+    input: "",
+    terminal: false,
+    status: DONE,
+    out: "ok\n",
+    errors: "",
+    asked: "",
+    ways: "uu",
+    held: "",
+    failing: 0,
+};
+
+/// Of a client that need not preauthenticate.
+pub const KINIT_V: Run = Run {
+    line: "kclient kinit --kdc 192.0.2.1:88 --realm A.B --name v --password-file pass --cache cc --seed seed",
+    ways: "u",
+    ..KINIT
+};
+
+/// A ticket of `h`.
+pub const KVNO: Run = Run {
+    line: "kclient kvno --kdc 192.0.2.1:88 --cache cc --name h --seed seed",
+    out: "h kvno 1\n",
+    ways: "u",
+    ..KINIT
+};
+
+/// A cache of `u` in `A.B` without credentials.
+const EMPTY_CACHE: &[u8] =
+    b"\x05\x04\x00\x00\x00\x00\x00\x01\x00\x00\x00\x01\x00\x00\x00\x03A.B\x00\x00\x00\x01u";
+
+/// A keytab of `A.B`, whose keys are of type 18 but for one: `u` in versions 1 (zeros), 2 and 3 (of type 17, zeros); `v` in version 2
+/// and then 1 (zeros); `h` in version 1. The keys that are not zeros are those of the database.
+const KEYS: &str =
+    "05020000003b00010003412e42000175000000010000000001001200200000000000000000000000000000000000000000000000000000000000000000000000010000003b00010003412e42000175000000010000000002001200209fc43d45d06927b648f4c0e20d2379fd12faae8b702a3003abb578e2e839f35e000000020000002b00010003412e420001750000000100000000030011001000000000000000000000000000000000000000030000003b00010003412e4200017600000001000000000200120020bda7f5a7faf7e3d1d67d1ada10ec62471c7ee42b4e09a0bc6d45e5bbdc21cb27000000020000003b00010003412e4200016800000001000000000100120020ae4d2884ce10d529a2cf467039c35399e53428d7ee6a607be2668a0a1825eb59000000010000003b00010003412e4200017600000001000000000100120020000000000000000000000000000000000000000000000000000000000000000000000001";
+
+/// `u` and `v` in versions 1 and, of zeros, 2; `h` in version 1, of zeros.
+const OLD: &str =
+    "05020000003b00010003412e42000175000000010000000001001200209fc43d45d06927b648f4c0e20d2379fd12faae8b702a3003abb578e2e839f35e000000010000003b00010003412e42000175000000010000000002001200200000000000000000000000000000000000000000000000000000000000000000000000020000003b00010003412e4200017600000001000000000100120020bda7f5a7faf7e3d1d67d1ada10ec62471c7ee42b4e09a0bc6d45e5bbdc21cb27000000010000003b00010003412e42000176000000010000000002001200200000000000000000000000000000000000000000000000000000000000000000000000020000003b00010003412e4200016800000001000000000100120020000000000000000000000000000000000000000000000000000000000000000000000001";
+
+/// `u` with a key of type 17, `h` in version 2.
+const OTHER: &str =
+    "05020000002b00010003412e420001750000000100000000010011001000000000000000000000000000000000000000010000003b00010003412e4200016800000001000000000200120020ae4d2884ce10d529a2cf467039c35399e53428d7ee6a607be2668a0a1825eb5900000002";
+
+/// A `krb5.conf` of `A.B`, and of a realm `N` whose KDC is named.
+const CONF: &[u8] = b"\
+# the realm of the tests
+[libdefaults]
+    default_realm = A.B
+
+[realms]
+    A.B = {
+        kdc = tcp/192.0.2.9
+        kdc = 192.0.2.1
+        kdc = 192.0.2.2:89
+    }
+    N = {
+        kdc = kdc.example.com
+    }
+";
+
+/// Two seeds and a short one; a password, another and one that is too long; a file that is too long; a cache without
+/// credentials and one that is cut; a `krb5.conf` and one that names nothing; keytabs. The system's random octets are
+/// all 9.
+fn store(alloc: Global) -> Result<MemoryStore, Fail> {
+    let mut store = MemoryStore::new(alloc);
+    fill(alloc, &mut store)?;
+    set_hex(alloc, &mut store, "keys", KEYS)?;
+    set_hex(alloc, &mut store, "old", OLD)?;
+    set_hex(alloc, &mut store, "other", OTHER)?;
+    Ok(store)
+}
+
+fn fill(alloc: Global, store: &mut MemoryStore) -> Result<(), AllocError> {
+    store.set_random([9; 32]);
+    store.set(alloc, "seed", &[7; 40])?;
+    store.set(alloc, "seed2", &[8; 32])?;
+    store.set(alloc, "short", &[7; 31])?;
+    store.set(alloc, "pass", b"password\nmore")?;
+    store.set(alloc, "wrong", b"passw0rd")?;
+    store.set(alloc, "long", &[0x61; 1_025])?;
+    store.set(alloc, "big", &vec![in alloc; 0x20; LONGEST_FILE + 1]?)?;
+    store.set(alloc, "empty", EMPTY_CACHE)?;
+    store.set(alloc, "cut", b"\x05\x04\x00")?;
+    store.set(alloc, "conf", CONF)?;
+    store.set(alloc, "bare", b"[realms]\n")
+}
+
+fn set_hex(alloc: Global, store: &mut MemoryStore, path: &str, digits: &str) -> Result<(), Fail> {
+    let octets = hex::decode(alloc, digits.as_bytes())?;
+    Ok(store.set(alloc, path, &octets)?)
+}
+
+/// What the cache `cc` has.
+fn cache_file(alloc: Global, store: &MemoryStore) -> Result<Vec<u8>, AllocError> {
+    Vec::from_slice(alloc, store.get("cc").unwrap_or(&[]))
+}
+
+/// What a command line ends with, and prints.
+#[derive(Drop)]
+struct Ended {
+    status: u8,
+    out: Vec<u8>,
+    errors: Vec<u8>,
+}
+
+fn run_line(
+    alloc: Global,
+    store: &mut MemoryStore,
+    exchange: &mut JoinedExchange,
+    at: Moment,
+    run: &Run,
+) -> Result<Ended, AllocError> {
+    let words: Vec<&str> = run.line.split(' ').collect(alloc)?;
+    let mut out = Vec::new(alloc);
+    let mut errors = Vec::new(alloc);
+    let status = kclient_run(
+        alloc,
+        words.as_slice(),
+        &run.defaults,
+        store,
+        exchange,
+        at,
+        &mut out,
+        &mut errors,
+    );
+    Ok(Ended {
+        status,
+        out,
+        errors,
+    })
+}
+
+fn text(octets: &[u8]) -> &str {
+    str::from_utf8(octets).unwrap_or("")
+}
+
+/// Checks what a command line ends with and prints, and which messages went.
+fn expect_ended(rt: &impl Abort, run: &Run, ended: &Ended, ways: &str) {
+    assert_eq!(rt; text(&ended.errors), run.errors, "{}", run.line);
+    if run.status == USAGE {
+        assert!(rt; text(&ended.out).contains(run.out), "{}", run.line);
+    } else {
+        assert_eq!(rt; text(&ended.out), run.out, "{}", run.line);
+    }
+    assert_eq!(rt; ended.status, run.status, "{}", run.line);
+    assert_eq!(rt; ways, run.ways, "{}", run.line);
+}
+
+/// The names whose credentials are told of.
+const SERVICES: &[&str] = &["krbtgt/A.B", "h", "u", "v"];
+
+/// A line for each credential of a cache: its service; when the client was authenticated, and when it starts, ends and
+/// can be renewed no more, in seconds from midnight, or `-` where that is not set; its flags in hexadecimal digits (RFC
+/// 4120, section 5.3: bit 0 is the most significant); and the type of its key.
+fn held_text(alloc: Global, octets: &[u8]) -> Result<String, Fail> {
+    let cache = Cache::read(alloc, octets)?;
+    let mut held = String::new(alloc);
+    tell_all(alloc, &mut held, &cache)?;
+    Ok(held)
+}
+
+fn tell_all(alloc: Global, held: &mut String, cache: &Cache) -> Result<(), Fail> {
+    for name in SERVICES {
+        tell_service(alloc, held, cache, name)?;
+    }
+    Ok(())
+}
+
+fn tell_service(alloc: Global, held: &mut String, cache: &Cache, name: &str) -> Result<(), Fail> {
+    let service = Name::from_text(alloc, name)?;
+    match cache.find(&service) {
+        Ok(credential) => tell(held, name, credential),
+        Err(_) => Ok(()),
+    }
+}
+
+fn tell(held: &mut String, name: &str, credential: &Credential) -> Result<(), Fail> {
+    let times = &credential.times;
+    held.push_str(name)?;
+    for time in [
+        times.auth_time,
+        times.start_time,
+        times.end_time,
+        times.renew_till,
+    ] {
+        tell_time(held, time)?;
+    }
+    let flags = credential.flags.bits();
+    writeln!(held, " {flags:08x} {}", credential.key.key_type)?;
+    Ok(())
+}
+
+fn tell_time(held: &mut String, time: KTime) -> Result<(), Fail> {
+    match time.seconds() {
+        0 => write!(held, " -")?,
+        seconds => write!(held, " {}", seconds.saturating_sub(MIDNIGHT))?,
+    }
+    Ok(())
+}
+
+/// Checks what the cache holds. Unless the command was done, that is what it held before.
+fn expect_cache(
+    rt: &impl Abort,
+    alloc: Global,
+    store: &MemoryStore,
+    run: &Run,
+    before: &[u8],
+) -> Result<(), Fail> {
+    let after = store.get("cc").unwrap_or(&[]);
+    assert!(rt; run.status == DONE || before == after, "{}", run.line);
+    if !run.held.is_empty() {
+        let held = held_text(alloc, after)?;
+        assert_eq!(rt; held.as_str(), run.held, "{}", run.line);
+    }
+    Ok(())
+}
+
+fn expect_run(
+    rt: &impl Abort,
+    alloc: Global,
+    store: &mut MemoryStore,
+    exchange: &mut JoinedExchange,
+    run: &Run,
+    at: Moment,
+) -> Result<(), Fail> {
+    let before = cache_file(alloc, store)?;
+    exchange.begin(alloc, at, run.link);
+    store.set_input(alloc, run.input.as_bytes(), run.terminal)?;
+    store.fail_at(run.failing);
+    let ended = run_line(alloc, store, exchange, at, run)?;
+    expect_ended(rt, run, &ended, exchange.ways());
+    assert_eq!(rt; store.asked(), run.asked, "{}", run.line);
+    expect_cache(rt, alloc, store, run, &before)
+}
+
+fn expect_each(
+    rt: &impl Abort,
+    alloc: Global,
+    store: &mut MemoryStore,
+    exchange: &mut JoinedExchange,
+    runs: &[Run],
+) -> Result<(), Fail> {
+    for (place, run) in runs.iter().enumerate() {
+        expect_run(rt, alloc, store, exchange, run, moment(place)?)?;
+    }
+    Ok(())
+}
+
+fn joined(alloc: Global) -> Result<JoinedExchange, Fail> {
+    Ok(JoinedExchange::new(alloc, open(alloc)?, moment(0)?))
+}
+
+/// Runs the command lines of a table, each after the one before it, in a new realm.
+pub fn expect_runs(rt: &impl Abort, alloc: Global, runs: &[Run]) -> Result<(), Fail> {
+    let mut store = store(alloc)?;
+    let mut exchange = joined(alloc)?;
+    expect_each(rt, alloc, &mut store, &mut exchange, runs)
+}
