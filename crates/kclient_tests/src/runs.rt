@@ -188,8 +188,8 @@ fn text(octets: &[u8]) -> &str {
     str::from_utf8(octets).unwrap_or("")
 }
 
-/// Checks what a command line ends with and prints, and which messages went.
-fn expect_ended(rt: &impl Abort, run: &Run, ended: &Ended, ways: &str) {
+/// Checks what a command line ends with and prints, which messages went, and what was asked at the terminal.
+fn expect_ended(rt: &impl Abort, run: &Run, ended: &Ended, ways: &str, asked: &str) {
     assert_eq!(rt; text(&ended.errors), run.errors, "{}", run.line);
     if run.status == USAGE {
         assert!(rt; text(&ended.out).contains(run.out), "{}", run.line);
@@ -198,6 +198,7 @@ fn expect_ended(rt: &impl Abort, run: &Run, ended: &Ended, ways: &str) {
     }
     assert_eq!(rt; ended.status, run.status, "{}", run.line);
     assert_eq!(rt; ways, run.ways, "{}", run.line);
+    assert_eq!(rt; asked, run.asked, "{}", run.line);
 }
 
 /// The names whose credentials are told of.
@@ -282,8 +283,7 @@ fn expect_run(
     store.set_input(alloc, run.input.as_bytes(), run.terminal)?;
     store.fail_at(run.failing);
     let ended = run_line(alloc, store, exchange, at, run)?;
-    expect_ended(rt, run, &ended, exchange.ways());
-    assert_eq!(rt; store.asked(), run.asked, "{}", run.line);
+    expect_ended(rt, run, &ended, exchange.ways(), store.asked());
     expect_cache(rt, alloc, store, run, &before)
 }
 
