@@ -2,6 +2,7 @@
 (RFC 3961 and RFC 3962), and the requests of a client (RFC 4120). It knows nothing of this repository's own code, and is
 too slow and too trusting for any other use."""
 
+import hashlib
 import hmac
 import math
 import os
@@ -199,6 +200,13 @@ def derived(key, usage, kind):
     return first + encrypt_block(keys, first)
 
 
+def key_of(password, salt):
+    """The key of a password, with the default count (RFC 3962, section 4)."""
+    keys = round_keys(hashlib.pbkdf2_hmac("sha1", password, salt, 4096, 32))
+    first = encrypt_block(keys, folded(b"kerberos", 16))
+    return first + encrypt_block(keys, first)
+
+
 def mac(key, octets):
     return hmac.digest(key, octets, "sha1")[:12]
 
@@ -225,8 +233,8 @@ def encrypted_data(key, usage, text):
 
 # Requests.
 
-def body(realm, service, client=None, types=(18, 17, 20, 19)):
-    """What is asked: till zero, nonce 1, no option."""
+def body(realm, service, client=None, types=(18, 17, 20, 19), nonce=1):
+    """What is asked: till zero, no option."""
     parts = [field(0, tlv(0x03, bytes(5)))]
     if client:
         parts.append(field(1, name(1, client)))
@@ -234,18 +242,18 @@ def body(realm, service, client=None, types=(18, 17, 20, 19)):
         field(2, general_string(realm)),
         field(3, name(2, *service)),
         field(5, tlv(0x18, b"19700101000000Z")),
-        field(7, integer(1)),
+        field(7, integer(nonce)),
         field(8, sequence(*[integer(etype) for etype in types])),
     ]
     return sequence(*parts)
 
 
-def as_req(realm, client, padata=b""):
+def as_req(realm, client, padata=b"", nonce=1):
     """An AS-REQ for the ticket-granting service."""
     parts = [field(1, integer(5)), field(2, integer(10))]
     if padata:
         parts.append(field(3, sequence(padata)))
-    return tlv(0x6A, sequence(*parts, field(4, body(realm, (b"krbtgt", realm), client))))
+    return tlv(0x6A, sequence(*parts, field(4, body(realm, (b"krbtgt", realm), client, nonce=nonce))))
 
 
 def timestamp(key, seconds):
@@ -263,9 +271,9 @@ def ticket_in(key, reply):
     return parts[5], session_key
 
 
-def tgs_req(realm, client, service, ticket, session_key, seconds, microseconds):
+def tgs_req(realm, client, service, ticket, session_key, seconds, microseconds, nonce=1):
     """A TGS-REQ with an authenticator of this time."""
-    asked = body(realm, service)
+    asked = body(realm, service, nonce=nonce)
     authenticator = tlv(0x62, sequence(
         field(0, integer(5)),
         field(1, general_string(realm)),

@@ -63,9 +63,6 @@ message exchange = in_tag (Some (message_tag exchange)) (sequence kdc_req_form)
 abbrev pub SpellsKdcReq : Exchange × KdcReq → List ℕ → Type 0
 SpellsKdcReq = InTagOf message_tag (sequence kdc_req_form).Spells
 
-abbrev pub kdc_req_at : List ℕ → Result ((Exchange × KdcReq) × List ℕ) DerFault
-kdc_req_at = either_inside (message_tag As, As) (message_tag Tgs, Tgs) (sequence kdc_req_form).at
-
 abbrev pub SpellsReceived : Exchange × Received → List ℕ → Type 0
 SpellsReceived = InTagOf message_tag (sequence received_form).Spells
 
@@ -75,9 +72,6 @@ received_at = either_inside (message_tag As, As) (message_tag Tgs, Tgs) (sequenc
 each : (P : Exchange → Type 0) → P As → P Tgs → (x : Exchange) → P x
 each P a t As = a
 each P a t Tgs = t
-
-pub kdc_req_ok : IsElement SpellsKdcReq kdc_req_at
-kdc_req_ok = either_ok message_tag As Tgs each refl _ _ (sequence kdc_req_form).laws.element
 
 pub received_ok : IsElement SpellsReceived received_at
 received_ok = either_ok message_tag As Tgs each refl _ _ (sequence received_form).laws.element

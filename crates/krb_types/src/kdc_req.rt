@@ -1,10 +1,9 @@
 //! KDC-REQ (RFC 4120, section 5.4.1): AS-REQ and TGS-REQ.
-ghost use Rattle.std.specs.Prelude.{◌≡◌, ◌<◌, ◌^◌, ◌*◌, length, IfOk, OnOk, IsOkAnd};
+ghost use Rattle.std.specs.Prelude.{◌≡◌, ◌<◌, ◌^◌, length, IfOk, IsOkAnd};
 ghost use Rattle.krb_elements.specs.Codec.{itself, sequence, written};
-ghost use Rattle.krb_elements.specs.Format.{Decodes, IsReadUnlessMemory, Sees, whole};
+ghost use Rattle.krb_elements.specs.Format.{Sees, whole};
 ghost use Rattle.krb_types.specs.KdcReq.{kdc_req_form, received_form, request_type, message_tag, message, Received};
-ghost use Rattle.krb_types.specs.KdcReq.{SpellsKdcReq, kdc_req_at, SpellsReceived, received_at, without_octets};
-ghost use Rattle.krb_types.specs.KdcReq as trees;
+ghost use Rattle.krb_types.specs.KdcReq.{SpellsKdcReq, SpellsReceived, received_at, without_octets};
 ghost use Rattle.krb_types.specs.ShortNameLaws.{IsShorter};
 ghost use Rattle.krb_types.specs.declared.kdc_req.Exchange as exchanges;
 
@@ -12,9 +11,9 @@ use crate::numbers::{AS_REQ, TGS_REQ};
 use crate::req_body::{ReqBody, ReqBodyRef};
 use krb_der::{DerFault, Reader, Writer};
 use krb_elements::{
-    Coded, DecodeFields, EncodeFields, Fault, Fielded, MakeOwned, Sent, Seq, SeqRef, Untagged,
-    application_tag, end_of, look_either, take_field, take_optional, take_sent, write_field,
-    write_inside, write_optional,
+    Coded, DecodeFields, EncodeFields, Fielded, Sent, Seq, SeqRef, Untagged, application_tag,
+    end_of, look_either, take_field, take_optional, take_sent, write_field, write_inside,
+    write_optional,
 };
 use krb_fields::{PaData, PaDataRef};
 use std::alloc::{AllocError, Global};
@@ -65,9 +64,6 @@ pub struct KdcReq<P = Seq<PaData>, B = ReqBody> {
 /// A [`KdcReq`] where it stands, with the octets of its body as they were sent, over which a checksum is made.
 pub type KdcReqRef<'a> = KdcReq<SeqRef<'a, PaDataRef<'a>>, Sent<'a, ReqBodyRef<'a>>>;
 
-/// The same without the octets of its body.
-type WithoutOctets<'a> = KdcReq<SeqRef<'a, PaDataRef<'a>>, ReqBodyRef<'a>>;
-
 impl<'a> Coded for KdcReqRef<'a> {
     ghost codec = { sequence received_form };
 }
@@ -88,30 +84,6 @@ impl<'a> DecodeFields<'a> for KdcReqRef<'a> {
             msg_type: take_field(fields, 2)?,
             padata: take_optional(fields, 3)?,
             body: take_sent(fields, 4)?,
-        })
-    }
-}
-
-impl<'a> Coded for WithoutOctets<'a> {
-    ghost codec = { sequence kdc_req_form };
-}
-
-impl<'a> Fielded for WithoutOctets<'a> {
-    type In = Untagged;
-
-    ghost form = { kdc_req_form };
-
-    ghost made = { itself };
-}
-
-impl<'a> DecodeFields<'a> for WithoutOctets<'a> {
-    #[tactic(auto, unfolding(crate::specs::KdcReq::kdc_req_form))]
-    fn look_fields(fields: &mut Reader<'a>) -> Result<WithoutOctets<'a>, DerFault> {
-        Ok(KdcReq {
-            pvno: take_field(fields, 1)?,
-            msg_type: take_field(fields, 2)?,
-            padata: take_optional(fields, 3)?,
-            body: take_field(fields, 4)?,
         })
     }
 }
@@ -138,32 +110,6 @@ impl EncodeFields for KdcReq {
     }
 }
 
-fn copied_data<'a>(
-    alloc: Global,
-    found: &Option<SeqRef<'a, PaDataRef<'a>>>,
-) -> Result<Option<Seq<PaData>>, AllocError>
-    ensures { IfOk result (λ copy. copy ≡ found.now) }
-{
-    found.copy(alloc)
-}
-
-fn copied_body(alloc: Global, found: &ReqBodyRef<'_>) -> Result<ReqBody, AllocError>
-    ensures { IfOk result (λ copy. copy ≡ found.now) }
-{
-    found.copy(alloc)
-}
-
-fn copied(alloc: Global, found: &WithoutOctets<'_>) -> Result<KdcReq, AllocError>
-    ensures { IfOk result (λ copy. copy ≡ found.now) }
-{
-    Ok(KdcReq {
-        pvno: found.pvno,
-        msg_type: found.msg_type,
-        padata: copied_data(alloc, &found.padata)?,
-        body: copied_body(alloc, &found.body)?,
-    })
-}
-
 fn look_message(bytes: &[u8]) -> Result<(Exchange, KdcReqRef<'_>), DerFault>
     ensures { Sees result (whole received_at bytes.now) }
 {
@@ -187,33 +133,6 @@ pub fn read_kdc_req(bytes: &[u8]) -> Result<(Exchange, KdcReqRef<'_>), DerFault>
     ensures short { IfOk result (λ x. IsShorter bytes.now x.1.body.value.sname) }
 {
     look_message(bytes)
-}
-
-fn look_without_octets(bytes: &[u8]) -> Result<(Exchange, WithoutOctets<'_>), DerFault>
-    ensures { Sees result (whole kdc_req_at bytes.now) }
-{
-    let mut reader = Reader::new(bytes);
-    let found = look_either(&mut reader, Exchange::As.tagged(), Exchange::Tgs.tagged())?;
-    end_of(&reader)?;
-    Ok(found)
-}
-
-fn decode_all(alloc: Global, bytes: &[u8]) -> Result<(Exchange, KdcReq), Fault>
-    ensures { Decodes result (whole kdc_req_at bytes.now) }
-{
-    let found = look_without_octets(bytes)?;
-    Ok((found.0, copied(alloc, &found.1)?))
-}
-
-/// The AS-REQ or the TGS-REQ that the octets spell.
-pub fn decode_kdc_req(alloc: Global, bytes: &[u8]) -> Result<(Exchange, KdcReq), Fault>
-    ensures found { IfOk result (λ x. SpellsKdcReq x bytes.now) }
-    ensures only { (x : exchanges.Exchange × trees.KdcReq) → SpellsKdcReq x bytes.now → IsReadUnlessMemory result x }
-    ensures exact { Decodes result (whole kdc_req_at bytes.now) }
-    // What was read can be written.
-    ensures short { IfOk result (λ x. length ((message x.0).text x.1) < 3 * length bytes.now) }
-{
-    decode_all(alloc, bytes)
 }
 
 /// The octets of the request, which spell it.

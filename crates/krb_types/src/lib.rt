@@ -8,7 +8,7 @@ mod req_body;
 mod ticket;
 mod ticket_ref;
 
-pub use kdc_req::{Exchange, KdcReq, KdcReqRef, decode_kdc_req, encode_kdc_req, read_kdc_req};
+pub use kdc_req::{Exchange, KdcReq, KdcReqRef, encode_kdc_req, read_kdc_req};
 pub use krb_error::{KrbError, KrbErrorRef, decode_krb_error, encode_krb_error};
 pub use numbers::{AS_REQ, KRB_ERROR, PVNO, TGS_REQ};
 pub use req_body::{ReqBody, ReqBodyRef};

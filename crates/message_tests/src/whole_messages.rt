@@ -1,14 +1,15 @@
 //! Whole messages (`krb_types`).
-ghost use Rattle.std.specs.Prelude.{◌<◌, length};
+ghost use Rattle.std.specs.Prelude.{◌≡◌, ◌<◌, ◌*◌, length, IfOk};
+ghost use Rattle.krb_types.specs.KdcReq.{SpellsKdcReq, message, without_octets};
 
 use krb_der::{DerFault, KTime};
-use krb_elements::Fault;
-use krb_fields::NameRef;
+use krb_elements::{Fault, MakeOwned, Seq, SeqRef};
+use krb_fields::{NameRef, PaData, PaDataRef};
 use krb_types::{
-    Exchange, KdcReqRef, KrbError, ReqBodyRef, TicketRef, decode_kdc_req, decode_krb_error,
+    Exchange, KdcReq, KdcReqRef, KrbError, ReqBody, ReqBodyRef, TicketRef, decode_krb_error,
     encode_kdc_req, encode_krb_error, read_kdc_req,
 };
-use std::alloc::Global;
+use std::alloc::{AllocError, Global};
 use std::test::Fail;
 
 // pyasn1 gives these octets of the types of RFC 4120, sections 5.3, 5.4.1 and 5.9.1.
@@ -264,12 +265,53 @@ fn in_long_form() -> [u8; 108] {
     octets
 }
 
+fn owned_body(alloc: Global, body: &ReqBodyRef<'_>) -> Result<ReqBody, AllocError>
+    ensures { IfOk result (λ copy. copy ≡ body.now) }
+{
+    body.copy(alloc)
+}
+
+fn owned_padata<'a>(
+    alloc: Global,
+    padata: &Option<SeqRef<'a, PaDataRef<'a>>>,
+) -> Result<Option<Seq<PaData>>, AllocError>
+    ensures { IfOk result (λ copy. copy ≡ padata.now) }
+{
+    padata.copy(alloc)
+}
+
+fn owned(alloc: Global, request: &KdcReqRef<'_>) -> Result<KdcReq, AllocError>
+    ensures { IfOk result (λ copy. copy ≡ without_octets request.now) }
+{
+    Ok(KdcReq {
+        pvno: request.pvno,
+        msg_type: request.msg_type,
+        padata: owned_padata(alloc, &request.padata)?,
+        body: owned_body(alloc, &request.body.value)?,
+    })
+}
+
+/// The request that the octets spell.
+fn decoded(alloc: Global, octets: &[u8]) -> Result<(Exchange, KdcReq), Fault>
+    ensures { IfOk result (λ x. SpellsKdcReq x octets.now) }
+{
+    let (exchange, request) = read_kdc_req(octets)?;
+    Ok((exchange, owned(alloc, &request)?))
+}
+
+/// The same, of which what is written has less than three times their number.
+fn short(alloc: Global, octets: &[u8]) -> Result<(Exchange, KdcReq), Fault>
+    ensures { IfOk result (λ x. length ((message x.0).text x.1) < 3 * length octets.now) }
+{
+    decoded(alloc, octets)
+}
+
 /// What is written of the request that the octets spell.
 fn request_again(alloc: Global, octets: &[u8]) -> Result<Vec<u8>, Fault>
     requires { length octets.now < 1000 }
 {
-    let found = decode_kdc_req(alloc, octets)?;
-    Ok(encode_kdc_req(alloc, found.0, &found.1)?)
+    let (exchange, request) = short(alloc, octets)?;
+    Ok(encode_kdc_req(alloc, exchange, &request)?)
 }
 
 /// What is written of the error that the octets spell.

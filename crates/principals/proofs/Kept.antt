@@ -1,5 +1,5 @@
 -- Members that rise are read as they are written.
-use Rattle.std.proofs.Common.{◌≡◌, ℕ, suc, List, [], ◌∷◌, map, Some, option_map, option_and_then, Less, Equal, Greater, Ordering, refl, ap, ◌∙◌, nat_cmp, max}
+use Rattle.std.proofs.Common.{◌≡◌, ◌&&◌, is_lt, ℕ, suc, Bool, true, false, List, [], ◌∷◌, map, Some, option_map, option_and_then, Less, Equal, Greater, Ordering, refl, ap, ◌∙◌, nat_cmp, max}
 use Rattle.std.specs.Ordering.{match_ordering, ordering_reverse}
 use Rattle.std.specs.Cmp.Lexicographic.{slice_cmp}
 use Rattle.std.proofs.lemmas.Cmp.{nat_list_cmp_total}
@@ -46,6 +46,33 @@ IsNext k (member l d ms) = slice_cmp nat_cmp k l ≡ Less
 abbrev pub AreRising : Members → Type 0
 AreRising no_members = Unit {0}
 AreRising (member k d ms) = IsNext k ms × AreRising ms
+
+-- the same as a test
+abbrev is_next : List ℕ → Members → Bool
+is_next k no_members = true
+is_next k (member l d ms) = is_lt (slice_cmp nat_cmp k l)
+
+abbrev pub are_rising : Members → Bool
+are_rising no_members = true
+are_rising (member k d ms) = is_next k ms && are_rising ms
+
+next_if : (k : List ℕ) (ms : Members) → is_next k ms ≡ true → IsNext k ms
+next_if k no_members h = tt
+next_if k (member l d ms) h = less (slice_cmp nat_cmp k l) h
+  where
+    less : (o : Ordering) → is_lt o ≡ true → o ≡ Less
+    less Less h = refl
+    less Equal h = cc
+    less Greater h = cc
+
+pub rising_if : (ms : Members) → are_rising ms ≡ true → AreRising ms
+rising_if no_members h = tt
+rising_if (member k d ms) h =
+    let parts = both (is_next k ms) (are_rising ms) h in (next_if k ms parts.0, rising_if ms parts.1)
+  where
+    both : (a b : Bool) → (a && b) ≡ true → (a ≡ true) × (b ≡ true)
+    both true b h = (refl, h)
+    both false b h = cc
 
 abbrev pub AreKept : Members → Type 0
 AreKept no_members = Unit {0}

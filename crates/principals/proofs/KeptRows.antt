@@ -1,8 +1,8 @@
 -- What is written for rows, and for a database, is read as that value.
-use Rattle.std.proofs.Common.{◌≡◌, ℕ, ℤ, pos, negsuc, ◌<◌, ◌≤◌, ◌^◌, List, [], ◌∷◌, Option, Some, None, option_map, refl, ap, subst, ◌∙◌, arith, All, map}
-use Rattle.std.proofs.lemmas.List.Elements.{All-head, All-tail}
+use Rattle.std.proofs.Common.{◌≡◌, ℕ, ℤ, pos, negsuc, ◌<◌, ◌≤◌, ◌^◌, codes, List, [], ◌∷◌, Option, Some, None, option_map, take, drop, refl, ap, subst, ◌∙◌, arith, All, map}
+use Rattle.std.proofs.lemmas.List.Elements.{All-head, All-tail, All-take, All-drop}
 use Rattle.std.specs.FinMap.{entries}
-use Rattle.serde_json.specs.Data.{Data, number, unsigned, array, Members, no_members, put, depth}
+use Rattle.serde_json.specs.Data.{Data, number, unsigned, array, Members, no_members, member, put, depth}
 use Rattle.serde_json.specs.Find.{of_integer}
 use Rattle.json.specs.Lex.{tokens}
 use Rattle.serde_json.specs.Read.{read, of_items}
@@ -19,14 +19,18 @@ use Rattle.principal_rows.specs.declared.name_map.Entry.{Entry}
 use Rattle.principal_rows.specs.declared.row.KeyVersion.{KeyVersion}
 use Rattle.principal_rows.specs.declared.row.Row.{Row}
 use Rattle.principals.specs.Database.{Principals}
-use Rattle.principals.specs.ReadBack.{IsTime}
-use Rattle.principals.specs.RowWritten.{time_value, key_value, keys_value, version_value, versions_value, row_value}
+use Rattle.text_fields.specs.declared.settings.Setting.{Setting}
+use Rattle.text_fields.specs.declared.settings.Setting.TheVariants.{Flag, Life, Time}
+use Rattle.text_fields.specs.Settings.{settings_of}
+use Rattle.principals.specs.ReadBack.{IsTime, IsFitting}
+use Rattle.principals.specs.RowWritten.{time_value, key_value, keys_value, version_value, versions_value}
+use Rattle.principals.specs.RowWritten.{setting_value, setting_members, before_keys, row_members, row_value}
 use Rattle.principals.specs.Tokens.{IsKept, data_tokens}
 use Rattle.principals.specs.Written.{with_rows, database_value}
 use Rattle.serde_json.specs.Written.{outline, items_outline}
 use Rattle.serde_json.specs.View.{items_of}
 use Rattle.principals.proofs.NextMembers.{read-tokens}
-use Rattle.principals.proofs.Kept.{depth-outline, items_kept, object_kept, AreRising, AreKept, rising-put, kept-put}
+use Rattle.principals.proofs.Kept.{depth-outline, items_kept, object_kept, AreRising, AreKept, rising_if, rising-put, kept-put}
 
 -- a text whose tokens are those that are written for a value is read as the value
 pub kept_text : (d : Data) (text : List ℕ) → IsKept d → depth d ≤ 127 → tokens text ≡ data_tokens d → read text ≡ Some d
@@ -71,46 +75,27 @@ versions_kept : (vs : List KeyVersion) → IsVersions vs → IsKept (versions_va
 unfolding IsKept
 versions_kept vs is = ap (option_map array) (versions_items vs is.bounded)
 
-pub row_kept : (row : Row) → IsVersions row.versions → IsTime row.policy.expires → IsTime row.policy.password_expires → IsTime row.policy.revoked_before → row.policy.greatest_life < 4294967296 → row.policy.greatest_renewable < 4294967296 → IsKept (row_value row)
+setting_kept : (s : Setting) → IsFitting s → IsKept (setting_value s)
 unfolding IsKept
-row_kept row versions expires password_expires revoked_before life renewable =
-    object_kept _ (refl, (refl, (refl, (refl, (refl, (refl, (refl, (refl, (refl, (refl, (refl, (tt, tt)))))))))))) (
-      refl,
-      (
-        time_kept row.policy.expires expires,
-        (
-          refl,
-          (
-            number_kept row.policy.greatest_life (omega (arith, life)),
-            (
-              number_kept row.policy.greatest_renewable (omega (arith, renewable)),
-              (
-                versions_kept row.versions versions,
-                (
-                  refl,
-                  (
-                    time_kept row.policy.password_expires password_expires,
-                    (
-                      refl,
-                      (
-                        refl,
-                        (
-                          refl,
-                          (
-                            time_kept row.policy.revoked_before revoked_before,
-                            tt,
-                          ),
-                        ),
-                      ),
-                    ),
-                  ),
-                ),
-              ),
-            ),
-          ),
-        ),
-      ),
-    )
+setting_kept (Flag field on) fits = refl
+setting_kept (Life field life) fits = number_kept life (omega (arith, fits))
+setting_kept (Time field time) fits = time_kept time fits
+
+settings_kept : (ss : List Setting) (more : Members) → All IsFitting ss → AreKept more → AreKept (setting_members ss more)
+settings_kept [] more fits kept = kept
+settings_kept (s ∷ ss) more fits kept =
+    (setting_kept s (All-head IsFitting s ss fits), settings_kept ss more (All-tail IsFitting s ss fits) kept)
+
+pub row_kept : (row : Row) → IsVersions row.versions → All IsFitting (settings_of row.policy) → IsKept (row_value row)
+row_kept row versions fits =
+    let settings = settings_of row.policy in
+    let after = setting_members (drop before_keys settings) no_members in
+    let after_kept : AreKept after =
+    settings_kept (drop before_keys settings) no_members (All-drop IsFitting before_keys settings fits) tt in
+    let keys_on : AreKept (member (codes "keys") (versions_value row.versions) after) = (versions_kept row.versions versions, after_kept) in
+    object_kept (row_members row) (rising_if (row_members row) refl)
+    (settings_kept (take before_keys settings) (member (codes "keys") (versions_value row.versions) after)
+    (All-take IsFitting before_keys settings fits) keys_on)
 
 -- ---- all rows
 

@@ -1,5 +1,5 @@
 -- What is written for a row is read as that row.
-use Rattle.std.proofs.Common.{◌≡◌, ℕ, ℤ, pos, negsuc, suc, ◌+◌, ◌<◌, ◌≤◌, get_or, inl, inr, ◌==◌, ◌&&◌, nat_lt, nat_le, Bool, true, false, List, [], ◌∷◌, length, map, Option, Some, None, refl, arith, All, AllPairs}
+use Rattle.std.proofs.Common.{◌≡◌, ℕ, ℤ, pos, negsuc, suc, ◌+◌, ◌<◌, ◌≤◌, get_or, inl, inr, ◌==◌, ◌&&◌, nat_lt, nat_le, Bool, true, false, List, [], ◌∷◌, length, map, Option, Some, None, refl, ◌∙◌, arith, All, AllPairs}
 use Rattle.std.specs.List.{AllWithin}
 use Rattle.std.proofs.lemmas.Bool.{cases_lt}
 use Rattle.std.proofs.lemmas.List.{get_or_past}
@@ -18,10 +18,17 @@ use Rattle.principal_rows.specs.KeyList.{IsKeyList}
 use Rattle.principal_rows.specs.Versions.{IsVersions, is_above, are_falling, are_versions}
 use Rattle.principal_rows.specs.declared.row.KeyVersion.{KeyVersion}
 use Rattle.principal_rows.specs.declared.row.Row.{Row}
+use Rattle.principal_rows.specs.Policy.{default_policy}
+use Rattle.principal_rows.specs.declared.policy.Policy.{Policy}
+use Rattle.text_fields.specs.declared.settings.Setting.{Setting}
+use Rattle.text_fields.specs.declared.settings.Setting.TheVariants.{Flag, Life, Time}
+use Rattle.text_fields.specs.Settings.{settings_of, with_setting, with_settings}
 use Rattle.principals.specs.declared.format.Format.TheVariants.{Version2}
-use Rattle.principals.specs.RowValue.{each, time_of, key_of, keys_of, version_of, versions_of, policy_of, row_of}
-use Rattle.principals.specs.RowWritten.{time_value, key_value, keys_value, version_value, versions_value, row_value}
-use Rattle.principals.specs.ReadBack.{IsTime, IsTimeReadBack}
+use Rattle.principals.specs.RowValue.{each, time_of, key_of, keys_of, version_of, versions_of}
+use Rattle.principals.specs.RowValue.{setting_from, setting_in, policy_with, policy_of, row_of}
+use Rattle.principals.specs.RowWritten.{time_value, key_value, keys_value, version_value, versions_value, setting_value}
+use Rattle.principals.specs.RowWritten.{row_value}
+use Rattle.principals.specs.ReadBack.{IsTime, IsFitting}
 
 -- what holds of the elements up to one, and of that one
 pub one_more_read : {A : Type 0} (P : A → Type 0) (xs : List A) (i : ℕ) (x : A) → AllWithin P xs 0 i → i < length xs → x ≡ get_or xs i x → P x → AllWithin P xs 0 (i + 1)
@@ -96,12 +103,27 @@ time_read None is = refl
 time_read (Some (pos n)) is = let small : nat_le n 253402300799 ≡ true = grind (arith, nat_tests, is) in rw small refl
 time_read (Some (negsuc n)) is = absurd (grind (arith, is))
 
-pub policy_read : (row : Row) → IsTimeReadBack row.policy.expires → IsTimeReadBack row.policy.password_expires → IsTimeReadBack row.policy.revoked_before → row.policy.greatest_life < 4294967296 → row.policy.greatest_renewable < 4294967296
-    → policy_of Version2 (row_value row) ≡ Some row.policy
-policy_read row expires password_expires revoked_before life renewable =
-    let life_fits : nat_lt row.policy.greatest_life 4294967296 ≡ true = grind (arith, nat_tests, life) in
-    let renewable_fits : nat_lt row.policy.greatest_renewable 4294967296 ≡ true = grind (arith, nat_tests, renewable) in
-    rw (expires, password_expires, revoked_before, life_fits, renewable_fits) refl
+setting_read : (s : Setting) → IsFitting s → setting_from s (setting_value s) ≡ Some s
+setting_read (Flag field on) fits = refl
+setting_read (Life field life) fits = let small : nat_lt life 4294967296 ≡ true = grind (arith, nat_tests, fits) in rw small refl
+setting_read (Time field time) fits = rw (time_read time fits) refl
+
+-- settings that are found as they were written are set
+settings_read : (d : Data) (fields ss : List Setting) (p : Policy)
+    → map (setting_in Version2 d) fields ≡ map (λ s. setting_from s (setting_value s)) ss → All IsFitting ss
+    → policy_with Version2 d fields p ≡ Some (with_settings ss p)
+settings_read d [] [] p found fits = refl
+settings_read d [] (s ∷ ss) p found fits = cc
+settings_read d (f ∷ fs) [] p found fits = cc
+settings_read d (f ∷ fs) (s ∷ ss) p found fits =
+    let first : setting_in Version2 d f ≡ setting_from s (setting_value s) = cc in
+    let others : map (setting_in Version2 d) fs ≡ map (λ s. setting_from s (setting_value s)) ss = cc in
+    let here : setting_in Version2 d f ≡ Some s = first ∙ setting_read s (All-head IsFitting s ss fits) in
+    rw here (settings_read d fs ss (with_setting s p) others (All-tail IsFitting s ss fits))
+
+pub policy_read : (row : Row) → All IsFitting (settings_of row.policy) → policy_of Version2 (row_value row) ≡ Some row.policy
+policy_read row fits =
+    settings_read (row_value row) (settings_of default_policy) (settings_of row.policy) default_policy refl fits
 
 pub row_read : (row : Row) → policy_of Version2 (row_value row) ≡ Some row.policy → versions_of (versions_value row.versions) ≡ Some row.versions → row_of Version2 (row_value row) ≡ Some row
 row_read row policy versions = rw (policy, versions) refl

@@ -1,12 +1,15 @@
 -- The tokens of rows, one after the other.
-use Rattle.std.proofs.Common.{◌≡◌, ℕ, zero, suc, w64, to_z, of_z, Result, Ok, Err, OnOk, ◌+◌, ◌<◌, ◌≤◌, List, [], ◌∷◌, ◌++◌, length, get_or, drop, map, Ordering, Less, Equal, Greater, String, Global, string_bytes, string_cmp, refl, sym, ap, subst, ◌∙◌, append_assoc, append-nil, arith}
+use Rattle.std.proofs.Common.{◌≡◌, ℕ, zero, suc, w64, to_z, of_z, Result, Ok, Err, OnOk, ◌+◌, ◌<◌, ◌≤◌, List, [], ◌∷◌, ◌++◌, length, codes, get_or, take, drop, map, Ordering, Less, Equal, Greater, String, Global, string_bytes, string_cmp, refl, sym, ap, subst, ◌∙◌, append_assoc, append-nil, arith}
+use Rattle.std.proofs.Math.Seq.{take-suc}
+use Rattle.std.proofs.lemmas.List.{take_all}
+use Rattle.std.proofs.lemmas.Grind.{flat_map-append}
 use Rattle.std.specs.Borrow.{Bor}
 use Rattle.std.specs.BTreeMap.{insert_entry}
 use Rattle.std.specs.Ordering.{match_ordering}
 use Rattle.json.specs.Token.{Token}
 use Rattle.json.specs.Tree as tree
 use Rattle.json.specs.Written.{Written, Writes}
-use Rattle.serde_json.specs.Data.{Data, array, object, put}
+use Rattle.serde_json.specs.Data.{Data, array, object, Members, no_members, member, put}
 use Rattle.serde_json.specs.View.{items_of}
 use Rattle.serde_json.specs.Find.{of_integer}
 use Rattle.serde_json.specs.Written.{number_text, items_outline, members_outline}
@@ -14,9 +17,13 @@ use Rattle.std.specs.Fmt.{signed_decimal}
 use Rattle.enctypes.specs.declared.etype.Etype.{Etype}
 use Rattle.enctypes.specs.declared.etype.Etype.TheVariants.{Aes128CtsHmacSha1_96, Aes256CtsHmacSha1_96, Aes128CtsHmacSha256_128, Aes256CtsHmacSha384_192}
 use Rattle.enctypes.specs.Etype as etypes
+use Rattle.principal_rows.specs.declared.row.KeyVersion.{KeyVersion}
 use Rattle.principal_rows.specs.declared.row.Row.{Row}
-use Rattle.principals.specs.RowWritten.{each_value, row_value}
-use Rattle.principals.specs.Tokens.{IsLonger, data_tokens, member_tokens, values_tokens, named_members, named_tokens}
+use Rattle.text_fields.specs.declared.settings.Setting.{Setting}
+use Rattle.text_fields.specs.Settings.{settings_of}
+use Rattle.principals.specs.RowWritten.{each_value, versions_value, setting_members, before_keys, row_value}
+use Rattle.principals.specs.Tokens.{IsLonger, data_tokens, member_tokens, setting_tokens, settings_tokens, values_tokens}
+use Rattle.principals.specs.Tokens.{named_members, named_tokens}
 
 -- ---- tokens behind tokens
 
@@ -86,6 +93,58 @@ module _ {A : Type 0} (f : A → Data) where
   array_written a b c d xs done begins holds is ends =
       let whole = behind a c d (Token.begin_array ∷ done) (Token.end_array ∷ []) (behind a b c (Token.begin_array ∷ []) done begins holds) ends in
       subst (IsLonger a d) (ap (λ l. Token.begin_array ∷ (l ++ Token.end_array ∷ [])) is ∙ ap (λ l. Token.begin_array ∷ l) (array_end xs)) whole
+
+-- ---- a row
+
+setting_end : (ss : List Setting) (more : Members)
+    → settings_tokens ss ++ tree.members_tokens (members_outline more) ≡ tree.members_tokens (members_outline (setting_members ss more))
+setting_end [] more = refl
+setting_end (s ∷ ss) more =
+    append_assoc (setting_tokens s) (settings_tokens ss) (tree.members_tokens (members_outline more))
+    ∙ ap (λ l. setting_tokens s ++ l) (setting_end ss more)
+
+-- one element more
+pub one_more_of : {A : Type 0} (xs : List A) (i : ℕ) (x : A) → i < length xs → x ≡ get_or xs i x → take (i + 1) xs ≡ take i xs ++ x ∷ []
+one_more_of xs i x within here =
+    let step : suc i ≡ i + 1 = omega arith in
+    ap (λ n. take n xs) (sym step) ∙ take-suc xs i x within ∙ ap (λ y. take i xs ++ y ∷ []) (sym here)
+
+pub settings_more : (ss : List Setting) (s : Setting) → settings_tokens ss ++ setting_tokens s ≡ settings_tokens (ss ++ s ∷ [])
+settings_more ss s =
+    ap (λ l. settings_tokens ss ++ l) (sym (append-nil (setting_tokens s))) ∙ sym (flat_map-append setting_tokens ss (s ∷ []))
+
+-- one setting more is written
+pub setting_written : (a b c : Written) (ss : List Setting) (i : ℕ) (s : Setting) → i < length ss → s ≡ get_or ss i s
+    → IsLonger a b (settings_tokens (take i ss)) → IsLonger b c (setting_tokens s) → IsLonger a c (settings_tokens (take (i + 1) ss))
+setting_written a b c ss i s within here so_far next =
+    subst (IsLonger a c) (settings_more (take i ss) s ∙ ap settings_tokens (sym (one_more_of ss i s within here))) (chain so_far next)
+
+-- all are written
+pub settings_written : (a b : Written) (ss : List Setting) (i : ℕ) → length ss ≤ i → IsLonger a b (settings_tokens (take i ss))
+    → IsLonger a b (settings_tokens ss)
+settings_written a b ss i past = subst (IsLonger a b) (ap settings_tokens (take_all i ss past))
+
+-- the tokens of the object of a row with these settings before and behind its keys
+abbrev pub row_of_tokens : List Setting → List KeyVersion → List Setting → List Token
+row_of_tokens before versions after =
+    Token.begin_object ∷ (settings_tokens before
+    ++ (Token.key (codes "keys") ∷ (data_tokens (versions_value versions) ++ (settings_tokens after ++ Token.end_object ∷ []))))
+
+-- a row's tokens, from the first one to the last one
+pub row_tokens : (row : Row) (before after : List Setting) → before ≡ take before_keys (settings_of row.policy)
+    → after ≡ drop before_keys (settings_of row.policy) → row_of_tokens before row.versions after ≡ data_tokens (row_value row)
+row_tokens row before after first last =
+    let behind = setting_members (drop before_keys (settings_of row.policy)) no_members in
+    ap (λ ss. row_of_tokens ss row.versions after) first
+    ∙ ap (row_of_tokens (take before_keys (settings_of row.policy)) row.versions) last
+    ∙ ap (λ l. Token.begin_object ∷ (settings_tokens (take before_keys (settings_of row.policy)) ++ (Token.key (codes "keys") ∷ (data_tokens (versions_value row.versions) ++ l))))
+    (setting_end (drop before_keys (settings_of row.policy)) no_members)
+    ∙ ap (λ l. Token.begin_object ∷ l) (setting_end (take before_keys (settings_of row.policy)) (member (codes "keys") (versions_value row.versions) behind))
+
+pub row_written : (row : Row) (a b : Written) (before after : List Setting) → before ≡ take before_keys (settings_of row.policy)
+    → after ≡ drop before_keys (settings_of row.policy) → IsLonger a b (row_of_tokens before row.versions after)
+    → IsLonger a b (data_tokens (row_value row))
+row_written row a b before after first last = subst (IsLonger a b) (row_tokens row before after first last)
 
 -- ---- rows under their texts
 

@@ -1,5 +1,9 @@
 -- The tokens that are taken from a reader, one after the other.
-use Rattle.std.proofs.Common.{◌≡◌, ℕ, ◌≤◌, ◌<◌, codes, List, [], ◌∷◌, ◌++◌, length, Some, option_map, sym, ap, ◌∙◌, append_assoc, append-nil, length-append, arith}
+use Rattle.std.proofs.Common.{◌≡◌, ℕ, ◌≤◌, ◌<◌, ◌+◌, codes, get_or, List, [], ◌∷◌, ◌++◌, length, map, take, drop, Some, option_map, sym, ap, ◌∙◌}
+use Rattle.std.proofs.Common.{append_assoc, append-nil, length-append, arith}
+use Rattle.std.proofs.Math.Seq.{take-append_seam, drop-append_seam}
+use Rattle.std.proofs.lemmas.List.{length-map, map-append}
+use Rattle.std.proofs.lemmas.List.Sums.{fold-append}
 use Rattle.json.specs.Token.{Token}
 use Rattle.json.specs.Json.{after_end_array}
 use Rattle.json.proofs.Grammar.{closed_array}
@@ -12,12 +16,17 @@ use Rattle.hex.specs.Hex.{encode_lower}
 use Rattle.enctypes.specs.declared.etype.Etype.{Etype}
 use Rattle.enctypes.specs.declared.key.Key.{Key}
 use Rattle.enctypes.specs.Etype as etypes
-use Rattle.principal_rows.specs.declared.row.Row.{Row}
+use Rattle.principal_rows.specs.declared.policy.Policy.{Policy}
+use Rattle.principal_rows.specs.declared.row.KeyVersion.{KeyVersion}
+use Rattle.text_fields.specs.declared.settings.Setting.{Setting}
+use Rattle.text_fields.specs.SettingLaws.{made}
+use Rattle.text_fields.specs.Settings.{settings_of, place, with_setting, with_settings}
 use Rattle.principals.specs.Ahead.{value_at}
-use Rattle.principals.specs.RowWritten.{each_value, time_value, key_value, keys_value, version_value, versions_value, row_value}
-use Rattle.principals.specs.Tokens.{IsKept, data_tokens, member_tokens, values_tokens}
+use Rattle.principals.specs.RowWritten.{each_value, key_value, keys_value, version_value, versions_value, before_keys, row_value}
+use Rattle.principals.specs.Tokens.{IsKept, data_tokens, member_tokens, setting_tokens, settings_tokens, values_tokens}
 use Rattle.principals.proofs.Kept.{depth-outline}
-use Rattle.principals.proofs.RowTokens.{array_end}
+use Rattle.principals.specs.Taken.{AreTaken}
+use Rattle.principals.proofs.RowTokens.{array_end, one_more_of, settings_more, row_tokens}
 
 -- what is taken behind what was taken
 pub taken : (a b c s t : List Token) → a ≡ s ++ b → b ≡ t ++ c → a ≡ (s ++ t) ++ c
@@ -70,39 +79,56 @@ version_taken a0 a1 a2 a3 a4 a5 keys kvno e0 e1 e2 e3 e4 =
     let t1 : a1 ≡ ((Token.key (codes "keys") ∷ []) ++ ((data_tokens (keys_value keys)) ++ ((member_tokens (codes "version") (number (unsigned kvno))) ++ ((Token.end_object ∷ []))))) ++ a5 = taken a1 a2 a5 (Token.key (codes "keys") ∷ []) ((data_tokens (keys_value keys)) ++ ((member_tokens (codes "version") (number (unsigned kvno))) ++ ((Token.end_object ∷ [])))) e1 t2 in
     taken a0 a1 a5 (Token.begin_object ∷ []) ((Token.key (codes "keys") ∷ []) ++ ((data_tokens (keys_value keys)) ++ ((member_tokens (codes "version") (number (unsigned kvno))) ++ ((Token.end_object ∷ []))))) e0 t1
 
--- a row
-pub row_taken : (a0 a1 a2 a3 a4 a5 a6 a7 a8 a9 a10 a11 a12 a13 a14 a15 : List Token) (row : Row)
+-- one setting more is taken
+pub setting_taken : (fields : List Setting) (i : ℕ) (field found : Setting) (p q r : Policy) (a b c : List Token)
+    → i < length fields → field ≡ get_or fields i field → AreTaken (take i fields) p a q b
+    → b ≡ setting_tokens found ++ c → place found ≡ place field → r ≡ with_setting found q
+    → AreTaken (take (i + 1) fields) p a r c
+setting_taken fields i field found p q r a b c within here so_far next alike made = record {
+  found = so_far.found ++ found ∷ [];
+  alike = map-append place so_far.found (found ∷ [])
+      ∙ ap (λ l. l ++ place found ∷ []) so_far.alike
+      ∙ ap (λ n. map place (take i fields) ++ n ∷ []) alike
+      ∙ sym (map-append place (take i fields) (field ∷ []))
+      ∙ ap (map place) (sym (one_more_of fields i field within here));
+  tokens = taken a b c (settings_tokens so_far.found) (setting_tokens found) so_far.tokens next
+      ∙ ap (λ l. l ++ c) (settings_more so_far.found found);
+  set = made ∙ ap (with_setting found) so_far.set ∙ sym (fold-append (λ m s. with_setting s m) p so_far.found (found ∷ []));
+}
+
+-- a row: the settings before its keys, the keys, and the settings behind them
+pub row_taken : (a0 a1 a2 a3 a4 a5 a6 : List Token) (fields others : List Setting) (versions : List KeyVersion) (p0 p1 p2 : Policy)
+    → fields ≡ take before_keys (settings_of p0)
+    → others ≡ drop before_keys (settings_of p0)
     → a0 ≡ Token.begin_object ∷ a1
-    → a1 ≡ member_tokens (codes "disabled") (boolean row.policy.disabled) ++ a2
-    → a2 ≡ member_tokens (codes "expires") (time_value row.policy.expires) ++ a3
-    → a3 ≡ member_tokens (codes "forwardable") (boolean row.policy.forwardable) ++ a4
-    → a4 ≡ member_tokens (codes "greatest_life") (number (unsigned row.policy.greatest_life)) ++ a5
-    → a5 ≡ member_tokens (codes "greatest_renewable") (number (unsigned row.policy.greatest_renewable)) ++ a6
-    → a6 ≡ Token.key (codes "keys") ∷ a7
-    → a7 ≡ data_tokens (versions_value row.versions) ++ a8
-    → a8 ≡ member_tokens (codes "ok_as_delegate") (boolean row.policy.ok_as_delegate) ++ a9
-    → a9 ≡ member_tokens (codes "password_expires") (time_value row.policy.password_expires) ++ a10
-    → a10 ≡ member_tokens (codes "postdate") (boolean row.policy.postdate) ++ a11
-    → a11 ≡ member_tokens (codes "preauth") (boolean row.policy.preauth) ++ a12
-    → a12 ≡ member_tokens (codes "proxiable") (boolean row.policy.proxiable) ++ a13
-    → a13 ≡ member_tokens (codes "revoked_before") (time_value row.policy.revoked_before) ++ a14
-    → a14 ≡ Token.end_object ∷ a15
-    → a0 ≡ data_tokens (row_value row) ++ a15
-row_taken a0 a1 a2 a3 a4 a5 a6 a7 a8 a9 a10 a11 a12 a13 a14 a15 row e0 e1 e2 e3 e4 e5 e6 e7 e8 e9 e10 e11 e12 e13 e14 =
-    let t13 : a13 ≡ ((member_tokens (codes "revoked_before") (time_value row.policy.revoked_before)) ++ ((Token.end_object ∷ []))) ++ a15 = taken a13 a14 a15 (member_tokens (codes "revoked_before") (time_value row.policy.revoked_before)) ((Token.end_object ∷ [])) e13 e14 in
-    let t12 : a12 ≡ ((member_tokens (codes "proxiable") (boolean row.policy.proxiable)) ++ ((member_tokens (codes "revoked_before") (time_value row.policy.revoked_before)) ++ ((Token.end_object ∷ [])))) ++ a15 = taken a12 a13 a15 (member_tokens (codes "proxiable") (boolean row.policy.proxiable)) ((member_tokens (codes "revoked_before") (time_value row.policy.revoked_before)) ++ ((Token.end_object ∷ []))) e12 t13 in
-    let t11 : a11 ≡ ((member_tokens (codes "preauth") (boolean row.policy.preauth)) ++ ((member_tokens (codes "proxiable") (boolean row.policy.proxiable)) ++ ((member_tokens (codes "revoked_before") (time_value row.policy.revoked_before)) ++ ((Token.end_object ∷ []))))) ++ a15 = taken a11 a12 a15 (member_tokens (codes "preauth") (boolean row.policy.preauth)) ((member_tokens (codes "proxiable") (boolean row.policy.proxiable)) ++ ((member_tokens (codes "revoked_before") (time_value row.policy.revoked_before)) ++ ((Token.end_object ∷ [])))) e11 t12 in
-    let t10 : a10 ≡ ((member_tokens (codes "postdate") (boolean row.policy.postdate)) ++ ((member_tokens (codes "preauth") (boolean row.policy.preauth)) ++ ((member_tokens (codes "proxiable") (boolean row.policy.proxiable)) ++ ((member_tokens (codes "revoked_before") (time_value row.policy.revoked_before)) ++ ((Token.end_object ∷ [])))))) ++ a15 = taken a10 a11 a15 (member_tokens (codes "postdate") (boolean row.policy.postdate)) ((member_tokens (codes "preauth") (boolean row.policy.preauth)) ++ ((member_tokens (codes "proxiable") (boolean row.policy.proxiable)) ++ ((member_tokens (codes "revoked_before") (time_value row.policy.revoked_before)) ++ ((Token.end_object ∷ []))))) e10 t11 in
-    let t9 : a9 ≡ ((member_tokens (codes "password_expires") (time_value row.policy.password_expires)) ++ ((member_tokens (codes "postdate") (boolean row.policy.postdate)) ++ ((member_tokens (codes "preauth") (boolean row.policy.preauth)) ++ ((member_tokens (codes "proxiable") (boolean row.policy.proxiable)) ++ ((member_tokens (codes "revoked_before") (time_value row.policy.revoked_before)) ++ ((Token.end_object ∷ []))))))) ++ a15 = taken a9 a10 a15 (member_tokens (codes "password_expires") (time_value row.policy.password_expires)) ((member_tokens (codes "postdate") (boolean row.policy.postdate)) ++ ((member_tokens (codes "preauth") (boolean row.policy.preauth)) ++ ((member_tokens (codes "proxiable") (boolean row.policy.proxiable)) ++ ((member_tokens (codes "revoked_before") (time_value row.policy.revoked_before)) ++ ((Token.end_object ∷ [])))))) e9 t10 in
-    let t8 : a8 ≡ ((member_tokens (codes "ok_as_delegate") (boolean row.policy.ok_as_delegate)) ++ ((member_tokens (codes "password_expires") (time_value row.policy.password_expires)) ++ ((member_tokens (codes "postdate") (boolean row.policy.postdate)) ++ ((member_tokens (codes "preauth") (boolean row.policy.preauth)) ++ ((member_tokens (codes "proxiable") (boolean row.policy.proxiable)) ++ ((member_tokens (codes "revoked_before") (time_value row.policy.revoked_before)) ++ ((Token.end_object ∷ [])))))))) ++ a15 = taken a8 a9 a15 (member_tokens (codes "ok_as_delegate") (boolean row.policy.ok_as_delegate)) ((member_tokens (codes "password_expires") (time_value row.policy.password_expires)) ++ ((member_tokens (codes "postdate") (boolean row.policy.postdate)) ++ ((member_tokens (codes "preauth") (boolean row.policy.preauth)) ++ ((member_tokens (codes "proxiable") (boolean row.policy.proxiable)) ++ ((member_tokens (codes "revoked_before") (time_value row.policy.revoked_before)) ++ ((Token.end_object ∷ []))))))) e8 t9 in
-    let t7 : a7 ≡ ((data_tokens (versions_value row.versions)) ++ ((member_tokens (codes "ok_as_delegate") (boolean row.policy.ok_as_delegate)) ++ ((member_tokens (codes "password_expires") (time_value row.policy.password_expires)) ++ ((member_tokens (codes "postdate") (boolean row.policy.postdate)) ++ ((member_tokens (codes "preauth") (boolean row.policy.preauth)) ++ ((member_tokens (codes "proxiable") (boolean row.policy.proxiable)) ++ ((member_tokens (codes "revoked_before") (time_value row.policy.revoked_before)) ++ ((Token.end_object ∷ []))))))))) ++ a15 = taken a7 a8 a15 (data_tokens (versions_value row.versions)) ((member_tokens (codes "ok_as_delegate") (boolean row.policy.ok_as_delegate)) ++ ((member_tokens (codes "password_expires") (time_value row.policy.password_expires)) ++ ((member_tokens (codes "postdate") (boolean row.policy.postdate)) ++ ((member_tokens (codes "preauth") (boolean row.policy.preauth)) ++ ((member_tokens (codes "proxiable") (boolean row.policy.proxiable)) ++ ((member_tokens (codes "revoked_before") (time_value row.policy.revoked_before)) ++ ((Token.end_object ∷ [])))))))) e7 t8 in
-    let t6 : a6 ≡ ((Token.key (codes "keys") ∷ []) ++ ((data_tokens (versions_value row.versions)) ++ ((member_tokens (codes "ok_as_delegate") (boolean row.policy.ok_as_delegate)) ++ ((member_tokens (codes "password_expires") (time_value row.policy.password_expires)) ++ ((member_tokens (codes "postdate") (boolean row.policy.postdate)) ++ ((member_tokens (codes "preauth") (boolean row.policy.preauth)) ++ ((member_tokens (codes "proxiable") (boolean row.policy.proxiable)) ++ ((member_tokens (codes "revoked_before") (time_value row.policy.revoked_before)) ++ ((Token.end_object ∷ [])))))))))) ++ a15 = taken a6 a7 a15 (Token.key (codes "keys") ∷ []) ((data_tokens (versions_value row.versions)) ++ ((member_tokens (codes "ok_as_delegate") (boolean row.policy.ok_as_delegate)) ++ ((member_tokens (codes "password_expires") (time_value row.policy.password_expires)) ++ ((member_tokens (codes "postdate") (boolean row.policy.postdate)) ++ ((member_tokens (codes "preauth") (boolean row.policy.preauth)) ++ ((member_tokens (codes "proxiable") (boolean row.policy.proxiable)) ++ ((member_tokens (codes "revoked_before") (time_value row.policy.revoked_before)) ++ ((Token.end_object ∷ []))))))))) e6 t7 in
-    let t5 : a5 ≡ ((member_tokens (codes "greatest_renewable") (number (unsigned row.policy.greatest_renewable))) ++ ((Token.key (codes "keys") ∷ []) ++ ((data_tokens (versions_value row.versions)) ++ ((member_tokens (codes "ok_as_delegate") (boolean row.policy.ok_as_delegate)) ++ ((member_tokens (codes "password_expires") (time_value row.policy.password_expires)) ++ ((member_tokens (codes "postdate") (boolean row.policy.postdate)) ++ ((member_tokens (codes "preauth") (boolean row.policy.preauth)) ++ ((member_tokens (codes "proxiable") (boolean row.policy.proxiable)) ++ ((member_tokens (codes "revoked_before") (time_value row.policy.revoked_before)) ++ ((Token.end_object ∷ []))))))))))) ++ a15 = taken a5 a6 a15 (member_tokens (codes "greatest_renewable") (number (unsigned row.policy.greatest_renewable))) ((Token.key (codes "keys") ∷ []) ++ ((data_tokens (versions_value row.versions)) ++ ((member_tokens (codes "ok_as_delegate") (boolean row.policy.ok_as_delegate)) ++ ((member_tokens (codes "password_expires") (time_value row.policy.password_expires)) ++ ((member_tokens (codes "postdate") (boolean row.policy.postdate)) ++ ((member_tokens (codes "preauth") (boolean row.policy.preauth)) ++ ((member_tokens (codes "proxiable") (boolean row.policy.proxiable)) ++ ((member_tokens (codes "revoked_before") (time_value row.policy.revoked_before)) ++ ((Token.end_object ∷ [])))))))))) e5 t6 in
-    let t4 : a4 ≡ ((member_tokens (codes "greatest_life") (number (unsigned row.policy.greatest_life))) ++ ((member_tokens (codes "greatest_renewable") (number (unsigned row.policy.greatest_renewable))) ++ ((Token.key (codes "keys") ∷ []) ++ ((data_tokens (versions_value row.versions)) ++ ((member_tokens (codes "ok_as_delegate") (boolean row.policy.ok_as_delegate)) ++ ((member_tokens (codes "password_expires") (time_value row.policy.password_expires)) ++ ((member_tokens (codes "postdate") (boolean row.policy.postdate)) ++ ((member_tokens (codes "preauth") (boolean row.policy.preauth)) ++ ((member_tokens (codes "proxiable") (boolean row.policy.proxiable)) ++ ((member_tokens (codes "revoked_before") (time_value row.policy.revoked_before)) ++ ((Token.end_object ∷ [])))))))))))) ++ a15 = taken a4 a5 a15 (member_tokens (codes "greatest_life") (number (unsigned row.policy.greatest_life))) ((member_tokens (codes "greatest_renewable") (number (unsigned row.policy.greatest_renewable))) ++ ((Token.key (codes "keys") ∷ []) ++ ((data_tokens (versions_value row.versions)) ++ ((member_tokens (codes "ok_as_delegate") (boolean row.policy.ok_as_delegate)) ++ ((member_tokens (codes "password_expires") (time_value row.policy.password_expires)) ++ ((member_tokens (codes "postdate") (boolean row.policy.postdate)) ++ ((member_tokens (codes "preauth") (boolean row.policy.preauth)) ++ ((member_tokens (codes "proxiable") (boolean row.policy.proxiable)) ++ ((member_tokens (codes "revoked_before") (time_value row.policy.revoked_before)) ++ ((Token.end_object ∷ []))))))))))) e4 t5 in
-    let t3 : a3 ≡ ((member_tokens (codes "forwardable") (boolean row.policy.forwardable)) ++ ((member_tokens (codes "greatest_life") (number (unsigned row.policy.greatest_life))) ++ ((member_tokens (codes "greatest_renewable") (number (unsigned row.policy.greatest_renewable))) ++ ((Token.key (codes "keys") ∷ []) ++ ((data_tokens (versions_value row.versions)) ++ ((member_tokens (codes "ok_as_delegate") (boolean row.policy.ok_as_delegate)) ++ ((member_tokens (codes "password_expires") (time_value row.policy.password_expires)) ++ ((member_tokens (codes "postdate") (boolean row.policy.postdate)) ++ ((member_tokens (codes "preauth") (boolean row.policy.preauth)) ++ ((member_tokens (codes "proxiable") (boolean row.policy.proxiable)) ++ ((member_tokens (codes "revoked_before") (time_value row.policy.revoked_before)) ++ ((Token.end_object ∷ []))))))))))))) ++ a15 = taken a3 a4 a15 (member_tokens (codes "forwardable") (boolean row.policy.forwardable)) ((member_tokens (codes "greatest_life") (number (unsigned row.policy.greatest_life))) ++ ((member_tokens (codes "greatest_renewable") (number (unsigned row.policy.greatest_renewable))) ++ ((Token.key (codes "keys") ∷ []) ++ ((data_tokens (versions_value row.versions)) ++ ((member_tokens (codes "ok_as_delegate") (boolean row.policy.ok_as_delegate)) ++ ((member_tokens (codes "password_expires") (time_value row.policy.password_expires)) ++ ((member_tokens (codes "postdate") (boolean row.policy.postdate)) ++ ((member_tokens (codes "preauth") (boolean row.policy.preauth)) ++ ((member_tokens (codes "proxiable") (boolean row.policy.proxiable)) ++ ((member_tokens (codes "revoked_before") (time_value row.policy.revoked_before)) ++ ((Token.end_object ∷ [])))))))))))) e3 t4 in
-    let t2 : a2 ≡ ((member_tokens (codes "expires") (time_value row.policy.expires)) ++ ((member_tokens (codes "forwardable") (boolean row.policy.forwardable)) ++ ((member_tokens (codes "greatest_life") (number (unsigned row.policy.greatest_life))) ++ ((member_tokens (codes "greatest_renewable") (number (unsigned row.policy.greatest_renewable))) ++ ((Token.key (codes "keys") ∷ []) ++ ((data_tokens (versions_value row.versions)) ++ ((member_tokens (codes "ok_as_delegate") (boolean row.policy.ok_as_delegate)) ++ ((member_tokens (codes "password_expires") (time_value row.policy.password_expires)) ++ ((member_tokens (codes "postdate") (boolean row.policy.postdate)) ++ ((member_tokens (codes "preauth") (boolean row.policy.preauth)) ++ ((member_tokens (codes "proxiable") (boolean row.policy.proxiable)) ++ ((member_tokens (codes "revoked_before") (time_value row.policy.revoked_before)) ++ ((Token.end_object ∷ [])))))))))))))) ++ a15 = taken a2 a3 a15 (member_tokens (codes "expires") (time_value row.policy.expires)) ((member_tokens (codes "forwardable") (boolean row.policy.forwardable)) ++ ((member_tokens (codes "greatest_life") (number (unsigned row.policy.greatest_life))) ++ ((member_tokens (codes "greatest_renewable") (number (unsigned row.policy.greatest_renewable))) ++ ((Token.key (codes "keys") ∷ []) ++ ((data_tokens (versions_value row.versions)) ++ ((member_tokens (codes "ok_as_delegate") (boolean row.policy.ok_as_delegate)) ++ ((member_tokens (codes "password_expires") (time_value row.policy.password_expires)) ++ ((member_tokens (codes "postdate") (boolean row.policy.postdate)) ++ ((member_tokens (codes "preauth") (boolean row.policy.preauth)) ++ ((member_tokens (codes "proxiable") (boolean row.policy.proxiable)) ++ ((member_tokens (codes "revoked_before") (time_value row.policy.revoked_before)) ++ ((Token.end_object ∷ []))))))))))))) e2 t3 in
-    let t1 : a1 ≡ ((member_tokens (codes "disabled") (boolean row.policy.disabled)) ++ ((member_tokens (codes "expires") (time_value row.policy.expires)) ++ ((member_tokens (codes "forwardable") (boolean row.policy.forwardable)) ++ ((member_tokens (codes "greatest_life") (number (unsigned row.policy.greatest_life))) ++ ((member_tokens (codes "greatest_renewable") (number (unsigned row.policy.greatest_renewable))) ++ ((Token.key (codes "keys") ∷ []) ++ ((data_tokens (versions_value row.versions)) ++ ((member_tokens (codes "ok_as_delegate") (boolean row.policy.ok_as_delegate)) ++ ((member_tokens (codes "password_expires") (time_value row.policy.password_expires)) ++ ((member_tokens (codes "postdate") (boolean row.policy.postdate)) ++ ((member_tokens (codes "preauth") (boolean row.policy.preauth)) ++ ((member_tokens (codes "proxiable") (boolean row.policy.proxiable)) ++ ((member_tokens (codes "revoked_before") (time_value row.policy.revoked_before)) ++ ((Token.end_object ∷ []))))))))))))))) ++ a15 = taken a1 a2 a15 (member_tokens (codes "disabled") (boolean row.policy.disabled)) ((member_tokens (codes "expires") (time_value row.policy.expires)) ++ ((member_tokens (codes "forwardable") (boolean row.policy.forwardable)) ++ ((member_tokens (codes "greatest_life") (number (unsigned row.policy.greatest_life))) ++ ((member_tokens (codes "greatest_renewable") (number (unsigned row.policy.greatest_renewable))) ++ ((Token.key (codes "keys") ∷ []) ++ ((data_tokens (versions_value row.versions)) ++ ((member_tokens (codes "ok_as_delegate") (boolean row.policy.ok_as_delegate)) ++ ((member_tokens (codes "password_expires") (time_value row.policy.password_expires)) ++ ((member_tokens (codes "postdate") (boolean row.policy.postdate)) ++ ((member_tokens (codes "preauth") (boolean row.policy.preauth)) ++ ((member_tokens (codes "proxiable") (boolean row.policy.proxiable)) ++ ((member_tokens (codes "revoked_before") (time_value row.policy.revoked_before)) ++ ((Token.end_object ∷ [])))))))))))))) e1 t2 in
-    taken a0 a1 a15 (Token.begin_object ∷ []) ((member_tokens (codes "disabled") (boolean row.policy.disabled)) ++ ((member_tokens (codes "expires") (time_value row.policy.expires)) ++ ((member_tokens (codes "forwardable") (boolean row.policy.forwardable)) ++ ((member_tokens (codes "greatest_life") (number (unsigned row.policy.greatest_life))) ++ ((member_tokens (codes "greatest_renewable") (number (unsigned row.policy.greatest_renewable))) ++ ((Token.key (codes "keys") ∷ []) ++ ((data_tokens (versions_value row.versions)) ++ ((member_tokens (codes "ok_as_delegate") (boolean row.policy.ok_as_delegate)) ++ ((member_tokens (codes "password_expires") (time_value row.policy.password_expires)) ++ ((member_tokens (codes "postdate") (boolean row.policy.postdate)) ++ ((member_tokens (codes "preauth") (boolean row.policy.preauth)) ++ ((member_tokens (codes "proxiable") (boolean row.policy.proxiable)) ++ ((member_tokens (codes "revoked_before") (time_value row.policy.revoked_before)) ++ ((Token.end_object ∷ []))))))))))))))) e0 t1
+    → AreTaken fields p0 a1 p1 a2
+    → a2 ≡ Token.key (codes "keys") ∷ a3
+    → a3 ≡ data_tokens (versions_value versions) ++ a4
+    → AreTaken others p1 a4 p2 a5
+    → a5 ≡ Token.end_object ∷ a6
+    → a0 ≡ data_tokens (row_value (record { versions = versions; policy = p2 })) ++ a6
+row_taken a0 a1 a2 a3 a4 a5 a6 fields others versions p0 p1 p2 are_fields are_others opens before named keys after ends =
+    let all = before.found ++ after.found in
+    let first : map place before.found ≡ map place (take before_keys (settings_of p0)) = before.alike ∙ ap (map place) are_fields in
+    let second : map place after.found ≡ map place (drop before_keys (settings_of p0)) = after.alike ∙ ap (map place) are_others in
+    let alike : map place all ≡ map place (settings_of p0) =
+    map-append place before.found after.found ∙ ap (λ l. l ++ map place after.found) first
+    ∙ ap (λ l. map place (take before_keys (settings_of p0)) ++ l) second in
+    let set : p2 ≡ with_settings all p0 =
+    after.set ∙ ap (with_settings after.found) before.set ∙ sym (fold-append (λ m s. with_setting s m) p0 before.found after.found) in
+    let settings : settings_of p2 ≡ all = ap settings_of set ∙ made all p0 alike in
+    let many : length before.found ≡ before_keys = sym (length-map before.found place) ∙ ap length first in
+    let these : take before_keys (settings_of p2) ≡ before.found =
+    ap (take before_keys) settings ∙ ap (λ n. take n all) (sym many) ∙ take-append_seam before.found after.found in
+    let those : drop before_keys (settings_of p2) ≡ after.found =
+    ap (drop before_keys) settings ∙ ap (λ n. drop n all) (sym many) ∙ drop-append_seam before.found after.found in
+    let behind = settings_tokens after.found ++ Token.end_object ∷ [] in
+    let t4 = taken a4 a5 a6 (settings_tokens after.found) (Token.end_object ∷ []) after.tokens ends in
+    let t3 = taken a3 a4 a6 (data_tokens (versions_value versions)) behind keys t4 in
+    let t2 = taken a2 a3 a6 (Token.key (codes "keys") ∷ []) (data_tokens (versions_value versions) ++ behind) named t3 in
+    let t1 = taken a1 a2 a6 (settings_tokens before.found) (Token.key (codes "keys") ∷ (data_tokens (versions_value versions) ++ behind)) before.tokens t2 in
+    opens ∙ ap (λ l. Token.begin_object ∷ l) t1
+    ∙ ap (λ l. l ++ a6) (row_tokens (record { versions = versions; policy = p2 }) before.found after.found (sym these) (sym those))
 
 some_token : (d : Data) → 0 < length (data_tokens d)
 some_token null = omega arith

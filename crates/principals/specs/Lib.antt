@@ -7,6 +7,7 @@ pub mod ReadBack
 pub mod ReadFault
 pub mod RowValue
 pub mod RowWritten
+pub mod Taken
 pub mod Tokens
 pub mod Value
 pub mod Written

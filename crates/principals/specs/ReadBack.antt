@@ -1,23 +1,24 @@
 -- The parts of a database of which what is written is read as that part.
-use Rattle.std.specs.Prelude.{◌≡◌, ℤ, List, Option, Some, None}
+use Rattle.std.specs.Prelude.{◌≡◌, ◌<◌, ℤ, Option, Some, None}
 use Rattle.krb_fields.specs.Moment.{IsSecond}
 use Rattle.principal_rows.specs.declared.name_map.Entry.{Entry}
-use Rattle.principal_rows.specs.declared.row.KeyVersion.{KeyVersion}
 use Rattle.principal_rows.specs.declared.row.Row.{Row}
+use Rattle.text_fields.specs.declared.settings.Setting.{Setting}
+use Rattle.text_fields.specs.declared.settings.Setting.TheVariants.{Flag, Life, Time}
 use Rattle.principals.specs.declared.format.Format.TheVariants.{Version2}
-use Rattle.principals.specs.RowValue.{time_of, versions_of, row_of}
-use Rattle.principals.specs.RowWritten.{time_value, versions_value, row_value}
+use Rattle.principals.specs.RowValue.{row_of}
+use Rattle.principals.specs.RowWritten.{row_value}
 
 -- a second that is in its range
 abbrev pub IsTime : Option ℤ → Type 0
 IsTime None = Unit {0}
 IsTime (Some z) = IsSecond z
 
-abbrev pub IsTimeReadBack : Option ℤ → Type 0
-IsTimeReadBack time = time_of (time_value time) ≡ Some time
-
-abbrev pub AreVersionsReadBack : List KeyVersion → Type 0
-AreVersionsReadBack versions = versions_of (versions_value versions) ≡ Some versions
+-- a setting whose value is in its range
+abbrev pub IsFitting : Setting → Type 0
+IsFitting (Flag field on) = Unit {0}
+IsFitting (Life field life) = life < 4294967296
+IsFitting (Time field time) = IsTime time
 
 abbrev pub IsRowReadBack : Row → Type 0
 IsRowReadBack row = row_of Version2 (row_value row) ≡ Some row

@@ -1,5 +1,6 @@
 -- The tokens of what is written; for private clauses.
 use Rattle.std.specs.Prelude.{◌≡◌, ℕ, List, [], ◌∷◌, ◌++◌, Some, String, string_bytes}
+use Rattle.std.specs.List.{flat_map}
 use Rattle.std.specs.Borrow.{Bor}
 use Rattle.std.specs.declared.alloc.Global.{Global}
 use Rattle.json.specs.Token.{Token}
@@ -9,7 +10,9 @@ use Rattle.serde_json.specs.Data.{Data, Members, no_members, member}
 use Rattle.serde_json.specs.Read.{of_json}
 use Rattle.serde_json.specs.Written.{outline}
 use Rattle.principal_rows.specs.declared.row.Row.{Row}
-use Rattle.principals.specs.RowWritten.{row_value}
+use Rattle.text_fields.specs.declared.settings.Setting.{Setting}
+use Rattle.text_fields.specs.Settings.{setting_name}
+use Rattle.principals.specs.RowWritten.{setting_value, row_value}
 
 -- the tokens of a value that has no float
 abbrev pub data_tokens : Data → List Token
@@ -18,6 +21,14 @@ data_tokens d = json_tokens (outline d)
 -- the tokens of a member
 abbrev pub member_tokens : List ℕ → Data → List Token
 member_tokens name d = Token.key name ∷ data_tokens d
+
+-- the tokens of the member of a setting
+abbrev pub setting_tokens : Setting → List Token
+setting_tokens s = member_tokens (setting_name s) (setting_value s)
+
+-- those of several settings, one behind the other
+abbrev pub settings_tokens : List Setting → List Token
+settings_tokens = flat_map setting_tokens
 
 -- the tokens of several values, one behind the other
 abbrev pub values_tokens : {A : Type 0} → (A → Data) → List A → List Token

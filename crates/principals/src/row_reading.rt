@@ -9,14 +9,18 @@ ghost use Rattle.enctypes.specs.Etype as etypes;
 ghost use Rattle.principal_rows.specs.Row.{IsRow};
 ghost use Rattle.principal_rows.specs.Versions.{IsVersions};
 ghost use Rattle.principals.specs.RowWritten as written;
-ghost use Rattle.principals.specs.Tokens.{data_tokens, member_tokens};
+ghost use Rattle.text_fields.specs.Settings.{place};
+ghost use Rattle.principals.specs.Taken.{AreTaken};
+ghost use Rattle.principals.specs.Tokens.{data_tokens, member_tokens, setting_tokens};
 
+use crate::format::BEFORE_KEYS;
 use crate::next_value::takes_object;
 use enctypes::{Etype, Key};
 use json::{Reader, Token};
 use krb_fields::Second;
 use principal_rows::{KeyList, KeyVersion, Policy, Row, Versions};
 use std::alloc::Global;
+use text_fields::Setting;
 
 /// The most octets that a key has.
 const LONGEST_KEY: usize = 32;
@@ -214,44 +218,49 @@ fn take_versions(alloc: Global, reader: &mut Reader<'_>) -> Option<Versions>
     Some(versions)
 }
 
+/// Takes the setting of this field.
+fn take_setting(reader: &mut Reader<'_>, setting: Setting) -> Option<Setting>
+    ensures tokens { IfSome result (λ found. reader.old ≡ setting_tokens found ++ reader.new) }
+    ensures field { IfSome result (λ found. place found ≡ place setting) }
+{
+    let found = match setting {
+        Setting::Flag(field, _) => Setting::Flag(field, take_flag(reader, field.name())?),
+        Setting::Life(field, _) => Setting::Life(field, take_number(reader, field.name())?),
+        Setting::Time(field, _) => Setting::Time(field, take_time(reader, field.name())?),
+    };
+    Some(found)
+}
+
+/// Takes the settings of these fields, and sets them in the policy.
+fn takes_settings(reader: &mut Reader<'_>, settings: &[Setting], policy: &mut Policy) -> bool
+    ensures { IsTrue result → AreTaken settings.now policy.old reader.old policy.new reader.new }
+{
+    for setting in settings {
+        let Some(found) = take_setting(reader, *setting) else {
+            return false;
+        };
+        *policy = found.on(*policy);
+    }
+    true
+}
+
 /// The row whose tokens come next, as they are written.
 pub(crate) fn take_row(alloc: Global, reader: &mut Reader<'_>) -> Option<Row>
     ensures tokens { IfSome result (λ row. reader.old ≡ data_tokens (written.row_value row) ++ reader.new) }
     ensures fits { IfSome result IsRow }
 {
-    if !takes_object(reader) {
-        return None;
-    }
-    let disabled = take_flag(reader, "disabled")?;
-    let expires = take_time(reader, "expires")?;
-    let forwardable = take_flag(reader, "forwardable")?;
-    let greatest_life = take_number(reader, "greatest_life")?;
-    let greatest_renewable = take_number(reader, "greatest_renewable")?;
-    if !takes_name(reader, "keys") {
+    let mut policy = Policy::default();
+    let settings = Setting::all(policy);
+    let (before, after) = settings.split_at(BEFORE_KEYS);
+    if !takes_object(reader)
+        || !takes_settings(reader, before, &mut policy)
+        || !takes_name(reader, "keys")
+    {
         return None;
     }
     let versions = take_versions(alloc, reader)?;
-    let ok_as_delegate = take_flag(reader, "ok_as_delegate")?;
-    let password_expires = take_time(reader, "password_expires")?;
-    let postdate = take_flag(reader, "postdate")?;
-    let preauth = take_flag(reader, "preauth")?;
-    let proxiable = take_flag(reader, "proxiable")?;
-    let revoked_before = take_time(reader, "revoked_before")?;
-    if !takes_object_end(reader) {
+    if !takes_settings(reader, after, &mut policy) || !takes_object_end(reader) {
         return None;
     }
-    let policy = Policy {
-        disabled,
-        expires,
-        password_expires,
-        revoked_before,
-        greatest_life,
-        greatest_renewable,
-        preauth,
-        forwardable,
-        proxiable,
-        postdate,
-        ok_as_delegate,
-    };
     Some(Row { versions, policy })
 }

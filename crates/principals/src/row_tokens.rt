@@ -1,18 +1,21 @@
 //! What is written for rows, token by token: no value of them is made.
-ghost use Rattle.std.specs.Prelude.{◌≡◌, All, IfOk, OnOk};
+ghost use Rattle.std.specs.Prelude.{◌≡◌, ◌<◌, All, IfOk, OnOk};
 ghost use Rattle.serde_json.specs.Data.{no_members, boolean, number, object, unsigned};
 ghost use Rattle.principal_rows.specs.NameMap.{pairs};
-ghost use Rattle.principals.specs.ReadBack.{IsTime, IsRowReadBack, IsEntryReadBack};
+ghost use Rattle.principals.specs.ReadBack.{IsTime, IsFitting, IsRowReadBack, IsEntryReadBack};
 ghost use Rattle.principals.specs.RowWritten as written;
-ghost use Rattle.principals.specs.Tokens.{IsKept, IsLonger, data_tokens, member_tokens, named_members};
+ghost use Rattle.principals.specs.Tokens.{IsKept, IsLonger, data_tokens, member_tokens, setting_tokens, settings_tokens};
+ghost use Rattle.principals.specs.Tokens.{named_members};
 ghost use Rattle.principals.specs.Written.{with_rows};
 
+use crate::format::BEFORE_KEYS;
 use enctypes::Key;
 use json::Writer;
 use krb_fields::Second;
 use principal_rows::{Entry, KeyList, KeyVersion, Row, Versions};
 use serde_json::Map;
 use std::alloc::{AllocError, Global};
+use text_fields::Setting;
 
 /// Rows under the texts of their names.
 pub(crate) type NamedRows<'a> = Map<String, &'a Row>;
@@ -85,25 +88,37 @@ fn write_versions(alloc: Global, out: &mut Writer, versions: &Versions) -> Resul
     out.end_array()
 }
 
+fn write_setting(out: &mut Writer, setting: Setting) -> Result<(), AllocError>
+    ensures { OnOk result (IsLonger out.old out.new (setting_tokens setting)) }
+{
+    match setting {
+        Setting::Flag(field, on) => write_flag(out, field.name(), on),
+        Setting::Life(field, life) => write_number(out, field.name(), life),
+        Setting::Time(field, time) => write_time(out, field.name(), time),
+    }
+}
+
+/// Writes a member for each setting.
+fn write_settings(out: &mut Writer, settings: &[Setting]) -> Result<(), AllocError>
+    ensures { OnOk result (IsLonger out.old out.new (settings_tokens settings.now)) }
+{
+    for setting in settings {
+        write_setting(out, *setting)?;
+    }
+    Ok(())
+}
+
 /// Writes the value that stands for a row in version 2.
 fn write_row(alloc: Global, out: &mut Writer, row: &Row) -> Result<(), AllocError>
     ensures { OnOk result (IsLonger out.old out.new (data_tokens (written.row_value row.now))) }
 {
-    let policy = row.policy;
+    let settings = Setting::all(row.policy);
+    let (before, after) = settings.split_at(BEFORE_KEYS);
     out.begin_object()?;
-    write_flag(out, "disabled", policy.disabled)?;
-    write_time(out, "expires", policy.expires)?;
-    write_flag(out, "forwardable", policy.forwardable)?;
-    write_number(out, "greatest_life", policy.greatest_life)?;
-    write_number(out, "greatest_renewable", policy.greatest_renewable)?;
+    write_settings(out, before)?;
     out.key("keys")?;
     write_versions(alloc, out, &row.versions)?;
-    write_flag(out, "ok_as_delegate", policy.ok_as_delegate)?;
-    write_time(out, "password_expires", policy.password_expires)?;
-    write_flag(out, "postdate", policy.postdate)?;
-    write_flag(out, "preauth", policy.preauth)?;
-    write_flag(out, "proxiable", policy.proxiable)?;
-    write_time(out, "revoked_before", policy.revoked_before)?;
+    write_settings(out, after)?;
     out.end_object()
 }
 
@@ -143,12 +158,32 @@ pub(crate) fn know_row(row: &Row)
     ensures reads { IsRowReadBack row.now }
     ensures kept { IsKept (written.row_value row.now) }
 {
-    let _life = row.policy.greatest_life;
-    let _renewable = row.policy.greatest_renewable;
     let _versions = row.versions.as_slice();
-    know_time(row.policy.expires);
-    know_time(row.policy.password_expires);
-    know_time(row.policy.revoked_before);
+    know_settings(&Setting::all(row.policy));
+}
+
+fn know_settings(settings: &[Setting])
+    ensures { All IsFitting settings.now }
+{
+    for setting in settings {
+        know_setting(*setting);
+    }
+}
+
+fn know_setting(setting: Setting)
+    ensures { IsFitting setting }
+{
+    match setting {
+        Setting::Flag(..) => (),
+        Setting::Life(_, life) => know_life(life),
+        Setting::Time(_, time) => know_time(time),
+    }
+}
+
+fn know_life(life: u32)
+    ensures { life < 4294967296 }
+{
+    let _life = life;
 }
 
 fn know_time(time: Option<Second>)

@@ -1,9 +1,11 @@
 //! Rows as JSON values.
-ghost use Rattle.std.specs.Prelude.{◌≡◌, None, Some, IfOk};
+ghost use Rattle.std.specs.Prelude.{◌≡◌, false, None, Some, IfOk};
 ghost use Rattle.serde_json.specs.View.{view};
 ghost use Rattle.principal_rows.specs.Row.{IsRow};
 ghost use Rattle.principal_rows.specs.Versions.{IsVersions};
-ghost use Rattle.principals.specs.RowValue.{member_count, u32_of, flag, life, time, revoked_before, etype_value, key_of, keys_of, version_of, versions_of, policy_of, row_of};
+ghost use Rattle.text_fields.specs.declared.settings.Setting.TheVariants.{Flag, Life};
+ghost use Rattle.principals.specs.RowValue.{member_count, u32_of, time_of, etype_value, key_of, keys_of, version_of};
+ghost use Rattle.principals.specs.RowValue.{versions_of, setting_from, setting_in, policy_of, row_of};
 
 use crate::format::Format;
 use crate::row_fault::RowFault;
@@ -12,6 +14,7 @@ use krb_fields::Second;
 use principal_rows::{KeyList, KeyListFault, KeyVersion, Policy, Row, Versions};
 use serde_json::Value;
 use std::alloc::Global;
+use text_fields::{FlagField, LifeField, Setting};
 
 /// The most octets that a key has.
 const LONGEST_KEY: usize = 32;
@@ -108,23 +111,22 @@ fn read_versions(alloc: Global, value: &Value) -> Result<Versions, RowFault>
     Versions::new(versions).ok_or(RowFault::BadRow)
 }
 
-fn read_flag(row: &Value, name: &str) -> Option<bool>
-    ensures { result ≡ flag name.now (view row.now) }
+fn read_flag(value: &Value, field: FlagField) -> Option<Setting>
+    ensures { result ≡ setting_from (Flag field false) (view value.now) }
 {
-    row.get(name)?.as_bool()
+    Some(Setting::Flag(field, value.as_bool()?))
 }
 
-fn read_life(row: &Value, name: &str) -> Option<u32>
-    ensures { result ≡ life name.now (view row.now) }
+fn read_life(value: &Value, field: LifeField) -> Option<Setting>
+    ensures { result ≡ setting_from (Life field 0) (view value.now) }
 {
-    read_u32(row.get(name)?)
+    Some(Setting::Life(field, read_u32(value)?))
 }
 
 /// `null`, or a second.
-fn read_time(row: &Value, name: &str) -> Option<Option<Second>>
-    ensures { result ≡ time name.now (view row.now) }
+fn read_time(value: &Value) -> Option<Option<Second>>
+    ensures { result ≡ time_of (view value.now) }
 {
-    let value = row.get(name)?;
     if value.is_null() {
         return Some(None);
     }
@@ -132,32 +134,35 @@ fn read_time(row: &Value, name: &str) -> Option<Option<Second>>
     Some(Some(second))
 }
 
-/// A row of version 1 has no such member.
-fn read_revoked_before(row: &Value, format: Format) -> Option<Option<Second>>
-    ensures { result ≡ revoked_before format (view row.now) }
+/// The setting of the same field that a value stands for.
+fn read_value(value: &Value, setting: Setting) -> Option<Setting>
+    ensures { result ≡ setting_from setting (view value.now) }
 {
-    match format {
-        Format::Version1 => Some(None),
-        Format::Version2 => read_time(row, "revoked_before"),
+    match setting {
+        Setting::Flag(field, _) => read_flag(value, field),
+        Setting::Life(field, _) => read_life(value, field),
+        Setting::Time(field, _) => Some(Setting::Time(field, read_time(value)?)),
     }
+}
+
+/// The setting of the same field that a row has, or this one where rows of the format have none.
+fn read_setting(row: &Value, format: Format, setting: Setting) -> Option<Setting>
+    ensures { result ≡ setting_in format (view row.now) setting }
+{
+    if format.lacks(setting) {
+        return Some(setting);
+    }
+    read_value(row.get(setting.name())?, setting)
 }
 
 fn read_policy(row: &Value, format: Format) -> Option<Policy>
     ensures { result ≡ policy_of format (view row.now) }
 {
-    Some(Policy {
-        disabled: read_flag(row, "disabled")?,
-        expires: read_time(row, "expires")?,
-        password_expires: read_time(row, "password_expires")?,
-        revoked_before: read_revoked_before(row, format)?,
-        greatest_life: read_life(row, "greatest_life")?,
-        greatest_renewable: read_life(row, "greatest_renewable")?,
-        preauth: read_flag(row, "preauth")?,
-        forwardable: read_flag(row, "forwardable")?,
-        proxiable: read_flag(row, "proxiable")?,
-        postdate: read_flag(row, "postdate")?,
-        ok_as_delegate: read_flag(row, "ok_as_delegate")?,
-    })
+    let mut policy = Policy::default();
+    for setting in Setting::all(policy) {
+        policy = read_setting(row, format, setting)?.on(policy);
+    }
+    Some(policy)
 }
 
 /// The row that a value stands for.

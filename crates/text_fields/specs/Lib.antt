@@ -1,3 +1,4 @@
 pub mod Dates
 pub mod Numbers
+pub mod SettingLaws
 pub mod Settings

@@ -1,7 +1,7 @@
 -- Settings of a policy, each with the text that spells it.
-use Rattle.std.specs.Prelude.{◌≡◌, ◌==◌, ℕ, ℤ, pos, ◌<◌, Bool, true, false, List, length, Option, Some, None, codes}
+use Rattle.std.specs.Prelude.{◌≡◌, ◌==◌, ℕ, ℤ, pos, ◌<◌, Bool, true, false, List, [], ◌∷◌, length, Option, Some, None, codes}
 use Rattle.std.specs.Prelude.{bytes_eq, if◌then◌else◌}
-use Rattle.std.specs.List.{before_first, after_first, position_or_len}
+use Rattle.std.specs.List.{before_first, after_first, position_or_len, fold}
 use Rattle.std.specs.Str.Parse.{IsNumeral, digits_value}
 use Rattle.krb_fields.specs.Moment.{IsSecond}
 use Rattle.principal_rows.specs.declared.policy.Policy.{Policy}
@@ -16,6 +16,29 @@ use Rattle.text_fields.specs.declared.settings.Setting.{Setting}
 use Rattle.text_fields.specs.declared.settings.Setting.TheVariants.{Flag, Life, Time}
 use Rattle.text_fields.specs.Dates.{IsDateText}
 use Rattle.text_fields.specs.Numbers.{IsU32Text}
+
+-- the names of fields
+abbrev pub flag_name : FlagField → List ℕ
+flag_name Disabled = codes "disabled"
+flag_name Preauth = codes "preauth"
+flag_name Forwardable = codes "forwardable"
+flag_name Proxiable = codes "proxiable"
+flag_name Postdate = codes "postdate"
+flag_name OkAsDelegate = codes "ok_as_delegate"
+
+abbrev pub life_name : LifeField → List ℕ
+life_name GreatestLife = codes "greatest_life"
+life_name GreatestRenewable = codes "greatest_renewable"
+
+abbrev pub time_name : TimeField → List ℕ
+time_name Expires = codes "expires"
+time_name PasswordExpires = codes "password_expires"
+time_name RevokedBefore = codes "revoked_before"
+
+abbrev pub setting_name : Setting → List ℕ
+setting_name (Flag field on) = flag_name field
+setting_name (Life field life) = life_name field
+setting_name (Time field time) = time_name field
 
 -- the field of a name
 abbrev pub flag_of : List ℕ → Option FlagField
@@ -80,3 +103,39 @@ with_setting (Life GreatestRenewable life) policy = record policy { greatest_ren
 with_setting (Time Expires time) policy = record policy { expires = time }
 with_setting (Time PasswordExpires time) policy = record policy { password_expires = time }
 with_setting (Time RevokedBefore time) policy = record policy { revoked_before = time }
+
+-- ---- all settings of a policy
+
+-- in the order of their names
+abbrev pub settings_of : Policy → List Setting
+settings_of policy =
+    Flag Disabled policy.disabled
+    ∷ Time Expires policy.expires
+    ∷ Flag Forwardable policy.forwardable
+    ∷ Life GreatestLife policy.greatest_life
+    ∷ Life GreatestRenewable policy.greatest_renewable
+    ∷ Flag OkAsDelegate policy.ok_as_delegate
+    ∷ Time PasswordExpires policy.password_expires
+    ∷ Flag Postdate policy.postdate
+    ∷ Flag Preauth policy.preauth
+    ∷ Flag Proxiable policy.proxiable
+    ∷ Time RevokedBefore policy.revoked_before
+    ∷ []
+
+-- where a setting stands among them
+abbrev pub place : Setting → ℕ
+place (Flag Disabled on) = 0
+place (Time Expires time) = 1
+place (Flag Forwardable on) = 2
+place (Life GreatestLife life) = 3
+place (Life GreatestRenewable life) = 4
+place (Flag OkAsDelegate on) = 5
+place (Time PasswordExpires time) = 6
+place (Flag Postdate on) = 7
+place (Flag Preauth on) = 8
+place (Flag Proxiable on) = 9
+place (Time RevokedBefore time) = 10
+
+-- the policy with all of these set, one after the other
+abbrev pub with_settings : List Setting → Policy → Policy
+with_settings settings policy = fold (λ made setting. with_setting setting made) policy settings

@@ -7,4 +7,4 @@ mod settings;
 
 pub use dates::UtcDate;
 pub use numbers::{number, number_u32};
-pub use settings::{FlagField, LifeField, Setting, TimeField};
+pub use settings::{FlagField, LifeField, SETTINGS, Setting, TimeField};

@@ -3,8 +3,9 @@
 ghost use Rattle.std.specs.Prelude.{◌≡◌, ℤ, ℕ, Bool, Option, Some, IfSome, IfNone};
 ghost use Rattle.std.specs.List.{fold};
 ghost use Rattle.principal_rows.specs.declared.policy.Policy as policies;
-ghost use Rattle.text_fields.specs.Settings.{flag_of, life_of, time_of, IsFlagText, IsTimeText, IsSettingOf};
-ghost use Rattle.text_fields.specs.Settings.{IsSettingText, IsDateOf, with_setting};
+ghost use Rattle.text_fields.specs.Settings.{flag_name, life_name, time_name, setting_name, flag_of, life_of, time_of};
+ghost use Rattle.text_fields.specs.Settings.{IsFlagText, IsTimeText, IsSettingOf, IsSettingText, IsDateOf, with_setting};
+ghost use Rattle.text_fields.specs.Settings.{settings_of};
 ghost use Rattle.text_fields.specs.declared.settings.FlagField as flags;
 ghost use Rattle.text_fields.specs.declared.settings.LifeField as lives;
 ghost use Rattle.text_fields.specs.declared.settings.TimeField as times;
@@ -43,6 +44,9 @@ pub enum TimeField {
     RevokedBefore,
 }
 
+/// How many fields a policy has.
+pub const SETTINGS: usize = 11;
+
 /// A field of a policy with its value.
 #[derive(Clone, Copy, Debug, PartialEq, Eq)]
 pub enum Setting {
@@ -54,7 +58,8 @@ pub enum Setting {
 impl FlagField {
     /// Its name, in the text of databases and in commands.
     pub fn name(self) -> &'static str
-        ensures { flag_of result.now ≡ Some self }
+        ensures name { result.now ≡ flag_name self }
+        ensures found { flag_of result.now ≡ Some self }
     {
         match self {
             FlagField::Disabled => "disabled",
@@ -70,7 +75,8 @@ impl FlagField {
 impl LifeField {
     /// Its name, in the text of databases and in commands.
     pub fn name(self) -> &'static str
-        ensures { life_of result.now ≡ Some self }
+        ensures name { result.now ≡ life_name self }
+        ensures found { life_of result.now ≡ Some self }
     {
         match self {
             LifeField::GreatestLife => "greatest_life",
@@ -82,7 +88,8 @@ impl LifeField {
 impl TimeField {
     /// Its name, in the text of databases and in commands.
     pub fn name(self) -> &'static str
-        ensures { time_of result.now ≡ Some self }
+        ensures name { result.now ≡ time_name self }
+        ensures found { time_of result.now ≡ Some self }
     {
         match self {
             TimeField::Expires => "expires",
@@ -125,9 +132,21 @@ impl Setting {
         Some(Setting::Time(time_field(name)?, Some(date(value)?)))
     }
 
+    /// The name of its field.
+    pub fn name(self) -> &'static str
+        ensures { result.now ≡ setting_name self }
+    {
+        match self {
+            Setting::Flag(field, _) => field.name(),
+            Setting::Life(field, _) => field.name(),
+            Setting::Time(field, _) => field.name(),
+        }
+    }
+
     /// The settings of a policy, in the order of their names.
-    pub fn all(policy: Policy) -> [Setting; 11]
-        ensures { (other : policies.Policy) → fold (λ made setting. with_setting setting made) other result ≡ policy }
+    pub fn all(policy: Policy) -> [Setting; SETTINGS]
+        ensures settings { result ≡ settings_of policy }
+        ensures same { (other : policies.Policy) → fold (λ made setting. with_setting setting made) other result ≡ policy }
     {
         [
             Setting::Flag(FlagField::Disabled, policy.disabled),

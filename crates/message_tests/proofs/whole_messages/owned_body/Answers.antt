@@ -2,7 +2,7 @@ use Rattle.std.proofs.Common.{◌≡◌, subst}
 use Rattle.std.specs.Prelude.{IfOk}
 use Rattle.krb_types.specs.ReqBody.{ReqBody}
 use Rattle.krb_types.specs.CopyLaws.{body_copied}
-use Rattle.krb_types.proofs.kdc_req.copied_body.Goals as goal
+use Rattle.message_tests.proofs.whole_messages.owned_body.Goals as goal
 
 pub returns : goal.returns
-returns c = subst (λ (x : ReqBody). IfOk c.copy.result (λ copy. copy ≡ x)) (body_copied c.args.found.now) c.copy.ensures
+returns c = subst (λ (x : ReqBody). IfOk c.copy.result (λ copy. copy ≡ x)) (body_copied c.args.body.now) c.copy.ensures

@@ -1,0 +1,59 @@
+-- Settings that are made one after the other.
+use Rattle.std.proofs.Common.{◌≡◌, ℕ, zero, suc, ◌+◌, List, [], ◌∷◌, ◌++◌, length, map, take, set, refl, sym, ap, ◌∙◌, append_assoc, append-nil, arith}
+use Rattle.std.specs.List.{fold}
+use Rattle.std.proofs.lemmas.List.{take_all, length-map, length-set}
+use Rattle.std.proofs.lemmas.Grind.{take-set_at}
+use Rattle.principal_rows.specs.declared.policy.Policy.{Policy}
+use Rattle.text_fields.specs.declared.settings.FlagField.TheVariants.{Disabled, Preauth, Forwardable, Proxiable}
+use Rattle.text_fields.specs.declared.settings.FlagField.TheVariants.{Postdate, OkAsDelegate}
+use Rattle.text_fields.specs.declared.settings.LifeField.TheVariants.{GreatestLife, GreatestRenewable}
+use Rattle.text_fields.specs.declared.settings.Setting.{Setting}
+use Rattle.text_fields.specs.declared.settings.Setting.TheVariants.{Flag, Life, Time}
+use Rattle.text_fields.specs.declared.settings.TimeField.TheVariants.{Expires, PasswordExpires, RevokedBefore}
+use Rattle.text_fields.specs.Settings.{settings_of, place, with_setting, with_settings}
+
+-- a setting is put in its place, and leaves all others as they are
+placed : (s : Setting) (p : Policy) → settings_of (with_setting s p) ≡ set (settings_of p) (place s) s
+placed (Flag Disabled on) p = refl
+placed (Flag Preauth on) p = refl
+placed (Flag Forwardable on) p = refl
+placed (Flag Proxiable on) p = refl
+placed (Flag Postdate on) p = refl
+placed (Flag OkAsDelegate on) p = refl
+placed (Life GreatestLife life) p = refl
+placed (Life GreatestRenewable life) p = refl
+placed (Time Expires time) p = refl
+placed (Time PasswordExpires time) p = refl
+placed (Time RevokedBefore time) p = refl
+
+abbrev put_all : List Setting → List Setting → List Setting
+put_all settings all = fold (λ l s. set l (place s) s) all settings
+
+all_placed : (settings : List Setting) (p : Policy)
+    → settings_of (with_settings settings p) ≡ put_all settings (settings_of p)
+all_placed [] p = refl
+all_placed (s ∷ ss) p = all_placed ss (with_setting s p) ∙ ap (put_all ss) (placed s p)
+
+-- n, and so many numbers behind it
+abbrev upwards : ℕ → ℕ → List ℕ
+upwards n zero = []
+upwards n (suc m) = n ∷ upwards (suc n) m
+
+in_order : (settings all : List Setting) (n : ℕ) → length all ≡ n + length settings
+    → map place settings ≡ upwards n (length settings) → put_all settings all ≡ take n all ++ settings
+in_order [] all n long are = sym (append-nil (take n all) ∙ take_all n all (omega (arith, long)))
+in_order (s ∷ ss) all n long are =
+    let here : place s ≡ n = cc in
+    let rest : map place ss ≡ upwards (suc n) (length ss) = cc in
+    in_order ss (set all (place s) s) (suc n) (omega (arith, long, length-set all (place s) s)) rest
+    ∙ ap (λ l. l ++ ss) (take-set_at all (place s) (suc n) s (omega (arith, here)) (omega (arith, here, long)))
+    ∙ append_assoc (take (place s) all) (s ∷ []) ss
+    ∙ ap (λ m. take m all ++ s ∷ ss) here
+
+-- a setting of each field, in the order of their names, makes the policy that has them
+pub made : (settings : List Setting) (p : Policy) → map place settings ≡ map place (settings_of p)
+    → settings_of (with_settings settings p) ≡ settings
+made settings p are =
+    let many : length settings ≡ 11 = sym (length-map settings place) ∙ ap length are in
+    all_placed settings p
+    ∙ in_order settings (settings_of p) 0 (omega (arith, many)) (are ∙ ap (upwards 0) (sym many))
