@@ -79,7 +79,7 @@ def kdcd(program, folder, port, log):
 
 def unpacked(root):
     """The environment and the programs of packages that stand below a folder."""
-    libraries = [folder for folder in glob.glob(f"{root}/usr/lib/**/", recursive=True) if glob.glob(f"{folder}/*.so*")]
+    libraries = [folder for folder in glob.glob(f"{root}/**/lib/**/", recursive=True) if glob.glob(f"{folder}/*.so*")]
     programs = [f"{root}/usr/sbin", f"{root}/usr/bin", f"{root}/usr/lib/heimdal-servers", os.environ["PATH"]]
     return {**os.environ, "LD_LIBRARY_PATH": ":".join(libraries), "PATH": ":".join(programs)}
 
@@ -135,7 +135,7 @@ def heimdal(root, folder, port):
     kdc = 0-/FILE:{folder}/kdc.log
 """)
     quiet = {"env": unpacked(root), "stdout": subprocess.DEVNULL, "stderr": subprocess.DEVNULL}
-    kadmin = ["kadmin", "-l", f"--config-file={configuration}"]
+    kadmin = ["kadmin.heimdal", "-l", f"--config-file={configuration}"]
     subprocess.run([*kadmin, "init", "--realm-max-ticket-life=1 day", "--realm-max-renewable-life=1 week", "EXAMPLE.COM"],
                    check=True, **quiet)
     for client in [*CLIENTS, NEEDS_PREAUTH]:

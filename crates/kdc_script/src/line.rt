@@ -1,4 +1,15 @@
-//! The lines of a script.
+//! The lines of a script:
+//!
+//! ```text
+//! open REALM REMEMBERED LOCK_AFTER LOCK_SECONDS LIFE RENEWABLE KEYS
+//! add NAME KEYS
+//! keys NAME KEYS
+//! drop NAME VERSION
+//! remove NAME
+//! policy NAME FIELD=VALUE
+//! request SEC USEC WORDS ROOM HEX
+//! restart SEC
+//! ```
 ghost use Rattle.std.specs.Prelude.{◌≡◌, ◌==◌, ◌<◌, ◌∷◌, All, IfOk, IfNone, IfSome, codes, map};
 ghost use Rattle.std.specs.List.{slice_split};
 ghost use Rattle.kdc_script.specs.Line.{IsLineText, AreLineFields};
@@ -105,6 +116,7 @@ fn fields_of<'a>(alloc: Global, text: &'a str) -> Result<Vec<&'a str>, AllocErro
 }
 
 /// Reads the fields of a line: the word in front says what it does.
+#[tactic(auto, using(crate::proofs::LineTexts::other_word))]
 fn parse_fields(alloc: Global, fields: &[&str]) -> Result<Line, LineFault>
     ensures ok { IfOk result (λ line. AreLineFields line (map (λ field. field.now) fields.now)) }
     ensures form { result ≡ Err Form → (line : lines.Line)

@@ -1,5 +1,5 @@
 -- A ticket has one spelling, so it is no longer than the octets that it was read from.
-use Rattle.std.proofs.Common.{ℕ, ◌+◌, ◌<◌, length, Some, refl, ap, arith}
+use Rattle.std.proofs.Common.{ℕ, ◌+◌, length, Some, refl, ap, arith}
 use Rattle.krb_elements.specs.InsideLaws.{IsInside}
 use Rattle.krb_elements.specs.OneSpellingLaws.{HasOneSpelling}
 use Rattle.krb_elements.specs.WrittenLaws.{tlv_longer}
