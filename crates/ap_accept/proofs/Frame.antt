@@ -1,5 +1,5 @@
 -- What a call leaves as it was.
-use Rattle.std.proofs.Common.{◌≡◌, ◌-ℤ◌, ◌≤ℤ◌, arith, Bool, true, false, cond, ◌&&◌, ℤ, pos, List, ℕ, Option, Some, None, Result, Ok, Err, OnOk, OnErr, refl, ap, sym, subst, ◌∙◌}
+use Rattle.std.proofs.Common.{◌≡◌, ◌≤ℤ◌, arith, Bool, true, false, cond, ◌&&◌, ℤ, List, ℕ, Option, Some, None, Result, Ok, Err, OnOk, OnErr, refl, ap, sym, subst, ◌∙◌}
 use Rattle.std.specs.FinMap as map
 use Rattle.std.specs.FinMap.{get-insert}
 use Rattle.std.specs.Option.{unwrap_or}
@@ -13,7 +13,7 @@ use Rattle.krb_fields.specs.declared.moment.Moment.{Moment}
 use Rattle.replay.specs.Memory.{remembered}
 use Rattle.replay.specs.declared.memory.Memory.{Memory}
 use Rattle.ap_accept.specs.Accepts.{accepts, if_presented, if_request, memory_for, memory_refusal, presented_by, presented_if, remembering, remembering_clients, request_of, stamp_of, unless_seen, IsAfter, IsParty, IsService}
-use Rattle.ap_accept.specs.Clients.{empty_memory, let_go, memory_in, opened_clients, with_memory}
+use Rattle.ap_accept.specs.Clients.{empty_memory, floor_for, let_go, memory_in, opened_clients, with_memory}
 use Rattle.ap_accept.specs.Presented.{presented}
 use Rattle.ap_accept.specs.Reply.{asks_reply}
 use Rattle.ap_accept.specs.Run.{is_party}
@@ -72,7 +72,7 @@ module _ (state : State) (now : ℤ) (p : Presented) (service client : Component
       subst (λ k. P (memory_in k client)) (sym (clients_stored state p.service.components (go (remembering_clients state now p)) service))
       (placed (eq_by_cmp name_cmp service p.service.components) refl go P keeps h)
 
-  pub remembering_keeps : (P : Memory ⊤ → Type 0) → Carried (now -ℤ pos 3900) P → P next_memory → P (memory_of (remembering state now p) service client)
+  pub remembering_keeps : (P : Memory ⊤ → Type 0) → Carried (floor_for now) P → P next_memory → P (memory_of (remembering state now p) service client)
   remembering_keeps P carried = stored_keeps (let_go now) P (λ clients. let_go_keeps P now clients client carried)
 
 -- ---- a call
@@ -126,13 +126,13 @@ others_stay state service at confounder octets other =
 
 -- and another client's memory is as it was from an hour before on
 pub others_alike : (state : State) (service client : Components) (at : Moment) (confounder octets : List ℕ) → (IsParty service client (presented_by state octets) → ⊥)
-    → raised (at.sec -ℤ pos 3900) (memory_of (accepts state at confounder octets).state service client) ≡ raised (at.sec -ℤ pos 3900) (memory_of state service client)
+    → raised (floor_for at.sec) (memory_of (accepts state at confounder octets).state service client) ≡ raised (floor_for at.sec) (memory_of state service client)
 others_alike state service client at confounder octets other =
-    let P : Memory ⊤ → Type 0 = λ m. raised (at.sec -ℤ pos 3900) m ≡ raised (at.sec -ℤ pos 3900) (memory_of state service client) in
+    let P : Memory ⊤ → Type 0 = λ m. raised (floor_for at.sec) m ≡ raised (floor_for at.sec) (memory_of state service client) in
     accepts_keeps (λ s. P (memory_of s service client)) state refl at confounder octets (λ p is.
     remembering_keeps state at.sec p service client P
-    (λ m gone same. as_empty_on (at.sec -ℤ pos 3900) m gone (at.sec -ℤ pos 3900) (at_most (at.sec -ℤ pos 3900)) ∙ same)
-    (ap (λ b. raised (at.sec -ℤ pos 3900) (cond b (remembered (memory_for state p) at.sec (stamp_of p) tt) (memory_of state service client)))
+    (λ m gone same. as_empty_on (floor_for at.sec) m gone (floor_for at.sec) (at_most (floor_for at.sec)) ∙ same)
+    (ap (λ b. raised (floor_for at.sec) (cond b (remembered (memory_for state p) at.sec (stamp_of p) tt) (memory_of state service client)))
     (not_party service client p (λ h. other (subst (IsParty service client) (sym is) h)) (is_party service client p) refl)))
 
 -- ---- a state with others' clients

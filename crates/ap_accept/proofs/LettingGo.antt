@@ -13,7 +13,7 @@ use Rattle.replay.specs.Stamp.{Stamp, stamp_cmp, is_from}
 use Rattle.replay.specs.declared.memory.Memory.{Memory}
 use Rattle.replay.proofs.Settled.{IsSettled}
 use Rattle.replay.proofs.Stamps.{stamp_total, stamp_exact}
-use Rattle.ap_accept.specs.Clients.{empty_memory, lasts, let_go, memory_in, raised_to}
+use Rattle.ap_accept.specs.Clients.{empty_memory, floor_for, hour, lasts, let_go, memory_in, raised_to}
 use Rattle.ap_accept.specs.declared.clients.Clients.{Clients}
 use Rattle.ap_accept.proofs.Raised.{View, further, further_twice, raised}
 
@@ -97,7 +97,7 @@ one_left floor old P carried gone (Some m) p = at (lasts floor m) refl
     at true e = p
     at false e = carried m e p
 
-lower : (old now : ℤ) → int_lt old (now -ℤ pos 7500) ≡ true → int_lt (now -ℤ pos 3900) old ≡ false
+lower : (old now : ℤ) → int_lt old (floor_for now -ℤ pos hour) ≡ true → int_lt (floor_for now) old ≡ false
 lower old now h = grind (arith, ints)
 
 or_false : (a b : Bool) → a ≡ false → b ≡ false → (a || b) ≡ false
@@ -107,15 +107,15 @@ or_false false b p q = q
 nothing_there : (second : ℤ) → nat_le 1 (map.len (map.retain_keys (map.empty {X = ⊤} {R = stamp_cmp}) (is_from second))) ≡ false
 nothing_there second = ap (nat_le 1) (ap map.len (none_from second) ∙ map.len-empty stamp_cmp ⊤)
 
-empty_gone : (old now : ℤ) → int_lt old (now -ℤ pos 7500) ≡ true → lasts (now -ℤ pos 3900) (empty_memory old) ≡ false
-empty_gone old now due = or_false _ _ (lower old now due) (nothing_there (now -ℤ pos 3900))
+empty_gone : (old now : ℤ) → int_lt old (floor_for now -ℤ pos hour) ≡ true → lasts (floor_for now) (empty_memory old) ≡ false
+empty_gone old now due = or_false _ _ (lower old now due) (nothing_there (floor_for now))
 
 -- what is so carried holds of a client's memory after what was let go
-pub let_go_keeps : (P : Memory ⊤ → Type 0) (now : ℤ) (clients : Clients) (client : Components) → Carried (now -ℤ pos 3900) P → P (memory_in clients client) → P (memory_in (let_go now clients) client)
-let_go_keeps P now clients client carried p = at (int_lt clients.floor (now -ℤ pos 7500)) refl
+pub let_go_keeps : (P : Memory ⊤ → Type 0) (now : ℤ) (clients : Clients) (client : Components) → Carried (floor_for now) P → P (memory_in clients client) → P (memory_in (let_go now clients) client)
+let_go_keeps P now clients client carried p = at (int_lt clients.floor (floor_for now -ℤ pos hour)) refl
   where
-    at : (b : Bool) → int_lt clients.floor (now -ℤ pos 7500) ≡ b → P (memory_in (cond b (raised_to (now -ℤ pos 3900) clients) clients) client)
+    at : (b : Bool) → int_lt clients.floor (floor_for now -ℤ pos hour) ≡ b → P (memory_in (cond b (raised_to (floor_for now) clients) clients) client)
     at true due =
-        subst (λ o. P (unwrap_or o (empty_memory (now -ℤ pos 3900)))) (sym (get-retain_values name_total clients.memories (lasts (now -ℤ pos 3900)) client))
-        (one_left (now -ℤ pos 3900) clients.floor P carried (empty_gone clients.floor now due) (map.get clients.memories client) p)
+        subst (λ o. P (unwrap_or o (empty_memory (floor_for now)))) (sym (get-retain_values name_total clients.memories (lasts (floor_for now)) client))
+        (one_left (floor_for now) clients.floor P carried (empty_gone clients.floor now due) (map.get clients.memories client) p)
     at false e = p

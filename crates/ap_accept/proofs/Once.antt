@@ -1,5 +1,5 @@
 -- An acceptor accepts no authenticator of a client twice: what is accepted is settled from then on.
-use Rattle.std.proofs.Common.{◌≡◌, ◌≢◌, ◌-ℤ◌, Bool, true, false, cond, if◌then◌else◌, ℕ, ℤ, pos, List, [], ◌∷◌, Option, Some, None, Result, Ok, Err, refl, ap, sym, subst, ◌∙◌, true≢false, is_eq}
+use Rattle.std.proofs.Common.{◌≡◌, ◌≢◌, Bool, true, false, cond, if◌then◌else◌, ℕ, ℤ, List, [], ◌∷◌, Option, Some, None, Result, Ok, Err, refl, ap, sym, subst, ◌∙◌, true≢false, is_eq}
 use Rattle.std.specs.Prelude.{⊤, IfSome}
 use Rattle.std.specs.Cmp.{Equal-is, tied_itself}
 use Rattle.std.specs.List.{AllByRecursion}
@@ -17,6 +17,7 @@ use Rattle.replay.specs.declared.verdict.Verdict.TheVariants.{Fresh, Skew, Repea
 use Rattle.replay.proofs.Settled.{IsSettled, remembered_settles, settled_not_fresh, settled_remembered}
 use Rattle.replay.proofs.Stamps.{stamp_exact, stamp_total}
 use Rattle.ap_accept.specs.Accepts.{if_presented, if_request, memory_for, memory_refusal, presented_if, refusal_by, remembering, request_of, stamp_of, unless_invalid, unless_seen}
+use Rattle.ap_accept.specs.Clients.{floor_for}
 use Rattle.ap_accept.specs.Presented.{presented}
 use Rattle.ap_accept.specs.Reply.{asks_reply}
 use Rattle.ap_accept.specs.Run.{Call, AcceptedOnce, accepted_for, accepted_in, after_call, is_party, stamp_if}
@@ -73,7 +74,7 @@ module _ (service client : Components) where
   stays_settled : (state : State) (call : Call) (s : Stamp) → IsSettled (memory_of state service client) s tt → IsSettled (memory_of (after_call state call) service client) s tt
   stays_settled state call s held =
       accepts_keeps (λ after. IsSettled (memory_of after service client) s tt) state held call.at call.confounder call.octets (λ p is.
-      remembering_keeps state call.at.sec p service client (λ m. IsSettled m s tt) (λ m gone. still_settled (call.at.sec -ℤ pos 3900) m gone s)
+      remembering_keeps state call.at.sec p service client (λ m. IsSettled m s tt) (λ m gone. still_settled (floor_for call.at.sec) m gone s)
       (next_settled state call.at.sec p s (is_party service client p) refl held))
 
   -- ---- what is accepted
@@ -85,7 +86,7 @@ module _ (service client : Components) where
   module _ (state : State) (now : ℤ) (confounder : List ℕ) (wanted : Bool) (p : Presented) (party : is_party service client p ≡ true) where
     settled_now : IsSettled (memory_of (remembering state now p) service client) (stamp_of p) tt
     settled_now =
-        remembering_keeps state now p service client (λ m. IsSettled m (stamp_of p) tt) (λ m gone. still_settled (now -ℤ pos 3900) m gone (stamp_of p))
+        remembering_keeps state now p service client (λ m. IsSettled m (stamp_of p) tt) (λ m gone. still_settled (floor_for now) m gone (stamp_of p))
         (subst (λ b. IsSettled (cond b (remembered (memory_for state p) now (stamp_of p) tt) (memory_of state service client)) (stamp_of p) tt) (sym party) (remembered_settles (memory_for state p) now (stamp_of p) tt))
 
     found_fresh : (v : Verdict ⊤) → verdict (memory_for state p) now (stamp_of p) state.limits.remembered ≡ v

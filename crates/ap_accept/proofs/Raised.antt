@@ -6,13 +6,14 @@ use Rattle.std.specs.FinMap.{FinMap, same_map, get-retain_keys}
 use Rattle.std.specs.FinMap as map
 use Rattle.std.proofs.lemmas.Int.{ints, clamps}
 use Rattle.std.proofs.lemmas.Bool.Decides.{nat_tests}
+use Rattle.krb_fields.specs.Skew.{skew}
 use Rattle.replay.specs.Memory.{floor_at, if_kept, remembered, verdict}
 use Rattle.replay.specs.Stamp.{Stamp, stamp_cmp, is_from, is_skewed}
 use Rattle.replay.specs.declared.memory.Memory.{Memory}
 use Rattle.replay.specs.declared.verdict.Verdict.{Verdict}
 use Rattle.replay.specs.declared.verdict.Verdict.TheVariants.{Fresh, Skew, Full}
 use Rattle.replay.proofs.Stamps.{stamp_total, stamp_exact}
-use Rattle.ap_accept.specs.Clients.{SaysTheSame}
+use Rattle.ap_accept.specs.Clients.{SaysTheSame, floor_for, hour}
 
 abbrev Pairs : Type 0
 Pairs = FinMap stamp_cmp ⊤
@@ -83,7 +84,7 @@ not_low : (far low : Bool) → (far || low) ≡ false → low ≡ false
 not_low true low e = cc
 not_low false low e = e
 
-not_early : (now ctime : ℤ) → nat_lt 300 (unsigned_abs (ctime -ℤ now)) ≡ false → (now -ℤ pos 300) ≤ℤ ctime
+not_early : (now ctime : ℤ) → nat_lt skew (unsigned_abs (ctime -ℤ now)) ≡ false → (now -ℤ pos skew) ≤ℤ ctime
 not_early now ctime h = grind (arith, ints, nat_tests)
 
 still_low : (floor second ctime : ℤ) → int_lt ctime floor ≡ true → int_lt ctime (int_max floor second) ≡ true
@@ -95,18 +96,18 @@ still_high floor second ctime le h = grind (arith, ints, clamps)
 le_then : (a b c : ℤ) → a ≤ℤ b → b ≤ℤ c → a ≤ℤ c
 le_then a b c p q = omega (arith, ints)
 
-module _ (second now : ℤ) (v : View) (stamp : Stamp) (le : second ≤ℤ (now -ℤ pos 300)) where
-  same_low : nat_lt 300 (unsigned_abs (stamp.0 -ℤ now)) ≡ false → (b : Bool) → int_lt stamp.0 v.0 ≡ b → int_lt stamp.0 (int_max v.0 second) ≡ b
+module _ (second now : ℤ) (v : View) (stamp : Stamp) (le : second ≤ℤ (now -ℤ pos skew)) where
+  same_low : nat_lt skew (unsigned_abs (stamp.0 -ℤ now)) ≡ false → (b : Bool) → int_lt stamp.0 v.0 ≡ b → int_lt stamp.0 (int_max v.0 second) ≡ b
   same_low near true e = still_low v.0 second stamp.0 e
-  same_low near false e = still_high v.0 second stamp.0 (le_then second (now -ℤ pos 300) stamp.0 le (not_early now stamp.0 near)) e
+  same_low near false e = still_high v.0 second stamp.0 (le_then second (now -ℤ pos skew) stamp.0 le (not_early now stamp.0 near)) e
 
-  same_skew : (b : Bool) → nat_lt 300 (unsigned_abs (stamp.0 -ℤ now)) ≡ b → (b || int_lt stamp.0 (int_max v.0 second)) ≡ (b || int_lt stamp.0 v.0)
+  same_skew : (b : Bool) → nat_lt skew (unsigned_abs (stamp.0 -ℤ now)) ≡ b → (b || int_lt stamp.0 (int_max v.0 second)) ≡ (b || int_lt stamp.0 v.0)
   same_skew true e = refl
   same_skew false e = same_low e (int_lt stamp.0 v.0) refl
 
   same_pair : is_skewed v.0 now stamp.0 ≡ false → map.get (further second v).1 stamp ≡ map.get v.1 stamp
   same_pair timely =
-      let far = nat_lt 300 (unsigned_abs (stamp.0 -ℤ now)) in
+      let far = nat_lt skew (unsigned_abs (stamp.0 -ℤ now)) in
       let near : far ≡ false = not_far far (int_lt stamp.0 v.0) timely in
       let high : int_lt stamp.0 (int_max v.0 second) ≡ false = same_low near false (not_low far (int_lt stamp.0 v.0) timely) in
       get-retain_keys v.1 (is_from (int_max v.0 second)) stamp (alike (int_max v.0 second) stamp) ∙ ap (λ b. cond (not b) (map.get v.1 stamp) None) high
@@ -116,29 +117,29 @@ module _ (second now : ℤ) (v : View) (stamp : Stamp) (le : second ≤ℤ (now 
   seen_further limit = ap (λ b. cond b Skew (compared (further second v) now stamp limit)) same ∙ at (is_skewed v.0 now stamp.0) refl
     where
       same : is_skewed (int_max v.0 second) now stamp.0 ≡ is_skewed v.0 now stamp.0
-      same = same_skew (nat_lt 300 (unsigned_abs (stamp.0 -ℤ now))) refl
+      same = same_skew (nat_lt skew (unsigned_abs (stamp.0 -ℤ now))) refl
 
-      left : (further (now -ℤ pos 300) (further second v)).1 ≡ (further (now -ℤ pos 300) v).1
-      left = ap (λ (w : View). w.1) (sym (further_twice second (now -ℤ pos 300) v le))
+      left : (further (now -ℤ pos skew) (further second v)).1 ≡ (further (now -ℤ pos skew) v).1
+      left = ap (λ (w : View). w.1) (sym (further_twice second (now -ℤ pos skew) v le))
 
       at : (b : Bool) → is_skewed v.0 now stamp.0 ≡ b → cond b Skew (compared (further second v) now stamp limit) ≡ cond b Skew (compared v now stamp limit)
       at true e = refl
       at false e = λ i. if_kept (same_pair e i) (if nat_le limit (map.len (left i)) then Full else Fresh)
 
-pub says_the_same : (second now : ℤ) (a b : Memory ⊤) (stamp : Stamp) (limit : ℕ) → second ≤ℤ (now -ℤ pos 300) → raised second a ≡ raised second b → verdict a now stamp limit ≡ verdict b now stamp limit
+pub says_the_same : (second now : ℤ) (a b : Memory ⊤) (stamp : Stamp) (limit : ℕ) → second ≤ℤ (now -ℤ pos skew) → raised second a ≡ raised second b → verdict a now stamp limit ≡ verdict b now stamp limit
 says_the_same second now a b stamp limit le same =
     sym (seen_further second now (a.floor, a.pairs) stamp le limit) ∙ ap (λ v. seen v now stamp limit) same ∙ seen_further second now (b.floor, b.pairs) stamp le limit
 
-an_hour : (at now : ℤ) → (at -ℤ pos 3600) ≤ℤ now → (at -ℤ pos 3900) ≤ℤ (now -ℤ pos 300)
+an_hour : (at now : ℤ) → (at -ℤ pos hour) ≤ℤ now → floor_for at ≤ℤ (now -ℤ pos skew)
 an_hour at now le = omega (arith, ints)
 
 -- ---- from a call on
 
-pub same_from : (at : ℤ) (a b : Memory ⊤) → raised (at -ℤ pos 3900) a ≡ raised (at -ℤ pos 3900) b → SaysTheSame (at -ℤ pos 3600) a b
-same_from at a b same now stamp limit le = says_the_same (at -ℤ pos 3900) now a b stamp limit (an_hour at now le) same
+pub same_from : (at : ℤ) (a b : Memory ⊤) → raised (floor_for at) a ≡ raised (floor_for at) b → SaysTheSame (at -ℤ pos hour) a b
+same_from at a b same now stamp limit le = says_the_same (floor_for at) now a b stamp limit (an_hour at now le) same
 
 -- to remember makes alike memories alike
-pub remembered_alike : (second now : ℤ) (a b : Memory ⊤) (stamp : Stamp) → second ≤ℤ (now -ℤ pos 300) → raised second a ≡ raised second b
+pub remembered_alike : (second now : ℤ) (a b : Memory ⊤) (stamp : Stamp) → second ≤ℤ (now -ℤ pos skew) → raised second a ≡ raised second b
     → (high : ℤ) → raised high (remembered a now stamp tt) ≡ raised high (remembered b now stamp tt)
 remembered_alike second now a b stamp le same high =
-    ap (λ (v : View). further high (v.0, map.insert v.1 stamp tt)) (alike_on second (now -ℤ pos 300) (a.floor, a.pairs) (b.floor, b.pairs) le same)
+    ap (λ (v : View). further high (v.0, map.insert v.1 stamp tt)) (alike_on second (now -ℤ pos skew) (a.floor, a.pairs) (b.floor, b.pairs) le same)

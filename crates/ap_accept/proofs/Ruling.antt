@@ -9,17 +9,36 @@ use Rattle.krb_elements.specs.Format.{whole}
 use Rattle.krb_elements.specs.Laws.{IsWhole, whole_ok}
 use Rattle.krb_fields.specs.declared.moment.Moment.{Moment}
 use Rattle.sealed_parts.specs.Parts.{ok_of}
-use Rattle.ap_accept.specs.Accepts.{accepts, memory_refusal, presented_by, presented_if, request_of, unless_seen}
+use Rattle.ap_accept.specs.Accepts.{Answer, IsAfter, IsAnswer, accepts, memory_refusal, presented_by, presented_if}
+use Rattle.ap_accept.specs.Accepts.{refused, request_of, unless_seen}
+use Rattle.ap_accept.specs.Fault.{Fails}
 use Rattle.ap_accept.specs.Presented.{presented}
 use Rattle.ap_accept.specs.Reply.{IsApReply, asks_reply}
 use Rattle.ap_accept.specs.declared.accepted.Accepted.{Accepted}
 use Rattle.ap_accept.specs.declared.fault.ApFault.{ApFault}
+use Rattle.ap_accept.specs.declared.fault.ApFault.TheVariants.{NotAnApReq, Refused, Memory}
 use Rattle.ap_accept.specs.declared.presented.Presented.{Presented}
+use Rattle.ap_accept.specs.declared.refusal.ApRefusal.{ApRefusal}
 use Rattle.ap_accept.specs.declared.state.State.{State}
 
 pub ruled : (state : State) (at : Moment) (confounder octets : List ℕ) (ap : ApReq) (wanted : Bool) (p : Presented) → request_of octets ≡ Some ap → wanted ≡ asks_reply ap → presented state.keytab ap ≡ Ok p
     → accepts state at confounder octets ≡ unless_seen state at.sec confounder wanted p (memory_refusal state at.sec p)
 ruled state at confounder octets ap wanted p read asks opened = rw (read, opened, asks) refl
+
+-- where nothing is presented, the fault is what is ruled, and the state stays
+module _ (state : State) (at : Moment) (confounder octets : List ℕ) (request : ApReq) (read : request_of octets ≡ Some request) where
+  ruled_refusal : (refusal : ApRefusal) → presented state.keytab request ≡ Err refusal → accepts state at confounder octets ≡ refused state refusal
+  ruled_refusal refusal refuses = rw (read, refuses) refl
+
+  pub unopened_answer : (fault : ApFault) → Fails fault (presented state.keytab request) → IsAnswer (Err fault) (accepts state at confounder octets).answer
+  unopened_answer NotAnApReq h = absurd h
+  unopened_answer (Refused refusal) h = ap (λ (a : Answer). a.answer) (ruled_refusal refusal h)
+  unopened_answer Memory h = tt
+
+  pub unopened_state : (fault : ApFault) → Fails fault (presented state.keytab request) → IsAfter (Err fault) state state (accepts state at confounder octets).state
+  unopened_state NotAnApReq h = absurd h
+  unopened_state (Refused refusal) h = sym (ap (λ (a : Answer). a.state) (ruled_refusal refusal h))
+  unopened_state Memory h = refl
 
 -- the AP-REP to what is presented is the one to what the octets present
 pub answered : (state : State) (confounder octets : List ℕ) (ap : ApReq) (p : Presented) (r : Result Accepted ApFault) → request_of octets ≡ Some ap → presented state.keytab ap ≡ Ok p

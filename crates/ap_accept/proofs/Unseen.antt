@@ -8,11 +8,13 @@ use Rattle.std.specs.Result.{result_ok}
 use Rattle.std.proofs.lemmas.Int.{ints, clamps}
 use Rattle.krb_ap.specs.ApReq.{ApReq}
 use Rattle.krb_fields.specs.Name.{Components, name_cmp}
+use Rattle.krb_fields.specs.Skew.{skew}
 use Rattle.principal_rows.specs.declared.limits.Limits.{Limits}
 use Rattle.cred_files.specs.declared.keytab_entry.KeytabEntry.{KeytabEntry}
 use Rattle.replay.specs.Memory.{remembered, verdict}
 use Rattle.replay.specs.declared.memory.Memory.{Memory}
 use Rattle.ap_accept.specs.Accepts.{accepts, if_presented, if_request, memory_for, memory_refusal, presented_by, presented_if, refusal_by, remembering, request_of, stamp_of, unless_seen}
+use Rattle.ap_accept.specs.Clients.{floor_for, hour}
 use Rattle.ap_accept.specs.Presented.{presented}
 use Rattle.ap_accept.specs.Reply.{asks_reply}
 use Rattle.ap_accept.specs.Run.{Call, LetsGoUnseen, Steady, after_call, after_keeping, after_presented, answers, is_party, keeping, unless_refused}
@@ -34,7 +36,7 @@ record Alike (second : ℤ) (s t : State) : Type 0 where
 
 -- ---- the answer
 
-module _ (second now : ℤ) (s t : State) (alike : Alike second s t) (le : second ≤ℤ (now -ℤ pos 300)) where
+module _ (second now : ℤ) (s t : State) (alike : Alike second s t) (le : second ≤ℤ (now -ℤ pos skew)) where
   same_refusal : (p : Presented) → memory_refusal s now p ≡ memory_refusal t now p
   same_refusal p =
       ap (λ (l : Limits). refusal_by (verdict (memory_for s p) now (stamp_of p) l.remembered)) alike.limits
@@ -74,7 +76,7 @@ module _ (state : State) (now : ℤ) (confounder : List ℕ) where
   by_request (Some ap_req) = by_presented (asks_reply ap_req) (presented state.keytab ap_req)
   by_request None = refl
 
-module _ (second now high : ℤ) (s t : State) (alike : Alike second s t) (le : second ≤ℤ (now -ℤ pos 300)) (on : second ≤ℤ high) (gone : (now -ℤ pos 3900) ≤ℤ high) where
+module _ (second now high : ℤ) (s t : State) (alike : Alike second s t) (le : second ≤ℤ (now -ℤ pos skew)) (on : second ≤ℤ high) (gone : floor_for now ≤ℤ high) where
   still_alike : Alike high s t
   still_alike = record {
     keytab = alike.keytab;
@@ -95,7 +97,7 @@ module _ (second now high : ℤ) (s t : State) (alike : Alike second s t) (le : 
     same_gone : raised high (memory_of (remembering s now p) service client) ≡ raised high (next_memory t now p service client)
     same_gone =
         remembering_keeps s now p service client (λ m. raised high m ≡ raised high (next_memory t now p service client))
-        (λ m lost same. as_empty_on (now -ℤ pos 3900) m lost high gone ∙ same) (same_next (is_party service client p))
+        (λ m lost same. as_empty_on (floor_for now) m lost high gone ∙ same) (same_next (is_party service client p))
 
     same_kept : raised high (memory_of (keeping t now p) service client) ≡ raised high (next_memory t now p service client)
     same_kept = stored_keeps t now p service client (λ clients. clients) (λ m. raised high m ≡ raised high (next_memory t now p service client)) (λ clients h. h) refl
@@ -124,12 +126,12 @@ module _ (second now high : ℤ) (s t : State) (alike : Alike second s t) (le : 
 
 -- no call comes before the second, with the skew of clocks
 abbrev Follow : ℤ → List Call → Type 0
-Follow second calls = AllByRecursion (λ call. second ≤ℤ (call.at.sec -ℤ pos 300)) calls
+Follow second calls = AllByRecursion (λ call. second ≤ℤ (call.at.sec -ℤ pos skew)) calls
 
-least : (second now at : ℤ) → second ≤ℤ (at -ℤ pos 300) → (now -ℤ pos 3600) ≤ℤ at → int_max second (now -ℤ pos 3900) ≤ℤ (at -ℤ pos 300)
+least : (second now at : ℤ) → second ≤ℤ (at -ℤ pos skew) → (now -ℤ pos hour) ≤ℤ at → int_max second (floor_for now) ≤ℤ (at -ℤ pos skew)
 least second now at le steady = grind (arith, ints, clamps)
 
-follow_on : (second now : ℤ) (calls : List Call) → Follow second calls → AllByRecursion (λ (later : Call). (now -ℤ pos 3600) ≤ℤ later.at.sec) calls → Follow (int_max second (now -ℤ pos 3900)) calls
+follow_on : (second now : ℤ) (calls : List Call) → Follow second calls → AllByRecursion (λ (later : Call). (now -ℤ pos hour) ≤ℤ later.at.sec) calls → Follow (int_max second (floor_for now)) calls
 follow_on second now [] follow steady = tt
 follow_on second now (call ∷ calls) follow steady = (least second now call.at.sec follow.0 steady.0, follow_on second now calls follow.1 steady.1)
 
@@ -143,26 +145,26 @@ all_same : (second : ℤ) (s t : State) (calls : List Call) → Alike second s t
 all_same second s t [] alike follow steady = refl
 all_same second s t (call ∷ calls) alike follow steady =
     let now : ℤ = call.at.sec in
-    let high : ℤ = int_max second (now -ℤ pos 3900) in
+    let high : ℤ = int_max second (floor_for now) in
     let next : Alike high (after_call s call) (after_keeping t call) =
-    alike_after second now high s t alike follow.0 (max_left second (now -ℤ pos 3900)) (max_right second (now -ℤ pos 3900)) call.confounder (request_of call.octets) in
+    alike_after second now high s t alike follow.0 (max_left second (floor_for now)) (max_right second (floor_for now)) call.confounder (request_of call.octets) in
     let here : (accepts s call.at call.confounder call.octets).answer ≡ (accepts t call.at call.confounder call.octets).answer = same_answer second now s t alike follow.0 call.confounder (request_of call.octets) in
     let later : answers after_call (after_call s call) calls ≡ answers after_keeping (after_keeping t call) calls =
     all_same high (after_call s call) (after_keeping t call) calls next (follow_on second now calls follow.1 steady.0) steady.1 in
     λ i. here i ∷ later i
 
-an_hour_before : (now at : ℤ) → (now -ℤ pos 3600) ≤ℤ at → (now -ℤ pos 3900) ≤ℤ (at -ℤ pos 300)
+an_hour_before : (now at : ℤ) → (now -ℤ pos hour) ≤ℤ at → floor_for now ≤ℤ (at -ℤ pos skew)
 an_hour_before now at le = omega (arith, ints)
 
-first_itself : (now : ℤ) → (now -ℤ pos 3900) ≤ℤ (now -ℤ pos 300)
+first_itself : (now : ℤ) → floor_for now ≤ℤ (now -ℤ pos skew)
 first_itself now = omega (arith, ints)
 
-follow_first : (now : ℤ) (calls : List Call) → AllByRecursion (λ (later : Call). (now -ℤ pos 3600) ≤ℤ later.at.sec) calls → Follow (now -ℤ pos 3900) calls
+follow_first : (now : ℤ) (calls : List Call) → AllByRecursion (λ (later : Call). (now -ℤ pos hour) ≤ℤ later.at.sec) calls → Follow (floor_for now) calls
 follow_first now [] steady = tt
 follow_first now (call ∷ calls) steady = (an_hour_before now call.at.sec steady.0, follow_first now calls steady.1)
 
 pub lets_go_unseen : LetsGoUnseen
 lets_go_unseen state [] steady = refl
 lets_go_unseen state (call ∷ calls) steady =
-    all_same (call.at.sec -ℤ pos 3900) state state (call ∷ calls) (record { keytab = refl; limits = refl; memories = λ service client. refl })
+    all_same (floor_for call.at.sec) state state (call ∷ calls) (record { keytab = refl; limits = refl; memories = λ service client. refl })
     (first_itself call.at.sec, follow_first call.at.sec calls steady.0) steady

@@ -55,7 +55,9 @@ memory_refusal state now p = refusal_by (verdict (memory_for state p) now (stamp
 
 -- the service's clients, with the authenticator remembered
 abbrev pub remembering_clients : State → ℤ → Presented → Clients
-remembering_clients state now p = with_memory (clients_of state p.service.components) p.ticket.cname.components (remembered (memory_for state p) now (stamp_of p) tt)
+remembering_clients state now p =
+    with_memory (clients_of state p.service.components) p.ticket.cname.components
+    (remembered (memory_for state p) now (stamp_of p) tt)
 
 -- the state in which the authenticator is remembered, and what can't come again is let go
 abbrev pub remembering : State → ℤ → Presented → State
@@ -87,10 +89,14 @@ unless_invalid confounder wanted p None = Ok (accepted confounder wanted p)
 -- once it is remembered, only the ticket's validity decides
 abbrev pub unless_seen : State → ℤ → List ℕ → Bool → Presented → Option ApRefusal → Answer
 unless_seen state now confounder wanted p (Some refusal) = refused state refusal
-unless_seen state now confounder wanted p None = record { answer = unless_invalid confounder wanted p (first_holding (validity_rules (terms_of p.ticket) now)); state = remembering state now p }
+unless_seen state now confounder wanted p None = record {
+  answer = unless_invalid confounder wanted p (first_holding (validity_rules (terms_of p.ticket) now));
+  state = remembering state now p;
+}
 
 abbrev pub if_presented : State → ℤ → List ℕ → Bool → Result Presented ApRefusal → Answer
-if_presented state now confounder wanted (Ok p) = unless_seen state now confounder wanted p (memory_refusal state now p)
+if_presented state now confounder wanted (Ok p) =
+    unless_seen state now confounder wanted p (memory_refusal state now p)
 if_presented state now confounder wanted (Err refusal) = refused state refusal
 
 -- the AP-REQ that the octets spell
@@ -98,7 +104,8 @@ abbrev pub request_of : List ℕ → Option ApReq
 request_of octets = ok_of (whole ap_req.at octets)
 
 abbrev pub if_request : State → ℤ → List ℕ → Option ApReq → Answer
-if_request state now confounder (Some ap) = if_presented state now confounder (asks_reply ap) (presented state.keytab ap)
+if_request state now confounder (Some ap) =
+    if_presented state now confounder (asks_reply ap) (presented state.keytab ap)
 if_request state now confounder None = record { answer = Err NotAnApReq; state = state }
 
 -- `confounder` are the 16 random octets of the AP-REP

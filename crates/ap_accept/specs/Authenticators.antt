@@ -1,10 +1,13 @@
 -- The authenticator of an AP-REQ (RFC 4120, sections 3.2.3 and 5.5.1).
-use Rattle.std.specs.Prelude.{Bool, not, ◌||◌, nat_eq, if◌then◌else◌, List, [], ◌∷◌, Option, Some, None, Result, option_map}
+use Rattle.std.specs.Prelude.{Bool, not, ◌||◌, nat_eq, if◌then◌else◌, List, [], ◌∷◌, Option, Some, None, Result}
+use Rattle.std.specs.Prelude.{option_map}
 use Rattle.std.specs.Ordering.{int_eq, eq_by_cmp}
 use Rattle.std.specs.Cmp.Lexicographic.{pointwise}
 use Rattle.refusals.specs.Refusals.{Rule, decided}
 use Rattle.enctypes.specs.Etype.{number}
+use Rattle.enctypes.specs.KeyUsage.{usage_number}
 use Rattle.enctypes.specs.declared.key.Key.{Key}
+use Rattle.enctypes.specs.declared.key_usage.KeyUsage.TheVariants.{ApReqAuthenticator}
 use Rattle.krb_fields.specs.EncryptedData.{EncryptedData}
 use Rattle.krb_fields.specs.Name.{name_cmp}
 use Rattle.krb_fields.specs.Typed.{Typed}
@@ -15,9 +18,12 @@ use Rattle.ap_accept.specs.Tickets.{opened_with}
 use Rattle.ap_accept.specs.declared.refusal.ApRefusal.{ApRefusal}
 use Rattle.ap_accept.specs.declared.refusal.ApRefusal.TheVariants.{AuthenticatorNotOpened, BadMatch, BadSubkey}
 
--- what the session key opens, where the authenticator's type is its own: key usage 11
+-- what the session key opens, where the authenticator's type is its own
 abbrev pub authenticator_in : Key → EncryptedData → Option Authenticator
-authenticator_in key sealed = if int_eq sealed.etype (number key.etype) then opened_with authenticator 11 (Some key) sealed.cipher else None
+authenticator_in key sealed =
+    if int_eq sealed.etype (number key.etype)
+    then opened_with authenticator (usage_number ApReqAuthenticator) (Some key) sealed.cipher
+    else None
 
 abbrev pub authenticator_of : Key → EncryptedData → Result Authenticator ApRefusal
 authenticator_of key sealed = decided [] (authenticator_in key sealed) AuthenticatorNotOpened
@@ -25,7 +31,9 @@ authenticator_of key sealed = decided [] (authenticator_in key sealed) Authentic
 -- another client's than the ticket's. Names are compared by their components: the name-type is a hint (RFC 4120,
 -- section 6.2)
 abbrev pub is_mismatched : EncTicketPart → Authenticator → Bool
-is_mismatched part auth = not (pointwise nat_eq auth.crealm part.crealm) || not (eq_by_cmp name_cmp auth.cname.components part.cname.components)
+is_mismatched part auth =
+    not (pointwise nat_eq auth.crealm part.crealm)
+    || not (eq_by_cmp name_cmp auth.cname.components part.cname.components)
 
 abbrev pub authenticator_rules : EncTicketPart → Authenticator → List (Rule ApRefusal)
 authenticator_rules part auth = (is_mismatched part auth, BadMatch) ∷ []

@@ -1,8 +1,9 @@
 -- What is remembered of a service's clients, and when it is let go.
-use Rattle.std.specs.Prelude.{ℕ, ℤ, pos, ◌-ℤ◌, ◌≤ℤ◌, ◌≡◌, ⊤, Bool, ◌||◌, nat_le, int_lt, if◌then◌else◌}
+use Rattle.std.specs.Prelude.{ℕ, ℤ, pos, ◌+◌, ◌-ℤ◌, ◌≤ℤ◌, ◌≡◌, ⊤, Bool, ◌||◌, nat_le, int_lt, if◌then◌else◌}
 use Rattle.std.specs.Option.{unwrap_or}
 use Rattle.std.specs.FinMap as map
 use Rattle.krb_fields.specs.Name.{Components, name_cmp}
+use Rattle.krb_fields.specs.Skew.{skew}
 use Rattle.sorted_entries.specs.Values.{retain_values}
 use Rattle.replay.specs.Failures.{no_failures}
 use Rattle.replay.specs.Memory.{verdict}
@@ -44,10 +45,20 @@ lasts floor m = int_lt floor m.floor || nat_le 1 (map.len (map.retain_keys m.pai
 abbrev pub raised_to : ℤ → Clients → Clients
 raised_to floor clients = record { floor = floor; memories = retain_values clients.memories (lasts floor) }
 
--- the floor is raised to an hour and the skew of clocks before now, where it lies more than an hour below that
+-- in seconds
+abbrev pub hour : ℕ
+hour = 3600
+
+-- an hour and the skew of clocks before now
+abbrev pub floor_for : ℤ → ℤ
+floor_for now = now -ℤ pos (skew + hour)
+
+-- the floor is raised to that, where it lies more than an hour below
 abbrev pub let_go : ℤ → Clients → Clients
-let_go now clients = if int_lt clients.floor (now -ℤ pos 7500) then raised_to (now -ℤ pos 3900) clients else clients
+let_go now clients =
+    if int_lt clients.floor (floor_for now -ℤ pos hour) then raised_to (floor_for now) clients else clients
 
 -- from this second on, both memories say the same of every authenticator
 abbrev pub SaysTheSame : ℤ → Memory ⊤ → Memory ⊤ → Type 0
-SaysTheSame second a b = (now : ℤ) (stamp : Stamp) (limit : ℕ) → second ≤ℤ now → verdict a now stamp limit ≡ verdict b now stamp limit
+SaysTheSame second a b =
+    (now : ℤ) (stamp : Stamp) (limit : ℕ) → second ≤ℤ now → verdict a now stamp limit ≡ verdict b now stamp limit

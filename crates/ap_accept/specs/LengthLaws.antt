@@ -11,6 +11,8 @@ pub part_short : (auth : Authenticator) → length (enc_ap_rep_part.text (reply_
 unfolding enc_ap_rep_part_form typed_form
 part_short auth = omega (arith, enc_ap_rep_part.bounded (reply_part auth))
 
-pub reply_short : (etype : ℤ) (cipher : List ℕ) → length cipher ≤ 146 → length (ap_rep.text (record { enc_part = record { etype = etype; kvno = None; cipher = cipher } })) < 2 ^ 32
+pub reply_short : (etype : ℤ) (cipher : List ℕ) → length cipher ≤ 146
+    → length (ap_rep.text (record { enc_part = record { etype = etype; kvno = None; cipher = cipher } })) < 2 ^ 32
 unfolding ap_rep_form encrypted_data_form
-reply_short etype cipher few = omega (arith, ap_rep.bounded (record { enc_part = record { etype = etype; kvno = None; cipher = cipher } }), few)
+reply_short etype cipher few =
+    omega (arith, ap_rep.bounded (record { enc_part = record { etype = etype; kvno = None; cipher = cipher } }), few)

@@ -1,7 +1,9 @@
 pub mod Refusal
+pub mod Fault
 pub mod Tickets
 pub mod Authenticators
 pub mod Presented
+pub mod PresentedLaws
 pub mod Clients
 pub mod State
 pub mod Validity

@@ -2,8 +2,11 @@
 use Rattle.krb_fields.specs.declared.code.Code.{Code}
 use Rattle.krb_fields.specs.declared.code.Code as codes
 use Rattle.ap_accept.specs.declared.refusal.ApRefusal.{ApRefusal}
-use Rattle.ap_accept.specs.declared.refusal.ApRefusal.TheVariants.{BadVersion, BadMessageType, SessionKeyAsked, NotForUs, NoKey, BadKeyVersion, TicketNotOpened, ForeignClient, BoundAddress}
-use Rattle.ap_accept.specs.declared.refusal.ApRefusal.TheVariants.{BadSessionKey, AuthenticatorNotOpened, BadMatch, BadSubkey, Skewed, Repeated, Full, NotYetValid, TicketExpired}
+use Rattle.ap_accept.specs.declared.refusal.ApRefusal.TheVariants.{BadVersion, BadMessageType, SessionKeyAsked}
+use Rattle.ap_accept.specs.declared.refusal.ApRefusal.TheVariants.{NotForUs, NoKey, BadKeyVersion, TicketNotOpened}
+use Rattle.ap_accept.specs.declared.refusal.ApRefusal.TheVariants.{ForeignClient, BoundAddress, BadSessionKey}
+use Rattle.ap_accept.specs.declared.refusal.ApRefusal.TheVariants.{AuthenticatorNotOpened, BadMatch, BadSubkey}
+use Rattle.ap_accept.specs.declared.refusal.ApRefusal.TheVariants.{Skewed, Repeated, Full, NotYetValid, TicketExpired}
 
 abbrev pub code_of : ApRefusal → Code
 code_of BadVersion = codes.TheVariants.KrbApErrBadversion

@@ -1,8 +1,8 @@
 -- The AP-REP by which a service shows that it has the session key (RFC 4120, sections 3.2.4 and 5.5.2).
 use Rattle.std.specs.Prelude.{◌≡◌, ℕ, Bool, true, false, List, Option, Some, None}
-use Rattle.enctypes.specs.Etype.{number}
-use Rattle.enctypes.specs.Sealing.{seal}
+use Rattle.enctypes.specs.KeyUsage.{usage_number}
 use Rattle.enctypes.specs.declared.key.Key.{Key}
+use Rattle.enctypes.specs.declared.key_usage.KeyUsage.TheVariants.{ApRepEncPart}
 use Rattle.krb_ap.specs.ApRep.{ApRep, ap_rep}
 use Rattle.krb_ap.specs.ApReq.{ApReq}
 use Rattle.krb_elements.specs.Codec.{written}
@@ -11,15 +11,17 @@ use Rattle.krb_fields.specs.Flags.{has_bit}
 use Rattle.krb_fields.specs.declared.ap_option.ApOption.TheVariants.{MutualRequired}
 use Rattle.krb_parts.specs.Authenticator.{Authenticator}
 use Rattle.krb_parts.specs.EncApRepPart.{EncApRepPart, enc_ap_rep_part}
-use Rattle.sealed_parts.specs.Parts.{opened_as}
+use Rattle.sealed_parts.specs.Encrypted.{encrypted, decrypted}
 
 -- the authenticator's time, and no more
 abbrev pub reply_part : Authenticator → EncApRepPart
 reply_part auth = record { ctime = auth.ctime; cusec = auth.cusec; subkey = None; seq_number = None }
 
--- sealed under the session key, without a version: key usage 12
+-- sealed under the session key, without a version
 abbrev pub reply_of : Key → List ℕ → Authenticator → ApRep
-reply_of key confounder auth = record { enc_part = record { etype = number key.etype; kvno = None; cipher = seal key.etype key.bytes 12 confounder (written enc_ap_rep_part (reply_part auth)) } }
+reply_of key confounder auth = record {
+  enc_part = encrypted enc_ap_rep_part key (usage_number ApRepEncPart) None confounder (reply_part auth);
+}
 
 abbrev pub asks_reply : ApReq → Bool
 asks_reply ap = has_bit ap.ap_options (ap_option_number MutualRequired)
@@ -32,4 +34,5 @@ reply_if false key confounder auth = None
 -- These octets are the AP-REP, and the session key opens its part to the authenticator's time.
 pub record IsApReply (key : Key) (confounder : List ℕ) (auth : Authenticator) (octets : List ℕ) : Type 0 where
   pub spelled : ap_rep.Spells (reply_of key confounder auth) octets
-  pub opens : opened_as enc_ap_rep_part key.etype key.bytes 12 (reply_of key confounder auth).enc_part.cipher ≡ Some (reply_part auth)
+  pub opens : decrypted enc_ap_rep_part key (usage_number ApRepEncPart) (reply_of key confounder auth).enc_part
+      ≡ Some (reply_part auth)

@@ -1,5 +1,6 @@
 -- The ticket of an AP-REQ (RFC 4120, section 3.2.3).
-use Rattle.std.specs.Prelude.{ℕ, ℤ, pos, negsuc, Bool, not, ◌&&◌, ◌||◌, nat_eq, is_some, is_none, List, [], ◌∷◌, Option, Some, None, Result, option_map}
+use Rattle.std.specs.Prelude.{ℕ, ℤ, pos, negsuc, Bool, not, ◌&&◌, ◌||◌, nat_eq, is_some, is_none, List, [], ◌∷◌}
+use Rattle.std.specs.Prelude.{Option, Some, None, Result, option_map}
 use Rattle.std.specs.Ordering.{int_eq}
 use Rattle.std.specs.Cmp.Lexicographic.{pointwise}
 use Rattle.refusals.specs.Refusals.{Rule, decided}
@@ -11,14 +12,17 @@ use Rattle.krb_fields.specs.declared.ap_option.ApOption.TheVariants.{UseSessionK
 use Rattle.krb_ap.specs.ApReq.{ApReq}
 use Rattle.krb_parts.specs.EncTicketPart.{EncTicketPart, enc_ticket_part}
 use Rattle.krb_types.specs.Ticket.{Ticket}
+use Rattle.enctypes.specs.KeyUsage.{usage_number}
 use Rattle.enctypes.specs.declared.etype.Etype.{Etype}
 use Rattle.enctypes.specs.declared.key.Key.{Key}
+use Rattle.enctypes.specs.declared.key_usage.KeyUsage.TheVariants.{Ticket as TicketUsage}
 use Rattle.sealed_parts.specs.Keys.{key_of, type_numbered}
 use Rattle.sealed_parts.specs.Parts.{opened_as}
 use Rattle.cred_files.specs.Keytab.{newest, passes}
 use Rattle.cred_files.specs.declared.keytab_entry.KeytabEntry.{KeytabEntry}
 use Rattle.ap_accept.specs.declared.refusal.ApRefusal.{ApRefusal}
-use Rattle.ap_accept.specs.declared.refusal.ApRefusal.TheVariants.{BadVersion, BadMessageType, SessionKeyAsked, NotForUs, NoKey, BadKeyVersion, TicketNotOpened}
+use Rattle.ap_accept.specs.declared.refusal.ApRefusal.TheVariants.{BadVersion, BadMessageType, SessionKeyAsked}
+use Rattle.ap_accept.specs.declared.refusal.ApRefusal.TheVariants.{NotForUs, NoKey, BadKeyVersion, TicketNotOpened}
 use Rattle.ap_accept.specs.declared.refusal.ApRefusal.TheVariants.{ForeignClient, BoundAddress, BadSessionKey}
 
 -- ---- the key that it is sealed under
@@ -36,7 +40,9 @@ entry_for keytab service (Some etype) None = newest (passes service (Some etype)
 entry_for keytab service None kvno = None
 
 abbrev pub ticket_key : List KeytabEntry → Ticket → Option Key
-ticket_key keytab ticket = option_map (λ e. e.key) (entry_for keytab (service_of ticket) (type_numbered ticket.enc_part.etype) ticket.enc_part.kvno)
+ticket_key keytab ticket =
+    option_map (λ e. e.key)
+    (entry_for keytab (service_of ticket) (type_numbered ticket.enc_part.etype) ticket.enc_part.kvno)
 
 -- the keytab has no entry of the service
 abbrev pub lacks_service : List KeytabEntry → Ticket → Bool
@@ -44,7 +50,8 @@ lacks_service keytab ticket = not (is_some (newest (passes (service_of ticket) N
 
 -- or none of the ticket's encryption type
 abbrev pub lacks_type : List KeytabEntry → Ticket → Bool
-lacks_type keytab ticket = not (is_some (entry_for keytab (service_of ticket) (type_numbered ticket.enc_part.etype) None))
+lacks_type keytab ticket =
+    not (is_some (entry_for keytab (service_of ticket) (type_numbered ticket.enc_part.etype) None))
 
 -- a version is named, and there is no entry of it
 abbrev pub lacks_version : List KeytabEntry → Ticket → Bool
@@ -70,9 +77,10 @@ abbrev pub opened_with : {A : Type 0} → Codec A → ℕ → Option Key → Lis
 opened_with c usage (Some key) cipher = opened_as c key.etype key.bytes usage cipher
 opened_with c usage None cipher = None
 
--- key usage 2
+-- what the ticket holds
 abbrev pub part_of : List KeytabEntry → Ticket → Option EncTicketPart
-part_of keytab ticket = opened_with enc_ticket_part 2 (ticket_key keytab ticket) ticket.enc_part.cipher
+part_of keytab ticket =
+    opened_with enc_ticket_part (usage_number TicketUsage) (ticket_key keytab ticket) ticket.enc_part.cipher
 
 abbrev pub ticket_of : List KeytabEntry → ApReq → Result EncTicketPart ApRefusal
 ticket_of keytab ap = decided (ticket_rules keytab ap) (part_of keytab ap.ticket) TicketNotOpened

@@ -3,7 +3,8 @@ ghost use Rattle.std.specs.Prelude.{◌≡◌, false, None, IfOk, IfNone, IfSome
 ghost use Rattle.std.specs.FinMap as map;
 ghost use Rattle.replay.specs.Memory.{verdict_copied};
 ghost use Rattle.replay.specs.Stamp.{is_skewed};
-ghost use Rattle.ap_accept.specs.Accepts.{accepted_with, accepts, memory_for, memory_refusal, presented_by, refusal_by, remembering, stamp_of, unless_seen, IsAfter, IsAnswer};
+ghost use Rattle.ap_accept.specs.Accepts.{accepted_with, accepts, memory_for, memory_refusal, presented_by, refusal_by};
+ghost use Rattle.ap_accept.specs.Accepts.{remembering, stamp_of, unless_seen, IsAfter, IsAnswer};
 ghost use Rattle.ap_accept.specs.Reply.{IsApReply};
 
 use crate::accepted::Accepted;
@@ -33,16 +34,15 @@ pub fn accept(
 ) -> Result<Accepted, ApFault>
     ensures answer { IsAnswer result (accepts state.old at confounder.now ap_req.now).answer }
     ensures state { IsAfter result state.old state.new (accepts state.old at confounder.now ap_req.now).state }
-    ensures reply { IfOk result (λ accepted. IfSome (presented_by state.old ap_req.now) (λ p. IfSome accepted.ap_rep (λ octets. IsApReply p.session_key confounder.now p.authenticator octets))) }
+    ensures reply { IfOk result (λ accepted. IfSome (presented_by state.old ap_req.now) (λ p.
+        IfSome accepted.ap_rep (λ octets. IsApReply p.session_key confounder.now p.authenticator octets))) }
 {
     let Ok(request) = read_ap_req(ap_req) else {
         return Err(ApFault::NotAnApReq);
     };
     let wanted = request.ap_options.has(ApOption::MutualRequired);
-    match open_request(alloc, &state.keytab, &request)? {
-        Ok(presented) => judge(state, alloc, at, confounder, wanted, presented),
-        Err(refusal) => Err(ApFault::Refused(refusal)),
-    }
+    let presented = open_request(alloc, &state.keytab, &request)?;
+    judge(state, alloc, at, confounder, wanted, presented)
 }
 
 /// Accepts what is presented or refuses it.
@@ -54,9 +54,14 @@ fn judge(
     wanted: bool,
     presented: Presented,
 ) -> Result<Accepted, ApFault>
-    ensures answer { IsAnswer result (unless_seen state.old at.sec confounder.now wanted presented (memory_refusal state.old at.sec presented)).answer }
-    ensures state { IsAfter result state.old state.new (unless_seen state.old at.sec confounder.now wanted presented (memory_refusal state.old at.sec presented)).state }
-    ensures reply { IfOk result (λ accepted. IfSome accepted.ap_rep (λ octets. IsApReply presented.session_key confounder.now presented.authenticator octets)) }
+    ensures answer { IsAnswer result
+        (unless_seen state.old at.sec confounder.now wanted presented
+        (memory_refusal state.old at.sec presented)).answer }
+    ensures state { IsAfter result state.old state.new
+        (unless_seen state.old at.sec confounder.now wanted presented
+        (memory_refusal state.old at.sec presented)).state }
+    ensures reply { IfOk result (λ accepted. IfSome accepted.ap_rep (λ octets.
+        IsApReply presented.session_key confounder.now presented.authenticator octets)) }
 {
     if let Some(refusal) = memory_refusal(state, alloc, at, &presented) {
         return Err(ApFault::Refused(refusal));
@@ -79,7 +84,8 @@ fn memory_refusal(
     presented: &Presented,
 ) -> Option<ApRefusal>
     ensures value { result ≡ memory_refusal state.now at.sec presented.now }
-    ensures timely { IfNone result (is_skewed (memory_for state.now presented.now).floor at.sec presented.now.authenticator.ctime ≡ false) }
+    ensures timely { IfNone result
+        (is_skewed (memory_for state.now presented.now).floor at.sec presented.now.authenticator.ctime ≡ false) }
     ensures new { IfNone result (map.get (memory_for state.now presented.now).pairs (stamp_of presented.now) ≡ None) }
 {
     let opened = Clients::opened(alloc, state.opening);
@@ -109,7 +115,8 @@ fn remember(
     at: Moment,
     presented: &Presented,
 ) -> Result<(), AllocError>
-    requires timely { is_skewed (memory_for state.old presented.now).floor at.sec presented.now.authenticator.ctime ≡ false }
+    requires timely { is_skewed (memory_for state.old presented.now).floor at.sec presented.now.authenticator.ctime
+        ≡ false }
     requires new { map.get (memory_for state.old presented.now).pairs (stamp_of presented.now) ≡ None }
     ensures ok { OnOk result (state.new ≡ remembering state.old at.sec presented.now) }
     ensures err { OnErr result (state.new ≡ state.old) }

@@ -3,7 +3,7 @@ ghost use Rattle.std.specs.Prelude.{◌≡◌, ◌↔◌, ◌-ℤ◌, pos, Some,
 ghost use Rattle.krb_ap.specs.ApReq as trees;
 ghost use Rattle.krb_fields.specs.Name.{Components};
 ghost use Rattle.ap_accept.specs.Accepts.{accepts, presented_by, request_of, IsAfter, IsAnswer, IsParty, IsService};
-ghost use Rattle.ap_accept.specs.Clients.{SaysTheSame};
+ghost use Rattle.ap_accept.specs.Clients.{SaysTheSame, hour};
 ghost use Rattle.ap_accept.specs.Reply.{IsApReply};
 ghost use Rattle.ap_accept.specs.State.{clients_of, memory_of, opened};
 
@@ -68,13 +68,16 @@ impl Acceptor {
         ensures answer { IsAnswer result (accepts self.old at confounder.now ap_req.now).answer }
         ensures state { IsAfter result self.old self.new (accepts self.old at confounder.now ap_req.now).state }
         // The AP-REP, if there is one, is what the session key opens to the authenticator's time.
-        ensures reply { IfOk result (λ accepted. IfSome (presented_by self.old ap_req.now) (λ p. IfSome accepted.ap_rep (λ octets. IsApReply p.session_key confounder.now p.authenticator octets))) }
-        // No memory changes but that of the service and the client that are presented, and nothing else does. What is let
-        // go of the service's other clients says the same of every authenticator from an hour before this call on.
+        ensures reply { IfOk result (λ accepted. IfSome (presented_by self.old ap_req.now) (λ p.
+            IfSome accepted.ap_rep (λ octets. IsApReply p.session_key confounder.now p.authenticator octets))) }
+        // No memory changes but that of the service and the client that are presented, and nothing else does. What is
+        // let go of the service's other clients says the same of every authenticator from an hour before this call on.
         ensures services { (service : Components) → (IsService service (presented_by self.old ap_req.now) → ⊥)
             → clients_of self.new service ≡ clients_of self.old service }
-        ensures memories { (service client : Components) → (IsParty service client (presented_by self.old ap_req.now) → ⊥)
-            → SaysTheSame (at.sec -ℤ pos 3600) (memory_of self.new service client) (memory_of self.old service client) }
+        ensures memories { (service client : Components)
+            → (IsParty service client (presented_by self.old ap_req.now) → ⊥)
+            → SaysTheSame (at.sec -ℤ pos hour) (memory_of self.new service client)
+            (memory_of self.old service client) }
         ensures keytab { self.new.keytab ≡ self.old.keytab }
         ensures limits { self.new.limits ≡ self.old.limits }
     {

@@ -1,7 +1,10 @@
 //! The authenticator of an AP-REQ (RFC 4120, sections 3.2.3 and 5.5.1).
 ghost use Rattle.std.specs.Prelude.{◌≡◌, IfOk, option_copied};
-ghost use Rattle.ap_accept.specs.Authenticators.{authenticator_in, authenticator_of, authenticator_rules, is_mismatched, subkey_in, subkey_of};
+ghost use Rattle.ap_accept.specs.Fault.{Gives};
+ghost use Rattle.ap_accept.specs.Authenticators.{authenticator_in, authenticator_of, authenticator_rules};
+ghost use Rattle.ap_accept.specs.Authenticators.{is_mismatched, subkey_in, subkey_of};
 
+use crate::fault::ApFault;
 use crate::refusal::ApRefusal;
 use enctypes::{Key, KeyUsage};
 use krb_fields::{EncryptedDataRef, Typed};
@@ -16,11 +19,11 @@ pub fn authenticator_of(
     alloc: Global,
     key: &Key,
     sealed: &EncryptedDataRef<'_>,
-) -> Result<Result<Authenticator, ApRefusal>, AllocError>
-    ensures { IfOk result (λ found. found ≡ authenticator_of key.now sealed.now) }
+) -> Result<Authenticator, ApFault>
+    ensures { Gives result (authenticator_of key.now sealed.now) }
 {
     let found = authenticator_in(alloc, key, sealed)?;
-    Ok(found.ok_or(ApRefusal::AuthenticatorNotOpened))
+    Ok(found.ok_or(ApRefusal::AuthenticatorNotOpened)?)
 }
 
 fn authenticator_in(

@@ -3,21 +3,23 @@ ghost use Rattle.std.specs.Prelude.{◌≡◌, false, None, OnOk, OnErr};
 ghost use Rattle.std.specs.FinMap as map;
 ghost use Rattle.replay.specs.Stamp.{is_skewed};
 ghost use Rattle.replay.specs.Memory.{remembered};
-ghost use Rattle.ap_accept.specs.Clients.{empty_memory, lasts, let_go, memory_among, memory_in, opened_clients, with_memory};
+ghost use Rattle.ap_accept.specs.Clients.{empty_memory, lasts, let_go, memory_among, memory_in, opened_clients};
+ghost use Rattle.ap_accept.specs.Clients.{with_memory};
 
 use krb_fields::{Moment, Name, SKEW};
 use principal_rows::{NameMap, ValueTest};
 use replay::{Failures, Memory, Opening, Pairs};
 use std::alloc::{AllocError, Global};
 
-/// In seconds. What can't come again is let go once an hour, and only what is older than an hour and the skew of clocks.
+/// In seconds. What can't come again is let go once an hour, and only what is older than an hour and the skew of
+/// clocks.
 const HOUR: i64 = 3_600;
 
 /// The clients of a service.
 #[derive(Debug, Drop)]
 pub struct Clients {
-    /// The second since 1970 below which an authenticator of a client that has no memory is too old. Whatever was let go
-    /// lies below it.
+    /// The second since 1970 below which an authenticator of a client that has no memory is too old. Whatever was let
+    /// go lies below it.
     pub floor: i64,
     pub memories: NameMap<Memory<()>>,
 }

@@ -1,6 +1,6 @@
 //! Why a call to accept an AP-REQ gives nothing.
 ghost use Rattle.std.specs.Prelude.{◌≡◌};
-ghost use Rattle.ap_accept.specs.declared.fault.ApFault.TheVariants.{Memory};
+ghost use Rattle.ap_accept.specs.declared.fault.ApFault.TheVariants.{Refused, Memory};
 
 use crate::refusal::ApRefusal;
 use std::alloc::AllocError;
@@ -12,6 +12,7 @@ use std::fmt;
 pub enum ApFault {
     /// The octets spell no AP-REQ.
     NotAnApReq,
+    /// By this rule.
     Refused(ApRefusal),
     Memory,
 }
@@ -28,8 +29,16 @@ impl fmt::Display for ApFault {
 
 impl Error for ApFault {}
 
+impl From<ApRefusal> for ApFault {
+    ghost from_gives = { λ refusal fault. fault ≡ Refused refusal };
+
+    fn from(refusal: ApRefusal) -> ApFault {
+        ApFault::Refused(refusal)
+    }
+}
+
 impl From<AllocError> for ApFault {
-    ghost from_gives = { λ _ e. e ≡ Memory };
+    ghost from_gives = { λ _ fault. fault ≡ Memory };
 
     fn from(_error: AllocError) -> ApFault {
         ApFault::Memory

@@ -34,8 +34,10 @@ impl State {
         ctime: i64,
         cusec: u32,
     ) -> Result<(), AllocError>
-        requires timely { is_skewed (memory_of self.old service.now.components client.now.components).floor at.sec ctime ≡ false }
-        requires new { map.get (memory_of self.old service.now.components client.now.components).pairs (ctime, cusec) ≡ None }
+        requires timely { is_skewed (memory_of self.old service.now.components client.now.components).floor at.sec ctime
+            ≡ false }
+        requires new { map.get (memory_of self.old service.now.components client.now.components).pairs (ctime, cusec)
+            ≡ None }
         ensures ok { OnOk result (self.new ≡ with_clients self.old service.now.components
             (let_go at.sec (with_memory (clients_of self.old service.now.components) client.now.components
             (remembered (memory_of self.old service.now.components client.now.components) at.sec (ctime, cusec) tt)))) }

@@ -1,8 +1,9 @@
 //! The AP-REP by which a service shows that it has the session key (RFC 4120, sections 3.2.4 and 5.5.2).
 ghost use Rattle.std.specs.Prelude.{◌≡◌, ◌<◌, ◌≤◌, ◌^◌, length, Some, IfOk, IfSome};
+ghost use Rattle.enctypes.specs.KeyUsage.{usage_number};
 ghost use Rattle.krb_ap.specs.ApRep.{ap_rep};
 ghost use Rattle.krb_parts.specs.EncApRepPart.{enc_ap_rep_part};
-ghost use Rattle.sealed_parts.specs.Parts.{opened_as};
+ghost use Rattle.sealed_parts.specs.Encrypted.{decrypted};
 ghost use Rattle.ap_accept.specs.Reply.{IsApReply, reply_if, reply_of, reply_part};
 
 use enctypes::{Key, KeyUsage};
@@ -22,7 +23,8 @@ pub fn reply_if(
     authenticator: &Authenticator,
 ) -> Result<Option<Octets>, AllocError>
     ensures value { IfOk result (λ reply. reply ≡ reply_if asked key.now confounder.now authenticator.now) }
-    ensures opens { IfOk result (λ reply. IfSome reply (λ octets. IsApReply key.now confounder.now authenticator.now octets)) }
+    ensures opens { IfOk result (λ reply.
+        IfSome reply (λ octets. IsApReply key.now confounder.now authenticator.now octets)) }
 {
     if !asked {
         return Ok(None);
@@ -38,7 +40,9 @@ fn reply_of(
     authenticator: &Authenticator,
 ) -> Result<ApRep, AllocError>
     ensures value { IfOk result (λ reply. reply ≡ reply_of key.now confounder.now authenticator.now) }
-    ensures opens { IfOk result (λ reply. opened_as enc_ap_rep_part key.now.etype key.now.bytes 12 reply.enc_part.cipher ≡ Some (reply_part authenticator.now)) }
+    ensures opens { IfOk result (λ reply.
+        decrypted enc_ap_rep_part key.now (usage_number KeyUsage.ApRepEncPart) reply.enc_part
+        ≡ Some (reply_part authenticator.now)) }
     ensures short { IfOk result (λ reply. length (ap_rep.text reply) < 2 ^ 32) }
 {
     let part = reply_part(authenticator);

@@ -1,8 +1,12 @@
 //! The ticket of an AP-REQ (RFC 4120, section 3.2.3).
 ghost use Rattle.std.specs.Prelude.{◌≡◌, ◌∷◌, ◌&&◌, Some, IfOk, is_none, is_some, option_copied, option_map};
+ghost use Rattle.enctypes.specs.KeyUsage.{usage_number};
 ghost use Rattle.krb_parts.specs.EncTicketPart.{enc_ticket_part};
-ghost use Rattle.ap_accept.specs.Tickets.{entry_for, is_other_version, lacks_service, lacks_type, opened_with, part_rules, session_key_of, ticket_key, ticket_of, ticket_rules};
+ghost use Rattle.ap_accept.specs.Fault.{Gives};
+ghost use Rattle.ap_accept.specs.Tickets.{entry_for, is_other_version, lacks_service, lacks_type, opened_with};
+ghost use Rattle.ap_accept.specs.Tickets.{part_rules, session_key_of, ticket_key, ticket_of, ticket_rules};
 
+use crate::fault::ApFault;
 use crate::refusal::ApRefusal;
 use cred_files::Keytab;
 use enctypes::{Etype, Key, KeyUsage};
@@ -22,15 +26,15 @@ pub fn ticket_of(
     alloc: Global,
     keytab: &Keytab,
     request: &ApReqRef<'_>,
-) -> Result<Result<EncTicketPart, ApRefusal>, AllocError>
-    ensures { IfOk result (λ found. found ≡ ticket_of keytab.now request.now) }
+) -> Result<EncTicketPart, ApFault>
+    ensures { Gives result (ticket_of keytab.now request.now) }
 {
     let ticket = &request.ticket;
     let service = ticket.sname.to_name(alloc)?;
     let key = ticket_key(keytab, ticket, &service);
     let rules = ticket_rules(keytab, request, &service, key);
     let part = part_of(alloc, key, &ticket.enc_part)?;
-    Ok(decide(&rules, part, ApRefusal::TicketNotOpened))
+    Ok(decide(&rules, part, ApRefusal::TicketNotOpened)?)
 }
 
 fn ticket_rules(
@@ -121,7 +125,9 @@ fn numbered_key<'k>(
     etype: Etype,
     kvno: UInt32,
 ) -> Option<&'k Key>
-    ensures { option_copied result ≡ option_map (λ e. e.key) (entry_for keytab.now (realm.now ∷ service.now.components) (Some etype) (Some kvno)) }
+    ensures { option_copied result
+        ≡ option_map (λ e. e.key)
+        (entry_for keytab.now (realm.now ∷ service.now.components) (Some etype) (Some kvno)) }
 {
     let version = u32::try_from(kvno.get()).ok()?;
     keytab.find(realm, service, etype, Some(version)).ok()
@@ -133,7 +139,9 @@ fn part_of(
     key: Option<&Key>,
     sealed: &EncryptedDataRef<'_>,
 ) -> Result<Option<EncTicketPart>, AllocError>
-    ensures { IfOk result (λ found. found ≡ opened_with enc_ticket_part 2 (option_copied key.entry) sealed.now.cipher) }
+    ensures { IfOk result (λ found.
+        found
+        ≡ opened_with enc_ticket_part (usage_number KeyUsage.Ticket) (option_copied key.entry) sealed.now.cipher) }
 {
     match key {
         Some(key) => open_part(alloc, key, KeyUsage::Ticket, sealed.cipher.as_slice()),

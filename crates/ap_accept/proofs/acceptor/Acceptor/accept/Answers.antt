@@ -1,5 +1,6 @@
-use Rattle.std.proofs.Common.{rules, ◌≡◌, ◌-ℤ◌, pos, refl, sym, ap, subst, ◌∙◌, arith}
+use Rattle.std.proofs.Common.{rules, ◌≡◌, refl, sym, ap, subst, ◌∙◌, arith}
 use Rattle.ap_accept.specs.Accepts.{accepts, presented_by, IsParty, IsService}
+use Rattle.ap_accept.specs.Clients.{floor_for}
 use Rattle.ap_accept.specs.State.{clients_of, memory_of}
 use Rattle.ap_accept.specs.declared.state.State.{State}
 use Rattle.ap_accept.proofs.Frame.{accepts_keeps, call_keeps, others_alike, others_stay}
@@ -24,12 +25,12 @@ returns-clause-memories c service client other =
     let state = c.self.inside.state in
     let octets = c.args.ap_req.now in
     let is : state ≡ c.args.self.now = search rules in
-    let alike : raised (c.args.at.sec -ℤ pos 3900) (memory_of c.accept.new.state service client) ≡ raised (c.args.at.sec -ℤ pos 3900) (memory_of state service client) =
-    call_keeps (λ s. raised (c.args.at.sec -ℤ pos 3900) (memory_of s service client) ≡ raised (c.args.at.sec -ℤ pos 3900) (memory_of state service client))
+    let alike : raised (floor_for c.args.at.sec) (memory_of c.accept.new.state service client) ≡ raised (floor_for c.args.at.sec) (memory_of state service client) =
+    call_keeps (λ s. raised (floor_for c.args.at.sec) (memory_of s service client) ≡ raised (floor_for c.args.at.sec) (memory_of state service client))
     c.accept.result state c.accept.new.state (accepts state c.args.at c.args.confounder.now octets).state c.accept.ensures.state refl
     (others_alike state service client c.args.at c.args.confounder.now octets (subst (λ (s : State). IsParty service client (presented_by s octets) → ⊥) (sym is) other)) in
     same_from c.args.at.sec (memory_of c.accept.new.state service client) (memory_of c.args.self.now service client)
-    (alike ∙ ap (λ s. raised (c.args.at.sec -ℤ pos 3900) (memory_of s service client)) is)
+    (alike ∙ ap (λ s. raised (floor_for c.args.at.sec) (memory_of s service client)) is)
 
 pub returns-clause-keytab : goal.returns-clause-keytab
 returns-clause-keytab c =
