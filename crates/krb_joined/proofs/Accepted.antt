@@ -12,11 +12,15 @@ use Rattle.enctypes.specs.Key.{IsKey}
 use Rattle.enctypes.specs.declared.etype.Etype.{Etype}
 use Rattle.enctypes.specs.declared.etype.Etype.TheVariants.{Aes128CtsHmacSha1_96, Aes256CtsHmacSha1_96}
 use Rattle.enctypes.specs.declared.etype.Etype.TheVariants.{Aes128CtsHmacSha256_128, Aes256CtsHmacSha384_192}
+use Rattle.enctypes.specs.KeyUsage.{usage_number}
 use Rattle.enctypes.specs.declared.key.Key.{Key}
+use Rattle.enctypes.specs.declared.key_usage.KeyUsage.TheVariants.{ApReqAuthenticator}
+use Rattle.enctypes.specs.declared.key_usage.KeyUsage.TheVariants.{Ticket as TicketUsage}
 use Rattle.krb_ap.specs.ApReq.{ApReq}
 use Rattle.krb_fields.specs.ApOption.{ap_option_number}
 use Rattle.krb_fields.specs.Flags.{has_bit}
 use Rattle.krb_fields.specs.Name.{Components, name_cmp, tied_exactly}
+use Rattle.krb_fields.specs.Skew.{skew}
 use Rattle.krb_fields.specs.declared.ap_option.ApOption.TheVariants.{MutualRequired, UseSessionKey}
 use Rattle.krb_fields.specs.declared.moment.Moment.{Moment}
 use Rattle.krb_parts.specs.Authenticator.{Authenticator, authenticator}
@@ -32,7 +36,8 @@ use Rattle.client_core.specs.ServiceRequests.{ap_authenticator, ap_options, asks
 use Rattle.client_core.specs.declared.service_asked.ServiceAsked.{ServiceAsked}
 use Rattle.ap_accept.specs.Accepts.{accepted, accepts, if_presented, if_request, refusal_by, request_of, unless_invalid, unless_seen}
 use Rattle.ap_accept.specs.Authenticators.{authenticator_of, subkey_in, subkey_of}
-use Rattle.ap_accept.specs.Presented.{if_authenticator, if_session_key, if_subkey, if_ticket, presented, presented_as}
+use Rattle.ap_accept.specs.Presented.{presented, presented_as}
+use Rattle.ap_accept.specs.PresentedLaws.{all_found}
 use Rattle.ap_accept.specs.Reply.{asks_reply}
 use Rattle.ap_accept.specs.Tickets.{entry_for, opened_with, session_key_of, service_of, ticket_key, ticket_of}
 use Rattle.ap_accept.specs.Validity.{terms_of, validity_rules}
@@ -147,9 +152,9 @@ module _ (issue : Issue) (state : State) (sent : Moment) (asked : ServiceAsked) 
     ticket_by asks service type version opened =
         unless_refused (first_holding ((false, BadVersion) ∷ (false, BadMessageType) ∷ (asks, SessionKeyAsked) ∷ (not service, NotForUs) ∷ (not type, NoKey) ∷ (version, BadKeyVersion) ∷ [])) opened TicketNotOpened
 
-    pub ticket_is : decrypted enc_ticket_part issue.service_key.key 2 (issued_ticket issue).enc_part ≡ Some part → ticket_of state.keytab ap_req ≡ Ok part
+    pub ticket_is : decrypted enc_ticket_part issue.service_key.key (usage_number TicketUsage) (issued_ticket issue).enc_part ≡ Some part → ticket_of state.keytab ap_req ≡ Ok part
     ticket_is opens =
-        let found = ap (λ (k : Option Key). opened_with enc_ticket_part 2 k (issued_ticket issue).enc_part.cipher) held ∙ opens in
+        let found = ap (λ (k : Option Key). opened_with enc_ticket_part (usage_number TicketUsage) k (issued_ticket issue).enc_part.cipher) held ∙ opens in
         λ i. ticket_by (no_session_key asked.mutual_required i) (service_held i) (type_held i) (is_none (held i)) (found i)
 
   abbrev session_by : Bool → Option Key → Result Key ApRefusal
@@ -158,7 +163,7 @@ module _ (issue : Issue) (state : State) (sent : Moment) (asked : ServiceAsked) 
   session_is : length key.bytes ≡ key_len key.etype → session_key_of issue.grant.realm part ≡ Ok key
   session_is size = λ i. session_by (same_octets issue.grant.realm i) (key_again key size i)
 
-  authenticator_is : decrypted authenticator key 11 ap_req.authenticator ≡ Some auth → authenticator_of key ap_req.authenticator ≡ Ok auth
+  authenticator_is : decrypted authenticator key (usage_number ApReqAuthenticator) ap_req.authenticator ≡ Some auth → authenticator_of key ap_req.authenticator ≡ Ok auth
   authenticator_is opens = λ i. unless_found (cond (same_number (number key.etype) i) (opens i) None) AuthenticatorNotOpened
 
   abbrev subkey_by : Bool → Bool → Option (Option Key) → Result (Option Key) ApRefusal
@@ -168,13 +173,11 @@ module _ (issue : Issue) (state : State) (sent : Moment) (asked : ServiceAsked) 
   subkey_is valid = λ i. subkey_by (same_octets issue.grant.realm i) (same_name issue.grant.client.components i) (subkey_read asked.subkey valid i)
 
   -- what the client needs to know of the ticket, and the service of both
-  pub presented_is : ticket_key state.keytab (issued_ticket issue) ≡ Some issue.service_key.key → decrypted enc_ticket_part issue.service_key.key 2 (issued_ticket issue).enc_part ≡ Some part
-      → length key.bytes ≡ key_len key.etype → decrypted authenticator key 11 ap_req.authenticator ≡ Some auth → IfSome asked.subkey IsKey → presented state.keytab ap_req ≡ Ok p
+  pub presented_is : ticket_key state.keytab (issued_ticket issue) ≡ Some issue.service_key.key → decrypted enc_ticket_part issue.service_key.key (usage_number TicketUsage) (issued_ticket issue).enc_part ≡ Some part
+      → length key.bytes ≡ key_len key.etype → decrypted authenticator key (usage_number ApReqAuthenticator) ap_req.authenticator ≡ Some auth → IfSome asked.subkey IsKey → presented state.keytab ap_req ≡ Ok p
   presented_is held opens size opened valid =
-      ap (if_ticket ap_req) (ticket_is held opens)
-      ∙ ap (if_session_key ap_req part) (session_is size)
-      ∙ ap (if_authenticator ap_req part key) (authenticator_is opened)
-      ∙ ap (if_subkey ap_req part key auth) (subkey_is valid)
+      all_found ap_req state.keytab part key auth asked.subkey
+      (ticket_is held opens) (session_is size) (authenticator_is opened) (subkey_is valid)
 
   -- ---- what is answered
 
@@ -183,7 +186,7 @@ module _ (issue : Issue) (state : State) (sent : Moment) (asked : ServiceAsked) 
 
   module _ (at : Moment) (may : MayBeAccepted issue state at.sec sent) where
     valid_is : first_holding (validity_rules (terms_of part) at.sec) ≡ None
-    valid_is = λ i. invalid_by (not_below (at.sec +ℤ pos 300) issue.grant.times.start may.started i) (may.valid i) (not_below issue.grant.times.end (at.sec -ℤ pos 300) may.not_ended i)
+    valid_is = λ i. invalid_by (not_below (at.sec +ℤ pos skew) issue.grant.times.start may.started i) (may.valid i) (not_below issue.grant.times.end (at.sec -ℤ pos skew) may.not_ended i)
 
     pub answer_is : (own octets : List ℕ) → request_of octets ≡ Some ap_req → presented state.keytab ap_req ≡ Ok p → (accepts state at own octets).answer ≡ Ok (accepted own asked.mutual_required p)
     answer_is own octets read opened =

@@ -4,7 +4,9 @@ use Rattle.std.specs.Prelude.{IfSome}
 use Rattle.std.specs.Result.{result_ok}
 use Rattle.cred_files.specs.declared.credential.Credential.{Credential}
 use Rattle.enctypes.specs.Key.{IsKey}
+use Rattle.enctypes.specs.KeyUsage.{usage_number}
 use Rattle.enctypes.specs.declared.key.Key.{Key}
+use Rattle.enctypes.specs.declared.key_usage.KeyUsage.TheVariants.{ApReqAuthenticator}
 use Rattle.krb_ap.specs.ApReq.{ap_req}
 use Rattle.krb_elements.specs.Laws.{whole_ok}
 use Rattle.krb_fields.specs.declared.moment.Moment.{Moment}
@@ -71,17 +73,17 @@ reply_there false key own a = refl
 module _ (issue : Issue) (state : State) (credential : Credential) (sent at : Moment) (asked : ServiceAsked) (confounder own octets made : List ℕ) (same : octets ≡ made)
     (of : IsCredentialOf issue credential) (may : MayBeAccepted issue state at.sec sent) (valid : IfSome asked.subkey IsKey)
     (spelled : IfSome (session credential) (λ s. ap_req.Spells (asks_ap credential.client s sent asked confounder) made))
-    (opens : IfSome (session credential) (λ s. decrypted authenticator s.key 11 (asks_ap credential.client s sent asked confounder).authenticator ≡ Some (ap_authenticator credential.client sent asked))) where
+    (opens : IfSome (session credential) (λ s. decrypted authenticator s.key (usage_number ApReqAuthenticator) (asks_ap credential.client s sent asked confounder).authenticator ≡ Some (ap_authenticator credential.client sent asked))) where
   own_spelled : ap_req.Spells (asks_ap (issued_credential issue).client (issued_session issue) sent asked confounder) octets
   own_spelled =
       subst (λ (l : List ℕ). ap_req.Spells (asks_ap (issued_credential issue).client (issued_session issue) sent asked confounder) l) (sym same)
       (subst (λ (c : Credential). ap_req.Spells (asks_ap c.client (issued_session issue) sent asked confounder) made) of.is
       (subst (λ (o : Option Session). IfSome o (λ s. ap_req.Spells (asks_ap credential.client s sent asked confounder) made)) of.session spelled))
 
-  own_opens : decrypted authenticator issue.grant.session_key 11 (asks_ap (issued_credential issue).client (issued_session issue) sent asked confounder).authenticator ≡ Some (auth issue state sent asked confounder)
+  own_opens : decrypted authenticator issue.grant.session_key (usage_number ApReqAuthenticator) (asks_ap (issued_credential issue).client (issued_session issue) sent asked confounder).authenticator ≡ Some (auth issue state sent asked confounder)
   own_opens =
-      subst (λ (c : Credential). decrypted authenticator issue.grant.session_key 11 (asks_ap c.client (issued_session issue) sent asked confounder).authenticator ≡ Some (ap_authenticator c.client sent asked)) of.is
-      (subst (λ (o : Option Session). IfSome o (λ s. decrypted authenticator s.key 11 (asks_ap credential.client s sent asked confounder).authenticator ≡ Some (ap_authenticator credential.client sent asked))) of.session opens)
+      subst (λ (c : Credential). decrypted authenticator issue.grant.session_key (usage_number ApReqAuthenticator) (asks_ap c.client (issued_session issue) sent asked confounder).authenticator ≡ Some (ap_authenticator c.client sent asked)) of.is
+      (subst (λ (o : Option Session). IfSome o (λ s. decrypted authenticator s.key (usage_number ApReqAuthenticator) (asks_ap credential.client s sent asked confounder).authenticator ≡ Some (ap_authenticator credential.client sent asked))) of.session opens)
 
   read : request_of octets ≡ Some (asks_ap (issued_credential issue).client (issued_session issue) sent asked confounder)
   read = ap ok_of ((whole_ok ap_req.Spells ap_req.at ap_req.laws.element.reading).again (asks_ap (issued_credential issue).client (issued_session issue) sent asked confounder) octets own_spelled)

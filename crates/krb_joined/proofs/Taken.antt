@@ -4,6 +4,7 @@ use Rattle.std.specs.Option.{unwrap_or}
 use Rattle.cred_files.specs.declared.credential.Credential.{Credential}
 use Rattle.enctypes.specs.KeyUsage.{usage_number}
 use Rattle.enctypes.specs.declared.key.Key.{Key}
+use Rattle.enctypes.specs.declared.key_usage.KeyUsage.TheVariants.{AsRepEncPart}
 use Rattle.krb_der.specs.Spelling.{IsBytes}
 use Rattle.krb_der.specs.StepLaws.{ok_is}
 use Rattle.krb_elements.specs.Format.{whole}
@@ -49,7 +50,7 @@ reply_or_error Tgs reply error bytes s t =
 -- ---- the part, by the key's role
 
 opens_so : (role : KeyRole) (key : Key) (sealed : EncryptedData) (part : EncKdcRepPart) → opened_in (part_tag (exchange_of role)) key (usage_of role) sealed ≡ Some part → opened_as role key sealed ≡ Some part
-opens_so Client key sealed part e = ap (λ (o : Option EncKdcRepPart). or_else o (opened_in 26 key 3 sealed)) e
+opens_so Client key sealed part e = ap (λ (o : Option EncKdcRepPart). or_else o (opened_in 26 key (usage_number AsRepEncPart) sealed)) e
 opens_so Subkey key sealed part e = e
 opens_so Session key sealed part e = e
 

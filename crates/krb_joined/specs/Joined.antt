@@ -1,6 +1,8 @@
 -- What comes of a ticket that was issued: the service that it is for accepts the client.
-use Rattle.std.specs.Prelude.{◌≡◌, ⊤, false, ℕ, ℤ, pos, ◌+ℤ◌, ◌-ℤ◌, ◌≤ℤ◌, List, Option, Some, None, is_some, Result, Ok, Err, IfSome, IsOk}
+use Rattle.std.specs.Prelude.{◌≡◌, ⊤, false, ℕ, ℤ, pos, ◌+ℤ◌, ◌-ℤ◌, ◌≤ℤ◌, List, Option, Some, None, is_some, Result}
+use Rattle.std.specs.Prelude.{Ok, Err, IfSome, IsOk}
 use Rattle.krb_fields.specs.Flags.{has_bit}
+use Rattle.krb_fields.specs.Skew.{skew}
 use Rattle.krb_fields.specs.TicketFlag.{ticket_flag_number}
 use Rattle.krb_fields.specs.declared.moment.Moment.{Moment}
 use Rattle.krb_fields.specs.declared.ticket_flag.TicketFlag.TheVariants.{Invalid}
@@ -28,24 +30,26 @@ use Rattle.krb_joined.specs.Credential.{issued_credential}
 use Rattle.krb_joined.specs.Reading.{reads_reply}
 use Rattle.krb_joined.specs.declared.fault.JoinedFault.{JoinedFault}
 use Rattle.krb_joined.specs.declared.reading.Reader.{Reader}
-use Rattle.krb_joined.specs.declared.fault.JoinedFault.TheVariants.{NoReply, NotTaken, NotPresentable, NotAccepted, NotAnswered, Memory}
+use Rattle.krb_joined.specs.declared.fault.JoinedFault.TheVariants.{NoReply, NotTaken, NotPresentable, NotAccepted}
+use Rattle.krb_joined.specs.declared.fault.JoinedFault.TheVariants.{NotAnswered, Memory}
 
--- What has to hold at the service, at the second `now`, for an AP-REQ that was sent at a moment: the keytab's entry that the
--- acceptor picks holds the key that sealed the ticket; the ticket is valid by flag and times; and the authenticator's time is
--- fresh in the memory of this client at this service.
+-- What has to hold at the service, at the second `now`, for an AP-REQ that was sent at a moment: the keytab's entry
+-- that the acceptor picks holds the key that sealed the ticket; the ticket is valid by flag and times; and the
+-- authenticator's time is fresh in the memory of this client at this service.
 pub record MayBeAccepted (issue : Issue) (state : State) (now : ℤ) (sent : Moment) : Type 0 where
   pub key : ticket_key state.keytab (issued_ticket issue) ≡ Some issue.service_key.key
   pub valid : has_bit issue.grant.flags (ticket_flag_number Invalid) ≡ false
-  pub started : issue.grant.times.start ≤ℤ (now +ℤ pos 300)
-  pub not_ended : (now -ℤ pos 300) ≤ℤ issue.grant.times.end
-  pub fresh : verdict (memory_of state (service_of (issued_ticket issue)) issue.grant.client.components) now (sent.sec, sent.usec) state.limits.remembered ≡ Fresh
+  pub started : issue.grant.times.start ≤ℤ (now +ℤ pos skew)
+  pub not_ended : (now -ℤ pos skew) ≤ℤ issue.grant.times.end
+  pub fresh : verdict (memory_of state (service_of (issued_ticket issue)) issue.grant.client.components) now
+      (sent.sec, sent.usec) state.limits.remembered ≡ Fresh
 
 -- the authenticator's time, and no more: what a service seals into the AP-REP
 abbrev pub moment_part : Moment → EncApRepPart
 moment_part sent = record { ctime = sent.sec; cusec = sent.usec; subkey = None; seq_number = None }
 
--- What the service learns is what was granted (the client, the session key, and the ticket's flags and times) and what the client
--- sent at this moment. An AP-REP is there exactly where the client asked for one, and the client takes it.
+-- What the service learns is what was granted (the client, the session key, and the ticket's flags and times) and what
+-- the client sent at this moment. An AP-REP is there exactly where the client asked for one, and the client takes it.
 pub record IsAccepted (issue : Issue) (wanted : ServiceAsked) (sent : Moment) (accepted : Accepted) : Type 0 where
   pub client : accepted.client ≡ record { realm = issue.grant.realm; name = issue.grant.client }
   pub session_key : accepted.session_key ≡ issue.grant.session_key
@@ -56,8 +60,9 @@ pub record IsAccepted (issue : Issue) (wanted : ServiceAsked) (sent : Moment) (a
   pub replied : is_some accepted.ap_rep ≡ wanted.mutual_required
   pub heard : IfSome accepted.ap_rep (λ octets. reads_ap issue.grant.session_key sent octets ≡ Ok (moment_part sent))
 
--- The service doesn't refuse the client, nor the client the service's reply, but for want of memory. Else it ended before the
--- service was asked: the client didn't take the reply (`IsEnded` says when), or what it took can't be presented.
+-- The service doesn't refuse the client, nor the client the service's reply, but for want of memory. Else it ended
+-- before the service was asked: the client didn't take the reply (`IsEnded` says when), or what it took can't be
+-- presented.
 abbrev pub IsJoined : Issue → ServiceAsked → Moment → Result Accepted JoinedFault → Type 0
 IsJoined issue wanted sent (Ok accepted) = IsAccepted issue wanted sent accepted
 IsJoined issue wanted sent (Err (NotAccepted fault)) = fault ≡ ap_faults.Memory
@@ -104,8 +109,8 @@ abbrev pub IsAnswered : Key → Moment → Option (List ℕ) → Type 0
 IsAnswered key sent (Some octets) = IsOk (reads_ap key sent octets)
 IsAnswered key sent None = ⊤
 
--- What comes of a credential that the client took, whoever issued it: it can't be presented, or else the client took the
--- AP-REP before anything was accepted.
+-- What comes of a credential that the client took, whoever issued it: it can't be presented, or else the client took
+-- the AP-REP before anything was accepted.
 abbrev pub IsPresented : Credential → Moment → Result Accepted JoinedFault → Type 0
 IsPresented credential sent (Ok accepted) = IfSome (session_key credential) (λ key. IsAnswered key sent accepted.ap_rep)
 IsPresented credential sent (Err NotPresentable) = is_presentable credential ≡ false

@@ -2,6 +2,8 @@
 use Rattle.std.specs.Prelude.{◌≡◌, ℕ, List, Result}
 use Rattle.cred_files.specs.declared.credential.Credential.{Credential}
 use Rattle.enctypes.specs.KeyUsage.{usage_number}
+use Rattle.enctypes.specs.declared.key_usage.KeyUsage.TheVariants.{AsRepEncPart, TgsRepEncPartSubkey}
+use Rattle.enctypes.specs.declared.key_usage.KeyUsage.TheVariants.{TgsRepEncPartSessionKey}
 use Rattle.krb_types.specs.declared.kdc_req.Exchange.{Exchange}
 use Rattle.krb_types.specs.declared.kdc_req.Exchange.TheVariants.{As, Tgs}
 use Rattle.kdc_replies.specs.Issue.{Issue, reply_type}
@@ -19,9 +21,9 @@ exchange_of Subkey = Tgs
 exchange_of Session = Tgs
 
 abbrev pub usage_of : KeyRole → ℕ
-usage_of Client = 3
-usage_of Subkey = 9
-usage_of Session = 8
+usage_of Client = usage_number AsRepEncPart
+usage_of Subkey = usage_number TgsRepEncPartSubkey
+usage_of Session = usage_number TgsRepEncPartSessionKey
 
 -- the client reads the reply as its exchange says, with the reply key and its usage
 pub record IsReader (reader : Reader) (issue : Issue) : Type 0 where
@@ -31,8 +33,10 @@ pub record IsReader (reader : Reader) (issue : Issue) : Type 0 where
 
 -- what the client's rules make of the octets of a reply: a credential, or the first fault
 abbrev pub reads_reply : Reader → Asked → List ℕ → Result Credential ClientFault
-reads_reply reader asked octets = reads (reply_type (exchange_of reader.role)) reader.role asked reader.key reader.at.sec octets
+reads_reply reader asked octets =
+    reads (reply_type (exchange_of reader.role)) reader.role asked reader.key reader.at.sec octets
 
 -- the octets are a reply to the request, and give this credential
 abbrev pub IsTakenBy : Reader → Asked → List ℕ → Credential → Type 0
-IsTakenBy reader asked octets credential = IsTaken (reply_type (exchange_of reader.role)) reader.role asked reader.key reader.at.sec octets credential
+IsTakenBy reader asked octets credential =
+    IsTaken (reply_type (exchange_of reader.role)) reader.role asked reader.key reader.at.sec octets credential

@@ -1,4 +1,5 @@
-//! A ticket's whole way: a KDC issues it, a client takes it from the reply and presents it, and a service accepts the client.
+//! A ticket's whole way: a KDC issues it, a client takes it from the reply and presents it, and a service accepts the
+//! client.
 #![tactic(auto)]
 
 mod client;

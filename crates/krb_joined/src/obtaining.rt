@@ -34,13 +34,19 @@ pub fn obtain(
     asked: &Asked,
     reader: &Reader,
 ) -> Result<Credential, JoinedFault>
-    // Where the KDC issues a ticket, and the client reads the reply with its key, it takes the credential of that ticket.
-    ensures obtained { IfOk result (λ credential. IfSome (issued (view kdc.old request.now) issuing.now.at issuing.now.words (request_of request.now)) (λ issue.
+    // Where the KDC issues a ticket, and the client reads the reply with its key, it takes the credential of that
+    // ticket.
+    ensures obtained { IfOk result (λ credential.
+        IfSome (issued (view kdc.old request.now) issuing.now.at issuing.now.words (request_of request.now)) (λ issue.
         IsReader reader.now issue → IsCredentialOf issue credential)) }
-    ensures read { IfOk result (IsRead (answer (view kdc.old request.now) issuing.now.at issuing.now.words issuing.now.room request.now).reply asked.now reader.now) }
+    ensures read { IfOk result (IsRead
+        (answer (view kdc.old request.now) issuing.now.at issuing.now.words issuing.now.room request.now).reply
+        asked.now reader.now) }
     // Else it ends before a service is asked: without a reply, or with one that the client's rules don't take.
     ensures before { IfErr result IsBefore }
-    ensures ended { IfErr result (IsEnded (answer (view kdc.old request.now) issuing.now.at issuing.now.words issuing.now.room request.now).reply asked.now reader.now) }
+    ensures ended { IfErr result (IsEnded
+        (answer (view kdc.old request.now) issuing.now.at issuing.now.words issuing.now.room request.now).reply
+        asked.now reader.now) }
 {
     let reply = kdc.handle(alloc, issuing.at, &issuing.words, issuing.room, request)?;
     let Some(octets) = reply else {

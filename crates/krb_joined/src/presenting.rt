@@ -14,7 +14,8 @@ use enctypes::Key;
 use krb_fields::Moment;
 use std::alloc::Global;
 
-/// When somebody seals something, and by which 16 random octets: the client its authenticator, or the service its AP-REP.
+/// When somebody seals something, and by which 16 random octets: the client its authenticator, or the service its
+/// AP-REP.
 #[derive(Debug, Clone, Copy)]
 pub struct Sealing {
     pub at: Moment,
@@ -32,7 +33,9 @@ pub fn present(
 ) -> Result<Accepted, JoinedFault>
     requires { IsShortChecksum asked.now.checksum }
     // The credential of a ticket that was issued is accepted.
-    ensures value { (issue : Issue) → IsCredentialOf issue credential.now → MayBeAccepted issue acceptor.old accepting.now.at.sec presenting.now.at → IsJoined issue asked.now presenting.now.at result }
+    ensures value { (issue : Issue) → IsCredentialOf issue credential.now
+        → MayBeAccepted issue acceptor.old accepting.now.at.sec presenting.now.at
+        → IsJoined issue asked.now presenting.now.at result }
     ensures presented { IsPresented credential.now presenting.now.at result }
     ensures later { IfErr result IsLater }
 {

@@ -9,7 +9,8 @@ use enctypes::Key;
 use krb_fields::Moment;
 use std::alloc::Global;
 
-/// By which key a client reads a reply, and when. A client's own key is that of an AS-REP, the others are those of a TGS-REP.
+/// By which key a client reads a reply, and when. A client's own key is that of an AS-REP, the others are those of a
+/// TGS-REP.
 #[derive(Debug, Clone, Copy)]
 pub struct Reader {
     pub role: KeyRole,
