@@ -1,7 +1,9 @@
 -- Requests and what they are made of.
 use Rattle.std.proofs.Common.{◌≡◌, ◌∙◌, ℕ, ℤ, pos, List, [], ◌∷◌, Option, Some, None, ap, to_z, of_z, w32}
 use Rattle.cred_files.specs.declared.principal.Principal.{Principal}
+use Rattle.enctypes.specs.KeyUsage.{usage_number}
 use Rattle.enctypes.specs.declared.key.Key.{Key}
+use Rattle.enctypes.specs.declared.key_usage.KeyUsage.TheVariants.{ApReqAuthenticator}
 use Rattle.krb_ap.specs.ApReq.{ApReq}
 use Rattle.krb_fields.specs.PaData.{PaData}
 use Rattle.krb_fields.specs.Typed.{Typed}
@@ -35,10 +37,10 @@ tgs_req_is asked client session at subkey confounder body entry padata one made 
     ∙ ap (λ (b : ReqBody). request_of Tgs (Some (tgs_data client session at subkey confounder b ∷ [])) b) is
 
 pub ap_req_is : (client : Principal) (session : Session) (at : Moment) (asked : ServiceAsked) (confounder : List ℕ) (cksum : Option Typed) (options : ℕ) (auth : Authenticator) (request : ApReq)
-    → cksum ≡ asked.checksum → options ≡ ap_options asked.mutual_required → auth ≡ authenticator_of client at cksum asked.subkey asked.seq_number → request ≡ presents session options 11 confounder auth
+    → cksum ≡ asked.checksum → options ≡ ap_options asked.mutual_required → auth ≡ authenticator_of client at cksum asked.subkey asked.seq_number → request ≡ presents session options (usage_number ApReqAuthenticator) confounder auth
     → request ≡ asks_ap client session at asked confounder
 ap_req_is client session at asked confounder cksum options auth request same chosen says is =
     is
-    ∙ ap (λ (o : ℕ). presents session o 11 confounder auth) chosen
-    ∙ ap (λ (a : Authenticator). presents session (ap_options asked.mutual_required) 11 confounder a) says
-    ∙ ap (λ (k : Option Typed). presents session (ap_options asked.mutual_required) 11 confounder (authenticator_of client at k asked.subkey asked.seq_number)) same
+    ∙ ap (λ (o : ℕ). presents session o (usage_number ApReqAuthenticator) confounder auth) chosen
+    ∙ ap (λ (a : Authenticator). presents session (ap_options asked.mutual_required) (usage_number ApReqAuthenticator) confounder a) says
+    ∙ ap (λ (k : Option Typed). presents session (ap_options asked.mutual_required) (usage_number ApReqAuthenticator) confounder (authenticator_of client at k asked.subkey asked.seq_number)) same

@@ -1,5 +1,6 @@
 -- The credential that a reply gives (RFC 4120, section 3.1.5): its ticket, and what the KDC says of it.
-use Rattle.std.specs.Prelude.{ℕ, ℤ, pos, ◌%◌, unsigned_abs, int_le, int_lt, Bool, true, ◌&&◌, List, [], map, Option, Some, None}
+use Rattle.std.specs.Prelude.{ℕ, ℤ, pos, ◌%◌, unsigned_abs, int_le, int_lt, Bool, true, ◌&&◌, List, [], map, Option}
+use Rattle.std.specs.Prelude.{Some, None}
 use Rattle.std.specs.Bool.{then_some}
 use Rattle.std.specs.List.{list_all}
 use Rattle.std.specs.Option.{unwrap_or}
@@ -46,7 +47,12 @@ credential_of type reply part = record {
   client = record { realm = reply.crealm; name = reply.cname };
   server = record { realm = part.srealm; name = part.sname };
   key = record { key_type = in_16_bits part.key.number; octets = part.key.octets };
-  times = record { auth_time = part.authtime; start_time = unwrap_or part.starttime (pos 0); end_time = part.endtime; renew_till = unwrap_or part.renew_till (pos 0) };
+  times = record {
+    auth_time = part.authtime;
+    start_time = unwrap_or part.starttime (pos 0);
+    end_time = part.endtime;
+    renew_till = unwrap_or part.renew_till (pos 0);
+  };
   flags = part.flags;
   addresses = addresses_of part.caddr;
   authorization = [];

@@ -1,5 +1,6 @@
 -- The key of a password, by what a KDC says of its types (RFC 4120, section 5.2.7.5).
-use Rattle.std.specs.Prelude.{ℕ, ◌==◌, ◌&&◌, nat_le, if◌then◌else◌, List, length, Option, Some, None, Result, Ok, Err, find, is_some}
+use Rattle.std.specs.Prelude.{ℕ, ◌==◌, ◌&&◌, nat_le, if◌then◌else◌, List, length, Option, Some, None, Result, Ok, Err}
+use Rattle.std.specs.Prelude.{find, is_some}
 use Rattle.std.specs.Int.{w32, from_be_bytes}
 use Rattle.std.specs.Option.{unwrap_or}
 use Rattle.enctypes.specs.declared.etype.Etype.{Etype}
@@ -35,7 +36,8 @@ key_by etype pass salt (Some count) = Ok (record { etype = etype; bytes = string
 key_by etype pass salt None = Err CountTooLarge
 
 abbrev pub key_as : List ℕ → List ℕ → Name → EtypeInfo2Entry → Option Etype → Result Key ClientFault
-key_as pass realm name entry (Some etype) = key_by etype pass (salt_of realm name entry) (count_of etype entry.s2kparams)
+key_as pass realm name entry (Some etype) =
+    key_by etype pass (salt_of realm name entry) (count_of etype entry.s2kparams)
 key_as pass realm name entry None = Err CannotOpen
 
 -- the first entry of one of the four types

@@ -1,12 +1,16 @@
 -- What a client reads from a KDC's reply (RFC 4120, sections 3.1.5 and 3.3.4): a list of rules for each stage.
-use Rattle.std.specs.Prelude.{ℕ, ℤ, pos, ◌-ℤ◌, unsigned_abs, int_lt, nat_lt, nat_eq, Bool, not, ◌&&◌, ◌||◌, if◌then◌else◌, List, [], ◌∷◌, Option, Some, None, Result, Ok, Err}
+use Rattle.std.specs.Prelude.{ℕ, ℤ, pos, ◌-ℤ◌, unsigned_abs, int_lt, nat_lt, nat_eq, Bool, not, ◌&&◌, ◌||◌}
+use Rattle.std.specs.Prelude.{if◌then◌else◌, List, [], ◌∷◌, Option, Some, None, Result, Ok, Err}
 use Rattle.std.specs.Ordering.{int_eq, eq_by_cmp}
 use Rattle.std.specs.Cmp.Lexicographic.{pointwise}
 use Rattle.refusals.specs.Optional.{holds_of}
 use Rattle.refusals.specs.Refusals.{Rule, decided, unless_found}
 use Rattle.cred_files.specs.declared.credential.Credential.{Credential}
 use Rattle.enctypes.specs.Etype.{number}
+use Rattle.enctypes.specs.KeyUsage.{usage_number}
 use Rattle.enctypes.specs.declared.key.Key.{Key}
+use Rattle.enctypes.specs.declared.key_usage.KeyUsage.TheVariants.{AsRepEncPart, TgsRepEncPartSessionKey}
+use Rattle.enctypes.specs.declared.key_usage.KeyUsage.TheVariants.{TgsRepEncPartSubkey}
 use Rattle.krb_elements.specs.Format.{whole}
 use Rattle.krb_fields.specs.EncryptedData.{EncryptedData}
 use Rattle.krb_fields.specs.Flags.{has_bit}
@@ -15,6 +19,7 @@ use Rattle.krb_fields.specs.declared.kdc_option.KdcOption.{KdcOption}
 use Rattle.krb_fields.specs.declared.kdc_option.KdcOption.TheVariants.{Postdated, Renew, Validate}
 use Rattle.krb_fields.specs.Name.{name_cmp}
 use Rattle.krb_fields.specs.PrincipalName.{Name}
+use Rattle.krb_fields.specs.Skew.{skew}
 use Rattle.krb_parts.specs.EncKdcRepPart.{EncKdcRepPart, enc_kdc_rep_part}
 use Rattle.krb_replies.specs.KdcRep.{KdcRep, kdc_rep}
 use Rattle.krb_replies.specs.Under.{under}
@@ -62,16 +67,22 @@ abbrev pub or_else : Option EncKdcRepPart → Option EncKdcRepPart → Option En
 or_else (Some part) other = Some part
 or_else None other = other
 
--- Of an AS-REP, under the client's key, usage 3; some KDCs give it the tag of the other exchange (section 5.4.2). Of a
--- TGS-REP, under the subkey of the request's authenticator, usage 9, else under the session key, usage 8.
+-- Of an AS-REP, under the client's key, in its own tag or, as some KDCs give it, in that of the other exchange (section
+-- 5.4.2).
+abbrev pub as_part : Key → EncryptedData → Option EncKdcRepPart
+as_part key sealed =
+    or_else (opened_in 25 key (usage_number AsRepEncPart) sealed) (opened_in 26 key (usage_number AsRepEncPart) sealed)
+
+-- Of a TGS-REP, under the subkey of the request's authenticator, else under the session key.
 abbrev pub opened_as : KeyRole → Key → EncryptedData → Option EncKdcRepPart
-opened_as Client key sealed = or_else (opened_in 25 key 3 sealed) (opened_in 26 key 3 sealed)
-opened_as Subkey key sealed = opened_in 26 key 9 sealed
-opened_as Session key sealed = opened_in 26 key 8 sealed
+opened_as Client key sealed = as_part key sealed
+opened_as Subkey key sealed = opened_in 26 key (usage_number TgsRepEncPartSubkey) sealed
+opened_as Session key sealed = opened_in 26 key (usage_number TgsRepEncPartSessionKey) sealed
 
 -- names are compared by their components: the name-type is a hint (section 6.2)
 abbrev pub is_principal : List ℕ → Name → List ℕ → Name → Bool
-is_principal realm name other_realm other_name = pointwise nat_eq realm other_realm && eq_by_cmp name_cmp name.components other_name.components
+is_principal realm name other_realm other_name =
+    pointwise nat_eq realm other_realm && eq_by_cmp name_cmp name.components other_name.components
 
 abbrev pub reply_rules : (type : ℕ) → Asked → Key → KdcRep type → List (Rule Rejection)
 reply_rules type asked key reply =
@@ -87,7 +98,9 @@ part_of type asked key reply opened = decided (reply_rules type asked key reply)
 
 -- the part's service, or the ticket's
 abbrev pub is_other_service : Asked → Ticket → EncKdcRepPart → Bool
-is_other_service asked ticket part = not (is_principal part.srealm part.sname asked.realm asked.service) || not (is_principal ticket.realm ticket.sname asked.realm asked.service)
+is_other_service asked ticket part =
+    not (is_principal part.srealm part.sname asked.realm asked.service)
+    || not (is_principal ticket.realm ticket.sname asked.realm asked.service)
 
 abbrev pub has_option : Asked → KdcOption → Bool
 has_option asked option = has_bit asked.options (kdc_option_number option)
@@ -100,9 +113,9 @@ ends_too_late asked part = not (int_eq asked.till (pos 0)) && int_lt asked.till 
 abbrev pub may_start_elsewhere : Asked → Bool
 may_start_elsewhere asked = has_option asked Postdated || has_option asked Renew || has_option asked Validate
 
--- more than 300 seconds from now
+-- further from now than clocks may differ
 abbrev pub is_skewed : ℤ → ℤ → Bool
-is_skewed now time = nat_lt 300 (unsigned_abs (time -ℤ now))
+is_skewed now time = nat_lt skew (unsigned_abs (time -ℤ now))
 
 abbrev pub starts_elsewhere : Asked → ℤ → EncKdcRepPart → Bool
 starts_elsewhere asked now part = not (may_start_elsewhere asked) && holds_of (is_skewed now) part.starttime
@@ -115,7 +128,8 @@ part_rules asked now ticket part =
     ∷ []
 
 abbrev pub taken : (type : ℕ) → Asked → ℤ → KdcRep type → EncKdcRepPart → Result Credential Rejection
-taken type asked now reply part = decided (part_rules asked now reply.ticket part) (credential_in type reply part) Unopened
+taken type asked now reply part =
+    decided (part_rules asked now reply.ticket part) (credential_in type reply part) Unopened
 
 -- ---- all stages
 
@@ -123,8 +137,10 @@ abbrev pub if_part : (type : ℕ) → Asked → ℤ → KdcRep type → Result E
 if_part type asked now reply (Ok part) = taken type asked now reply part
 if_part type asked now reply (Err rejection) = Err rejection
 
-abbrev pub if_reply : (type : ℕ) → KeyRole → Asked → Key → ℤ → Result (KdcRep type) ClientFault → Result Credential ClientFault
-if_reply type role asked key now (Ok reply) = unless_rejected (if_part type asked now reply (part_of type asked key reply (opened_as role key reply.enc_part)))
+abbrev pub if_reply : (type : ℕ) → KeyRole → Asked → Key → ℤ → Result (KdcRep type) ClientFault
+    → Result Credential ClientFault
+if_reply type role asked key now (Ok reply) =
+    unless_rejected (if_part type asked now reply (part_of type asked key reply (opened_as role key reply.enc_part)))
 if_reply type role asked key now (Err fault) = Err fault
 
 -- the credential that the reply gives, or the first fault

@@ -2,7 +2,10 @@
 use Rattle.std.specs.Prelude.{ℕ, pos, List, [], ◌∷◌, map, Option, Some, None}
 use Rattle.cred_files.specs.declared.principal.Principal.{Principal}
 use Rattle.enctypes.specs.declared.key.Key.{Key}
+use Rattle.enctypes.specs.declared.key_usage.KeyUsage.TheVariants.{PaEncTimestamp, TgsReqAuthenticatorChecksum}
+use Rattle.enctypes.specs.declared.key_usage.KeyUsage.TheVariants.{TgsReqAuthenticator}
 use Rattle.enctypes.specs.Etype.{number, checksum_type}
+use Rattle.enctypes.specs.KeyUsage.{usage_number}
 use Rattle.enctypes.specs.Sealing.{mac}
 use Rattle.krb_ap.specs.ApReq.{ap_req}
 use Rattle.krb_elements.specs.Codec.{written}
@@ -42,37 +45,48 @@ body_of cname asked = record {
 }
 
 abbrev pub request_of : Exchange → Option (List PaData) → ReqBody → KdcReq
-request_of exchange padata body = record { pvno = pos 5; msg_type = pos (request_type exchange); padata = padata; body = body }
+request_of exchange padata body =
+    record { pvno = pos 5; msg_type = pos (request_type exchange); padata = padata; body = body }
 
 -- ---- AS-REQ: it names the client
 
 abbrev pub asks_as : Option (List PaData) → Asked → KdcReq
 asks_as padata asked = request_of As padata (body_of (Some asked.client) asked)
 
--- PA-ENC-TIMESTAMP (section 5.2.7.2): the moment, under the client's key, usage 1
+-- PA-ENC-TIMESTAMP (section 5.2.7.2): the moment, under the client's key
 abbrev pub timestamp_part : Moment → PaEncTsEnc
 timestamp_part at = record { patimestamp = at.sec; pausec = Some at.usec }
 
 abbrev pub timestamp_data : Key → Moment → List ℕ → PaData
-timestamp_data key at confounder = record { padata_type = pos 2; padata_value = written encrypted_data (encrypted pa_enc_ts_enc key 1 None confounder (timestamp_part at)) }
+timestamp_data key at confounder = record {
+  padata_type = pos 2;
+  padata_value = written encrypted_data
+      (encrypted pa_enc_ts_enc key (usage_number PaEncTimestamp) None confounder (timestamp_part at));
+}
 
 abbrev pub asks_with_timestamp : Asked → Key → Moment → List ℕ → KdcReq
 asks_with_timestamp asked key at confounder = asks_as (Some (timestamp_data key at confounder ∷ [])) asked
 
 -- ---- TGS-REQ: it names no client, but presents a ticket of one
 
--- over the body's octets, under the session key, usage 6
+-- over the body's octets, under the session key
 abbrev pub body_checksum : Key → ReqBody → Typed
-body_checksum key body = record { number = checksum_type key.etype; octets = mac key.etype key.bytes 6 (written req_body body) }
+body_checksum key body = record {
+  number = checksum_type key.etype;
+  octets = mac key.etype key.bytes (usage_number TgsReqAuthenticatorChecksum) (written req_body body);
+}
 
 abbrev pub tgs_authenticator : Principal → Session → Moment → Option Key → ReqBody → Authenticator
-tgs_authenticator client session at subkey body = authenticator_of client at (Some (body_checksum session.key body)) subkey None
+tgs_authenticator client session at subkey body =
+    authenticator_of client at (Some (body_checksum session.key body)) subkey None
 
--- PA-TGS-REQ (section 5.2.7.1): an AP-REQ without options; usage 7
+-- PA-TGS-REQ (section 5.2.7.1): an AP-REQ without options
 abbrev pub tgs_data : Principal → Session → Moment → Option Key → List ℕ → ReqBody → PaData
 tgs_data client session at subkey confounder body = record {
   padata_type = pos 1;
-  padata_value = written ap_req (presents session 0 7 confounder (tgs_authenticator client session at subkey body));
+  padata_value = written ap_req
+      (presents session 0 (usage_number TgsReqAuthenticator) confounder
+      (tgs_authenticator client session at subkey body));
 }
 
 -- `client` is the credential's, and `session` what it gives

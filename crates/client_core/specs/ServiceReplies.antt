@@ -3,7 +3,9 @@ use Rattle.std.specs.Prelude.{ℕ, not, ◌||◌, nat_eq, List, [], ◌∷◌, S
 use Rattle.std.specs.Ordering.{int_eq}
 use Rattle.refusals.specs.Refusals.{Rule, decided, unless_found}
 use Rattle.enctypes.specs.Etype.{number}
+use Rattle.enctypes.specs.KeyUsage.{usage_number}
 use Rattle.enctypes.specs.declared.key.Key.{Key}
+use Rattle.enctypes.specs.declared.key_usage.KeyUsage.TheVariants.{ApRepEncPart}
 use Rattle.krb_ap.specs.ApRep.{ApRep, ap_rep}
 use Rattle.krb_elements.specs.Format.{whole}
 use Rattle.krb_fields.specs.declared.moment.Moment.{Moment}
@@ -24,9 +26,10 @@ ap_reply_in bytes = unless_found (ok_of (whole ap_rep.at bytes)) (refusal_in byt
 abbrev pub ap_rules : Key → ApRep → List (Rule Rejection)
 ap_rules key reply = (not (int_eq reply.enc_part.etype (number key.etype)), Unopened) ∷ []
 
--- under the session key, usage 12
+-- under the session key
 abbrev pub ap_part : Key → ApRep → Result EncApRepPart Rejection
-ap_part key reply = decided (ap_rules key reply) (decrypted enc_ap_rep_part key 12 reply.enc_part) Unopened
+ap_part key reply =
+    decided (ap_rules key reply) (decrypted enc_ap_rep_part key (usage_number ApRepEncPart) reply.enc_part) Unopened
 
 -- the service repeats the moment of the authenticator
 abbrev pub ap_part_rules : Moment → EncApRepPart → List (Rule Rejection)

@@ -1,6 +1,8 @@
 -- What a client presents to a service: AP-REQ (RFC 4120, sections 3.2.2 and 5.5.1).
 use Rattle.std.specs.Prelude.{ℕ, Bool, if◌then◌else◌, List}
 use Rattle.cred_files.specs.declared.principal.Principal.{Principal}
+use Rattle.enctypes.specs.KeyUsage.{usage_number}
+use Rattle.enctypes.specs.declared.key_usage.KeyUsage.TheVariants.{ApReqAuthenticator}
 use Rattle.krb_ap.specs.ApReq.{ApReq}
 use Rattle.krb_fields.specs.ApOption.{ap_option_number}
 use Rattle.krb_fields.specs.declared.ap_option.ApOption.TheVariants.{MutualRequired}
@@ -17,6 +19,8 @@ ap_options required = if required then with_bit 0 (ap_option_number MutualRequir
 abbrev pub ap_authenticator : Principal → Moment → ServiceAsked → Authenticator
 ap_authenticator client at asked = authenticator_of client at asked.checksum asked.subkey asked.seq_number
 
--- `client` is the credential's, and `session` what it gives; the authenticator's key usage is 11
+-- `client` is the credential's, and `session` what it gives
 abbrev pub asks_ap : Principal → Session → Moment → ServiceAsked → List ℕ → ApReq
-asks_ap client session at asked confounder = presents session (ap_options asked.mutual_required) 11 confounder (ap_authenticator client at asked)
+asks_ap client session at asked confounder =
+    presents session (ap_options asked.mutual_required) (usage_number ApReqAuthenticator) confounder
+    (ap_authenticator client at asked)

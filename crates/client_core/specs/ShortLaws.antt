@@ -1,5 +1,6 @@
 -- What a client writes is short, and so has an encoding.
-use Rattle.std.proofs.Common.{◌≡◌, ℕ, ℤ, ◌+◌, ◌*◌, ◌^◌, ◌<◌, ◌≤◌, Bool, true, false, List, [], ◌∷◌, length, map, Option, Some, None, refl, sym, ap, subst, arith}
+use Rattle.std.proofs.Common.{◌≡◌, ℕ, ℤ, ◌+◌, ◌*◌, ◌^◌, ◌<◌, ◌≤◌, Bool, true, false, List, [], ◌∷◌, length, map, Option}
+use Rattle.std.proofs.Common.{Some, None, refl, sym, ap, subst, arith}
 use Rattle.std.specs.Prelude.{◌&&◌, IfSome}
 use Rattle.std.proofs.lemmas.Bool.{leb-true}
 use Rattle.cred_files.specs.declared.credential.Credential.{Credential}
@@ -79,11 +80,21 @@ types_most (e ∷ es) = omega (arith, types_most es)
 
 -- ---- requests
 
-pub body_short : (cname : Option Name) (asked : Asked) → IsAskable asked → IsShortName cname → req_body.most (body_of cname asked) ≤ 20000
+pub body_short : (cname : Option Name) (asked : Asked) → IsAskable asked → IsShortName cname
+    → req_body.most (body_of cname asked) ≤ 20000
 unfolding req_body_form
 body_short cname asked is short =
     let facts = askable_facts asked is in
-    omega (arith, name_at_most cname short, facts.realm, name_most asked.service facts.service, time_most asked.from, time_most asked.rtime, types_most asked.etypes, facts.etypes)
+    omega (
+      arith,
+      name_at_most cname short,
+      facts.realm,
+      name_most asked.service facts.service,
+      time_most asked.from,
+      time_most asked.rtime,
+      types_most asked.etypes,
+      facts.etypes,
+    )
 
 pub body_text_short : (body : ReqBody) → req_body.most body ≤ 20000 → length (req_body.text body) < 2 ^ 32
 body_text_short body short = omega (arith, short, req_body.bounded body)
@@ -95,13 +106,17 @@ AreShortData padata = most_maybe (list_of pa_data).most padata ≤ 40000000
 pub no_data_short : AreShortData None
 no_data_short = omega arith
 
-pub data_short : (entry : PaData) (padata : List PaData) → length entry.padata_value ≤ 34000006 → padata ≡ entry ∷ [] → AreShortData (Some padata)
+pub data_short : (entry : PaData) (padata : List PaData) → length entry.padata_value ≤ 34000006 → padata ≡ entry ∷ []
+    → AreShortData (Some padata)
 unfolding pa_data_form
-data_short entry padata short same = subst (λ (p : List PaData). AreShortData (Some p)) (sym same) (omega (arith, short))
+data_short entry padata short same =
+    subst (λ (p : List PaData). AreShortData (Some p)) (sym same) (omega (arith, short))
 
-pub request_short : (exchange : Exchange) (padata : Option (List PaData)) (body : ReqBody) → AreShortData padata → req_body.most body ≤ 20000 → length ((message exchange).text (request_of exchange padata body)) < 2 ^ 32
+pub request_short : (exchange : Exchange) (padata : Option (List PaData)) (body : ReqBody) → AreShortData padata
+    → req_body.most body ≤ 20000 → length ((message exchange).text (request_of exchange padata body)) < 2 ^ 32
 unfolding kdc_req_form
-request_short exchange padata body few short = omega (arith, few, short, (message exchange).bounded (request_of exchange padata body))
+request_short exchange padata body few short =
+    omega (arith, few, short, (message exchange).bounded (request_of exchange padata body))
 
 -- ---- what is sealed
 
@@ -113,14 +128,18 @@ stamp_most : (x : PaEncTsEnc) → length (pa_enc_ts_enc.text x) ≤ 60
 unfolding pa_enc_ts_enc_form
 stamp_most x = by x.pausec (pa_enc_ts_enc.bounded x)
   where
-    by : (o : Option ℕ) → length (pa_enc_ts_enc.text x) ≤ 15 + 12 + (most_maybe (λ n. 8) o + 0) → length (pa_enc_ts_enc.text x) ≤ 60
+    by : (o : Option ℕ) → length (pa_enc_ts_enc.text x) ≤ 15 + 12 + (most_maybe (λ n. 8) o + 0)
+        → length (pa_enc_ts_enc.text x) ≤ 60
     by None le = omega (arith, le)
     by (Some n) le = omega (arith, le)
 
-pub stamp_sealed_short : (part : PaEncTsEnc) (sealed : EncryptedData) → length sealed.cipher ≤ 46 + length (pa_enc_ts_enc.text part) → length (encrypted_data.text sealed) < 2 ^ 32
+pub stamp_sealed_short : (part : PaEncTsEnc) (sealed : EncryptedData)
+    → length sealed.cipher ≤ 46 + length (pa_enc_ts_enc.text part) → length (encrypted_data.text sealed) < 2 ^ 32
 stamp_sealed_short part sealed short = omega (arith, short, stamp_most part, sealed_most sealed)
 
-pub stamp_data_short : (part : PaEncTsEnc) (sealed : EncryptedData) (octets : List ℕ) → length sealed.cipher ≤ 46 + length (pa_enc_ts_enc.text part) → octets ≡ written encrypted_data sealed → length octets ≤ 1000
+pub stamp_data_short : (part : PaEncTsEnc) (sealed : EncryptedData) (octets : List ℕ)
+    → length sealed.cipher ≤ 46 + length (pa_enc_ts_enc.text part) → octets ≡ written encrypted_data sealed
+    → length octets ≤ 1000
 stamp_data_short part sealed octets short same =
     omega (arith, short, stamp_most part, sealed_most sealed, ap length same, tlv_short 48 (encrypted_data.text sealed))
 
@@ -140,7 +159,9 @@ unfolding typed_form
 key_most None short = omega arith
 key_most (Some k) short = omega (arith, short)
 
-pub authenticator_short : (x : Authenticator) → IsComponent x.crealm → IsWithinLimits x.cname.components → IsShortChecksum x.cksum → IsShortKey x.subkey → x.authorization_data ≡ None → length (authenticator.text x) ≤ 16800000
+pub authenticator_short : (x : Authenticator) → IsComponent x.crealm → IsWithinLimits x.cname.components
+    → IsShortChecksum x.cksum → IsShortKey x.subkey → x.authorization_data ≡ None
+    → length (authenticator.text x) ≤ 16800000
 unfolding authenticator_form
 authenticator_short x realm client cksum subkey none =
     omega (
@@ -154,9 +175,18 @@ authenticator_short x realm client cksum subkey none =
       ap (most_maybe (list_of typed).most) none,
     )
 
-pub presents_short : (x : ApReq) → length (ticket.text x.ticket) < 16777216 → length x.authenticator.cipher ≤ 16800046 → length (ap_req.text x) ≤ 34000000
+pub presents_short : (x : ApReq) → length (ticket.text x.ticket) < 16777216 → length x.authenticator.cipher ≤ 16800046
+    → length (ap_req.text x) ≤ 34000000
 unfolding ap_req_form
-presents_short x short sealed = omega (arith, short, sealed, (ap_req_of (measured ticket) (measured encrypted_data)).bounded x, sealed_most x.authenticator)
+presents_short x short sealed =
+    omega (
+      arith,
+      short,
+      sealed,
+      (ap_req_of (measured ticket) (measured encrypted_data)).bounded x,
+      sealed_most x.authenticator,
+    )
 
-pub presented_short : (x : ApReq) (octets : List ℕ) → length (ap_req.text x) ≤ 34000000 → octets ≡ written ap_req x → length octets ≤ 34000006
+pub presented_short : (x : ApReq) (octets : List ℕ) → length (ap_req.text x) ≤ 34000000 → octets ≡ written ap_req x
+    → length octets ≤ 34000006
 presented_short x octets short same = omega (arith, short, ap length same, tlv_short 110 (ap_req.text x))

@@ -17,7 +17,8 @@ pub record AreSame (realm : List ℕ) (name : Name) (other_realm : List ℕ) (ot
   pub realms : realm ≡ other_realm
   pub names : name.components ≡ other_name.components
 
-pub record IsTaken (type : ℕ) (role : KeyRole) (asked : Asked) (key : Key) (now : ℤ) (bytes : List ℕ) (credential : Credential) : Type 0 where
+pub record IsTaken (type : ℕ) (role : KeyRole) (asked : Asked) (key : Key) (now : ℤ) (bytes : List ℕ)
+    (credential : Credential) : Type 0 where
   pub reply : KdcRep type
   pub part : EncKdcRepPart
   -- the octets are the reply, and the key opens its part

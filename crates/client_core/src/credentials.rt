@@ -3,7 +3,8 @@ ghost use Rattle.std.specs.Prelude.{◌≡◌, ◌<◌, ◌^◌, length, IfOk, m
 ghost use Rattle.std.specs.List.{list_all};
 ghost use Rattle.krb_elements.specs.Codec.{written};
 ghost use Rattle.krb_types.specs.Ticket.{ticket};
-ghost use Rattle.client_core.specs.Credentials.{address_of, addresses_of, are_short_types, credential_in, credential_of, has_16_bits, has_room, in_16_bits, is_short_type};
+ghost use Rattle.client_core.specs.Credentials.{address_of, addresses_of, are_short_types, credential_in};
+ghost use Rattle.client_core.specs.Credentials.{credential_of, has_16_bits, has_room, in_16_bits, is_short_type};
 
 use cred_files::{Credential, Principal, SessionKey, Times, TypedOctets};
 use krb_der::KTime;

@@ -17,9 +17,9 @@ pub enum ClientFault {
     Refused(Refusal),
     /// The reply answers another request.
     Mismatch(Mismatch),
-    /// The sealed part has another encryption type than the key, or the key doesn't open it to the part of such a reply;
-    /// or its session key, or an address, has a type for which a credential has no room. Of a password: no entry has
-    /// one of the four types.
+    /// The sealed part has another encryption type than the key, or the key doesn't open it to the part of such a
+    /// reply; or its session key, or an address, has a type for which a credential has no room. Of a password: no
+    /// entry has one of the four types.
     CannotOpen,
     /// The parameters of string-to-key are not four octets, or their count is 0 or above [`crate::MAX_COUNT`].
     CountTooLarge,
@@ -42,7 +42,8 @@ pub enum Mismatch {
     Nonce,
     /// The service's realm or name, in the sealed part or in the ticket.
     Service,
-    /// The ticket ends later than was asked, or starts elsewhere. Of an AP-REP: the moment is not the one that was sent.
+    /// The ticket ends later than was asked, or starts elsewhere. Of an AP-REP: the moment is not the one that was
+    /// sent.
     Times,
 }
 

@@ -66,7 +66,8 @@ fn key_as(
     name: &Name,
     entry: &EtypeInfo2Entry,
 ) -> Result<Result<Key, ClientFault>, AllocError>
-    ensures { IfOk result (λ found. found ≡ key_as pass.now realm.now name.now entry.now (keys.type_numbered entry.now.etype)) }
+    ensures { IfOk result (λ found.
+        found ≡ key_as pass.now realm.now name.now entry.now (keys.type_numbered entry.now.etype)) }
 {
     let Some(etype) = type_numbered(entry.etype) else {
         return Ok(Err(ClientFault::CannotOpen));

@@ -77,8 +77,10 @@ pub fn present(
 ) -> Result<ApReq, AllocError>
     requires ticket { length (ticket.text session.ticket) < 16777216 }
     requires authenticator { length (parts.authenticator.text authenticator.now) ≤ 16800000 }
-    ensures value { IfOk result (λ made. made ≡ presents session options (usage_number usage) confounder.now authenticator.now) }
-    ensures opens { IfOk result (λ made. decrypted parts.authenticator session.key (usage_number usage) made.authenticator ≡ Some authenticator.now) }
+    ensures value { IfOk result (λ made.
+        made ≡ presents session options (usage_number usage) confounder.now authenticator.now) }
+    ensures opens { IfOk result (λ made.
+        decrypted parts.authenticator session.key (usage_number usage) made.authenticator ≡ Some authenticator.now) }
     ensures short { IfOk result (λ made. length (ap_req.text made) ≤ 34000000) }
 {
     let Session { ticket, key } = session;

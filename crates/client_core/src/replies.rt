@@ -7,8 +7,10 @@ ghost use Rattle.krb_types.specs.Ticket.{ticket};
 ghost use Rattle.sealed_parts.specs.Parts.{ok_of};
 ghost use Rattle.refusals.specs.Optional.{holds_of};
 ghost use Rattle.client_core.specs.Faults.{Gives};
-ghost use Rattle.client_core.specs.Replies.{ends_too_late, if_part, if_reply, is_other_service, is_principal, is_skewed, may_start_elsewhere, of_version};
-ghost use Rattle.client_core.specs.Replies.{opened_as, opened_in, part_of, part_rules, reads, reads_as, reads_tgs, refusal_in, reply_in, reply_rules};
+ghost use Rattle.client_core.specs.Replies.{as_part, ends_too_late, if_part, if_reply, is_other_service, is_principal};
+ghost use Rattle.client_core.specs.Replies.{is_skewed, may_start_elsewhere, of_version};
+ghost use Rattle.client_core.specs.Replies.{opened_as, opened_in, part_of, part_rules, reads, reads_as, reads_tgs};
+ghost use Rattle.client_core.specs.Replies.{refusal_in, reply_in, reply_rules};
 ghost use Rattle.client_core.specs.Replies.{starts_elsewhere, taken, tgs_role};
 ghost use Rattle.client_core.specs.Taken.{IsTaken};
 ghost use Rattle.client_core.specs.declared.key_role.KeyRole.TheVariants as roles;
@@ -59,7 +61,8 @@ pub fn read_tgs_reply(
 ) -> Result<Credential, ClientFault>
     ensures value { Gives result (reads_tgs asked.now key.now subkey at.sec bytes.now) }
     // So the octets are the reply to this request.
-    ensures taken { IfOk result (λ credential. IsTaken 13 (tgs_role subkey) asked.now key.now at.sec bytes.now credential) }
+    ensures taken { IfOk result (λ credential.
+        IsTaken 13 (tgs_role subkey) asked.now key.now at.sec bytes.now credential) }
 {
     given(read_reply::<13>(alloc, tgs_role(subkey), asked, key, at, bytes))
 }
@@ -182,7 +185,7 @@ fn as_part(
     key: &Key,
     sealed: &EncryptedDataRef<'_>,
 ) -> Result<Option<EncKdcRepPart>, AllocError>
-    ensures { IfOk result (λ found. found ≡ opened_as roles.Client key.now sealed.now) }
+    ensures { IfOk result (λ found. found ≡ as_part key.now sealed.now) }
 {
     match opened_in::<25>(alloc, key, KeyUsage::AsRepEncPart, sealed)? {
         Some(part) => Ok(Some(part)),

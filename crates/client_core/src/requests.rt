@@ -38,8 +38,10 @@ pub fn with_timestamp(
     confounder: &[u8; 16],
 ) -> Result<Vec<u8>, AllocError>
     requires { IsAskable asked.now }
-    ensures written { IfOk result (λ v. v.items ≡ written (message As) (asks_with_timestamp asked.now key.now at confounder.now)) }
-    ensures spelled { IfOk result (λ v. SpellsKdcReq (As, asks_with_timestamp asked.now key.now at confounder.now) v.items) }
+    ensures written { IfOk result (λ v.
+        v.items ≡ written (message As) (asks_with_timestamp asked.now key.now at confounder.now)) }
+    ensures spelled { IfOk result (λ v.
+        SpellsKdcReq (As, asks_with_timestamp asked.now key.now at confounder.now) v.items) }
 {
     let mut padata = Seq::new(alloc);
     padata.push(timestamp_data(alloc, key, at, confounder)?)?;

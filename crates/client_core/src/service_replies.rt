@@ -3,7 +3,8 @@ ghost use Rattle.std.specs.Prelude.{◌≡◌, IfOk};
 ghost use Rattle.krb_parts.specs.EncApRepPart.{enc_ap_rep_part};
 ghost use Rattle.sealed_parts.specs.Encrypted.{decrypted};
 ghost use Rattle.client_core.specs.Faults.{Gives};
-ghost use Rattle.client_core.specs.ServiceReplies.{ap_part, ap_part_rules, ap_reply_in, if_ap_part, if_ap_reply, reads_ap, repeated};
+ghost use Rattle.client_core.specs.ServiceReplies.{ap_part, ap_part_rules, ap_reply_in, if_ap_part, if_ap_reply};
+ghost use Rattle.client_core.specs.ServiceReplies.{reads_ap, repeated};
 
 use crate::fault::{ClientFault, Mismatch, Rejection, given, unless_rejected};
 use crate::replies::refusal_in;

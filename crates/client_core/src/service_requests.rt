@@ -1,5 +1,7 @@
 //! AP-REQ (RFC 4120, sections 3.2.2 and 5.5.1).
 ghost use Rattle.std.specs.Prelude.{◌≡◌, ◌<◌, length, IfOk, IfSome, Some};
+ghost use Rattle.enctypes.specs.KeyUsage.{usage_number};
+ghost use Rattle.enctypes.specs.declared.key_usage.KeyUsage.TheVariants.{ApReqAuthenticator};
 ghost use Rattle.krb_ap.specs.ApReq.{ap_req};
 ghost use Rattle.krb_elements.specs.Codec.{written};
 ghost use Rattle.krb_fields.specs.NameLimits.{IsComponent, IsWithinLimits};
@@ -30,11 +32,15 @@ pub fn ap_request(
 ) -> Result<Vec<u8>, AllocError>
     requires presentable { definitions.IsPresentable credential.now }
     requires checksum { IsShortChecksum asked.now.checksum }
-    ensures written { IfSome (definitions.session credential.now) (λ session. IfOk result (λ v. v.items ≡ written ap_req (asks_ap credential.now.client session at asked.now confounder.now))) }
-    ensures spelled { IfSome (definitions.session credential.now) (λ session. IfOk result (λ v. ap_req.Spells (asks_ap credential.now.client session at asked.now confounder.now) v.items)) }
+    ensures written { IfSome (definitions.session credential.now) (λ session. IfOk result (λ v.
+        v.items ≡ written ap_req (asks_ap credential.now.client session at asked.now confounder.now))) }
+    ensures spelled { IfSome (definitions.session credential.now) (λ session. IfOk result (λ v.
+        ap_req.Spells (asks_ap credential.now.client session at asked.now confounder.now) v.items)) }
     // The session key opens its authenticator to what the client says.
-    ensures opens { IfSome (definitions.session credential.now) (λ session. IfOk result (λ v. decrypted parts.authenticator session.key 11
-        (asks_ap credential.now.client session at asked.now confounder.now).authenticator ≡ Some (ap_authenticator credential.now.client at asked.now))) }
+    ensures opens { IfSome (definitions.session credential.now) (λ session. IfOk result (λ v.
+        decrypted parts.authenticator session.key (usage_number ApReqAuthenticator)
+        (asks_ap credential.now.client session at asked.now confounder.now).authenticator
+        ≡ Some (ap_authenticator credential.now.client at asked.now))) }
 {
     let session = session_of(alloc, credential)?;
     ap_req(alloc, &credential.client, session, at, asked, confounder)
@@ -52,10 +58,14 @@ fn ap_req(
     requires name { IsWithinLimits client.now.name.components }
     requires ticket { length (ticket.text session.ticket) < 16777216 }
     requires checksum { IsShortChecksum asked.now.checksum }
-    ensures written { IfOk result (λ v. v.items ≡ written ap_req (asks_ap client.now session at asked.now confounder.now)) }
-    ensures spelled { IfOk result (λ v. ap_req.Spells (asks_ap client.now session at asked.now confounder.now) v.items) }
-    ensures opens { IfOk result (λ v. decrypted parts.authenticator session.key 11
-        (asks_ap client.now session at asked.now confounder.now).authenticator ≡ Some (ap_authenticator client.now at asked.now)) }
+    ensures written { IfOk result (λ v.
+        v.items ≡ written ap_req (asks_ap client.now session at asked.now confounder.now)) }
+    ensures spelled { IfOk result (λ v.
+        ap_req.Spells (asks_ap client.now session at asked.now confounder.now) v.items) }
+    ensures opens { IfOk result (λ v.
+        decrypted parts.authenticator session.key (usage_number ApReqAuthenticator)
+        (asks_ap client.now session at asked.now confounder.now).authenticator
+        ≡ Some (ap_authenticator client.now at asked.now)) }
 {
     let cksum = copied(alloc, &asked.checksum)?;
     let authenticator = authenticator(alloc, client, at, cksum, asked.subkey, asked.seq_number)?;

@@ -34,8 +34,11 @@ pub fn tgs_request(
 ) -> Result<Vec<u8>, AllocError>
     requires askable { IsAskable asked.now }
     requires presentable { definitions.IsPresentable credential.now }
-    ensures written { IfSome (definitions.session credential.now) (λ session. IfOk result (λ v. v.items ≡ written (message Tgs) (asks_tgs asked.now credential.now.client session at subkey confounder.now))) }
-    ensures spelled { IfSome (definitions.session credential.now) (λ session. IfOk result (λ v. SpellsKdcReq (Tgs, asks_tgs asked.now credential.now.client session at subkey confounder.now) v.items)) }
+    ensures written { IfSome (definitions.session credential.now) (λ session. IfOk result (λ v.
+        v.items ≡ written (message Tgs)
+        (asks_tgs asked.now credential.now.client session at subkey confounder.now))) }
+    ensures spelled { IfSome (definitions.session credential.now) (λ session. IfOk result (λ v.
+        SpellsKdcReq (Tgs, asks_tgs asked.now credential.now.client session at subkey confounder.now) v.items)) }
 {
     let session = session_of(alloc, credential)?;
     tgs_req(
@@ -62,8 +65,10 @@ fn tgs_req(
     requires realm { IsComponent client.now.realm }
     requires name { IsWithinLimits client.now.name.components }
     requires ticket { length (ticket.text session.ticket) < 16777216 }
-    ensures written { IfOk result (λ v. v.items ≡ written (message Tgs) (asks_tgs asked.now client.now session at subkey confounder.now)) }
-    ensures spelled { IfOk result (λ v. SpellsKdcReq (Tgs, asks_tgs asked.now client.now session at subkey confounder.now) v.items) }
+    ensures written { IfOk result (λ v.
+        v.items ≡ written (message Tgs) (asks_tgs asked.now client.now session at subkey confounder.now)) }
+    ensures spelled { IfOk result (λ v.
+        SpellsKdcReq (Tgs, asks_tgs asked.now client.now session at subkey confounder.now) v.items) }
 {
     let body = asked.body(alloc, None)?;
     let entry = tgs_data(alloc, client, session, at, subkey, confounder, &body)?;
