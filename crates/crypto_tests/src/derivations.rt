@@ -139,7 +139,9 @@ fn pbkdf2_sha256_of_hashlib(rt: HostRuntime) {
             b"passwordPASSWORDpassword",
             b"ATHENA.MIT.EDUraeburn",
             100,
-            b"690244d54fa7e3be6fa3b8cf33567fe653e71683432c052e4d66faa63414f973b6dfd9994106079cf6112de57e6a53689ed180d5c4531838a05ec1ab2e02830c52",
+            b"\
+                690244d54fa7e3be6fa3b8cf33567fe653e71683432c052e4d66faa63414f973b6dfd9994106079cf6112de57e6a53689ed1\
+                80d5c4531838a05ec1ab2e02830c52",
         ),
         (b"password", b"salt", 3, b""),
     ];
@@ -172,7 +174,9 @@ fn pbkdf2_sha384_of_hashlib(rt: HostRuntime) {
             b"passwordPASSWORDpassword",
             b"ATHENA.MIT.EDUraeburn",
             100,
-            b"b4cadd751c175ad681a1a9b5e38828d2e21398e06a670e146565596d6a175e0227ec6cfdc7c42fb8412614c5377289dab3661d2c2974494e362e7319d4191c8da87f15df851c68bb4e23f2140e63dc07fabca4f0db50092220b4cd768ec6a1c92c",
+            b"\
+                b4cadd751c175ad681a1a9b5e38828d2e21398e06a670e146565596d6a175e0227ec6cfdc7c42fb8412614c5377289dab366\
+                1d2c2974494e362e7319d4191c8da87f15df851c68bb4e23f2140e63dc07fabca4f0db50092220b4cd768ec6a1c92c",
         ),
         (b"password", b"salt", 3, b""),
     ];

@@ -88,7 +88,9 @@ fn hmac_sha256_of_the_standard(rt: HostRuntime) {
         ),
         (
             &[0xaa; 131],
-            b"This is a test using a larger than block-size key and a larger than block-size data. The key needs to be hashed before being used by the HMAC algorithm.",
+            b"\
+                This is a test using a larger than block-size key and a larger than block-size data. The key needs \
+                to be hashed before being used by the HMAC algorithm.",
             b"9b09ffa71b942fcb27635fbcd5b0e944bfdc63644f0713938a7f51535c3a35e2",
         ),
     ];
@@ -135,7 +137,9 @@ fn hmac_sha384_of_the_standard(rt: HostRuntime) {
         ),
         (
             &[0xaa; 131],
-            b"This is a test using a larger than block-size key and a larger than block-size data. The key needs to be hashed before being used by the HMAC algorithm.",
+            b"\
+                This is a test using a larger than block-size key and a larger than block-size data. The key needs \
+                to be hashed before being used by the HMAC algorithm.",
             b"6617178e941f020d351e2f254e8fd32c602420feb0b8fb9adccebb82461e99c5a678cc31e799176d3860e6110c46523e",
         ),
     ];

@@ -1,7 +1,7 @@
 //! Sealing and opening (`enctypes`).
 
 use crate::given::{TEXT, USAGE, base_key, in_hex};
-use enctypes::{Etype, Key, KeyUsage, open, seal, string_to_key};
+use enctypes::{Etype, Key, KeyUsage, ReadyKey, open, seal, string_to_key};
 use std::alloc::{AllocError, Global};
 use std::test::Fail;
 
@@ -97,7 +97,9 @@ fn sealed_texts_of_the_standards(rt: HostRuntime) -> Result<(), Fail> {
                 0x3f, 0xac,
             ],
             21,
-            b"720f73b18d9859cd6ccb4346115cd336c70f58edc0c4437c5573544c31c813bce1e6d072c186b39a413c2f92ca9b8334a287ffcbfc",
+            b"\
+                720f73b18d9859cd6ccb4346115cd336c70f58edc0c4437c5573544c31c813bce1e6d072c186b39a413c2f92ca9b8334a287\
+                ffcbfc",
         ),
         (
             Etype::Aes256CtsHmacSha384_192,
@@ -124,7 +126,9 @@ fn sealed_texts_of_the_standards(rt: HostRuntime) -> Result<(), Fail> {
                 0x5e, 0x63,
             ],
             16,
-            b"bc47ffec7998eb91e8115cf8d19dac4bbbe2e163e87dd37f49beca92027764f68cf51f14d798c2273f35df574d1f932e40c4ff255b36a266",
+            b"\
+                bc47ffec7998eb91e8115cf8d19dac4bbbe2e163e87dd37f49beca92027764f68cf51f14d798c2273f35df574d1f932e40c4\
+                ff255b36a266",
         ),
         (
             Etype::Aes256CtsHmacSha384_192,
@@ -133,7 +137,9 @@ fn sealed_texts_of_the_standards(rt: HostRuntime) -> Result<(), Fail> {
                 0x8a, 0xf1,
             ],
             21,
-            b"40013e2df58e8751957d2878bcd2d6fe101ccfd556cb1eae79db3c3ee86429f2b2a602ac86fef6ecb647d6295fae077a1feb517508d2c16b4192e01f62",
+            b"\
+                40013e2df58e8751957d2878bcd2d6fe101ccfd556cb1eae79db3c3ee86429f2b2a602ac86fef6ecb647d6295fae077a1feb\
+                517508d2c16b4192e01f62",
         ),
     ];
     for &(etype, confounder, len, hex) in ROWS {
@@ -175,6 +181,23 @@ fn a_changed_cipher_is_not_opened(rt: HostRuntime) -> Result<(), Fail> {
 /// Whether the octets are refused, and not for want of memory.
 fn is_refused(alloc: Global, key: &Key, usage: KeyUsage, sealed: &[u8]) -> bool {
     open(alloc, key, usage, sealed).is_ok_and(|opened| opened.is_none())
+}
+
+#[test]
+fn a_ready_key_is_for_its_key_and_its_usage_alone(rt: HostRuntime) -> Result<(), Fail> {
+    for etype in [
+        Etype::Aes128CtsHmacSha1_96,
+        Etype::Aes256CtsHmacSha1_96,
+        Etype::Aes128CtsHmacSha256_128,
+        Etype::Aes256CtsHmacSha384_192,
+    ] {
+        let key = Key::from_random(etype, &[7; 32]);
+        let ready = ReadyKey::new(&key, USAGE);
+        assert!(rt; ready.is_for(&key, USAGE));
+        assert!(rt; !ready.is_for(&key, KeyUsage::ApReqAuthenticator));
+        assert!(rt; !ready.is_for(&Key::from_random(etype, &[8; 32]), USAGE));
+    }
+    Ok(())
 }
 
 // Passes whichever allocation is refused.

@@ -3,6 +3,7 @@ pub mod Sizes
 pub mod Comparing
 pub mod Sealed
 pub mod SealingSteps
+pub mod MacKeys
 pub mod DerivedOctets
 pub mod OpenedLaws
 pub mod FactsOfSha1Types

@@ -4,4 +4,5 @@ pub mod KeyUsage
 pub mod ShortOctets
 pub mod Derivation
 pub mod Sealing
+pub mod ReadyKey
 pub mod Suite

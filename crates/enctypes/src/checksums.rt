@@ -5,6 +5,7 @@ ghost use Rattle.enctypes.specs.KeyUsage.{usage_number};
 ghost use Rattle.enctypes.specs.Sealing.{mac};
 
 use crate::derived_key::derived_key;
+use crate::mac_key::MacKey;
 use crate::octets::are_same;
 use crate::purpose::Purpose;
 use crate::suite::{Suite, with_suite};
@@ -35,8 +36,6 @@ fn checksum_as<S: Suite>(key: &[u8], usage: u32, text: &[u8]) -> Mac
     ensures len { length result ≡ mac_len S.ETYPE }
     ensures most { length result ≤ 24 }
 {
-    S::hmac(
-        derived_key::<S>(key, usage, Purpose::Checksum).bytes(),
-        &[text],
-    )
+    let checksum_key = derived_key::<S>(key, usage, Purpose::Checksum);
+    MacKey::new(S::ETYPE, checksum_key.bytes()).mac(&[text])
 }

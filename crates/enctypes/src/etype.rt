@@ -1,6 +1,7 @@
 //! The four encryption types, by the numbers that IANA assigned to them.
 ghost use Rattle.std.specs.Prelude.{◌≡◌, ◌≢◌, ◌≤◌, IfSome, IfNone};
 ghost use Rattle.enctypes.specs.Etype.{number, key_len, mac_len, checksum_type, default_count};
+ghost use Rattle.enctypes.specs.Sealing.{macs_cipher};
 
 use crate::suite::with_suite;
 
@@ -57,6 +58,13 @@ impl Etype {
         ensures most { result ≤ 24 }
     {
         with_suite!(self, MAC_LEN)
+    }
+
+    // Whether the HMAC of a sealed text is that of the cipher, or that of the plain text.
+    pub(crate) fn macs_cipher(self) -> bool
+        ensures { result ≡ macs_cipher self }
+    {
+        with_suite!(self, MACS_CIPHER)
     }
 
     /// The number of the checksum type that goes with the type (RFC 3962, section 7; RFC 8009,

@@ -8,6 +8,7 @@
 //! | [`string_to_key`] | RFC 3962, section 4; RFC 8009, section 4 | the key of a password |
 //! | [`seal`] | RFC 3961, section 5.3; RFC 8009, section 5 | a text enciphered, with its HMAC |
 //! | [`open`] | the same | the text again, where the HMAC agrees |
+//! | [`ReadyKey::seal`], [`ReadyKey::open`] | the same | the same, by a key from which nothing more is derived |
 //! | [`checksum`], [`verify`] | RFC 3961, section 5.4; RFC 8009, section 6 | the HMAC of a text |
 //!
 //! `open` gives the text where some confounder seals it to this cipher, and no key opens two texts
@@ -21,9 +22,11 @@ mod derived_key;
 mod etype;
 mod key;
 mod key_usage;
+mod mac_key;
 mod octets;
 mod passwords;
 mod purpose;
+mod ready_key;
 mod sealing;
 mod sha2_profile;
 mod short_octets;
@@ -35,6 +38,7 @@ pub use etype::Etype;
 pub use key::Key;
 pub use key_usage::KeyUsage;
 pub use passwords::string_to_key;
+pub use ready_key::ReadyKey;
 pub use sealing::{open, seal};
 pub use sha2_profile::{Aes128Sha2, Aes256Sha2};
 pub use short_octets::Mac;

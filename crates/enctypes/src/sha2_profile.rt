@@ -1,18 +1,17 @@
 //! Types 19 and 20: AES and HMAC-SHA-2 (RFC 8009). They differ in the hash function and in lengths.
 ghost use Rattle.std.specs.Prelude.{◌≡◌, ◌≤◌, ◌∷◌, ◌++◌, IfOk, length};
 
+use crate::Etype;
 use crate::suite::Suite;
-use crate::{Etype, Mac};
 use prf_kdf::{
-    hmac_sha256, hmac_sha384, kdf_sha256, kdf_sha256_both, kdf_sha384, kdf_sha384_both,
-    pbkdf2_sha256, pbkdf2_sha384,
+    kdf_sha256, kdf_sha256_both, kdf_sha384, kdf_sha384_both, pbkdf2_sha256, pbkdf2_sha384,
 };
 use std::alloc::{AllocError, Global};
 
 /// aes128-cts-hmac-sha256-128.
 pub struct Aes128Sha2;
 
-#[tactic(auto, unfolding(crate::specs::Derivation::derived, crate::specs::Derivation::stretched, crate::specs::Sealing::hmac_of))]
+#[tactic(auto, unfolding(crate::specs::Derivation::derived, crate::specs::Derivation::stretched))]
 impl Suite for Aes128Sha2 {
     ghost use Rattle.std.specs.Prelude.{pos, true};
     ghost use Rattle.enctypes.specs.declared.etype.Etype.TheVariants.{Aes128CtsHmacSha256_128};
@@ -62,10 +61,6 @@ impl Suite for Aes128Sha2 {
         kdf_sha256_both(key, constant, out, other_constant, other_out);
     }
 
-    fn hmac(key: &[u8], parts: &[&[u8]]) -> Mac {
-        Mac::new(&hmac_sha256(key, parts)[..Self::MAC_LEN])
-    }
-
     fn stretch(
         alloc: Global,
         pass: &[u8],
@@ -82,7 +77,7 @@ impl Suite for Aes128Sha2 {
 /// aes256-cts-hmac-sha384-192.
 pub struct Aes256Sha2;
 
-#[tactic(auto, unfolding(crate::specs::Derivation::derived, crate::specs::Derivation::stretched, crate::specs::Sealing::hmac_of))]
+#[tactic(auto, unfolding(crate::specs::Derivation::derived, crate::specs::Derivation::stretched))]
 impl Suite for Aes256Sha2 {
     ghost use Rattle.std.specs.Prelude.{pos, true};
     ghost use Rattle.enctypes.specs.declared.etype.Etype.TheVariants.{Aes256CtsHmacSha384_192};
@@ -130,10 +125,6 @@ impl Suite for Aes256Sha2 {
         other_out: &mut [u8],
     ) {
         kdf_sha384_both(key, constant, out, other_constant, other_out);
-    }
-
-    fn hmac(key: &[u8], parts: &[&[u8]]) -> Mac {
-        Mac::new(&hmac_sha384(key, parts)[..Self::MAC_LEN])
     }
 
     fn stretch(

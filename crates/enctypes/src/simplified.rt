@@ -1,15 +1,13 @@
 //! Types 17 and 18: the simplified profile of RFC 3961, section 5, with AES and HMAC-SHA-1, as
 //! RFC 3962 has it. They differ in the key's length alone.
-ghost use Rattle.std.specs.Prelude.{◌≡◌, ◌≤◌, ◌<◌, ◌⊎◌, length, take};
-ghost use Rattle.std.specs.List.{flat_map};
-ghost use Rattle.prf_kdf.specs.Hmac.{hmac_sha1};
+ghost use Rattle.std.specs.Prelude.{◌≡◌, ◌≤◌, ◌<◌, ◌⊎◌, length};
 ghost use Rattle.enctypes.specs.Derivation.{dr};
 
+use crate::Etype;
 use crate::aes_key::aes_key;
 use crate::suite::Suite;
-use crate::{Etype, Mac};
 use aes_cts::AesKey;
-use prf_kdf::{hmac_sha1, n_fold, pbkdf2_sha1};
+use prf_kdf::{n_fold, pbkdf2_sha1};
 use std::alloc::{AllocError, Global};
 
 /// The octets of a block of AES.
@@ -18,7 +16,7 @@ const BLOCK_LEN: usize = 16;
 /// aes128-cts-hmac-sha1-96.
 pub struct Aes128Sha1;
 
-#[tactic(auto, unfolding(crate::specs::Derivation::derived, crate::specs::Derivation::stretched, crate::specs::Sealing::hmac_of))]
+#[tactic(auto, unfolding(crate::specs::Derivation::derived, crate::specs::Derivation::stretched))]
 impl Suite for Aes128Sha1 {
     ghost use Rattle.std.specs.Prelude.{pos, false};
     ghost use Rattle.enctypes.specs.declared.etype.Etype.TheVariants.{Aes128CtsHmacSha1_96};
@@ -70,10 +68,6 @@ impl Suite for Aes128Sha1 {
         derive_random(&cipher, other_constant, other_out);
     }
 
-    fn hmac(key: &[u8], parts: &[&[u8]]) -> Mac {
-        hmac_sha1_96(key, parts)
-    }
-
     fn stretch(
         _alloc: Global,
         pass: &[u8],
@@ -89,7 +83,7 @@ impl Suite for Aes128Sha1 {
 /// aes256-cts-hmac-sha1-96.
 pub struct Aes256Sha1;
 
-#[tactic(auto, unfolding(crate::specs::Derivation::derived, crate::specs::Derivation::stretched, crate::specs::Sealing::hmac_of))]
+#[tactic(auto, unfolding(crate::specs::Derivation::derived, crate::specs::Derivation::stretched))]
 impl Suite for Aes256Sha1 {
     ghost use Rattle.std.specs.Prelude.{pos, false};
     ghost use Rattle.enctypes.specs.declared.etype.Etype.TheVariants.{Aes256CtsHmacSha1_96};
@@ -141,10 +135,6 @@ impl Suite for Aes256Sha1 {
         derive_random(&cipher, other_constant, other_out);
     }
 
-    fn hmac(key: &[u8], parts: &[&[u8]]) -> Mac {
-        hmac_sha1_96(key, parts)
-    }
-
     fn stretch(
         _alloc: Global,
         pass: &[u8],
@@ -172,11 +162,4 @@ fn derive_random(cipher: &AesKey, constant: &[u8], out: &mut [u8])
         let end = len.min(start + BLOCK_LEN);
         out[start..end].copy_from_slice(&block[..end - start]);
     }
-}
-
-/// The first 12 octets of the HMAC-SHA-1 of the parts.
-fn hmac_sha1_96(key: &[u8], parts: &[&[u8]]) -> Mac
-    ensures { result ≡ take 12 (hmac_sha1 key.now (flat_map (λ part. part.now) parts.now)) }
-{
-    Mac::new(&hmac_sha1(key, parts)[..12])
 }

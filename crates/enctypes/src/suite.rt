@@ -1,13 +1,11 @@
 //! What the encryption types differ in.
 ghost use Rattle.std.specs.Prelude.{◌≡◌, ◌≤◌, ◌<◌, ℕ, ℤ, Bool, length, OnOk};
-ghost use Rattle.std.specs.List.{flat_map};
 ghost use Rattle.enctypes.specs.declared.etype.Etype.{Etype};
 ghost use Rattle.enctypes.specs.Etype.{key_len};
 ghost use Rattle.enctypes.specs.Derivation.{derived, stretched};
-ghost use Rattle.enctypes.specs.Sealing.{cut_hmac};
 ghost use Rattle.enctypes.specs.Suite.{HasConstants};
 
-use crate::{Etype, Mac};
+use crate::Etype;
 use std::alloc::{AllocError, Global};
 
 /// An encryption type: its sizes, and the functions that its keys, checksums and sealed texts are
@@ -72,10 +70,6 @@ pub trait Suite {
         requires other_out { length other_out.old ≤ 32 }
         ensures value { out.new ≡ derived ETYPE key.now constant.now (length out.old) }
         ensures other_value { other_out.new ≡ derived ETYPE key.now other_constant.now (length other_out.old) };
-
-    /// The HMAC of the parts, taken one after the other as one text, cut to the type's length.
-    fn hmac(key: &[u8], parts: &[&[u8]]) -> Mac
-        ensures { result ≡ cut_hmac ETYPE key.now (flat_map (λ part. part.now) parts.now) };
 
     /// Fills `out` with the key that PBKDF2 makes of a password, from which string-to-key derives
     /// the protocol key.

@@ -14,3 +14,4 @@ pub mod FactsOfFold
 pub mod FactsOfSha1
 pub mod FactsOfSha256
 pub mod FactsOfSha384
+pub mod MacKeys

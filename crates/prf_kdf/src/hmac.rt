@@ -26,6 +26,15 @@ pub struct HmacKey<H> {
     pub outer: H,
 }
 
+/// HMAC-SHA-1 under one key.
+pub type HmacSha1 = HmacKey<Sha1>;
+
+/// HMAC-SHA-256 under one key.
+pub type HmacSha256 = HmacKey<Sha256>;
+
+/// HMAC-SHA-384 under one key.
+pub type HmacSha384 = HmacKey<Sha384>;
+
 impl<H: Hasher> HmacKey<H> {
     /// Takes the key in.
     pub fn new(key: &[u8]) -> Self

@@ -5,6 +5,7 @@
 //! | call | standard | fills or returns |
 //! |---|---|---|
 //! | [`hmac_sha1`], [`hmac_sha256`], [`hmac_sha384`] | RFC 2104, RFC 4231 | 20, 32, 48 octets |
+//! | [`HmacKey::new`], [`HmacKey::write_mac`] | the same | many MACs under one key, which is hashed once |
 //! | [`pbkdf2_sha1`], [`pbkdf2_sha256`], [`pbkdf2_sha384`] | RFC 8018, section 5.2 | a slice of up to 4,294,967,295 blocks |
 //! | [`n_fold`] | RFC 3961, section 5.1 | a slice of any length but none |
 //! | [`kdf_sha256`], [`kdf_sha384`] | RFC 8009, section 3 | a slice of at most 32, 48 octets |
@@ -18,6 +19,7 @@ mod kdf;
 mod pbkdf2;
 
 pub use fold::n_fold;
-pub use hmac::{hmac_sha1, hmac_sha256, hmac_sha384};
+pub use hasher::Hasher;
+pub use hmac::{HmacKey, HmacSha1, HmacSha256, HmacSha384, hmac_sha1, hmac_sha256, hmac_sha384};
 pub use kdf::{kdf_sha256, kdf_sha256_both, kdf_sha384, kdf_sha384_both};
 pub use pbkdf2::{pbkdf2_sha1, pbkdf2_sha256, pbkdf2_sha384};

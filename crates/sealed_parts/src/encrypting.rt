@@ -3,8 +3,8 @@ ghost use Rattle.std.specs.Prelude.{◌≡◌, ◌<◌, ◌≤◌, ◌+◌, ◌^
 ghost use Rattle.enctypes.specs.KeyUsage.{usage_number};
 ghost use Rattle.sealed_parts.specs.Encrypted.{encrypted, decrypted};
 
-use crate::seal_part;
-use enctypes::{Key, KeyUsage};
+use crate::seal_part_by;
+use enctypes::{Key, KeyUsage, ReadyKey};
 use krb_elements::{Encode, Octets, UInt32};
 use krb_fields::EncryptedData;
 use std::alloc::{AllocError, Global};
@@ -24,9 +24,27 @@ pub fn encrypted<T: Encode>(
     ensures opens { IfOk result (λ sealed. decrypted T.codec key.now (usage_number usage) sealed ≡ Some part.now) }
     ensures most { IfOk result (λ sealed. length sealed.cipher ≤ 46 + length (T.codec.text part.now)) }
 {
-    let cipher = seal_part(alloc, key, usage, confounder, part)?;
+    encrypted_by(alloc, &ReadyKey::new(key, usage), kvno, confounder, part)
+}
+
+/// As `encrypted`, by a key that is ready.
+pub fn encrypted_by<T: Encode>(
+    alloc: Global,
+    ready: &ReadyKey,
+    kvno: Option<UInt32>,
+    confounder: &[u8; 16],
+    part: &T,
+) -> Result<EncryptedData, AllocError>
+    requires { length (T.codec.text part.now) < 2 ^ 32 }
+    ensures value { IfOk result (λ sealed. sealed
+        ≡ encrypted T.codec ready.now.key (usage_number ready.now.usage) kvno confounder.now part.now) }
+    ensures opens { IfOk result (λ sealed.
+        decrypted T.codec ready.now.key (usage_number ready.now.usage) sealed ≡ Some part.now) }
+    ensures most { IfOk result (λ sealed. length sealed.cipher ≤ 46 + length (T.codec.text part.now)) }
+{
+    let cipher = seal_part_by(alloc, ready, confounder, part)?;
     Ok(EncryptedData {
-        etype: key.etype().number(),
+        etype: ready.etype().number(),
         kvno,
         cipher: Octets::new(cipher),
     })

@@ -10,8 +10,8 @@ ghost use Rattle.enctypes.specs.KeyUsage.{usage_number};
 ghost use Rattle.enctypes.specs.Sealing.{seal};
 ghost use Rattle.sealed_parts.specs.Parts.{IsSpelledWithin, opened_as};
 
-pub use encrypting::encrypted;
-use enctypes::{Key, KeyUsage, open, seal};
+pub use encrypting::{encrypted, encrypted_by};
+use enctypes::{Key, KeyUsage, ReadyKey};
 pub use keys::{key_of, key_part, type_numbered};
 use krb_elements::{Encode, Fault, ReadOwned, read_owned, write};
 use std::alloc::{AllocError, Global};
@@ -32,8 +32,27 @@ pub fn seal_part<T: Encode>(
         opened_as T.codec key.now.etype key.now.bytes (usage_number usage) cipher.items ≡ Some part.now) }
     ensures most { IfOk result (λ cipher. length cipher.items ≤ 46 + length (T.codec.text part.now)) }
 {
+    seal_part_by(alloc, &ReadyKey::new(key, usage), confounder, part)
+}
+
+/// As `seal_part`, by a key that is ready.
+pub fn seal_part_by<T: Encode>(
+    alloc: Global,
+    ready: &ReadyKey,
+    confounder: &[u8; 16],
+    part: &T,
+) -> Result<Vec<u8>, AllocError>
+    requires { length (T.codec.text part.now) < 2 ^ 32 }
+    ensures value { IfOk result (λ cipher. cipher.items
+        ≡ seal ready.now.key.etype ready.now.key.bytes (usage_number ready.now.usage) confounder.now
+        (written T.codec part.now)) }
+    ensures opens { IfOk result (λ cipher.
+        opened_as T.codec ready.now.key.etype ready.now.key.bytes (usage_number ready.now.usage) cipher.items
+        ≡ Some part.now) }
+    ensures most { IfOk result (λ cipher. length cipher.items ≤ 46 + length (T.codec.text part.now)) }
+{
     let text = write(alloc, part)?;
-    seal(alloc, key, usage, confounder, &text)
+    ready.seal(alloc, confounder, &text)
 }
 
 /// The value that is sealed; `None` where the key doesn't open the cipher to the encoding of one.
@@ -48,7 +67,20 @@ pub fn open_part<T: ReadOwned>(
     // It stands in no more octets than the cipher has.
     ensures within { IfOk result (λ found. IfSome found (λ part. IsSpelledWithin T.codec part cipher.now)) }
 {
-    let Some(text) = open(alloc, key, usage, cipher)? else {
+    open_part_by(alloc, &ReadyKey::new(key, usage), cipher)
+}
+
+/// As `open_part`, by a key that is ready.
+pub fn open_part_by<T: ReadOwned>(
+    alloc: Global,
+    ready: &ReadyKey,
+    cipher: &[u8],
+) -> Result<Option<T>, AllocError>
+    ensures value { IfOk result (λ found. found
+        ≡ opened_as T.codec ready.now.key.etype ready.now.key.bytes (usage_number ready.now.usage) cipher.now) }
+    ensures within { IfOk result (λ found. IfSome found (λ part. IsSpelledWithin T.codec part cipher.now)) }
+{
+    let Some(text) = ready.open(alloc, cipher)? else {
         return Ok(None);
     };
     match read_owned(alloc, &text) {

@@ -1,17 +1,18 @@
 use Rattle.std.proofs.Common.{◌≡◌, ℕ, ◌<◌, List, ◌++◌, All, get_or, take, drop, length, sym, ap, ◌∙◌, arith}
 use Rattle.std.proofs.lemmas.List.{take_at}
 use Rattle.std.proofs.lemmas.List.Elements.{All-from_get_or}
+use Rattle.enctypes.specs.KeyUsage.{usage_number}
 use Rattle.enctypes.proofs.OpenedLaws.{opens_what_was_sealed}
 use Rattle.enctypes.proofs.Sealed.{length-seal}
 use Rattle.enctypes.proofs.SealingSteps.{put_together, sealed_is}
 use Rattle.enctypes.proofs.Sizes.{mac_len-most}
-use Rattle.enctypes.proofs.sealing.seal_as.Goals as goal
+use Rattle.enctypes.proofs.ready_key.ReadyKey.seal.Goals as goal
 
 octets : (l : List ℕ) → ((i : ℕ) → get_or l i 0 < 256) → All (λ b. b < 256) l
 octets l fits = All-from_get_or (λ b. b < 256) l 0 (λ i lt. fits i)
 
 pub returns-clause-value : goal.returns-clause-value
-returns-clause-value g c =
+returns-clause-value c =
     let confounder : List ℕ = c.args.confounder.now in
     let text : List ℕ = c.args.text.now in
     let plain : c.deref_mut.result.now ≡ confounder ++ text =
@@ -23,31 +24,31 @@ returns-clause-value g c =
     let len : ℕ = c.extend_from_slice-2.new.self.len in
     let written : take len (sealed ++ behind) ≡ sealed =
     take_at sealed behind len (omega (arith, c.encipher-mac.auto.text, c.deref_mut.ensures.len)) in
-    sealed_is g.S.Suite.ETYPE c.args.key.now c.args.usage confounder text c.deref_mut.result.now sealed c.encipher-mac.result
+    sealed_is c.args.self.now.key.etype c.args.self.now.key.bytes (usage_number c.args.self.now.usage) confounder text c.deref_mut.result.now sealed c.encipher-mac.result
     (take len (sealed ++ behind)) c.bytes.result.now c.extend_from_slice-3.new.self.items plain c.encipher-mac.ensures.value
     c.encipher-mac.ensures.mac written c.bytes.ensures.bytes c.in_ok-extend_from_slice-3.ensures.items
 
 pub returns-clause-len : goal.returns-clause-len
-returns-clause-len g c =
-    ap length (returns-clause-value g c)
-    ∙ length-seal g.S.Suite.ETYPE c.args.key.now c.args.usage c.args.confounder.now c.args.text.now c.told-confounder
+returns-clause-len c =
+    ap length (returns-clause-value c)
+    ∙ length-seal c.args.self.now.key.etype c.args.self.now.key.bytes (usage_number c.args.self.now.usage) c.args.confounder.now c.args.text.now c.told-confounder
 
 pub returns-clause-most : goal.returns-clause-most
-returns-clause-most g c = omega (arith, returns-clause-len g c, mac_len-most g.S.Suite.ETYPE)
+returns-clause-most c = omega (arith, returns-clause-len c, mac_len-most c.args.self.now.key.etype)
 
 pub returns-clause-opens : goal.returns-clause-opens
-returns-clause-opens g c = record {
+returns-clause-opens c = record {
   confounder = c.args.confounder.now;
   is_block = record {
     size = c.told-confounder;
     octets = octets c.args.confounder.now (λ i. omega (arith, c.fits-confounder i));
   };
   octets = octets c.args.text.now (λ i. omega (arith, c.type_inv.text i));
-  sealed = sym (returns-clause-value g c);
+  sealed = sym (returns-clause-value c);
 }
 
 pub returns-clause-opened : goal.returns-clause-opened
-returns-clause-opened g c =
-    let key_octets = octets c.args.key.now (λ i. omega (arith, c.type_inv.key i)) in
-    let law = opens_what_was_sealed g.S.Suite.ETYPE c.args.key.now c.args.usage key_octets in
-    law.found _ c.args.text.now (returns-clause-opens g c)
+returns-clause-opened c =
+    let law = opens_what_was_sealed c.args.self.now.key.etype c.args.self.now.key.bytes (usage_number c.args.self.now.usage)
+    c.mac_len-mac_len.ensures.valid.octets in
+    law.found _ c.args.text.now (returns-clause-opens c)

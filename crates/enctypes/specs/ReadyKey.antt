@@ -1,0 +1,30 @@
+-- Keys that are kept ready for sealing and opening under one usage.
+use Rattle.std.specs.Prelude.{◌≡◌, ℕ, List}
+use Rattle.prf_kdf.specs.MacKeys.{IsSha1Key, IsSha256Key, IsSha384Key}
+use Rattle.enctypes.specs.declared.etype.Etype.{Etype}
+use Rattle.enctypes.specs.declared.etype.Etype.TheVariants.{Aes128CtsHmacSha1_96, Aes256CtsHmacSha1_96}
+use Rattle.enctypes.specs.declared.etype.Etype.TheVariants.{Aes128CtsHmacSha256_128, Aes256CtsHmacSha384_192}
+use Rattle.enctypes.specs.declared.key_usage.KeyUsage.{KeyUsage}
+use Rattle.enctypes.specs.declared.mac_key.MacKey.{MacKey}
+use Rattle.enctypes.specs.declared.mac_key.MacKey.TheVariants.{Sha1, Sha256, Sha384}
+use Rattle.enctypes.specs.Derivation.{ke, ki}
+use Rattle.enctypes.specs.Key.{ProtocolKey}
+use Rattle.enctypes.specs.KeyUsage.{usage_number}
+
+-- the hashers are those of the key, with the hash function of the type
+abbrev pub IsMacKey : Etype → List ℕ → MacKey → Type 0
+IsMacKey Aes128CtsHmacSha1_96 key (Sha1 hashers) = IsSha1Key hashers key
+IsMacKey Aes256CtsHmacSha1_96 key (Sha1 hashers) = IsSha1Key hashers key
+IsMacKey Aes128CtsHmacSha256_128 key (Sha256 hashers) = IsSha256Key hashers key
+IsMacKey Aes256CtsHmacSha384_192 key (Sha384 hashers) = IsSha384Key hashers key
+IsMacKey _ _ _ = ⊥
+
+-- a key that is ready: that key, and what it is used for
+pub record ReadyKey : Type 0 where
+  pub key : ProtocolKey
+  pub usage : KeyUsage
+
+-- the key of AES is Ke, and that of HMAC is Ki
+pub record IsReady (key : ProtocolKey) (usage : KeyUsage) (cipher : List ℕ) (hashers : MacKey) : Type 0 where
+  pub encryption : cipher ≡ ke key.etype key.bytes (usage_number usage)
+  pub integrity : IsMacKey key.etype (ki key.etype key.bytes (usage_number usage)) hashers

@@ -1,0 +1,59 @@
+//! HMAC under one key, by the hash function of an encryption type.
+ghost use Rattle.std.specs.Prelude.{◌≡◌, ℕ, List};
+ghost use Rattle.std.specs.List.{flat_map};
+ghost use Rattle.enctypes.specs.declared.etype.Etype as types;
+ghost use Rattle.enctypes.specs.ReadyKey.{IsMacKey};
+ghost use Rattle.enctypes.specs.Sealing.{cut_hmac};
+
+use crate::{Etype, Mac};
+use prf_kdf::{HmacKey, HmacSha1, HmacSha256, HmacSha384};
+
+/// A key for HMACs, which was hashed once for all of them.
+#[derive(Drop)]
+pub enum MacKey {
+    /// That of types 17 and 18.
+    Sha1(HmacSha1),
+    /// That of type 19.
+    Sha256(HmacSha256),
+    /// That of type 20.
+    Sha384(HmacSha384),
+}
+
+impl MacKey {
+    /// Takes the key in.
+    pub fn new(etype: Etype, key: &[u8]) -> MacKey
+        ensures { IsMacKey etype key.now result }
+    {
+        match etype {
+            Etype::Aes128CtsHmacSha1_96 | Etype::Aes256CtsHmacSha1_96 => {
+                MacKey::Sha1(HmacKey::new(key))
+            }
+            Etype::Aes128CtsHmacSha256_128 => MacKey::Sha256(HmacKey::new(key)),
+            Etype::Aes256CtsHmacSha384_192 => MacKey::Sha384(HmacKey::new(key)),
+        }
+    }
+
+    /// The HMAC of the parts, taken one after the other as one text, cut to the type's length.
+    pub fn mac(&self, parts: &[&[u8]]) -> Mac
+        ensures { (etype : types.Etype) (key : List ℕ) → IsMacKey etype key self.now
+            → result ≡ cut_hmac etype key (flat_map (λ part. part.now) parts.now) }
+    {
+        match self {
+            MacKey::Sha1(key) => {
+                let mut mac = [0; 20];
+                key.write_mac(parts, &mut mac);
+                Mac::new(&mac[..12])
+            }
+            MacKey::Sha256(key) => {
+                let mut mac = [0; 32];
+                key.write_mac(parts, &mut mac);
+                Mac::new(&mac[..16])
+            }
+            MacKey::Sha384(key) => {
+                let mut mac = [0; 48];
+                key.write_mac(parts, &mut mac);
+                Mac::new(&mac[..24])
+            }
+        }
+    }
+}

@@ -1,0 +1,233 @@
+//! Keys that are kept ready: what sealing and opening derive of a key, derived once.
+ghost use Rattle.std.specs.Prelude.{◌≡◌, ◌≤◌, ◌<◌, ◌+◌, ◌++◌, ℕ, List, length, option_map, Some, IfOk, IfSome, IfNone};
+ghost use Rattle.std.specs.Prelude.{◌↔◌, All, IsTrue};
+ghost use Rattle.aes_cts.specs.Cts.{cts, cts_inverse};
+ghost use Rattle.enctypes.specs.declared.etype.Etype as types;
+ghost use Rattle.enctypes.specs.Etype.{key_len, mac_len};
+ghost use Rattle.enctypes.specs.Key.{IsKey};
+ghost use Rattle.enctypes.specs.KeyUsage.{usage_number};
+ghost use Rattle.enctypes.specs.Derivation.{ke, ki};
+ghost use Rattle.enctypes.specs.ReadyKey.{IsMacKey};
+ghost use Rattle.enctypes.specs.Sealing.{cut_hmac, zero_vector, macs_cipher, authenticated, seal};
+ghost use Rattle.enctypes.specs.Sealing.{Opens, OpensNothing, opened};
+
+use crate::aes_key::aes_key;
+use crate::derived_key::DerivedKey;
+use crate::key::LONGEST;
+use crate::mac_key::MacKey;
+use crate::octets::are_same;
+use crate::purpose::{Purpose, usage_constant};
+use crate::suite::{Suite, with_suite};
+use crate::{Etype, Key, KeyUsage, Mac};
+use aes_cts::AesKey;
+use std::alloc::{AllocError, Global};
+use std::fmt;
+use std::marker::Model;
+
+/// The octets of the confounder, which is sealed before the text.
+const CONFOUNDER_LEN: usize = 16;
+
+/// The initial cipher state.
+const ZERO_VECTOR: [u8; 16] = [0; 16];
+
+/// A key that is ready for sealing and opening under one usage: it has the schedule of Ke, and Ki hashed.
+///
+/// Contracts see the key and the usage. It is held without memory of its own.
+#[derive(Drop)]
+pub struct ReadyKey {
+    key: Key,
+    usage: KeyUsage,
+    cipher: AesKey,
+    integrity: MacKey,
+}
+
+impl Model for ReadyKey {
+    ghost use Rattle.enctypes.specs.ReadyKey as ready;
+
+    ghost Value = { ready.ReadyKey };
+
+    ghost view = { λ r. record { key = r.key; usage = r.usage } };
+
+    ghost invariant = { λ r. ready.IsReady r.key r.usage r.cipher r.integrity };
+}
+
+impl ReadyKey {
+    /// Makes a key ready for a usage.
+    pub fn new(key: &Key, usage: KeyUsage) -> ReadyKey
+        ensures ready { result ≡ record { key = key.now; usage = usage } }
+        ensures octets { All (λ b. b < 256) key.now.bytes }
+    {
+        let (octets, number) = (key.bytes(), usage.number());
+        let (cipher, integrity) = with_suite!(key.etype(), sealing_keys(octets, number));
+        ReadyKey {
+            key: *key,
+            usage,
+            cipher,
+            integrity: MacKey::new(key.etype(), integrity.bytes()),
+        }
+    }
+
+    pub fn etype(&self) -> Etype
+        ensures { result ≡ self.now.key.etype }
+    {
+        self.key.etype()
+    }
+
+    /// Whether this is that key for that usage. All octets are compared before it answers.
+    pub fn is_for(&self, key: &Key, usage: KeyUsage) -> bool
+        ensures { IsTrue result ↔ (self.now ≡ record { key = key.now; usage = usage }) }
+    {
+        self.usage == usage
+            && self.key.etype() == key.etype()
+            && are_same(self.key.bytes(), key.bytes())
+    }
+
+    /// Seals a text, as `seal` does under this key and usage.
+    pub fn seal(
+        &self,
+        alloc: Global,
+        confounder: &[u8; 16],
+        text: &[u8],
+    ) -> Result<Vec<u8>, AllocError>
+        ensures value { IfOk result (λ sealed. sealed.items
+            ≡ seal self.now.key.etype self.now.key.bytes (usage_number self.now.usage) confounder.now text.now) }
+        ensures len { IfOk result (λ sealed.
+            length sealed.items ≡ 16 + mac_len self.now.key.etype + length text.now) }
+        ensures most { IfOk result (λ sealed. length sealed.items ≤ 40 + length text.now) }
+        ensures opens { IfOk result (λ sealed.
+            Opens self.now.key.etype self.now.key.bytes (usage_number self.now.usage) sealed.items text.now) }
+        ensures opened { IfOk result (λ sealed.
+            opened self.now.key.etype self.now.key.bytes (usage_number self.now.usage) sealed.items
+            ≡ Some text.now) }
+    {
+        let mac_len = self.mac_len();
+        let mut sealed = Vec::with_capacity(alloc, CONFOUNDER_LEN + text.len() + mac_len)?;
+        sealed.extend_from_slice(confounder)?;
+        sealed.extend_from_slice(text)?;
+        let mac = self.encipher(&mut sealed);
+        sealed.extend_from_slice(mac.bytes())?;
+        Ok(sealed)
+    }
+
+    /// Opens a sealed text, as `open` does under this key and usage.
+    pub fn open(&self, alloc: Global, cipher: &[u8]) -> Result<Option<Vec<u8>>, AllocError>
+        ensures value { IfOk result (λ found. option_map (λ text. text.items) found
+            ≡ opened self.now.key.etype self.now.key.bytes (usage_number self.now.usage) cipher.now) }
+        ensures opened { IfOk result (λ found. IfSome found (λ text.
+            Opens self.now.key.etype self.now.key.bytes (usage_number self.now.usage) cipher.now text.items)) }
+        ensures none { IfOk result (λ found. IfNone found
+            (OpensNothing self.now.key.etype self.now.key.bytes (usage_number self.now.usage) cipher.now)) }
+        ensures len { IfOk result (λ found. IfSome found (λ text.
+            length cipher.now ≡ 16 + mac_len self.now.key.etype + length text.items)) }
+        ensures short { length cipher.now < 16 + mac_len self.now.key.etype → result ≡ Ok None }
+    {
+        let mac_len = self.mac_len();
+        if cipher.len() < CONFOUNDER_LEN + mac_len {
+            return Ok(None);
+        }
+        let (enciphered, mac) = cipher.split_at(cipher.len() - mac_len);
+        let mut text = Vec::with_capacity(alloc, enciphered.len())?;
+        text.extend_from_slice(enciphered)?;
+        let expected = self.decipher(&mut text);
+        if !are_same(expected.bytes(), mac) {
+            return Ok(None);
+        }
+        text.copy_within(CONFOUNDER_LEN.., 0);
+        text.truncate(enciphered.len() - CONFOUNDER_LEN);
+        Ok(Some(text))
+    }
+
+    // How many octets of HMAC end what is sealed.
+    fn mac_len(&self) -> usize
+        ensures value { result ≡ mac_len self.now.key.etype }
+        ensures most { result ≤ 24 }
+        ensures valid { IsKey self.now.key }
+    {
+        self.key.etype().mac_len()
+    }
+
+    // Enciphers confounder and text in place, and gives the HMAC that ends the sealed text.
+    fn encipher(&self, text: &mut [u8]) -> Mac
+        requires { 16 ≤ length text.old }
+        ensures value { text.new
+            ≡ cts (ke self.now.key.etype self.now.key.bytes (usage_number self.now.usage)) zero_vector text.old }
+        ensures mac { result ≡ cut_hmac self.now.key.etype
+            (ki self.now.key.etype self.now.key.bytes (usage_number self.now.usage))
+            (authenticated (macs_cipher self.now.key.etype) text.old text.new) }
+    {
+        if self.key.etype().macs_cipher() {
+            self.cipher.cts_encrypt(&ZERO_VECTOR, text);
+            mac_of_cipher(&self.integrity, text)
+        } else {
+            let mac = mac_of_plain(&self.integrity, text);
+            self.cipher.cts_encrypt(&ZERO_VECTOR, text);
+            mac
+        }
+    }
+
+    // Deciphers confounder and text in place, and gives the HMAC that has to end the sealed text.
+    fn decipher(&self, text: &mut [u8]) -> Mac
+        requires { 16 ≤ length text.old }
+        ensures value { text.new
+            ≡ cts_inverse (ke self.now.key.etype self.now.key.bytes (usage_number self.now.usage)) zero_vector
+            text.old }
+        ensures mac { result ≡ cut_hmac self.now.key.etype
+            (ki self.now.key.etype self.now.key.bytes (usage_number self.now.usage))
+            (authenticated (macs_cipher self.now.key.etype) text.new text.old) }
+    {
+        if self.key.etype().macs_cipher() {
+            let mac = mac_of_cipher(&self.integrity, text);
+            self.cipher.cts_decrypt(&ZERO_VECTOR, text);
+            mac
+        } else {
+            self.cipher.cts_decrypt(&ZERO_VECTOR, text);
+            mac_of_plain(&self.integrity, text)
+        }
+    }
+}
+
+/// The type and the usage alone: what is printed ends up in logs, where no key may stand.
+impl fmt::Debug for ReadyKey {
+    fn fmt<W: fmt::Write>(&self, f: &mut fmt::Formatter<W>) -> fmt::Result {
+        f.debug_struct("ReadyKey")
+            .field("key", &self.key)
+            .field("usage", &self.usage)
+            .finish_non_exhaustive()
+    }
+}
+
+// Ke, as a key of AES, and Ki.
+fn sealing_keys<S: Suite>(key: &[u8], usage: u32) -> (AesKey, DerivedKey)
+    requires { length key.now ≡ key_len S.ETYPE }
+    ensures encryption { result.0 ≡ ke S.ETYPE key.now usage }
+    ensures integrity { result.1 ≡ ki S.ETYPE key.now usage }
+{
+    let mut encryption = [0; LONGEST];
+    let mut integrity = [0; LONGEST];
+    let encryption = &mut encryption[..S::KEY_LEN];
+    let integrity = &mut integrity[..S::MAC_KEY_LEN];
+    S::derive_both(
+        key,
+        &usage_constant(usage, Purpose::Encryption),
+        encryption,
+        &usage_constant(usage, Purpose::Integrity),
+        integrity,
+    );
+    (aes_key(encryption), DerivedKey::new(integrity))
+}
+
+// The HMAC of confounder and text (RFC 3961, section 5.3).
+fn mac_of_plain(integrity: &MacKey, text: &[u8]) -> Mac
+    ensures { (etype : types.Etype) (key : List ℕ) → IsMacKey etype key integrity.now
+        → result ≡ cut_hmac etype key text.now }
+{
+    integrity.mac(&[text])
+}
+
+// The HMAC of the cipher with the initial cipher state before it (RFC 8009, section 5).
+fn mac_of_cipher(integrity: &MacKey, text: &[u8]) -> Mac
+    ensures { (etype : types.Etype) (key : List ℕ) → IsMacKey etype key integrity.now
+        → result ≡ cut_hmac etype key (zero_vector ++ text.now) }
+{
+    integrity.mac(&[&ZERO_VECTOR, text])
+}
