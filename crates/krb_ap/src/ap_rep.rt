@@ -15,6 +15,9 @@ use krb_fields::{EncryptedData, EncryptedDataRef};
 use krb_types::PVNO;
 use std::alloc::{AllocError, Global};
 
+/// The message type, as its field has it.
+const MSG_TYPE: i32 = AP_REP as i32;
+
 /// A service's answer to a client that asked it to show who it is. Its version and its message type are those of every
 /// AP-REP, and not kept.
 #[derive(Debug, Drop)]
@@ -42,7 +45,7 @@ impl<'a, E: Decode<'a>> DecodeFields<'a> for ApRep<E> {
     #[tactic(auto, unfolding(crate::specs::ApRep::ap_rep_form))]
     fn look_fields(fields: &mut Reader<'a>) -> Result<ApRep<E>, DerFault> {
         take_fixed(fields, 0, PVNO)?;
-        take_fixed(fields, 1, i32::from(AP_REP))?;
+        take_fixed(fields, 1, MSG_TYPE)?;
         Ok(ApRep {
             enc_part: take_field(fields, 2)?,
         })
@@ -53,7 +56,7 @@ impl<E: Encode> EncodeFields for ApRep<E> {
     #[tactic(auto, unfolding(crate::specs::ApRep::ap_rep_form))]
     fn put_fields(&self, out: &mut Writer) -> Result<(), AllocError> {
         write_field(out, 0, &PVNO)?;
-        write_field(out, 1, &i32::from(AP_REP))?;
+        write_field(out, 1, &MSG_TYPE)?;
         write_field(out, 2, &self.enc_part)
     }
 }

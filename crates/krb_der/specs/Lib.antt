@@ -6,10 +6,11 @@ pub mod Digits
 pub mod Time
 pub mod Reading
 pub mod Items
+pub mod Ended
+-- laws that proofs cite: no reader of a contract needs them
 pub mod StepLaws
 pub mod Laws
 pub mod IntLaws
 pub mod BitLaws
 pub mod LeafLaws
 pub mod ElementLaws
-pub mod Ended

@@ -3,6 +3,10 @@ pub mod Format
 pub mod Spells
 pub mod Written
 pub mod Simple
+pub mod FieldReading
+pub mod Codec
+pub mod CodecLaws
+-- laws that proofs cite: no reader of a contract needs them
 pub mod Laws
 pub mod WrittenLaws
 pub mod WritableLaws
@@ -11,7 +15,4 @@ pub mod OneSpellingLaws
 pub mod ShortTextLaws
 pub mod TextLengthLaws
 pub mod InsideLaws
-pub mod FieldReading
-pub mod CodecLaws
-pub mod Codec
 pub mod CopyLaws

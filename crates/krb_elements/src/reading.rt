@@ -85,10 +85,7 @@ pub fn end_of(fields: &Reader<'_>) -> Result<(), DerFault>
 fn look_inside<'a, T: Decode<'a>>(reader: &mut Reader<'a>, tag: u8) -> Result<T, DerFault>
     ensures { Looks result reader.new (inside tag (whole T.codec.at) reader.old) }
 {
-    let mut contents = Reader::new(reader.read_tlv(tag)?);
-    let value = T::look(&mut contents)?;
-    end_of(&contents)?;
-    Ok(value)
+    look_all(reader.read_tlv(tag)?)
 }
 
 /// The field with this tag.
@@ -194,9 +191,16 @@ fn look_made<'a, T: DecodeFields<'a>>(reader: &mut Reader<'a>) -> Result<T, DerF
 fn look_tagged<'a, T: DecodeFields<'a>>(reader: &mut Reader<'a>, tag: u8) -> Result<T, DerFault>
     ensures { Looks result reader.new (inside tag (whole (sequence T.form).at) reader.old) }
 {
-    let mut contents = Reader::new(reader.read_tlv(tag)?);
-    let value = look_sequence(&mut contents)?;
-    end_of(&contents)?;
+    sequence_in(reader.read_tlv(tag)?)
+}
+
+/// The SEQUENCE that all of the octets are.
+fn sequence_in<'a, T: DecodeFields<'a>>(bytes: &'a [u8]) -> Result<T, DerFault>
+    ensures { Sees result (whole (sequence T.form).at bytes.now) }
+{
+    let mut reader = Reader::new(bytes);
+    let value = look_sequence(&mut reader)?;
+    end_of(&reader)?;
     Ok(value)
 }
 
@@ -204,7 +208,14 @@ fn look_tagged<'a, T: DecodeFields<'a>>(reader: &mut Reader<'a>, tag: u8) -> Res
 fn look_sequence<'a, T: DecodeFields<'a>>(reader: &mut Reader<'a>) -> Result<T, DerFault>
     ensures { Looks result reader.new ((sequence T.form).at reader.old) }
 {
-    let mut fields = Reader::new(reader.read_tlv(0x30)?);
+    fields_in(reader.read_tlv(0x30)?)
+}
+
+/// The fields that all of the octets are.
+fn fields_in<'a, T: DecodeFields<'a>>(bytes: &'a [u8]) -> Result<T, DerFault>
+    ensures { Sees result (whole (fields_at T.form) bytes.now) }
+{
+    let mut fields = Reader::new(bytes);
     let value = T::look_fields(&mut fields)?;
     end_of(&fields)?;
     Ok(value)

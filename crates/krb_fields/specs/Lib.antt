@@ -5,8 +5,6 @@ pub mod KdcOption
 pub mod Moment
 pub mod Name
 pub mod NameLimits
-pub mod NameLimitsLaws
-pub mod NameLengthLaws
 pub mod NameText
 pub mod Salt
 pub mod Skew
@@ -15,4 +13,7 @@ pub mod PrincipalName
 pub mod EncryptedData
 pub mod PaData
 pub mod Typed
+-- laws that proofs cite: no reader of a contract needs them
+pub mod NameLimitsLaws
+pub mod NameLengthLaws
 pub mod NameCopyLaws

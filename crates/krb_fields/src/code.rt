@@ -92,12 +92,10 @@ impl Code {
     {
         self as i32
     }
-}
 
-/// The error's name in RFC 4120.
-impl fmt::Display for Code {
-    fn fmt<W: fmt::Write>(&self, f: &mut fmt::Formatter<W>) -> fmt::Result {
-        f.write_str(match self {
+    /// The error's name in RFC 4120.
+    fn name(self) -> &'static str {
+        match self {
             Code::KdcErrNameExp => "KDC_ERR_NAME_EXP",
             Code::KdcErrServiceExp => "KDC_ERR_SERVICE_EXP",
             Code::KdcErrBadPvno => "KDC_ERR_BAD_PVNO",
@@ -136,6 +134,13 @@ impl fmt::Display for Code {
             Code::KrbErrResponseTooBig => "KRB_ERR_RESPONSE_TOO_BIG",
             Code::KrbErrGeneric => "KRB_ERR_GENERIC",
             Code::KrbErrFieldToolong => "KRB_ERR_FIELD_TOOLONG",
-        })
+        }
+    }
+}
+
+/// The error's name in RFC 4120.
+impl fmt::Display for Code {
+    fn fmt<W: fmt::Write>(&self, f: &mut fmt::Formatter<W>) -> fmt::Result {
+        f.write_str(self.name())
     }
 }

@@ -3,8 +3,9 @@
 //! The components are joined by `/`. The octets 21 to 7E (hexadecimal) are written as they are, except
 //! `/`, `\` and `@`; those three and every other octet are written as `\` and two lower case
 //! hexadecimal digits. Nothing else is read, so a name has one text alone.
-ghost use Rattle.std.specs.Prelude.{◌≡◌, ◌≢◌, ◌<◌, ◌++◌, ℕ, List, false, IfOk, IfSome, IfNone, OnOk, MatchResult, pos};
-ghost use Rattle.std.specs.Prelude.{string_bytes};
+ghost use Rattle.std.specs.Prelude.{◌≡◌, ◌≢◌, ◌<◌, ◌++◌, ◌∷◌, [], ℕ, List, false, IfOk, IfSome, IfNone, OnOk};
+ghost use Rattle.std.specs.Prelude.{MatchResult};
+ghost use Rattle.std.specs.Prelude.{pos, string_bytes};
 ghost use Rattle.krb_fields.specs.Name.{Components};
 ghost use Rattle.krb_fields.specs.NameLimits.{IsWithinLimits};
 ghost use Rattle.krb_fields.specs.NameText.{is_plain, hex_digit, digits_of, octet_text, component_text, text_of};
@@ -166,8 +167,16 @@ fn split_digits(text: &[u8]) -> Option<(u8, &[u8])>
     let [high, low, rest @ ..] = text else {
         return None;
     };
-    let octet = digit_value(*high)? * 16 + digit_value(*low)?;
-    (!is_plain(octet)).then_some((octet, rest))
+    Some((octet_of(*high, *low)?, rest))
+}
+
+/// The octet that is not plain with these digits.
+fn octet_of(high: u8, low: u8) -> Option<u8>
+    ensures found { IfSome result (λ octet. (is_plain octet ≡ false) × (digits_of octet ≡ high ∷ low ∷ [])) }
+    ensures none { IfNone result ((o : ℕ) → o < 256 → is_plain o ≡ false → digits_of o ≢ high ∷ low ∷ []) }
+{
+    let octet = digit_value(high)? * 16 + digit_value(low)?;
+    (!is_plain(octet)).then_some(octet)
 }
 
 fn digit_value(digit: u8) -> Option<u8>

@@ -15,6 +15,9 @@ use krb_elements::{
 use krb_fields::{Name, NameRef};
 use std::alloc::{AllocError, Global};
 
+/// The message type, as its field has it.
+const MSG_TYPE: i32 = KRB_ERROR as i32;
+
 /// A KDC's or a service's refusal. Its version and its message type are those of every KRB-ERROR, and not kept.
 #[derive(Debug, Drop)]
 pub struct KrbError<S = KerberosString, N = Name, O = Octets> {
@@ -50,7 +53,7 @@ impl<'a, S: Decode<'a>, N: Decode<'a>, O: Decode<'a>> DecodeFields<'a> for KrbEr
     #[tactic(auto, unfolding(crate::specs::KrbError::krb_error_form))]
     fn look_fields(fields: &mut Reader<'a>) -> Result<KrbError<S, N, O>, DerFault> {
         take_fixed(fields, 0, PVNO)?;
-        take_fixed(fields, 1, i32::from(KRB_ERROR))?;
+        take_fixed(fields, 1, MSG_TYPE)?;
         Ok(KrbError {
             ctime: take_optional(fields, 2)?,
             cusec: take_optional(fields, 3)?,
@@ -71,7 +74,7 @@ impl<S: Encode, N: Encode, O: Encode> EncodeFields for KrbError<S, N, O> {
     #[tactic(auto, unfolding(crate::specs::KrbError::krb_error_form))]
     fn put_fields(&self, out: &mut Writer) -> Result<(), AllocError> {
         write_field(out, 0, &PVNO)?;
-        write_field(out, 1, &i32::from(KRB_ERROR))?;
+        write_field(out, 1, &MSG_TYPE)?;
         write_optional(out, 2, &self.ctime)?;
         write_optional(out, 3, &self.cusec)?;
         write_field(out, 4, &self.stime)?;

@@ -1,6 +1,5 @@
 //! The messages between a client and a service (`krb_ap`).
-ghost use Rattle.std.specs.Prelude.{◌<◌, length};
-
+use crate::expect::{same, written};
 use crate::whole_messages::is_name;
 use krb_ap::{
     ApRep, ApReqRef, decode_ap_rep, decode_ap_req, encode_ap_rep, encode_ap_req, read_ap_req,
@@ -10,7 +9,7 @@ use krb_elements::Fault;
 use krb_fields::{ApOption, EncryptedDataRef};
 use krb_types::TicketRef;
 use std::alloc::Global;
-use std::test::Fail;
+use std::process::Abort;
 
 // pyasn1 gives these octets of the types of RFC 4120, sections 5.2.9, 5.3, 5.5.1 and 5.5.2.
 
@@ -26,7 +25,16 @@ const AP_REQ: &[u8; 103] = b"\x6e\x65\x30\x63\
 
 /// Of version 4 and type 15, with two options that have no name; ciphers of 200 and 130 octets, which count from 0.
 const LONG_REQ: &[u8] =
-    b"6e8201b4308201b0a003020104a10302010fa20703050040010001a38201016181fe3081fba003020105a1051b03412e42a2143012a003020103a10b30091b04686f73741b0162a381d63081d3a003020114a281cb0481c8000102030405060708090a0b0c0d0e0f101112131415161718191a1b1c1d1e1f202122232425262728292a2b2c2d2e2f303132333435363738393a3b3c3d3e3f404142434445464748494a4b4c4d4e4f505152535455565758595a5b5c5d5e5f606162636465666768696a6b6c6d6e6f707172737475767778797a7b7c7d7e7f808182838485868788898a8b8c8d8e8f909192939495969798999a9b9c9d9e9fa0a1a2a3a4a5a6a7a8a9aaabacadaeafb0b1b2b3b4b5b6b7b8b9babbbcbdbebfc0c1c2c3c4c5c6c7a48195308192a003020113a103020109a28185048182000102030405060708090a0b0c0d0e0f101112131415161718191a1b1c1d1e1f202122232425262728292a2b2c2d2e2f303132333435363738393a3b3c3d3e3f404142434445464748494a4b4c4d4e4f505152535455565758595a5b5c5d5e5f606162636465666768696a6b6c6d6e6f707172737475767778797a7b7c7d7e7f8081";
+    b"6e8201b4308201b0a003020104a10302010fa20703050040010001a38201016181fe3081fba003020105a1051b03412e\
+    42a2143012a003020103a10b30091b04686f73741b0162a381d63081d3a003020114a281cb0481c80001020304050607\
+    08090a0b0c0d0e0f101112131415161718191a1b1c1d1e1f202122232425262728292a2b2c2d2e2f3031323334353637\
+    38393a3b3c3d3e3f404142434445464748494a4b4c4d4e4f505152535455565758595a5b5c5d5e5f6061626364656667\
+    68696a6b6c6d6e6f707172737475767778797a7b7c7d7e7f808182838485868788898a8b8c8d8e8f9091929394959697\
+    98999a9b9c9d9e9fa0a1a2a3a4a5a6a7a8a9aaabacadaeafb0b1b2b3b4b5b6b7b8b9babbbcbdbebfc0c1c2c3c4c5c6c7\
+    a48195308192a003020113a103020109a28185048182000102030405060708090a0b0c0d0e0f10111213141516171819\
+    1a1b1c1d1e1f202122232425262728292a2b2c2d2e2f303132333435363738393a3b3c3d3e3f40414243444546474849\
+    4a4b4c4d4e4f505152535455565758595a5b5c5d5e5f606162636465666768696a6b6c6d6e6f70717273747576777879\
+    7a7b7c7d7e7f8081";
 
 /// Without a kvno.
 const AP_REP: &[u8; 30] = b"\x6f\x1c\x30\x1a\
@@ -39,10 +47,6 @@ const OTHER_REP: &[u8; 36] = b"\x6f\x22\x30\x20\
     \xa0\x03\x02\x01\x05\
     \xa1\x03\x02\x01\x0f\
     \xa2\x14\x30\x12\xa0\x03\x02\x01\xff\xa1\x07\x02\x05\x00\x80\x00\x00\x00\xa2\x02\x04\x00";
-
-fn request(octets: &[u8]) -> Result<ApReqRef<'_>, DerFault> {
-    read_ap_req(octets)
-}
 
 fn kvno(sealed: &EncryptedDataRef<'_>) -> Option<i64> {
     match &sealed.kvno {
@@ -71,10 +75,14 @@ fn is_ticket(ticket: &TicketRef<'_>) -> bool {
 
 /// Reading takes no allocator, so no test has to refuse it memory.
 #[test]
-fn requests_are_read(rt: HostRuntime) -> Result<(), Fail> {
-    let request = request(AP_REQ)?;
-    assert!(rt; asks_for_an_answer(&request) && has_ticket_and_authenticator(&request));
-    Ok(())
+fn requests_are_read(rt: HostRuntime) {
+    same(&rt, &"a request", &is_request(AP_REQ), &Ok(true));
+}
+
+/// Whether the octets are those of `AP_REQ`.
+fn is_request(octets: &[u8]) -> Result<bool, DerFault> {
+    let request = read_ap_req(octets)?;
+    Ok(asks_for_an_answer(&request) && has_ticket_and_authenticator(&request))
 }
 
 /// Whether this is of version 5, and wants an answer alone.
@@ -102,15 +110,20 @@ fn count(octets: &[u8], len: usize) -> bool {
 }
 
 #[test]
-fn requests_of_any_version_are_read(rt: HostRuntime) -> Result<(), Fail> {
-    let octets = hex::decode(rt.alloc(), LONG_REQ)?;
-    match request(&octets) {
-        Ok(request) => {
-            assert!(rt; has_other_version(&request) && has_long_ciphers(&request));
-        }
-        Err(fault) => panic!(rt; "{fault:?}"),
-    }
-    Ok(())
+fn requests_of_any_version_are_read(rt: HostRuntime) {
+    let octets = long_request(rt.alloc());
+    same(&rt, &"a long request", &is_long_request(&octets), &Ok(true));
+}
+
+/// The octets of `LONG_REQ`.
+fn long_request(alloc: Global) -> Vec<u8> {
+    hex::decode(alloc, LONG_REQ).unwrap_or(Vec::new(alloc))
+}
+
+/// Whether the octets are those of `LONG_REQ`.
+fn is_long_request(octets: &[u8]) -> Result<bool, DerFault> {
+    let request = read_ap_req(octets)?;
+    Ok(has_other_version(&request) && has_long_ciphers(&request))
 }
 
 /// Whether this is of version 4 and type 15, with the options of `LONG_REQ`.
@@ -133,14 +146,13 @@ fn has_long_ciphers(request: &ApReqRef<'_>) -> bool {
 #[test]
 fn other_octets_are_no_request(rt: HostRuntime) {
     let octets = AP_REQ.as_slice();
-    assert!(rt; fault_of(AP_REP) == Some(DerFault::BadTag));
-    assert!(rt; fault_of(&with_other_tag()) == Some(DerFault::BadTag));
-    assert!(rt; fault_of(&without_ticket()) == Some(DerFault::BadTag));
-    assert!(rt; fault_of(&without_authenticator()) == Some(DerFault::Truncated));
-    assert!(rt; fault_of(&followed()) == Some(DerFault::Trailing));
+    refused(&rt, AP_REP, DerFault::BadTag);
+    refused(&rt, &with_other_tag(), DerFault::BadTag);
+    refused(&rt, &without_ticket(), DerFault::BadTag);
+    refused(&rt, &without_authenticator(), DerFault::Truncated);
+    refused(&rt, &followed(), DerFault::Trailing);
     for len in 0..103 {
-        let fault = fault_of(&octets[..len]);
-        assert_eq!(rt; fault, Some(DerFault::Truncated), "at {len}");
+        refused(&rt, &octets[..len], DerFault::Truncated);
     }
 }
 
@@ -158,8 +170,9 @@ fn without_ticket() -> [u8; 103] {
     octets
 }
 
-fn fault_of(octets: &[u8]) -> Option<DerFault> {
-    read_ap_req(octets).err()
+/// The octets are refused for this fault.
+fn refused(rt: &impl Abort, octets: &[u8], fault: DerFault) {
+    same(rt, &octets, &read_ap_req(octets).err(), &Some(fault));
 }
 
 /// The request, and an octet behind it.
@@ -179,40 +192,36 @@ fn without_authenticator() -> [u8; 88] {
     octets
 }
 
-/// What is written of the request that the octets spell.
-fn request_again(alloc: Global, octets: &[u8]) -> Result<Vec<u8>, Fault>
-    requires { length octets.now < 1000 }
-{
+/// What is written of the request that the octets spell, which are fewer than a thousand.
+fn request_again(alloc: Global, octets: &[u8]) -> Result<Vec<u8>, Fault> {
+    if octets.len() >= 1000 {
+        return Ok(Vec::new(alloc));
+    }
     let request = decode_ap_req(alloc, octets)?;
     Ok(encode_ap_req(alloc, &request)?)
 }
 
 #[test]
-fn requests_are_written(rt: HostRuntime) -> Result<(), Fail> {
+fn requests_are_written(rt: HostRuntime) {
     let alloc = rt.alloc();
-    let long = hex::decode(alloc, LONG_REQ)?;
-    let requests: [&[u8]; 2] = [AP_REQ, &long];
-    for octets in requests {
-        assert!(rt; octets.len() < 1000);
-        assert_eq!(rt; request_again(alloc, octets)?.as_slice(), octets);
-    }
-    Ok(())
+    written(&rt, request_again(alloc, AP_REQ), AP_REQ);
+    let long = long_request(alloc);
+    written(&rt, request_again(alloc, &long), &long);
 }
 
-fn reply(alloc: Global, octets: &[u8]) -> Result<ApRep, Fault> {
-    decode_ap_rep(alloc, octets)
+/// Whether the octets spell a reply with this cipher, and with the number of its type and its kvno.
+fn is_reply(
+    alloc: Global,
+    octets: &[u8],
+    etype: i32,
+    version: Option<i64>,
+    cipher: &[u8],
+) -> Result<bool, Fault> {
+    let reply = decode_ap_rep(alloc, octets)?;
+    Ok(has_cipher(&reply, etype, version, cipher))
 }
 
-#[test]
-fn replies_are_read(rt: HostRuntime) -> Result<(), Fail> {
-    let alloc = rt.alloc();
-    assert!(rt; is_reply(&reply(alloc, AP_REP)?, 18, None, &[6, 7, 8]));
-    assert!(rt; is_reply(&reply(alloc, OTHER_REP)?, -1, Some(2_147_483_648), &[]));
-    Ok(())
-}
-
-/// Whether the reply has this cipher, with the number of its type and its kvno.
-fn is_reply(reply: &ApRep, etype: i32, version: Option<i64>, cipher: &[u8]) -> bool {
+fn has_cipher(reply: &ApRep, etype: i32, version: Option<i64>, cipher: &[u8]) -> bool {
     let sealed = &reply.enc_part;
     sealed.etype == etype
         && sealed.kvno.map(|n| n.get()) == version
@@ -220,68 +229,85 @@ fn is_reply(reply: &ApRep, etype: i32, version: Option<i64>, cipher: &[u8]) -> b
 }
 
 #[test]
-fn other_octets_are_no_reply(rt: HostRuntime) {
-    let octets = AP_REP.as_slice();
-    let mut version_4 = *AP_REP;
-    version_4[8] = 4;
-    let mut request_type = *AP_REP;
-    request_type[13] = 14;
-    let faults: [(&[u8], DerFault); 4] = [
-        (AP_REQ, DerFault::BadTag),
-        (&version_4, DerFault::BadInteger),
-        (&request_type, DerFault::BadInteger),
-        (&octets[..29], DerFault::Truncated),
-    ];
-    for (faulty, fault) in faults {
-        assert_eq!(rt; reply(rt.alloc(), faulty).err(), Some(Fault::Der(fault)));
-    }
+fn replies_are_read(rt: HostRuntime) {
+    let alloc = rt.alloc();
+    let reply = is_reply(alloc, AP_REP, 18, None, &[6, 7, 8]);
+    same(&rt, &"a reply", &reply, &Ok(true));
+    let reply = is_reply(alloc, OTHER_REP, -1, Some(2_147_483_648), &[]);
+    same(&rt, &"another reply", &reply, &Ok(true));
 }
 
-/// What is written of the reply that the octets spell.
+#[test]
+fn other_octets_are_no_reply(rt: HostRuntime) {
+    let octets = AP_REP.as_slice();
+    no_reply(&rt, rt.alloc(), AP_REQ, DerFault::BadTag);
+    no_reply(&rt, rt.alloc(), &with(8, 4), DerFault::BadInteger);
+    no_reply(&rt, rt.alloc(), &with(13, 14), DerFault::BadInteger);
+    no_reply(&rt, rt.alloc(), &octets[..29], DerFault::Truncated);
+}
+
+/// The reply with this octet at this place.
+fn with(place: usize, octet: u8) -> [u8; 30] {
+    let mut octets = *AP_REP;
+    if let Some(old) = octets.get_mut(place) {
+        *old = octet;
+    }
+    octets
+}
+
+/// The octets are refused for this fault.
+fn no_reply(rt: &impl Abort, alloc: Global, octets: &[u8], fault: DerFault) {
+    let found = is_reply(alloc, octets, 18, None, &[6, 7, 8]);
+    same(rt, &octets, &found, &Err(Fault::Der(fault)));
+}
+
+/// What is written of the reply that the octets spell, which are fewer than a thousand.
 #[tactic(auto, using(krb_elements::specs::WrittenLaws::tlv_longer))]
-fn reply_again(alloc: Global, octets: &[u8]) -> Result<Vec<u8>, Fault>
-    requires { length octets.now < 1000 }
-{
+fn reply_again(alloc: Global, octets: &[u8]) -> Result<Vec<u8>, Fault> {
+    if octets.len() >= 1000 {
+        return Ok(Vec::new(alloc));
+    }
     let reply = decode_ap_rep(alloc, octets)?;
     Ok(encode_ap_rep(alloc, &reply)?)
 }
 
 #[test]
-fn replies_are_written(rt: HostRuntime) -> Result<(), Fail> {
-    let alloc = rt.alloc();
-    let replies: [&[u8]; 2] = [AP_REP, OTHER_REP];
-    for octets in replies {
-        assert!(rt; octets.len() < 1000);
-        assert_eq!(rt; reply_again(alloc, octets)?.as_slice(), octets);
-    }
-    Ok(())
+fn replies_are_written(rt: HostRuntime) {
+    written(&rt, reply_again(rt.alloc(), AP_REP), AP_REP);
+    written(&rt, reply_again(rt.alloc(), OTHER_REP), OTHER_REP);
 }
 
 /// One allocation may be refused, by `rt try --test --fail-alloc N`: the answer is then want of
 /// memory and nothing else, and the next call succeeds.
 #[test]
-fn want_of_memory_for_a_request_is_answered(rt: HostRuntime) -> Result<(), Fail> {
-    let written = match request_again(rt.alloc(), AP_REQ) {
-        Ok(written) => written,
+fn want_of_memory_for_a_request_is_answered(rt: HostRuntime) {
+    match request_again(rt.alloc(), AP_REQ) {
+        Ok(octets) => same(
+            &rt,
+            &"the first call",
+            &octets.as_slice(),
+            &AP_REQ.as_slice(),
+        ),
         Err(fault) => {
-            assert_eq!(rt; fault, Fault::Memory);
-            request_again(rt.alloc(), AP_REQ)?
+            same(&rt, &"the first call", &fault, &Fault::Memory);
+            written(&rt, request_again(rt.alloc(), AP_REQ), AP_REQ);
         }
-    };
-    assert_eq!(rt; written.as_slice(), AP_REQ.as_slice());
-    Ok(())
+    }
 }
 
 /// As above.
 #[test]
-fn want_of_memory_for_a_reply_is_answered(rt: HostRuntime) -> Result<(), Fail> {
-    let written = match reply_again(rt.alloc(), AP_REP) {
-        Ok(written) => written,
+fn want_of_memory_for_a_reply_is_answered(rt: HostRuntime) {
+    match reply_again(rt.alloc(), AP_REP) {
+        Ok(octets) => same(
+            &rt,
+            &"the first call",
+            &octets.as_slice(),
+            &AP_REP.as_slice(),
+        ),
         Err(fault) => {
-            assert_eq!(rt; fault, Fault::Memory);
-            reply_again(rt.alloc(), AP_REP)?
+            same(&rt, &"the first call", &fault, &Fault::Memory);
+            written(&rt, reply_again(rt.alloc(), AP_REP), AP_REP);
         }
-    };
-    assert_eq!(rt; written.as_slice(), AP_REP.as_slice());
-    Ok(())
+    }
 }

@@ -1,9 +1,9 @@
 //! Single values of DER (`krb_der`).
 ghost use Rattle.std.specs.Prelude.{◌<◌};
 
+use crate::expect::same;
 use krb_der::{DerFault, Items, Reader, Writer};
 use std::alloc::{AllocError, Global};
-use std::test::Fail;
 
 // X.690, section 8.3.
 #[test]
@@ -29,7 +29,7 @@ fn reads_numbers(rt: HostRuntime) {
         ),
     ];
     for (octets, number) in NUMBERS {
-        assert_eq!(rt; Reader::new(*octets).read_int(), *number);
+        same(&rt, octets, &Reader::new(*octets).read_int(), number);
     }
 }
 
@@ -48,7 +48,7 @@ fn reads_bits(rt: HostRuntime) {
         (&[3, 2, 7, 0xc0], Err(DerFault::BadBits)),
     ];
     for (octets, bits) in BITS {
-        assert_eq!(rt; Reader::new(*octets).read_bits(), *bits);
+        same(&rt, octets, &Reader::new(*octets).read_bits(), bits);
     }
 }
 
@@ -66,17 +66,18 @@ fn tells_the_first_fault(rt: HostRuntime) {
         (&[0x1b, 0x81, 0x80, 0], DerFault::Truncated),
         (&[0x1b, 2, 0x75], DerFault::Truncated),
     ];
-    for &(octets, fault) in REFUSED {
-        let mut reader = Reader::new(octets);
-        assert_eq!(rt;
-            (
-                reader.read_tlv(0x1b).err(),
-                reader.is_empty(),
-                reader.peek_tag()
-            ),
-            (Some(fault), octets.is_empty(), octets.first().copied())
-        );
+    for (octets, fault) in REFUSED {
+        same(&rt, octets, &fault_of(*octets), &Some(*fault));
     }
+}
+
+/// The fault of these octets, behind which the reader is where it was.
+fn fault_of(octets: &[u8]) -> Option<DerFault> {
+    let mut reader = Reader::new(octets);
+    let fault = reader.read_tlv(0x1b).err();
+    let is_left = reader.is_empty() == octets.is_empty()
+        && reader.peek_tag() == octets.first().copied();
+    if is_left { fault } else { None }
 }
 
 #[test]
@@ -84,23 +85,27 @@ fn goes_over_the_elements(rt: HostRuntime) {
     const FIRST: &[u8] = &[0x1b, 1, 0x75];
     const SECOND: &[u8] = &[4, 2, 1, 2];
     let mut items = Items::new(&[0x1b, 1, 0x75, 4, 2, 1, 2]);
-    assert_eq!(rt; items.iter().next(), Some(FIRST));
-    for element in [Some(FIRST), Some(SECOND), None] {
-        assert_eq!(rt; items.next(), element);
-    }
-    assert_eq!(rt; Reader::new(SECOND).read_octets(), Ok([1, 2].as_slice()));
+    same(&rt, &"a copy", &items.iter().next(), &Some(FIRST));
+    same(&rt, &"the first", &items.next(), &Some(FIRST));
+    same(&rt, &"the second", &items.next(), &Some(SECOND));
+    same(&rt, &"the end", &items.next(), &None);
+    same(
+        &rt,
+        &SECOND,
+        &Reader::new(SECOND).read_octets(),
+        &Ok(&[1, 2]),
+    );
 }
 
 #[test]
-fn writes_each_type(rt: HostRuntime) -> Result<(), Fail> {
-    let mut out = Writer::new(rt.alloc());
-    put_each_type(&mut out)?;
-    let wanted = [
+fn writes_each_type(rt: HostRuntime) {
+    const WRITTEN: &[u8] = &[
         2, 2, 0xff, 0x7f, 2, 2, 0, 0x80, 3, 5, 0, 0x40, 0, 0, 0x10, 4, 2, 1, 2, 0x1b, 1, 0x75,
         0x30, 0,
     ];
-    assert_eq!(rt; out.finish().as_slice(), wanted.as_slice());
-    Ok(())
+    let mut out = Writer::new(rt.alloc());
+    same(&rt, &"each type", &put_each_type(&mut out), &Ok(()));
+    same(&rt, &"each type", &out.finish().as_slice(), &WRITTEN);
 }
 
 fn put_each_type(out: &mut Writer) -> Result<(), AllocError> {
@@ -113,7 +118,7 @@ fn put_each_type(out: &mut Writer) -> Result<(), AllocError> {
 }
 
 #[test]
-fn writes_the_length_in_the_fewest_octets(rt: HostRuntime) -> Result<(), Fail> {
+fn writes_the_length_in_the_fewest_octets(rt: HostRuntime) {
     const HEADS: &[(usize, &[u8])] = &[
         (127, &[4, 0x7f]),
         (128, &[4, 0x81, 0x80]),
@@ -121,13 +126,18 @@ fn writes_the_length_in_the_fewest_octets(rt: HostRuntime) -> Result<(), Fail> {
         (256, &[4, 0x82, 1, 0]),
         (65536, &[4, 0x83, 1, 0, 0]),
     ];
-    for &(length, head) in HEADS {
-        assert!(rt; length < 65537);
-        let octets = zeros_written(rt.alloc(), length)?;
-        assert!(rt; octets.starts_with(head));
-        assert_eq!(rt; octets.len(), head.len() + length);
+    for (length, head) in HEADS {
+        same(&rt, length, &is_head(rt.alloc(), *length, *head), &Ok(true));
     }
-    Ok(())
+}
+
+/// Whether the OCTET STRING of so many zeros, fewer than 65,537, begins so and is that much longer.
+fn is_head(alloc: Global, length: usize, head: &[u8]) -> Result<bool, AllocError> {
+    if length > 65536 {
+        return Ok(false);
+    }
+    let octets = zeros_written(alloc, length)?;
+    Ok(octets.starts_with(head) && octets.len() == head.len() + length)
 }
 
 /// The OCTET STRING of so many zeros.

@@ -1,6 +1,7 @@
 //! The pieces of messages (`krb_elements`).
 ghost use Rattle.std.specs.Prelude.{◌<◌};
 
+use crate::expect::{holds, same, written};
 use krb_der::{DerFault, KTime, Reader, Writer};
 use krb_elements::{
     Fault, KerberosString, KerberosStringRef, MakeOwned, Microseconds, Octets, OctetsRef, Sent,
@@ -9,7 +10,7 @@ use krb_elements::{
 };
 use std::alloc::{AllocError, Global};
 use std::cmp::Ordering;
-use std::test::Fail;
+use std::process::Abort;
 
 fn read_int32(octets: &[u8]) -> Result<i64, DerFault> {
     read::<i32>(octets).map(i64::from)
@@ -57,54 +58,50 @@ fn numbers_have_their_bounds(rt: HostRuntime) {
             read_uint32(*octets),
             read_microseconds(*octets),
         ];
-        assert_eq!(rt; found, *wanted, "{octets:?}");
+        same(&rt, octets, &found, wanted);
     }
 }
 
 #[tactic(auto, using(krb_der::specs::IntLaws::int_short))]
-fn int32_written(alloc: Global, number: i32) -> Option<Vec<u8>> {
-    write(alloc, &number).ok()
+fn int32_written(alloc: Global, number: i32) -> Result<Vec<u8>, AllocError> {
+    write(alloc, &number)
 }
 
 #[tactic(auto, using(krb_der::specs::IntLaws::int_short))]
-fn uint32_written(alloc: Global, number: i64) -> Option<Vec<u8>> {
-    let number = UInt32::new(number)?;
-    write(alloc, &number).ok()
+fn uint32_written(alloc: Global, number: i64) -> Result<Vec<u8>, AllocError> {
+    match UInt32::new(number) {
+        Some(number) => write(alloc, &number),
+        None => Ok(Vec::new(alloc)),
+    }
 }
 
 #[tactic(auto, using(krb_elements::proofs::TextLengths::microseconds_short))]
-fn microseconds_written(alloc: Global, number: u32) -> Option<Vec<u8>> {
-    let number = Microseconds::new(number)?;
-    write(alloc, &number).ok()
+fn microseconds_written(alloc: Global, number: u32) -> Result<Vec<u8>, AllocError> {
+    match Microseconds::new(number) {
+        Some(number) => write(alloc, &number),
+        None => Ok(Vec::new(alloc)),
+    }
 }
 
 #[test]
 fn numbers_are_written(rt: HostRuntime) {
     let alloc = rt.alloc();
     let least = int32_written(alloc, -2147483648);
-    assert!(rt; is_written(least, &[2, 4, 0x80, 0, 0, 0]));
-    assert!(rt; is_written(int32_written(alloc, 128), &[2, 2, 0, 0x80]));
-    assert!(rt; is_written(uint32_written(alloc, -1), &[2, 1, 0xff]));
+    written(&rt, least, &[2, 4, 0x80, 0, 0, 0]);
+    written(&rt, int32_written(alloc, 128), &[2, 2, 0, 0x80]);
+    written(&rt, uint32_written(alloc, -1), &[2, 1, 0xff]);
     let greatest = uint32_written(alloc, 4294967295);
-    assert!(rt; is_written(greatest, &[2, 5, 0, 0xff, 0xff, 0xff, 0xff]));
-    assert!(rt; is_written(microseconds_written(alloc, 0), &[2, 1, 0]));
+    written(&rt, greatest, &[2, 5, 0, 0xff, 0xff, 0xff, 0xff]);
+    written(&rt, microseconds_written(alloc, 0), &[2, 1, 0]);
     let greatest = microseconds_written(alloc, 999999);
-    assert!(rt; is_written(greatest, &[2, 3, 0x0f, 0x42, 0x3f]));
-}
-
-/// Whether these octets were written.
-fn is_written(written: Option<Vec<u8>>, octets: &[u8]) -> bool {
-    match written {
-        Some(written) => written.as_slice() == octets,
-        None => false,
-    }
+    written(&rt, greatest, &[2, 3, 0x0f, 0x42, 0x3f]);
 }
 
 /// The field [8] with the list of 17 and 18.
 const NUMBERS: [u8; 10] = [0xa8, 8, 0x30, 6, 2, 1, 17, 2, 1, 18];
 
 /// The numbers of the field, or none where it is absent.
-fn numbers_at(alloc: Global, n: u8) -> Result<Option<Seq<i32>>, Fail>
+fn numbers_at(alloc: Global, n: u8) -> Result<Option<Seq<i32>>, Fault>
     requires { n < 31 }
 {
     let mut fields = Reader::new(&NUMBERS);
@@ -113,33 +110,47 @@ fn numbers_at(alloc: Global, n: u8) -> Result<Option<Seq<i32>>, Fail>
 }
 
 #[tactic(auto, using(krb_elements::proofs::TextLengths::numbers_short))]
-fn numbers_written(alloc: Global, list: &Seq<i32>) -> Result<Vec<u8>, Fail> {
-    if list.len() > 2 {
-        Err("a short list")?;
+fn list_written(alloc: Global, list: &Seq<i32>) -> Result<Vec<u8>, AllocError> {
+    if list.len() != 2 {
+        return Ok(Vec::new(alloc));
     }
-    Ok(write(alloc, list)?)
+    write(alloc, list)
+}
+
+/// What is written of the list in the field [8], where it is of 17 and 18.
+fn numbers_written(alloc: Global) -> Result<Vec<u8>, Fault> {
+    match numbers_at(alloc, 8)? {
+        Some(list) if list.as_slice() == [17, 18].as_slice() => Ok(list_written(alloc, &list)?),
+        _ => Ok(Vec::new(alloc)),
+    }
 }
 
 #[test]
-fn lists_are_read_and_written(rt: HostRuntime) -> Result<(), Fail> {
+fn lists_are_read_and_written(rt: HostRuntime) {
     let alloc = rt.alloc();
-    assert!(rt; numbers_at(alloc, 9)?.is_none());
-    let list = numbers_at(alloc, 8)?.ok_or("a list")?;
-    let written = numbers_written(alloc, &list)?;
-    assert!(rt; list.as_slice() == [17, 18].as_slice() && written.as_slice() == &NUMBERS[2..]);
-    Ok(())
+    holds(
+        &rt,
+        matches!(numbers_at(alloc, 9), Ok(None)),
+        "the field [9] is absent",
+    );
+    written(&rt, numbers_written(alloc), &NUMBERS[2..]);
 }
 
 #[test]
-fn lists_are_gone_through_where_they_stand(rt: HostRuntime) -> Result<(), Fail> {
-    let mut numbers: SeqRef<'_, i32> = take_field(&mut Reader::new(&NUMBERS), 8)?;
+fn lists_are_gone_through_where_they_stand(rt: HostRuntime) {
+    let numbers = take_field(&mut Reader::new(&NUMBERS), 8);
+    same(&rt, &"a list", &numbers.map(gone_through), &Ok(true));
+    let fault = read::<SeqRef<'_, i32>>(&[0x30, 6, 2, 1, 17, 2, 2, 18]).err();
+    same(&rt, &"a faulty list", &fault, &Some(DerFault::Truncated));
+}
+
+/// Whether the list has 17 and 18, and another way through it begins anew.
+fn gone_through(mut numbers: SeqRef<'_, i32>) -> bool {
     let mut again = numbers.iter();
-    assert!(rt; numbers.next() == Some(17) && again.next() == Some(17));
-    assert!(rt; numbers.next() == Some(18) && numbers.next().is_none());
-    let faulty = [0x30, 6, 2, 1, 17, 2, 2, 18];
-    let fault = read::<SeqRef<'_, i32>>(&faulty).err();
-    assert!(rt; fault == Some(DerFault::Truncated));
-    Ok(())
+    numbers.next() == Some(17)
+        && again.next() == Some(17)
+        && numbers.next() == Some(18)
+        && numbers.next().is_none()
 }
 
 /// The string that the octets spell.
@@ -148,33 +159,64 @@ fn string_of(alloc: Global, octets: &[u8]) -> Result<KerberosString, Fault> {
     Ok(found.copy(alloc)?)
 }
 
-fn string_written(alloc: Global, string: &KerberosString) -> Result<Vec<u8>, Fail> {
+fn string_written(alloc: Global, string: &KerberosString) -> Result<Vec<u8>, AllocError> {
     if string.as_slice().len() > 3 {
-        Err("a short string")?;
+        return Ok(Vec::new(alloc));
     }
-    Ok(write(alloc, string)?)
+    write(alloc, string)
+}
+
+/// What is written of the string that the octets spell.
+fn string_again(alloc: Global, octets: &[u8]) -> Result<Vec<u8>, Fault> {
+    let string = string_of(alloc, octets)?;
+    Ok(string_written(alloc, &string)?)
+}
+
+/// The octets of the string that a text is copied to, where it is that of the octets which are spelled.
+fn string_copied(alloc: Global, text: &[u8], spelled: &[u8]) -> Result<Vec<u8>, Fault> {
+    let string = string_of(alloc, spelled)?;
+    let copy = KerberosStringRef::new(text).copy(alloc)?;
+    if copy == string {
+        Ok(string.into_vec())
+    } else {
+        Ok(Vec::new(alloc))
+    }
 }
 
 #[test]
-fn strings_are_read_and_written(rt: HostRuntime) -> Result<(), Fail> {
-    let alloc = rt.alloc();
-    let spelled = [0x1b, 3, 0x41, 0x2e, 0x42];
-    let string = string_of(alloc, &spelled)?;
-    assert!(rt; string_written(alloc, &string)?.as_slice() == spelled.as_slice());
-    assert!(rt; KerberosStringRef::new(b"A.B").copy(alloc)? == string);
-    assert!(rt; string.into_vec().as_slice() == b"A.B".as_slice());
-    Ok(())
+fn strings_are_read_and_written(rt: HostRuntime) {
+    const SPELLED: &[u8] = &[0x1b, 3, 0x41, 0x2e, 0x42];
+    written(&rt, string_again(rt.alloc(), SPELLED), SPELLED);
+    written(&rt, string_copied(rt.alloc(), b"A.B", SPELLED), b"A.B");
 }
 
 #[test]
-fn strings_are_ordered_by_their_octets(rt: HostRuntime) -> Result<(), Fail> {
+fn strings_are_ordered_by_their_octets(rt: HostRuntime) {
     let alloc = rt.alloc();
-    let string = KerberosString::from_slice(alloc, b"A.B")?;
-    let longer = KerberosString::from_slice(alloc, b"A.B.")?;
-    assert!(rt; longer.cmp(&string) == Ordering::Greater);
-    let before = KerberosString::new(vec![in alloc; 0x41u8, 0x2d, 0x43]?);
-    assert!(rt; before.cmp(&string) == Ordering::Less);
-    Ok(())
+    let longer = KerberosString::from_slice(alloc, b"A.B.");
+    same(
+        &rt,
+        &"A.B.",
+        &order_to_a_b(alloc, longer),
+        &Ok(Ordering::Greater),
+    );
+    let before = Vec::from_slice(alloc, b"A-C").map(KerberosString::new);
+    same(
+        &rt,
+        &"A-C",
+        &order_to_a_b(alloc, before),
+        &Ok(Ordering::Less),
+    );
+}
+
+/// How the string is to `A.B`.
+fn order_to_a_b(
+    alloc: Global,
+    string: Result<KerberosString, AllocError>,
+) -> Result<Ordering, AllocError> {
+    let string = string?;
+    let other = KerberosString::from_slice(alloc, b"A.B")?;
+    Ok(string.cmp(&other))
 }
 
 /// The octets of the OCTET STRING that is spelled.
@@ -183,125 +225,179 @@ fn octets_of(alloc: Global, spelled: &[u8]) -> Result<Octets, Fault> {
     Ok(found.copy(alloc)?)
 }
 
-fn octets_written(alloc: Global, octets: &Octets) -> Result<Vec<u8>, Fail> {
+fn octets_written(alloc: Global, octets: &Octets) -> Result<Vec<u8>, AllocError> {
     if octets.as_slice().len() > 2 {
-        Err("few octets")?;
+        return Ok(Vec::new(alloc));
     }
-    Ok(write(alloc, octets)?)
+    write(alloc, octets)
 }
 
 #[test]
-fn octets_are_read_and_written(rt: HostRuntime) -> Result<(), Fail> {
-    let alloc = rt.alloc();
-    let spelled = [4, 2, 0, 0xff];
-    assert!(rt; octets_again(alloc, &spelled)?.as_slice() == spelled.as_slice());
-    let octets = octets_of(alloc, &spelled)?.into_vec();
-    assert!(rt; octets.as_slice() == [0, 0xff].as_slice());
-    Ok(())
+fn octets_are_read_and_written(rt: HostRuntime) {
+    const SPELLED: &[u8] = &[4, 2, 0, 0xff];
+    written(&rt, octets_again(rt.alloc(), SPELLED), SPELLED);
+    written(
+        &rt,
+        octets_of(rt.alloc(), SPELLED).map(Octets::into_vec),
+        &[0, 0xff],
+    );
 }
 
 /// What is written of the octets that are spelled.
-fn octets_again(alloc: Global, spelled: &[u8]) -> Result<Vec<u8>, Fail> {
+fn octets_again(alloc: Global, spelled: &[u8]) -> Result<Vec<u8>, Fault> {
     let octets = octets_of(alloc, spelled)?;
-    octets_written(alloc, &octets)
+    Ok(octets_written(alloc, &octets)?)
 }
 
 #[test]
-fn octets_are_made_of_slices_and_lists(rt: HostRuntime) -> Result<(), Fail> {
+fn octets_are_made_of_slices_and_lists(rt: HostRuntime) {
     let alloc = rt.alloc();
-    assert!(rt; OctetsRef::new(&[0, 0xff]).copy(alloc)?.as_slice() == [0, 0xff].as_slice());
-    assert!(rt; Octets::from_slice(alloc, &[7])?.as_slice() == [7].as_slice());
-    let octets = Octets::new(vec![in alloc; 8u8]?);
-    assert!(rt; octets.as_slice() == [8].as_slice());
-    Ok(())
+    made_of(&rt, OctetsRef::new(&[0, 0xff]).copy(alloc), &[0, 0xff]);
+    made_of(&rt, Octets::from_slice(alloc, &[7]), &[7]);
+    made_of(&rt, Vec::from_slice(alloc, &[8]).map(Octets::new), &[8]);
+}
+
+/// What was made has these octets.
+fn made_of(rt: &impl Abort, made: Result<Octets, AllocError>, octets: &[u8]) {
+    match made {
+        Ok(made) => same(rt, &"what is made", &made.as_slice(), &octets),
+        Err(AllocError) => panic!(rt; "memory"),
+    }
 }
 
 #[test]
+fn times_are_read_and_written(rt: HostRuntime) {
+    const SPELLED: &[u8] = b"\x18\x0f19700101000000Z";
+    let seconds = read(SPELLED).map(KTime::seconds);
+    same(&rt, &SPELLED, &seconds, &Ok(0));
+    written(&rt, time_again(rt.alloc(), SPELLED), SPELLED);
+}
+
+/// What is written of the time that the octets spell.
 #[tactic(auto, using(krb_elements::proofs::TextLengths::time_short))]
-fn times_are_read_and_written(rt: HostRuntime) -> Result<(), Fail> {
-    let alloc = rt.alloc();
-    let spelled = b"\x18\x0f19700101000000Z";
-    let time: KTime = read(spelled)?;
-    assert_eq!(rt; time.seconds(), 0);
-    assert_eq!(rt; write(alloc, &time)?.as_slice(), spelled.as_slice());
-    Ok(())
+fn time_again(alloc: Global, octets: &[u8]) -> Result<Vec<u8>, Fault> {
+    let time: KTime = read(octets)?;
+    Ok(write(alloc, &time)?)
 }
 
 #[test]
 fn nothing_may_follow(rt: HostRuntime) {
-    let spelled = [2, 1, 5, 0];
-    assert!(rt; read::<i32>(&spelled) == Err(DerFault::Trailing));
-    assert!(rt; end_of(&Reader::new(&spelled)) == Err(DerFault::Trailing));
-    assert!(rt; end_of(&Reader::new(&[])).is_ok());
+    const SPELLED: &[u8] = &[2, 1, 5, 0];
+    same(
+        &rt,
+        &SPELLED,
+        &read::<i32>(SPELLED),
+        &Err(DerFault::Trailing),
+    );
+    same(
+        &rt,
+        &SPELLED,
+        &end_of(&Reader::new(SPELLED)),
+        &Err(DerFault::Trailing),
+    );
+    same(&rt, &"nothing", &end_of(&Reader::new(&[])), &Ok(()));
 }
 
 #[test]
 fn fields_are_read(rt: HostRuntime) {
-    let spelled = [0xa0, 3, 2, 1, 5, 0xa1, 3, 2, 1, 0xff, 0xa2, 3, 2, 1, 5];
-    let mut fields = Reader::new(&spelled);
-    assert!(rt; take_field(&mut fields, 0) == Ok(5i32));
-    assert!(rt; take_optional::<i32>(&mut fields, 0) == Ok(None));
-    assert!(rt; take_optional(&mut fields, 1) == Ok(Some(-1i32)));
-    assert!(rt; take_fixed(&mut fields, 2, 5).is_ok());
-    assert!(rt; end_of(&fields).is_ok());
-    assert!(rt; take_fixed(&mut Reader::new(&spelled), 0, 6) == Err(DerFault::BadInteger));
+    const SPELLED: &[u8] = &[0xa0, 3, 2, 1, 5, 0xa1, 3, 2, 1, 0xff, 0xa2, 3, 2, 1, 5];
+    let mut fields = Reader::new(SPELLED);
+    same(
+        &rt,
+        &"the field [0]",
+        &take_field(&mut fields, 0),
+        &Ok(5i32),
+    );
+    same(
+        &rt,
+        &"the field [0]",
+        &take_optional(&mut fields, 0),
+        &Ok(None::<i32>),
+    );
+    same(
+        &rt,
+        &"the field [1]",
+        &take_optional(&mut fields, 1),
+        &Ok(Some(-1i32)),
+    );
+    same(
+        &rt,
+        &"the field [2]",
+        &take_fixed(&mut fields, 2, 5),
+        &Ok(()),
+    );
+    same(&rt, &"the end", &end_of(&fields), &Ok(()));
+    let fault = take_fixed(&mut Reader::new(SPELLED), 0, 6);
+    same(&rt, &"another number", &fault, &Err(DerFault::BadInteger));
 }
 
 #[test]
-fn octets_are_kept_as_they_were_sent(rt: HostRuntime) -> Result<(), Fail> {
-    let spelled = [0xa0, 3, 2, 1, 5];
-    let mut fields = Reader::new(&spelled);
-    let sent: Sent<'_, i32> = take_sent(&mut fields, 0)?;
-    assert_eq!(rt; (sent.value, sent.octets), (5, [2, 1, 5].as_slice()));
-    Ok(())
-}
-
-#[test]
-fn either_tag_is_read(rt: HostRuntime) {
-    for (octets, found) in [([0x6a, 3, 2, 1, 5], false), ([0x6c, 3, 2, 1, 5], true)] {
-        let mut reader = Reader::new(&octets);
-        let either = look_either(&mut reader, (0x6a, false), (0x6c, true));
-        assert_eq!(rt; either, Ok((found, 5i32)));
+fn octets_are_kept_as_they_were_sent(rt: HostRuntime) {
+    const SPELLED: &[u8] = &[0xa0, 3, 2, 1, 5];
+    let sent: Result<Sent<'_, i32>, DerFault> = take_sent(&mut Reader::new(SPELLED), 0);
+    match sent {
+        Ok(sent) => same(&rt, &SPELLED, &(sent.value, sent.octets), &(5, &[2, 1, 5])),
+        Err(fault) => panic!(rt; "{fault:?}"),
     }
 }
 
 #[test]
+fn either_tag_is_read(rt: HostRuntime) {
+    const SPELLED: &[(&[u8], bool)] = &[(&[0x6a, 3, 2, 1, 5], false), (&[0x6c, 3, 2, 1, 5], true)];
+    for (octets, found) in SPELLED {
+        let either = look_either(&mut Reader::new(*octets), (0x6a, false), (0x6c, true));
+        same(&rt, octets, &either, &Ok((*found, 5i32)));
+    }
+}
+
 #[tactic(auto, using(krb_der::specs::IntLaws::int_short, krb_elements::proofs::TextLengths::field_short, krb_elements::proofs::TextLengths::optional_number_short))]
-fn fields_are_written(rt: HostRuntime) -> Result<(), Fail> {
-    let mut out = Writer::new(rt.alloc());
+fn fields_written(alloc: Global) -> Result<Vec<u8>, AllocError> {
+    let mut out = Writer::new(alloc);
     for (n, number) in [(0, Some(5i32)), (1, None), (2, Some(-1))] {
         write_optional(&mut out, n, &number)?;
     }
     for (n, number) in [(3, 0i32), (4, 128)] {
         write_field(&mut out, n, &number)?;
     }
-    let wanted = [
+    Ok(out.finish())
+}
+
+#[test]
+fn fields_are_written(rt: HostRuntime) {
+    const WRITTEN: &[u8] = &[
         0xa0, 3, 2, 1, 5, 0xa2, 3, 2, 1, 0xff, 0xa3, 3, 2, 1, 0, 0xa4, 4, 2, 2, 0, 0x80,
     ];
-    assert_eq!(rt; out.finish().as_slice(), wanted.as_slice());
-    Ok(())
+    written(&rt, fields_written(rt.alloc()), WRITTEN);
 }
 
-#[test]
 #[tactic(auto, using(krb_der::specs::IntLaws::int_short, krb_elements::specs::ShortTextLaws::tlv_short))]
-fn values_are_written_inside_a_tag(rt: HostRuntime) -> Result<(), Fail> {
-    for (n, number, octets) in [
-        (1, 5i32, [0x61, 3, 2, 1, 5]),
-        (30, -1, [0x7e, 3, 2, 1, 0xff]),
-    ] {
-        let written = write_inside(rt.alloc(), application_tag(n), &number)?;
-        assert_eq!(rt; written.as_slice(), octets.as_slice());
-    }
-    Ok(())
+fn written_inside(alloc: Global, n: u8, number: i32) -> Result<Vec<u8>, AllocError>
+    requires { n < 31 }
+{
+    write_inside(alloc, application_tag(n), &number)
 }
 
 #[test]
-fn lists_keep_their_items(rt: HostRuntime) -> Result<(), Fail> {
+fn values_are_written_inside_a_tag(rt: HostRuntime) {
+    written(&rt, written_inside(rt.alloc(), 1, 5), &[0x61, 3, 2, 1, 5]);
+    written(
+        &rt,
+        written_inside(rt.alloc(), 30, -1),
+        &[0x7e, 3, 2, 1, 0xff],
+    );
+}
+
+#[test]
+fn lists_keep_their_items(rt: HostRuntime) {
     let alloc = rt.alloc();
-    assert!(rt; Seq::<u32>::new(alloc).is_empty());
-    assert!(rt; are_7_and_8(pushed(alloc)?));
-    assert!(rt; are_7_and_8(Seq::from_vec(vec![in alloc; 7u32, 8]?)));
-    Ok(())
+    holds(
+        &rt,
+        Seq::<u32>::new(alloc).is_empty(),
+        "a new list is empty",
+    );
+    same(&rt, &"pushed", &pushed(alloc).map(are_7_and_8), &Ok(true));
+    let listed = Vec::from_slice(alloc, &[7u32, 8]).map(Seq::from_vec);
+    same(&rt, &"of a list", &listed.map(are_7_and_8), &Ok(true));
 }
 
 fn pushed(alloc: Global) -> Result<Seq<u32>, AllocError> {
@@ -318,20 +414,22 @@ fn are_7_and_8(numbers: Seq<u32>) -> bool {
 
 #[test]
 fn faults_are_told_apart(rt: HostRuntime) {
-    assert_eq!(rt; Fault::from(DerFault::BadTag), Fault::Der(DerFault::BadTag));
-    assert_eq!(rt; Fault::from(AllocError), Fault::Memory);
+    let fault = Fault::from(DerFault::BadTag);
+    same(&rt, &"a fault", &fault, &Fault::Der(DerFault::BadTag));
+    same(&rt, &"no memory", &Fault::from(AllocError), &Fault::Memory);
 }
 
 #[test]
 fn numbers_are_made_within_their_range(rt: HostRuntime) {
-    assert!(rt; Microseconds::new(999999).is_some());
-    assert!(rt; Microseconds::new(1000000).is_none());
-    for (number, is_made) in [
+    const NUMBERS: &[(i64, bool)] = &[
         (-2147483649, false),
         (-2147483648, true),
         (4294967295, true),
         (4294967296, false),
-    ] {
-        assert!(rt; UInt32::new(number).is_some() == is_made, "{number}");
+    ];
+    same(&rt, &999999, &Microseconds::new(999999).is_some(), &true);
+    same(&rt, &1000000, &Microseconds::new(1000000).is_some(), &false);
+    for (number, is_made) in NUMBERS {
+        same(&rt, number, &UInt32::new(*number).is_some(), is_made);
     }
 }

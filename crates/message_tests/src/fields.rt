@@ -1,4 +1,5 @@
 //! Names, flags, codes and moments (`krb_fields`).
+use crate::expect::{holds, same, written};
 use krb_elements::{KerberosString, Seq};
 use krb_fields::{
     ApOption, Code, Flags, KdcOption, Moment, NT_PRINCIPAL, Name, NameFault, TicketFlag,
@@ -6,7 +7,6 @@ use krb_fields::{
 };
 use std::alloc::{AllocError, Global};
 use std::cmp::Ordering;
-use std::test::Fail;
 
 /// A name of these components.
 fn name_of(alloc: Global, name_type: i32, components: &[&[u8]]) -> Result<Name, AllocError> {
@@ -22,7 +22,7 @@ fn name_of(alloc: Global, name_type: i32, components: &[&[u8]]) -> Result<Name, 
 }
 
 #[test]
-fn names_are_read_and_written(rt: HostRuntime) -> Result<(), Fail> {
+fn names_are_read_and_written(rt: HostRuntime) {
     const NAMES: &[(&str, &[&[u8]])] = &[
         ("u\\40x", &[&[0x75, 0x40, 0x78]]),
         ("krbtgt/A.B", &[b"krbtgt", b"A.B"]),
@@ -39,14 +39,18 @@ fn names_are_read_and_written(rt: HostRuntime) -> Result<(), Fail> {
             ],
         ),
     ];
-    for &(text, components) in NAMES {
-        assert!(rt; is_text_of(rt.alloc(), text, components)?, "{text}");
+    for (text, components) in NAMES {
+        same(
+            &rt,
+            text,
+            &is_text_of(rt.alloc(), *text, *components),
+            &Ok(true),
+        );
     }
-    Ok(())
 }
 
 /// Whether the text is read as a name of these components, which is within the limits, and is written of it.
-fn is_text_of(alloc: Global, text: &str, components: &[&[u8]]) -> Result<bool, Fail> {
+fn is_text_of(alloc: Global, text: &str, components: &[&[u8]]) -> Result<bool, NameFault> {
     let name = Name::from_text(alloc, text)?;
     let same = name_of(alloc, 2, components)?;
     let written = name.to_text(alloc)?;
@@ -78,20 +82,30 @@ fn other_texts_are_no_names(rt: HostRuntime) {
         "\\4g",
         "a/b/c/d/e/f/g/h/i/j/k/l/m/n/o/p/q",
     ];
-    for &text in TEXTS {
-        let fault = Name::from_text(rt.alloc(), text).err();
-        assert_eq!(rt; fault, Some(NameFault::BadName), "{text}");
+    for text in TEXTS {
+        let fault = Name::from_text(rt.alloc(), *text).err();
+        same(&rt, text, &fault, &Some(NameFault::BadName));
     }
 }
 
 #[test]
-fn components_have_at_most_255_octets(rt: HostRuntime) -> Result<(), Fail> {
+fn components_have_at_most_255_octets(rt: HostRuntime) {
     let alloc = rt.alloc();
+    same(&rt, &255, &longest_spells(alloc), &Ok(true));
+    same(&rt, &256, &is_longer_than_a_component(alloc), &Ok(true));
+}
+
+/// Whether the text of 255 octets is read and written.
+fn longest_spells(alloc: Global) -> Result<bool, NameFault> {
+    let text = longest_text(alloc)?;
+    spells(alloc, text.as_str(), &[0xff; 255])
+}
+
+/// Whether that text with an octet more is no component.
+fn is_longer_than_a_component(alloc: Global) -> Result<bool, AllocError> {
     let mut text = longest_text(alloc)?;
-    assert!(rt; spells(alloc, text.as_str(), &[0xff; 255])?);
     text.push('a')?;
-    assert!(rt; is_no_component(alloc, text.as_str()));
-    Ok(())
+    Ok(is_no_component(alloc, text.as_str()))
 }
 
 /// The text of a component of 255 octets.
@@ -104,7 +118,7 @@ fn longest_text(alloc: Global) -> Result<String, AllocError> {
 }
 
 /// Whether the text is read as the component of these octets, and is written of it.
-fn spells(alloc: Global, text: &str, octets: &[u8]) -> Result<bool, Fail> {
+fn spells(alloc: Global, text: &str, octets: &[u8]) -> Result<bool, NameFault> {
     let component = component_from_text(alloc, text)?;
     let written = component_to_text(alloc, component.as_slice())?;
     Ok(component.as_slice() == octets && is_component(octets) && written.as_str() == text)
@@ -115,7 +129,7 @@ fn is_no_component(alloc: Global, text: &str) -> bool {
 }
 
 #[test]
-fn names_have_1_to_16_components_of_1_to_255_octets(rt: HostRuntime) -> Result<(), Fail> {
+fn names_have_1_to_16_components_of_1_to_255_octets(rt: HostRuntime) {
     const NAMES: &[&[&[u8]]] = &[
         &[],
         &[b"a", b""],
@@ -124,38 +138,37 @@ fn names_have_1_to_16_components_of_1_to_255_octets(rt: HostRuntime) -> Result<(
             b"a", b"a", b"a",
         ],
     ];
-    assert!(rt; !is_component(&[1; 256]) && !is_component(&[]));
-    for &components in NAMES {
-        assert!(rt; !name_of(rt.alloc(), 1, components)?.is_within_limits());
+    holds(&rt, !is_component(&[1; 256]), "256 octets are no component");
+    holds(&rt, !is_component(&[]), "no octets are no component");
+    for components in NAMES {
+        let is_name = name_of(rt.alloc(), 1, *components).map(|name| name.is_within_limits());
+        same(&rt, components, &is_name, &Ok(false));
     }
-    Ok(())
 }
 
 /// The text of a realm is that of one component.
 #[test]
-fn realms_are_read(rt: HostRuntime) -> Result<(), Fail> {
+fn realms_are_read(rt: HostRuntime) {
     let alloc = rt.alloc();
-    assert!(rt; spells(alloc, "A.B", b"A.B")?);
+    same(&rt, &"A.B", &spells(alloc, "A.B", b"A.B"), &Ok(true));
     for text in ["", "A/B", "A@B"] {
-        assert!(rt; is_no_component(alloc, text), "{text}");
+        holds(&rt, is_no_component(alloc, text), text);
     }
-    Ok(())
 }
 
 /// The salt of raeburn in ATHENA.MIT.EDU is that of RFC 3962 appendix B.
 #[test]
-fn salts_join_realm_and_components(rt: HostRuntime) -> Result<(), Fail> {
+fn salts_join_realm_and_components(rt: HostRuntime) {
     const SALTS: &[(&[u8], &[&[u8]], &[u8])] = &[
         (b"A.B", &[b"u"], b"A.Bu"),
         (b"ATHENA.MIT.EDU", &[b"raeburn"], b"ATHENA.MIT.EDUraeburn"),
         (b"A.B", &[b"krbtgt", b"A.B"], b"A.BkrbtgtA.B"),
         (b"A.B", &[], b"A.B"),
     ];
-    for &(realm, components, salt) in SALTS {
-        let found = salt_of(rt.alloc(), realm, components)?;
-        assert_eq!(rt; found.as_slice(), salt);
+    for (realm, components, salt) in SALTS {
+        let salted = salt_of(rt.alloc(), *realm, *components);
+        written(&rt, salted.map(KerberosString::into_vec), *salt);
     }
-    Ok(())
 }
 
 /// The salt of the name of these components in the realm.
@@ -169,7 +182,7 @@ fn salt_of(
 }
 
 #[test]
-fn names_are_ordered_by_components(rt: HostRuntime) -> Result<(), Fail> {
+fn names_are_ordered_by_components(rt: HostRuntime) {
     const TEXTS: &[&str] = &[
         "a",
         "b",
@@ -182,11 +195,10 @@ fn names_are_ordered_by_components(rt: HostRuntime) -> Result<(), Fail> {
     ];
     for (i, one) in TEXTS.iter().enumerate() {
         for (j, other) in TEXTS.iter().enumerate() {
-            let order = order_of(rt.alloc(), *one, *other)?;
-            assert_eq!(rt; order, (i.cmp(&j), i == j));
+            let order = order_of(rt.alloc(), *one, *other);
+            same(&rt, &(one, other), &order, &Ok((i.cmp(&j), i == j)));
         }
     }
-    Ok(())
 }
 
 /// The order of the names of two texts, and whether they are the same.
@@ -197,22 +209,30 @@ fn order_of(alloc: Global, one: &str, other: &str) -> Result<(Ordering, bool), N
 }
 
 #[test]
-fn a_copy_of_a_name_is_the_same(rt: HostRuntime) -> Result<(), Fail> {
-    let alloc = rt.alloc();
-    let name = name_of(alloc, 2, &[b"krbtgt", b"A.B"])?;
+fn a_copy_of_a_name_is_the_same(rt: HostRuntime) {
+    same(
+        &rt,
+        &"a copy",
+        &is_copied(rt.alloc(), &[b"krbtgt", b"A.B"]),
+        &Ok(true),
+    );
+}
+
+/// Whether the copy of the name of these components is the same.
+fn is_copied(alloc: Global, components: &[&[u8]]) -> Result<bool, AllocError> {
+    let name = name_of(alloc, 2, components)?;
     let copy = name.copy(alloc)?;
-    assert!(rt; copy.is_same(&name) && copy.name_type == 2);
-    Ok(())
+    Ok(copy.is_same(&name) && copy.name_type == 2)
 }
 
 #[test]
 fn moments_are_in_range(rt: HostRuntime) {
     for (sec, usec) in [(0, 0), (253402300799, 999999)] {
-        let at = Moment::new(sec, usec);
-        assert!(rt; at.is_some_and(|at| at.sec == sec && at.usec == usec));
+        let at = Moment::new(sec, usec).map(|at| (at.sec, at.usec));
+        same(&rt, &(sec, usec), &at, &Some((sec, usec)));
     }
     for (sec, usec) in [(-1, 0), (253402300800, 0), (0, 1000000)] {
-        assert!(rt; Moment::new(sec, usec).is_none());
+        same(&rt, &(sec, usec), &Moment::new(sec, usec).is_none(), &true);
     }
 }
 
@@ -249,28 +269,52 @@ fn flags_have_their_bits(rt: HostRuntime) {
         (KdcOption::Validate, 0x01),
     ];
     let none = Flags::from_bits(0);
-    for &(flag, mask) in TICKET {
-        assert_eq!(rt; none.with(flag).bits(), mask);
+    for (flag, mask) in TICKET {
+        same(&rt, &"a ticket's flag", &none.with(*flag).bits(), mask);
     }
-    for &(option, mask) in OPTIONS {
-        assert_eq!(rt; none.with(option).bits(), mask);
+    for (option, mask) in OPTIONS {
+        same(&rt, &"an option", &none.with(*option).bits(), mask);
     }
-    assert_eq!(rt; none.with(ApOption::UseSessionKey).bits(), 0x4000_0000);
-    assert_eq!(rt; none.with(ApOption::MutualRequired).bits(), 0x2000_0000);
+    let use_session_key = none.with(ApOption::UseSessionKey);
+    same(&rt, &"UseSessionKey", &use_session_key.bits(), &0x4000_0000);
+    let mutual_required = none.with(ApOption::MutualRequired);
+    same(
+        &rt,
+        &"MutualRequired",
+        &mutual_required.bits(),
+        &0x2000_0000,
+    );
 }
 
 #[test]
 fn flags_are_set_and_cleared(rt: HostRuntime) {
     let flags = Flags::from_bits(0x8080_0001);
-    assert!(rt; flags.has(TicketFlag::Renewable) && !flags.has(TicketFlag::Invalid));
-    assert!(rt; flags.without(TicketFlag::Renewable).bits() == 0x8000_0001);
-    assert!(rt; flags.without(TicketFlag::Invalid) == flags);
-    assert!(rt; flags.with(TicketFlag::Renewable) == flags);
+    let renewable = flags.has(TicketFlag::Renewable);
+    same(
+        &rt,
+        &"what is set",
+        &(renewable, flags.has(TicketFlag::Invalid)),
+        &(true, false),
+    );
+    let cleared = flags.without(TicketFlag::Renewable);
+    same(&rt, &"one flag cleared", &cleared.bits(), &0x8000_0001);
+    same(
+        &rt,
+        &"a clear flag cleared",
+        &flags.without(TicketFlag::Invalid),
+        &flags,
+    );
+    same(
+        &rt,
+        &"a set flag set",
+        &flags.with(TicketFlag::Renewable),
+        &flags,
+    );
 }
 
 /// Each number is read off the table of RFC 4120 section 7.5.9.
 #[test]
-fn codes_have_their_names(rt: HostRuntime) -> Result<(), Fail> {
+fn codes_have_their_names(rt: HostRuntime) {
     const CODES: &[(Code, i32, &str)] = &[
         (Code::KdcErrNameExp, 1, "KDC_ERR_NAME_EXP"),
         (Code::KdcErrServiceExp, 2, "KDC_ERR_SERVICE_EXP"),
@@ -323,28 +367,42 @@ fn codes_have_their_names(rt: HostRuntime) -> Result<(), Fail> {
         (Code::KrbErrGeneric, 60, "KRB_ERR_GENERIC"),
         (Code::KrbErrFieldToolong, 61, "KRB_ERR_FIELD_TOOLONG"),
     ];
-    for &(code, number, name) in CODES {
-        let text = format!(in rt.alloc(); "{code}")?;
-        assert_eq!(rt; (code.number(), text.as_str()), (number, name));
+    for (code, number, name) in CODES {
+        same(&rt, name, &code.number(), number);
+        same(
+            &rt,
+            number,
+            &is_printed(rt.alloc(), *code, *name),
+            &Ok(true),
+        );
     }
-    Ok(())
+}
+
+/// Whether the code is printed so.
+fn is_printed(alloc: Global, code: Code, name: &str) -> Result<bool, AllocError> {
+    let text = format!(in alloc; "{code}")?;
+    Ok(text.as_str() == name)
 }
 
 /// One allocation may be refused, by `rt try --test --fail-alloc N`: the answer is then want of
 /// memory and nothing else, and the next call succeeds.
 #[test]
-fn want_of_memory_is_answered(rt: HostRuntime) -> Result<(), Fail> {
-    let alloc = rt.alloc();
+fn want_of_memory_is_answered(rt: HostRuntime) {
+    let first = is_read_and_written(rt.alloc());
+    holds(
+        &rt,
+        matches!(first, Ok(true) | Err(NameFault::Memory)),
+        "the first call",
+    );
+    let later = first.or_else(|_| is_read_and_written(rt.alloc()));
+    same(&rt, &"the next call", &later, &Ok(true));
+}
+
+/// Whether a name is read of its text, and is written.
+fn is_read_and_written(alloc: Global) -> Result<bool, NameFault> {
     let text = "host\\20of/a.b";
-    let name = match Name::from_text(alloc, text) {
-        Ok(name) => name,
-        Err(fault) => {
-            assert_eq!(rt; fault, NameFault::Memory);
-            Name::from_text(alloc, text)?
-        }
-    };
-    assert!(rt; is_written_as(alloc, &name, text, b"A.Bhost ofa.b")?);
-    Ok(())
+    let name = Name::from_text(alloc, text)?;
+    Ok(is_written_as(alloc, &name, text, b"A.Bhost ofa.b")?)
 }
 
 /// Whether the name has this text, and in `A.B` this salt; each is asked for again where an allocation is refused.

@@ -10,6 +10,8 @@ mod der;
 #[cfg(test)]
 mod elements;
 #[cfg(test)]
+mod expect;
+#[cfg(test)]
 mod fields;
 #[cfg(test)]
 mod parts;

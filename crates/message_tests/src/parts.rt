@@ -1,4 +1,5 @@
 //! What stands inside the OCTET STRINGs of messages (`krb_parts`).
+use crate::expect::{same, written};
 use krb_der::{DerFault, KTime};
 use krb_elements::{Fault, read};
 use krb_parts::{
@@ -7,7 +8,6 @@ use krb_parts::{
     encode_pa_enc_ts_enc,
 };
 use std::alloc::{AllocError, Global};
-use std::test::Fail;
 
 // The octets are those of an encoder in Python, in hexadecimal.
 
@@ -55,8 +55,9 @@ const AP_REPLY: &[u8] =
 /// An ETYPE-INFO2-ENTRY with each field.
 const ETYPE_INFO2_ENTRY: &[u8] = b"3015a003020112a1061b04412e4275a206040400001000";
 
-fn octets(alloc: Global, digits: &[u8]) -> Result<Vec<u8>, Fail> {
-    Ok(hex::decode(alloc, digits)?)
+/// The octets that digits spell, and none where they spell no octets.
+fn octets(alloc: Global, digits: &[u8]) -> Vec<u8> {
+    hex::decode(alloc, digits).unwrap_or(Vec::new(alloc))
 }
 
 /// 2024-01-01 00:00:00.
@@ -70,8 +71,14 @@ fn was_sent_at(time: Option<KTime>, later: i64) -> bool {
     time.is_some_and(|time| is_at(time, later))
 }
 
-fn ticket_part(alloc: Global, digits: &[u8]) -> Result<EncTicketPart, Fail> {
-    Ok(decode_enc_ticket_part(alloc, &octets(alloc, digits)?)?)
+/// Whether the ticket's part has the fields of `TICKET`, and whether it has none that may be absent.
+fn ticket_part(alloc: Global, digits: &[u8]) -> Result<(bool, bool), Fault> {
+    let part = decode_enc_ticket_part(alloc, &octets(alloc, digits))?;
+    Ok((is_ticket(&part), has_no_optional_field(&part)))
+}
+
+fn is_ticket(part: &EncTicketPart) -> bool {
+    has_numbers(part) && has_times(part) && has_lists(part)
 }
 
 /// The start, the end and the bound of renewals are 60, 36,000 and 604,800 seconds after the first ticket.
@@ -91,10 +98,13 @@ fn has_lists(part: &EncTicketPart) -> bool {
 }
 
 #[test]
-fn parts_of_tickets_are_read(rt: HostRuntime) -> Result<(), Fail> {
-    let part = ticket_part(rt.alloc(), TICKET)?;
-    assert!(rt; has_numbers(&part) && has_times(&part) && has_lists(&part));
-    Ok(())
+fn parts_of_tickets_are_read(rt: HostRuntime) {
+    same(
+        &rt,
+        &"each field",
+        &ticket_part(rt.alloc(), TICKET),
+        &Ok((true, false)),
+    );
 }
 
 fn has_numbers(part: &EncTicketPart) -> bool {
@@ -106,10 +116,13 @@ fn has_numbers(part: &EncTicketPart) -> bool {
 }
 
 #[test]
-fn what_may_be_absent_is_absent(rt: HostRuntime) -> Result<(), Fail> {
-    let part = ticket_part(rt.alloc(), LEAST_TICKET)?;
-    assert!(rt; has_no_optional_field(&part));
-    Ok(())
+fn what_may_be_absent_is_absent(rt: HostRuntime) {
+    same(
+        &rt,
+        &"the least",
+        &ticket_part(rt.alloc(), LEAST_TICKET),
+        &Ok((false, true)),
+    );
 }
 
 fn has_no_optional_field(part: &EncTicketPart) -> bool {
@@ -119,15 +132,20 @@ fn has_no_optional_field(part: &EncTicketPart) -> bool {
         && part.authorization_data.is_none()
 }
 
-fn authenticator(alloc: Global, digits: &[u8]) -> Result<Authenticator, Fail> {
-    Ok(decode_authenticator(alloc, &octets(alloc, digits)?)?)
+/// Whether the authenticator has the fields of `AUTHENTICATOR`.
+fn is_authenticator(alloc: Global, digits: &[u8]) -> Result<bool, Fault> {
+    let found = decode_authenticator(alloc, &octets(alloc, digits))?;
+    Ok(has_time_and_number(&found) && has_key_and_data(&found))
 }
 
 #[test]
-fn authenticators_are_read(rt: HostRuntime) -> Result<(), Fail> {
-    let found = authenticator(rt.alloc(), AUTHENTICATOR)?;
-    assert!(rt; has_time_and_number(&found) && has_key_and_data(&found));
-    Ok(())
+fn authenticators_are_read(rt: HostRuntime) {
+    same(
+        &rt,
+        &"each field",
+        &is_authenticator(rt.alloc(), AUTHENTICATOR),
+        &Ok(true),
+    );
 }
 
 fn has_time_and_number(found: &Authenticator) -> bool {
@@ -146,26 +164,26 @@ fn has_key_and_data(found: &Authenticator) -> bool {
 }
 
 #[test]
-fn authenticators_have_version_5(rt: HostRuntime) -> Result<(), Fail> {
-    let alloc = rt.alloc();
-    let octets = octets(alloc, VERSION_4)?;
-    let fault = decode_authenticator(alloc, &octets).err();
-    assert_eq!(rt; fault, Some(Fault::Der(DerFault::BadInteger)));
-    Ok(())
+fn authenticators_have_version_5(rt: HostRuntime) {
+    let found = is_authenticator(rt.alloc(), VERSION_4);
+    same(
+        &rt,
+        &"version 4",
+        &found,
+        &Err(Fault::Der(DerFault::BadInteger)),
+    );
 }
 
-fn reply_part(octets: &[u8]) -> Result<EncKdcRepPartRef<'_>, DerFault> {
-    read(octets)
+/// Whether the octets are those of `REPLY`.
+fn is_reply(octets: &[u8]) -> Result<bool, DerFault> {
+    let part: EncKdcRepPartRef<'_> = read(octets)?;
+    Ok(is_for_a_ticket(&part) && has_entry(&part))
 }
 
 #[test]
-fn parts_of_replies_are_read_where_they_stand(rt: HostRuntime) -> Result<(), Fail> {
-    let octets = octets(rt.alloc(), REPLY)?;
-    match reply_part(&octets) {
-        Ok(part) => assert!(rt; is_for_a_ticket(&part) && has_entry(&part)),
-        Err(fault) => panic!(rt; "{fault:?}"),
-    }
-    Ok(())
+fn parts_of_replies_are_read_where_they_stand(rt: HostRuntime) {
+    let octets = octets(rt.alloc(), REPLY);
+    same(&rt, &"each field", &is_reply(&octets), &Ok(true));
 }
 
 /// Whether the key, the nonce, the end of the client's key and the service are those of `REPLY`.
@@ -185,15 +203,19 @@ fn has_entry(part: &EncKdcRepPartRef<'_>) -> bool {
     }
 }
 
-fn service_answer(alloc: Global, digits: &[u8]) -> Result<EncApRepPart, Fail> {
-    Ok(decode_enc_ap_rep_part(alloc, &octets(alloc, digits)?)?)
+fn service_answer(alloc: Global, digits: &[u8]) -> Result<bool, Fault> {
+    let part = decode_enc_ap_rep_part(alloc, &octets(alloc, digits))?;
+    Ok(is_service_answer(&part))
 }
 
 #[test]
-fn a_service_s_answer_is_read(rt: HostRuntime) -> Result<(), Fail> {
-    let part = service_answer(rt.alloc(), AP_REPLY)?;
-    assert!(rt; is_service_answer(&part));
-    Ok(())
+fn a_service_s_answer_is_read(rt: HostRuntime) {
+    same(
+        &rt,
+        &"each field",
+        &service_answer(rt.alloc(), AP_REPLY),
+        &Ok(true),
+    );
 }
 
 /// Whether the fields are those of `AP_REPLY`.
@@ -208,18 +230,16 @@ fn is_service_answer(part: &EncApRepPart) -> bool {
         && part.seq_number.is_some_and(|n| n.get() == 1)
 }
 
-fn etype_info2_entry(octets: &[u8]) -> Result<EtypeInfo2EntryRef<'_>, DerFault> {
-    read(octets)
+/// Whether the octets are those of `ETYPE_INFO2_ENTRY`.
+fn etype_info2_entry(octets: &[u8]) -> Result<bool, DerFault> {
+    let entry: EtypeInfo2EntryRef<'_> = read(octets)?;
+    Ok(is_entry(&entry, 18, b"A.Bu", &[0, 0, 16, 0]))
 }
 
 #[test]
-fn entries_of_etype_info2_are_read(rt: HostRuntime) -> Result<(), Fail> {
-    let octets = octets(rt.alloc(), ETYPE_INFO2_ENTRY)?;
-    match etype_info2_entry(&octets) {
-        Ok(entry) => assert!(rt; is_entry(&entry, 18, b"A.Bu", &[0, 0, 16, 0])),
-        Err(fault) => panic!(rt; "{fault:?}"),
-    }
-    Ok(())
+fn entries_of_etype_info2_are_read(rt: HostRuntime) {
+    let octets = octets(rt.alloc(), ETYPE_INFO2_ENTRY);
+    same(&rt, &"each field", &etype_info2_entry(&octets), &Ok(true));
 }
 
 fn is_entry(entry: &EtypeInfo2EntryRef<'_>, etype: i32, salt: &[u8], count: &[u8]) -> bool {
@@ -231,22 +251,23 @@ fn is_entry(entry: &EtypeInfo2EntryRef<'_>, etype: i32, salt: &[u8], count: &[u8
     }
 }
 
-fn timestamp(alloc: Global, octets: &[u8]) -> Result<PaEncTsEnc, Fail> {
-    Ok(decode_pa_enc_ts_enc(alloc, octets)?)
-}
-
 #[tactic(auto, using(krb_parts::specs::PaEncTsEnc::pa_enc_ts_enc_short))]
 fn written_timestamp(alloc: Global, part: &PaEncTsEnc) -> Result<Vec<u8>, AllocError> {
     encode_pa_enc_ts_enc(alloc, part)
 }
 
+/// What is written of the timestamp that the octets spell, where it is at midnight and 999,999 microseconds.
+fn timestamp_again(alloc: Global, octets: &[u8]) -> Result<Vec<u8>, Fault> {
+    let part = decode_pa_enc_ts_enc(alloc, octets)?;
+    let is_last = part.pausec.is_some_and(|n| n.get() == 999_999);
+    if is_last && is_at(part.patimestamp, 0) {
+        return Ok(written_timestamp(alloc, &part)?);
+    }
+    Ok(Vec::new(alloc))
+}
+
 #[test]
-fn timestamps_are_read_and_written(rt: HostRuntime) -> Result<(), Fail> {
-    let alloc = rt.alloc();
-    let octets = octets(alloc, TIMESTAMP)?;
-    let part = timestamp(alloc, &octets)?;
-    assert!(rt; is_at(part.patimestamp, 0));
-    assert!(rt; part.pausec.is_some_and(|n| n.get() == 999_999));
-    assert_eq!(rt; written_timestamp(alloc, &part)?, octets);
-    Ok(())
+fn timestamps_are_read_and_written(rt: HostRuntime) {
+    let octets = octets(rt.alloc(), TIMESTAMP);
+    written(&rt, timestamp_again(rt.alloc(), &octets), &octets);
 }

@@ -1,4 +1,5 @@
 //! KerberosTime (`krb_der`).
+use crate::expect::same;
 use krb_der::KTime;
 
 // By Python's datetime, whose first year is 0001: the year 0000 has 366 days before that.
@@ -22,7 +23,7 @@ const TIMES: &[(&[u8; 15], i64)] = &[
 #[test]
 fn reads_and_writes(rt: HostRuntime) {
     for &(octets, seconds) in TIMES {
-        assert!(rt; is_spelled(octets, seconds), "at {seconds}");
+        same(&rt, &seconds, &is_spelled(octets, seconds), &true);
     }
 }
 
@@ -65,13 +66,13 @@ fn refuses_what_is_no_time(rt: HostRuntime) {
         b"20230229000000Z",
     ];
     for octets in REFUSED {
-        assert_eq!(rt; KTime::from_octets(*octets), None, "{octets:?}");
+        same(&rt, octets, &KTime::from_octets(*octets), &None);
     }
 }
 
 #[test]
 fn new_refuses_other_years(rt: HostRuntime) {
     for seconds in [i64::MIN, -62_167_219_201, 253_402_300_800, i64::MAX] {
-        assert_eq!(rt; KTime::new(seconds), None);
+        same(&rt, &seconds, &KTime::new(seconds), &None);
     }
 }

@@ -2,6 +2,7 @@
 ghost use Rattle.std.specs.Prelude.{◌≡◌, ◌<◌, ◌*◌, length, IfOk};
 ghost use Rattle.krb_types.specs.KdcReq.{SpellsKdcReq, message, without_octets};
 
+use crate::expect::{same, written};
 use krb_der::{DerFault, KTime};
 use krb_elements::{Fault, MakeOwned, Seq, SeqRef};
 use krb_fields::{NameRef, PaData, PaDataRef};
@@ -10,7 +11,7 @@ use krb_types::{
     encode_kdc_req, encode_krb_error, read_kdc_req,
 };
 use std::alloc::{AllocError, Global};
-use std::test::Fail;
+use std::process::Abort;
 
 // pyasn1 gives these octets of the types of RFC 4120, sections 5.3, 5.4.1 and 5.9.1.
 
@@ -98,10 +99,6 @@ fn is_at(time: Option<KTime>, seconds: i64) -> bool {
     time.is_some_and(|time| time.seconds() == seconds)
 }
 
-fn request(octets: &[u8]) -> Result<(Exchange, KdcReqRef<'_>), DerFault> {
-    read_kdc_req(octets)
-}
-
 fn has_no_optional_field(body: &ReqBodyRef<'_>) -> bool {
     body.from.is_none()
         && body.rtime.is_none()
@@ -123,10 +120,19 @@ fn asks_for(body: &ReqBodyRef<'_>, etypes: &[i32]) -> bool {
 
 /// Reading takes no allocator, so no test has to refuse it memory.
 #[test]
-fn requests_are_read(rt: HostRuntime) -> Result<(), Fail> {
-    let (exchange, request) = request(AS_REQ)?;
-    assert!(rt; exchange == Exchange::As && is_as_req(&request));
-    Ok(())
+fn requests_are_read(rt: HostRuntime) {
+    same(
+        &rt,
+        &"an AS-REQ",
+        &kind_of(AS_REQ),
+        &Ok((Exchange::As, true, false)),
+    );
+}
+
+/// The exchange of the request, and whether it is `AS_REQ` or `TGS_REQ`.
+fn kind_of(octets: &[u8]) -> Result<(Exchange, bool, bool), DerFault> {
+    let (exchange, request) = read_kdc_req(octets)?;
+    Ok((exchange, is_as_req(&request), is_tgs_req(&request)))
 }
 
 fn is_as_req(request: &KdcReqRef<'_>) -> bool {
@@ -164,10 +170,13 @@ fn has_data(request: &KdcReqRef<'_>, padata_type: i32, value: &[u8]) -> bool {
 }
 
 #[test]
-fn requests_with_each_field_are_read(rt: HostRuntime) -> Result<(), Fail> {
-    let (exchange, request) = request(TGS_REQ)?;
-    assert!(rt; exchange == Exchange::Tgs && is_tgs_req(&request));
-    Ok(())
+fn requests_with_each_field_are_read(rt: HostRuntime) {
+    same(
+        &rt,
+        &"a TGS-REQ",
+        &kind_of(TGS_REQ),
+        &Ok((Exchange::Tgs, false, true)),
+    );
 }
 
 fn is_tgs_req(request: &KdcReqRef<'_>) -> bool {
@@ -235,18 +244,18 @@ fn has_parts(body: &ReqBodyRef<'_>) -> bool {
 /// The order of faults: no octet, tag, length, contents cut, contents, what follows.
 #[test]
 fn faults_are_told_apart(rt: HostRuntime) {
-    assert!(rt; fault_of(&[0x6b]) == Some(DerFault::BadTag));
-    assert!(rt; fault_of(&followed()) == Some(DerFault::Trailing));
-    assert!(rt; fault_of(&in_long_form()) == Some(DerFault::BadLength));
+    refused(&rt, &[0x6b], DerFault::BadTag);
+    refused(&rt, &followed(), DerFault::Trailing);
+    refused(&rt, &in_long_form(), DerFault::BadLength);
     let octets = AS_REQ.as_slice();
     for len in 0..107 {
-        let fault = fault_of(&octets[..len]);
-        assert_eq!(rt; fault, Some(DerFault::Truncated), "at {len}");
+        refused(&rt, &octets[..len], DerFault::Truncated);
     }
 }
 
-fn fault_of(octets: &[u8]) -> Option<DerFault> {
-    read_kdc_req(octets).err()
+/// The octets are refused for this fault.
+fn refused(rt: &impl Abort, octets: &[u8], fault: DerFault) {
+    same(rt, &octets, &read_kdc_req(octets).err(), &Some(fault));
 }
 
 /// The request, and an octet behind it.
@@ -306,57 +315,60 @@ fn short(alloc: Global, octets: &[u8]) -> Result<(Exchange, KdcReq), Fault>
     decoded(alloc, octets)
 }
 
-/// What is written of the request that the octets spell.
-fn request_again(alloc: Global, octets: &[u8]) -> Result<Vec<u8>, Fault>
-    requires { length octets.now < 1000 }
-{
+/// What is written of the request that the octets spell, which are fewer than a thousand.
+fn request_again(alloc: Global, octets: &[u8]) -> Result<Vec<u8>, Fault> {
+    if octets.len() >= 1000 {
+        return Ok(Vec::new(alloc));
+    }
     let (exchange, request) = short(alloc, octets)?;
     Ok(encode_kdc_req(alloc, exchange, &request)?)
 }
 
-/// What is written of the error that the octets spell.
+/// What is written of the error that the octets spell, which are fewer than a thousand.
 #[tactic(auto, using(krb_elements::specs::WrittenLaws::tlv_longer))]
-fn error_again(alloc: Global, octets: &[u8]) -> Result<Vec<u8>, Fault>
-    requires { length octets.now < 1000 }
-{
+fn error_again(alloc: Global, octets: &[u8]) -> Result<Vec<u8>, Fault> {
+    if octets.len() >= 1000 {
+        return Ok(Vec::new(alloc));
+    }
     let error = decode_krb_error(alloc, octets)?;
     Ok(encode_krb_error(alloc, &error)?)
 }
 
-#[test]
-fn requests_are_written(rt: HostRuntime) -> Result<(), Fail> {
-    let alloc = rt.alloc();
-    let mut tgs = *AS_REQ;
-    tgs[0] = 0x6c;
-    tgs[13] = 12;
-    let requests: [&[u8]; 3] = [AS_REQ, TGS_REQ, &tgs];
-    for octets in requests {
-        assert!(rt; octets.len() < 1000);
-        assert_eq!(rt; request_again(alloc, octets)?.as_slice(), octets);
-    }
-    Ok(())
+/// `AS_REQ` as a TGS-REQ.
+fn tgs_req() -> [u8; 107] {
+    let mut octets = *AS_REQ;
+    octets[0] = 0x6c;
+    octets[13] = 12;
+    octets
 }
 
 #[test]
-fn errors_are_written(rt: HostRuntime) -> Result<(), Fail> {
-    let alloc = rt.alloc();
-    let errors: [&[u8]; 2] = [SHORT_ERROR, LONG_ERROR];
-    for octets in errors {
-        assert!(rt; octets.len() < 1000);
-        assert_eq!(rt; error_again(alloc, octets)?.as_slice(), octets);
-    }
-    Ok(())
-}
-
-fn error(alloc: Global, octets: &[u8]) -> Result<KrbError, Fault> {
-    decode_krb_error(alloc, octets)
+fn requests_are_written(rt: HostRuntime) {
+    written(&rt, request_again(rt.alloc(), AS_REQ), AS_REQ);
+    written(&rt, request_again(rt.alloc(), TGS_REQ), TGS_REQ);
+    written(&rt, request_again(rt.alloc(), &tgs_req()), &tgs_req());
 }
 
 #[test]
-fn errors_are_read(rt: HostRuntime) -> Result<(), Fail> {
-    let error = error(rt.alloc(), LONG_ERROR)?;
-    assert!(rt; has_time_and_code(&error) && has_text_and_data(&error, b"no", &[0x30, 0]));
-    Ok(())
+fn errors_are_written(rt: HostRuntime) {
+    written(&rt, error_again(rt.alloc(), SHORT_ERROR), SHORT_ERROR);
+    written(&rt, error_again(rt.alloc(), LONG_ERROR), LONG_ERROR);
+}
+
+/// Whether the octets spell the error with each field.
+fn is_long_error(alloc: Global, octets: &[u8]) -> Result<bool, Fault> {
+    let error = decode_krb_error(alloc, octets)?;
+    Ok(has_time_and_code(&error) && has_text_and_data(&error, b"no", &[0x30, 0]))
+}
+
+#[test]
+fn errors_are_read(rt: HostRuntime) {
+    same(
+        &rt,
+        &"each field",
+        &is_long_error(rt.alloc(), LONG_ERROR),
+        &Ok(true),
+    );
 }
 
 fn has_time_and_code(error: &KrbError) -> bool {
@@ -378,35 +390,46 @@ fn has_text_and_data(error: &KrbError, text: &[u8], data: &[u8]) -> bool {
 fn errors_have_version_5(rt: HostRuntime) {
     let mut version_4 = *SHORT_ERROR;
     version_4[8] = 4;
-    let fault = error(rt.alloc(), &version_4).err();
-    assert_eq!(rt; fault, Some(Fault::Der(DerFault::BadInteger)));
+    let found = is_long_error(rt.alloc(), &version_4);
+    same(
+        &rt,
+        &"version 4",
+        &found,
+        &Err(Fault::Der(DerFault::BadInteger)),
+    );
 }
 
 /// One allocation may be refused, by `rt try --test --fail-alloc N`: the answer is then want of
 /// memory and nothing else, and the next call succeeds.
 #[test]
-fn want_of_memory_for_a_request_is_answered(rt: HostRuntime) -> Result<(), Fail> {
-    let written = match request_again(rt.alloc(), AS_REQ) {
-        Ok(written) => written,
+fn want_of_memory_for_a_request_is_answered(rt: HostRuntime) {
+    match request_again(rt.alloc(), AS_REQ) {
+        Ok(octets) => same(
+            &rt,
+            &"the first call",
+            &octets.as_slice(),
+            &AS_REQ.as_slice(),
+        ),
         Err(fault) => {
-            assert_eq!(rt; fault, Fault::Memory);
-            request_again(rt.alloc(), AS_REQ)?
+            same(&rt, &"the first call", &fault, &Fault::Memory);
+            written(&rt, request_again(rt.alloc(), AS_REQ), AS_REQ);
         }
-    };
-    assert_eq!(rt; written.as_slice(), AS_REQ.as_slice());
-    Ok(())
+    }
 }
 
 /// As above.
 #[test]
-fn want_of_memory_for_an_error_is_answered(rt: HostRuntime) -> Result<(), Fail> {
-    let written = match error_again(rt.alloc(), LONG_ERROR) {
-        Ok(written) => written,
+fn want_of_memory_for_an_error_is_answered(rt: HostRuntime) {
+    match error_again(rt.alloc(), LONG_ERROR) {
+        Ok(octets) => same(
+            &rt,
+            &"the first call",
+            &octets.as_slice(),
+            &LONG_ERROR.as_slice(),
+        ),
         Err(fault) => {
-            assert_eq!(rt; fault, Fault::Memory);
-            error_again(rt.alloc(), LONG_ERROR)?
+            same(&rt, &"the first call", &fault, &Fault::Memory);
+            written(&rt, error_again(rt.alloc(), LONG_ERROR), LONG_ERROR);
         }
-    };
-    assert_eq!(rt; written.as_slice(), LONG_ERROR.as_slice());
-    Ok(())
+    }
 }

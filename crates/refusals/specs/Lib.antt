@@ -1,6 +1,7 @@
 pub mod Refusals
-pub mod RefusalLaws
 pub mod Stages
-pub mod StageLaws
 pub mod Optional
+-- laws that proofs cite: no reader of a contract needs them
+pub mod RefusalLaws
+pub mod StageLaws
 pub mod ClearLaws
