@@ -146,7 +146,7 @@ impl<V: Drop> NameMap<V> {
     }
 
     /// Exchanges `value` with the value of a name, and says whether the name has one.
-    pub fn exchange<K: NameKey>(&mut self, key: &K, value: &mut V) -> bool
+    pub fn replace<K: NameKey>(&mut self, key: &K, value: &mut V) -> bool
         ensures there { result ≡ map.contains_key self.old (K.components key.now) }
         ensures taken { IsTrue result → map.get self.old (K.components key.now) ≡ Some value.new }
         ensures given { IsTrue result → self.new ≡ map.insert self.old (K.components key.now) value.old }

@@ -14,7 +14,7 @@ use Rattle.krb_fields.specs.NameText.{component_text, text_of}
 use Rattle.principal_rows.specs.NameMap.{pairs}
 use Rattle.principal_rows.specs.declared.name_map.Entry.{Entry}
 use Rattle.principal_rows.specs.declared.row.Row.{Row}
-use Rattle.principals.specs.declared.format.Format.TheVariants.{Version2}
+use Rattle.principals.specs.Format.{newest}
 use Rattle.principals.specs.Database.{Principals, IsDatabase}
 use Rattle.principals.specs.NameOf.{component_of, name_of}
 use Rattle.principals.specs.RowValue.{◌>>=◌, row_of}
@@ -55,10 +55,10 @@ set_apart m n o a b other = same_map name_total name_exact _ _ (λ q.
     at q false t i j = refl
 
 -- a member that is put sets the row of its name
-pub put_row : (k : List ℕ) (d : Data) (n : Components) (r : Row) → name_of k ≡ Some n → row_of Version2 d ≡ Some r → (ms : Members) (m : FinMap name_cmp Row) → map_of (entries_of Version2 ms) ≡ Some m → map_of (entries_of Version2 (put k d ms)) ≡ Some (insert m n r)
+pub put_row : (k : List ℕ) (d : Data) (n : Components) (r : Row) → name_of k ≡ Some n → row_of newest d ≡ Some r → (ms : Members) (m : FinMap name_cmp Row) → map_of (entries_of newest ms) ≡ Some m → map_of (entries_of newest (put k d ms)) ≡ Some (insert m n r)
 put_row k d n r named rowed no_members m is = let none : from_entries [] ≡ m = cc in rw (named, rowed) (ap (λ (x : FinMap name_cmp Row). Some (insert x n r)) none)
 put_row k d n r named rowed (member l e ms) m is =
-    at (name_of l) refl (row_of Version2 e) refl (entries_of Version2 ms) refl is (slice_cmp nat_cmp k l) refl (λ m' i. put_row k d n r named rowed ms m' i)
+    at (name_of l) refl (row_of newest e) refl (entries_of newest ms) refl is (slice_cmp nat_cmp k l) refl (λ m' i. put_row k d n r named rowed ms m' i)
   where
     spelled : (o : Components) → name_of l ≡ Some o → n ≡ o → k ≡ l
     spelled o p same = sym (text-name_of n k named).1 ∙ ap text_of same ∙ (text-name_of o l p).1
@@ -66,10 +66,10 @@ put_row k d n r named rowed (member l e ms) m is =
     apart : (o : Ordering) → slice_cmp nat_cmp k l ≡ o → is_eq o ≡ false → k ≢ l
     apart o c not_equal same = let tie = tied_itself nat_list_cmp_total k in let c' = ap (slice_cmp nat_cmp k) same ∙ c in let e = ap is_eq (sym tie ∙ c') ∙ not_equal in cc
 
-    at : (no : Option Components) → name_of l ≡ no → (ro : Option Row) → row_of Version2 e ≡ ro → (lo : Option (List (Components × Row))) → entries_of Version2 ms ≡ lo → map_of (joined no ro lo) ≡ Some m
+    at : (no : Option Components) → name_of l ≡ no → (ro : Option Row) → row_of newest e ≡ ro → (lo : Option (List (Components × Row))) → entries_of newest ms ≡ lo → map_of (joined no ro lo) ≡ Some m
         → (o : Ordering) → slice_cmp nat_cmp k l ≡ o
-        → ((m' : FinMap name_cmp Row) → map_of (entries_of Version2 ms) ≡ Some m' → map_of (entries_of Version2 (put k d ms)) ≡ Some (insert m' n r))
-        → map_of (entries_of Version2 (match_ordering o (member k d (member l e ms)) (member l d ms) (member l e (put k d ms)))) ≡ Some (insert m n r)
+        → ((m' : FinMap name_cmp Row) → map_of (entries_of newest ms) ≡ Some m' → map_of (entries_of newest (put k d ms)) ≡ Some (insert m' n r))
+        → map_of (entries_of newest (match_ordering o (member k d (member l e ms)) (member l d ms) (member l e (put k d ms)))) ≡ Some (insert m n r)
     at None p ro q lo s is o c more = cc
     at (Some a) p None q lo s is o c more = cc
     at (Some a) p (Some b) q None s is o c more = cc
@@ -86,7 +86,7 @@ put_row k d n r named rowed (member l e ms) m is =
         let same : insert (from_entries es) a b ≡ m = cc in
         let other : n ≢ a = λ e. apart Greater c refl (spelled a p e) in
         let later = more (from_entries es) (ap map_of s) in
-        rw (p, q) (grown (entries_of Version2 (put k d ms)) later other same)
+        rw (p, q) (grown (entries_of newest (put k d ms)) later other same)
       where
         grown : (lo : Option (List (Components × Row))) → map_of lo ≡ Some (insert (from_entries es) n r) → n ≢ a → insert (from_entries es) a b ≡ m → map_of (lo >>= λ es. Some ((a, b) ∷ es)) ≡ Some (insert m n r)
         grown None e other same = cc
@@ -103,9 +103,9 @@ insert_all m (e ∷ es) = insert_all (insert m e.0 e.1) es
 -- each name and each row is read as it was written
 abbrev pub AreReadBack : List (Components × Row) → Type 0
 AreReadBack [] = Unit {0}
-AreReadBack (e ∷ es) = (name_of (text_of e.0) ≡ Some e.0) × (row_of Version2 (row_value e.1) ≡ Some e.1) × AreReadBack es
+AreReadBack (e ∷ es) = (name_of (text_of e.0) ≡ Some e.0) × (row_of newest (row_value e.1) ≡ Some e.1) × AreReadBack es
 
-rows_put : (es : List (Components × Row)) (ms : Members) (m : FinMap name_cmp Row) → AreReadBack es → map_of (entries_of Version2 ms) ≡ Some m → map_of (entries_of Version2 (with_rows ms es)) ≡ Some (insert_all m es)
+rows_put : (es : List (Components × Row)) (ms : Members) (m : FinMap name_cmp Row) → AreReadBack es → map_of (entries_of newest ms) ≡ Some m → map_of (entries_of newest (with_rows ms es)) ≡ Some (insert_all m es)
 rows_put [] ms m reads is = is
 rows_put (e ∷ es) ms m reads is = rows_put es (put (text_of e.0) (row_value e.1) ms) (insert m e.0 e.1) reads.2 (put_row (text_of e.0) (row_value e.1) e.0 e.1 reads.0 reads.1 ms m is)
 
@@ -144,7 +144,7 @@ all_inserted m = same_map name_total name_exact _ _ (λ q.
 -- the law: where each row is read back, so is the database
 pub database_read_back : (p : Principals) → IsDatabase p → AreReadBack (entries p.rows) → database (database_value p) ≡ Ok p
 database_read_back p is reads =
-    let rows : map_of (entries_of Version2 (with_rows no_members (entries p.rows))) ≡ Some p.rows = rows_put (entries p.rows) no_members empty reads refl ∙ ap Some (all_inserted p.rows) in
+    let rows : map_of (entries_of newest (with_rows no_members (entries p.rows))) ≡ Some p.rows = rows_put (entries p.rows) no_members empty reads refl ∙ ap Some (all_inserted p.rows) in
     let realm : component_of (component_text p.realm) ≡ Some p.realm = component_of-text p.realm (component_text p.realm) (is.realm_fits, refl) in
     rw (realm, rows, is.grants_tickets) refl
 

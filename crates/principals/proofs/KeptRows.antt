@@ -24,7 +24,8 @@ use Rattle.text_fields.specs.declared.settings.Setting.TheVariants.{Flag, Life, 
 use Rattle.text_fields.specs.Settings.{settings_of}
 use Rattle.principals.specs.ReadBack.{IsTime, IsFitting}
 use Rattle.principals.specs.RowWritten.{time_value, key_value, keys_value, version_value, versions_value}
-use Rattle.principals.specs.RowWritten.{setting_value, setting_members, before_keys, row_members, row_value}
+use Rattle.principals.specs.Format.{before_keys}
+use Rattle.principals.specs.RowWritten.{setting_value, setting_members, row_members, row_value}
 use Rattle.principals.specs.Tokens.{IsKept, data_tokens}
 use Rattle.principals.specs.Written.{with_rows, database_value}
 use Rattle.serde_json.specs.Written.{outline, items_outline}

@@ -23,7 +23,7 @@ use Rattle.principal_rows.specs.declared.policy.Policy.{Policy}
 use Rattle.text_fields.specs.declared.settings.Setting.{Setting}
 use Rattle.text_fields.specs.declared.settings.Setting.TheVariants.{Flag, Life, Time}
 use Rattle.text_fields.specs.Settings.{settings_of, with_setting, with_settings}
-use Rattle.principals.specs.declared.format.Format.TheVariants.{Version2}
+use Rattle.principals.specs.Format.{newest}
 use Rattle.principals.specs.RowValue.{each, time_of, key_of, keys_of, version_of, versions_of}
 use Rattle.principals.specs.RowValue.{setting_from, setting_in, policy_with, policy_of, row_of}
 use Rattle.principals.specs.RowWritten.{time_value, key_value, keys_value, version_value, versions_value, setting_value}
@@ -110,20 +110,20 @@ setting_read (Time field time) fits = rw (time_read time fits) refl
 
 -- settings that are found as they were written are set
 settings_read : (d : Data) (fields ss : List Setting) (p : Policy)
-    → map (setting_in Version2 d) fields ≡ map (λ s. setting_from s (setting_value s)) ss → All IsFitting ss
-    → policy_with Version2 d fields p ≡ Some (with_settings ss p)
+    → map (setting_in newest d) fields ≡ map (λ s. setting_from s (setting_value s)) ss → All IsFitting ss
+    → policy_with newest d fields p ≡ Some (with_settings ss p)
 settings_read d [] [] p found fits = refl
 settings_read d [] (s ∷ ss) p found fits = cc
 settings_read d (f ∷ fs) [] p found fits = cc
 settings_read d (f ∷ fs) (s ∷ ss) p found fits =
-    let first : setting_in Version2 d f ≡ setting_from s (setting_value s) = cc in
-    let others : map (setting_in Version2 d) fs ≡ map (λ s. setting_from s (setting_value s)) ss = cc in
-    let here : setting_in Version2 d f ≡ Some s = first ∙ setting_read s (All-head IsFitting s ss fits) in
+    let first : setting_in newest d f ≡ setting_from s (setting_value s) = cc in
+    let others : map (setting_in newest d) fs ≡ map (λ s. setting_from s (setting_value s)) ss = cc in
+    let here : setting_in newest d f ≡ Some s = first ∙ setting_read s (All-head IsFitting s ss fits) in
     rw here (settings_read d fs ss (with_setting s p) others (All-tail IsFitting s ss fits))
 
-pub policy_read : (row : Row) → All IsFitting (settings_of row.policy) → policy_of Version2 (row_value row) ≡ Some row.policy
+pub policy_read : (row : Row) → All IsFitting (settings_of row.policy) → policy_of newest (row_value row) ≡ Some row.policy
 policy_read row fits =
     settings_read (row_value row) (settings_of default_policy) (settings_of row.policy) default_policy refl fits
 
-pub row_read : (row : Row) → policy_of Version2 (row_value row) ≡ Some row.policy → versions_of (versions_value row.versions) ≡ Some row.versions → row_of Version2 (row_value row) ≡ Some row
+pub row_read : (row : Row) → policy_of newest (row_value row) ≡ Some row.policy → versions_of (versions_value row.versions) ≡ Some row.versions → row_of newest (row_value row) ≡ Some row
 row_read row policy versions = rw (policy, versions) refl

@@ -16,7 +16,7 @@ use Rattle.principal_rows.specs.NameMap.{pairs}
 use Rattle.principal_rows.specs.Row.{IsRow}
 use Rattle.principal_rows.specs.declared.name_map.Entry.{Entry}
 use Rattle.principal_rows.specs.declared.row.Row.{Row}
-use Rattle.principals.specs.declared.format.Format.TheVariants.{Version2}
+use Rattle.principals.specs.Format.{newest, newest_number, newest_text}
 use Rattle.principals.specs.Ahead.{value_at, members_at, rows_in, text_value, HoldsParts}
 use Rattle.principals.specs.Database.{ticket_granter, AreRows}
 use Rattle.principals.specs.NameOf.{component_of, name_of}
@@ -37,7 +37,7 @@ if_ok (Ok y) x made pushed kept held is = held
 if_ok (Err e) x made pushed kept held is = cc
 
 -- one row more
-pub row_more : (text : List ℕ) (d : Data) (entry : Entry Row) (found : Members) (es made : List (Entry Row)) → name_of text ≡ Some entry.name.components → row_of Version2 d ≡ Some entry.value
+pub row_more : (text : List ℕ) (d : Data) (entry : Entry Row) (found : Members) (es made : List (Entry Row)) → name_of text ≡ Some entry.name.components → row_of newest d ≡ Some entry.value
     → rows_in found ≡ Some (from_entries (pairs (reverse es))) → made ≡ es ++ entry ∷ [] → rows_in (put text d found) ≡ Some (from_entries (pairs (reverse made)))
 row_more text d entry found es made named rowed before is =
     put_row text d entry.name.components entry.value named rowed found (from_entries (pairs (reverse es))) before
@@ -46,12 +46,12 @@ row_more text d entry found es made named rowed before is =
 string_next : (depth : ℕ) (s : List ℕ) (r : List Token) → value_at depth (Token.string s ∷ r) ≡ Some (string s, r)
 string_next depth s r = ap (converted of_json) (value_is depth (Token.string s ∷ r))
 
-two : number_of (codes "2") ≡ Some (unsigned 2)
+two : number_of newest_text ≡ Some (unsigned newest_number)
 unfolding serde_json_on_literals
 two = refl
 
-number_next : (depth : ℕ) (r : List Token) → value_at depth (Token.number (codes "2") ∷ r) ≡ Some (number (unsigned 2), r)
-number_next depth r = ap (converted of_json) (value_is depth (Token.number (codes "2") ∷ r)) ∙ rw two refl
+number_next : (depth : ℕ) (r : List Token) → value_at depth (Token.number newest_text ∷ r) ≡ Some (number (unsigned newest_number), r)
+number_next depth r = ap (converted of_json) (value_is depth (Token.number newest_text ∷ r)) ∙ rw two refl
 
 -- the parts of a text, one after the other
 pub parts_hold : (ts t1 s1 t2 r1 s2 r2 s3 r3 : List Token) (rows : Members) (text realm : List ℕ) (es : List (Entry Row))
@@ -62,7 +62,7 @@ pub parts_hold : (ts t1 s1 t2 r1 s2 r2 s3 r3 : List Token) (rows : Members) (tex
     → read_key r1 ≡ Some (Some (codes "realm"), s2)
     → s2 ≡ Token.string text ∷ r2
     → read_key r2 ≡ Some (Some (codes "version"), s3)
-    → s3 ≡ Token.number (codes "2") ∷ r3
+    → s3 ≡ Token.number newest_text ∷ r3
     → read_key r3 ≡ Some (None, [])
     → rows_in rows ≡ Some (from_entries (pairs (reverse es)))
     → component_of text ≡ Some realm
@@ -71,7 +71,7 @@ parts_hold ts t1 s1 t2 r1 s2 r2 s3 r3 rows text realm es opens first begun rows_
     let n = length t1 in
     let rows_value : value_at 126 s1 ≡ Some (object rows, r1) = ap (value_at 126) begun ∙ object_next 126 t2 (omega arith) ∙ ap (parse_map object) rows_next in
     let realm_value : value_at 126 s2 ≡ Some (string text, r2) = ap (value_at 126) realm_next ∙ string_next 126 text r2 in
-    let version_value : value_at 126 s3 ≡ Some (number (unsigned 2), r3) = ap (value_at 126) version_next ∙ number_next 126 r3 in
+    let version_value : value_at 126 s3 ≡ Some (number (unsigned newest_number), r3) = ap (value_at 126) version_next ∙ number_next 126 r3 in
     let a = read_key-shorter t1 (Some (codes "principals")) s1 first in
     let b : length t2 < length s1 = omega (arith, ap length begun) in
     let c = read_key-shorter r1 (Some (codes "realm")) s2 second in
@@ -81,8 +81,8 @@ parts_hold ts t1 s1 t2 r1 s2 r2 s3 r3 rows text realm es opens first begun rows_
     let with_rows : members_at 126 no_members n t1 ≡ members_at 126 (put (codes "principals") (object rows) no_members) (n - 1) r1 =
     member_next 126 no_members n (codes "principals") t1 s1 r1 (object rows) (omega (arith, a)) first rows_value in
     let with_realm = member_next 126 (put (codes "principals") (object rows) no_members) (n - 1) (codes "realm") r1 s2 r2 (string text) (omega (arith, a, b, less, c)) second realm_value in
-    let with_version = member_next 126 (put (codes "realm") (string text) (put (codes "principals") (object rows) no_members)) (n - 1 - 1) (codes "version") r2 s3 r3 (number (unsigned 2)) (omega (arith, a, b, less, c, d, e)) third version_value in
-    let ended = no_member_next 126 (put (codes "version") (number (unsigned 2)) (put (codes "realm") (string text) (put (codes "principals") (object rows) no_members))) (n - 1 - 1 - 1) r3 [] (omega (arith, a, b, less, c, d, e, f)) over in (
+    let with_version = member_next 126 (put (codes "realm") (string text) (put (codes "principals") (object rows) no_members)) (n - 1 - 1) (codes "version") r2 s3 r3 (number (unsigned newest_number)) (omega (arith, a, b, less, c, d, e)) third version_value in
+    let ended = no_member_next 126 (put (codes "version") (number (unsigned newest_number)) (put (codes "realm") (string text) (put (codes "principals") (object rows) no_members))) (n - 1 - 1 - 1) r3 [] (omega (arith, a, b, less, c, d, e, f)) over in (
       rows,
       text,
       ap (value_at 127) opens ∙ object_next 127 t1 (omega arith) ∙ ap (parse_map object) (with_rows ∙ with_realm ∙ with_version ∙ ended),

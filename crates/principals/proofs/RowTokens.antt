@@ -21,7 +21,8 @@ use Rattle.principal_rows.specs.declared.row.KeyVersion.{KeyVersion}
 use Rattle.principal_rows.specs.declared.row.Row.{Row}
 use Rattle.text_fields.specs.declared.settings.Setting.{Setting}
 use Rattle.text_fields.specs.Settings.{settings_of}
-use Rattle.principals.specs.RowWritten.{each_value, versions_value, setting_members, before_keys, row_value}
+use Rattle.principals.specs.Format.{before_keys}
+use Rattle.principals.specs.RowWritten.{each_value, versions_value, setting_members, row_value}
 use Rattle.principals.specs.Tokens.{IsLonger, data_tokens, member_tokens, setting_tokens, settings_tokens, values_tokens}
 use Rattle.principals.specs.Tokens.{named_members, named_tokens}
 

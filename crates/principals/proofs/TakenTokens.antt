@@ -22,7 +22,8 @@ use Rattle.text_fields.specs.declared.settings.Setting.{Setting}
 use Rattle.text_fields.specs.SettingLaws.{made}
 use Rattle.text_fields.specs.Settings.{settings_of, place, with_setting, with_settings}
 use Rattle.principals.specs.Ahead.{value_at}
-use Rattle.principals.specs.RowWritten.{each_value, key_value, keys_value, version_value, versions_value, before_keys, row_value}
+use Rattle.principals.specs.Format.{before_keys}
+use Rattle.principals.specs.RowWritten.{each_value, key_value, keys_value, version_value, versions_value, row_value}
 use Rattle.principals.specs.Tokens.{IsKept, data_tokens, member_tokens, setting_tokens, settings_tokens, values_tokens}
 use Rattle.principals.proofs.Kept.{depth-outline}
 use Rattle.principals.specs.Taken.{AreTaken}

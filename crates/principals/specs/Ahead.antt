@@ -9,7 +9,7 @@ use Rattle.krb_fields.specs.Name.{name_cmp}
 use Rattle.principal_rows.specs.NameMap.{pairs}
 use Rattle.principal_rows.specs.declared.name_map.Entry.{Entry}
 use Rattle.principal_rows.specs.declared.row.Row.{Row}
-use Rattle.principals.specs.declared.format.Format.TheVariants.{Version2}
+use Rattle.principals.specs.Format.{newest, newest_number}
 use Rattle.principals.specs.NameOf.{component_of}
 use Rattle.principals.specs.RowValue.{◌>>=◌}
 use Rattle.principals.specs.Value.{entries_of}
@@ -18,22 +18,24 @@ use Rattle.principals.specs.Value.{entries_of}
 abbrev pub value_at : ℕ → List Token → Option (Data × List Token)
 value_at depth ts = converted of_json (value depth ts)
 
--- the members that come next, up to the end of their object, beside those that were found; the number bounds their count
+-- the members that come next, up to the end of their object, beside those that were found;
+-- the number bounds their count
 abbrev pub members_at : ℕ → Members → ℕ → List Token → Option (Members × List Token)
 members_at depth found n ts = converted (λ ms. of_members ms found) (members (value depth) n ts)
 
--- the rows of members in version 2
+-- the rows of members in the newest version
 abbrev pub rows_in : Members → Option (FinMap name_cmp Row)
-rows_in ms = entries_of Version2 ms >>= λ es. Some (from_entries es)
+rows_in ms = entries_of newest ms >>= λ es. Some (from_entries es)
 
--- the value of a text in version 2: its rows and its realm
+-- the value of a text in the newest version: its rows and its realm
 abbrev pub text_value : Members → List ℕ → Data
 text_value rows realm =
     object (member (codes "principals") (object rows)
     (member (codes "realm") (string realm)
-    (member (codes "version") (number (unsigned 2)) no_members)))
+    (member (codes "version") (number (unsigned newest_number)) no_members)))
 
--- the tokens are those of a whole text in version 2, with this realm and these rows, of which the last one of a name counts
+-- the tokens are those of a whole text in the newest version, with this realm and these rows,
+-- of which the last one of a name counts
 abbrev pub HoldsParts : List Token → List ℕ → List (Entry Row) → Type 0
 HoldsParts ts realm entries =
     (rows : Members) × (text : List ℕ) × (value_at 127 ts ≡ Some (text_value rows text, []))

@@ -1,7 +1,8 @@
 -- The words that stand for the faults of a change.
 use Rattle.std.specs.Prelude.{ℕ, List, codes}
 use Rattle.principals.specs.declared.change.ChangeFault.{ChangeFault}
-use Rattle.principals.specs.declared.change.ChangeFault.TheVariants.{BadName, Exists, Protected, Absent, LastVersion, CurrentKeys, Memory}
+use Rattle.principals.specs.declared.change.ChangeFault.TheVariants.{BadName, Exists, Protected, Absent, LastVersion}
+use Rattle.principals.specs.declared.change.ChangeFault.TheVariants.{CurrentKeys, Memory}
 
 -- a fault's word
 abbrev pub fault_name : ChangeFault → List ℕ

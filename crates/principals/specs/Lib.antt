@@ -2,9 +2,11 @@ pub mod Ahead
 pub mod Change
 pub mod Database
 pub mod FaultName
+pub mod Format
 pub mod NameOf
 pub mod ReadBack
 pub mod ReadFault
+pub mod RefusalWord
 pub mod RowValue
 pub mod RowWritten
 pub mod Taken

@@ -5,7 +5,7 @@ use Rattle.principal_rows.specs.declared.name_map.Entry.{Entry}
 use Rattle.principal_rows.specs.declared.row.Row.{Row}
 use Rattle.text_fields.specs.declared.settings.Setting.{Setting}
 use Rattle.text_fields.specs.declared.settings.Setting.TheVariants.{Flag, Life, Time}
-use Rattle.principals.specs.declared.format.Format.TheVariants.{Version2}
+use Rattle.principals.specs.Format.{newest}
 use Rattle.principals.specs.RowValue.{row_of}
 use Rattle.principals.specs.RowWritten.{row_value}
 
@@ -21,7 +21,7 @@ IsFitting (Life field life) = life < 4294967296
 IsFitting (Time field time) = IsTime time
 
 abbrev pub IsRowReadBack : Row → Type 0
-IsRowReadBack row = row_of Version2 (row_value row) ≡ Some row
+IsRowReadBack row = row_of newest (row_value row) ≡ Some row
 
 abbrev pub IsEntryReadBack : Entry Row → Type 0
 IsEntryReadBack entry = IsRowReadBack entry.value

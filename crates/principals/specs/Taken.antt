@@ -7,7 +7,8 @@ use Rattle.text_fields.specs.Settings.{place, with_settings}
 use Rattle.principals.specs.Tokens.{settings_tokens}
 
 -- settings of the same fields as these are the first of the tokens, and are set in the policy that is made
-pub record AreTaken (fields : List Setting) (policy : Policy) (old : List Token) (made : Policy) (new : List Token) : Type 0 where
+pub record AreTaken (fields : List Setting) (policy : Policy) (old : List Token) (made : Policy) (new : List Token)
+    : Type 0 where
   pub found : List Setting
   pub alike : map place found ≡ map place fields
   pub tokens : old ≡ settings_tokens found ++ new

@@ -11,16 +11,16 @@ ghost use Rattle.krb_fields.specs.NameLimits.{IsComponent};
 ghost use Rattle.principal_rows.specs.NameMap.{pairs};
 ghost use Rattle.principal_rows.specs.Row.{IsRow};
 ghost use Rattle.principals.specs.Ahead.{value_at, members_at, rows_in, HoldsParts};
+ghost use Rattle.principals.specs.Format.{newest};
 ghost use Rattle.principals.specs.NameOf.{component_of, name_of};
 ghost use Rattle.principals.specs.RowValue.{row_of};
-ghost use Rattle.principals.specs.declared.format.Format.TheVariants.{Version2};
 ghost use Rattle.principals.specs.Value.{text_database};
 
+use crate::Database;
 use crate::next_value::{takes_end, takes_key, takes_object, takes_version};
 use crate::row_reading::take_row;
 use crate::row_tokens::know_row;
 use crate::text::{read_component, read_name};
-use crate::{Database, GranterOf};
 use json::{Reader, Scratch, Token};
 use krb_elements::KerberosString;
 use principal_rows::{Entry, NameMap, Row};
@@ -33,9 +33,9 @@ struct Parts {
     entries: Vec<Entry<Row>>,
 }
 
-/// The database of a text in version 2 whose members, and those of each row, stand in the order in which they are written,
-/// with numbers and keys in the same digits. None says nothing of a text: it may have another form, or stand for no
-/// database, or memory may be short.
+/// The database of a text in the newest version whose members, and those of each row, stand in the order in which they
+/// are written, with numbers and keys in the same digits. None says nothing of a text: it may have another form, or
+/// stand for no database, or memory may be short.
 pub(crate) fn read_by_rows(alloc: Global, text: &str) -> Option<Database>
     ensures { IfSome result (λ database. text_database text.now ≡ Ok database) }
 {
@@ -45,13 +45,7 @@ pub(crate) fn read_by_rows(alloc: Global, text: &str) -> Option<Database>
     let Ok(rows) = NameMap::from_entries(entries) else {
         return None;
     };
-    let granter = GranterOf {
-        realm: realm.as_slice(),
-    };
-    if rows.get(&granter).is_none() {
-        return None;
-    }
-    Some(Database { realm, rows })
+    Database::of_rows(realm, rows)
 }
 
 /// The parts of a text.
@@ -108,7 +102,7 @@ fn read_rows(alloc: Global, reader: &mut Reader<'_>) -> Option<Vec<Entry<Row>>>
 /// The row of a name, whose value comes next.
 fn read_entry(alloc: Global, text: &str, reader: &mut Reader<'_>) -> Option<Entry<Row>>
     ensures row { IfSome result (λ entry. (d : Data) × (value_at 125 reader.old ≡ Some (d, reader.new))
-        × (name_of text.now ≡ Some entry.name.components) × (row_of Version2 d ≡ Some entry.value)) }
+        × (name_of text.now ≡ Some entry.name.components) × (row_of newest d ≡ Some entry.value)) }
     ensures fits { IfSome result (λ entry. IsRow entry.value) }
     ensures shorter { IsSome result → length reader.new < length reader.old }
 {
@@ -122,7 +116,8 @@ fn read_entry(alloc: Global, text: &str, reader: &mut Reader<'_>) -> Option<Entr
 
 /// The realm, whose text comes next.
 fn read_realm(alloc: Global, reader: &mut Reader<'_>) -> Option<KerberosString>
-    ensures realm { IfSome result (λ realm. (s : List ℕ) × (reader.old ≡ string s ∷ reader.new) × (component_of s ≡ Some realm)) }
+    ensures realm { IfSome result
+        (λ realm. (s : List ℕ) × (reader.old ≡ string s ∷ reader.new) × (component_of s ≡ Some realm)) }
     ensures fits { IfSome result IsComponent }
 {
     let Some(Token::String(text)) = reader.next() else {

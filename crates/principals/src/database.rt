@@ -285,7 +285,7 @@ impl Database {
         ensures { self.new ≡ record self.old { rows = map.insert self.old.rows name.now.components row } }
     {
         let mut row = row;
-        self.rows.exchange(name, &mut row);
+        self.rows.replace(name, &mut row);
     }
 
     fn add_refusal(&self, name: &Name) -> Option<ChangeFault>

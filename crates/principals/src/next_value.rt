@@ -1,8 +1,10 @@
 //! What comes next in a text.
-ghost use Rattle.std.specs.Prelude.{◌≡◌, ◌∷◌, IsTrue, Some, None, codes};
+ghost use Rattle.std.specs.Prelude.{◌≡◌, ◌∷◌, IsTrue, Some, None};
 ghost use Rattle.json.specs.Json.{read_key};
 ghost use Rattle.json.specs.Token.{Token as SpecToken, begin_object, number};
+ghost use Rattle.principals.specs.Format.{newest_text};
 
+use crate::format::NEWEST_TEXT;
 use json::{Reader, Token};
 
 /// Whether an object begins.
@@ -29,12 +31,12 @@ pub(crate) fn takes_end(reader: &mut Reader<'_>) -> bool
     matches!(reader.next_key(), Ok(None))
 }
 
-/// Whether the number of version 2 comes next.
+/// Whether the number of the newest version comes next.
 pub(crate) fn takes_version(reader: &mut Reader<'_>) -> bool
-    ensures { IsTrue result → reader.old ≡ number (codes "2") ∷ reader.new }
+    ensures { IsTrue result → reader.old ≡ number newest_text ∷ reader.new }
 {
     match reader.next() {
-        Some(Token::Number(text)) => text == "2",
+        Some(Token::Number(text)) => text == NEWEST_TEXT,
         _ => false,
     }
 }

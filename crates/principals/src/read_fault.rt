@@ -1,4 +1,7 @@
 //! Why a text is read as no database.
+ghost use Rattle.std.specs.Prelude.{◌≡◌, option_map};
+ghost use Rattle.principals.specs.RefusalWord.{read_refusal};
+
 use crate::row_fault::RowFault;
 use std::alloc::AllocError;
 use std::error::Error;
@@ -16,6 +19,21 @@ pub enum ReadFault {
     /// The ticket-granting service has no row.
     NoTicketGranter,
     Memory,
+}
+
+impl ReadFault {
+    /// The word that commands print where a text is refused. Want of memory has none: it refuses nothing.
+    pub fn refusal(self) -> Option<&'static str>
+        ensures { option_map (λ word. word.now) result ≡ read_refusal self }
+    {
+        match self {
+            ReadFault::NotJson => Some("NotJson"),
+            ReadFault::BadVersion => Some("BadVersion"),
+            ReadFault::BadRow => Some("BadRow"),
+            ReadFault::NoTicketGranter => Some("NoTicketGranter"),
+            ReadFault::Memory => None,
+        }
+    }
 }
 
 impl fmt::Display for ReadFault {

@@ -15,15 +15,13 @@ ghost use Rattle.principals.specs.Tokens.{data_tokens, member_tokens, setting_to
 
 use crate::format::BEFORE_KEYS;
 use crate::next_value::takes_object;
+use crate::row_value::{LONGEST_KEY, decoded_key};
 use enctypes::{Etype, Key};
 use json::{Reader, Token};
 use krb_fields::Second;
 use principal_rows::{KeyList, KeyVersion, Policy, Row, Versions};
 use std::alloc::Global;
 use text_fields::Setting;
-
-/// The most octets that a key has.
-const LONGEST_KEY: usize = 32;
 
 /// How many versions there is room for at first: most rows have one.
 const VERSIONS: usize = 1;
@@ -87,10 +85,7 @@ fn key_of(etype: Etype, text: &str) -> Option<Key>
     ensures octets { IfSome result (λ key. text.now ≡ encode_lower key.bytes) }
     ensures etype { IfSome result (λ key. key.etype ≡ etype) }
 {
-    let mut octets = [0; LONGEST_KEY];
-    let octets = octets.get_mut(..etype.key_len())?;
-    hex::decode_to_slice(text, octets).ok()?;
-    let key = Key::new(etype, octets)?;
+    let key = decoded_key(etype, text)?;
     if is_written(key.bytes(), text) {
         Some(key)
     } else {
@@ -139,7 +134,9 @@ fn take_time(reader: &mut Reader<'_>, name: &str) -> Option<Option<Second>>
 }
 
 fn take_etype(reader: &mut Reader<'_>) -> Option<Etype>
-    ensures { IfSome result (λ etype. reader.old ≡ member_tokens (codes "etype") (number (of_integer (etypes.number etype))) ++ reader.new) }
+    ensures { IfSome result
+        (λ etype. reader.old
+        ≡ member_tokens (codes "etype") (number (of_integer (etypes.number etype))) ++ reader.new) }
 {
     let value = take_number(reader, "etype")?;
     Etype::from_number(i32::try_from(value).ok()?)
@@ -200,7 +197,8 @@ fn take_version(alloc: Global, reader: &mut Reader<'_>) -> Option<KeyVersion>
 }
 
 fn take_versions(alloc: Global, reader: &mut Reader<'_>) -> Option<Versions>
-    ensures tokens { IfSome result (λ versions. reader.old ≡ data_tokens (written.versions_value versions) ++ reader.new) }
+    ensures tokens { IfSome result
+        (λ versions. reader.old ≡ data_tokens (written.versions_value versions) ++ reader.new) }
     ensures fits { IfSome result IsVersions }
 {
     if !takes_array(reader) {

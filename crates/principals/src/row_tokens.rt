@@ -4,7 +4,8 @@ ghost use Rattle.serde_json.specs.Data.{no_members, boolean, number, object, uns
 ghost use Rattle.principal_rows.specs.NameMap.{pairs};
 ghost use Rattle.principals.specs.ReadBack.{IsTime, IsFitting, IsRowReadBack, IsEntryReadBack};
 ghost use Rattle.principals.specs.RowWritten as written;
-ghost use Rattle.principals.specs.Tokens.{IsKept, IsLonger, data_tokens, member_tokens, setting_tokens, settings_tokens};
+ghost use Rattle.principals.specs.Tokens.{IsKept, IsLonger, data_tokens, member_tokens, setting_tokens};
+ghost use Rattle.principals.specs.Tokens.{settings_tokens};
 ghost use Rattle.principals.specs.Tokens.{named_members};
 ghost use Rattle.principals.specs.Written.{with_rows};
 
@@ -108,7 +109,7 @@ fn write_settings(out: &mut Writer, settings: &[Setting]) -> Result<(), AllocErr
     Ok(())
 }
 
-/// Writes the value that stands for a row in version 2.
+/// Writes the value that stands for a row in the newest version.
 fn write_row(alloc: Global, out: &mut Writer, row: &Row) -> Result<(), AllocError>
     ensures { OnOk result (IsLonger out.old out.new (data_tokens (written.row_value row.now))) }
 {

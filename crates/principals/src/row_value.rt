@@ -1,11 +1,12 @@
 //! Rows as JSON values.
-ghost use Rattle.std.specs.Prelude.{◌≡◌, false, None, Some, IfOk};
-ghost use Rattle.serde_json.specs.View.{view};
+ghost use Rattle.std.specs.Prelude.{◌≡◌, false, None, Some, IfOk, IfSome};
+ghost use Rattle.serde_json.specs.View.{view, items_view};
 ghost use Rattle.principal_rows.specs.Row.{IsRow};
 ghost use Rattle.principal_rows.specs.Versions.{IsVersions};
 ghost use Rattle.text_fields.specs.declared.settings.Setting.TheVariants.{Flag, Life};
 ghost use Rattle.principals.specs.RowValue.{member_count, u32_of, time_of, etype_value, key_of, keys_of, version_of};
 ghost use Rattle.principals.specs.RowValue.{versions_of, setting_from, setting_in, policy_of, row_of};
+ghost use Rattle.principals.specs.RowValue.{decoded, each, list_of};
 
 use crate::format::Format;
 use crate::row_fault::RowFault;
@@ -17,7 +18,7 @@ use std::alloc::Global;
 use text_fields::{FlagField, LifeField, Setting};
 
 /// The most octets that a key has.
-const LONGEST_KEY: usize = 32;
+pub(crate) const LONGEST_KEY: usize = 32;
 
 /// How many members an object has; other values have none.
 #[tactic(auto, using(crate::proofs::Values::object_count))]
@@ -50,9 +51,17 @@ fn read_key(value: &Value) -> Option<Key>
         return None;
     }
     let etype = read_etype(value.get("etype")?)?;
+    decoded_key(etype, value.get("key")?.as_str()?)
+}
+
+/// The key of this type with these octets, in hexadecimal.
+pub(crate) fn decoded_key(etype: Etype, text: &str) -> Option<Key>
+    ensures key { result ≡ decoded etype text.now }
+    ensures etype { IfSome result (λ key. key.etype ≡ etype) }
+{
     let mut octets = [0; LONGEST_KEY];
     let octets = octets.get_mut(..etype.key_len())?;
-    hex::decode_to_slice(value.get("key")?.as_str()?, octets).ok()?;
+    hex::decode_to_slice(text, octets).ok()?;
     Key::new(etype, octets)
 }
 
@@ -63,6 +72,15 @@ fn read_keys(alloc: Global, value: &Value) -> Result<KeyList, RowFault>
     let Some(items) = value.as_array() else {
         return Err(RowFault::BadRow);
     };
+    let keys = read_items(alloc, items)?;
+    key_list(alloc, &keys)
+}
+
+/// The key of each item.
+fn read_items(alloc: Global, items: &[Value]) -> Result<Vec<Key>, RowFault>
+    ensures ok { IfOk result (λ keys. each key_of (items_view items.now) ≡ Some keys.items) }
+    ensures bad { result ≡ Err RowFault.BadRow → each key_of (items_view items.now) ≡ None }
+{
     let mut keys = Vec::new(alloc);
     for item in items {
         let Some(key) = read_key(item) else {
@@ -70,7 +88,15 @@ fn read_keys(alloc: Global, value: &Value) -> Result<KeyList, RowFault>
         };
         keys.push(key)?;
     }
-    match KeyList::new(alloc, &keys) {
+    Ok(keys)
+}
+
+/// The list of these keys, of which there is one at least, and no type twice.
+fn key_list(alloc: Global, keys: &[Key]) -> Result<KeyList, RowFault>
+    ensures ok { IfOk result (λ list. list_of keys.now ≡ Some list) }
+    ensures bad { result ≡ Err RowFault.BadRow → list_of keys.now ≡ None }
+{
+    match KeyList::new(alloc, keys) {
         Ok(list) => Ok(list),
         Err(KeyListFault::Empty | KeyListFault::Doubled) => Err(RowFault::BadRow),
         Err(KeyListFault::Memory) => Err(RowFault::Memory),

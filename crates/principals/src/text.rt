@@ -1,27 +1,30 @@
-//! The text of a database: a JSON object (RFC 8259), written in version 2 and read in versions 1 and 2.
-ghost use Rattle.std.specs.Prelude.{◌≡◌, ◌≢◌, All, IsSome, None, Some, IfOk, IfErr, IfSome, IfNone, OnOk, string_bytes};
+//! The text of a database: a JSON object (RFC 8259), written in the newest version and read in each.
+ghost use Rattle.std.specs.Prelude.{◌≡◌, ◌≢◌, All, IsSome, None, Some, IfOk, IfErr, OnOk, string_bytes};
+ghost use Rattle.std.specs.Prelude.{IsTrue, if◌then◌else◌};
 ghost use Rattle.std.specs.FinMap as map;
 ghost use Rattle.serde_json.specs.Find.{as_object};
 ghost use Rattle.serde_json.specs.Read.{read as read_text};
 ghost use Rattle.serde_json.specs.View.{view, members_view};
 ghost use Rattle.serde_json.specs.Written.{compact_text};
-ghost use Rattle.krb_fields.specs.NameLimits.{IsComponent};
+ghost use Rattle.krb_fields.specs.Name.{Components};
+ghost use Rattle.krb_fields.specs.NameLimits.{IsComponent, IsWithinLimits};
 ghost use Rattle.principals.specs.NameOf.{name_of, component_of};
 ghost use Rattle.principals.specs.RowValue.{member_count};
 ghost use Rattle.principal_rows.specs.NameMap.{pairs};
 ghost use Rattle.principal_rows.specs.Row.{IsRow};
-ghost use Rattle.principals.specs.Database.{AreRows};
+ghost use Rattle.principals.specs.Database.{AreRows, ticket_granter};
 ghost use Rattle.principals.specs.Ahead.{text_value};
 ghost use Rattle.principals.specs.Tokens.{IsKept, IsLonger, data_tokens, named_members};
 ghost use Rattle.principals.specs.Written.{database_value};
-ghost use Rattle.principals.specs.Value.{format_value, entries_of, rows_of, realm_of, principals_of, database, text_database};
+ghost use Rattle.principals.specs.Value.{format_value, entries_of, rows_of, realm_of, principals_of, database};
+ghost use Rattle.principals.specs.Value.{text_database};
 
 use crate::by_rows::read_by_rows;
-use crate::format::Format;
+use crate::format::{Format, NEWEST};
 use crate::row_fault::RowFault;
 use crate::row_tokens::{NamedRows, named_rows, write_rows};
 use crate::row_value::{member_count, read_row};
-use crate::{Database, ReadFault, granter_name};
+use crate::{Database, GranterOf, ReadFault};
 use json::Writer;
 use krb_elements::KerberosString;
 use krb_fields::{Name, NameFault, component_from_text, component_to_text};
@@ -33,8 +36,8 @@ use std::alloc::{AllocError, Global};
 pub const LONGEST_TEXT: usize = 1_073_741_824;
 
 impl Database {
-    /// The database that a text stands for. The rows of a text in the form that is written are read one by one, any other
-    /// text as a whole.
+    /// The database that a text stands for. The rows of a text in the form that is written are read one by one, any
+    /// other text as a whole.
     pub fn read(alloc: Global, text: &str) -> Result<Database, ReadFault>
         ensures ok { IfOk result (λ database. text_database text.now ≡ Ok database) }
         ensures fault { IfErr result (λ fault. fault ≢ ReadFault.Memory → text_database text.now ≡ Err fault) }
@@ -51,22 +54,47 @@ impl Database {
         ensures fault { IfErr result (λ fault. fault ≢ ReadFault.Memory → text_database text.now ≡ Err fault) }
     {
         let value = read_object(alloc, text)?;
-        let Some(format) = read_format(&value) else {
-            return Err(ReadFault::BadVersion);
-        };
-        if member_count(&value) != 3 {
-            return Err(ReadFault::BadRow);
-        }
-        let realm = read_realm(alloc, &value)?;
-        let rows = read_rows(alloc, &value, format)?;
-        let granter = granter_name(alloc, realm.as_slice())?;
-        if rows.get(&granter).is_none() {
-            return Err(ReadFault::NoTicketGranter);
-        }
-        Ok(Database { realm, rows })
+        Database::read_value(alloc, &value)
     }
 
-    /// The text of the database, in version 2: compact, with members in the order of their names.
+    /// The database that an object stands for.
+    fn read_value(alloc: Global, value: &Value) -> Result<Database, ReadFault>
+        requires { IsSome (as_object (view value.now)) }
+        ensures ok { IfOk result (λ found. database (view value.now) ≡ Ok found) }
+        ensures fault { IfErr result (λ fault. fault ≢ ReadFault.Memory → database (view value.now) ≡ Err fault) }
+    {
+        let Some(format) = read_format(value) else {
+            return Err(ReadFault::BadVersion);
+        };
+        if member_count(value) != 3 {
+            return Err(ReadFault::BadRow);
+        }
+        let realm = read_realm(alloc, value)?;
+        let rows = read_rows(alloc, value, format)?;
+        match Database::of_rows(realm, rows) {
+            Some(database) => Ok(database),
+            None => Err(ReadFault::NoTicketGranter),
+        }
+    }
+
+    /// The database of these rows, if the ticket-granting service is among them.
+    pub(crate) fn of_rows(realm: KerberosString, rows: NameMap<Row>) -> Option<Database>
+        requires realm { IsComponent realm }
+        requires names { (name : Components) → IsTrue (map.contains_key rows name) → IsWithinLimits name }
+        requires rows { AreRows rows }
+        ensures { result ≡ (if map.contains_key rows (ticket_granter realm)
+            then Some (record { realm = realm; rows = rows }) else None) }
+    {
+        let granter = GranterOf {
+            realm: realm.as_slice(),
+        };
+        if rows.get(&granter).is_none() {
+            return None;
+        }
+        Some(Database { realm, rows })
+    }
+
+    /// The text of the database, in the newest version: compact, with members in the order of their names.
     pub fn write(&self, alloc: Global) -> Result<String, AllocError>
         ensures text { IfOk result (λ text. string_bytes text ≡ compact_text (database_value self.now)) }
         ensures value { IfOk result (λ text. read_text (string_bytes text) ≡ Some (database_value self.now)) }
@@ -106,7 +134,8 @@ fn write_parts(
     rows: &NamedRows<'_>,
     realm: &str,
 ) -> Result<(), AllocError>
-    ensures { OnOk result (IsLonger out.old out.new (data_tokens (text_value (named_members rows.now.entries) realm.now))) }
+    ensures { OnOk result
+        (IsLonger out.old out.new (data_tokens (text_value (named_members rows.now.entries) realm.now))) }
 {
     out.begin_object()?;
     out.key("principals")?;
@@ -114,7 +143,7 @@ fn write_parts(
     out.key("realm")?;
     out.string(realm)?;
     out.key("version")?;
-    out.u64(2)?;
+    out.u64(NEWEST)?;
     out.end_object()
 }
 
@@ -190,7 +219,8 @@ fn read_entries(
     members: &Map<String, Value>,
     format: Format,
 ) -> Result<Vec<Entry<Row>>, RowFault>
-    ensures ok { IfOk result (λ entries. entries_of format (members_view members.now.entries) ≡ Some (pairs entries.items)) }
+    ensures ok { IfOk result
+        (λ entries. entries_of format (members_view members.now.entries) ≡ Some (pairs entries.items)) }
     ensures fits { IfOk result (λ entries. All (λ entry. IsRow entry.value) entries.items) }
     ensures bad { result ≡ Err RowFault.BadRow → entries_of format (members_view members.now.entries) ≡ None }
 {

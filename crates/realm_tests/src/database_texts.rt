@@ -1,13 +1,20 @@
 //! The text of a database (`principals`).
+use crate::expect::same;
 use principals::{Database, ReadFault};
 use std::alloc::{AllocError, Global};
-use std::test::Fail;
+use std::process::Abort;
 
-const VERSION_1: &str =
-    "{\"principals\":{\"krbtgt/A.B\":{\"disabled\":false,\"expires\":null,\"forwardable\":true,\"greatest_life\":4294967295,\"greatest_renewable\":4294967295,\"keys\":[{\"keys\":[{\"etype\":17,\"key\":\"000102030405060708090a0b0c0d0e0f\"}],\"version\":1}],\"ok_as_delegate\":false,\"password_expires\":null,\"postdate\":false,\"preauth\":true,\"proxiable\":true}},\"realm\":\"A.B\",\"version\":1}";
+const VERSION_1: &str = "{\"principals\":{\"krbtgt/A.B\":{\"disabled\":false,\"expires\":null,\
+    \"forwardable\":true,\"greatest_life\":4294967295,\"greatest_renewable\":4294967295,\
+    \"keys\":[{\"keys\":[{\"etype\":17,\"key\":\"000102030405060708090a0b0c0d0e0f\"}],\"version\":1}],\
+    \"ok_as_delegate\":false,\"password_expires\":null,\"postdate\":false,\"preauth\":true,\
+    \"proxiable\":true}},\"realm\":\"A.B\",\"version\":1}";
 
-const VERSION_2: &str =
-    "{\"principals\":{\"krbtgt/A.B\":{\"disabled\":false,\"expires\":null,\"forwardable\":true,\"greatest_life\":4294967295,\"greatest_renewable\":4294967295,\"keys\":[{\"keys\":[{\"etype\":17,\"key\":\"000102030405060708090a0b0c0d0e0f\"}],\"version\":1}],\"ok_as_delegate\":false,\"password_expires\":null,\"postdate\":false,\"preauth\":true,\"proxiable\":true,\"revoked_before\":null}},\"realm\":\"A.B\",\"version\":2}";
+const VERSION_2: &str = "{\"principals\":{\"krbtgt/A.B\":{\"disabled\":false,\"expires\":null,\
+    \"forwardable\":true,\"greatest_life\":4294967295,\"greatest_renewable\":4294967295,\
+    \"keys\":[{\"keys\":[{\"etype\":17,\"key\":\"000102030405060708090a0b0c0d0e0f\"}],\"version\":1}],\
+    \"ok_as_delegate\":false,\"password_expires\":null,\"postdate\":false,\"preauth\":true,\
+    \"proxiable\":true,\"revoked_before\":null}},\"realm\":\"A.B\",\"version\":2}";
 
 /// The keys in it, and the versions that have them.
 const KEYS: &str = "[{\"etype\":17,\"key\":\"000102030405060708090a0b0c0d0e0f\"}]";
@@ -23,13 +30,26 @@ const AND_VERSION_2: &str =
     "1},{\"keys\":[{\"etype\":17,\"key\":\"000102030405060708090a0b0c0d0e0f\"}],\"version\":2}],";
 
 #[test]
-fn a_text_is_read_and_written_in_version_2(rt: HostRuntime) -> Result<(), Fail> {
-    for text in [VERSION_1, VERSION_2] {
-        let database = Database::read(rt.alloc(), text)?;
-        assert!(rt; is_that_of_version_2(rt.alloc(), &database) == Ok(true));
-        assert!(rt; is_copied(rt.alloc(), &database) == Ok(true));
-    }
-    Ok(())
+fn a_text_is_read_and_written_in_version_2(rt: HostRuntime) {
+    same(
+        &rt,
+        &"version 1",
+        &read_as(rt.alloc(), VERSION_1),
+        &Ok((true, true)),
+    );
+    same(
+        &rt,
+        &"version 2",
+        &read_as(rt.alloc(), VERSION_2),
+        &Ok((true, true)),
+    );
+}
+
+/// Whether the database of the text, and a copy of it, are that of `VERSION_2`.
+fn read_as(alloc: Global, text: &str) -> Result<(bool, bool), ReadFault> {
+    let database = Database::read(alloc, text)?;
+    let is_that = is_that_of_version_2(alloc, &database)?;
+    Ok((is_that, is_copied(alloc, &database)?))
 }
 
 /// Whether the database has one row, and is written as `VERSION_2`.
@@ -41,8 +61,9 @@ fn is_copied(alloc: Global, database: &Database) -> Result<bool, AllocError> {
     is_that_of_version_2(alloc, &database.copy(alloc)?)
 }
 
-fn is_refused(alloc: Global, text: &str, fault: ReadFault) -> bool {
-    Database::read(alloc, text).is_err_and(|found| found == fault)
+/// The text is refused for this fault.
+fn refused(rt: &impl Abort, alloc: Global, text: &str, fault: ReadFault) {
+    same(rt, &text, &read_as(alloc, text), &Err(fault));
 }
 
 /// What stands in the place of what, and the fault that this makes.
@@ -77,37 +98,39 @@ const FAULTS: &[(&str, &str, ReadFault)] = &[
 ];
 
 #[test]
-fn a_text_is_refused_by_its_first_fault(rt: HostRuntime) -> Result<(), AllocError> {
-    let alloc = rt.alloc();
-    for &(old, new, fault) in FAULTS {
-        let text = VERSION_2.replace(alloc, old, new)?;
-        assert!(rt; is_refused(alloc, text.as_str(), fault), "{old} {new}");
+fn a_text_is_refused_by_its_first_fault(rt: HostRuntime) {
+    for (old, new, fault) in FAULTS {
+        same(
+            &rt,
+            &(old, new),
+            &read_with(rt.alloc(), *old, *new),
+            &Err(*fault),
+        );
     }
-    assert!(rt; is_refused(alloc, "[]", ReadFault::NotJson));
-    Ok(())
+    refused(&rt, rt.alloc(), "[]", ReadFault::NotJson);
+}
+
+/// The same of `VERSION_2` with something in the place of what was there.
+fn read_with(alloc: Global, old: &str, new: &str) -> Result<(bool, bool), ReadFault> {
+    let text = VERSION_2.replace(alloc, old, new)?;
+    read_as(alloc, text.as_str())
 }
 
 #[test]
 fn every_front_of_a_text_is_no_json(rt: HostRuntime) {
-    let alloc = rt.alloc();
     for end in 0..VERSION_2.len() {
         if let Some(front) = VERSION_2.get(..end) {
-            assert!(rt; is_refused(alloc, front, ReadFault::NotJson), "{end}");
+            refused(&rt, rt.alloc(), front, ReadFault::NotJson);
         }
     }
 }
 
 /// Of a member that stands twice the last counts.
 #[test]
-fn the_last_of_two_members_counts(rt: HostRuntime) -> Result<(), Fail> {
-    let text = VERSION_2.replace(
-        rt.alloc(),
-        "\"disabled\":false",
-        "\"disabled\":0,\"disabled\":false",
-    )?;
-    let database = Database::read(rt.alloc(), text.as_str())?;
-    assert!(rt; is_that_of_version_2(rt.alloc(), &database) == Ok(true));
-    Ok(())
+fn the_last_of_two_members_counts(rt: HostRuntime) {
+    let twice = "\"disabled\":0,\"disabled\":false";
+    let found = read_with(rt.alloc(), "\"disabled\":false", twice);
+    same(&rt, &twice, &found, &Ok((true, true)));
 }
 
 /// The text with this character so often for its realm, between these quotes.
@@ -122,13 +145,20 @@ fn with_realm(alloc: Global, quote: &str, fill: char, count: usize) -> Result<St
 }
 
 #[test]
-fn deep_and_long_texts_are_refused(rt: HostRuntime) -> Result<(), AllocError> {
-    for (quote, fill, count, fault) in [
-        ("", '[', 10_000, ReadFault::NotJson),
-        ("\"", 'x', 1_000_000, ReadFault::BadRow),
-    ] {
-        let text = with_realm(rt.alloc(), quote, fill, count)?;
-        assert!(rt; is_refused(rt.alloc(), text.as_str(), fault), "{count}");
-    }
-    Ok(())
+fn deep_and_long_texts_are_refused(rt: HostRuntime) {
+    let deep = read_with_realm(rt.alloc(), "", '[', 10_000);
+    same(&rt, &"deep", &deep, &Err(ReadFault::NotJson));
+    let long = read_with_realm(rt.alloc(), "\"", 'x', 1_000_000);
+    same(&rt, &"long", &long, &Err(ReadFault::BadRow));
+}
+
+/// What comes of reading that text.
+fn read_with_realm(
+    alloc: Global,
+    quote: &str,
+    fill: char,
+    count: usize,
+) -> Result<(bool, bool), ReadFault> {
+    let text = with_realm(alloc, quote, fill, count)?;
+    read_as(alloc, text.as_str())
 }

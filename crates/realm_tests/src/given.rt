@@ -1,7 +1,8 @@
-//! Names, keys and databases that several modules take. They have no contracts, so that tests over them are short to prove.
+//! Names, keys and databases that several modules take. They have no contracts, so that tests over them are short to
+//! prove.
 use enctypes::{Etype, Key};
 use krb_fields::Name;
-use principal_rows::KeyList;
+use principal_rows::{KeyList, Policy};
 use principals::{Change, ChangeFault, Database, FirstFault, RowChange};
 use std::alloc::{AllocError, Global};
 
@@ -29,15 +30,39 @@ pub fn database(alloc: Global) -> Result<Database, FirstFault> {
     first(alloc, b"A.B")
 }
 
-/// Adds a principal with a row of these keys.
-pub fn add(
+/// A change of the row of a principal.
+#[derive(Clone, Copy)]
+pub enum Step {
+    Add,
+    Remove,
+    NewKeys,
+    DropKeys(u32),
+    /// The default policy, but disabled.
+    Disable,
+}
+
+fn row_change(alloc: Global, step: Step) -> Result<RowChange, AllocError> {
+    Ok(match step {
+        Step::Add => RowChange::Add(keys(alloc)?),
+        Step::Remove => RowChange::Remove,
+        Step::NewKeys => RowChange::NewKeys(keys(alloc)?),
+        Step::DropKeys(version) => RowChange::DropKeys(version),
+        Step::Disable => RowChange::SetPolicy(Policy {
+            disabled: true,
+            ..Policy::default()
+        }),
+    })
+}
+
+/// Changes the row of the principal of these components.
+pub fn change(
     alloc: Global,
     database: &mut Database,
     components: &[&[u8]],
+    step: Step,
 ) -> Result<(), ChangeFault> {
     let name = name(alloc, components)?;
-    let keys = keys(alloc)?;
-    let what = RowChange::Add(keys);
+    let what = row_change(alloc, step)?;
     database.apply(alloc, &Change { name, what })
 }
 

@@ -1,5 +1,5 @@
-//! The tests of what a realm keeps: rows, the database, what is remembered of clients; of preauthentication; and of the times
-//! of tickets. They stand apart, since a crate with tests is proved twice.
+//! The tests of what a realm keeps: rows, the database, what is remembered of clients; of preauthentication; and of the
+//! times of tickets. They stand apart, since a crate with tests is proved twice.
 #![tactic(auto)]
 
 #[cfg(test)]
@@ -8,6 +8,8 @@ mod changes;
 mod database_texts;
 #[cfg(test)]
 mod databases;
+#[cfg(test)]
+mod expect;
 #[cfg(test)]
 mod given;
 #[cfg(test)]

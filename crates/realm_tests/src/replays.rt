@@ -1,8 +1,10 @@
 //! What is remembered of a client (`replay`): worked cases of replays, restarts and limits, at the second 1704067200.
+use crate::expect::{holds, same};
 use krb_elements::Octets;
 use krb_fields::Moment;
 use replay::{Bears, Failures, Keep, Kept, Memory, Verdict};
 use std::alloc::{AllocError, Global};
+use std::process::Abort;
 
 const T: i64 = 1_704_067_200;
 
@@ -36,51 +38,118 @@ fn kept(alloc: Global) -> Result<Kept, AllocError> {
     })
 }
 
-/// Whether the pair came before, with what `kept` gives.
-fn is_repeat(verdict: Verdict<&Kept>) -> bool {
-    match verdict {
-        Verdict::Repeat(kept) => {
-            kept.request.as_slice() == b"asked".as_slice()
-                && kept.reply.as_slice() == b"told".as_slice()
-                && kept.bears == Bears::Ticket
-        }
-        _ => false,
+/// Whether this is what `kept` gives.
+fn is_kept(kept: &Kept) -> bool {
+    kept.request.as_slice() == b"asked".as_slice()
+        && kept.reply.as_slice() == b"told".as_slice()
+        && kept.bears == Bears::Ticket
+}
+
+/// The verdict at the second T, and of a pair that came before whether it has what `kept` gives.
+fn verdict(memory: &Memory<Kept>, ctime: i64, cusec: u32, limit: u32) -> Verdict<bool> {
+    match memory.check(at(0), ctime, cusec, limit) {
+        Verdict::Fresh => Verdict::Fresh,
+        Verdict::Skew => Verdict::Skew,
+        Verdict::Full => Verdict::Full,
+        Verdict::Repeat(kept) => Verdict::Repeat(is_kept(kept)),
+    }
+}
+
+/// A copy of a memory that was given one pair, which has to be fresh.
+fn remembered(alloc: Global) -> Result<Memory<Kept>, AllocError> {
+    let kept = kept(alloc)?;
+    let mut memory = Memory::first(alloc);
+    if accept(&mut memory, at(0), T - 300, 7, kept)? {
+        memory.copy(alloc)
+    } else {
+        Err(AllocError)
     }
 }
 
 #[test]
-fn a_pair_that_comes_again_finds_what_was_kept(rt: HostRuntime) -> Result<(), AllocError> {
-    let kept = kept(rt.alloc())?;
-    let mut memory = Memory::first(rt.alloc());
-    assert!(rt; accept(&mut memory, at(0), T - 300, 7, kept) == Ok(true));
-    let copy = memory.copy(rt.alloc())?;
-    assert!(rt; is_repeat(copy.check(at(0), T - 300, 7, 2)));
-    assert!(rt; matches!(copy.check(at(0), T - 300, 8, 2), Verdict::Fresh));
-    assert!(rt; matches!(copy.check(at(0), T - 301, 7, 2), Verdict::Skew));
-    assert!(rt; matches!(copy.check(at(0), T - 300, 8, 1), Verdict::Full));
-    Ok(())
+fn a_pair_that_comes_again_finds_what_was_kept(rt: HostRuntime) {
+    match remembered(rt.alloc()) {
+        Ok(memory) => finds_what_was_kept(&rt, &memory),
+        Err(AllocError) => panic!(rt; "no memory, or a pair that is not fresh"),
+    }
+}
+
+fn finds_what_was_kept(rt: &impl Abort, memory: &Memory<Kept>) {
+    same(
+        rt,
+        &"the pair",
+        &verdict(memory, T - 300, 7, 2),
+        &Verdict::Repeat(true),
+    );
+    same(
+        rt,
+        &"another",
+        &verdict(memory, T - 300, 8, 2),
+        &Verdict::Fresh,
+    );
+    same(
+        rt,
+        &"an early one",
+        &verdict(memory, T - 301, 7, 2),
+        &Verdict::Skew,
+    );
+    same(
+        rt,
+        &"one too many",
+        &verdict(memory, T - 300, 8, 1),
+        &Verdict::Full,
+    );
 }
 
 #[test]
 fn a_pair_below_the_floor_is_forgotten(rt: HostRuntime) {
     let mut memory = Memory::first(rt.alloc());
-    assert!(rt; accept(&mut memory, at(0), T, 0, ()) == Ok(true));
-    assert!(rt; accept(&mut memory, at(301), T + 301, 0, ()) == Ok(true));
-    assert!(rt; memory.floor == T + 1);
-    assert!(rt; matches!(memory.check(at(0), T, 0, 64), Verdict::Skew));
-    assert!(rt; memory.pairs.has_from(0, 1));
-    assert!(rt; !memory.pairs.has_from(0, 2));
+    same(&rt, &0, &accept(&mut memory, at(0), T, 0, ()), &Ok(true));
+    same(
+        &rt,
+        &301,
+        &accept(&mut memory, at(301), T + 301, 0, ()),
+        &Ok(true),
+    );
+    is_forgotten(&rt, &memory);
+}
+
+/// The pair of the second T is forgotten.
+fn is_forgotten(rt: &impl Abort, memory: &Memory<()>) {
+    same(rt, &"the floor", &memory.floor, &(T + 1));
+    same(
+        rt,
+        &"a pair below it",
+        &memory.check(at(0), T, 0, 64),
+        &Verdict::Skew,
+    );
+    holds(rt, memory.pairs.has_from(0, 1), "one pair is left");
+    holds(rt, !memory.pairs.has_from(0, 2), "no other pair is left");
 }
 
 #[test]
 fn a_restart_refuses_what_may_have_come_before(rt: HostRuntime) {
     let mut memory: Memory<()> = Memory::restarted(rt.alloc(), at(0));
-    assert!(rt; matches!(memory.check(at(0), T + 300, 0, 64), Verdict::Skew));
-    assert!(rt; matches!(memory.check(at(1), T + 301, 0, 64), Verdict::Fresh));
+    same(
+        &rt,
+        &"before",
+        &memory.check(at(0), T + 300, 0, 64),
+        &Verdict::Skew,
+    );
+    same(
+        &rt,
+        &"behind",
+        &memory.check(at(1), T + 301, 0, 64),
+        &Verdict::Fresh,
+    );
     memory.set_failures(Failures {
         count: 2,
         last: at(0),
     });
-    assert!(rt; memory.failures.count == 2);
-    assert!(rt; memory.floor == T + 301);
+    same(
+        &rt,
+        &"failures",
+        &(memory.failures.count, memory.floor),
+        &(2, T + 301),
+    );
 }

@@ -1,10 +1,12 @@
 //! Rows, keys, limits and maps from names (`principal_rows`).
+use crate::expect::{holds, same};
 use enctypes::{Etype, Key};
 use krb_elements::{KerberosString, Seq};
 use krb_fields::Name;
 use principal_rows::{KeyList, KeyListFault, Limits, NameKey, NameMap, Row};
 use std::alloc::{AllocError, Global};
 use std::cmp::Ordering;
+use std::process::Abort;
 
 const OCTETS: [u8; 32] = [7; 32];
 
@@ -27,9 +29,20 @@ fn a_key_list_holds_each_type_once(rt: HostRuntime) {
     let second = key(Etype::Aes256CtsHmacSha384_192);
     let third = key(Etype::Aes128CtsHmacSha1_96);
     let doubled = Some(KeyListFault::Doubled);
-    assert!(rt; fault_of(rt.alloc(), &[]) == Some(KeyListFault::Empty));
-    assert!(rt; fault_of(rt.alloc(), &[first, first]) == doubled);
-    assert!(rt; fault_of(rt.alloc(), &[third, first, second, first]) == doubled);
+    same(
+        &rt,
+        &"no key",
+        &fault_of(rt.alloc(), &[]),
+        &Some(KeyListFault::Empty),
+    );
+    same(
+        &rt,
+        &"two keys",
+        &fault_of(rt.alloc(), &[first, first]),
+        &doubled,
+    );
+    let four = [third, first, second, first];
+    same(&rt, &"four keys", &fault_of(rt.alloc(), &four), &doubled);
 }
 
 fn fault_of(alloc: Global, keys: &[Key]) -> Option<KeyListFault> {
@@ -37,14 +50,23 @@ fn fault_of(alloc: Global, keys: &[Key]) -> Option<KeyListFault> {
 }
 
 #[test]
-fn a_key_list_finds_keys_by_their_types(rt: HostRuntime) -> Result<(), KeyListFault> {
+fn a_key_list_finds_keys_by_their_types(rt: HostRuntime) {
+    same(
+        &rt,
+        &"two keys",
+        &finds_keys(rt.alloc()),
+        &Ok((2, true, true)),
+    );
+}
+
+/// How many keys a copied list of two has, whether the second is found in it, and whether no other is.
+fn finds_keys(alloc: Global) -> Result<(usize, bool, bool), KeyListFault> {
     let first = key(Etype::Aes256CtsHmacSha1_96);
     let second = key(Etype::Aes256CtsHmacSha384_192);
-    let keys = KeyList::new(rt.alloc(), &[first, second])?.copy(rt.alloc())?;
-    assert!(rt; keys.keys().len() == 2);
-    assert!(rt; bytes_of(&keys, Etype::Aes256CtsHmacSha384_192) == Some(second.bytes()));
-    assert!(rt; bytes_of(&keys, Etype::Aes128CtsHmacSha1_96).is_none());
-    Ok(())
+    let keys = KeyList::new(alloc, &[first, second])?.copy(alloc)?;
+    let is_found = bytes_of(&keys, second.etype()) == Some(second.bytes());
+    let is_none = bytes_of(&keys, Etype::Aes128CtsHmacSha1_96).is_none();
+    Ok((keys.keys().len(), is_found, is_none))
 }
 
 fn bytes_of(keys: &KeyList, etype: Etype) -> Option<&[u8]> {
@@ -60,24 +82,28 @@ fn limits_remember_1_to_65536(rt: HostRuntime) {
         (65_536, true),
         (65_537, false),
     ] {
-        assert!(rt; Limits::new(remembered, 0, 0, 36_000, 0).is_some() == fits);
+        let limits = Limits::new(remembered, 0, 0, 36_000, 0);
+        same(&rt, &remembered, &limits.is_some(), &fits);
     }
 }
 
 #[test]
-fn a_first_row_has_version_1(rt: HostRuntime) -> Result<(), KeyListFault> {
-    let keys = KeyList::new(rt.alloc(), &[key(Etype::Aes256CtsHmacSha1_96)])?;
-    let row = Row::first(rt.alloc(), keys)?;
-    assert!(rt; row.versions.as_slice().len() == 1);
-    assert!(rt; row.versions.current().number == 1);
-    assert!(rt;
-        row.versions
-            .current()
-            .keys
-            .find(Etype::Aes256CtsHmacSha1_96)
-            .is_some()
+fn a_first_row_has_version_1(rt: HostRuntime) {
+    same(
+        &rt,
+        &"a first row",
+        &first_version(rt.alloc()),
+        &Ok((1, 1, true)),
     );
-    Ok(())
+}
+
+/// How many versions a first row has, the number of the current one, and whether its key is found.
+fn first_version(alloc: Global) -> Result<(usize, u32, bool), KeyListFault> {
+    let keys = KeyList::new(alloc, &[key(Etype::Aes256CtsHmacSha1_96)])?;
+    let row = Row::first(alloc, keys)?;
+    let current = row.versions.current();
+    let is_found = current.keys.find(Etype::Aes256CtsHmacSha1_96).is_some();
+    Ok((row.versions.as_slice().len(), current.number, is_found))
 }
 
 /// A name that is borrowed.
@@ -113,12 +139,17 @@ fn get(
 }
 
 #[test]
-fn a_map_is_searched_by_components(rt: HostRuntime) -> Result<(), AllocError> {
-    let map = letters(rt.alloc())?;
-    assert!(rt; map.len() == 3);
-    assert!(rt; get(rt.alloc(), &map, 0, b"b") == Ok(Some(4)));
-    assert!(rt; get(rt.alloc(), &map, 1, b"uu") == Ok(None));
-    Ok(())
+fn a_map_is_searched_by_components(rt: HostRuntime) {
+    match letters(rt.alloc()) {
+        Ok(map) => is_searched(&rt, rt.alloc(), &map),
+        Err(AllocError) => panic!(rt; "memory"),
+    }
+}
+
+fn is_searched(rt: &impl Abort, alloc: Global, map: &NameMap<i32>) {
+    same(rt, &"the letters", &map.len(), &3);
+    same(rt, &"b", &get(alloc, map, 0, b"b"), &Ok(Some(4)));
+    same(rt, &"uu", &get(alloc, map, 1, b"uu"), &Ok(None));
 }
 
 /// The values at the first four places.
@@ -137,25 +168,42 @@ fn value_at(map: &NameMap<i32>, place: usize) -> Option<i32> {
 }
 
 #[test]
-fn a_borrowed_name_finds_a_value_and_exchanges_it(rt: HostRuntime) -> Result<(), AllocError> {
-    let held = name(rt.alloc(), 1, b"h")?;
-    let borrowed = Borrowed {
-        components: held.components.as_slice(),
-    };
-    let mut map = letters(rt.alloc())?;
-    assert!(rt; map.get(&borrowed) == Some(&3));
+fn a_borrowed_name_finds_a_value_and_replaces_it(rt: HostRuntime) {
+    match (name(rt.alloc(), 1, b"h"), letters(rt.alloc())) {
+        (Ok(held), Ok(mut map)) => {
+            is_replaced(&rt, held.components.as_slice(), &mut map);
+            same(
+                &rt,
+                &"values",
+                &values(&map),
+                &[Some(4), Some(5), Some(1), None],
+            );
+        }
+        _ => panic!(rt; "memory"),
+    }
+}
+
+fn is_replaced(rt: &impl Abort, components: &[KerberosString], map: &mut NameMap<i32>) {
+    let borrowed = Borrowed { components };
+    same(rt, &"h", &map.get(&borrowed), &Some(&3));
     let mut value = 5;
-    assert!(rt; map.exchange(&borrowed, &mut value));
-    assert!(rt; value == 3);
-    assert!(rt; !map.exchange(&Borrowed { components: &[] }, &mut value));
-    assert!(rt; values(&map) == [Some(4), Some(5), Some(1), None]);
-    Ok(())
+    holds(rt, map.replace(&borrowed, &mut value), "h is replaced");
+    same(rt, &"what was there", &value, &3);
+    let nobody = Borrowed { components: &[] };
+    holds(
+        rt,
+        !map.replace(&nobody, &mut value),
+        "nobody is not replaced",
+    );
 }
 
 #[test]
-fn a_map_is_cleared(rt: HostRuntime) -> Result<(), AllocError> {
-    let mut map = letters(rt.alloc())?;
-    map.clear();
-    assert!(rt; map.len() == 0 && map.at(0).is_none());
-    Ok(())
+fn a_map_is_cleared(rt: HostRuntime) {
+    match letters(rt.alloc()) {
+        Ok(mut map) => {
+            map.clear();
+            same(&rt, &"values", &(map.len(), value_at(&map, 0)), &(0, None));
+        }
+        Err(AllocError) => panic!(rt; "memory"),
+    }
 }

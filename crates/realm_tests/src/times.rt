@@ -1,4 +1,5 @@
 //! The times and flags of tickets (`ticket_times`).
+use crate::expect::same;
 use krb_der::{DerFault, KTime};
 use krb_elements::read;
 use krb_fields::{Flags, Moment};
@@ -86,44 +87,54 @@ fn starts_late(octets: &[u8]) -> Result<bool, DerFault> {
 }
 
 #[test]
-fn a_ticket_lives_as_long_as_the_realm_allows(rt: HostRuntime) -> Result<(), DerFault> {
+fn a_ticket_lives_as_long_as_the_realm_allows(rt: HostRuntime) {
     let times = Times {
         start: time(0),
         end: time(36_000),
         renew_till: None,
     };
     let initial = Flags::from_bits(0x0040_0000);
-    assert!(rt; granted(&body(0, NO_BOUND), 0)? == Some((times, initial)));
-    assert!(rt; granted(&body(RENEWABLE_OK, NO_BOUND), 0)? == Some((times, initial)));
-    Ok(())
+    let wanted = Ok(Some((times, initial)));
+    same(&rt, &"no option", &granted(&body(0, NO_BOUND), 0), &wanted);
+    let renewable = granted(&body(RENEWABLE_OK, NO_BOUND), 0);
+    same(&rt, &"RENEWABLE-OK", &renewable, &wanted);
 }
 
 #[test]
-fn a_ticket_that_ends_early_is_renewable(rt: HostRuntime) -> Result<(), DerFault> {
+fn a_ticket_that_ends_early_is_renewable(rt: HostRuntime) {
     let times = Times {
         start: time(0),
         end: time(36_000),
         renew_till: Some(time(86_400)),
     };
     let flags = Flags::from_bits(0x00c0_0000);
-    assert!(rt; granted(&body(RENEWABLE_OK, NEXT_DAY), 604_800)? == Some((times, flags)));
-    Ok(())
+    let renewable = granted(&body(RENEWABLE_OK, NEXT_DAY), 604_800);
+    same(&rt, &"RENEWABLE-OK", &renewable, &Ok(Some((times, flags))));
 }
 
 #[test]
-fn a_later_start_is_for_postdated_tickets_and_an_early_end_for_none(
-    rt: HostRuntime,
-) -> Result<(), DerFault> {
+fn a_later_start_is_for_postdated_tickets_and_an_early_end_for_none(rt: HostRuntime) {
     let times = Times {
         start: time(3_600),
         end: time(39_600),
         renew_till: None,
     };
     let flags = Flags::from_bits(0x0740_0000);
-    assert!(rt; granted(&body_from(POSTDATED), 0)? == Some((times, flags)));
-    assert!(rt; starts_late(&body_from(0))? && !starts_late(&body_from(POSTDATED))?);
-    assert!(rt; granted(&body(0, THAT_DAY), 0)? == None);
-    Ok(())
+    let postdated = body_from(POSTDATED);
+    same(
+        &rt,
+        &"POSTDATED",
+        &granted(&postdated, 0),
+        &Ok(Some((times, flags))),
+    );
+    same(&rt, &"POSTDATED", &starts_late(&postdated), &Ok(false));
+    same(&rt, &"no option", &starts_late(&body_from(0)), &Ok(true));
+    same(
+        &rt,
+        &"an early end",
+        &granted(&body(0, THAT_DAY), 0),
+        &Ok(None),
+    );
 }
 
 /// A ticket of midnight that is renewable until the next day.
@@ -158,7 +169,7 @@ fn exchanged(
 }
 
 #[test]
-fn a_renewed_ticket_lives_as_long_again(rt: HostRuntime) -> Result<(), DerFault> {
+fn a_renewed_ticket_lives_as_long_again(rt: HostRuntime) {
     let times = Times {
         start: time(36_300),
         end: time(72_300),
@@ -166,12 +177,12 @@ fn a_renewed_ticket_lives_as_long_again(rt: HostRuntime) -> Result<(), DerFault>
     };
     let flags = Flags::from_bits(0x0080_0000);
     let ticket = renewable_ticket();
-    assert!(rt; exchanged(&body(RENEW, NO_BOUND), &ticket, 36_300)? == Some((times, flags)));
-    Ok(())
+    let renewed = exchanged(&body(RENEW, NO_BOUND), &ticket, 36_300);
+    same(&rt, &"RENEW", &renewed, &Ok(Some((times, flags))));
 }
 
 #[test]
-fn a_validated_ticket_keeps_its_times(rt: HostRuntime) -> Result<(), DerFault> {
+fn a_validated_ticket_keeps_its_times(rt: HostRuntime) {
     let ticket = TicketTerms {
         flags: Flags::from_bits(0x0740_0000),
         authtime: time(0),
@@ -185,12 +196,12 @@ fn a_validated_ticket_keeps_its_times(rt: HostRuntime) -> Result<(), DerFault> {
         renew_till: None,
     };
     let flags = Flags::from_bits(0x0600_0000);
-    assert!(rt; exchanged(&body(VALIDATE, NO_BOUND), &ticket, 3_600)? == Some((times, flags)));
-    Ok(())
+    let validated = exchanged(&body(VALIDATE, NO_BOUND), &ticket, 3_600);
+    same(&rt, &"VALIDATE", &validated, &Ok(Some((times, flags))));
 }
 
 #[test]
-fn a_new_ticket_ends_with_the_old_one(rt: HostRuntime) -> Result<(), DerFault> {
+fn a_new_ticket_ends_with_the_old_one(rt: HostRuntime) {
     let ticket = renewable_ticket();
     let times = Times {
         start: time(35_000),
@@ -198,6 +209,6 @@ fn a_new_ticket_ends_with_the_old_one(rt: HostRuntime) -> Result<(), DerFault> {
         renew_till: None,
     };
     let no_flags = Flags::from_bits(0);
-    assert!(rt; exchanged(&body(0, NO_BOUND), &ticket, 35_000)? == Some((times, no_flags)));
-    Ok(())
+    let exchanged = exchanged(&body(0, NO_BOUND), &ticket, 35_000);
+    same(&rt, &"no option", &exchanged, &Ok(Some((times, no_flags))));
 }

@@ -1,4 +1,5 @@
 //! Preauthentication by timestamps, and the lock (`preauth`).
+use crate::expect::same;
 use enctypes::{Etype, Key};
 use krb_elements::{SeqRef, read};
 use krb_fields::{Moment, PaDataRef};
@@ -6,10 +7,10 @@ use preauth::{
     Outcome, after_failure, after_success, check_timestamp, first_key, is_locked, key_numbered,
     method_data, types_of,
 };
-use principal_rows::{KeyList, Limits, Row};
+use principal_rows::{KeyList, KeyListFault, Limits, Row};
 use replay::Failures;
-use std::alloc::{AllocError, Global};
-use std::test::Fail;
+use std::alloc::Global;
+use std::process::Abort;
 
 // The octets are those of a program in Python over `cryptography`, in hexadecimal. The timestamps are of the second T.
 
@@ -78,14 +79,30 @@ fn key(etype: Etype, first: u8) -> Key {
     Key::from_random(etype, &octets)
 }
 
-fn keys(alloc: Global) -> Result<KeyList, Fail> {
+fn keys(alloc: Global) -> Result<KeyList, KeyListFault> {
     let first = key(Etype::Aes256CtsHmacSha1_96, 0);
     let second = key(Etype::Aes256CtsHmacSha384_192, 32);
     Ok(KeyList::new(alloc, &[first, second])?)
 }
 
-fn client(alloc: Global) -> Result<Row, Fail> {
+fn client(alloc: Global) -> Result<Row, KeyListFault> {
     Ok(Row::first(alloc, keys(alloc)?)?)
+}
+
+/// Digits, a second, and what they show at it.
+type Case = (&'static [u8], i64, Outcome);
+
+/// What these show to a client. A client's row is let go here alone.
+fn all_show(rt: &impl Abort, alloc: Global, cases: &[Case]) {
+    match client(alloc) {
+        Ok(client) => {
+            for (digits, sec, outcome) in cases {
+                let found = shown(alloc, &client, *sec, *digits);
+                same(rt, &(digits, sec), &found, &Some(*outcome));
+            }
+        }
+        Err(fault) => panic!(rt; "{fault:?}"),
+    }
 }
 
 /// What the padata of these digits show at this second.
@@ -97,72 +114,85 @@ fn shown(alloc: Global, client: &Row, sec: i64, digits: &[u8]) -> Option<Outcome
 }
 
 #[test]
-fn a_timestamp_is_good_within_300_seconds(rt: HostRuntime) -> Result<(), Fail> {
-    let client = client(rt.alloc())?;
-    for digits in [OF_TYPE_18, OF_TYPE_20] {
-        for (sec, outcome) in [
-            (T, Outcome::Good),
-            (T - 300, Outcome::Good),
-            (T + 300, Outcome::Good),
-            (T - 301, Outcome::Skewed),
-            (T + 301, Outcome::Skewed),
-        ] {
-            assert_eq!(rt;
-                shown(rt.alloc(), &client, sec, digits),
-                Some(outcome),
-                "at {sec}"
-            );
-        }
+fn a_timestamp_is_good_within_300_seconds(rt: HostRuntime) {
+    const CASES: &[Case] = &[
+        (OF_TYPE_18, T, Outcome::Good),
+        (OF_TYPE_18, T - 300, Outcome::Good),
+        (OF_TYPE_18, T + 300, Outcome::Good),
+        (OF_TYPE_18, T - 301, Outcome::Skewed),
+        (OF_TYPE_18, T + 301, Outcome::Skewed),
+        (OF_TYPE_20, T, Outcome::Good),
+        (OF_TYPE_20, T - 300, Outcome::Good),
+        (OF_TYPE_20, T + 300, Outcome::Good),
+        (OF_TYPE_20, T - 301, Outcome::Skewed),
+        (OF_TYPE_20, T + 301, Outcome::Skewed),
+    ];
+    all_show(&rt, rt.alloc(), CASES);
+}
+
+#[test]
+fn the_first_timestamp_counts_under_the_key_of_its_type(rt: HostRuntime) {
+    const CASES: &[Case] = &[
+        (OTHER_KEY, T, Outcome::Bad),
+        (OTHER_USAGE, T, Outcome::Bad),
+        (OTHER_TYPE, T, Outcome::Bad),
+        (NO_KEY, T, Outcome::Bad),
+        (NO_TIMESTAMP, T, Outcome::Bad),
+        (NO_ENCRYPTED_DATA, T, Outcome::Bad),
+        (NONE, T, Outcome::Absent),
+    ];
+    all_show(&rt, rt.alloc(), CASES);
+}
+
+/// The types that are told of a client with keys of types 18 and 20, where those of `ETYPES` are asked for.
+fn told_types(alloc: Global) -> Option<[i32; 2]> {
+    let asked: SeqRef<'_, i32> = read(ETYPES).ok()?;
+    let keys = keys(alloc).ok()?;
+    let told = types_of(alloc, &keys, &asked).ok()?;
+    match told.as_slice() {
+        [first, second] => Some([*first, *second]),
+        _ => None,
     }
-    Ok(())
 }
 
 #[test]
-fn the_first_timestamp_counts_under_the_key_of_its_type(rt: HostRuntime) -> Result<(), Fail> {
-    let client = client(rt.alloc())?;
-    for (digits, outcome) in [
-        (OTHER_KEY, Outcome::Bad),
-        (OTHER_USAGE, Outcome::Bad),
-        (OTHER_TYPE, Outcome::Bad),
-        (NO_KEY, Outcome::Bad),
-        (NO_TIMESTAMP, Outcome::Bad),
-        (NO_ENCRYPTED_DATA, Outcome::Bad),
-        (NONE, Outcome::Absent),
-    ] {
-        assert_eq!(rt; shown(rt.alloc(), &client, T, digits), Some(outcome));
-    }
-    Ok(())
+fn types_are_told_in_the_order_asked_for(rt: HostRuntime) {
+    same(&rt, &"two types", &told_types(rt.alloc()), &Some([20, 18]));
+}
+
+/// The type of the first key of those that are asked for, and whether there are keys of types 18 and 17.
+fn found_keys(alloc: Global) -> Option<(Etype, bool, bool)> {
+    let asked: SeqRef<'_, i32> = read(ETYPES).ok()?;
+    let keys = keys(alloc).ok()?;
+    let first = first_key(&keys, &asked)?.etype();
+    Some((
+        first,
+        key_numbered(&keys, 18).is_some(),
+        key_numbered(&keys, 17).is_some(),
+    ))
 }
 
 #[test]
-fn types_are_told_in_the_order_asked_for(rt: HostRuntime) -> Result<(), Fail> {
-    let asked: SeqRef<'_, i32> = read(ETYPES)?;
-    let keys = keys(rt.alloc())?;
-    let told = types_of(rt.alloc(), &keys, &asked)?;
-    assert_eq!(rt; told.as_slice(), [20, 18].as_slice());
-    Ok(())
+fn a_key_is_found_by_its_type(rt: HostRuntime) {
+    let wanted = Some((Etype::Aes256CtsHmacSha384_192, true, false));
+    same(&rt, &"two keys", &found_keys(rt.alloc()), &wanted);
+}
+
+/// Whether the METHOD-DATA of types 20 and 18 and the salt `A.Bu` is `METHOD_DATA`.
+fn is_method_data(alloc: Global) -> Option<bool> {
+    let octets = hex::decode(alloc, METHOD_DATA).ok()?;
+    let told = method_data(alloc, b"A.Bu", &[20, 18]).ok()?;
+    Some(told.as_slice() == octets.as_slice())
 }
 
 #[test]
-fn a_key_is_found_by_its_type(rt: HostRuntime) -> Result<(), Fail> {
-    let asked: SeqRef<'_, i32> = read(ETYPES)?;
-    let keys = keys(rt.alloc())?;
-    assert_eq!(rt;
-        first_key(&keys, &asked).map(|key| key.etype()),
-        Some(Etype::Aes256CtsHmacSha384_192)
+fn method_data_tells_types_and_salt(rt: HostRuntime) {
+    same(
+        &rt,
+        &"METHOD-DATA",
+        &is_method_data(rt.alloc()),
+        &Some(true),
     );
-    assert!(rt; key_numbered(&keys, 18).is_some());
-    assert!(rt; key_numbered(&keys, 17).is_none());
-    Ok(())
-}
-
-#[test]
-fn method_data_tells_types_and_salt(rt: HostRuntime) -> Result<(), Fail> {
-    let alloc = rt.alloc();
-    let octets = hex::decode(alloc, METHOD_DATA)?;
-    let told = method_data(alloc, b"A.Bu", &[20, 18])?;
-    assert_eq!(rt; told.as_slice(), octets.as_slice());
-    Ok(())
 }
 
 fn at(later: u8, usec: u16) -> Moment {
@@ -190,11 +220,8 @@ fn a_client_is_locked_until_lock_seconds_are_over(rt: HostRuntime) {
         (3, 2, 0, true),
         (3, 0, 0, false),
     ] {
-        assert_eq!(rt;
-            is_locked(Failures { count, last }, &locking(lock_after), at(later, 0)),
-            locked,
-            "{count} at {later}"
-        );
+        let found = is_locked(Failures { count, last }, &locking(lock_after), at(later, 0));
+        same(&rt, &(count, lock_after, later), &found, &locked);
     }
 }
 
@@ -203,13 +230,16 @@ fn failures_are_counted_to_the_greatest_count(rt: HostRuntime) {
     let (last, at) = (at(0, 7), at(1, 0));
     for (count, next) in [(0, 1), (u32::MAX - 1, u32::MAX), (u32::MAX, u32::MAX)] {
         let failures = Failures { count, last };
-        assert_eq!(rt;
-            after_failure(failures, at),
-            Failures {
-                count: next,
-                last: at
-            }
+        let wanted = Failures {
+            count: next,
+            last: at,
+        };
+        same(&rt, &count, &after_failure(failures, at), &wanted);
+        same(
+            &rt,
+            &count,
+            &after_success(failures),
+            &Failures { count: 0, last },
         );
-        assert_eq!(rt; after_success(failures), Failures { count: 0, last });
     }
 }

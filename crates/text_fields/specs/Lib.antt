@@ -1,4 +1,5 @@
 pub mod Dates
 pub mod Numbers
-pub mod SettingLaws
 pub mod Settings
+-- laws that proofs cite: no reader of a contract needs them
+pub mod SettingLaws

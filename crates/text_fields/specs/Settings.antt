@@ -1,6 +1,6 @@
 -- Settings of a policy, each with the text that spells it.
-use Rattle.std.specs.Prelude.{◌≡◌, ◌==◌, ℕ, ℤ, pos, ◌<◌, Bool, true, false, List, [], ◌∷◌, length, Option, Some, None, codes}
-use Rattle.std.specs.Prelude.{bytes_eq, if◌then◌else◌}
+use Rattle.std.specs.Prelude.{◌≡◌, ◌==◌, ℕ, ℤ, pos, ◌<◌, Bool, true, false, List, [], ◌∷◌, length, Option, Some, None}
+use Rattle.std.specs.Prelude.{codes, bytes_eq, if◌then◌else◌}
 use Rattle.std.specs.List.{before_first, after_first, position_or_len, fold}
 use Rattle.std.specs.Str.Parse.{IsNumeral, digits_value}
 use Rattle.krb_fields.specs.Moment.{IsSecond}

@@ -4,7 +4,8 @@ ghost use Rattle.std.specs.Prelude.{◌≡◌, ℤ, ℕ, Bool, Option, Some, IfS
 ghost use Rattle.std.specs.List.{fold};
 ghost use Rattle.principal_rows.specs.declared.policy.Policy as policies;
 ghost use Rattle.text_fields.specs.Settings.{flag_name, life_name, time_name, setting_name, flag_of, life_of, time_of};
-ghost use Rattle.text_fields.specs.Settings.{IsFlagText, IsTimeText, IsSettingOf, IsSettingText, IsDateOf, with_setting};
+ghost use Rattle.text_fields.specs.Settings.{IsFlagText, IsTimeText, IsSettingOf, IsSettingText, IsDateOf};
+ghost use Rattle.text_fields.specs.Settings.{with_setting};
 ghost use Rattle.text_fields.specs.Settings.{settings_of};
 ghost use Rattle.text_fields.specs.declared.settings.FlagField as flags;
 ghost use Rattle.text_fields.specs.declared.settings.LifeField as lives;
@@ -146,7 +147,8 @@ impl Setting {
     /// The settings of a policy, in the order of their names.
     pub fn all(policy: Policy) -> [Setting; SETTINGS]
         ensures settings { result ≡ settings_of policy }
-        ensures same { (other : policies.Policy) → fold (λ made setting. with_setting setting made) other result ≡ policy }
+        ensures same { (other : policies.Policy)
+            → fold (λ made setting. with_setting setting made) other result ≡ policy }
     {
         [
             Setting::Flag(FlagField::Disabled, policy.disabled),

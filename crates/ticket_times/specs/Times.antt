@@ -8,7 +8,8 @@ use Rattle.std.specs.Option.{unwrap_or}
 use Rattle.std.specs.Ordering.{int_eq}
 use Rattle.krb_der.specs.Civil.{IsCivilSecond}
 use Rattle.krb_fields.specs.Skew.{skew}
-use Rattle.krb_fields.specs.declared.kdc_option.KdcOption.TheVariants.{Postdated, Renewable, RenewableOk, Renew, Validate}
+use Rattle.krb_fields.specs.declared.kdc_option.KdcOption.TheVariants.{Postdated, Renewable, RenewableOk, Renew}
+use Rattle.krb_fields.specs.declared.kdc_option.KdcOption.TheVariants.{Validate}
 use Rattle.krb_fields.specs.declared.ticket_flag.TicketFlag.TheVariants.{Renewable as RenewableFlag}
 use Rattle.krb_types.specs.ReqBody.{ReqBody}
 use Rattle.principal_rows.specs.declared.limits.Limits.{Limits}
@@ -53,7 +54,8 @@ end_of start ceiling client service limits body = least (ends start ceiling clie
 abbrev pub wanted : Ceiling → ReqBody → ℤ → Option ℤ
 wanted ceiling body end =
     if asks body Renewable then Some (unwrap_or (option_map bound_asked body.rtime) last_second)
-    else if asks body RenewableOk && ceiling.renewable_ok && not (int_eq body.till (pos 0)) && int_lt end body.till then Some body.till
+    else if asks body RenewableOk && ceiling.renewable_ok && not (int_eq body.till (pos 0)) && int_lt end body.till
+    then Some body.till
     else None
 
 -- what renew-till may not be after
@@ -74,7 +76,8 @@ renewable_until start wanted ceiling client service limits =
 
 abbrev pub renew_till_of : ℤ → Option ℤ → Ceiling → Policy → Policy → Limits → Option ℤ
 renew_till_of start None ceiling client service limits = None
-renew_till_of start (Some wanted) ceiling client service limits = renewable_until start wanted ceiling client service limits
+renew_till_of start (Some wanted) ceiling client service limits =
+    renewable_until start wanted ceiling client service limits
 
 -- the end is not after the start
 abbrev pub is_never_valid : ℤ → ℤ → Bool

@@ -1,6 +1,6 @@
 use Rattle.std.proofs.Common.{rules, ◌≡◌, IsTrue, take, drop}
 use Rattle.text_fields.specs.Settings.{settings_of}
-use Rattle.principals.specs.RowWritten.{before_keys}
+use Rattle.principals.specs.Format.{before_keys}
 use Rattle.principals.proofs.TakenTokens.{row_taken}
 use Rattle.principals.proofs.row_reading.take_row.Goals as goal
 

@@ -1,0 +1,13 @@
+-- The words for the faults of a text that is read as no database.
+use Rattle.std.specs.Prelude.{ℕ, List, Option, Some, None, codes}
+use Rattle.principals.specs.declared.read_fault.ReadFault.{ReadFault}
+use Rattle.principals.specs.declared.read_fault.ReadFault.TheVariants.{NotJson, BadVersion, BadRow}
+use Rattle.principals.specs.declared.read_fault.ReadFault.TheVariants.{NoTicketGranter, Memory}
+
+-- a fault's word; want of memory has none, since it refuses nothing
+abbrev pub read_refusal : ReadFault → Option (List ℕ)
+read_refusal NotJson = Some (codes "NotJson")
+read_refusal BadVersion = Some (codes "BadVersion")
+read_refusal BadRow = Some (codes "BadRow")
+read_refusal NoTicketGranter = Some (codes "NoTicketGranter")
+read_refusal Memory = None
