@@ -23,7 +23,7 @@ use Rattle.preauth.specs.MethodData.{method_data}
 use Rattle.preauth.specs.declared.timestamp.Outcome.{Outcome}
 use Rattle.principal_rows.specs.declared.row.Row.{Row}
 use Rattle.replay.specs.declared.failures.Failures.{Failures}
-use Rattle.as_exchange.specs.View.{View}
+use Rattle.as_exchange.specs.View.{AsView}
 use Rattle.as_exchange.specs.Rules.{is_good, timestamp_of, verdict, code_of}
 use Rattle.as_exchange.specs.Issue.{as_rep, grant_by}
 use Rattle.as_exchange.specs.declared.refusal.AsRefusal.{AsRefusal}
@@ -40,7 +40,7 @@ use Rattle.as_exchange.specs.declared.refusal.Sequel.TheVariants.{FollowsTimesta
 use Rattle.as_exchange.specs.declared.terms.Admission.{Admission}
 
 -- the octets of the reply, and the client's failures afterwards: none, they stay as they were
-pub record Answer : Type 0 where
+pub record AsAnswer : Type 0 where
   pub reply : List ℕ
   pub failures : Option Failures
 
@@ -85,40 +85,40 @@ methods_for realm body (Some row) (Some name) =
 methods_for realm body (Some row) None = None
 methods_for realm body None name = None
 
-abbrev pub e_data_of : View → ReqBody → Sequel → Option (List ℕ)
+abbrev pub e_data_of : AsView → ReqBody → Sequel → Option (List ℕ)
 e_data_of v body Nothing = None
 e_data_of v body CountsFailure = None
 e_data_of v body TellsMethods = methods_for v.realm body v.client body.cname
 e_data_of v body FollowsTimestamp = None
 
-abbrev pub as_error : View → Moment → ReqBody → AsRefusal → KrbError
+abbrev pub as_error : AsView → Moment → ReqBody → AsRefusal → KrbError
 as_error v at body refusal = error_reply v.realm at (code_of refusal) body.sname (e_data_of v body (sequel_of refusal))
 
 -- ---- answers
 
 -- the error in place of a reply that is too long
-abbrev pub refused_room : View → Moment → ReqBody → Answer
+abbrev pub refused_room : AsView → Moment → ReqBody → AsAnswer
 refused_room v at body = record { reply = written krb_error (too_big v.realm at body); failures = None }
 
 -- a reply with a ticket that is longer than the room leaves no trace
-abbrev pub within_room : View → Incoming → ReqBody → List ℕ → Option Failures → Answer
+abbrev pub within_room : AsView → Incoming → ReqBody → List ℕ → Option Failures → AsAnswer
 within_room v incoming body octets failures =
     if nat_lt incoming.room (length octets) then refused_room v incoming.at body
     else record { reply = octets; failures = failures }
 
-abbrev pub refused : View → Moment → ReqBody → Outcome → AsRefusal → Answer
+abbrev pub refused : AsView → Moment → ReqBody → Outcome → AsRefusal → AsAnswer
 refused v at body timestamp refusal = record {
   reply = written krb_error (as_error v at body refusal);
   failures = after_sequel v.failures at timestamp (sequel_of refusal);
 }
 
-abbrev pub answer_by : View → Incoming → ReqBody → Outcome → Result Admission AsRefusal → Answer
+abbrev pub answer_by : AsView → Incoming → ReqBody → Outcome → Result Admission AsRefusal → AsAnswer
 answer_by v incoming body timestamp (Err refusal) = refused v incoming.at body timestamp refusal
 answer_by v incoming body timestamp (Ok admission) =
     within_room v incoming body (written (kdc_rep 11) (as_rep v incoming.at incoming.random body timestamp admission))
     (after_timestamp v.failures timestamp)
 
-abbrev pub as_answer : View → Incoming → Received → Answer
+abbrev pub as_answer : AsView → Incoming → Received → AsAnswer
 as_answer v incoming message =
     answer_by v incoming message.body.value (timestamp_of v.client incoming.at.sec message)
     (verdict v incoming.at.sec message)
@@ -126,19 +126,19 @@ as_answer v incoming message =
 -- ---- what the octets spell
 
 -- an error where it was refused; else the AS-REP, or the error in its place
-abbrev pub SpelledBy : View → Moment → List ℕ → ReqBody → Outcome → Result Admission AsRefusal → List ℕ → Type 0
+abbrev pub SpelledBy : AsView → Moment → List ℕ → ReqBody → Outcome → Result Admission AsRefusal → List ℕ → Type 0
 SpelledBy v at random body timestamp (Err refusal) octets = krb_error.Spells (as_error v at body refusal) octets
 SpelledBy v at random body timestamp (Ok admission) octets =
     (kdc_rep 11).Spells (as_rep v at random body timestamp admission) octets
     ⊎ krb_error.Spells (too_big v.realm at body) octets
 
-abbrev pub Spelled : View → Moment → List ℕ → Received → List ℕ → Type 0
+abbrev pub Spelled : AsView → Moment → List ℕ → Received → List ℕ → Type 0
 Spelled v at random message octets =
     SpelledBy v at random message.body.value (timestamp_of v.client at.sec message) (verdict v at.sec message) octets
 
 -- The client's key opens the AS-REP to what the service's key finds in the ticket, and both are those that the sealed
 -- parts name in the rows of the client and of the service.
-abbrev pub OpensTo : View → Admission → KdcRep 11 → EncKdcRepPart → EncTicketPart → Type 0
+abbrev pub OpensTo : AsView → Admission → KdcRep 11 → EncKdcRepPart → EncTicketPart → Type 0
 OpensTo v admission reply part ticket =
     OpensAlike 11 25 admission.terms.reply_key (usage_number AsRepEncPart) admission.terms.service.key.key
     reply part ticket
@@ -146,16 +146,16 @@ OpensTo v admission reply part ticket =
     × NamesKey v.service reply.ticket.enc_part admission.terms.service.key.key
 
 -- they find what was granted
-abbrev pub OpensFor : View → Moment → List ℕ → ReqBody → Outcome → Admission → Type 0
+abbrev pub OpensFor : AsView → Moment → List ℕ → ReqBody → Outcome → Admission → Type 0
 OpensFor v at random body timestamp admission =
     OpensTo v admission (as_rep v at random body timestamp admission)
     (reply_part (grant_by v at random body timestamp admission) body.nonce at.sec)
     (ticket_part (grant_by v at random body timestamp admission))
 
-abbrev pub OpensBy : View → Moment → List ℕ → ReqBody → Outcome → Result Admission AsRefusal → Type 0
+abbrev pub OpensBy : AsView → Moment → List ℕ → ReqBody → Outcome → Result Admission AsRefusal → Type 0
 OpensBy v at random body timestamp (Err refusal) = ⊤
 OpensBy v at random body timestamp (Ok admission) = OpensFor v at random body timestamp admission
 
-abbrev pub Opens : View → Moment → List ℕ → Received → Type 0
+abbrev pub Opens : AsView → Moment → List ℕ → Received → Type 0
 Opens v at random message =
     OpensBy v at random message.body.value (timestamp_of v.client at.sec message) (verdict v at.sec message)

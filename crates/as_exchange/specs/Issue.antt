@@ -14,12 +14,12 @@ use Rattle.krb_types.specs.ReqBody.{ReqBody}
 use Rattle.preauth.specs.MethodData.{etype_info2}
 use Rattle.preauth.specs.declared.timestamp.Outcome.{Outcome}
 use Rattle.ticket_times.specs.Flags.{as_flags}
-use Rattle.as_exchange.specs.View.{View}
+use Rattle.as_exchange.specs.View.{AsView}
 use Rattle.as_exchange.specs.Rules.{is_good}
 use Rattle.as_exchange.specs.declared.terms.Terms.{Terms}
 use Rattle.as_exchange.specs.declared.terms.Admission.{Admission}
 
-abbrev pub grant_by : View → Moment → List ℕ → ReqBody → Outcome → Admission → Grant
+abbrev pub grant_by : AsView → Moment → List ℕ → ReqBody → Outcome → Admission → Grant
 grant_by v at random body timestamp admission = record {
   realm = v.realm;
   client = admission.terms.client_name;
@@ -36,11 +36,11 @@ abbrev pub reply_key_of : Terms → ReplyKey
 reply_key_of terms = record { key = terms.reply_key; usage = AsRepEncPart; kvno = Some (pos terms.reply_version) }
 
 -- PA-ETYPE-INFO2 with how the reply key is made from a password
-abbrev pub reply_info : View → Terms → PaData
+abbrev pub reply_info : AsView → Terms → PaData
 reply_info v terms = etype_info2 (default_salt v.realm terms.client_name.components) (number terms.reply_key.etype ∷ [])
 
 -- the AS-REP, by what became of the timestamp
-abbrev pub as_rep : View → Moment → List ℕ → ReqBody → Outcome → Admission → KdcRep 11
+abbrev pub as_rep : AsView → Moment → List ℕ → ReqBody → Outcome → Admission → KdcRep 11
 as_rep v at random body timestamp admission =
     reply_of 11 25 (grant_by v at random body timestamp admission) admission.terms.service.key
     (reply_key_of admission.terms) (Some (reply_info v admission.terms ∷ []))

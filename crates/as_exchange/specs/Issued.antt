@@ -9,7 +9,7 @@ use Rattle.krb_types.specs.KdcReq.{Received}
 use Rattle.krb_types.specs.ReqBody.{ReqBody}
 use Rattle.krb_types.specs.declared.kdc_req.Exchange.TheVariants.{As}
 use Rattle.preauth.specs.declared.timestamp.Outcome.{Outcome}
-use Rattle.as_exchange.specs.View.{View}
+use Rattle.as_exchange.specs.View.{AsView}
 use Rattle.as_exchange.specs.Rules.{timestamp_of, verdict}
 use Rattle.as_exchange.specs.Issue.{grant_by, reply_info, reply_key_of}
 use Rattle.as_exchange.specs.Answer.{Opens, OpensBy, Spelled, SpelledBy}
@@ -17,7 +17,7 @@ use Rattle.as_exchange.specs.declared.refusal.AsRefusal.{AsRefusal}
 use Rattle.as_exchange.specs.declared.terms.Admission.{Admission}
 
 -- the ticket of an admission, by what became of the timestamp
-abbrev pub issue_of : View → Moment → List ℕ → ReqBody → Outcome → Admission → Issue
+abbrev pub issue_of : AsView → Moment → List ℕ → ReqBody → Outcome → Admission → Issue
 issue_of v at random body timestamp admission = record {
   exchange = As;
   grant = grant_by v at random body timestamp admission;
@@ -29,17 +29,17 @@ issue_of v at random body timestamp admission = record {
   random = random;
 }
 
-abbrev pub issued_by : View → Moment → List ℕ → ReqBody → Outcome → Result Admission AsRefusal → Option Issue
+abbrev pub issued_by : AsView → Moment → List ℕ → ReqBody → Outcome → Result Admission AsRefusal → Option Issue
 issued_by v at random body timestamp (Ok admission) = Some (issue_of v at random body timestamp admission)
 issued_by v at random body timestamp (Err refusal) = None
 
-abbrev pub issued : View → Moment → List ℕ → Received → Option Issue
+abbrev pub issued : AsView → Moment → List ℕ → Received → Option Issue
 issued v at random message =
     issued_by v at random message.body.value (timestamp_of v.client at.sec message) (verdict v at.sec message)
 
 -- ---- the law
 
-module _ (v : View) (at : Moment) (random octets : List ℕ) (long : 32 ≤ length random) where
+module _ (v : AsView) (at : Moment) (random octets : List ℕ) (long : 32 ≤ length random) where
   spelled_by : (body : ReqBody) (timestamp : Outcome) (admission : Admission)
       → SpelledBy v at random body timestamp (Ok admission) octets → OpensBy v at random body timestamp (Ok admission)
       → IsIssuedOrError (issue_of v at random body timestamp admission) octets

@@ -10,10 +10,10 @@ use Rattle.krb_fields.specs.NameLimitsLaws.{component_facts, name_facts}
 use Rattle.krb_fields.specs.PrincipalName.{name}
 use Rattle.krb_fields.specs.Salt.{default_salt}
 use Rattle.krb_types.specs.ReqBody.{ReqBody}
-use Rattle.as_exchange.specs.View.{View}
+use Rattle.as_exchange.specs.View.{AsView}
 
 -- the realm is short, names that have rows are within the limits, and so is the text of the service's name
-pub record IsKnown (v : View) (body : ReqBody) : Type 0 where
+pub record IsKnown (v : AsView) (body : ReqBody) : Type 0 where
   pub realm : length v.realm ≤ 255
   pub client : IfSome v.client (λ row. IfSome body.cname (λ n. IsWithinLimits n.components))
   pub service : IfSome v.service (λ row. IfSome body.sname (λ n. IsWithinLimits n.components))

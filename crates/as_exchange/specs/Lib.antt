@@ -1,8 +1,8 @@
 pub mod View
 pub mod Known
 pub mod Terms
-pub mod NamedLaws
 pub mod Rules
 pub mod Issue
 pub mod Answer
 pub mod Issued
+pub mod NamedLaws

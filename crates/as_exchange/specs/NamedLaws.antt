@@ -20,7 +20,7 @@ use Rattle.principal_rows.specs.declared.row.Row.{Row}
 use Rattle.refusals.specs.RefusalLaws.{decided_found}
 use Rattle.refusals.specs.Refusals.{Rule, decided}
 use Rattle.ticket_times.specs.declared.times.Times.{Times}
-use Rattle.as_exchange.specs.View.{View}
+use Rattle.as_exchange.specs.View.{AsView}
 use Rattle.as_exchange.specs.Known.{IsKnown}
 use Rattle.as_exchange.specs.Terms.{terms, terms_by, terms_if, terms_of, admission_of}
 use Rattle.as_exchange.specs.declared.terms.Terms.{Terms}
@@ -84,7 +84,7 @@ named_if types (Some cname) None client service t c s e = absurd cc
 named_if types None sname client service t c s e = absurd cc
 
 -- the terms of what is admitted
-pub decided_named : {R : Type 0} (rules : List (Rule R)) (v : View) (body : ReqBody) (found : Option Terms)
+pub decided_named : {R : Type 0} (rules : List (Rule R)) (v : AsView) (body : ReqBody) (found : Option Terms)
     (times : Option Times) (otherwise : R) (a : Admission)
     → IsKnown v body → found ≡ terms v body → decided rules (admission_of found times) otherwise ≡ Ok a
     → IsNamed v.client v.service a.terms
@@ -93,7 +93,7 @@ decided_named rules v body found times otherwise a known is e =
     (subst (λ (o : Option Terms). o ≡ Some a.terms) is
     (admitted_terms found times a (decided_found rules (admission_of found times) otherwise a e)))
 
-pub verdict_named : {R : Type 0} (rules : List (Rule R)) (v : View) (body : ReqBody) (found : Option Terms)
+pub verdict_named : {R : Type 0} (rules : List (Rule R)) (v : AsView) (body : ReqBody) (found : Option Terms)
     (times : Option Times) (otherwise : R) (r : Result Admission R)
     → IsKnown v body → found ≡ terms v body → r ≡ decided rules (admission_of found times) otherwise
     → IfOk r (λ a. IsNamed v.client v.service a.terms)

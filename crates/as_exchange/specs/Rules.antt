@@ -20,7 +20,7 @@ use Rattle.preauth.specs.declared.timestamp.Outcome.TheVariants.{Absent, Bad, Sk
 use Rattle.principal_rows.specs.declared.row.Row.{Row}
 use Rattle.ticket_times.specs.Asked.{asks}
 use Rattle.ticket_times.specs.Times.{starts_too_late}
-use Rattle.as_exchange.specs.View.{View}
+use Rattle.as_exchange.specs.View.{AsView}
 use Rattle.ticket_times.specs.declared.times.Times.{Times}
 use Rattle.as_exchange.specs.Terms.{terms, admission_of, times_of}
 use Rattle.as_exchange.specs.declared.refusal.AsRefusal.{AsRefusal}
@@ -40,17 +40,17 @@ abbrev pub is_bad_message_type : Received → Bool
 is_bad_message_type message = not (int_eq message.msg_type (pos 10))
 
 -- the realm isn't ours, no client is named, or it has no row
-abbrev pub is_client_unknown : View → ReqBody → Bool
+abbrev pub is_client_unknown : AsView → ReqBody → Bool
 is_client_unknown v body = not (pointwise nat_eq body.realm v.realm) || is_none body.cname || is_none v.client
 
 -- no service is named, or it has no row
-abbrev pub is_service_unknown : View → ReqBody → Bool
+abbrev pub is_service_unknown : AsView → ReqBody → Bool
 is_service_unknown v body = is_none body.sname || is_none v.service
 
 abbrev pub has_expired_password : Option Row → ℤ → Bool
 has_expired_password row now = holds_of (λ row. has_come row.policy.password_expires now) row
 
-abbrev pub is_client_revoked : View → ℤ → Bool
+abbrev pub is_client_revoked : AsView → ℤ → Bool
 is_client_revoked v now = is_disabled v.client || is_locked v.failures v.limits now
 
 -- options that only a TGS-REQ may have
@@ -64,7 +64,7 @@ needs_preauth = holds_of (λ row. row.policy.preauth)
 abbrev pub forbids_postdating : Option Row → Bool
 forbids_postdating = holds_of (λ row. not row.policy.postdate)
 
-abbrev pub is_postdating_refused : View → ReqBody → Bool
+abbrev pub is_postdating_refused : AsView → ReqBody → Bool
 is_postdating_refused v body =
     (asks body Postdated || asks body AllowPostdate) && (forbids_postdating v.client || forbids_postdating v.service)
 
@@ -79,11 +79,11 @@ is_bad Bad = true
 is_bad Skewed = false
 is_bad Good = false
 
-abbrev pub is_skewed : Outcome → Bool
-is_skewed Absent = false
-is_skewed Bad = false
-is_skewed Skewed = true
-is_skewed Good = false
+abbrev pub is_timestamp_skewed : Outcome → Bool
+is_timestamp_skewed Absent = false
+is_timestamp_skewed Bad = false
+is_timestamp_skewed Skewed = true
+is_timestamp_skewed Good = false
 
 abbrev pub is_absent : Outcome → Bool
 is_absent Absent = true
@@ -102,7 +102,7 @@ abbrev pub lacks_preauth : Option Row → Outcome → Bool
 lacks_preauth row timestamp = is_absent timestamp && needs_preauth row
 
 -- by what became of the timestamp, by the terms, and by the times of a ticket
-abbrev pub rules_by : View → ℤ → Received → Outcome → Option Terms → Option Times → List (Rule AsRefusal)
+abbrev pub rules_by : AsView → ℤ → Received → Outcome → Option Terms → Option Times → List (Rule AsRefusal)
 rules_by v now message timestamp found times =
     (is_bad_version message, BadVersion)  -- 3.1.2, 5.4.1
     ∷ (is_bad_message_type message, BadMessageType)  -- 3.1.2, 5.4.1
@@ -116,7 +116,7 @@ rules_by v now message timestamp found times =
     ∷ (asks_bad_option message.body.value, BadOption)  -- 5.4.1
     ∷ (is_none found, NoCommonType)  -- 3.1.3
     ∷ (is_bad timestamp, PreauthFailed)  -- 3.1.3
-    ∷ (is_skewed timestamp, TimestampSkewed)  -- 3.1.3, 5.2.7.2
+    ∷ (is_timestamp_skewed timestamp, TimestampSkewed)  -- 3.1.3, 5.2.7.2
     ∷ (lacks_preauth v.client timestamp, PreauthRequired)  -- 3.1.3
     ∷ (is_postdating_refused v message.body.value, PostdatingRefused)  -- 3.1.3
     ∷ (starts_too_late now message.body.value, StartsTooLate)  -- 3.1.3
@@ -124,15 +124,15 @@ rules_by v now message timestamp found times =
     ∷ []
 
 -- what is admitted, or the first rule by which nothing is
-abbrev pub verdict_on : View → ℤ → Received → Outcome → Option Terms → Option Times → Result Admission AsRefusal
+abbrev pub verdict_on : AsView → ℤ → Received → Outcome → Option Terms → Option Times → Result Admission AsRefusal
 verdict_on v now message timestamp found times =
     decided (rules_by v now message timestamp found times) (admission_of found times) NeverValid
 
-abbrev pub verdict_by : View → ℤ → Received → Outcome → Option Terms → Result Admission AsRefusal
+abbrev pub verdict_by : AsView → ℤ → Received → Outcome → Option Terms → Result Admission AsRefusal
 verdict_by v now message timestamp found =
     verdict_on v now message timestamp found (times_of v.limits now message.body.value found)
 
-abbrev pub verdict : View → ℤ → Received → Result Admission AsRefusal
+abbrev pub verdict : AsView → ℤ → Received → Result Admission AsRefusal
 verdict v now message = verdict_by v now message (timestamp_of v.client now message) (terms v message.body.value)
 
 abbrev pub code_of : AsRefusal → Code

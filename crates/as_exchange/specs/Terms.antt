@@ -11,7 +11,7 @@ use Rattle.principal_rows.specs.declared.limits.Limits.{Limits}
 use Rattle.principal_rows.specs.declared.row.Row.{Row}
 use Rattle.ticket_times.specs.Times.{as_times}
 use Rattle.ticket_times.specs.declared.times.Times.{Times}
-use Rattle.as_exchange.specs.View.{View}
+use Rattle.as_exchange.specs.View.{AsView}
 use Rattle.as_exchange.specs.declared.terms.Terms.{Terms}
 use Rattle.as_exchange.specs.declared.terms.Admission.{Admission}
 
@@ -39,7 +39,7 @@ terms_if types (Some cname) None client service = None
 terms_if types None sname client service = None
 
 -- none where a name or a row is absent, or there is no common type
-abbrev pub terms : View → ReqBody → Option Terms
+abbrev pub terms : AsView → ReqBody → Option Terms
 terms v body = terms_if body.etype body.cname body.sname v.client v.service
 
 -- the times of a ticket by these terms; none where it would end no later than it starts

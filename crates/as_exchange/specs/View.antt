@@ -5,7 +5,7 @@ use Rattle.principal_rows.specs.declared.row.Row.{Row}
 use Rattle.replay.specs.declared.failures.Failures.{Failures}
 
 -- realm and limits, the rows of the client and of the service that the request names, and the client's failures
-pub record View : Type 0 where
+pub record AsView : Type 0 where
   pub realm : List ℕ
   pub limits : Limits
   pub client : Option Row

@@ -13,7 +13,9 @@ use crate::rules::is_good;
 use crate::terms::{Admission, Terms};
 use crate::view::AsView;
 use enctypes::KeyUsage;
-use kdc_replies::{Asked, Grant, Incoming, ReplyKey, session_key, ticket_reply, version_number};
+use kdc_replies::{
+    Grant, Incoming, ReplyInputs, ReplyKey, session_key, ticket_reply, version_number,
+};
 use krb_elements::{KerberosStringRef, Lent, Seq};
 use krb_fields::PaData;
 use krb_types::ReqBodyRef;
@@ -45,10 +47,11 @@ pub fn as_rep(
 {
     let padata = reply_data(alloc, view, &admission.terms)?;
     let reply_key = reply_key_of(&admission.terms);
-    let asked = Asked {
+    let inputs = ReplyInputs {
         nonce: body.nonce,
         time: incoming.at.time(),
         random: incoming.random,
+        ready: incoming.ready,
     };
     let grant = grant_of(view, incoming, body, timestamp, admission);
     ticket_reply::<11, 25>(
@@ -57,7 +60,7 @@ pub fn as_rep(
         &admission.terms.service.key,
         &reply_key,
         Some(padata),
-        &asked,
+        &inputs,
     )
 }
 

@@ -3,7 +3,8 @@ ghost use Rattle.std.specs.Prelude.{◌≡◌, IfOk, option_copied};
 ghost use Rattle.as_exchange.specs.Rules.{is_bad_version, is_bad_message_type, is_client_unknown, is_service_unknown};
 ghost use Rattle.as_exchange.specs.Rules.{has_expired_password, is_client_revoked, asks_bad_option, needs_preauth};
 ghost use Rattle.as_exchange.specs.Rules.{lacks_preauth, forbids_postdating};
-ghost use Rattle.as_exchange.specs.Rules.{is_postdating_refused, is_bad, is_skewed, is_absent, is_good, timestamp_of};
+ghost use Rattle.as_exchange.specs.Rules.{is_postdating_refused, is_bad, is_timestamp_skewed, is_absent, is_good};
+ghost use Rattle.as_exchange.specs.Rules.{timestamp_of};
 ghost use Rattle.as_exchange.specs.Rules.{rules_by, verdict_by};
 
 use crate::refusal::AsRefusal;
@@ -62,7 +63,7 @@ fn rules_by(
         (asks_bad_option(body), AsRefusal::BadOption),
         (terms.is_none(), AsRefusal::NoCommonType),
         (is_bad(timestamp), AsRefusal::PreauthFailed),
-        (is_skewed(timestamp), AsRefusal::TimestampSkewed),
+        (is_timestamp_skewed(timestamp), AsRefusal::TimestampSkewed),
         (
             lacks_preauth(view.client, timestamp),
             AsRefusal::PreauthRequired,
@@ -182,8 +183,8 @@ fn is_bad(timestamp: Outcome) -> bool
     matches!(timestamp, Outcome::Bad)
 }
 
-fn is_skewed(timestamp: Outcome) -> bool
-    ensures { result ≡ is_skewed timestamp }
+fn is_timestamp_skewed(timestamp: Outcome) -> bool
+    ensures { result ≡ is_timestamp_skewed timestamp }
 {
     matches!(timestamp, Outcome::Skewed)
 }

@@ -19,9 +19,15 @@ pub struct AsView<'a> {
 
 impl<'a> Model for AsView<'a> {
     ghost use Rattle.std.specs.Prelude.{option_copied};
-    ghost use Rattle.as_exchange.specs.View.{View};
+    ghost use Rattle.as_exchange.specs.View as trees;
 
-    ghost Value = { View };
+    ghost Value = { trees.AsView };
 
-    ghost view = { λ v. record { realm = v.realm.now; limits = v.limits.now; client = option_copied v.client; service = option_copied v.service; failures = v.failures } };
+    ghost view = { λ v. record {
+      realm = v.realm.now;
+      limits = v.limits.now;
+      client = option_copied v.client;
+      service = option_copied v.service;
+      failures = v.failures;
+    } };
 }

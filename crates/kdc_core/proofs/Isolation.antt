@@ -23,8 +23,8 @@ use Rattle.kdc_state.specs.declared.state.State.{State}
 use Rattle.kdc_core.proofs.Changes.{other_row, realm_stays, same_refusal, same_row_after}
 use Rattle.kdc_core.proofs.Frame.{database_kept, limits_kept, other_kept}
 use Rattle.kdc_core.specs.AgreementLaws.{names_agree, view_agrees}
-use Rattle.kdc_core.specs.Answer.{answer, answer_to, keep, next_to}
-use Rattle.kdc_core.specs.Run.{after_change, after_event, event_reply, replaced, run, unless_refused}
+use Rattle.kdc_core.specs.Answer.{answer, answer_to, keep, after_incoming}
+use Rattle.kdc_core.specs.Run.{after_change, after_event, event_reply, replaced, run, unless_faulty}
 use Rattle.kdc_core.specs.Struck.{AgreesFor, IsIsolated, Isolation, Names, NamesWithin, ServicesWithin, is_client, is_left, is_request, is_request_of, replies_to, strike}
 use Rattle.kdc_core.specs.Unaffected.{Unaffected}
 use Rattle.kdc_core.specs.View.{Agrees, named, view}
@@ -86,7 +86,7 @@ module _ (c : Components) (S : Names) where
 
   module _ (state other : State) (incoming : Incoming) (a : AgreesFor c S state other) where
     -- the request of another client is struck out
-    other_request : is_client c (named state incoming.octets).client ≡ false → AgreesFor c S (next_to state incoming) other
+    other_request : is_client c (named state incoming.octets).client ≡ false → AgreesFor c S (after_incoming state incoming) other
     other_request apart =
         let kept = (answer_to (view state incoming.octets) incoming).kept in
         kept_agrees state other a (named state incoming.octets).client None kept None (a.memory ∙ sym (other_kept state (named state incoming.octets).client kept c (is_not_named c (named state incoming.octets).client apart)))
@@ -101,7 +101,7 @@ module _ (c : Components) (S : Names) where
       service = service_agrees state other a (named state incoming.octets).service within;
     }
 
-    own_memory : (named state incoming.octets).client ≡ Some c → Agrees state other incoming.octets → memory_of (next_to other incoming) c ≡ memory_of (next_to state incoming) c
+    own_memory : (named state incoming.octets).client ≡ Some c → Agrees state other incoming.octets → memory_of (after_incoming other incoming) c ≡ memory_of (after_incoming state incoming) c
     own_memory is agrees =
         let kept : (answer_to (view other incoming.octets) incoming).kept ≡ (answer_to (view state incoming.octets) incoming).kept = ap (λ v. (answer_to v incoming).kept) (view_agrees state other incoming.octets agrees) in
         let client : (named other incoming.octets).client ≡ Some c = ap (λ names. names.client) (names_agree state other incoming.octets agrees) ∙ is in
@@ -112,7 +112,7 @@ module _ (c : Components) (S : Names) where
         ∙ sym (ap (λ o. memory_of (keep state o (answer_to (view state incoming.octets) incoming).kept) c) is)
 
     -- a request of c changes both alike
-    own_request : (named state incoming.octets).client ≡ Some c → Agrees state other incoming.octets → AgreesFor c S (next_to state incoming) (next_to other incoming)
+    own_request : (named state incoming.octets).client ≡ Some c → Agrees state other incoming.octets → AgreesFor c S (after_incoming state incoming) (after_incoming other incoming)
     own_request is agrees =
         kept_agrees state other a (named state incoming.octets).client (named other incoming.octets).client (answer_to (view state incoming.octets) incoming).kept (answer_to (view other incoming.octets) incoming).kept
         (own_memory is agrees)
@@ -141,7 +141,7 @@ module _ (c : Components) (S : Names) where
     }
 
     alike_unless : (fault : Option ChangeFault) → map.get other.database.rows change.name.components ≡ map.get state.database.rows change.name.components
-        → AgreesFor c S (unless_refused fault state (record state { database = changed state.database change })) (unless_refused fault other (record other { database = changed other.database change }))
+        → AgreesFor c S (unless_faulty fault state (record state { database = changed state.database change })) (unless_faulty fault other (record other { database = changed other.database change }))
     alike_unless (Some fault) own = a
     alike_unless None own = changed_alike own
 
@@ -150,7 +150,7 @@ module _ (c : Components) (S : Names) where
     own_change left =
         let own = same_row left in
         let refused : refusal other.database change ≡ refusal state.database change = same_refusal state.database other.database change a.realm own in
-        subst (λ fault. AgreesFor c S (after_change state change) (unless_refused fault other (record other { database = changed other.database change }))) (sym refused)
+        subst (λ fault. AgreesFor c S (after_change state change) (unless_faulty fault other (record other { database = changed other.database change }))) (sym refused)
         (alike_unless (refusal state.database change) own)
 
     apart_from : (name : Components) → IsTrue (S name) → S change.name.components ≡ false → eq_by_cmp name_cmp name change.name.components ≡ false
@@ -170,7 +170,7 @@ module _ (c : Components) (S : Names) where
     }
 
     elsewhere_unless : (fault : Option ChangeFault) → eq_by_cmp name_cmp c change.name.components ≡ false → S change.name.components ≡ false
-        → AgreesFor c S (unless_refused fault state (record state { database = changed state.database change })) other
+        → AgreesFor c S (unless_faulty fault state (record state { database = changed state.database change })) other
     elsewhere_unless (Some fault) apart without = a
     elsewhere_unless None apart without = changed_elsewhere apart without
 
@@ -212,7 +212,7 @@ module _ (c : Components) (S : Names) where
 
   -- ---- runs
 
-  realm_unless : (state : State) (change : PrincipalChange) (fault : Option ChangeFault) → (unless_refused fault state (record state { database = changed state.database change })).database.realm ≡ state.database.realm
+  realm_unless : (state : State) (change : PrincipalChange) (fault : Option ChangeFault) → (unless_faulty fault state (record state { database = changed state.database change })).database.realm ≡ state.database.realm
   realm_unless state change (Some fault) = refl
   realm_unless state change None = realm_stays state.database change
 

@@ -15,7 +15,7 @@ use Rattle.krb_fields.specs.Name.{Components, name_cmp, name_total}
 use Rattle.krb_replies.specs.KdcRep.{KdcRep, kdc_rep}
 use Rattle.krb_types.specs.KrbError.{KrbError, krb_error}
 use Rattle.krb_types.specs.ReqBody.{ReqBody}
-use Rattle.kdc_state.specs.State.{opened}
+use Rattle.kdc_state.specs.State.{opened_state}
 use Rattle.kdc_state.specs.declared.state.State.{State}
 use Rattle.principals.specs.Change.{changed, refusal}
 use Rattle.principals.specs.Database.{Principals}
@@ -30,10 +30,10 @@ use Rattle.replay.specs.declared.keep.Kept.{Kept}
 use Rattle.replay.specs.declared.memory.Memory.{Memory}
 use Rattle.replay.specs.declared.opening.Opening.{Opening}
 use Rattle.replay.specs.declared.opening.Opening.TheVariants.{First, Restart as OpenedAgain}
-use Rattle.tgs_exchange.specs.Answer.{Answer as TgsAnswer, answer_by, is_ticket, tgs_answer, tgs_error}
+use Rattle.tgs_exchange.specs.Answer.{TgsAnswer, answer_by, is_ticket, tgs_answer, tgs_error}
 use Rattle.tgs_exchange.specs.Decision.{decision}
 use Rattle.tgs_exchange.specs.Issue.{tgs_rep}
-use Rattle.tgs_exchange.specs.View.{View as TgsView}
+use Rattle.tgs_exchange.specs.View.{TgsView}
 use Rattle.tgs_exchange.specs.declared.decision.Decision.{Decision}
 use Rattle.tgs_exchange.specs.declared.decision.Decision.TheVariants.{Refuses, Remembers, Repeats, Issues}
 use Rattle.tgs_opening.specs.declared.presented.Presented.{Presented}
@@ -41,7 +41,7 @@ use Rattle.kdc_core.specs.Answer.{answer_of, counted, keep, stamped}
 use Rattle.kdc_core.specs.Contents.{contents}
 use Rattle.kdc_core.specs.Marked.{AllMarked, AreMarked, IsMarked, KeepsMarked}
 use Rattle.kdc_core.specs.Request.{request_of}
-use Rattle.kdc_core.specs.Run.{after_event, run, unless_refused}
+use Rattle.kdc_core.specs.Run.{after_event, run, unless_faulty}
 use Rattle.kdc_core.specs.Tickets.{bears_ticket}
 use Rattle.kdc_core.specs.View.{View, as_view, memory_named, named, tgs_view, view}
 use Rattle.kdc_core.specs.declared.contents.Contents.{Contents}
@@ -160,7 +160,7 @@ module _ (state : State) (marked : AllMarked state) where
   keep_marked None m is client = marked client
 
   change_marked : (change : PrincipalChange) (fault : Option ChangeFault)
-      → AllMarked (unless_refused fault state (record state { database = changed state.database change }))
+      → AllMarked (unless_faulty fault state (record state { database = changed state.database change }))
   change_marked change (Some fault) = marked
   change_marked change None = marked
 
@@ -188,4 +188,4 @@ run_marked state (event ∷ events) marked = run_marked (after_event state event
 
 pub keeps_marked : KeepsMarked
 keeps_marked database limits opening events =
-    run_marked (opened database limits opening) events (unstored_marked opening)
+    run_marked (opened_state database limits opening) events (unstored_marked opening)

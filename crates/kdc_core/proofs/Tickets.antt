@@ -16,7 +16,7 @@ use Rattle.krb_types.specs.KrbError.{KrbError, krb_error}
 use Rattle.krb_types.specs.ReqBody.{ReqBody}
 use Rattle.replay.proofs.Runs.{GivesOf, one_for_each}
 use Rattle.replay.specs.Machine.{IsGiven, Keeps, next_if}
-use Rattle.replay.specs.Run.{Event as Happening, Asked, Counted, Restarted, after_verdict, collected, with_any, RestartsFrom as MemoryFrom, RestartsFollow as MemoryFollow}
+use Rattle.replay.specs.Run.{MemoryEvent, Checked, Counted, Restarted, after_verdict, collected, with_any, RestartsFrom as MemoryFrom, RestartsFollow as MemoryFollow}
 use Rattle.replay.specs.Stamp.{Stamp}
 use Rattle.replay.specs.declared.failures.Failures.{Failures}
 use Rattle.replay.specs.declared.keep.Bears.TheVariants.{Ticket}
@@ -24,10 +24,10 @@ use Rattle.replay.specs.declared.keep.Kept.{Kept}
 use Rattle.replay.specs.declared.memory.Memory.{Memory}
 use Rattle.replay.specs.declared.verdict.Verdict.{Verdict}
 use Rattle.replay.specs.declared.verdict.Verdict.TheVariants.{Fresh, Skew, Repeat, Full as NoPlace}
-use Rattle.tgs_exchange.specs.Answer.{Answer as TgsAnswer, answer_by, is_ticket, kept_reply, refused, remembering, tgs_answer, tgs_error, within_room}
+use Rattle.tgs_exchange.specs.Answer.{TgsAnswer, answer_by, is_ticket, kept_reply, refused, remembering, tgs_answer, tgs_error, within_room}
 use Rattle.tgs_exchange.specs.Decision.{HasSaid, decision, stamp_of, verdict_on}
 use Rattle.tgs_exchange.specs.DecisionLaws.{has_said}
-use Rattle.tgs_exchange.specs.View.{View as TgsView}
+use Rattle.tgs_exchange.specs.View.{TgsView}
 use Rattle.tgs_exchange.specs.declared.decision.Decision.{Decision}
 use Rattle.tgs_exchange.specs.declared.decision.Decision.TheVariants.{Refuses, Remembers, Repeats, Issues}
 use Rattle.tgs_opening.specs.declared.presented.Presented.{Presented}
@@ -40,11 +40,11 @@ use Rattle.principals.specs.Change.{changed, refusal}
 use Rattle.principals.specs.Database.{Principals}
 use Rattle.principals.specs.declared.change.Change.{Change as PrincipalChange}
 use Rattle.principals.specs.declared.change.ChangeFault.{ChangeFault}
-use Rattle.kdc_core.specs.Answer.{answer_of, counted, keep, next_to, stamped}
+use Rattle.kdc_core.specs.Answer.{answer_of, counted, keep, after_incoming, stamped}
 use Rattle.kdc_core.specs.Contents.{contents, presented_in}
 use Rattle.kdc_core.specs.ContentsLaws.{Tells, names_in, nothing_kept, tells}
 use Rattle.kdc_core.specs.Request.{request_of}
-use Rattle.kdc_core.specs.Run.{after_event, unless_refused}
+use Rattle.kdc_core.specs.Run.{after_event, unless_faulty}
 use Rattle.kdc_core.specs.Struck.{is_client}
 use Rattle.kdc_core.proofs.Marking.{error_bears_none}
 use Rattle.kdc_core.specs.Tickets.{bears_ticket, OneTicket, RestartsFollow, RestartsFrom, ticket_by, ticket_to}
@@ -100,20 +100,20 @@ module _ (v : TgsView) (incoming : Incoming) (body : ReqBody) (p : Presented) wh
   abbrev too_long : TgsAnswer
   too_long = no_trace (written krb_error (too_big v.realm incoming.at body))
 
-  abbrev asked : Kept → Happening Kept
-  asked made = Asked incoming.at.sec (stamp_of p) made
+  abbrev asked : Kept → MemoryEvent Kept
+  asked made = Checked incoming.at.sec (stamp_of p) made
 
   abbrev answered : Decision Kept → TgsAnswer
   answered decided = answer_by v incoming body p decided
 
   -- the memory is asked about an authenticator that is remembered with its reply, or that came before
-  abbrev happens_by : Decision Kept → Option (Happening Kept)
+  abbrev happens_by : Decision Kept → Option (MemoryEvent Kept)
   happens_by (Refuses refusal) = None
   happens_by (Remembers refusal) = option_map asked (answered (Remembers refusal)).kept
   happens_by (Repeats kept) = Some (asked kept)
   happens_by (Issues admission) = option_map asked (answered (Issues admission)).kept
 
-  abbrev happens_now : Option (Happening Kept)
+  abbrev happens_now : Option (MemoryEvent Kept)
   happens_now = happens_by (decision v incoming.at.sec body p)
 
   fresh_moves : verdict_on v incoming.at.sec p ≡ Fresh → (k : Option Kept) → unwrap_or (stamped v.memory incoming.at.sec p k) v.memory ≡ next_if v.limits.remembered v.memory (option_map asked k)
@@ -141,7 +141,7 @@ module _ (v : TgsView) (incoming : Incoming) (body : ReqBody) (p : Presented) wh
 
   -- ---- and what it hands out
 
-  abbrev Gives : Option (Happening Kept) → Stamp × List ℕ → Type 0
+  abbrev Gives : Option (MemoryEvent Kept) → Stamp × List ℕ → Type 0
   Gives = IsGiven give v.limits.remembered v.memory
 
   room_gives : verdict_on v incoming.at.sec p ≡ Fresh → (octets : List ℕ) → IfSome (handed (stamp_of p) (within_room v incoming body octets).reply) (Gives (option_map asked (within_room v incoming body octets).kept))
@@ -189,23 +189,23 @@ memory_kept state c name None = by_test (eq_by_cmp name_cmp c name) refl
 
 module _ (c : Components) where
   -- only what happens to the client c
-  abbrev for_name : Components → Option (Happening Kept) → Option (Happening Kept)
+  abbrev for_name : Components → Option (MemoryEvent Kept) → Option (MemoryEvent Kept)
   for_name name o = if eq_by_cmp name_cmp c name then o else None
 
-  abbrev happens_as : Option Components → Option Failures → Option (Happening Kept)
+  abbrev happens_as : Option Components → Option Failures → Option (MemoryEvent Kept)
   happens_as (Some name) failures = for_name name (option_map Counted failures)
   happens_as None failures = None
 
-  abbrev happens_of : View → Incoming → Contents → Option (Happening Kept)
+  abbrev happens_of : View → Incoming → Contents → Option (MemoryEvent Kept)
   happens_of v incoming NoRequest = None
   happens_of v incoming (AsReq message) = happens_as (components_of message.body.value.cname) (as_answer (as_view v) incoming message).failures
   happens_of v incoming (RefusedTgsReq message refusal) = None
   happens_of v incoming (TgsReq message p) = for_name p.ticket.cname.components (happens_now (tgs_view v) incoming message.body.value p)
 
-  abbrev happens_request : State → Incoming → Option (Happening Kept)
+  abbrev happens_request : State → Incoming → Option (MemoryEvent Kept)
   happens_request state incoming = happens_of (view state incoming.octets) incoming (contents (view state incoming.octets) (request_of incoming.octets))
 
-  abbrev happens : State → Event → Option (Happening Kept)
+  abbrev happens : State → Event → Option (MemoryEvent Kept)
   happens state (Request at random room octets) = happens_request state (record { at = at; random = random; room = room; octets = octets })
   happens state (Change change) = None
   happens state (Replace database) = None
@@ -214,7 +214,7 @@ module _ (c : Components) where
 
   -- ---- the memory moves as they say
 
-  moved_for : (limit : ℕ) (state : State) (name : Components) (m : Option (Memory Kept)) (o : Option (Happening Kept)) → unwrap_or m (memory_of state name) ≡ next_if limit (memory_of state name) o
+  moved_for : (limit : ℕ) (state : State) (name : Components) (m : Option (Memory Kept)) (o : Option (MemoryEvent Kept)) → unwrap_or m (memory_of state name) ≡ next_if limit (memory_of state name) o
       → memory_of (keep state (Some name) m) c ≡ next_if limit (memory_of state c) (for_name name o)
   moved_for limit state name m o moved = memory_kept state c name m ∙ by_test (eq_by_cmp name_cmp c name) refl
     where
@@ -259,11 +259,11 @@ module _ (c : Components) where
       (moved_for state.limits.remembered state p.ticket.cname.components (answer_of (presented_view state message p) incoming (TgsReq message p)).kept _
       (memory_moves v incoming message.body.value p))
 
-  moves_request : (state : State) (incoming : Incoming) → memory_of (next_to state incoming) c ≡ next_if state.limits.remembered (memory_of state c) (happens_request state incoming)
+  moves_request : (state : State) (incoming : Incoming) → memory_of (after_incoming state incoming) c ≡ next_if state.limits.remembered (memory_of state c) (happens_request state incoming)
   moves_request state incoming =
       moves_of state incoming (named state incoming.octets) (contents (view state incoming.octets) (request_of incoming.octets)) (tells state (request_of incoming.octets))
 
-  unless_memory : (state : State) (change : PrincipalChange) (fault : Option ChangeFault) → memory_of (unless_refused fault state (record state { database = changed state.database change })) c ≡ memory_of state c
+  unless_memory : (state : State) (change : PrincipalChange) (fault : Option ChangeFault) → memory_of (unless_faulty fault state (record state { database = changed state.database change })) c ≡ memory_of state c
   unless_memory state change (Some fault) = refl
   unless_memory state change None = refl
 
@@ -283,7 +283,7 @@ module _ (c : Components) where
 
   -- ---- what is handed out is given
 
-  given_for : (limit : ℕ) (state : State) (name : Components) (handed : Option (Stamp × List ℕ)) (o : Option (Happening Kept)) → IfSome handed (IsGiven give limit (memory_of state name) o)
+  given_for : (limit : ℕ) (state : State) (name : Components) (handed : Option (Stamp × List ℕ)) (o : Option (MemoryEvent Kept)) → IfSome handed (IsGiven give limit (memory_of state name) o)
       → IfSome (if eq_by_cmp name_cmp c name then handed else None) (IsGiven give limit (memory_of state c) (for_name name o))
   given_for limit state name handed o given = by_test (eq_by_cmp name_cmp c name) refl
     where
@@ -325,13 +325,13 @@ module _ (c : Components) where
   -- ---- restarts
 
   -- the second at which an authenticator is asked about is that of the request
-  abbrev IsAt : ℤ → Option (Happening Kept) → Type 0
+  abbrev IsAt : ℤ → Option (MemoryEvent Kept) → Type 0
   IsAt now None = ⊤
-  IsAt now (Some (Asked second stamp made)) = second ≡ now
+  IsAt now (Some (Checked second stamp made)) = second ≡ now
   IsAt now (Some (Counted failures)) = ⊤
   IsAt now (Some (Restarted at)) = ⊥
 
-  for_name_at : (now : ℤ) (b : Bool) (o : Option (Happening Kept)) → IsAt now o → IsAt now (if b then o else None)
+  for_name_at : (now : ℤ) (b : Bool) (o : Option (MemoryEvent Kept)) → IsAt now o → IsAt now (if b then o else None)
   for_name_at now true o at = at
   for_name_at now false o at = tt
 
@@ -365,15 +365,15 @@ module _ (c : Components) where
   at_request : (state : State) (incoming : Incoming) → IsAt incoming.at.sec (happens_request state incoming)
   at_request state incoming = at_of (view state incoming.octets) incoming (contents (view state incoming.octets) (request_of incoming.octets))
 
-  from_any : (now second : ℤ) (o : Option (Happening Kept)) (rest : List (Happening Kept)) → IsAt second o → MemoryFrom now rest → MemoryFrom now (with_any o rest)
+  from_any : (now second : ℤ) (o : Option (MemoryEvent Kept)) (rest : List (MemoryEvent Kept)) → IsAt second o → MemoryFrom now rest → MemoryFrom now (with_any o rest)
   from_any now second None rest at from = from
-  from_any now second (Some (Asked time stamp made)) rest at from = from
+  from_any now second (Some (Checked time stamp made)) rest at from = from
   from_any now second (Some (Counted failures)) rest at from = from
   from_any now second (Some (Restarted time)) rest at from = absurd at
 
-  follow_any : (second : ℤ) (o : Option (Happening Kept)) (rest : List (Happening Kept)) → IsAt second o → MemoryFrom second rest → MemoryFollow rest → MemoryFollow (with_any o rest)
+  follow_any : (second : ℤ) (o : Option (MemoryEvent Kept)) (rest : List (MemoryEvent Kept)) → IsAt second o → MemoryFrom second rest → MemoryFollow rest → MemoryFollow (with_any o rest)
   follow_any second None rest at from follow = follow
-  follow_any second (Some (Asked time stamp made)) rest at from follow = (subst (λ now. MemoryFrom now rest) (sym at) from, follow)
+  follow_any second (Some (Checked time stamp made)) rest at from follow = (subst (λ now. MemoryFrom now rest) (sym at) from, follow)
   follow_any second (Some (Counted failures)) rest at from follow = follow
   follow_any second (Some (Restarted time)) rest at from follow = absurd at
 

@@ -4,7 +4,7 @@ use Rattle.std.specs.FinMap as map
 use Rattle.krb_fields.specs.PrincipalName.{Name}
 use Rattle.krb_fields.specs.declared.moment.Moment.{Moment}
 use Rattle.replay.specs.Memory.{remembered}
-use Rattle.replay.specs.Stamp.{is_skewed}
+use Rattle.replay.specs.Stamp.{is_untimely}
 use Rattle.replay.specs.declared.failures.Failures.{Failures}
 use Rattle.replay.specs.declared.keep.Kept.{Kept}
 use Rattle.kdc_state.specs.declared.state.State.{State}
@@ -43,5 +43,5 @@ after_reply state None = state
 abbrev pub MayStay : State → Mark → Type 0
 MayStay state (Counted client failures) = ⊤
 MayStay state (Stamped client at ctime cusec kept) =
-    (is_skewed (memory_of state client.components).floor at.sec ctime ≡ false)
+    (is_untimely (memory_of state client.components).floor at.sec ctime ≡ false)
     × (map.get (memory_of state client.components).pairs (ctime, cusec) ≡ None)

@@ -16,8 +16,8 @@ use Rattle.replay.specs.declared.memory.Memory.{Memory}
 use Rattle.replay.specs.Opening.{opened_memory}
 use Rattle.kdc_state.specs.declared.state.State.{State}
 use Rattle.kdc_state.specs.State.{memory_of}
-use Rattle.tgs_opening.specs.Opening.{opened}
-use Rattle.kdc_core.specs.Answer.{answer_to, keep, next_to}
+use Rattle.tgs_opening.specs.Opening.{opened_ticket}
+use Rattle.kdc_core.specs.Answer.{answer_to, keep, after_incoming}
 use Rattle.kdc_core.specs.Request.{Request, request_of}
 use Rattle.kdc_core.specs.View.{Agrees, client_in, client_of, components_of, memory_named, named, named_by, row_of}
 use Rattle.kdc_core.specs.View.{ticket_view, view, view_of}
@@ -38,7 +38,7 @@ same_client : (state other : State) (exchange : Exchange) (message : Received)
     → ticket_view other message ≡ ticket_view state message
     → client_in other exchange message ≡ client_in state exchange message
 same_client state other As message e = refl
-same_client state other Tgs message e = ap (λ v. client_of (opened v message)) e
+same_client state other Tgs message e = ap (λ v. client_of (opened_ticket v message)) e
 
 module _ (state other : State) (realm : other.database.realm ≡ state.database.realm)
     (granter : map.get other.database.rows (ticket_granter other.database.realm) ≡ map.get state.database.rows
@@ -122,10 +122,10 @@ keep_agrees state other bytes (Some c) None a = a
 keep_agrees state other bytes None m a = a
 
 pub next_agrees : (state other : State) (incoming : Incoming) → Agrees state other incoming.octets
-    → Agrees (next_to state incoming) (next_to other incoming) incoming.octets
+    → Agrees (after_incoming state incoming) (after_incoming other incoming) incoming.octets
 next_agrees state other incoming a =
     let bytes = incoming.octets in
-    subst (λ (s : State). Agrees (next_to state incoming) s bytes)
+    subst (λ (s : State). Agrees (after_incoming state incoming) s bytes)
     (λ i. keep other (sym (names_agree state other bytes a) i).client
     (answer_to (sym (view_agrees state other bytes a) i) incoming).kept)
     (keep_agrees state other bytes (named state bytes).client (answer_to (view state bytes) incoming).kept a)

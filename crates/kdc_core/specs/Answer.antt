@@ -1,8 +1,8 @@
 -- What a key distribution centre answers, made from its view of the state alone.
 use Rattle.std.specs.Prelude.{◌≡◌, ℕ, ℤ, List, ⊤, Option, Some, None, option_map}
 use Rattle.std.specs.FinMap as map
-use Rattle.as_exchange.specs.Answer.{Answer as AsAnswer, as_answer, Spelled as AsSpelled, Opens as AsOpens}
-use Rattle.tgs_exchange.specs.Answer.{Answer as TgsAnswer, tgs_answer, tgs_error, Spelled as TgsSpelled}
+use Rattle.as_exchange.specs.Answer.{AsAnswer, as_answer, Spelled as AsSpelled, Opens as AsOpens}
+use Rattle.tgs_exchange.specs.Answer.{TgsAnswer, tgs_answer, tgs_error, Spelled as TgsSpelled}
 use Rattle.tgs_exchange.specs.Answer.{Opens as TgsOpens}
 use Rattle.tgs_exchange.specs.Decision.{stamp_of}
 use Rattle.tgs_opening.specs.declared.presented.Presented.{Presented}
@@ -108,9 +108,10 @@ keep state (Some name) (Some memory) = record state { memories = map.insert stat
 keep state (Some name) None = state
 keep state None kept = state
 
-abbrev pub next_to : State → Incoming → State
-next_to state incoming =
+abbrev pub after_incoming : State → Incoming → State
+after_incoming state incoming =
     keep state (named state incoming.octets).client (answer_to (view state incoming.octets) incoming).kept
 
-abbrev pub next : State → Moment → List ℕ → ℕ → List ℕ → State
-next state at random room octets = next_to state (record { at = at; random = random; room = room; octets = octets })
+abbrev pub after_request : State → Moment → List ℕ → ℕ → List ℕ → State
+after_request state at random room octets =
+    after_incoming state (record { at = at; random = random; room = room; octets = octets })

@@ -9,15 +9,16 @@ use Rattle.krb_types.specs.declared.kdc_req.Exchange.TheVariants.{As, Tgs}
 use Rattle.krb_types.specs.KdcReq.{Received}
 use Rattle.replay.specs.declared.keep.Kept.{Kept}
 use Rattle.kdc_replies.specs.Incoming.{Incoming}
-use Rattle.tgs_opening.specs.Opening.{opened, presented}
-use Rattle.tgs_opening.specs.OpeningLaws.{opened_ticket}
-use Rattle.tgs_opening.specs.View.{View as TicketView}
+use Rattle.tgs_opening.specs.Opening.{opened_ticket, presented}
+use Rattle.tgs_opening.specs.OpeningLaws.{ticket_opened}
+use Rattle.tgs_opening.specs.View.{TicketView}
 use Rattle.tgs_opening.specs.declared.presented.Presented.{Presented}
 use Rattle.tgs_opening.specs.declared.refusal.TgsRefusal.{TgsRefusal}
 use Rattle.kdc_state.specs.State.{memory_of}
 use Rattle.kdc_state.specs.declared.state.State.{State}
 use Rattle.kdc_core.specs.After.{after, after_reply, stamped_of}
-use Rattle.kdc_core.specs.Answer.{answer_of, answer_to, keep, next_to, stamped, IsReply, IsReplyTo, OneTicketTwoKeys}
+use Rattle.kdc_core.specs.Answer.{answer_of, answer_to, keep, after_incoming, stamped}
+use Rattle.kdc_core.specs.Answer.{IsReply, IsReplyTo, OneTicketTwoKeys}
 use Rattle.kdc_core.specs.Answer.{OpensOf}
 use Rattle.kdc_core.specs.Contents.{contents, contents_in, tgs_contents}
 use Rattle.kdc_core.specs.Request.{Request, request_of}
@@ -30,9 +31,9 @@ use Rattle.kdc_core.specs.declared.mark.Mark.{Mark}
 -- ---- what is presented has the client of the ticket that was opened
 
 presented_client : (v : TicketView) (message : Received) (p : Presented) → presented v message ≡ Ok p
-    → client_of (opened v message) ≡ Some p.ticket.cname.components
+    → client_of (opened_ticket v message) ≡ Some p.ticket.cname.components
 presented_client v message p e =
-    let (o, opens, same) = opened_ticket v message p e in
+    let (o, opens, same) = ticket_opened v message p e in
     ap client_of opens ∙ ap (λ (part : EncTicketPart). Some part.cname.components) same
 
 -- ---- so what the octets hold tells what the request names
@@ -168,7 +169,7 @@ module _ {A E : Type 0} (state : State) (incoming : Incoming) (r : Result A E) (
       (reply_so state incoming r octets names held told h)
 
   pub leaves_so : (mark : A → Option (Option Mark)) → Leaves state incoming r mark (names_in held) held
-      → IfOk r (λ a. after_reply state (mark a) ≡ next_to state incoming)
+      → IfOk r (λ a. after_reply state (mark a) ≡ after_incoming state incoming)
   leaves_so mark h =
       subst (λ (h : Contents). Leaves state incoming r mark names h) is
       (after_so state incoming r mark names held told h)

@@ -8,7 +8,7 @@ use Rattle.replay.specs.Stamp.{Stamp}
 use Rattle.replay.specs.declared.keep.Kept.{Kept}
 use Rattle.replay.specs.declared.memory.Memory.{Memory}
 use Rattle.replay.specs.declared.opening.Opening.{Opening}
-use Rattle.kdc_state.specs.State.{memory_of, opened}
+use Rattle.kdc_state.specs.State.{memory_of, opened_state}
 use Rattle.kdc_state.specs.declared.state.State.{State}
 use Rattle.tgs_exchange.specs.Answer.{is_ticket}
 use Rattle.kdc_core.specs.Run.{run}
@@ -29,4 +29,4 @@ AllMarked state = (client : Components) → AreMarked (memory_of state client)
 -- in every run that begins with an opening, whatever events come
 abbrev pub KeepsMarked : Type 0
 KeepsMarked = (database : Principals) (limits : Limits) (opening : Opening) (events : List Event)
-    → AllMarked (run (opened database limits opening) events)
+    → AllMarked (run (opened_state database limits opening) events)

@@ -9,9 +9,9 @@ use Rattle.principals.specs.Database.{Principals}
 use Rattle.principals.specs.declared.change.Change.{Change as PrincipalChange}
 use Rattle.principals.specs.declared.change.ChangeFault.{ChangeFault}
 use Rattle.replay.specs.declared.opening.Opening.TheVariants.{Restart as OpenedAgain}
-use Rattle.kdc_state.specs.State.{opened, restarted}
+use Rattle.kdc_state.specs.State.{opened_state, restarted}
 use Rattle.kdc_state.specs.declared.state.State.{State}
-use Rattle.kdc_core.specs.Answer.{answer, next}
+use Rattle.kdc_core.specs.Answer.{answer, after_request}
 use Rattle.kdc_core.specs.View.{view}
 use Rattle.kdc_core.specs.declared.run.Event.{Event}
 use Rattle.kdc_core.specs.declared.run.Event.TheVariants.{Request, Change, Replace, Restart, Reopen}
@@ -24,14 +24,14 @@ event_reply state (Replace database) = None
 event_reply state (Restart at) = None
 event_reply state (Reopen database limits at) = None
 
-abbrev pub unless_refused : Option ChangeFault → State → State → State
-unless_refused (Some fault) old new = old
-unless_refused None old new = new
+abbrev pub unless_faulty : Option ChangeFault → State → State → State
+unless_faulty (Some fault) old new = old
+unless_faulty None old new = new
 
 -- a change that is refused leaves the state as it was
 abbrev pub after_change : State → PrincipalChange → State
 after_change state change =
-    unless_refused (refusal state.database change) state (record state { database = changed state.database change })
+    unless_faulty (refusal state.database change) state (record state { database = changed state.database change })
 
 -- another database of the same realm takes the place of the state's; one of another realm changes nothing
 abbrev pub replaced : State → Principals → State
@@ -39,11 +39,11 @@ replaced state database =
     if pointwise nat_eq database.realm state.database.realm then record state { database = database } else state
 
 abbrev pub after_event : State → Event → State
-after_event state (Request at random room request) = next state at random room request
+after_event state (Request at random room request) = after_request state at random room request
 after_event state (Change change) = after_change state change
 after_event state (Replace database) = replaced state database
 after_event state (Restart at) = restarted state at
-after_event state (Reopen database limits at) = opened database limits (OpenedAgain at)
+after_event state (Reopen database limits at) = opened_state database limits (OpenedAgain at)
 
 -- the reply to each event, in order
 abbrev pub replies : State → List Event → List (Option (List ℕ))
@@ -58,22 +58,22 @@ run state (event ∷ events) = run (after_event state event) events
 -- each kind of event alone
 pub request_alone : (state : State) (at : Moment) (random : List ℕ) (room : ℕ) (request : List ℕ)
     → (replies state (Request at random room request ∷ []) ≡ (answer (view state request) at random room request).reply
-    ∷ []) × (run state (Request at random room request ∷ []) ≡ next state at random room request)
+    ∷ []) × (run state (Request at random room request ∷ []) ≡ after_request state at random room request)
 request_alone state at random room request = (refl, refl)
 
 pub change_alone : (state : State) (change : PrincipalChange) → refusal state.database change ≡ None
     → run state (Change change ∷ []) ≡ record state { database = changed state.database change }
 change_alone state change fits =
-    ap (λ o. unless_refused o state (record state { database = changed state.database change })) fits
+    ap (λ o. unless_faulty o state (record state { database = changed state.database change })) fits
 
 pub restart_alone : (state : State) (at : Moment) → run state (Restart at ∷ []) ≡ restarted state at
 restart_alone state at = refl
 
 pub reopen_alone : (state : State) (database : Principals) (limits : Limits) (at : Moment)
-    → run state (Reopen database limits at ∷ []) ≡ opened database limits (OpenedAgain at)
+    → run state (Reopen database limits at ∷ []) ≡ opened_state database limits (OpenedAgain at)
 reopen_alone state database limits at = refl
 
 -- a restart opens again with what there is
 pub restart_reopens : (state : State) (at : Moment)
-    → restarted state at ≡ opened state.database state.limits (OpenedAgain at)
+    → restarted state at ≡ opened_state state.database state.limits (OpenedAgain at)
 restart_reopens state at = refl

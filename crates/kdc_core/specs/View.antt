@@ -18,7 +18,7 @@ use Rattle.kdc_state.specs.State.{memory_of}
 use Rattle.as_exchange.specs.View as as_exchange
 use Rattle.tgs_exchange.specs.View as tgs_exchange
 use Rattle.tgs_opening.specs.View as tgs_opening
-use Rattle.tgs_opening.specs.Opening.{Opened, opened}
+use Rattle.tgs_opening.specs.Opening.{OpenedTicket, opened_ticket}
 use Rattle.tgs_opening.specs.declared.presented.Presented.{Presented}
 use Rattle.tgs_opening.specs.declared.refusal.TgsRefusal.{TgsRefusal}
 use Rattle.kdc_core.specs.Request.{Request, request_of}
@@ -36,7 +36,7 @@ row_of state (Some name) = map.get state.database.rows name
 row_of state None = None
 
 -- what a ticket is opened from that comes with a request
-abbrev pub ticket_view : State → Received → tgs_opening.View
+abbrev pub ticket_view : State → Received → tgs_opening.TicketView
 ticket_view state message = record {
   realm = state.database.realm;
   granter = map.get state.database.rows (ticket_granter state.database.realm);
@@ -44,14 +44,14 @@ ticket_view state message = record {
 }
 
 -- the client in a ticket that was opened
-abbrev pub client_of : Result Opened TgsRefusal → Option Components
+abbrev pub client_of : Result OpenedTicket TgsRefusal → Option Components
 client_of (Ok ticket) = Some ticket.part.cname.components
 client_of (Err refusal) = None
 
 -- AS-REQ: the body's client. TGS-REQ: the client of the presented ticket, if that can be opened
 abbrev pub client_in : State → Exchange → Received → Option Components
 client_in state As message = components_of message.body.value.cname
-client_in state Tgs message = client_of (opened (ticket_view state message) message)
+client_in state Tgs message = client_of (opened_ticket (ticket_view state message) message)
 
 abbrev pub named_in : State → Request → Named
 named_in state request = record {
@@ -117,13 +117,13 @@ pub record Agrees (state other : State) (bytes : List ℕ) : Type 0 where
   pub service : IfSome (named state bytes).service (λ s. map.get other.database.rows s ≡ map.get state.database.rows s)
 
 -- what the AS exchange answers from
-abbrev pub as_view : View → as_exchange.View
+abbrev pub as_view : View → as_exchange.AsView
 as_view v =
     record { realm = v.realm; limits = v.limits; client = v.client; service = v.service; failures = v.memory.failures }
 
 -- what the TGS exchange opens a ticket from, and what it answers from
-abbrev pub opening_view : View → tgs_opening.View
+abbrev pub opening_view : View → tgs_opening.TicketView
 opening_view v = record { realm = v.realm; granter = v.granter; service = v.service }
 
-abbrev pub tgs_view : View → tgs_exchange.View
+abbrev pub tgs_view : View → tgs_exchange.TgsView
 tgs_view v = record { realm = v.realm; limits = v.limits; client = v.client; service = v.service; memory = v.memory }

@@ -4,8 +4,8 @@ ghost use Rattle.krb_types.specs.KrbError.{krb_error};
 ghost use Rattle.tgs_exchange.specs.Answer.{tgs_error};
 ghost use Rattle.krb_elements.specs.Codec.{written};
 ghost use Rattle.kdc_core.specs.After.{after_reply, MayStay};
-ghost use Rattle.kdc_core.specs.Answer.{answer_of, answer_to, keep, next_to, IsReply, IsReplyTo, OneTicketTwoKeys};
-ghost use Rattle.kdc_core.specs.Answer.{OpensOf};
+ghost use Rattle.kdc_core.specs.Answer.{answer_of, answer_to, keep, after_incoming};
+ghost use Rattle.kdc_core.specs.Answer.{IsReply, IsReplyTo, OneTicketTwoKeys, OpensOf};
 ghost use Rattle.kdc_core.specs.Contents.{AreShort, IsShortName};
 ghost use Rattle.kdc_core.specs.ContentsLaws.{names_in};
 ghost use Rattle.kdc_core.specs.Request.{request_of};
@@ -23,7 +23,7 @@ use tgs_exchange::tgs_error;
 use tgs_opening::TgsRefusal;
 
 /// A reply, and what is to be kept of the client, if anything is.
-#[derive(Debug, Drop)]
+#[derive(Drop)]
 pub struct Answered {
     pub octets: Vec<u8>,
     pub mark: Option<Mark>,
@@ -44,7 +44,7 @@ pub fn handle(
     ensures keys { IfOk result (λ reply.
         OneTicketTwoKeys (view state.old incoming.now.octets) incoming.now.at incoming.now.random
         (request_of incoming.now.octets)) }
-    ensures state { OnOk result (state.new ≡ next_to state.old incoming.now) }
+    ensures state { OnOk result (state.new ≡ after_incoming state.old incoming.now) }
     ensures err { OnErr result (state.new ≡ state.old) }
 {
     let Some(Answered { octets, mark }) = reply(state, alloc, incoming)? else {
@@ -65,7 +65,7 @@ fn reply(
     ensures reply { IfOk result (λ reply.
         option_map (λ r. r.octets.items) reply ≡ (answer_to (view state.now incoming.now.octets) incoming.now).reply) }
     ensures after { IfOk result (λ reply.
-        after_reply state.now (option_map (λ r. r.mark) reply) ≡ next_to state.now incoming.now) }
+        after_reply state.now (option_map (λ r. r.mark) reply) ≡ after_incoming state.now incoming.now) }
     ensures spelled { IfOk result (λ reply.
         IsReply (view state.now incoming.now.octets) incoming.now.at incoming.now.random
         (request_of incoming.now.octets) (option_map (λ r. r.octets.items) reply)) }
@@ -74,7 +74,7 @@ fn reply(
         (request_of incoming.now.octets)) }
     ensures stays { IfOk result (λ reply. IfSome reply (λ r. IfSome r.mark (MayStay state.now))) }
 {
-    let held = contents_of(state, alloc, incoming.octets)?;
+    let held = contents_of(state, alloc, incoming.ready, incoming.octets)?;
     reply_to(state, alloc, incoming, &held)
 }
 

@@ -10,6 +10,7 @@ ghost use Rattle.kdc_core.specs.Contents.{contents, contents_in, tgs_contents, A
 ghost use Rattle.kdc_core.specs.Request.{request_of};
 ghost use Rattle.kdc_core.specs.View.{components_of, row_of, ticket_view, view, view_in};
 
+use enctypes::ReadyKey;
 use kdc_state::State;
 use krb_fields::NameRef;
 use krb_types::{Exchange, KdcReqRef, read_kdc_req};
@@ -21,7 +22,7 @@ use tgs_opening::{Presented, TgsFault, TgsRefusal, TicketView, tgs_open};
 const GREATEST_REQUEST: usize = 2_147_483_647;
 
 /// What the octets of a request hold, as far as they were opened.
-#[derive(Debug, Drop)]
+#[derive(Drop)]
 pub enum Contents<'a> {
     /// Neither an AS-REQ nor a TGS-REQ, or too many octets for one.
     NoRequest,
@@ -32,10 +33,11 @@ pub enum Contents<'a> {
     TgsReq(KdcReqRef<'a>, Presented),
 }
 
-/// Reads the octets of a request, and opens what a TGS-REQ presents.
+/// Reads the octets of a request, and opens what a TGS-REQ presents, faster by a key that is ready.
 pub fn contents_of<'a>(
     state: &State,
     alloc: Global,
+    ready: &Option<ReadyKey>,
     octets: &'a [u8],
 ) -> Result<Contents<'a>, AllocError>
     ensures value { IfOk result (λ held. held ≡ contents (view state.now octets.now) (request_of octets.now)) }
@@ -47,13 +49,14 @@ pub fn contents_of<'a>(
     let Ok((exchange, message)) = read_kdc_req(octets) else {
         return Ok(Contents::NoRequest);
     };
-    contents_in(state, alloc, exchange, message)
+    contents_in(state, alloc, ready, exchange, message)
 }
 
 /// What a request of this exchange holds.
 fn contents_in<'a>(
     state: &State,
     alloc: Global,
+    ready: &Option<ReadyKey>,
     exchange: Exchange,
     message: KdcReqRef<'a>,
 ) -> Result<Contents<'a>, AllocError>
@@ -66,7 +69,7 @@ fn contents_in<'a>(
     match exchange {
         Exchange::As => Ok(Contents::AsReq(message)),
         Exchange::Tgs => {
-            let opened = open_presented(state, alloc, &message);
+            let opened = open_presented(state, alloc, ready, &message);
             tgs_contents(message, opened)
         }
     }
@@ -95,6 +98,7 @@ fn tgs_contents(
 fn open_presented(
     state: &State,
     alloc: Global,
+    ready: &Option<ReadyKey>,
     message: &KdcReqRef<'_>,
 ) -> Result<Presented, TgsFault>
     requires { IfSome (tgs_data message.now) (λ value. length value < 2147483648) }
@@ -106,6 +110,7 @@ fn open_presented(
         realm: state.database.realm(),
         granter: state.database.granter(),
         service: row_of(state, message.body.value.sname.as_ref()),
+        ready,
     };
     tgs_open(alloc, &view, message)
 }

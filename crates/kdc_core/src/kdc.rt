@@ -4,7 +4,7 @@ ghost use Rattle.std.specs.Prelude.{IsOkUnless, option_map};
 ghost use Rattle.std.specs.FinMap as map;
 ghost use Rattle.std.specs.Option.{option_copied};
 ghost use Rattle.krb_fields.specs.Name.{Components};
-ghost use Rattle.kdc_core.specs.Answer.{answer, next, error_octets, IsReply, OneTicketTwoKeys};
+ghost use Rattle.kdc_core.specs.Answer.{answer, after_request, error_octets, IsReply, OneTicketTwoKeys};
 ghost use Rattle.kdc_core.specs.Issued.{issued, IsReplyOf};
 ghost use Rattle.kdc_core.specs.Request.{Request, SpellsRequest, request_of};
 ghost use Rattle.kdc_core.specs.Run.{after_event, replaced};
@@ -12,12 +12,13 @@ ghost use Rattle.kdc_core.specs.View.{Agrees, named, view};
 ghost use Rattle.kdc_core.specs.declared.run.Event.TheVariants.{Reopen};
 ghost use Rattle.krb_fields.specs.declared.moment.Moment as moments;
 ghost use Rattle.replay.specs.declared.opening.Opening.TheVariants.{Restart};
-ghost use Rattle.kdc_state.specs.State.{opened, memory_of, restarted};
+ghost use Rattle.kdc_state.specs.State.{opened_state, memory_of, restarted};
 ghost use Rattle.replay.specs.Memory as memories;
 ghost use Rattle.kdc_state.specs.declared.state.State as states;
 ghost use Rattle.principals.specs.Change.{refusal, changed};
 
 use crate::answering::handle;
+use enctypes::{KeyUsage, ReadyKey};
 use kdc_replies::{Incoming, error_reply};
 use kdc_state::{Opening, State};
 use krb_fields::{Code, Moment, Name};
@@ -44,6 +45,9 @@ impl Error for OtherRealm {}
 #[derive(Debug, Drop)]
 pub struct Kdc {
     state: State,
+    // The key that the tickets of the ticket-granting service are sealed under. Whether it is that one is looked at
+    // where it is used, so that it saves time and no answer hangs on it.
+    ready: Option<ReadyKey>,
 }
 
 impl Model for Kdc {
@@ -58,20 +62,22 @@ impl Model for Kdc {
 }
 
 impl Kdc {
-    /// Opens with a database. It answers want of memory alone; today it takes none.
+    /// Opens with a database. It takes no memory; want of memory is the only fault that its type knows.
     pub fn open(
         alloc: Global,
         database: Database,
         limits: Limits,
         opening: Opening,
     ) -> Result<Kdc, AllocError>
-        ensures opened { IfOk result (λ kdc. kdc ≡ opened database limits opening) }
+        ensures opened { IfOk result (λ kdc. kdc ≡ opened_state database limits opening) }
         // After a restart it stands as a run does that goes on by it, whatever there was before.
         ensures reopened { (state : states.State) (at : moments.Moment) → opening ≡ Restart at
             → IfOk result (λ kdc. kdc ≡ after_event state (Reopen database limits at)) }
     {
+        let ready = ready_key(&database);
         Ok(Kdc {
             state: State::open(alloc, database, limits, opening),
+            ready,
         })
     }
 
@@ -80,13 +86,13 @@ impl Kdc {
     /// `at` is the moment of the request, `random` are 64 random octets, and `room` is the most octets of a
     /// reply with a ticket. Octets that spell neither an AS-REQ nor a TGS-REQ (RFC 4120, section 5.4.1) get no
     /// reply, nor do more than 2147483647. A call that is refused memory changes nothing.
-    pub fn handle(
-        &mut self,
+    pub fn handle<'r>(
+        &'r mut self,
         alloc: Global,
         at: Moment,
-        random: &[u8; 64],
+        random: &'r [u8; 64],
         room: u32,
-        request: &[u8],
+        request: &'r [u8],
     ) -> Result<Option<Vec<u8>>, AllocError>
         // The request is the one that the octets spell, if they spell one and are no more than 2147483647.
         ensures request { (r : Request)
@@ -104,12 +110,13 @@ impl Kdc {
         ensures keys { IfOk result (λ reply.
             OneTicketTwoKeys (view self.old request.now) at random.now (request_of request.now)) }
         // Where a request is issued a ticket now, the octets that are sent are that ticket's reply, which client and
-        // service open to the same, or an error where it had no room.
+        // service open to the same, or an error in its place. Which of the two the clause `reply` says: an error where
+        // the room is too small.
         ensures issued { IfOk result (λ reply.
             IfSome (issued (view self.old request.now) at random.now (request_of request.now))
             (λ issue. IsReplyOf issue (option_map (λ octets. octets.items) reply))) }
         // The state afterwards is the one that the rules say.
-        ensures state { OnOk result (self.new ≡ next self.old at random.now room request.now) }
+        ensures state { OnOk result (self.new ≡ after_request self.old at random.now room request.now) }
         // A second state that agrees at what the request names is answered alike.
         ensures agreement { (other : states.State) → Agrees self.old other request.now
             → answer (view other request.now) at random.now room request.now
@@ -118,8 +125,8 @@ impl Kdc {
         ensures same_names { (other : states.State) → Agrees self.old other request.now
             → named other request.now ≡ named self.old request.now }
         ensures afterwards { (other : states.State) → Agrees self.old other request.now
-            → Agrees (next self.old at random.now room request.now)
-            (next other at random.now room request.now) request.now }
+            → Agrees (after_request self.old at random.now room request.now)
+            (after_request other at random.now room request.now) request.now }
         // No request changes a row, the realm or the limits, nor a memory but the named client's.
         ensures database { self.new.database ≡ self.old.database }
         ensures limits { self.new.limits ≡ self.old.limits }
@@ -132,6 +139,7 @@ impl Kdc {
             random,
             room,
             octets: request,
+            ready: &self.ready,
         };
         handle(&mut self.state, alloc, &incoming)
     }
@@ -143,7 +151,9 @@ impl Kdc {
         ensures otherwise { IfNone (refusal self.old.database change.now) (IsOkUnless result ChangeFault.Memory) }
         ensures err { OnErr result (self.new ≡ self.old) }
     {
-        self.state.database.apply(alloc, change)
+        let done = self.state.database.apply(alloc, change);
+        self.ready = ready_key(&self.state.database);
+        done
     }
 
     /// Puts another database of the same realm in the place of this one; all else stays. One of another realm changes
@@ -158,6 +168,7 @@ impl Kdc {
             return Err(OtherRealm);
         }
         self.state.database = database;
+        self.ready = ready_key(&self.state.database);
         Ok(())
     }
 
@@ -166,7 +177,7 @@ impl Kdc {
     pub fn restart(&mut self, at: Moment)
         ensures state { self.new ≡ restarted self.old at }
         // Each client has the memory of a restart; rows, realm and limits stay.
-        ensures memories { (name : Components) → memory_of self.new name ≡ memories.restarted at.sec }
+        ensures memories { (name : Components) → memory_of self.new name ≡ memories.restarted_memory at.sec }
         ensures database { self.new.database ≡ self.old.database }
         ensures limits { self.new.limits ≡ self.old.limits }
     {
@@ -194,4 +205,11 @@ impl Kdc {
     {
         self.state.database.realm()
     }
+}
+
+/// The first current key of the ticket-granting service, made ready for its tickets.
+fn ready_key(database: &Database) -> Option<ReadyKey> {
+    let row = database.granter()?;
+    let key = row.versions.current().keys.keys().first()?;
+    Some(ReadyKey::new(key, KeyUsage::Ticket))
 }

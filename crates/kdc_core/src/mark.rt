@@ -8,7 +8,7 @@ use replay::{Failures, Kept};
 use std::alloc::{AllocError, Global};
 
 /// What changes in the memory of a client.
-#[derive(Debug, Drop)]
+#[derive(Drop)]
 pub enum Mark {
     /// Its failures.
     Counted {

@@ -2,7 +2,7 @@
 ghost use Rattle.std.specs.Prelude.{◌≡◌, ◌<◌, ◌++◌, ◌∷◌, [], length, map, take, IfOk, IfErr, IfSome, IsOk, OnOk, OnErr};
 ghost use Rattle.std.specs.Prelude.{option_map};
 ghost use Rattle.kdc_core.specs.Run.{after_change, after_event, event_reply, replies, run};
-ghost use Rattle.kdc_state.specs.State.{opened};
+ghost use Rattle.kdc_state.specs.State.{opened_state};
 ghost use Rattle.replay.specs.declared.opening.Opening.TheVariants.{Restart};
 ghost use Rattle.kdc_core.specs.Struck.{Isolation};
 ghost use Rattle.kdc_core.specs.Tickets.{OneTicket};
@@ -167,7 +167,7 @@ impl Kdc {
         limits: Limits,
         at: Moment,
     ) -> Result<(), AllocError>
-        ensures state { OnOk result (self.new ≡ opened database.now limits (Restart at)) }
+        ensures state { OnOk result (self.new ≡ opened_state database.now limits (Restart at)) }
         ensures err { OnErr result (self.new ≡ self.old) }
     {
         let database = database.copy(alloc)?;

@@ -1,10 +1,11 @@
 pub mod Incoming
 pub mod ErrorReply
 pub mod ServiceTerms
-pub mod ServiceTermsLaws
 pub mod Standing
 pub mod Grant
 pub mod Reply
 pub mod Issue
+-- laws that proofs cite: no reader of a contract needs them
+pub mod ServiceTermsLaws
 pub mod GrantLaws
 pub mod LengthLaws

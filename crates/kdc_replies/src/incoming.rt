@@ -1,4 +1,5 @@
 //! A request as it comes to a key distribution centre.
+use enctypes::ReadyKey;
 use krb_fields::Moment;
 use std::marker::Model;
 
@@ -13,6 +14,9 @@ pub struct Incoming<'a> {
     pub room: u32,
     /// The request's own octets.
     pub octets: &'a [u8],
+    /// A key of a service that is kept ready for its tickets. It saves time, and no answer hangs on it: contracts don't
+    /// see it.
+    pub ready: &'a Option<ReadyKey>,
 }
 
 impl<'a> Model for Incoming<'a> {

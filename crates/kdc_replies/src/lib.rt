@@ -1,7 +1,6 @@
 //! What a key distribution centre answers with: errors, and replies with a ticket.
 #![tactic(auto)]
 
-mod authorization_data;
 mod errors;
 mod grant;
 mod incoming;
@@ -11,11 +10,10 @@ mod session_keys;
 mod standing;
 mod tickets;
 
-pub use authorization_data::copy_data;
 pub use errors::{error_reply, too_big};
 pub use grant::Grant;
 pub use incoming::Incoming;
-pub use replies::{Asked, ReplyKey, ticket_reply};
+pub use replies::{ReplyInputs, ReplyKey, ticket_reply};
 pub use services::{ServiceTerms, service_terms};
 pub use session_keys::session_key;
 pub use standing::{has_come, is_disabled, is_expired};

@@ -12,7 +12,7 @@ ghost use Rattle.kdc_replies.specs.Reply.{OpensAlike, sealed_part, reply_of};
 
 use crate::grant::{Grant, LentName, LentRealm};
 use crate::tickets::{LentTicket, ServiceKey, confounder, ticket};
-use enctypes::{Key, KeyUsage};
+use enctypes::{Key, KeyUsage, ReadyKey};
 use krb_der::KTime;
 use krb_elements::{Lent, Seq, UInt32, write};
 use krb_fields::{EncryptedData, PaData};
@@ -29,12 +29,14 @@ pub struct ReplyKey {
     pub kvno: Option<UInt32>,
 }
 
-/// What a reply repeats of its request, when it is made, and by which random octets.
+/// What a reply repeats of its request, when it is made, by which random octets, and which key of a service is ready
+/// for its tickets.
 #[derive(Debug, Clone, Copy)]
-pub struct Asked<'r> {
+pub struct ReplyInputs<'r> {
     pub nonce: UInt32,
     pub time: KTime,
     pub random: &'r [u8; 64],
+    pub ready: &'r Option<ReadyKey>,
 }
 
 /// A reply with the realm and the names that its grant lends.
@@ -54,22 +56,23 @@ pub fn ticket_reply<const TYPE: u8, const TAG: u8>(
     service: &ServiceKey,
     key: &ReplyKey,
     padata: Option<Seq<PaData>>,
-    asked: &Asked<'_>,
+    inputs: &ReplyInputs<'_>,
 ) -> Result<Vec<u8>, AllocError>
     requires grant { IsShort grant.now }
     requires padata { IfSome padata (λ list. length ((list_of pa_data).text list) ≤ 70000) }
     ensures written { IfOk result (λ octets.
         octets.items ≡ written (kdc_rep TYPE)
-        (reply_of TYPE TAG grant.now service.now key.now padata asked.now.nonce asked.now.time asked.now.random.now)) }
+        (reply_of TYPE TAG grant.now service.now key.now padata inputs.now.nonce inputs.now.time
+        inputs.now.random.now)) }
     ensures spelled { IfOk result (λ octets.
-        (kdc_rep TYPE).Spells (reply_of TYPE TAG grant.now service.now key.now padata asked.now.nonce asked.now.time
-        asked.now.random.now) octets.items) }
+        (kdc_rep TYPE).Spells (reply_of TYPE TAG grant.now service.now key.now padata inputs.now.nonce inputs.now.time
+        inputs.now.random.now) octets.items) }
     // The client and the service find the same inside.
     ensures same { IfOk result (λ octets. OpensAlike TYPE TAG key.now.key (usage_number key.now.usage) service.now.key
-        (reply_of TYPE TAG grant.now service.now key.now padata asked.now.nonce asked.now.time asked.now.random.now)
-        (reply_part grant.now asked.now.nonce asked.now.time) (ticket_part grant.now)) }
+        (reply_of TYPE TAG grant.now service.now key.now padata inputs.now.nonce inputs.now.time inputs.now.random.now)
+        (reply_part grant.now inputs.now.nonce inputs.now.time) (ticket_part grant.now)) }
 {
-    let reply = whole_reply::<TYPE, TAG>(alloc, grant, service, key, padata, asked)?;
+    let reply = whole_reply::<TYPE, TAG>(alloc, grant, service, key, padata, inputs)?;
     write(alloc, &reply)
 }
 
@@ -80,20 +83,20 @@ fn whole_reply<'g, 'a, const TYPE: u8, const TAG: u8>(
     service: &ServiceKey,
     key: &ReplyKey,
     padata: Option<Seq<PaData>>,
-    asked: &Asked<'_>,
+    inputs: &ReplyInputs<'_>,
 ) -> Result<LentReply<'g, 'a, TYPE>, AllocError>
     requires grant { IsShort grant.now }
     requires padata { IfSome padata (λ list. length ((list_of pa_data).text list) ≤ 70000) }
     ensures value { IfOk result (λ reply.
-        reply ≡ reply_of TYPE TAG grant.now service.now key.now padata asked.now.nonce asked.now.time
-        asked.now.random.now) }
+        reply ≡ reply_of TYPE TAG grant.now service.now key.now padata inputs.now.nonce inputs.now.time
+        inputs.now.random.now) }
     ensures short { IfOk result (λ reply. length ((kdc_rep TYPE).text reply) < 2 ^ 32) }
     ensures same { IfOk result (λ reply.
         OpensAlike TYPE TAG key.now.key (usage_number key.now.usage) service.now.key reply
-        (reply_part grant.now asked.now.nonce asked.now.time) (ticket_part grant.now)) }
+        (reply_part grant.now inputs.now.nonce inputs.now.time) (ticket_part grant.now)) }
 {
-    let ticket = ticket(alloc, grant, service, asked.random)?;
-    let enc_part = sealed::<TAG>(alloc, grant, key, asked)?;
+    let ticket = ticket(alloc, grant, service, inputs.ready, inputs.random)?;
+    let enc_part = sealed::<TAG>(alloc, grant, key, inputs)?;
     Ok(KdcRep {
         padata,
         crealm: Lent::new(&grant.realm),
@@ -108,25 +111,25 @@ fn sealed<const TAG: u8>(
     alloc: Global,
     grant: &Grant<'_>,
     key: &ReplyKey,
-    asked: &Asked<'_>,
+    inputs: &ReplyInputs<'_>,
 ) -> Result<EncryptedData, AllocError>
     requires { IsShort grant.now }
     ensures value { IfOk result (λ sealed.
-        sealed ≡ sealed_part TAG grant.now key.now asked.now.nonce asked.now.time asked.now.random.now) }
+        sealed ≡ sealed_part TAG grant.now key.now inputs.now.nonce inputs.now.time inputs.now.random.now) }
     ensures opens { IfOk result (λ sealed.
         decrypted (under TAG enc_kdc_rep_part) key.now.key (usage_number key.now.usage) sealed
-        ≡ Some (reply_part grant.now asked.now.nonce asked.now.time)) }
+        ≡ Some (reply_part grant.now inputs.now.nonce inputs.now.time)) }
     ensures most { IfOk result (λ sealed. length sealed.cipher ≤ 6200) }
 {
     let part: Under<TAG, _> = Under {
-        value: grant.reply_part(alloc, asked.nonce, asked.time)?,
+        value: grant.reply_part(alloc, inputs.nonce, inputs.time)?,
     };
     encrypted(
         alloc,
         &key.key,
         key.usage,
         key.kvno,
-        &confounder(asked.random, 48),
+        &confounder(inputs.random, 48),
         &part,
     )
 }

@@ -15,9 +15,9 @@ use Rattle.principals.specs.Change.{refusal, changed}
 use Rattle.principals.specs.Database.{first_database}
 use Rattle.replay.specs.declared.opening.Opening.TheVariants.{First}
 use Rattle.kdc_state.specs.declared.state.State.{State}
-use Rattle.kdc_state.specs.State.{opened, restarted}
+use Rattle.kdc_state.specs.State.{opened_state, restarted}
 use Rattle.kdc_core.specs.View.{view}
-use Rattle.kdc_core.specs.Answer.{answer, next}
+use Rattle.kdc_core.specs.Answer.{answer, after_request}
 use Rattle.text_fields.specs.Settings.{with_setting}
 use Rattle.kdc_script.specs.declared.answer.Answer.{Answer}
 use Rattle.kdc_script.specs.declared.answer.Answer.TheVariants.{Done, Refused, Reply, NoReply}
@@ -71,12 +71,12 @@ change_of kdc name what = record { name = name; what = row_change kdc name what 
 -- the KDC before a line, if one was opened, and after it, and what the line prints
 abbrev pub Runs : Option State → Line → Option State → Answer → Type 0
 Runs before (Open realm limits keys) after printed =
-    (after ≡ Some (opened (first_database realm keys) limits First)) × (printed ≡ Done)
+    (after ≡ Some (opened_state (first_database realm keys) limits First)) × (printed ≡ Done)
 Runs (Some kdc) (Change (Some name) what) after printed =
     Changes kdc (change_of kdc name what) (refusal kdc.database (change_of kdc name what)) after printed
 Runs (Some kdc) (Change None what) after printed = IsNotNamed kdc after printed
 Runs (Some kdc) (Request request) after printed =
-    (after ≡ Some (next kdc request.at request.random request.room request.octets.items))
+    (after ≡ Some (after_request kdc request.at request.random request.room request.octets.items))
     × IsReply printed
     (answer (view kdc request.octets.items) request.at request.random request.room request.octets.items).reply
 Runs (Some kdc) (Restart at) after printed = (after ≡ Some (restarted kdc at)) × (printed ≡ Done)

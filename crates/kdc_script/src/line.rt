@@ -24,7 +24,7 @@ use std::alloc::{AllocError, AllocFailed, Global};
 use text_fields::{Setting, number_u32};
 
 /// A line of a script.
-#[derive(Debug, Drop)]
+#[derive(Drop)]
 pub(crate) enum Line {
     /// A new KDC, whose database has the ticket-granting service alone.
     Open {
@@ -45,7 +45,7 @@ pub(crate) enum Line {
 }
 
 /// What a line changes of a principal.
-#[derive(Debug, Drop)]
+#[derive(Drop)]
 pub(crate) enum LineChange {
     /// It is new, with these keys.
     Add(KeyList),
@@ -60,7 +60,7 @@ pub(crate) enum LineChange {
 }
 
 /// A request for the KDC.
-#[derive(Debug, Drop)]
+#[derive(Drop)]
 pub(crate) struct Request {
     /// When it comes.
     pub(crate) at: Moment,

@@ -1,5 +1,5 @@
 //! Runs of a script.
-ghost use Rattle.std.specs.Prelude.{◌≡◌, ◌≢◌, ◌⊎◌, IfOk, IfSome, OnOk, Some};
+ghost use Rattle.std.specs.Prelude.{◌≡◌, ◌≢◌, ◌⊎◌, IfOk, IfSome, OnOk, None, Some};
 ghost use Rattle.std.specs.FinMap as map;
 ghost use Rattle.std.specs.Io.KnownBytes.{Appends};
 ghost use Rattle.kdc_script.specs.Octets.{octets_of};
@@ -8,7 +8,7 @@ ghost use Rattle.kdc_script.specs.Script.{fault_text, IsFaultText, PrintsScript,
 ghost use Rattle.kdc_script.specs.declared.line.Line.TheVariants as lines;
 ghost use Rattle.kdc_script.specs.declared.run.Stop.TheVariants.{Failed, Fault};
 ghost use Rattle.krb_fields.specs.NameLimits.{IsComponent};
-ghost use Rattle.kdc_state.specs.State.{opened};
+ghost use Rattle.kdc_state.specs.State.{opened_state};
 ghost use Rattle.replay.specs.declared.opening.Opening.TheVariants.{First};
 ghost use Rattle.principals.specs.Change.{refusal};
 ghost use Rattle.principals.specs.Database.{first_database};
@@ -73,8 +73,7 @@ impl From<LineFault> for Stop {
 /// Runs the script that a reader gives and prints its answers: `DONE`, `FAULT` or `FAILED`.
 ///
 /// Where it is not `FAILED`, the writer took what the script prints, and the status is the script's; of a run that
-/// failed
-/// nothing is said.
+/// failed nothing is said.
 pub fn run_script<R: Read + Drop, W: Write>(alloc: Global, reader: R, writer: &mut W) -> u8
     ensures status { (result ≡ 0) ⊎ ((result ≡ 1) ⊎ (result ≡ 3)) }
     ensures run { result ≢ 3
@@ -116,9 +115,29 @@ fn run_lines<R: Read + Drop, W: Write>(
         PrintsUpToFault octets (W.contents writer.old) (W.contents writer.new) input.new.number) }
 {
     let mut kdc = None;
+    run_on(alloc, &mut kdc, input, writer)
+}
+
+/// Runs the lines on the KDC that one of them opens.
+fn run_on<R: Read + Drop, W: Write>(
+    alloc: Global,
+    kdc: &mut Option<Kdc>,
+    input: &mut Input<R>,
+    writer: &mut W,
+) -> Result<(), Stop>
+    requires kdc { kdc.old ≡ None }
+    requires octets { input.old.taken ≡ 0 }
+    requires lines { input.old.number ≡ 0 }
+    ensures done { OnOk result
+        (IfSome (octets_of R.remaining input.old.octets) (λ octets.
+        PrintsScript octets (W.contents writer.old) (W.contents writer.new) 0)) }
+    ensures fault { result ≡ Err Fault
+        → IfSome (octets_of R.remaining input.old.octets) (λ octets.
+        PrintsUpToFault octets (W.contents writer.old) (W.contents writer.new) input.new.number) }
+{
     let mut line = Vec::new(alloc);
     while input.next_line(&mut line)? {
-        run_text(alloc, &mut kdc, &line, writer)?;
+        run_text(alloc, kdc, &line, writer)?;
     }
     writer.flush()?;
     Ok(())
@@ -170,7 +189,7 @@ fn open(
     limits: Limits,
     krbtgt_keys: KeyList,
 ) -> Result<Kdc, Stop>
-    ensures ok { IfOk result (λ kdc. kdc ≡ opened (first_database realm.now krbtgt_keys) limits First) }
+    ensures ok { IfOk result (λ kdc. kdc ≡ opened_state (first_database realm.now krbtgt_keys) limits First) }
     ensures fault { result ≡ Err Fault → ¬ IsComponent realm.now }
 {
     let database = match Database::first(alloc, realm.as_slice(), krbtgt_keys) {

@@ -12,8 +12,8 @@ use Rattle.replay.specs.declared.opening.Opening.TheVariants.{Restart}
 use Rattle.kdc_state.specs.declared.state.State.{State}
 use Rattle.replay.specs.Opening.{opened_memory}
 
-abbrev pub opened : Principals → Limits → Opening → State
-opened database limits opening =
+abbrev pub opened_state : Principals → Limits → Opening → State
+opened_state database limits opening =
     record { database = database; limits = limits; opening = opening; memories = map.empty }
 
 -- a name that has no memory stored has that of the opening

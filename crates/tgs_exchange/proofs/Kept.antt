@@ -8,13 +8,13 @@ use Rattle.krb_elements.specs.Codec.{written}
 use Rattle.krb_replies.specs.KdcRep.{kdc_rep}
 use Rattle.krb_types.specs.ReqBody.{ReqBody}
 use Rattle.replay.specs.Memory.{if_kept, recent}
-use Rattle.replay.specs.Stamp.{is_skewed}
+use Rattle.replay.specs.Stamp.{is_untimely}
 use Rattle.replay.specs.declared.keep.Kept.{Kept}
 use Rattle.replay.specs.declared.verdict.Verdict.TheVariants.{Fresh, Skew, Full as NoPlace}
 use Rattle.tgs_opening.specs.declared.presented.Presented.{Presented}
-use Rattle.tgs_exchange.specs.View.{View}
+use Rattle.tgs_exchange.specs.View.{TgsView}
 use Rattle.tgs_exchange.specs.Issue.{tgs_rep}
-use Rattle.tgs_exchange.specs.Answer.{Answer, answer_by, is_ticket, tgs_answer}
+use Rattle.tgs_exchange.specs.Answer.{TgsAnswer, answer_by, is_ticket, tgs_answer}
 use Rattle.tgs_exchange.specs.Decision.{HasSaid, decision, stamp_of, verdict_on}
 use Rattle.tgs_exchange.specs.DecisionLaws.{has_said}
 use Rattle.tgs_exchange.specs.declared.decision.Decision.{Decision}
@@ -25,16 +25,16 @@ new_by true kept full e = absurd cc
 new_by false (Some k) full e = absurd cc
 new_by false None full e = (refl, refl)
 
-module _ (v : View) (incoming : Incoming) (body : ReqBody) (p : Presented) where
+module _ (v : TgsView) (incoming : Incoming) (body : ReqBody) (p : Presented) where
   abbrev IsNew : Type 0
-  IsNew = (is_skewed v.memory.floor incoming.at.sec p.authenticator.ctime ≡ false) × (map.get v.memory.pairs (stamp_of p) ≡ None)
+  IsNew = (is_untimely v.memory.floor incoming.at.sec p.authenticator.ctime ≡ false) × (map.get v.memory.pairs (stamp_of p) ≡ None)
 
   fresh_is_new : verdict_on v incoming.at.sec p ≡ Fresh → IsNew
   fresh_is_new e =
-      new_by (is_skewed v.memory.floor incoming.at.sec p.authenticator.ctime) (map.get v.memory.pairs (stamp_of p)) (nat_le v.limits.remembered (recent v.memory incoming.at.sec)) e
+      new_by (is_untimely v.memory.floor incoming.at.sec p.authenticator.ctime) (map.get v.memory.pairs (stamp_of p)) (nat_le v.limits.remembered (recent v.memory incoming.at.sec)) e
 
   -- nothing is kept by either of two answers
-  kept_by : (b : Bool) (x y : Answer) (P : Type 0) → IfSome x.kept (λ kept. P) → IfSome y.kept (λ kept. P) → IfSome (if b then x else y).kept (λ kept. P)
+  kept_by : (b : Bool) (x y : TgsAnswer) (P : Type 0) → IfSome x.kept (λ kept. P) → IfSome y.kept (λ kept. P) → IfSome (if b then x else y).kept (λ kept. P)
   kept_by true x y P of_x of_y = of_x
   kept_by false x y P of_x of_y = of_y
 

@@ -21,7 +21,7 @@ use Rattle.tgs_opening.specs.Refusal.{code_of}
 use Rattle.tgs_opening.specs.declared.presented.Presented.{Presented}
 use Rattle.tgs_opening.specs.declared.refusal.TgsRefusal.{TgsRefusal}
 use Rattle.tgs_opening.specs.declared.refusal.TgsRefusal.TheVariants.{Repeated}
-use Rattle.tgs_exchange.specs.View.{View}
+use Rattle.tgs_exchange.specs.View.{TgsView}
 use Rattle.tgs_exchange.specs.Decision.{decision}
 use Rattle.tgs_exchange.specs.Issue.{grant_by, reply_key_of, tgs_rep}
 use Rattle.tgs_exchange.specs.declared.decision.Decision.{Decision}
@@ -30,7 +30,7 @@ use Rattle.tgs_exchange.specs.declared.terms.Admission.{Admission}
 
 -- the octets of the reply, and what is kept of the request and of the reply for the authenticator: none, it is not
 -- remembered
-pub record Answer : Type 0 where
+pub record TgsAnswer : Type 0 where
   pub reply : List ℕ
   pub kept : Option Kept
 
@@ -40,11 +40,11 @@ abbrev pub tgs_error : List ℕ → Moment → ReqBody → TgsRefusal → KrbErr
 tgs_error realm at body refusal = error_reply realm at (code_of refusal) body.sname None
 
 -- a refusal of which nothing is remembered
-abbrev pub refused : View → Moment → ReqBody → TgsRefusal → Answer
+abbrev pub refused : TgsView → Moment → ReqBody → TgsRefusal → TgsAnswer
 refused v at body refusal = record { reply = written krb_error (tgs_error v.realm at body refusal); kept = None }
 
 -- the error in place of a reply that is too long: nothing is remembered
-abbrev pub refused_room : View → Moment → ReqBody → Answer
+abbrev pub refused_room : TgsView → Moment → ReqBody → TgsAnswer
 refused_room v at body = record { reply = written krb_error (too_big v.realm at body); kept = None }
 
 -- ---- an authenticator that came before
@@ -54,34 +54,34 @@ is_ticket Ticket = true
 is_ticket Error = false
 
 -- the reply that is kept, but for one with a ticket that is longer than the room
-abbrev pub kept_reply : View → Incoming → ReqBody → Kept → Answer
+abbrev pub kept_reply : TgsView → Incoming → ReqBody → Kept → TgsAnswer
 kept_reply v incoming body kept =
     if is_ticket kept.bears && nat_lt incoming.room (length kept.reply) then refused_room v incoming.at body
     else record { reply = kept.reply; kept = None }
 
 -- the same request gets the reply that is kept, and another one is refused
-abbrev pub repeated : View → Incoming → ReqBody → Kept → Answer
+abbrev pub repeated : TgsView → Incoming → ReqBody → Kept → TgsAnswer
 repeated v incoming body kept =
     if pointwise nat_eq incoming.octets kept.request then kept_reply v incoming body kept
     else refused v incoming.at body Repeated
 
 -- ---- an authenticator that is new
 
-abbrev pub remembering : List ℕ → Bears → List ℕ → Answer
+abbrev pub remembering : List ℕ → Bears → List ℕ → TgsAnswer
 remembering request bears octets = record {
   reply = octets;
   kept = Some (record { request = request; reply = octets; bears = bears });
 }
 
 -- a reply with a ticket that is longer than the room leaves no trace
-abbrev pub within_room : View → Incoming → ReqBody → List ℕ → Answer
+abbrev pub within_room : TgsView → Incoming → ReqBody → List ℕ → TgsAnswer
 within_room v incoming body octets =
     if nat_lt incoming.room (length octets) then refused_room v incoming.at body
     else remembering incoming.octets Ticket octets
 
 -- ---- answers
 
-abbrev pub answer_by : View → Incoming → ReqBody → Presented → Decision Kept → Answer
+abbrev pub answer_by : TgsView → Incoming → ReqBody → Presented → Decision Kept → TgsAnswer
 answer_by v incoming body p (Refuses refusal) = refused v incoming.at body refusal
 answer_by v incoming body p (Remembers refusal) =
     remembering incoming.octets Error (written krb_error (tgs_error v.realm incoming.at body refusal))
@@ -89,19 +89,19 @@ answer_by v incoming body p (Repeats kept) = repeated v incoming body kept
 answer_by v incoming body p (Issues admission) =
     within_room v incoming body (written (kdc_rep 13) (tgs_rep v incoming.at incoming.random body p admission))
 
-abbrev pub tgs_answer : View → Incoming → ReqBody → Presented → Answer
+abbrev pub tgs_answer : TgsView → Incoming → ReqBody → Presented → TgsAnswer
 tgs_answer v incoming body p = answer_by v incoming body p (decision v incoming.at.sec body p)
 
 -- ---- what the octets spell
 
 -- the reply that is kept, or an error in its place
-abbrev pub RepeatSpelled : View → Moment → ReqBody → Kept → List ℕ → Type 0
+abbrev pub RepeatSpelled : TgsView → Moment → ReqBody → Kept → List ℕ → Type 0
 RepeatSpelled v at body kept octets =
     (octets ≡ kept.reply)
     ⊎ (krb_error.Spells (too_big v.realm at body) octets ⊎ krb_error.Spells (tgs_error v.realm at body Repeated) octets)
 
 -- an error where it was refused; else the TGS-REP, or the error in its place
-abbrev pub SpelledBy : View → Moment → List ℕ → ReqBody → Presented → Decision Kept → List ℕ → Type 0
+abbrev pub SpelledBy : TgsView → Moment → List ℕ → ReqBody → Presented → Decision Kept → List ℕ → Type 0
 SpelledBy v at random body p (Refuses refusal) octets = krb_error.Spells (tgs_error v.realm at body refusal) octets
 SpelledBy v at random body p (Remembers refusal) octets = krb_error.Spells (tgs_error v.realm at body refusal) octets
 SpelledBy v at random body p (Repeats kept) octets = RepeatSpelled v at body kept octets
@@ -109,31 +109,31 @@ SpelledBy v at random body p (Issues admission) octets =
     (kdc_rep 13).Spells (tgs_rep v at random body p admission) octets
     ⊎ krb_error.Spells (too_big v.realm at body) octets
 
-abbrev pub Spelled : View → Moment → List ℕ → ReqBody → Presented → List ℕ → Type 0
+abbrev pub Spelled : TgsView → Moment → List ℕ → ReqBody → Presented → List ℕ → Type 0
 Spelled v at random body p octets = SpelledBy v at random body p (decision v at.sec body p) octets
 
 -- ---- one ticket, two keys
 
 -- The reply key opens the TGS-REP to what the service's key finds in the ticket, and that is the one that the ticket
 -- names in the service's row.
-abbrev pub OpensTo : View → Presented → Admission → KdcRep 13 → EncKdcRepPart → EncTicketPart → Type 0
+abbrev pub OpensTo : TgsView → Presented → Admission → KdcRep 13 → EncKdcRepPart → EncTicketPart → Type 0
 OpensTo v p admission reply part ticket =
     OpensAlike 13 26 (reply_key_of p).key (usage_number (reply_key_of p).usage) admission.terms.service.key.key
     reply part ticket
     × NamesKey v.service reply.ticket.enc_part admission.terms.service.key.key
 
 -- they find what was granted
-abbrev pub OpensFor : View → Moment → List ℕ → ReqBody → Presented → Admission → Type 0
+abbrev pub OpensFor : TgsView → Moment → List ℕ → ReqBody → Presented → Admission → Type 0
 OpensFor v at random body p admission =
     OpensTo v p admission (tgs_rep v at random body p admission)
     (reply_part (grant_by v random body p admission) body.nonce at.sec)
     (ticket_part (grant_by v random body p admission))
 
-abbrev pub OpensBy : View → Moment → List ℕ → ReqBody → Presented → Decision Kept → Type 0
+abbrev pub OpensBy : TgsView → Moment → List ℕ → ReqBody → Presented → Decision Kept → Type 0
 OpensBy v at random body p (Refuses refusal) = ⊤
 OpensBy v at random body p (Remembers refusal) = ⊤
 OpensBy v at random body p (Repeats kept) = ⊤
 OpensBy v at random body p (Issues admission) = OpensFor v at random body p admission
 
-abbrev pub Opens : View → Moment → List ℕ → ReqBody → Presented → Type 0
+abbrev pub Opens : TgsView → Moment → List ℕ → ReqBody → Presented → Type 0
 Opens v at random body p = OpensBy v at random body p (decision v at.sec body p)

@@ -12,7 +12,7 @@ use Rattle.replay.specs.declared.verdict.Verdict.TheVariants.{Fresh, Skew, Repea
 use Rattle.tgs_opening.specs.declared.presented.Presented.{Presented}
 use Rattle.tgs_opening.specs.declared.refusal.TgsRefusal.{TgsRefusal}
 use Rattle.tgs_opening.specs.declared.refusal.TgsRefusal.TheVariants.{Skewed, Full}
-use Rattle.tgs_exchange.specs.View.{View}
+use Rattle.tgs_exchange.specs.View.{TgsView}
 use Rattle.tgs_exchange.specs.Rules.{client_rules, admitted}
 use Rattle.tgs_exchange.specs.declared.decision.Decision.{Decision}
 use Rattle.tgs_exchange.specs.declared.decision.Decision.TheVariants.{Refuses, Remembers, Repeats, Issues}
@@ -30,7 +30,7 @@ abbrev pub stamp_of : Presented → Stamp
 stamp_of p = (p.authenticator.ctime, p.authenticator.cusec)
 
 -- what the client's memory says of it (RFC 4120, section 3.2.3)
-abbrev pub verdict_on : View → ℤ → Presented → Verdict Kept
+abbrev pub verdict_on : TgsView → ℤ → Presented → Verdict Kept
 verdict_on v now p = verdict v.memory now (stamp_of p) v.limits.remembered
 
 -- ---- in their order: the client, the authenticator, the ticket and what is asked
@@ -41,17 +41,17 @@ by_admission (Err refusal) = Remembers refusal
 by_admission (Ok admission) = Issues admission
 
 -- skewed, full (section 3.2.3), or a repeat (section 3.3.2)
-abbrev pub by_verdict : View → ℤ → ReqBody → Presented → Verdict Kept → Decision Kept
+abbrev pub by_verdict : TgsView → ℤ → ReqBody → Presented → Verdict Kept → Decision Kept
 by_verdict v now body p Skew = Refuses Skewed
 by_verdict v now body p (Repeat kept) = Repeats kept
 by_verdict v now body p NoPlace = Refuses Full
 by_verdict v now body p Fresh = by_admission (admitted v now body p)
 
-abbrev pub by_client : View → ℤ → ReqBody → Presented → Option TgsRefusal → Decision Kept
+abbrev pub by_client : TgsView → ℤ → ReqBody → Presented → Option TgsRefusal → Decision Kept
 by_client v now body p (Some refusal) = Refuses refusal
 by_client v now body p None = by_verdict v now body p (verdict_on v now p)
 
-abbrev pub decision : View → ℤ → ReqBody → Presented → Decision Kept
+abbrev pub decision : TgsView → ℤ → ReqBody → Presented → Decision Kept
 decision v now body p = by_client v now body p (first_holding (client_rules v now p.ticket.authtime))
 
 -- what holds of an admission where a ticket is issued
@@ -63,7 +63,7 @@ IfIssued (Issues admission) P = P admission
 
 -- ---- what the memory said of the authenticator where that is decided
 
-abbrev pub HasSaid : View → ℤ → Presented → Decision Kept → Type 0
+abbrev pub HasSaid : TgsView → ℤ → Presented → Decision Kept → Type 0
 HasSaid v now p (Refuses refusal) = ⊤
 HasSaid v now p (Remembers refusal) = verdict_on v now p ≡ Fresh
 HasSaid v now p (Repeats kept) = verdict_on v now p ≡ Repeat kept

@@ -10,7 +10,7 @@ use Rattle.replay.specs.declared.verdict.Verdict.TheVariants.{Fresh, Skew, Repea
 use Rattle.tgs_opening.specs.declared.presented.Presented.{Presented}
 use Rattle.tgs_opening.specs.declared.refusal.TgsRefusal.{TgsRefusal}
 use Rattle.tgs_opening.specs.declared.refusal.TgsRefusal.TheVariants.{NeverValid}
-use Rattle.tgs_exchange.specs.View.{View}
+use Rattle.tgs_exchange.specs.View.{TgsView}
 use Rattle.tgs_exchange.specs.Known.{IsKnown}
 use Rattle.tgs_exchange.specs.Terms.{terms, ticket_terms, times_of}
 use Rattle.tgs_exchange.specs.Rules.{admitted, client_rules, rules_by}
@@ -21,7 +21,7 @@ use Rattle.tgs_exchange.specs.declared.decision.Decision.{Decision}
 use Rattle.tgs_exchange.specs.declared.decision.Decision.TheVariants.{Refuses, Remembers, Repeats, Issues}
 use Rattle.tgs_exchange.specs.declared.terms.Admission.{Admission}
 
-module _ (v : View) (now : ℤ) (body : ReqBody) (p : Presented) where
+module _ (v : TgsView) (now : ℤ) (body : ReqBody) (p : Presented) where
   said_by_admission : verdict_on v now p ≡ Fresh → (r : Result Admission TgsRefusal) → HasSaid v now p (by_admission r)
   said_by_admission e (Err refusal) = e
   said_by_admission e (Ok admission) = e
@@ -39,7 +39,7 @@ module _ (v : View) (now : ℤ) (body : ReqBody) (p : Presented) where
   pub has_said : HasSaid v now p (decision v now body p)
   has_said = said_by_client (first_holding (client_rules v now p.ticket.authtime))
 
-module _ (v : View) (now : ℤ) (body : ReqBody) (p : Presented) (known : IsKnown v body p) where
+module _ (v : TgsView) (now : ℤ) (body : ReqBody) (p : Presented) (known : IsKnown v body p) where
   named_by_admission : (r : Result Admission TgsRefusal) → IfOk r (λ a. IsNamed p v.service a.terms)
       → IfIssued (by_admission r) (λ a. IsNamed p v.service a.terms)
   named_by_admission (Ok admission) named = named

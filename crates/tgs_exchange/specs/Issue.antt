@@ -11,12 +11,12 @@ use Rattle.krb_replies.specs.KdcRep.{KdcRep}
 use Rattle.krb_types.specs.ReqBody.{ReqBody}
 use Rattle.ticket_times.specs.Flags.{tgs_flags}
 use Rattle.tgs_opening.specs.declared.presented.Presented.{Presented}
-use Rattle.tgs_exchange.specs.View.{View}
+use Rattle.tgs_exchange.specs.View.{TgsView}
 use Rattle.tgs_exchange.specs.Terms.{ticket_terms}
 use Rattle.tgs_exchange.specs.declared.terms.Admission.{Admission}
 
 -- the client, its authtime and the authorization data are those of the ticket that is presented
-abbrev pub grant_by : View → List ℕ → ReqBody → Presented → Admission → Grant
+abbrev pub grant_by : TgsView → List ℕ → ReqBody → Presented → Admission → Grant
 grant_by v random body p admission = record {
   realm = v.realm;
   client = p.ticket.cname;
@@ -36,7 +36,7 @@ reply_key_by session None = record { key = session; usage = TgsRepEncPartSession
 abbrev pub reply_key_of : Presented → ReplyKey
 reply_key_of p = reply_key_by p.session_key p.subkey
 
-abbrev pub tgs_rep : View → Moment → List ℕ → ReqBody → Presented → Admission → KdcRep 13
+abbrev pub tgs_rep : TgsView → Moment → List ℕ → ReqBody → Presented → Admission → KdcRep 13
 tgs_rep v at random body p admission =
     reply_of 13 26 (grant_by v random body p admission) admission.terms.service.key
     (reply_key_of p) None body.nonce at.sec random

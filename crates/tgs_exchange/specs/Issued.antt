@@ -9,7 +9,7 @@ use Rattle.krb_types.specs.ReqBody.{ReqBody}
 use Rattle.krb_types.specs.declared.kdc_req.Exchange.TheVariants.{Tgs}
 use Rattle.replay.specs.declared.keep.Kept.{Kept}
 use Rattle.tgs_opening.specs.declared.presented.Presented.{Presented}
-use Rattle.tgs_exchange.specs.View.{View}
+use Rattle.tgs_exchange.specs.View.{TgsView}
 use Rattle.tgs_exchange.specs.Issue.{grant_by, reply_key_of}
 use Rattle.tgs_exchange.specs.Answer.{Opens, OpensBy, OpensFor, Spelled, SpelledBy}
 use Rattle.tgs_exchange.specs.Decision.{decision}
@@ -18,7 +18,7 @@ use Rattle.tgs_exchange.specs.declared.decision.Decision.TheVariants.{Refuses, R
 use Rattle.tgs_exchange.specs.declared.terms.Admission.{Admission}
 
 -- the ticket of an admission
-abbrev pub issue_of : View → Moment → List ℕ → ReqBody → Presented → Admission → Issue
+abbrev pub issue_of : TgsView → Moment → List ℕ → ReqBody → Presented → Admission → Issue
 issue_of v at random body p admission = record {
   exchange = Tgs;
   grant = grant_by v random body p admission;
@@ -30,18 +30,19 @@ issue_of v at random body p admission = record {
   random = random;
 }
 
-abbrev pub issued_by : View → Moment → List ℕ → ReqBody → Presented → Decision Kept → Option Issue
+abbrev pub issued_by : TgsView → Moment → List ℕ → ReqBody → Presented → Decision Kept → Option Issue
 issued_by v at random body p (Refuses refusal) = None
 issued_by v at random body p (Remembers refusal) = None
 issued_by v at random body p (Repeats kept) = None
 issued_by v at random body p (Issues admission) = Some (issue_of v at random body p admission)
 
-abbrev pub issued : View → Moment → List ℕ → ReqBody → Presented → Option Issue
+abbrev pub issued : TgsView → Moment → List ℕ → ReqBody → Presented → Option Issue
 issued v at random body p = issued_by v at random body p (decision v at.sec body p)
 
 -- ---- the law
 
-module _ (v : View) (at : Moment) (random octets : List ℕ) (long : 32 ≤ length random) (body : ReqBody) (p : Presented)
+module _ (v : TgsView) (at : Moment) (random octets : List ℕ) (long : 32 ≤ length random)
+    (body : ReqBody) (p : Presented)
     (issue : Issue) where
   spelled_by : (admission : Admission) → SpelledBy v at random body p (Issues admission) octets
       → OpensFor v at random body p admission → IsIssuedOrError (issue_of v at random body p admission) octets

@@ -6,11 +6,11 @@ use Rattle.krb_fields.specs.PrincipalName.{name}
 use Rattle.krb_fields.specs.Typed.{typed}
 use Rattle.krb_types.specs.ReqBody.{ReqBody}
 use Rattle.tgs_opening.specs.declared.presented.Presented.{Presented}
-use Rattle.tgs_exchange.specs.View.{View}
+use Rattle.tgs_exchange.specs.View.{TgsView}
 
 -- The realm is short, and names that have rows are within the limits; the text of the service's name and of the
 -- ticket's authorization data have less than 2147483648 octets, as a request has.
-pub record IsKnown (v : View) (body : ReqBody) (p : Presented) : Type 0 where
+pub record IsKnown (v : TgsView) (body : ReqBody) (p : Presented) : Type 0 where
   pub realm : length v.realm ≤ 255
   pub client : IfSome v.client (λ row. IsWithinLimits p.ticket.cname.components)
   pub service : IfSome v.service (λ row. IfSome body.sname (λ n. IsWithinLimits n.components))

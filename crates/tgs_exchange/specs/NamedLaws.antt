@@ -16,7 +16,7 @@ use Rattle.refusals.specs.RefusalLaws.{decided_found}
 use Rattle.refusals.specs.Refusals.{Rule, decided}
 use Rattle.ticket_times.specs.declared.times.Times.{Times}
 use Rattle.tgs_opening.specs.declared.presented.Presented.{Presented}
-use Rattle.tgs_exchange.specs.View.{View}
+use Rattle.tgs_exchange.specs.View.{TgsView}
 use Rattle.tgs_exchange.specs.Known.{IsKnown}
 use Rattle.tgs_exchange.specs.Terms.{terms, terms_if, terms_by, admission_of}
 use Rattle.tgs_exchange.specs.declared.terms.Terms.{Terms}
@@ -60,7 +60,8 @@ named_if p types (Some sname) (Some client) None t c s e = absurd cc
 named_if p types (Some sname) None service t c s e = absurd cc
 named_if p types None client service t c s e = absurd cc
 
-decided_named : {R : Type 0} (rules : List (Rule R)) (v : View) (body : ReqBody) (p : Presented) (found : Option Terms)
+decided_named : {R : Type 0} (rules : List (Rule R)) (v : TgsView) (body : ReqBody) (p : Presented)
+    (found : Option Terms)
     (times : Option Times) (otherwise : R) (a : Admission)
     → IsKnown v body p → found ≡ terms v body → decided rules (admission_of found times) otherwise ≡ Ok a
     → IsNamed p v.service a.terms
@@ -70,7 +71,7 @@ decided_named rules v body p found times otherwise a known is e =
     (admitted_terms found times a (decided_found rules (admission_of found times) otherwise a e)))
 
 -- those of what is admitted
-pub admitted_named : {R : Type 0} (rules : List (Rule R)) (v : View) (body : ReqBody) (p : Presented)
+pub admitted_named : {R : Type 0} (rules : List (Rule R)) (v : TgsView) (body : ReqBody) (p : Presented)
     (found : Option Terms) (times : Option Times) (otherwise : R) (r : Result Admission R)
     → IsKnown v body p → found ≡ terms v body → r ≡ decided rules (admission_of found times) otherwise
     → IfOk r (λ a. IsNamed p v.service a.terms)

@@ -31,7 +31,7 @@ use Rattle.tgs_opening.specs.declared.refusal.TgsRefusal.TheVariants.{Authorizat
 use Rattle.tgs_opening.specs.declared.refusal.TgsRefusal.TheVariants.{BadOption, NothingToValidate, ValidatedTooEarly}
 use Rattle.tgs_opening.specs.declared.refusal.TgsRefusal.TheVariants.{RenewedTooLate, NoCommonType, StartsTooLate}
 use Rattle.tgs_opening.specs.declared.refusal.TgsRefusal.TheVariants.{NeverValid}
-use Rattle.tgs_exchange.specs.View.{View}
+use Rattle.tgs_exchange.specs.View.{TgsView}
 use Rattle.ticket_times.specs.declared.times.Times.{Times}
 use Rattle.tgs_exchange.specs.Terms.{terms, admission_of, ticket_terms, times_of}
 use Rattle.tgs_exchange.specs.declared.terms.Admission.{Admission}
@@ -48,7 +48,7 @@ is_before time None = false
 abbrev pub is_ticket_revoked : Option Row → ℤ → Bool
 is_ticket_revoked row authtime = holds_of (λ row. is_before authtime row.policy.revoked_before) row
 
-abbrev pub client_rules : View → ℤ → ℤ → List (Rule TgsRefusal)
+abbrev pub client_rules : TgsView → ℤ → ℤ → List (Rule TgsRefusal)
 client_rules v now authtime =
     (is_none v.client, ClientUnknown)  -- 3.3.3.1
     ∷ (is_disabled v.client, ClientRevoked)  -- 3.3.3.1
@@ -70,7 +70,7 @@ has_ended ticket now = int_lt ticket.endtime (now -ℤ pos skew)
 -- ---- the service
 
 -- the realm isn't ours, no service is named, or it has no row
-abbrev pub is_service_unknown : View → ReqBody → Bool
+abbrev pub is_service_unknown : TgsView → ReqBody → Bool
 is_service_unknown v body = not (pointwise nat_eq body.realm v.realm) || is_none body.sname || is_none v.service
 
 -- it is to be renewed or validated for another service than its own
@@ -116,7 +116,7 @@ starts_late body now = not (keeps_ticket body) && starts_too_late now body
 
 -- of the ticket that is presented and the service that it is for, of what is asked for, by the terms that are found for
 -- that, and by the times of the new ticket
-abbrev pub rules_by : View → ℤ → ReqBody → Presented → Option Terms → Option Times → List (Rule TgsRefusal)
+abbrev pub rules_by : TgsView → ℤ → ReqBody → Presented → Option Terms → Option Times → List (Rule TgsRefusal)
 rules_by v now body p found times =
     let ticket = ticket_terms p.ticket in
     (is_not_yet_valid ticket now body, NotYetValid)  -- 3.2.3
@@ -124,7 +124,7 @@ rules_by v now body p found times =
     ∷ (is_service_unknown v body, ServiceUnknown)  -- 3.3.3
     ∷ (is_disabled v.service, ServiceRevoked)  -- 3.3.3
     ∷ (is_expired v.service now, ServiceExpired)  -- 3.3.3
-    ∷ (is_for_other_service body p.service, OtherService)  -- 3.3.2
+    ∷ (is_for_other_service body p.ticket_service, OtherService)  -- 3.3.2
     ∷ (is_some body.enc_authorization_data, AuthorizationData)  -- 3.3.3
     ∷ (asks_bad_option body ticket, BadOption)  -- 3.3.3
     ∷ (has_nothing_to_validate body ticket, NothingToValidate)  -- 3.3.3
@@ -136,12 +136,12 @@ rules_by v now body p found times =
     ∷ []
 
 -- what is admitted, or the first rule by which nothing is
-abbrev pub admitted_on : View → ℤ → ReqBody → Presented → Option Terms → Option Times → Result Admission TgsRefusal
+abbrev pub admitted_on : TgsView → ℤ → ReqBody → Presented → Option Terms → Option Times → Result Admission TgsRefusal
 admitted_on v now body p found times = decided (rules_by v now body p found times) (admission_of found times) NeverValid
 
-abbrev pub admitted_by : View → ℤ → ReqBody → Presented → Option Terms → Result Admission TgsRefusal
+abbrev pub admitted_by : TgsView → ℤ → ReqBody → Presented → Option Terms → Result Admission TgsRefusal
 admitted_by v now body p found =
     admitted_on v now body p found (times_of v.limits now (ticket_terms p.ticket) body found)
 
-abbrev pub admitted : View → ℤ → ReqBody → Presented → Result Admission TgsRefusal
+abbrev pub admitted : TgsView → ℤ → ReqBody → Presented → Result Admission TgsRefusal
 admitted v now body p = admitted_by v now body p (terms v body)

@@ -10,7 +10,7 @@ use Rattle.principal_rows.specs.declared.row.Row.{Row}
 use Rattle.ticket_times.specs.Times.{tgs_times}
 use Rattle.ticket_times.specs.declared.ticket_terms.TicketTerms.{TicketTerms}
 use Rattle.ticket_times.specs.declared.times.Times.{Times}
-use Rattle.tgs_exchange.specs.View.{View}
+use Rattle.tgs_exchange.specs.View.{TgsView}
 use Rattle.tgs_exchange.specs.declared.terms.Terms.{Terms}
 use Rattle.tgs_exchange.specs.declared.terms.Admission.{Admission}
 
@@ -35,7 +35,7 @@ terms_if types (Some sname) None service = None
 terms_if types None client service = None
 
 -- none where the name or a row is absent, or there is no common type
-abbrev pub terms : View → ReqBody → Option Terms
+abbrev pub terms : TgsView → ReqBody → Option Terms
 terms v body = terms_if body.etype body.sname v.client v.service
 
 -- the times of a ticket by these terms; none where it would end no later than it starts

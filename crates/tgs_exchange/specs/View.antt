@@ -7,7 +7,7 @@ use Rattle.replay.specs.declared.memory.Memory.{Memory}
 
 -- realm and limits, the rows of the ticket's client and of the service that the request names, and what is remembered
 -- of the client
-pub record View : Type 0 where
+pub record TgsView : Type 0 where
   pub realm : List ℕ
   pub limits : Limits
   pub client : Option Row

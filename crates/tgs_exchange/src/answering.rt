@@ -5,7 +5,7 @@ ghost use Rattle.kdc_replies.specs.ErrorReply.{too_big};
 ghost use Rattle.krb_elements.specs.Codec.{written};
 ghost use Rattle.krb_fields.specs.PrincipalName.{name};
 ghost use Rattle.krb_types.specs.KrbError.{krb_error};
-ghost use Rattle.replay.specs.Stamp.{is_skewed};
+ghost use Rattle.replay.specs.Stamp.{is_untimely};
 ghost use Rattle.tgs_exchange.specs.Answer.{answer_by, is_ticket, kept_reply, remembering, repeated, refused};
 ghost use Rattle.tgs_exchange.specs.Answer.{tgs_answer, tgs_error, within_room};
 ghost use Rattle.tgs_exchange.specs.Answer.{Opens, OpensBy, RepeatSpelled, Spelled, SpelledBy};
@@ -52,7 +52,7 @@ pub fn tgs_answer(
     ensures same { IfOk result (λ answer. Opens view.now incoming.now.at incoming.now.random body.now presented.now) }
     // What is to be remembered is neither skewed nor a repeat.
     ensures timely { IfOk result (λ answer.
-        IfSome answer.kept (λ kept. is_skewed view.now.memory.floor incoming.now.at.sec
+        IfSome answer.kept (λ kept. is_untimely view.now.memory.floor incoming.now.at.sec
         presented.now.authenticator.ctime ≡ false)) }
     ensures new { IfOk result (λ answer.
         IfSome answer.kept (λ kept. map.get view.now.memory.pairs (stamp_of presented.now) ≡ None)) }

@@ -13,7 +13,7 @@ ghost use Rattle.tgs_exchange.specs.Terms.{ticket_terms};
 use crate::terms::{Admission, ticket_terms};
 use crate::view::TgsView;
 use enctypes::KeyUsage;
-use kdc_replies::{Asked, Grant, Incoming, ReplyKey, session_key, ticket_reply};
+use kdc_replies::{Grant, Incoming, ReplyInputs, ReplyKey, session_key, ticket_reply};
 use krb_elements::{KerberosStringRef, Lent, Seq};
 use krb_fields::{Flags, Typed};
 use krb_types::ReqBodyRef;
@@ -44,10 +44,11 @@ pub fn tgs_rep(
         OpensFor view.now incoming.now.at incoming.now.random body.now presented.now admission.now) }
 {
     let reply_key = reply_key_of(presented);
-    let asked = Asked {
+    let inputs = ReplyInputs {
         nonce: body.nonce,
         time: incoming.at.time(),
         random: incoming.random,
+        ready: incoming.ready,
     };
     let grant = grant_of(view, incoming.random, body, presented, admission);
     ticket_reply::<13, 26>(
@@ -56,7 +57,7 @@ pub fn tgs_rep(
         &admission.terms.service.key,
         &reply_key,
         None,
-        &asked,
+        &inputs,
     )
 }
 

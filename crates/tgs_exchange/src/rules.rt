@@ -70,7 +70,7 @@ fn rules_by(
         (is_disabled(view.service), TgsRefusal::ServiceRevoked),
         (is_expired(view.service, at), TgsRefusal::ServiceExpired),
         (
-            is_for_other_service(body, &presented.service),
+            is_for_other_service(body, &presented.ticket_service),
             TgsRefusal::OtherService,
         ),
         (

@@ -22,11 +22,17 @@ impl<'a> Model for TgsView<'a> {
     ghost use Rattle.std.specs.Coded.{codes};
     ghost use Rattle.replay.specs.contracts.keep.Kept as kept;
     ghost use Rattle.replay.specs.contracts.memory.Memory as memories;
-    ghost use Rattle.tgs_exchange.specs.View.{View};
+    ghost use Rattle.tgs_exchange.specs.View as trees;
 
-    ghost Value = { View };
+    ghost Value = { trees.TgsView };
 
     ghost coded = { Prim.hlevel (codes, (memories.the_row kept.the_row).coded) };
 
-    ghost view = { λ v. record { realm = v.realm.now; limits = v.limits.now; client = option_copied v.client; service = option_copied v.service; memory = v.memory.now } };
+    ghost view = { λ v. record {
+      realm = v.realm.now;
+      limits = v.limits.now;
+      client = option_copied v.client;
+      service = option_copied v.service;
+      memory = v.memory.now;
+    } };
 }

@@ -12,7 +12,7 @@ use Rattle.tgs_opening.specs.Authenticators.{authenticator_of, session_key_of, s
 use Rattle.tgs_opening.specs.Opening.{presented}
 use Rattle.tgs_opening.specs.PartLaws.{AreFew, few_data}
 use Rattle.tgs_opening.specs.Tickets.{ap_req_in, ap_req_of, request_rules, tgs_data, ticket_of}
-use Rattle.tgs_opening.specs.View.{View}
+use Rattle.tgs_opening.specs.View.{TicketView}
 use Rattle.tgs_opening.specs.declared.refusal.TgsRefusal.{TgsRefusal}
 use Rattle.tgs_opening.specs.declared.refusal.TgsRefusal.TheVariants.{MalformedApReq}
 
@@ -39,7 +39,7 @@ few_presented message ap part read few short within =
     few_data 2147483648 part ap.ticket.enc_part.cipher (cipher_short message ap read few short) within
 
 -- what the last stage refuses is refused
-pub refused_last : (v : View) (message : Received) (ap_req : ApReq) (part : EncTicketPart) (key : Key)
+pub refused_last : (v : TicketView) (message : Received) (ap_req : ApReq) (part : EncTicketPart) (key : Key)
     (auth : Authenticator) (body : List ℕ) (refusal : TgsRefusal)
     → ap_req_of message ≡ Ok ap_req → ticket_of v message.body.value ap_req ≡ Ok part → session_key_of v part ≡ Ok key
     → authenticator_of key ap_req.authenticator ≡ Ok auth → body ≡ message.body.octets

@@ -17,7 +17,7 @@ use Rattle.krb_parts.specs.Authenticator.{Authenticator, authenticator}
 use Rattle.krb_parts.specs.EncTicketPart.{EncTicketPart}
 use Rattle.sealed_parts.specs.Keys.{key_of}
 use Rattle.tgs_opening.specs.Tickets.{is_same, opened_with}
-use Rattle.tgs_opening.specs.View.{View}
+use Rattle.tgs_opening.specs.View.{TicketView}
 use Rattle.tgs_opening.specs.declared.refusal.TgsRefusal.{TgsRefusal}
 use Rattle.tgs_opening.specs.declared.refusal.TgsRefusal.TheVariants.{ForeignClient, BoundAddress, BadSessionKey}
 use Rattle.tgs_opening.specs.declared.refusal.TgsRefusal.TheVariants.{AuthenticatorNotOpened}
@@ -26,14 +26,14 @@ use Rattle.tgs_opening.specs.declared.refusal.TgsRefusal.TheVariants.{BadSubkey}
 
 -- ---- the session key
 
-abbrev pub part_rules : View → EncTicketPart → List (Rule TgsRefusal)
+abbrev pub part_rules : TicketView → EncTicketPart → List (Rule TgsRefusal)
 part_rules v part =
     (not (pointwise nat_eq part.crealm v.realm), ForeignClient)  -- 3.3.3.2
     ∷ (is_some part.caddr, BoundAddress)  -- 3.2.3
     ∷ []
 
 -- the key in the ticket, else the last reason (section 3.2.3)
-abbrev pub session_key_of : View → EncTicketPart → Result Key TgsRefusal
+abbrev pub session_key_of : TicketView → EncTicketPart → Result Key TgsRefusal
 session_key_of v part = decided (part_rules v part) (key_of part.key.number part.key.octets) BadSessionKey
 
 -- ---- the authenticator

@@ -8,25 +8,25 @@ use Rattle.krb_types.specs.KdcReq.{Received}
 use Rattle.refusals.specs.Stages.{◌>>=◌}
 use Rattle.tgs_opening.specs.Authenticators.{session_key_of, authenticator_of, subkey_of}
 use Rattle.tgs_opening.specs.Tickets.{ap_req_of, ticket_of}
-use Rattle.tgs_opening.specs.View.{View}
+use Rattle.tgs_opening.specs.View.{TicketView}
 use Rattle.tgs_opening.specs.declared.presented.Presented.{Presented}
 use Rattle.tgs_opening.specs.declared.refusal.TgsRefusal.{TgsRefusal}
 
 -- an AP-REQ, and what its ticket holds
-pub record Opened : Type 0 where
+pub record OpenedTicket : Type 0 where
   pub request : ApReq
   pub part : EncTicketPart
 
 -- the ticket that is presented, opened
-abbrev pub opened : View → Received → Result Opened TgsRefusal
-opened v message = do
+abbrev pub opened_ticket : TicketView → Received → Result OpenedTicket TgsRefusal
+opened_ticket v message = do
   ap ← ap_req_of message
   part ← ticket_of v message.body.value ap
   Ok (record { request = ap; part = part })
 
-abbrev pub presented_as : Opened → Key → Authenticator → Option Key → Presented
+abbrev pub presented_as : OpenedTicket → Key → Authenticator → Option Key → Presented
 presented_as o key auth subkey = record {
-  service = o.request.ticket.sname;
+  ticket_service = o.request.ticket.sname;
   ticket = o.part;
   session_key = key;
   authenticator = auth;
@@ -34,9 +34,9 @@ presented_as o key auth subkey = record {
 }
 
 -- what the request presents
-abbrev pub presented : View → Received → Result Presented TgsRefusal
+abbrev pub presented : TicketView → Received → Result Presented TgsRefusal
 presented v message = do
-  o ← opened v message
+  o ← opened_ticket v message
   key ← session_key_of v o.part
   auth ← authenticator_of key o.request.authenticator
   subkey ← subkey_of o.part key message.body.octets auth

@@ -29,7 +29,7 @@ use Rattle.principal_rows.specs.declared.row.KeyVersion.{KeyVersion}
 use Rattle.principal_rows.specs.declared.row.Row.{Row}
 use Rattle.principals.specs.Database.{ticket_granter}
 use Rattle.ticket_times.specs.Asked.{keeps_ticket}
-use Rattle.tgs_opening.specs.View.{View}
+use Rattle.tgs_opening.specs.View.{TicketView}
 use Rattle.tgs_opening.specs.declared.refusal.TgsRefusal.{TgsRefusal}
 use Rattle.tgs_opening.specs.declared.refusal.TgsRefusal.TheVariants.{BadVersion, BadMessageType, NoApReq}
 use Rattle.tgs_opening.specs.declared.refusal.TgsRefusal.TheVariants.{MalformedApReq}
@@ -37,7 +37,7 @@ use Rattle.tgs_opening.specs.declared.refusal.TgsRefusal.TheVariants.{BadTicketV
 use Rattle.tgs_opening.specs.declared.refusal.TgsRefusal.TheVariants.{SessionKeyAsked, NotForUs, NoKey, BadKeyVersion}
 use Rattle.tgs_opening.specs.declared.refusal.TgsRefusal.TheVariants.{TicketNotOpened}
 use Rattle.tgs_opening.specs.declared.tickets.Addressee.{Addressee}
-use Rattle.tgs_opening.specs.declared.tickets.Addressee.TheVariants.{Granter, Asked, Other}
+use Rattle.tgs_opening.specs.declared.tickets.Addressee.TheVariants.{Granter, AskedFor, Other}
 
 -- ---- the AP-REQ
 
@@ -81,22 +81,22 @@ is_for_asked body service = keeps_ticket body && is_named body.sname service
 abbrev pub addressee : List ℕ → ReqBody → Name → Addressee
 addressee realm body service =
     if is_for_granter realm service then Granter
-    else if is_for_asked body service then Asked
+    else if is_for_asked body service then AskedFor
     else Other
 
 -- the row whose keys the ticket may be sealed under
-abbrev pub row_of : View → Addressee → Option Row
+abbrev pub row_of : TicketView → Addressee → Option Row
 row_of v Granter = v.granter
-row_of v Asked = v.service
+row_of v AskedFor = v.service
 row_of v Other = None
 
 abbrev pub is_other : Addressee → Bool
 is_other Granter = false
-is_other Asked = false
+is_other AskedFor = false
 is_other Other = true
 
 -- another realm's, or another service's
-abbrev pub is_not_for_us : View → ReqBody → Ticket → Bool
+abbrev pub is_not_for_us : TicketView → ReqBody → Ticket → Bool
 is_not_for_us v body ticket =
     not (pointwise nat_eq ticket.realm v.realm) || is_other (addressee v.realm body ticket.sname)
 
@@ -123,10 +123,10 @@ lacks_version row sealed = is_some sealed.kvno && is_none (ticket_key row sealed
 -- ---- the ticket
 
 -- the row of the service that the ticket is for
-abbrev pub holder : View → ReqBody → Ticket → Option Row
+abbrev pub holder : TicketView → ReqBody → Ticket → Option Row
 holder v body ticket = row_of v (addressee v.realm body ticket.sname)
 
-abbrev pub ticket_rules : View → ReqBody → ApReq → List (Rule TgsRefusal)
+abbrev pub ticket_rules : TicketView → ReqBody → ApReq → List (Rule TgsRefusal)
 ticket_rules v body ap =
     (not (int_eq ap.pvno (pos 5)) || not (int_eq ap.ticket.tkt_vno (pos 5)), BadTicketVersion)  -- 5.5.1, 5.3
     ∷ (not (int_eq ap.msg_type (pos 14)), BadApMessageType)  -- 3.2.3
@@ -142,11 +142,11 @@ opened_with c usage (Some key) cipher = opened_as c key.etype key.bytes usage ci
 opened_with c usage None cipher = None
 
 -- what the ticket holds
-abbrev pub part_of : View → ReqBody → Ticket → Option EncTicketPart
+abbrev pub part_of : TicketView → ReqBody → Ticket → Option EncTicketPart
 part_of v body ticket =
     opened_with enc_ticket_part (usage_number TicketUsage)
     (ticket_key (holder v body ticket) ticket.enc_part) ticket.enc_part.cipher
 
 -- a ticket that is not opened is the last reason (section 3.2.3)
-abbrev pub ticket_of : View → ReqBody → ApReq → Result EncTicketPart TgsRefusal
+abbrev pub ticket_of : TicketView → ReqBody → ApReq → Result EncTicketPart TgsRefusal
 ticket_of v body ap = decided (ticket_rules v body ap) (part_of v body ap.ticket) TicketNotOpened

@@ -3,7 +3,7 @@ use Rattle.std.specs.Prelude.{ℕ, List, Option}
 use Rattle.principal_rows.specs.declared.row.Row.{Row}
 
 -- the realm, and the rows of the ticket-granting service and of the service that the request names
-pub record View : Type 0 where
+pub record TicketView : Type 0 where
   pub realm : List ℕ
   pub granter : Option Row
   pub service : Option Row

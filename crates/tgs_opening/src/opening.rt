@@ -35,7 +35,7 @@ pub fn tgs_open(
     let body = body_octets(request);
     let subkey = subkey_of(&ticket, &session_key, body, &authenticator)?;
     Ok(Presented {
-        service: ap.ticket.sname.to_name(alloc)?,
+        ticket_service: ap.ticket.sname.to_name(alloc)?,
         ticket,
         session_key,
         authenticator,

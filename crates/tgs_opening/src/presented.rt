@@ -7,7 +7,7 @@ use krb_parts::{Authenticator, EncTicketPart};
 #[derive(Debug, Drop)]
 pub struct Presented {
     /// The service that the ticket is for.
-    pub service: Name,
+    pub ticket_service: Name,
     pub ticket: EncTicketPart,
     pub session_key: Key,
     pub authenticator: Authenticator,

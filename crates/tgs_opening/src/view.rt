@@ -1,4 +1,5 @@
 //! What a ticket is opened from, beside the request.
+use enctypes::ReadyKey;
 use principal_rows::Row;
 use std::marker::Model;
 
@@ -11,13 +12,19 @@ pub struct TicketView<'a> {
     pub granter: Option<&'a Row>,
     /// The row of the service that is asked for, where it has one.
     pub service: Option<&'a Row>,
+    /// A key that is kept ready for the tickets of its service. It saves time alone: contracts don't see it.
+    pub ready: &'a Option<ReadyKey>,
 }
 
 impl<'a> Model for TicketView<'a> {
     ghost use Rattle.std.specs.Prelude.{option_copied};
-    ghost use Rattle.tgs_opening.specs.View.{View};
+    ghost use Rattle.tgs_opening.specs.View as trees;
 
-    ghost Value = { View };
+    ghost Value = { trees.TicketView };
 
-    ghost view = { λ v. record { realm = v.realm.now; granter = option_copied v.granter; service = option_copied v.service } };
+    ghost view = { λ v. record {
+      realm = v.realm.now;
+      granter = option_copied v.granter;
+      service = option_copied v.service;
+    } };
 }

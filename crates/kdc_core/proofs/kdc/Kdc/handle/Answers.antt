@@ -3,7 +3,7 @@ use Rattle.kdc_state.specs.declared.state.State.{State}
 use Rattle.kdc_state.specs.State.{memory_of}
 use Rattle.kdc_core.proofs.Frame.{database_kept, limits_kept, other_kept, of_either}
 use Rattle.kdc_core.specs.AgreementLaws.{names_agree, next_agrees, view_agrees}
-use Rattle.kdc_core.specs.Answer.{answer, next}
+use Rattle.kdc_core.specs.Answer.{answer, after_request}
 use Rattle.kdc_core.specs.Issued.{IsReplyOf, issued, replies_issued}
 use Rattle.kdc_core.specs.Request.{request_of}
 use Rattle.kdc_core.specs.RequestLaws.{request_is}
@@ -27,7 +27,7 @@ returns-clause-database c =
     let state = c.self.inside.state in
     let bytes = c.args.request.now in
     let is : state ≡ c.args.self.now = search rules in
-    of_either c.handle.result state c.handle.new.state (next state c.args.at c.args.random.now c.args.room bytes) (λ s. s.database) c.handle.ensures.state c.handle.ensures.err
+    of_either c.handle.result state c.handle.new.state (after_request state c.args.at c.args.random.now c.args.room bytes) (λ s. s.database) c.handle.ensures.state c.handle.ensures.err
     (database_kept state (named state bytes).client (answer (view state bytes) c.args.at c.args.random.now c.args.room bytes).kept)
     ∙ ap (λ s. s.database) is
 
@@ -36,7 +36,7 @@ returns-clause-limits c =
     let state = c.self.inside.state in
     let bytes = c.args.request.now in
     let is : state ≡ c.args.self.now = search rules in
-    of_either c.handle.result state c.handle.new.state (next state c.args.at c.args.random.now c.args.room bytes) (λ s. s.limits) c.handle.ensures.state c.handle.ensures.err
+    of_either c.handle.result state c.handle.new.state (after_request state c.args.at c.args.random.now c.args.room bytes) (λ s. s.limits) c.handle.ensures.state c.handle.ensures.err
     (limits_kept state (named state bytes).client (answer (view state bytes) c.args.at c.args.random.now c.args.room bytes).kept)
     ∙ ap (λ s. s.limits) is
 
@@ -45,7 +45,7 @@ returns-clause-memories c name other =
     let state = c.self.inside.state in
     let bytes = c.args.request.now in
     let is : state ≡ c.args.self.now = search rules in
-    of_either c.handle.result state c.handle.new.state (next state c.args.at c.args.random.now c.args.room bytes) (λ s. memory_of s name) c.handle.ensures.state c.handle.ensures.err
+    of_either c.handle.result state c.handle.new.state (after_request state c.args.at c.args.random.now c.args.room bytes) (λ s. memory_of s name) c.handle.ensures.state c.handle.ensures.err
     (other_kept state (named state bytes).client (answer (view state bytes) c.args.at c.args.random.now c.args.room bytes).kept name
     (subst (λ (s : State). (named s bytes).client ≢ Some name) (sym is) other))
     ∙ ap (λ s. memory_of s name) is

@@ -7,4 +7,4 @@ use Rattle.kdc_state.proofs.state.State.restart.Goals as goal
 
 pub returns-clause-memories : goal.returns-clause-memories
 returns-clause-memories c name =
-    ap (λ m. unwrap_or (get m name) (memories.restarted c.args.at.sec)) c.clear.ensures ∙ ap (λ o. unwrap_or o (memories.restarted c.args.at.sec)) (get-empty name_cmp name)
+    ap (λ m. unwrap_or (get m name) (memories.restarted_memory c.args.at.sec)) c.clear.ensures ∙ ap (λ o. unwrap_or o (memories.restarted_memory c.args.at.sec)) (get-empty name_cmp name)

@@ -1,7 +1,7 @@
 use Rattle.std.proofs.Common.{◌≡◌, Err, inr, rules}
 use Rattle.kdc_script.specs.declared.run.Stop.TheVariants.{Fault}
 use Rattle.kdc_script.proofs.Running.{run_goes_on, run_ends, run_stops_beyond, run_stops_at_text}
-use Rattle.kdc_script.proofs.run.run_lines.Goals as goal
+use Rattle.kdc_script.proofs.run.run_on.Goals as goal
 
 pub returns-in_err-next_line-clause-fault : goal.returns-in_err-next_line-clause-fault
 returns-in_err-next_line-clause-fault g c = λ is.

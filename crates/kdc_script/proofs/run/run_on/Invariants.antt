@@ -1,7 +1,7 @@
 use Rattle.std.proofs.Common.{◌-◌, ◌≤◌}
 use Rattle.kdc_script.specs.Octets.{octets_of}
 use Rattle.kdc_script.proofs.Running.{HasRun}
-use Rattle.kdc_script.proofs.run.run_lines.Given as goal
+use Rattle.kdc_script.proofs.run.run_on.Given as goal
 
 -- what may still be read
 abbrev pub decreases-loop-line : goal.decreases-loop-line
