@@ -332,7 +332,7 @@ one_ticket_sent start turns follow c =
 -- ---- one process
 
 abbrev GoesOn : KdcEvent → Type 0
-GoesOn (Request at words room request) = ⊤
+GoesOn (Request at random room request) = ⊤
 GoesOn (Change change) = ⊥
 GoesOn (Replace database) = ⊤
 GoesOn (Restart at) = ⊥
@@ -385,7 +385,7 @@ turns_ask start (turn ∷ turns) one = both_go_on (turn_events start turn) _ (tu
 
 from_any : (now : ℤ) (events : List KdcEvent) → AllGoOn events → RestartsFrom now events
 from_any now [] a = tt
-from_any now (Request at words room request ∷ events) a = from_any now events a.1
+from_any now (Request at random room request ∷ events) a = from_any now events a.1
 from_any now (Change change ∷ events) a = absurd a.0
 from_any now (Replace database ∷ events) a = from_any now events a.1
 from_any now (Restart at ∷ events) a = absurd a.0
@@ -393,7 +393,7 @@ from_any now (Reopen database limits at ∷ events) a = absurd a.0
 
 follow_any : (events : List KdcEvent) → AllGoOn events → RestartsFollow events
 follow_any [] a = tt
-follow_any (Request at words room request ∷ events) a = (from_any at.sec events a.1, follow_any events a.1)
+follow_any (Request at random room request ∷ events) a = (from_any at.sec events a.1, follow_any events a.1)
 follow_any (Change change ∷ events) a = absurd a.0
 follow_any (Replace database ∷ events) a = follow_any events a.1
 follow_any (Restart at ∷ events) a = absurd a.0

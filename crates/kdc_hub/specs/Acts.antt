@@ -22,12 +22,15 @@ faults_by Ended = 1
 -- what one act leaves
 abbrev pub IsAct : ActOutcome → Option (List Did) → Standing → Moment → Action → Option (List Did) → Standing → Type 0
 IsAct Done before hub at action after new = Tells before (Acted action ∷ []) after × (new ≡ hub)
-IsAct Dropped before hub at action after new = Tells before (Failed action ∷ []) after × (action_connection action ≡ None) × (new ≡ hub)
+IsAct Dropped before hub at action after new =
+    Tells before (Failed action ∷ []) after × (action_connection action ≡ None) × (new ≡ hub)
 IsAct Ended before hub at action after new =
-    (conn : ℕ) × Tells before (Failed action ∷ []) after × (action_connection action ≡ Some conn) × (new ≡ (hub_step hub at (Closed conn)).hub)
+    (conn : ℕ) × Tells before (Failed action ∷ []) after × (action_connection action ≡ Some conn)
+    × (new ≡ (hub_step hub at (Closed conn)).hub)
 
 -- what the acts of a list of actions leave
-pub record AreActs (before : Option (List Did)) (start : Standing) (at : Moment) (actions : List Action) (failed : ℕ) (after : Option (List Did)) (new : Standing) : Type 0 where
+pub record AreActs (before : Option (List Did)) (start : Standing) (at : Moment) (actions : List Action) (failed : ℕ)
+    (after : Option (List Did)) (new : Standing) : Type 0 where
   pub did : List Did
   pub lost : Option ℕ
   pub tries : Tries actions did lost
@@ -36,7 +39,8 @@ pub record AreActs (before : Option (List Did)) (start : Standing) (at : Moment)
   pub faults : failed ≡ count_by is_fault did
 
 -- what an event that came leaves, after its poll
-pub record IsTaken (before : Option (List Did)) (start : Standing) (at : Moment) (event : Event) (served : Served) (after : Option (List Did)) (new : Standing) : Type 0 where
+pub record IsTaken (before : Option (List Did)) (start : Standing) (at : Moment) (event : Event) (served : Served)
+    (after : Option (List Did)) (new : Standing) : Type 0 where
   pub stop : Option Stop
   pub acts : Tried
   pub close : Tried
@@ -45,4 +49,5 @@ pub record IsTaken (before : Option (List Did)) (start : Standing) (at : Moment)
   pub hub : new ≡ (logged start (entries_of (Took (record { at = at; event = event; stop = stop }) acts close))).hub
   pub events : served.events ≡ 1
   pub faults : served.faults ≡ count_by is_fault (acts.did ++ close.did)
-  pub refused : served.refused ≡ count_by is_refused (entries_of (Took (record { at = at; event = event; stop = stop }) acts close))
+  pub refused : served.refused
+      ≡ count_by is_refused (entries_of (Took (record { at = at; event = event; stop = stop }) acts close))

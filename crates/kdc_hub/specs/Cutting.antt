@@ -23,7 +23,8 @@ pub record SameReplies (a b : Log) : Type 0 where
 
 -- Runs that complete the same give the same replies.
 abbrev pub RepliesAreSame : Type 0
-RepliesAreSame = (start : Standing) (es fs : List Happening) → all_works start es ≡ all_works start fs → SameReplies (logged start (entries es)) (logged start (entries fs))
+RepliesAreSame = (start : Standing) (es fs : List Happening) → all_works start es ≡ all_works start fs
+    → SameReplies (logged start (entries es)) (logged start (entries fs))
 
 -- The same actions in the same order, and afterwards the same hub.
 pub record SameRun (a b : Log) : Type 0 where
@@ -37,4 +38,5 @@ piece_at at conn piece = record { at = at; event = Bytes conn piece; stop = None
 -- In the midst of any run a piece may come in two.
 abbrev pub IsSameInTwoPieces : Type 0
 IsSameInTwoPieces = (start : Standing) (earlier later : List Entry) (at : Moment) (conn : ℕ) (first second : List ℕ)
-    → SameRun (logged start (earlier ++ piece_at at conn (first ++ second) ∷ later)) (logged start (earlier ++ piece_at at conn first ∷ piece_at at conn second ∷ later))
+    → SameRun (logged start (earlier ++ piece_at at conn (first ++ second) ∷ later))
+    (logged start (earlier ++ piece_at at conn first ∷ piece_at at conn second ∷ later))

@@ -1,5 +1,6 @@
 -- What a server lives through, and what that is in the one run of its key distribution centre.
-use Rattle.std.specs.Prelude.{◌≡◌, ℕ, ⊤, zero, suc, Bool, List, [], ◌∷◌, ◌++◌, length, map as map_list, take, Option, Some, None, if◌then◌else◌, IsTrue}
+use Rattle.std.specs.Prelude.{◌≡◌, ℕ, ⊤, zero, suc, Bool, List, [], ◌∷◌, ◌++◌, length, map as map_list, take, Option}
+use Rattle.std.specs.Prelude.{Some, None, if◌then◌else◌, IsTrue}
 use Rattle.std.specs.FinMap as map
 use Rattle.std.specs.List.{AllByRecursion, flat_map}
 use Rattle.rand_core.specs.Stream.{Stream, fill_bytes}
@@ -11,7 +12,7 @@ use Rattle.principals.specs.Database.{Principals, ticket_granter}
 use Rattle.replay.specs.declared.opening.Opening.TheVariants.{Restart}
 use Rattle.replay.specs.Run.{OneForEach, with_any}
 use Rattle.replay.specs.Stamp.{Stamp}
-use Rattle.kdc_state.specs.State.{opened}
+use Rattle.kdc_state.specs.State.{opened_state}
 use Rattle.kdc_state.specs.declared.state.State.{State}
 use Rattle.kdc_core.specs.Run.{after_event, replaced, replies, run}
 use Rattle.kdc_core.specs.Struck.{AgreesFor, Names, ServicesWithin, is_request, is_request_of, strike}
@@ -58,7 +59,8 @@ event_requests hub at (Closed conn) = []
 abbrev pub stopped_requests : Standing → Moment → Event → ℕ → List KdcEvent
 stopped_requests hub at (Datagram peer request) done = []
 stopped_requests hub at (Opened conn) done = []
-stopped_requests hub at (Bytes conn piece) done = take done (piece_requests hub.issuing at piece (map.get hub.connections conn))
+stopped_requests hub at (Bytes conn piece) done =
+    take done (piece_requests hub.issuing at piece (map.get hub.connections conn))
 stopped_requests hub at (Closed conn) done = []
 
 abbrev pub requests_by : Option Stop → Standing → Moment → Event → List KdcEvent
@@ -75,7 +77,8 @@ reply_in (SendTo peer message) = Some message
 reply_in (Write conn message) = Some message
 reply_in (Close conn) = None
 
--- the replies to so many requests: each action sends one or none, in order, and a request for which there is no action has none
+-- the replies to so many requests: each action sends one or none, in order,
+-- and a request for which there is no action has none
 unfoldable pub replies_by : ℕ → List Action → List (Option (List ℕ))
 replies_by zero actions = []
 replies_by (suc n) [] = None ∷ replies_by n []
@@ -90,7 +93,8 @@ answers (Closed conn) replies = []
 
 -- ---- histories
 
--- an event's step; another database; or the end of the process, and the beginning of another, with a generator of its own
+-- an event's step; another database; or the end of the process,
+-- and the beginning of another, with a generator of its own
 pub data Turn : Type 0 where
   Stepped : Entry → Turn
   Replaced : Principals → Turn
@@ -99,9 +103,10 @@ pub data Turn : Type 0 where
 -- the hub afterwards
 abbrev pub after_turn : Standing → Turn → Standing
 after_turn hub (Stepped entry) = (step_of hub entry).hub
-after_turn hub (Replaced database) = record hub { issuing = record hub.issuing { kdc = replaced hub.issuing.kdc database } }
+after_turn hub (Replaced database) =
+    record hub { issuing = record hub.issuing { kdc = replaced hub.issuing.kdc database } }
 after_turn hub (Reopened database limits at random) = record {
-  issuing = record { kdc = opened database limits (Restart at); random = random };
+  issuing = record { kdc = opened_state database limits (Restart at); random = random };
   connections = map.empty;
 }
 
@@ -136,10 +141,11 @@ pub record Begins {X : Type 0} (front whole : List X) : Type 0 where
 
 -- The first actions of a step send its replies, in order, each to who asked.
 abbrev pub AnswersWhoAsked : Type 0
-AnswersWhoAsked = (hub : Standing) (entry : Entry) → Begins (answers entry.event (turn_replies hub (Stepped entry))) (step_of hub entry).actions
+AnswersWhoAsked = (hub : Standing) (entry : Entry)
+    → Begins (answers entry.event (turn_replies hub (Stepped entry))) (step_of hub entry).actions
 
--- The replies that a hub sends, and its key distribution centre in the end, are those of one run over the requests that came
--- whole, the replacements and the restarts, in their order.
+-- The replies that a hub sends, and its key distribution centre in the end, are those of one run over the requests that
+-- came whole, the replacements and the restarts, in their order.
 pub record IsOneRun (start : Standing) (turns : List Turn) : Type 0 where
   pub replies_are : replies_in start turns ≡ replies start.issuing.kdc (events_in start turns)
   pub kdc_is : (after_turns start turns).issuing.kdc ≡ run start.issuing.kdc (events_in start turns)
@@ -149,22 +155,25 @@ abbrev pub chosen : (State → KdcEvent → Bool) → State → List KdcEvent �
 chosen test state [] replies = []
 chosen test state (event ∷ events) [] = []
 chosen test state (event ∷ events) (reply ∷ replies) =
-    if test state event then reply ∷ chosen test (after_event state event) events replies else chosen test (after_event state event) events replies
+    if test state event then reply ∷ chosen test (after_event state event) events replies
+    else chosen test (after_event state event) events replies
 
 -- the replies that are sent to the requests that pass a test
 abbrev pub sent_to : (State → KdcEvent → Bool) → Standing → List Turn → List (Option (List ℕ))
 sent_to test start turns = chosen test start.issuing.kdc (events_in start turns) (replies_in start turns)
 
-pub record AreServedAlike (c : Components) (S : Names) (start other : Standing) (turns others : List Turn) : Type 0 where
+pub record AreServedAlike (c : Components) (S : Names) (start other : Standing) (turns others : List Turn)
+    : Type 0 where
   pub replies : sent_to is_request other others ≡ sent_to (is_request_of c) start turns
   pub afterwards : AgreesFor c S (after_turns start turns).issuing.kdc (after_turns other others).issuing.kdc
 
--- What others send, over whatever connections and cut however, never changes what a client gets. In a second history nothing
--- comes whole but the requests of c, each at its moment and with its draw, whoever brings it and however it is cut; the
--- replacements and restarts are the same. Then c's requests get the same replies there, in order.
+-- What others send, over whatever connections and cut however, never changes what a client gets. In a second history
+-- nothing comes whole but the requests of c, each at its moment and with its draw, whoever brings it and however it is
+-- cut; the replacements and restarts are the same. Then c's requests get the same replies there, in order.
 abbrev pub ServesAlikeFrom : Standing → List Turn → Type 0
 ServesAlikeFrom start turns = (other : Standing) (others : List Turn) (c : Components) (S : Names)
-    → IsTrue (S (ticket_granter start.issuing.kdc.database.realm)) → ServicesWithin c S start.issuing.kdc (events_in start turns) → AgreesFor c S start.issuing.kdc other.issuing.kdc
+    → IsTrue (S (ticket_granter start.issuing.kdc.database.realm))
+    → ServicesWithin c S start.issuing.kdc (events_in start turns) → AgreesFor c S start.issuing.kdc other.issuing.kdc
     → events_in other others ≡ strike c S start.issuing.kdc (events_in start turns)
     → AreServedAlike c S start other turns others
 
@@ -175,11 +184,13 @@ pub record GetsTheSame (c : Components) (S : Names) (start other : Standing) (tu
   pub replies : sent_to (is_request_of c) other others ≡ sent_to (is_request_of c) start turns
   pub afterwards : AgreesFor c S (after_turns start turns).issuing.kdc (after_turns other others).issuing.kdc
 
--- The same of two histories in either of which others send what they like: c's requests in them are the same, each at its
--- moment and with its draw, and so are the replacements and restarts.
+-- The same of two histories in either of which others send what they like: c's requests in them are the same, each at
+-- its moment and with its draw, and so are the replacements and restarts.
 abbrev pub UnaffectedFrom : Standing → List Turn → Type 0
 UnaffectedFrom start turns = (other : Standing) (others : List Turn) (c : Components) (S : Names)
-    → IsTrue (S (ticket_granter start.issuing.kdc.database.realm)) → ServicesWithin c S start.issuing.kdc (events_in start turns) → ServicesWithin c S other.issuing.kdc (events_in other others)
+    → IsTrue (S (ticket_granter start.issuing.kdc.database.realm))
+    → ServicesWithin c S start.issuing.kdc (events_in start turns)
+    → ServicesWithin c S other.issuing.kdc (events_in other others)
     → AgreesFor c S start.issuing.kdc other.issuing.kdc
     → strike c S other.issuing.kdc (events_in other others) ≡ strike c S start.issuing.kdc (events_in start turns)
     → GetsTheSame c S start other turns others
@@ -187,19 +198,23 @@ UnaffectedFrom start turns = (other : Standing) (others : List Turn) (c : Compon
 abbrev pub Unaffected : Type 0
 Unaffected = (start : Standing) (turns : List Turn) → UnaffectedFrom start turns
 
--- the tickets that replies to a run's events bring to the client c, each with the time of the authenticator that bought it
+-- the tickets that replies to a run's events bring to the client c,
+-- each with the time of the authenticator that bought it
 abbrev pub tickets_among : Components → State → List KdcEvent → List (Option (List ℕ)) → List (Stamp × List ℕ)
 tickets_among c state [] replies = []
 tickets_among c state (event ∷ events) [] = []
-tickets_among c state (event ∷ events) (reply ∷ replies) = with_any (ticket_for c state event reply) (tickets_among c (after_event state event) events replies)
+tickets_among c state (event ∷ events) (reply ∷ replies) =
+    with_any (ticket_for c state event reply) (tickets_among c (after_event state event) events replies)
 
 -- those that are sent
 abbrev pub tickets_sent : Components → Standing → List Turn → List (Stamp × List ℕ)
 tickets_sent c start turns = tickets_among c start.issuing.kdc (events_in start turns) (replies_in start turns)
 
--- No authenticator buys two different tickets, over whatever connections it comes, through replacements and restarts too.
+-- No authenticator buys two different tickets, over whatever connections it comes,
+-- through replacements and restarts too.
 abbrev pub OneTicketSent : Type 0
-OneTicketSent = (start : Standing) (turns : List Turn) → RestartsFollow (events_in start turns) → (c : Components) → OneForEach (tickets_sent c start turns)
+OneTicketSent = (start : Standing) (turns : List Turn) → RestartsFollow (events_in start turns) → (c : Components)
+    → OneForEach (tickets_sent c start turns)
 
 -- a turn of a process that goes on
 abbrev pub IsOfOneProcess : Turn → Type 0
@@ -209,4 +224,5 @@ IsOfOneProcess (Reopened database limits at random) = ⊥
 
 -- While one process serves, nothing is asked of moments.
 abbrev pub OneTicketInProcess : Type 0
-OneTicketInProcess = (start : Standing) (turns : List Turn) → AllByRecursion IsOfOneProcess turns → (c : Components) → OneForEach (tickets_sent c start turns)
+OneTicketInProcess = (start : Standing) (turns : List Turn) → AllByRecursion IsOfOneProcess turns → (c : Components)
+    → OneForEach (tickets_sent c start turns)

@@ -1,5 +1,6 @@
 -- What a hub does at an event.
-use Rattle.std.specs.Prelude.{◌≡◌, ◌≤◌, ◌+◌, ℕ, Bool, true, false, List, [], ◌∷◌, length, take, Option, Some, None, Result, Ok, Err, nat_lt, if◌then◌else◌, Vec}
+use Rattle.std.specs.Prelude.{◌≡◌, ◌≤◌, ◌+◌, ℕ, Bool, true, false, List, [], ◌∷◌, length, take, Option, Some, None}
+use Rattle.std.specs.Prelude.{Result, Ok, Err, nat_lt, if◌then◌else◌, Vec}
 use Rattle.std.specs.Global.{Global}
 use Rattle.std.specs.Ordering.{nat_cmp}
 use Rattle.std.specs.FinMap as map
@@ -52,7 +53,10 @@ abbrev pub opened : Standing → ℕ → Step
 opened hub conn =
     if map.contains_key hub.connections conn then nothing hub
     else if nat_lt (map.len hub.connections) most_connections
-    then record { actions = []; hub = record hub { connections = map.insert hub.connections conn (started greatest_request) } }
+    then record {
+      actions = [];
+      hub = record hub { connections = map.insert hub.connections conn (started greatest_request) };
+    }
     else record { actions = Close conn ∷ []; hub = hub }
 
 -- a connection that stays keeps what is left of its stream
@@ -75,7 +79,10 @@ hub_step hub at (Datagram peer request) = record {
 }
 hub_step hub at (Opened conn) = opened hub conn
 hub_step hub at (Bytes conn piece) = brings hub at conn piece (map.get hub.connections conn)
-hub_step hub at (Closed conn) = record { actions = []; hub = record hub { connections = map.remove hub.connections conn } }
+hub_step hub at (Closed conn) = record {
+  actions = [];
+  hub = record hub { connections = map.remove hub.connections conn };
+}
 
 -- Want of memory: the step ends after so many actions and draws, and its connection is taken out.
 
@@ -84,11 +91,16 @@ requests_of piece (Some s) = (handed_out (fed s piece)).messages
 requests_of piece None = []
 
 abbrev pub stopped_issuing : Issuing → Moment → List (List ℕ) → ℕ → ℕ → Issuing
-stopped_issuing i at requests done draws = record { kdc = (after_some done i at requests).kdc; random = drawn draws i.random }
+stopped_issuing i at requests done draws = record {
+  kdc = (after_some done i at requests).kdc;
+  random = drawn draws i.random;
+}
 
 abbrev pub stopped : Standing → Moment → Event → ℕ → ℕ → Step
-stopped hub at (Datagram peer request) done draws = nothing (record hub { issuing = stopped_issuing hub.issuing at [] done draws })
-stopped hub at (Opened conn) done draws = nothing (record hub { issuing = stopped_issuing hub.issuing at [] done draws })
+stopped hub at (Datagram peer request) done draws =
+    nothing (record hub { issuing = stopped_issuing hub.issuing at [] done draws })
+stopped hub at (Opened conn) done draws =
+    nothing (record hub { issuing = stopped_issuing hub.issuing at [] done draws })
 stopped hub at (Bytes conn piece) done draws = record {
   actions = take done (hub_step hub at (Bytes conn piece)).actions;
   hub = record {
@@ -110,7 +122,8 @@ AreDraws fault = (length fault.done.items ≤ fault.draws) × (fault.draws ≤ l
 
 -- what a step returned, and the hub afterwards
 abbrev pub Steps : Standing → Moment → Event → Result (Vec Action Global) HubFault → Standing → Type 0
-Steps hub at event (Ok actions) new = (actions.items ≡ (hub_step hub at event).actions) × (new ≡ (hub_step hub at event).hub)
+Steps hub at event (Ok actions) new =
+    (actions.items ≡ (hub_step hub at event).actions) × (new ≡ (hub_step hub at event).hub)
 Steps hub at event (Err fault) new =
     (fault.done.items ≡ (stopped hub at event (length fault.done.items) fault.draws).actions)
     × (new ≡ (stopped hub at event (length fault.done.items) fault.draws).hub)

@@ -5,7 +5,7 @@ use Rattle.krb_fields.specs.declared.moment.Moment.{Moment}
 use Rattle.krb_fields.specs.declared.code.Code.TheVariants.{KrbErrFieldToolong}
 use Rattle.kdc_state.specs.declared.state.State.{State}
 use Rattle.kdc_core.specs.View.{view}
-use Rattle.kdc_core.specs.Answer.{answer, error_octets, next}
+use Rattle.kdc_core.specs.Answer.{answer, error_octets, after_request}
 use Rattle.kdc_hub.specs.declared.issuer.Issuer.{Issuer}
 
 -- the state, and all that the generator will give
@@ -22,7 +22,7 @@ reply_of i at room request = (answer (view i.kdc request) at (fill_bytes 64 i.ra
 
 unfoldable pub after : Issuing → Moment → ℕ → List ℕ → Issuing
 after i at room request = record {
-  kdc = next i.kdc at (fill_bytes 64 i.random).0 room request;
+  kdc = after_request i.kdc at (fill_bytes 64 i.random).0 room request;
   random = (fill_bytes 64 i.random).1;
 }
 

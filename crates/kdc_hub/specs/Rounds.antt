@@ -29,7 +29,8 @@ unfoldable pub Tries : List Action → List Did → Option ℕ → Type 0
 Tries [] did lost = (did ≡ []) × (lost ≡ None)
 Tries (action ∷ actions) did lost =
     ((others : List Did) × (did ≡ Acted action ∷ others) × Tries actions others lost)
-    ⊎ ((others : List Did) × (did ≡ Failed action ∷ others) × after_failure (action_connection action) (Tries actions others lost) others lost)
+    ⊎ ((others : List Did) × (did ≡ Failed action ∷ others)
+    × after_failure (action_connection action) (Tries actions others lost) others lost)
 
 pub record Tried : Type 0 where
   pub did : List Did
@@ -82,8 +83,10 @@ AreRounds hub (round ∷ rounds) = IsRound hub round × AreRounds (logged hub (e
 abbrev pub is_refused : Entry → Bool
 is_refused entry = is_some entry.stop
 
--- A run of so many rounds: what the Wire told before and afterwards, the hub before and afterwards, and what was counted.
-pub record IsRun (before : Option (List Did)) (start : Standing) (n : ℕ) (served : Served) (after : Option (List Did)) (new : Standing) : Type 0 where
+-- A run of so many rounds: what the Wire told before and afterwards, the hub before and afterwards,
+-- and what was counted.
+pub record IsRun (before : Option (List Did)) (start : Standing) (n : ℕ) (served : Served) (after : Option (List Did))
+    (new : Standing) : Type 0 where
   pub rounds : List Round
   pub each : AreRounds start rounds
   pub many : length rounds ≡ n

@@ -21,7 +21,11 @@ stream_room = 131072
 -- after the last message: less than a whole one, or a faulty length
 abbrev pub ending_step : Issuing → Moment → ℕ → Option FrameFault → StreamStep
 ending_step i at conn None = record { actions = []; issuing = i; stays = true }
-ending_step i at conn (Some fault) = record { actions = Write conn (too_long i.kdc at) ∷ Close conn ∷ []; issuing = i; stays = false }
+ending_step i at conn (Some fault) = record {
+  actions = Write conn (too_long i.kdc at) ∷ Close conn ∷ [];
+  issuing = i;
+  stays = false;
+}
 
 -- a request without a reply ends the connection
 abbrev pub reply_then : ℕ → Option (List ℕ) → Issuing → StreamStep → StreamStep
@@ -52,7 +56,8 @@ unfoldable pub after_some : ℕ → Issuing → Moment → List (List ℕ) → I
 after_some zero i at requests = i
 after_some (suc n) i at [] = i
 after_some (suc n) i at (request ∷ requests) =
-    after_reply (reply_of i at stream_room request) (after i at stream_room request) (after_some n (after i at stream_room request) at requests)
+    after_reply (reply_of i at stream_room request) (after i at stream_room request)
+    (after_some n (after i at stream_room request) at requests)
 
 -- the generator after so many draws of 64 octets
 unfoldable pub drawn : ℕ → Stream → Stream

@@ -37,10 +37,12 @@ unfoldable pub stream_works : Issuing → Moment → ℕ → Option FrameFault �
 stream_works i at conn fault [] = fault_works at conn fault
 stream_works i at conn fault (request ∷ requests) =
     record { at = at; work = Requested conn request }
-    ∷ others_if (reply_of i at stream_room request) (stream_works (after i at stream_room request) at conn fault requests)
+    ∷ others_if (reply_of i at stream_room request)
+    (stream_works (after i at stream_room request) at conn fault requests)
 
 abbrev pub piece_works : Issuing → Moment → ℕ → List ℕ → Option Splitting → List Timed
-piece_works i at conn piece (Some s) = stream_works i at conn (handed_out (fed s piece)).fault (handed_out (fed s piece)).messages
+piece_works i at conn piece (Some s) =
+    stream_works i at conn (handed_out (fed s piece)).fault (handed_out (fed s piece)).messages
 piece_works i at conn piece None = []
 
 -- what an event completes

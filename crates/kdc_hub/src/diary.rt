@@ -20,9 +20,12 @@ impl Diary {
         }
     }
 
-    /// Writes down what was done. Where there was no memory to copy it, or is none to keep it, the diary isn't whole any more.
+    /// Writes down what was done. Where there was no memory to copy it, or is none to keep it, the diary isn't whole
+    /// any more.
     pub fn keep(&mut self, did: Result<Did, AllocError>)
-        ensures tells { IfOk did (λ did. Tells (kept self.old.is_whole self.old.did.items) (did ∷ []) (kept self.new.is_whole self.new.did.items)) }
+        ensures tells { IfOk did
+            (λ did. Tells (kept self.old.is_whole self.old.did.items) (did ∷ [])
+            (kept self.new.is_whole self.new.did.items)) }
         ensures lost { OnErr did (self.new.is_whole ≡ false) }
     {
         let Ok(did) = did else {

@@ -2,7 +2,7 @@
 ghost use Rattle.std.specs.Prelude.{◌≡◌, ◌↔◌, ℕ, List, ◌∷◌, [], Some, IfOk, IfErr, IsOk, OnErr};
 ghost use Rattle.std.specs.FinMap as map;
 ghost use Rattle.kdc_hub.specs.History.{Reopened, Replaced, after_turn};
-ghost use Rattle.kdc_state.specs.State.{opened};
+ghost use Rattle.kdc_state.specs.State.{opened_state};
 ghost use Rattle.krb_fields.specs.declared.moment.Moment as moments;
 ghost use Rattle.principal_rows.specs.declared.limits.Limits.{Limits};
 ghost use Rattle.principals.specs.Database.{Principals};
@@ -47,7 +47,8 @@ impl<R: Rng> Hub<R> {
         ensures random { (standing R.stream result).issuing.random ≡ R.stream rng }
         ensures connections { (standing R.stream result).connections ≡ map.empty }
         // Over a centre that opens again it is the hub of a process that begins, whatever there was before.
-        ensures reopened { (before : Standing) (database : Principals) (limits : Limits) (at : moments.Moment) → kdc ≡ opened database limits (Restart at)
+        ensures reopened { (before : Standing) (database : Principals) (limits : Limits) (at : moments.Moment)
+            → kdc ≡ opened_state database limits (Restart at)
             → standing R.stream result ≡ after_turn before (Reopened database limits at (R.stream rng)) }
     {
         Hub {
@@ -66,12 +67,14 @@ impl<R: Rng> Hub<R> {
         self.issuer.kdc.replace(database)
     }
 
-    /// What an event asks for: the actions, in order. A connection is served until a request gets no reply, or a length is
-    /// at fault; then it is closed, and what else came on it is dropped. Where memory is wanting, the step ends after the
-    /// actions that are done, and the event's connection is taken out.
+    /// What an event asks for: the actions, in order. A connection is served until a request gets no reply, or a length
+    /// is at fault; then it is closed, and what else came on it is dropped. Where memory is wanting, the step ends
+    /// after the actions that are done, and the event's connection is taken out.
     pub fn step(&mut self, alloc: Global, at: Moment, event: Event) -> Result<Vec<Action>, HubFault>
         // What the step returns is what the log has next, and the hub then stands where the log leaves it.
-        ensures log { (start : Standing) (entries : List Entry) → (logged start entries).hub ≡ standing R.stream self.old → LogsNext start entries at event result (standing R.stream self.new) }
+        ensures log { (start : Standing) (entries : List Entry)
+            → (logged start entries).hub ≡ standing R.stream self.old
+            → LogsNext start entries at event result (standing R.stream self.new) }
         ensures step { Steps (standing R.stream self.old) at event result (standing R.stream self.new) }
         ensures draws { IfErr result AreDraws }
         // The end of a connection takes no memory.
@@ -106,7 +109,8 @@ impl<R: Rng> Hub<R> {
         peer: SocketAddr,
         request: &[u8],
     ) -> Result<Vec<Action>, HubFault>
-        ensures step { Steps (standing R.stream self.old) at (Datagram peer request.now) result (standing R.stream self.new) }
+        ensures step { Steps (standing R.stream self.old) at (Datagram peer request.now) result
+            (standing R.stream self.new) }
         ensures draws { IfErr result AreDraws }
     {
         let Ok(mut actions) = Vec::with_capacity(alloc, 1) else {
@@ -139,8 +143,8 @@ impl<R: Rng> Hub<R> {
         }
     }
 
-    /// Serves what a piece completes. Meanwhile an empty stream stands in the table, so that putting the connection's own
-    /// stream back takes no memory.
+    /// Serves what a piece completes. Meanwhile an empty stream stands in the table, so that putting the connection's
+    /// own stream back takes no memory.
     fn take_piece(
         &mut self,
         alloc: Global,
@@ -148,7 +152,8 @@ impl<R: Rng> Hub<R> {
         conn: u64,
         piece: &[u8],
     ) -> Result<Vec<Action>, HubFault>
-        ensures step { Steps (standing R.stream self.old) at (Bytes conn piece.now) result (standing R.stream self.new) }
+        ensures step { Steps (standing R.stream self.old) at (Bytes conn piece.now) result
+            (standing R.stream self.new) }
         ensures draws { IfErr result AreDraws }
     {
         let place = Splitter::new(alloc, GREATEST_REQUEST);

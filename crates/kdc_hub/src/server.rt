@@ -34,10 +34,11 @@ enum ActOutcome {
     Ended,
 }
 
-/// Serves for so many rounds, with one poll in each. A failed poll ends its round. A connection on which an act fails is
-/// at its end, and what else the event asked for is dropped; a datagram that isn't sent is dropped alone.
+/// Serves for so many rounds, with one poll in each. A failed poll ends its round. A connection on which an act fails
+/// is at its end, and what else the event asked for is dropped; a datagram that isn't sent is dropped alone.
 pub fn serve<W: Wire, R: Rng>(alloc: Global, wire: &mut W, hub: &mut Hub<R>, rounds: u32) -> Served
-    ensures run { IsRun (W.told wire.old) (standing R.stream hub.old) rounds result (W.told wire.new) (standing R.stream hub.new) }
+    ensures run { IsRun (W.told wire.old) (standing R.stream hub.old) rounds result (W.told wire.new)
+        (standing R.stream hub.new) }
     ensures counted { IsCounted (W.fault_count wire.old) result.faults (W.fault_count wire.new) }
     // A round takes one event at most.
     ensures few_events { result.events ≤ rounds }
@@ -60,7 +61,8 @@ pub fn serve<W: Wire, R: Rng>(alloc: Global, wire: &mut W, hub: &mut Hub<R>, rou
 }
 
 fn serve_round<W: Wire, R: Rng>(alloc: Global, wire: &mut W, hub: &mut Hub<R>) -> Served
-    ensures run { IsRun (W.told wire.old) (standing R.stream hub.old) 1 result (W.told wire.new) (standing R.stream hub.new) }
+    ensures run { IsRun (W.told wire.old) (standing R.stream hub.old) 1 result (W.told wire.new)
+        (standing R.stream hub.new) }
     ensures counted { IsCounted (W.fault_count wire.old) result.faults (W.fault_count wire.new) }
     ensures one_event { result.events ≤ 1 }
     ensures few_faults { result.faults ≤ 3 }
@@ -89,7 +91,8 @@ fn take_event<W: Wire, R: Rng>(
     at: Moment,
     event: Event,
 ) -> Served
-    ensures taken { IsTaken (W.told wire.old) (standing R.stream hub.old) at event result (W.told wire.new) (standing R.stream hub.new) }
+    ensures taken { IsTaken (W.told wire.old) (standing R.stream hub.old) at event result (W.told wire.new)
+        (standing R.stream hub.new) }
     ensures counted { IsCounted (W.fault_count wire.old) result.faults (W.fault_count wire.new) }
 {
     match hub.step(alloc, at, event) {
@@ -121,7 +124,8 @@ fn act_all<W: Wire, R: Rng>(
     at: Moment,
     actions: &[Action],
 ) -> u64
-    ensures acts { AreActs (W.told wire.old) (standing R.stream hub.old) at actions.now result (W.told wire.new) (standing R.stream hub.new) }
+    ensures acts { AreActs (W.told wire.old) (standing R.stream hub.old) at actions.now result (W.told wire.new)
+        (standing R.stream hub.new) }
     ensures counted { IsCounted (W.fault_count wire.old) result (W.fault_count wire.new) }
     ensures few { result ≤ length actions.now }
 {
@@ -144,7 +148,8 @@ fn close<W: Wire, R: Rng>(
     at: Moment,
     conn: Option<u64>,
 ) -> u64
-    ensures acts { AreActs (W.told wire.old) (standing R.stream hub.old) at (close_of conn) result (W.told wire.new) (standing R.stream hub.new) }
+    ensures acts { AreActs (W.told wire.old) (standing R.stream hub.old) at (close_of conn) result (W.told wire.new)
+        (standing R.stream hub.new) }
     ensures counted { IsCounted (W.fault_count wire.old) result (W.fault_count wire.new) }
     ensures few { result ≤ 1 }
 {
@@ -162,7 +167,8 @@ fn act<W: Wire, R: Rng>(
     at: Moment,
     action: &Action,
 ) -> ActOutcome
-    ensures act { IsAct result (W.told wire.old) (standing R.stream hub.old) at action.now (W.told wire.new) (standing R.stream hub.new) }
+    ensures act { IsAct result (W.told wire.old) (standing R.stream hub.old) at action.now (W.told wire.new)
+        (standing R.stream hub.new) }
     ensures counted { IsCounted (W.fault_count wire.old) (faults_by result) (W.fault_count wire.new) }
 {
     let Err(_) = wire.act(alloc, action) else {

@@ -1,5 +1,6 @@
 //! The messages that a connection brings, each answered in its turn.
-ghost use Rattle.std.specs.Prelude.{◌≡◌, ◌+◌, if◌then◌else◌, ◌++◌, ◌∷◌, [], true, false, length, take, Some, IfOk, IfErr, OnOk, OnErr, is_some};
+ghost use Rattle.std.specs.Prelude.{◌≡◌, ◌+◌, if◌then◌else◌, ◌++◌, ◌∷◌, [], true, false, length, take, Some, IfOk};
+ghost use Rattle.std.specs.Prelude.{IfErr, OnOk, OnErr, is_some};
 ghost use Rattle.framing.specs.Splitting.{handed_out, left};
 ghost use Rattle.kdc_hub.specs.Hub.{AreDraws};
 ghost use Rattle.kdc_hub.specs.Issuing.{after, issuing, reply_of, too_long};
@@ -32,13 +33,19 @@ pub fn answer_stream<R: Rng>(
     conn: u64,
     stream: &mut Splitter,
 ) -> Result<StreamStep, HubFault>
-    ensures actions { IfOk result (λ s. s.actions.items ≡ (stream_step (issuing R.stream issuer.old) at conn stream.old).actions) }
-    ensures issuing { OnOk result (issuing R.stream issuer.new ≡ (stream_step (issuing R.stream issuer.old) at conn stream.old).issuing) }
+    ensures actions { IfOk result
+        (λ s. s.actions.items ≡ (stream_step (issuing R.stream issuer.old) at conn stream.old).actions) }
+    ensures issuing { OnOk result
+        (issuing R.stream issuer.new ≡ (stream_step (issuing R.stream issuer.old) at conn stream.old).issuing) }
     ensures stays { IfOk result (λ s. s.stays ≡ (stream_step (issuing R.stream issuer.old) at conn stream.old).stays) }
     ensures left { IfOk result (λ s. s.stays ≡ true → stream.new ≡ left stream.old) }
     ensures conn { IfErr result (λ fault. fault.conn ≡ Some conn) }
-    ensures done { IfErr result (λ fault. fault.done.items ≡ take (length fault.done.items) (stream_step (issuing R.stream issuer.old) at conn stream.old).actions) }
-    ensures kdc { IfErr result (λ fault. issuer.new.kdc ≡ (after_some (length fault.done.items) (issuing R.stream issuer.old) at (handed_out stream.old).messages).kdc) }
+    ensures done { IfErr result
+        (λ fault. fault.done.items
+        ≡ take (length fault.done.items) (stream_step (issuing R.stream issuer.old) at conn stream.old).actions) }
+    ensures kdc { IfErr result
+        (λ fault. issuer.new.kdc ≡ (after_some (length fault.done.items) (issuing R.stream issuer.old) at
+        (handed_out stream.old).messages).kdc) }
     ensures drawn { IfErr result (λ fault. R.stream issuer.new.rng ≡ drawn fault.draws (R.stream issuer.old.rng)) }
     ensures draws { IfErr result AreDraws }
 {
@@ -97,11 +104,16 @@ fn answer_request<R: Rng>(
     request: &[u8],
     actions: &mut Vec<Action>,
 ) -> Result<bool, bool>
-    ensures action { OnOk result (actions.new.items ≡ actions.old.items ++ action_for conn (reply_of (issuing R.stream issuer.old) at stream_room request.now) ∷ []) }
-    ensures after { OnOk result (issuing R.stream issuer.new ≡ after (issuing R.stream issuer.old) at stream_room request.now) }
-    ensures stays { IfOk result (λ stays. stays ≡ is_some (reply_of (issuing R.stream issuer.old) at stream_room request.now)) }
+    ensures action { OnOk result
+        (actions.new.items ≡ actions.old.items
+        ++ action_for conn (reply_of (issuing R.stream issuer.old) at stream_room request.now) ∷ []) }
+    ensures after { OnOk result
+        (issuing R.stream issuer.new ≡ after (issuing R.stream issuer.old) at stream_room request.now) }
+    ensures stays { IfOk result
+        (λ stays. stays ≡ is_some (reply_of (issuing R.stream issuer.old) at stream_room request.now)) }
     ensures err { OnErr result ((actions.new.items ≡ actions.old.items) × (issuer.new.kdc ≡ issuer.old.kdc)) }
-    ensures drawn { IfErr result (λ one. R.stream issuer.new.rng ≡ drawn (if one then 1 else 0) (R.stream issuer.old.rng)) }
+    ensures drawn { IfErr result
+        (λ one. R.stream issuer.new.rng ≡ drawn (if one then 1 else 0) (R.stream issuer.old.rng)) }
 {
     if actions.reserve(1).is_err() {
         return Err(false);
@@ -127,7 +139,8 @@ fn refuse_length<R: Rng>(
     conn: u64,
     mut actions: Vec<Action>,
 ) -> Result<StreamStep, HubFault>
-    ensures actions { IfOk result (λ s. s.actions.items ≡ actions.items ++ Write conn (too_long issuer.now.kdc at) ∷ Close conn ∷ []) }
+    ensures actions { IfOk result
+        (λ s. s.actions.items ≡ actions.items ++ Write conn (too_long issuer.now.kdc at) ∷ Close conn ∷ []) }
     ensures stays { IfOk result (λ s. s.stays ≡ false) }
     ensures conn { IfErr result (λ fault. fault.conn ≡ Some conn) }
     ensures done { IfErr result (λ fault. fault.done.items ≡ actions.items) }
@@ -149,7 +162,8 @@ fn push_refusal<R: Rng>(
     conn: u64,
     actions: &mut Vec<Action>,
 ) -> Result<(), AllocError>
-    ensures ok { OnOk result (actions.new.items ≡ actions.old.items ++ Write conn (too_long issuer.now.kdc at) ∷ Close conn ∷ []) }
+    ensures ok { OnOk result
+        (actions.new.items ≡ actions.old.items ++ Write conn (too_long issuer.now.kdc at) ∷ Close conn ∷ []) }
     ensures err { OnErr result (actions.new.items ≡ actions.old.items) }
 {
     actions.reserve(2)?;

@@ -1,4 +1,5 @@
-//! Worked cases of a hub (`kdc_hub`) over a KDC of the realm `A.B` that has no clients: each request is answered by an error of code 6.
+//! Worked cases of a hub (`kdc_hub`) over a KDC of the realm `A.B` that has no clients: each request is answered by
+//! an error of code 6.
 use crate::kdcs::{BASIC, CLIENT_UNKNOWN, kdc};
 use crate::service_tickets;
 use framing::frame;
@@ -14,15 +15,19 @@ use std::net::{Ipv4Addr, SocketAddr};
 use std::test::Fail;
 
 /// The basic request for the service `krbtgu/A.B` instead, and its reply.
-const OTHER_REQUEST: &[u8] =
-    b"6a693067a103020105a20302010aa45b3059a00703050000000000a10e300ca003020101a10530031b0175a2051b03412e42a3183016a003020102a10f300d1b066b72627467751b03412e42a511180f31393730303130313030303030305aa703020101a8053003020112";
+const OTHER_REQUEST: &[u8] = b"\
+        6a693067a103020105a20302010aa45b3059a00703050000000000a10e300ca003020101a10530031b0175a2051b03412e42\
+        a3183016a003020102a10f300d1b066b72627467751b03412e42a511180f31393730303130313030303030305aa703020101\
+        a8053003020112";
 
-const OTHER_CLIENT_UNKNOWN: &[u8] =
-    b"7e4a3048a003020105a10302011ea411180f32303234303130313030303030305aa503020100a603020106a9051b03412e42aa183016a003020102a10f300d1b066b72627467751b03412e42";
+const OTHER_CLIENT_UNKNOWN: &[u8] = b"\
+        7e4a3048a003020105a10302011ea411180f32303234303130313030303030305aa503020100a603020106a9051b03412e42\
+        aa183016a003020102a10f300d1b066b72627467751b03412e42";
 
 /// The error of the realm with code 61.
-const TOO_LONG: &[u8] =
-    b"7e4a3048a003020105a10302011ea411180f32303234303130313030303030305aa503020100a60302013da9051b03412e42aa183016a003020102a10f300d1b066b72627467741b03412e42";
+const TOO_LONG: &[u8] = b"\
+        7e4a3048a003020105a10302011ea411180f32303234303130313030303030305aa503020100a60302013da9051b03412e42\
+        aa183016a003020102a10f300d1b066b72627467741b03412e42";
 
 type TestHub = Hub<ChaCha20Rng>;
 
@@ -30,8 +35,8 @@ fn hub_of(alloc: Global, kdc: Kdc) -> TestHub {
     Hub::new(alloc, kdc, ChaCha20Rng::from_seed([0; 32]))
 }
 
-/// What a test does with a hub, and whether what it saw is right. A hub is let go in `run` alone: proofs about it end take
-/// long for each place.
+/// What a test does with a hub, and whether what it saw is right. A hub is let go in `run` alone: proofs about it end
+/// take long for each place.
 #[derive(Clone, Copy, Debug)]
 enum Scenario {
     Alternating,
@@ -408,8 +413,8 @@ fn each_gets_its_own_reply(rt: HostRuntime) -> Result<(), Fail> {
     Ok(())
 }
 
-/// How many of the four get their reply, and how many faults are counted, in a run of 16 rounds, which polls 16 times and
-/// acts four times.
+/// How many of the four get their reply, and how many faults are counted, in a run of 16 rounds, which polls 16 times
+/// and acts four times.
 fn serve_with_fault(alloc: Global, hub: &mut TestHub, calls: u64) -> Result<(u64, u64), Fail> {
     let mut wire = MemoryWire::new(alloc, events(alloc)?, Some(calls));
     let served = serve(alloc, &mut wire, hub, 16);

@@ -1,5 +1,5 @@
-//! Requests in the realm `A.B` of clients whose names are one letter, in octets: what they all have in common is stored, and
-//! tickets and authenticators are sealed as they are asked for.
+//! Requests in the realm `A.B` of clients whose names are one letter, in octets: what they all have in common is
+//! stored, and tickets and authenticators are sealed as they are asked for.
 use enctypes::{Etype, Key, KeyUsage, checksum, seal};
 use std::alloc::{AllocError, Global};
 
@@ -67,8 +67,8 @@ const TGS_BODY: &[u8] = b"\x30\x3f\
 
 const TGS_REST: &[u8] = b"\xa8\x05\x30\x03\x02\x01\x12";
 
-/// What a ticket of 2024-01-01, from 00:00:00 to 10:00:00, holds: up to its session key, then up to the client's letter, and
-/// behind it.
+/// What a ticket of 2024-01-01, from 00:00:00 to 10:00:00, holds: up to its session key, then up to the client's
+/// letter, and behind it.
 const PART_HEAD: &[u8] = b"\x63\x81\x96\x30\x81\x93\
     \xa0\x07\x03\x05\x00\x00\x40\x00\x00\
     \xa1\x2b\x30\x29\xa0\x03\x02\x01\x12\xa1\x22\x04\x20";

@@ -13,22 +13,26 @@ use std::time::{Duration, Instant};
 
 /// An AS-REQ of `u` in `A.B` for `a`, till zero, nonce 1, encryption type 18. The service's one octet has the place
 /// `SERVICE_PLACE`.
-const REQUEST: &[u8] =
-    b"6a5f305da103020105a20302010aa451304fa00703050000000000a10e300ca003020101a10530031b0175a2051b03412e42a30e300ca003020101a10530031b0161a511180f31393730303130313030303030305aa703020101a8053003020112";
+const REQUEST: &[u8] = b"\
+        6a5f305da103020105a20302010aa451304fa00703050000000000a10e300ca003020101a10530031b0175a2051b03412e42\
+        a30e300ca003020101a10530031b0161a511180f31393730303130313030303030305aa703020101a8053003020112";
 
 const SERVICE_PLACE: usize = 65;
 
 /// The KRB-ERROR of 2024-01-01 00:00:00 with code 6, of the realm `A.B` and the service `a`, which is its last octet.
-const CLIENT_UNKNOWN: &[u8] =
-    b"7e40303ea003020105a10302011ea411180f32303234303130313030303030305aa503020100a603020106a9051b03412e42aa0e300ca003020101a10530031b0161";
+const CLIENT_UNKNOWN: &[u8] = b"\
+        7e40303ea003020105a10302011ea411180f32303234303130313030303030305aa503020100a603020106a9051b03412e42\
+        aa0e300ca003020101a10530031b0161";
 
 /// The error of the realm with code 61, behind its length.
-const TOO_LONG: &[u8] =
-    b"0000004c7e4a3048a003020105a10302011ea411180f32303234303130313030303030305aa503020100a60302013da9051b03412e42aa183016a003020102a10f300d1b066b72627467741b03412e42";
+const TOO_LONG: &[u8] = b"\
+        0000004c7e4a3048a003020105a10302011ea411180f32303234303130313030303030305aa503020100a60302013da9051b\
+        03412e42aa183016a003020102a10f300d1b066b72627467741b03412e42";
 
 /// The octets of a framed request before and after a service of one component of 60,000 octets.
-const BEFORE_LONG_SERVICE: &[u8] =
-    b"0000ead26a82eace3082eacaa103020105a20302010aa482eabc3082eab8a00703050000000000a10e300ca003020101a10530031b0175a2051b03412e42a382ea753082ea71a003020101a182ea683082ea641b82ea60";
+const BEFORE_LONG_SERVICE: &[u8] = b"\
+        0000ead26a82eace3082eacaa103020105a20302010aa482eabc3082eab8a00703050000000000a10e300ca003020101a105\
+        30031b0175a2051b03412e42a382ea753082ea71a003020101a182ea683082ea641b82ea60";
 
 const AFTER_LONG_SERVICE: &[u8] = b"a511180f31393730303130313030303030305aa703020101a8053003020112";
 
@@ -74,12 +78,13 @@ fn address(addresses: &[SocketAddr], place: usize) -> Result<SocketAddr, Fail> {
     Ok(*addresses.get(place).ok_or("an address")?)
 }
 
-/// What a test does with a server, and whether what it saw is right. A server is let go in `run` alone: proofs about its
-/// end take minutes for each place.
+/// What a test does with a server, and whether what it saw is right. A server is let go in `run` alone: proofs about
+/// its end take minutes for each place.
 #[derive(Clone, Copy, Debug)]
 enum Scenario {
     OwnReplies,
     OneByOne,
+    ManyDatagrams,
     FaultyLength,
     KeptOpen,
     ManyConnections,
@@ -96,6 +101,7 @@ fn play(rt: &HostRuntime, server: &mut Server, scenario: Scenario) -> Result<boo
     match scenario {
         Scenario::OwnReplies => each_gets_its_own(rt, server),
         Scenario::OneByOne => octets_come_one_by_one(rt, server),
+        Scenario::ManyDatagrams => datagrams_keep_coming(rt, server),
         Scenario::FaultyLength => a_length_is_at_fault(rt, server),
         Scenario::KeptOpen => a_closed_connection_is_kept_open(rt, server),
         Scenario::ManyConnections => connections_come_and_go(rt, server),
@@ -220,6 +226,24 @@ fn octets_that_come_one_by_one_are_one_request(rt: HostRuntime) -> Result<(), Fa
     Ok(())
 }
 
+/// In each round a datagram has come.
+fn datagrams_keep_coming(rt: &HostRuntime, server: &mut Server) -> Result<bool, Fail> {
+    let peer = peer(rt, server, 0)?;
+    let mut client = connection(rt, server, 0)?;
+    ask_over(rt, &mut client, b'c')?;
+    for _ in 0..24u32 {
+        ask(rt, &peer, b'a')?;
+        rounds(rt, server, 1)?;
+    }
+    has_come_for(rt, &mut client, b'c')
+}
+
+#[test]
+fn datagrams_that_keep_coming_hold_up_no_connection(rt: HostRuntime) -> Result<(), Fail> {
+    assert!(rt; run(&rt, Scenario::ManyDatagrams)?);
+    Ok(())
+}
+
 /// More comes than the server reads before it closes the connection.
 fn a_length_is_at_fault(rt: &HostRuntime, server: &mut Server) -> Result<bool, Fail> {
     let mut client = connection(rt, server, 0)?;
@@ -309,8 +333,8 @@ fn long_request(rt: &HostRuntime) -> Result<Vec<u8>, Fail> {
     Ok(request)
 }
 
-/// Sends what fits of these octets over and over, from a place on. It gives the next place, or none where the server has
-/// let go of the connection.
+/// Sends what fits of these octets over and over, from a place on. It gives the next place, or none where the server
+/// has let go of the connection.
 fn send_some(client: &mut TcpStream, octets: &[u8], place: usize) -> Option<usize> {
     match client.write(octets.get(place..)?) {
         Ok(sent) if place + sent < octets.len() => Some(place + sent),

@@ -1,5 +1,5 @@
-//! Struck runs (`kdc_core`): a client gets the same beside others as where their requests and the changes of their rows are
-//! struck out.
+//! Struck runs (`kdc_core`): a client gets the same beside others as where their requests and the changes of their
+//! rows are struck out.
 use crate::steps::{Act, Asked, Changed, Step, replies, step_at};
 use principal_rows::Limits;
 use std::alloc::{AllocError, Global};
@@ -13,7 +13,8 @@ fn bears_ticket(reply: &Option<Vec<u8>>) -> bool {
     }
 }
 
-/// How many tickets the client got, where each step that is left for it got in the struck run what it got in the whole one.
+/// How many tickets the client got, where each step that is left for it got in the struck run what it got in the
+/// whole one.
 fn tickets(
     steps: &[Step],
     whole: &[Option<Vec<u8>>],
@@ -52,8 +53,8 @@ fn struck_tickets(
 }
 
 /// `u` and `w` come, and the KDC starts again. 301 seconds later, when authenticators are accepted, `u` asks, and `w` ten
-/// times; `w` and `krbtgt/A.B` get new keys, and `u` asks once more. The first and the last request of `w` have the same
-/// authenticators' times as those of `u`.
+/// times; `w` and `krbtgt/A.B` get new keys, and `u` asks once more. The first and the last request of `w` have the
+/// same authenticators' times as those of `u`.
 const BESIDE_ANOTHER: [(u32, u8, Act); 18] = [
     (0, b'u', Act::Change(Changed::Add)),
     (0, b'u', Act::Change(Changed::Free)),

@@ -5,7 +5,9 @@
 
 mod bind_fault;
 mod connection;
+mod connections;
 mod moment;
+mod ports;
 mod sockets;
 mod wire;
 

@@ -1,17 +1,10 @@
 -- The words for the faults of a file that was read.
 use Rattle.std.specs.Prelude.{◌≡◌, ◌≢◌, IsUtf8, ℕ, List, Option, Some, None, Err, codes}
+use Rattle.principals.specs.RefusalWord.{read_refusal}
 use Rattle.principals.specs.Value.{text_database}
-use Rattle.principals.specs.declared.read_fault.ReadFault.{ReadFault}
-use Rattle.principals.specs.declared.read_fault.ReadFault.TheVariants.{NotJson, BadVersion, BadRow, NoTicketGranter, Memory}
+use Rattle.principals.specs.declared.read_fault.ReadFault.TheVariants.{NotJson, Memory}
 use Rattle.kdcd_start.specs.declared.files.FileFault.{FileFault}
 use Rattle.kdcd_start.specs.declared.files.FileFault.TheVariants.{LongFile, ShortSeed, Database, Failed}
-
-abbrev pub read_refusal : ReadFault → Option (List ℕ)
-read_refusal NotJson = Some (codes "NotJson")
-read_refusal BadVersion = Some (codes "BadVersion")
-read_refusal BadRow = Some (codes "BadRow")
-read_refusal NoTicketGranter = Some (codes "NoTicketGranter")
-read_refusal Memory = None
 
 abbrev pub refusal : FileFault → Option (List ℕ)
 refusal LongFile = Some (codes "LongFile")

@@ -30,13 +30,7 @@ impl FileFault {
         match self {
             FileFault::LongFile => Some("LongFile"),
             FileFault::ShortSeed => Some("ShortSeed"),
-            FileFault::Database(fault) => match fault {
-                ReadFault::NotJson => Some("NotJson"),
-                ReadFault::BadVersion => Some("BadVersion"),
-                ReadFault::BadRow => Some("BadRow"),
-                ReadFault::NoTicketGranter => Some("NoTicketGranter"),
-                ReadFault::Memory => None,
-            },
+            FileFault::Database(fault) => fault.refusal(),
             FileFault::Failed(_) => None,
         }
     }

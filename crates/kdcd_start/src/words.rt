@@ -1,7 +1,9 @@
 //! The words of a command line.
 use clap::error::Error;
-use clap::{ArgAction, ArgMatches, Command};
-use command_options::{OptionWords, flag, option};
+use clap::{ArgMatches, Command};
+use command_options::{
+    FlagWords, OptionWords, SubcommandWords, Times, subcommand, with_subcommands,
+};
 use principal_rows::Limits;
 use std::alloc::{AllocError, AllocFailed, Global};
 use std::net::SocketAddr;
@@ -52,8 +54,6 @@ impl<T: Drop> From<AllocFailed<T>> for WordsFault {
 /// The most addresses of one server.
 const MOST_ADDRESSES: usize = 8;
 
-const ABOUT: &str = "Serves a realm over UDP and TCP";
-
 const AFTER_HELP: &str = "\
 Without --rounds it serves until a signal ends it. A round takes one event at most: a datagram, a new connection, a
 piece of what comes on one, or its end. Where nothing comes it waits a tenth of a second. After the last round it prints
@@ -64,112 +64,108 @@ The file of the database is looked at before each 16 rounds. If it was changed i
 then on; all that is remembered stays. A file that can't be read, is refused, or is of another realm (OtherRealm) leaves
 the rows as they are. Standard error says so once, and the file is looked at again when it changes again.
 
-Once it listens it says so on standard error: the addresses, the database with its rows, and the limits. A port 0 is one that
-the system gives. With --log each request is a line there: the moment in UTC, who asked, udp or tcp, as or tgs, the client,
-the service, and what came of it. A line that can't be written is lost.
+Once it listens it says so on standard error: the addresses, the database with its rows, and the limits. A port 0 is
+one that the system gives. With --log each request is a line there: the moment in UTC, who asked, udp or tcp, as or tgs,
+the client, the service, and what came of it. A line that can't be written is lost.
 
-Status: 0 after the last round; 1 where a file is refused (`refused NAME`: NotJson, BadVersion, BadRow, NoTicketGranter,
-ShortSeed, LongFile); 2 for these words; 3 where a file, a socket, the clock or memory failed (`failed`). Why it could not
-start stands on standard error.";
+Status: 0 after the last round; 1 where a file is refused (`refused NAME`: NotJson, BadVersion, BadRow,
+NoTicketGranter, ShortSeed, LongFile); 2 for these words; 3 where a file, a socket, the clock or memory failed
+(`failed`). Why it could not start stands on standard error.";
 
-const DB: OptionWords = OptionWords {
-    name: "db",
-    shape: "FILE",
-    help: "The database, as `kadm` writes it",
+const SERVE: SubcommandWords = SubcommandWords {
+    name: "serve",
+    about: "Serves a realm over UDP and TCP",
+    options: &[
+        OptionWords {
+            name: "db",
+            shape: "FILE",
+            help: "The database, as `kadm` writes it",
+            times: Times::Once,
+        },
+        OptionWords {
+            name: "udp",
+            shape: "ADDRESS:PORT",
+            help: "Where datagrams are taken, as 127.0.0.1:88 or [::1]:88. It and --tcp may stand 8 times in all",
+            times: Times::Any,
+        },
+        OptionWords {
+            name: "tcp",
+            shape: "ADDRESS:PORT",
+            help: "Where connections are taken",
+            times: Times::Any,
+        },
+        OptionWords {
+            name: "rounds",
+            shape: "N",
+            help: "How many rounds it serves, 0 to 4294967295",
+            times: Times::AtMostOnce,
+        },
+        OptionWords {
+            name: "seed",
+            shape: "FILE",
+            help: "32 random octets, others at each start, of which all keys of tickets are made; else the system's",
+            times: Times::AtMostOnce,
+        },
+        OptionWords {
+            name: "remembered",
+            shape: "N",
+            help: "How many authenticators are remembered of each client, 1 to 65536; else 1024",
+            times: Times::AtMostOnce,
+        },
+        OptionWords {
+            name: "lock-after",
+            shape: "N",
+            help: "After how many failed logins a client is locked; else, and with 0, never",
+            times: Times::AtMostOnce,
+        },
+        OptionWords {
+            name: "lock-seconds",
+            shape: "N",
+            help: "For how many seconds after the last failure; else 0",
+            times: Times::AtMostOnce,
+        },
+        OptionWords {
+            name: "greatest-life",
+            shape: "N",
+            help: "How many seconds a ticket lives at most; else 36000",
+            times: Times::AtMostOnce,
+        },
+        OptionWords {
+            name: "greatest-renewable",
+            shape: "N",
+            help: "For how many seconds a ticket is renewed at most; else 604800",
+            times: Times::AtMostOnce,
+        },
+    ],
+    flags: &[
+        FlagWords {
+            name: "first",
+            help: "No request was ever answered with this database; else TGS-REQs are refused as skewed for 301 seconds",
+        },
+        FlagWords {
+            name: "fixed",
+            help: "The database is read once, and its file never looked at again",
+        },
+        FlagWords {
+            name: "log",
+            help: "Each request is a line on standard error",
+        },
+    ],
 };
 
-/// The options that may stand more than once.
-const ADDRESSES: &[OptionWords] = &[
-    OptionWords {
-        name: "udp",
-        shape: "ADDRESS:PORT",
-        help: "Where datagrams are taken, as 127.0.0.1:88 or [::1]:88. It and --tcp may stand 8 times in all",
-    },
-    OptionWords {
-        name: "tcp",
-        shape: "ADDRESS:PORT",
-        help: "Where connections are taken",
-    },
-];
-
-/// The options that may be left away.
-const OPTIONS: &[OptionWords] = &[
-    OptionWords {
-        name: "rounds",
-        shape: "N",
-        help: "How many rounds it serves, 0 to 4294967295",
-    },
-    OptionWords {
-        name: "seed",
-        shape: "FILE",
-        help: "32 random octets, others at each start: all keys of tickets are made of them. Else the system gives them",
-    },
-    OptionWords {
-        name: "remembered",
-        shape: "N",
-        help: "How many authenticators are remembered of each client, 1 to 65536; else 1024",
-    },
-    OptionWords {
-        name: "lock-after",
-        shape: "N",
-        help: "After how many failed logins a client is locked; else, and with 0, never",
-    },
-    OptionWords {
-        name: "lock-seconds",
-        shape: "N",
-        help: "For how many seconds after the last failure; else 0",
-    },
-    OptionWords {
-        name: "greatest-life",
-        shape: "N",
-        help: "How many seconds a ticket lives at most; else 36000",
-    },
-    OptionWords {
-        name: "greatest-renewable",
-        shape: "N",
-        help: "For how many seconds a ticket is renewed at most; else 604800",
-    },
-];
-
-/// The options without a value.
-const FLAGS: &[(&str, &str)] = &[
-    (
-        "first",
-        "No request was ever answered with this database. Else every TGS-REQ is refused as skewed for 301 seconds",
-    ),
-    (
-        "fixed",
-        "The database is read once, and its file never looked at again",
-    ),
-    ("log", "Each request is a line on standard error"),
-];
+const SCRIPT: SubcommandWords = SubcommandWords {
+    name: "script",
+    about: "Runs a script from standard input",
+    options: &[],
+    flags: &[],
+};
 
 /// Reads the words, the program's name in front.
 pub fn read_words<'a>(alloc: Global, words: &'a [String]) -> Result<ArgMatches<'a>, Error> {
-    let script = Command::new(alloc, "script").about("Runs a script from standard input");
-    let kdcd = Command::new(alloc, "kdcd")
-        .about("A Kerberos KDC")
-        .subcommand_required(true)
-        .subcommand(script)?
-        .subcommand(serve_command(alloc)?)?;
-    kdcd.try_get_matches_from(words)
-}
-
-fn serve_command<'a>(alloc: Global) -> Result<Command<'a>, AllocError> {
-    let mut command = Command::new(alloc, "serve")
-        .about(ABOUT)
-        .after_help(AFTER_HELP)
-        .arg(option(alloc, &DB).required(true))?;
-    for words in ADDRESSES {
-        command = command.arg(option(alloc, words).action(ArgAction::Append))?;
-    }
-    for words in OPTIONS {
-        command = command.arg(option(alloc, words))?;
-    }
-    for (name, help) in FLAGS {
-        command = command.arg(flag(alloc, name, help))?;
-    }
-    Ok(command)
+    let kdcd = Command::new(alloc, "kdcd").about("A Kerberos KDC");
+    with_subcommands(alloc, kdcd, &[SCRIPT])?
+        .subcommand(subcommand(alloc, &SERVE)?.after_help(AFTER_HELP))?
+        .try_get_matches_from(words)
 }
 
 /// The options that the words behind `serve` stand for.

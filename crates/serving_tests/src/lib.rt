@@ -1,5 +1,6 @@
-//! The tests of what a server is started with and lives by: the words of `kdcd` and its files (`kdcd_start`), and rows
-//! that change (`kdc_serving`), in memory and in a file, and the log of requests (`request_log`, `observed_wire`). They stand apart, since a crate with tests is proved twice.
+//! The tests of what a server is started with and lives by: the words of `kdcd` and its files (`kdcd_start`), and
+//! rows that change (`kdc_serving`), in memory and in a file, and the log of requests (`request_log`,
+//! `observed_wire`). They stand apart, since a crate with tests is proved twice.
 #![tactic(auto)]
 
 #[cfg(test)]

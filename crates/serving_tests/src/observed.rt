@@ -1,5 +1,5 @@
-//! What an observer of a wire (`observed_wire`) is told, over a wire in memory. Octets that are told stand for a message here,
-//! whatever they are.
+//! What an observer of a wire (`observed_wire`) is told, over a wire in memory. Octets that are told stand for a
+//! message here, whatever they are.
 use kdc_hub::{Action, Event, MemoryWire, Wire};
 use krb_elements::Octets;
 use krb_fields::Moment;

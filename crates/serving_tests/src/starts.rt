@@ -8,8 +8,8 @@ use std::alloc::{AllocError, Global};
 use std::io::Read;
 use std::test::Fail;
 
-/// What stands behind `kdcd serve --db d`, and what is wrong with it: none, the option that is named, or what the reader of
-/// words says (`?`).
+/// What stands behind `kdcd serve --db d`, and what is wrong with it: none, the option that is named, or what the
+/// reader of words says (`?`).
 const LINES: &[(&str, Option<&str>)] = &[
     (
         "--udp 127.0.0.1:88 --tcp [::1]:88 --rounds 007 --seed s",
@@ -28,11 +28,15 @@ const LINES: &[(&str, Option<&str>)] = &[
     ("--udp 127.0.0.1:88 --udp 127.0.0.2", Some("--udp")),
     ("--seed s", Some("--udp")),
     (
-        "--udp 127.0.0.1:1 --udp 127.0.0.1:2 --udp 127.0.0.1:3 --udp 127.0.0.1:4 --tcp [::1]:1 --tcp [::1]:2 --tcp [::1]:3 --tcp [::1]:4",
+        "\
+            --udp 127.0.0.1:1 --udp 127.0.0.1:2 --udp 127.0.0.1:3 --udp 127.0.0.1:4 --tcp [::1]:1 --tcp [::1]:2 \
+            --tcp [::1]:3 --tcp [::1]:4",
         None,
     ),
     (
-        "--udp 127.0.0.1:1 --udp 127.0.0.1:2 --udp 127.0.0.1:3 --udp 127.0.0.1:4 --tcp [::1]:1 --tcp [::1]:2 --tcp [::1]:3 --tcp [::1]:4 --tcp [::1]:5",
+        "\
+            --udp 127.0.0.1:1 --udp 127.0.0.1:2 --udp 127.0.0.1:3 --udp 127.0.0.1:4 --tcp [::1]:1 --tcp [::1]:2 \
+            --tcp [::1]:3 --tcp [::1]:4 --tcp [::1]:5",
         Some("--udp"),
     ),
     ("--udp 127.0.0.1:88 --remembered 1", None),
@@ -48,7 +52,9 @@ const LINES: &[(&str, Option<&str>)] = &[
         None,
     ),
     (
-        "--udp 127.0.0.1:88 --lock-after 4294967295 --lock-seconds 4294967295 --greatest-life 4294967295 --greatest-renewable 4294967295",
+        "\
+            --udp 127.0.0.1:88 --lock-after 4294967295 --lock-seconds 4294967295 --greatest-life 4294967295 \
+            --greatest-renewable 4294967295",
         None,
     ),
     (
@@ -140,7 +146,9 @@ fn limits_are_those_of_the_words(rt: HostRuntime) -> Result<(), Fail> {
     assert_eq!(rt; Some(limits), Limits::new(1_024, 0, 0, 36_000, 604_800));
     let limits = limits_of(
         rt.alloc(),
-        "kdcd serve --db d --udp [::]:88 --greatest-renewable 5 --greatest-life 4 --lock-seconds 3 --lock-after 2 --remembered 1",
+        "\
+            kdcd serve --db d --udp [::]:88 --greatest-renewable 5 --greatest-life 4 --lock-seconds 3 \
+            --lock-after 2 --remembered 1",
     )?;
     assert_eq!(rt; Some(limits), Limits::new(1, 2, 3, 4, 5));
     Ok(())

@@ -1,6 +1,6 @@
 use Rattle.std.proofs.Common.{rules, ◌≡◌, IfOk, OnOk, ℕ, List, Result, Ok, Err, ap, subst, ◌∙◌}
 use Rattle.rand_core.specs.Stream.{fill_bytes}
-use Rattle.kdc_core.specs.Answer.{answer, next}
+use Rattle.kdc_core.specs.Answer.{answer, after_request}
 use Rattle.kdc_core.specs.View.{view}
 use Rattle.kdc_hub.specs.Issuing.{after, reply_of}
 use Rattle.kdc_hub.proofs.issuer.Issuer.answer.Goals as goal
@@ -12,15 +12,15 @@ on_ok (Err x) f p = tt
 pub returns-clause-reply : goal.returns-clause-reply
 unfolding reply_of
 returns-clause-reply g c =
-    let words : c.fill_bytes.new.dst ≡ (fill_bytes 64 (g.R.Rng.stream c.args.self.now.rng)).0 = search rules in
+    let random : c.fill_bytes.new.dst ≡ (fill_bytes 64 (g.R.Rng.stream c.args.self.now.rng)).0 = search rules in
     subst (λ (w : List ℕ). IfOk c.handled.result (λ reply. reply ≡ (answer (view c.args.self.now.kdc c.args.request.now) c.args.at w c.args.room c.args.request.now).reply))
-    words c.handled.ensures.reply
+    random c.handled.ensures.reply
 
 pub returns-clause-after : goal.returns-clause-after
 unfolding after
 returns-clause-after g c =
-    let words : c.fill_bytes.new.dst ≡ (fill_bytes 64 (g.R.Rng.stream c.args.self.now.rng)).0 = search rules in
+    let random : c.fill_bytes.new.dst ≡ (fill_bytes 64 (g.R.Rng.stream c.args.self.now.rng)).0 = search rules in
     let rest : g.R.Rng.stream c.fill_bytes.new.self ≡ (fill_bytes 64 (g.R.Rng.stream c.args.self.now.rng)).1 = search rules in
     on_ok c.handled.result
-    (λ e i. record { kdc = (e ∙ ap (λ (w : List ℕ). next c.args.self.now.kdc c.args.at w c.args.room c.args.request.now) words) i; random = rest i })
+    (λ e i. record { kdc = (e ∙ ap (λ (w : List ℕ). after_request c.args.self.now.kdc c.args.at w c.args.room c.args.request.now) random) i; random = rest i })
     c.handled.ensures.state

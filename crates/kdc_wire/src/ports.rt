@@ -1,0 +1,133 @@
+//! The sockets that stay open, and the poll that tells which of them are ready.
+use crate::bind_fault::BindFault;
+use mio::net::{TcpListener, UdpSocket};
+use mio::{Events, Interest, Poll, Token};
+use std::alloc::Global;
+use std::io;
+use std::io::ErrorKind;
+use std::net::{Net, SocketAddr};
+
+/// The most events of one look at the sockets.
+const MOST_EVENTS: usize = 64;
+
+/// The sockets that stay open, and the poll that tells which of them are ready.
+#[derive(Drop)]
+pub struct Ports {
+    pub poll: Poll,
+    pub events: Events,
+    /// The sockets for datagrams. Each is known to the poll by its place.
+    pub datagrams: Vec<UdpSocket>,
+    /// The sockets that take connections. The poll counts on with them.
+    pub newcomers: Vec<TcpListener>,
+}
+
+impl Ports {
+    /// Opens a socket at each address.
+    pub fn bind(
+        alloc: Global,
+        net: &impl Net,
+        udp: &[SocketAddr],
+        tcp: &[SocketAddr],
+    ) -> Result<Ports, BindFault> {
+        let events = Events::with_capacity(alloc, MOST_EVENTS)?;
+        let poll = Poll::new(net)?;
+        let datagrams = bind_datagrams(alloc, net, &poll, udp)?;
+        let newcomers = bind_newcomers(alloc, net, &poll, udp.len(), tcp)?;
+        Ok(Ports {
+            poll,
+            events,
+            datagrams,
+            newcomers,
+        })
+    }
+
+    /// Where datagrams are taken.
+    pub fn udp_addresses(&self, alloc: Global) -> io::Result<Vec<SocketAddr>> {
+        let mut addresses = Vec::new(alloc);
+        for socket in &self.datagrams {
+            addresses.push(socket.local_addr()?)?;
+        }
+        Ok(addresses)
+    }
+
+    /// Where connections are taken.
+    pub fn tcp_addresses(&self, alloc: Global) -> io::Result<Vec<SocketAddr>> {
+        let mut addresses = Vec::new(alloc);
+        for socket in &self.newcomers {
+            addresses.push(socket.local_addr()?)?;
+        }
+        Ok(addresses)
+    }
+
+    /// Sends a datagram from one of the sockets.
+    pub fn send(&self, place: usize, peer: SocketAddr, message: &[u8]) -> io::Result<()> {
+        match self.datagrams.get(place) {
+            Some(socket) => {
+                socket.send_to(message, peer)?;
+                Ok(())
+            }
+            None => Err(ErrorKind::NotConnected.into()),
+        }
+    }
+}
+
+/// Opens a socket for datagrams at each address, and has the poll know each by its place.
+fn bind_datagrams(
+    alloc: Global,
+    net: &impl Net,
+    poll: &Poll,
+    addresses: &[SocketAddr],
+) -> Result<Vec<UdpSocket>, BindFault> {
+    let mut sockets = Vec::new(alloc);
+    for (place, address) in addresses.iter().enumerate() {
+        sockets.push(bind_datagram(net, poll, place, *address)?)?;
+    }
+    Ok(sockets)
+}
+
+fn bind_datagram(
+    net: &impl Net,
+    poll: &Poll,
+    token: usize,
+    address: SocketAddr,
+) -> Result<UdpSocket, BindFault> {
+    match UdpSocket::bind(net, address) {
+        Ok(mut socket) => {
+            let registry = poll.registry();
+            registry.register(&mut socket, Token(token), Interest::READABLE)?;
+            Ok(socket)
+        }
+        Err(error) => Err(BindFault::Udp(address, error)),
+    }
+}
+
+/// Opens a socket that takes connections at each address. The poll counts from `first` with them.
+fn bind_newcomers(
+    alloc: Global,
+    net: &impl Net,
+    poll: &Poll,
+    first: usize,
+    addresses: &[SocketAddr],
+) -> Result<Vec<TcpListener>, BindFault> {
+    let mut sockets = Vec::new(alloc);
+    for (token, address) in (first..).zip(addresses) {
+        sockets.push(bind_newcomer(net, poll, token, *address)?)?;
+    }
+    Ok(sockets)
+}
+
+fn bind_newcomer(
+    net: &impl Net,
+    poll: &Poll,
+    token: usize,
+    address: SocketAddr,
+) -> Result<TcpListener, BindFault> {
+    match TcpListener::bind(net, address) {
+        Ok(mut socket) => {
+            let registry = poll.registry();
+            registry.register(&mut socket, Token(token), Interest::READABLE)?;
+            Ok(socket)
+        }
+        Err(error) => Err(BindFault::Tcp(address, error)),
+    }
+}
