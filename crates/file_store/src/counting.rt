@@ -3,8 +3,8 @@ ghost use Rattle.file_store.specs.Counting.{IsCounted};
 
 use std::io;
 
-/// The count after a call, which stops at the greatest `u64`.
-pub(crate) fn counted<T>(faults: u64, done: &io::Result<T>) -> u64
+/// The count of failed calls after a call, which stops at the greatest `u64`.
+pub fn counted<T>(faults: u64, done: &io::Result<T>) -> u64
     ensures { IsCounted faults done.now result }
 {
     match done {

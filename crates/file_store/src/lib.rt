@@ -11,6 +11,7 @@ mod memory_store;
 mod store;
 mod system_store;
 
+pub use crate::counting::counted;
 pub use crate::faults::{Amiss, FileFault};
 pub use crate::inputs::{
     ask_password, draw_seed, has_file, lock_file, password_of, read_at_most, read_file,

@@ -1,16 +1,18 @@
 //! The commands that change a database.
 use crate::databases::{lock_database, make_change, open_database, write_database};
-use crate::keys::{password_keys, random_keys};
-use crate::order::setting_of;
+use crate::order::{ChangeWords, setting_of};
 use crate::passwords::new_password;
 use crate::stop::Stop;
 use enctypes::Etype;
 use file_store::{Store, has_file, read_or_draw_seed};
+use krb_elements::KerberosString;
 use krb_fields::{Name, component_from_text};
+use principal_keys::{password_keys, random_keys};
 use principal_rows::KeyList;
 use principals::{ChangeFault, Database, RowChange};
-use std::alloc::{AllocError, Global};
+use std::alloc::Global;
 
+/// Makes the database of a new realm.
 pub(crate) fn make_realm<'p, T: Store>(
     alloc: Global,
     store: &mut T,
@@ -20,6 +22,17 @@ pub(crate) fn make_realm<'p, T: Store>(
     etypes: &[Etype],
 ) -> Result<(), Stop<'p>> {
     let realm = component_from_text(alloc, realm)?;
+    make_new_realm(alloc, store, db, &realm, seed, etypes)
+}
+
+fn make_new_realm<'p, T: Store>(
+    alloc: Global,
+    store: &mut T,
+    db: &'p str,
+    realm: &KerberosString,
+    seed: Option<&'p str>,
+    etypes: &[Etype],
+) -> Result<(), Stop<'p>> {
     lock_database(alloc, store, db)?;
     if has_file(store, db)? {
         return Err(Stop::Refused("Exists"));
@@ -29,115 +42,147 @@ pub(crate) fn make_realm<'p, T: Store>(
     write_database(alloc, store, db, &database)
 }
 
-pub(crate) fn add<'p, T: Store>(
+/// Changes a principal, and writes the database.
+pub(crate) fn change<'p, T: Store>(
     alloc: Global,
     store: &mut T,
     db: &'p str,
     name: &'p str,
-    password: Option<&'p str>,
+    how: ChangeWords<'p>,
     etypes: &[Etype],
 ) -> Result<(), Stop<'p>> {
     let who = Name::from_text(alloc, name)?;
     let mut database = open_database(alloc, store, db)?;
-    let pass = new_password(alloc, store, password, name, database.realm())?;
-    let keys = keys_of_password(alloc, &pass, &who, database.realm(), etypes)?;
-    let what = RowChange::Add(keys);
-    make_change(alloc, store, db, &mut database, who, what)
+    change_in(alloc, store, db, &mut database, name, who, how, etypes)
+}
+
+/// The principal's name is given as its text too, by which a password is asked for.
+fn change_in<'p, T: Store>(
+    alloc: Global,
+    store: &mut T,
+    db: &'p str,
+    database: &mut Database,
+    name: &str,
+    who: Name,
+    how: ChangeWords<'p>,
+    etypes: &[Etype],
+) -> Result<(), Stop<'p>> {
+    match how {
+        ChangeWords::Add { password } => {
+            add(alloc, store, db, database, name, who, password, etypes)
+        }
+        ChangeWords::Passwd { password } => {
+            set_password(alloc, store, db, database, name, who, password, etypes)
+        }
+        ChangeWords::Random { seed } => {
+            give_random_keys(alloc, store, db, database, who, seed, etypes)
+        }
+        ChangeWords::Drop { version } => {
+            make_change(
+                alloc,
+                store,
+                db,
+                database,
+                who,
+                RowChange::DropKeys(version),
+            )
+        }
+        ChangeWords::Policy { field, value } => {
+            set_policy(alloc, store, db, database, who, field, value)
+        }
+        ChangeWords::Remove => make_change(alloc, store, db, database, who, RowChange::Remove),
+    }
+}
+
+fn add<'p, T: Store>(
+    alloc: Global,
+    store: &mut T,
+    db: &'p str,
+    database: &mut Database,
+    name: &str,
+    who: Name,
+    password: Option<&'p str>,
+    etypes: &[Etype],
+) -> Result<(), Stop<'p>> {
+    let keys = keys_of_password(alloc, store, password, name, &who, database, etypes)?;
+    make_change(alloc, store, db, database, who, RowChange::Add(keys))
 }
 
 /// Gives a principal the keys of a password, as a new version.
-pub(crate) fn set_password<'p, T: Store>(
+fn set_password<'p, T: Store>(
     alloc: Global,
     store: &mut T,
     db: &'p str,
-    name: &'p str,
+    database: &mut Database,
+    name: &str,
+    who: Name,
     password: Option<&'p str>,
     etypes: &[Etype],
 ) -> Result<(), Stop<'p>> {
-    let who = Name::from_text(alloc, name)?;
-    let mut database = open_database(alloc, store, db)?;
-    let pass = new_password(alloc, store, password, name, database.realm())?;
-    let keys = keys_of_password(alloc, &pass, &who, database.realm(), etypes)?;
-    let what = RowChange::NewKeys(keys);
-    make_change(alloc, store, db, &mut database, who, what)
+    let keys = keys_of_password(alloc, store, password, name, &who, database, etypes)?;
+    make_change(alloc, store, db, database, who, RowChange::NewKeys(keys))
 }
 
 /// The keys of a password, with the principal's default salt.
-fn keys_of_password(
+fn keys_of_password<'p, T: Store>(
     alloc: Global,
-    pass: &[u8],
-    name: &Name,
-    realm: &[u8],
+    store: &mut T,
+    password: Option<&'p str>,
+    name: &str,
+    who: &Name,
+    database: &Database,
     etypes: &[Etype],
-) -> Result<KeyList, AllocError> {
-    let salt = name.salt(alloc, realm)?;
-    password_keys(alloc, etypes, pass, salt.as_slice())
+) -> Result<KeyList, Stop<'p>> {
+    let realm = database.realm();
+    let pass = new_password(alloc, store, password, name, realm)?;
+    let salt = who.salt(alloc, realm)?;
+    Ok(password_keys(alloc, etypes, &pass, salt.as_slice())?)
 }
 
 /// Gives a principal random keys, as a new principal or as a new version.
-pub(crate) fn give_random_keys<'p, T: Store>(
+fn give_random_keys<'p, T: Store>(
     alloc: Global,
     store: &mut T,
     db: &'p str,
-    name: &str,
+    database: &mut Database,
+    who: Name,
     seed: Option<&'p str>,
     etypes: &[Etype],
 ) -> Result<(), Stop<'p>> {
-    let name = Name::from_text(alloc, name)?;
-    let mut database = open_database(alloc, store, db)?;
     let keys = random_keys(alloc, etypes, read_or_draw_seed(alloc, store, seed)?)?;
-    let there = database.get(&name).is_some();
+    let there = database.get(&who).is_some();
     let what = if there {
         RowChange::NewKeys(keys)
     } else {
         RowChange::Add(keys)
     };
-    make_change(alloc, store, db, &mut database, name, what)
+    make_change(alloc, store, db, database, who, what)
 }
 
-pub(crate) fn drop_keys<'p, T: Store>(
+fn set_policy<'p, T: Store>(
     alloc: Global,
     store: &mut T,
     db: &'p str,
-    name: &str,
-    version: u32,
-) -> Result<(), Stop<'p>> {
-    let name = Name::from_text(alloc, name)?;
-    let mut database = open_database(alloc, store, db)?;
-    let what = RowChange::DropKeys(version);
-    make_change(alloc, store, db, &mut database, name, what)
-}
-
-pub(crate) fn set_policy<'p, T: Store>(
-    alloc: Global,
-    store: &mut T,
-    db: &'p str,
-    name: &str,
+    database: &mut Database,
+    who: Name,
     field: &str,
     value: &str,
 ) -> Result<(), Stop<'p>> {
-    let name = Name::from_text(alloc, name)?;
-    let mut database = open_database(alloc, store, db)?;
-    let Some(row) = database.get(&name) else {
+    let Some(row) = database.get(&who) else {
         return Err(Stop::from(ChangeFault::Absent));
     };
     let Some(setting) = setting_of(field, value) else {
         return Err(Stop::Usage);
     };
     let policy = setting.on(row.policy);
-    let what = RowChange::SetPolicy(policy);
-    make_change(alloc, store, db, &mut database, name, what)
-}
-
-pub(crate) fn remove<'p, T: Store>(
-    alloc: Global,
-    store: &mut T,
-    db: &'p str,
-    name: &str,
-) -> Result<(), Stop<'p>> {
-    let name = Name::from_text(alloc, name)?;
-    let mut database = open_database(alloc, store, db)?;
-    make_change(alloc, store, db, &mut database, name, RowChange::Remove)
+    make_change(
+        alloc,
+        store,
+        db,
+        database,
+        who,
+        RowChange::SetPolicy(policy),
+    )
 }
 
 /// Writes what was read, in the version that is written.

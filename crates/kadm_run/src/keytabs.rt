@@ -3,6 +3,7 @@ use crate::databases::open_database;
 use crate::joining::joined;
 use crate::stop::Stop;
 use cred_files::{Keytab, KeytabEntry};
+use enctypes::Key;
 use file_store::{FileFault, Store, has_file, read_file, write_file};
 use krb_elements::KerberosString;
 use krb_fields::Name;
@@ -21,8 +22,19 @@ pub(crate) fn write_keytab<'p, T: Store>(
 ) -> Result<(), Stop<'p>> {
     let name = Name::from_text(alloc, name)?;
     let database = open_database(alloc, store, db)?;
+    write_keys(alloc, store, &database, &name, path, append)
+}
+
+fn write_keys<'p, T: Store>(
+    alloc: Global,
+    store: &mut T,
+    database: &Database,
+    name: &Name,
+    path: &'p str,
+    append: bool,
+) -> Result<(), Stop<'p>> {
     let old = read_old(alloc, store, path, append)?;
-    let octets = keytab_behind(alloc, &database, &name, old)?;
+    let octets = keytab_behind(alloc, database, name, old)?;
     write_file(alloc, store, path, &octets)?;
     Ok(())
 }
@@ -74,12 +86,22 @@ fn entries_of(
     let current = row.versions.current();
     let mut entries = Vec::new(alloc);
     for key in current.keys.keys() {
-        entries.push(KeytabEntry {
-            realm: KerberosString::from_slice(alloc, realm)?,
-            name: name.copy(alloc)?,
-            version: current.number,
-            key: *key,
-        })?;
+        entries.push(entry_of(alloc, realm, name, current.number, key)?)?;
     }
     Ok(entries)
+}
+
+fn entry_of(
+    alloc: Global,
+    realm: &[u8],
+    name: &Name,
+    version: u32,
+    key: &Key,
+) -> Result<KeytabEntry, AllocError> {
+    Ok(KeytabEntry {
+        realm: KerberosString::from_slice(alloc, realm)?,
+        name: name.copy(alloc)?,
+        version,
+        key: *key,
+    })
 }

@@ -5,9 +5,7 @@
 
 mod changes;
 mod databases;
-mod etypes;
 mod joining;
-mod keys;
 mod keytabs;
 mod listing;
 mod order;
@@ -15,5 +13,4 @@ mod passwords;
 mod run;
 mod stop;
 
-pub use keys::{password_keys, random_keys};
 pub use run::{DONE, FAILED, REFUSED, USAGE, kadm_run};

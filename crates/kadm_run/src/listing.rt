@@ -17,14 +17,27 @@ pub(crate) fn print_list<'p, T: Store, W: Write>(
     db: &'p str,
     out: &mut W,
 ) -> Result<(), Stop<'p>> {
+    let lines = read_lines(alloc, store, db)?;
+    Ok(print_lines(&lines, out)?)
+}
+
+fn print_lines<W: Write>(lines: &[String], out: &mut W) -> io::Result<()> {
+    for line in lines {
+        writeln!(out, "{line}")?;
+    }
+    Ok(())
+}
+
+fn read_lines<'p, T: Store>(
+    alloc: Global,
+    store: &mut T,
+    db: &'p str,
+) -> Result<Vec<String>, Stop<'p>> {
     let database = read_database(alloc, store, db)?;
     let mut lines = lines_of(alloc, &database)?;
     // no text of a name has an octet as low as the space behind it, so lines are ordered as names are
     lines.sort()?;
-    for line in &lines {
-        writeln!(out, "{line}")?;
-    }
-    Ok(())
+    Ok(lines)
 }
 
 fn lines_of(alloc: Global, database: &Database) -> Result<Vec<String>, AllocError> {
@@ -67,9 +80,13 @@ pub(crate) fn print_row<'p, T: Store, W: Write>(
 ) -> Result<(), Stop<'p>> {
     let name = Name::from_text(alloc, name)?;
     let database = read_database(alloc, store, db)?;
-    let Some(row) = database.get(&name) else {
-        return Err(Stop::from(ChangeFault::Absent));
-    };
+    match database.get(&name) {
+        Some(row) => print_found(alloc, row, out),
+        None => Err(Stop::from(ChangeFault::Absent)),
+    }
+}
+
+fn print_found<'p, W: Write>(alloc: Global, row: &Row, out: &mut W) -> Result<(), Stop<'p>> {
     print_policy(row, out)?;
     print_versions(alloc, row, out)
 }
@@ -81,7 +98,7 @@ fn print_policy<W: Write>(row: &Row, out: &mut W) -> io::Result<()> {
     Ok(())
 }
 
-fn print_versions<W: Write>(alloc: Global, row: &Row, out: &mut W) -> Result<(), Stop<'static>> {
+fn print_versions<'p, W: Write>(alloc: Global, row: &Row, out: &mut W) -> Result<(), Stop<'p>> {
     for version in row.versions.as_slice() {
         let types = types_of(alloc, &version.keys)?;
         writeln!(out, "version {} {types}", version.number)?;

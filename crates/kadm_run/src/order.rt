@@ -1,10 +1,10 @@
 //! The words of a command line, and what they order.
-use crate::etypes::{EtypesFault, offered, read_etypes};
 use clap::error::Error;
 use clap::{ArgMatches, Command};
-use command_options::{OptionWords, flag, with_more_options, with_options};
+use command_options::{FlagWords, OptionWords, SubcommandWords, Times, with_subcommands};
 use enctypes::Etype;
-use std::alloc::{AllocError, Global};
+use principal_keys::{EtypesFault, offered, read_etypes};
+use std::alloc::Global;
 use std::convert::AsStr;
 use text_fields::{Setting, number_u32};
 
@@ -19,44 +19,24 @@ pub(crate) struct Order<'a> {
 }
 
 /// Why words order nothing.
-#[derive(Clone, Copy, Debug)]
+#[derive(Clone, Copy)]
 pub(crate) enum OrderFault {
     /// An option has a value that is none, and this is what it takes.
     BadValue(&'static str),
     Memory,
 }
 
-/// What is to be done. Paths and names stand as they were given; a field and its value are a setting. A seed that is in
-/// no file is the system's, and a password that is in none is asked for.
-#[derive(Clone, Copy, Debug)]
+/// What is to be done. Paths and names stand as they were given. A seed that is in no file is the system's.
+#[derive(Clone, Copy)]
 pub(crate) enum Task<'a> {
     Init {
         realm: &'a str,
         seed: Option<&'a str>,
     },
-    Add {
+    /// A principal is changed.
+    Change {
         name: &'a str,
-        password: Option<&'a str>,
-    },
-    Passwd {
-        name: &'a str,
-        password: Option<&'a str>,
-    },
-    Random {
-        name: &'a str,
-        seed: Option<&'a str>,
-    },
-    Drop {
-        name: &'a str,
-        version: u32,
-    },
-    Policy {
-        name: &'a str,
-        field: &'a str,
-        value: &'a str,
-    },
-    Remove {
-        name: &'a str,
+        how: ChangeWords<'a>,
     },
     List,
     Show {
@@ -68,6 +48,17 @@ pub(crate) enum Task<'a> {
         append: bool,
     },
     Migrate,
+}
+
+/// How a principal is changed. A field and its value are a setting. A password that is in no file is asked for.
+#[derive(Clone, Copy)]
+pub(crate) enum ChangeWords<'a> {
+    Add { password: Option<&'a str> },
+    Passwd { password: Option<&'a str> },
+    Random { seed: Option<&'a str> },
+    Drop { version: u32 },
+    Policy { field: &'a str, value: &'a str },
+    Remove,
 }
 
 const EXAMPLE: &str = "\
@@ -108,7 +99,10 @@ pub(crate) fn read_words<'a, S: AsStr>(
     alloc: Global,
     words: &'a [S],
 ) -> Result<ArgMatches<'a>, Error> {
-    kadm(alloc)?.try_get_matches_from(words)
+    let kadm = Command::new(alloc, "kadm")
+        .about("Makes, changes and lists the database of a Kerberos realm")
+        .after_help(EXAMPLE);
+    with_subcommands(alloc, kadm, SUBCOMMANDS)?.try_get_matches_from(words)
 }
 
 /// What the words order.
@@ -157,33 +151,38 @@ fn task_of<'a>(sub: &str, words: &ArgMatches<'a>) -> Option<(&'a str, Task<'a>)>
     Some((db, task))
 }
 
-/// What is to be done to a principal.
+/// What is to be done to a principal, or with it.
 fn task_on<'a>(sub: &str, name: &'a str, words: &ArgMatches<'a>) -> Option<Task<'a>> {
     Some(match sub {
-        "add" => Task::Add {
-            name,
-            password: words.get_str("password-file"),
-        },
-        "passwd" => Task::Passwd {
-            name,
-            password: words.get_str("password-file"),
-        },
-        "random" => Task::Random {
-            name,
-            seed: words.get_str("seed"),
-        },
-        "drop" => Task::Drop {
-            name,
-            version: number_u32(words.get_str("version")?)?,
-        },
-        "policy" => policy_task(name, words)?,
-        "remove" => Task::Remove { name },
         "show" => Task::Show { name },
         "keytab" => Task::Keytab {
             name,
             out: words.get_str("out")?,
             append: words.get_flag(APPEND),
         },
+        _ => Task::Change {
+            name,
+            how: change_words(sub, words)?,
+        },
+    })
+}
+
+fn change_words<'a>(sub: &str, words: &ArgMatches<'a>) -> Option<ChangeWords<'a>> {
+    Some(match sub {
+        "add" => ChangeWords::Add {
+            password: words.get_str("password-file"),
+        },
+        "passwd" => ChangeWords::Passwd {
+            password: words.get_str("password-file"),
+        },
+        "random" => ChangeWords::Random {
+            seed: words.get_str("seed"),
+        },
+        "drop" => ChangeWords::Drop {
+            version: number_u32(words.get_str("version")?)?,
+        },
+        "policy" => policy_words(words)?,
+        "remove" => ChangeWords::Remove,
         _ => return None,
     })
 }
@@ -201,13 +200,13 @@ fn task_on_all<'a>(sub: &str, words: &ArgMatches<'a>) -> Option<Task<'a>> {
     })
 }
 
-fn policy_task<'a>(name: &'a str, words: &ArgMatches<'a>) -> Option<Task<'a>> {
+fn policy_words<'a>(words: &ArgMatches<'a>) -> Option<ChangeWords<'a>> {
     let field = words.get_str("field")?;
     let value = words.get_str("value")?;
     if setting_of(field, value).is_none() {
         return None;
     }
-    Some(Task::Policy { name, field, value })
+    Some(ChangeWords::Policy { field, value })
 }
 
 /// A field with its value, of which a time may be a date too.
@@ -222,158 +221,151 @@ const DB: OptionWords = OptionWords {
     name: "db",
     shape: "FILE",
     help: "The database of the realm",
+    times: Times::Once,
 };
 
 const REALM: OptionWords = OptionWords {
     name: "realm",
     shape: "REALM",
     help: "The realm's name",
+    times: Times::Once,
 };
 
 const REALM_SEED: OptionWords = OptionWords {
     name: "seed",
     shape: "FILE",
     help: "32 random octets, for the keys of krbtgt/REALM alone; else they are the system's",
+    times: Times::AtMostOnce,
 };
 
 const NAME: OptionWords = OptionWords {
     name: "name",
     shape: "NAME",
     help: "The principal's name, without its realm",
+    times: Times::Once,
 };
 
 const PASSWORD: OptionWords = OptionWords {
     name: "password-file",
     shape: "FILE",
     help: "The password is the first line, without its line feed, of at most 1,024 octets; else standard input's",
+    times: Times::AtMostOnce,
 };
 
 const SEED: OptionWords = OptionWords {
     name: "seed",
     shape: "FILE",
     help: "32 random octets, for these keys alone; else they are the system's",
+    times: Times::AtMostOnce,
 };
 
 const VERSION: OptionWords = OptionWords {
     name: "version",
     shape: "N",
     help: "The version's number",
+    times: Times::Once,
 };
 
 const FIELD: OptionWords = OptionWords {
     name: "field",
     shape: "FIELD",
     help: FIELDS,
+    times: Times::Once,
 };
 
 const VALUE: OptionWords = OptionWords {
     name: "value",
     shape: "VALUE",
     help: VALUES,
+    times: Times::Once,
 };
 
 const OUT: OptionWords = OptionWords {
     name: "out",
     shape: "FILE",
     help: "The keytab; a file that is there is replaced",
+    times: Times::Once,
 };
 
 const TYPES: OptionWords = OptionWords {
     name: "types",
     shape: "TYPES",
     help: "The keys' encryption types in the order of preference, as 18,20; else 18,17,20,19",
+    times: Times::AtMostOnce,
 };
 
 const APPEND: &str = "append";
 
-/// Each subcommand but `keytab`: its name, what it does, the options that have to be there, and those that may be.
-const SUBCOMMANDS: &[(&str, &str, &[OptionWords], &[OptionWords])] = &[
-    (
-        "init",
-        "Makes the database of a new realm, where there is no file yet",
-        &[DB, REALM],
-        &[REALM_SEED],
-    ),
-    (
-        "add",
-        "Adds a principal, whose keys are made of a password",
-        &[DB, NAME],
-        &[PASSWORD, TYPES],
-    ),
-    (
-        "passwd",
-        "Gives a principal new keys, which are made of a password",
-        &[DB, NAME],
-        &[PASSWORD, TYPES],
-    ),
-    (
-        "random",
-        "Gives a principal random keys; adds it where it is not there",
-        &[DB, NAME],
-        &[SEED, TYPES],
-    ),
-    (
-        "drop",
-        "Drops the keys of an old version",
-        &[DB, NAME, VERSION],
-        &[],
-    ),
-    (
-        "policy",
-        "Sets a field of a principal's policy",
-        &[DB, NAME, FIELD, VALUE],
-        &[],
-    ),
-    ("remove", "Removes a principal", &[DB, NAME], &[]),
-    (
-        "list",
-        "Prints a line for each principal: its name, its current version, and the types of its keys",
-        &[DB],
-        &[],
-    ),
-    (
-        "show",
-        "Prints a principal's policy, and the versions of its keys with their types",
-        &[DB, NAME],
-        &[],
-    ),
-    (
-        "migrate",
-        "Writes a database of version 1 or 2 as version 2",
-        &[DB],
-        &[],
-    ),
+const APPENDS: FlagWords = FlagWords {
+    name: APPEND,
+    help: "Keeps the entries that the keytab has, and adds the keys",
+};
+
+const SUBCOMMANDS: &[SubcommandWords] = &[
+    SubcommandWords {
+        name: "init",
+        about: "Makes the database of a new realm, where there is no file yet",
+        options: &[DB, REALM, REALM_SEED],
+        flags: &[],
+    },
+    SubcommandWords {
+        name: "add",
+        about: "Adds a principal, whose keys are made of a password",
+        options: &[DB, NAME, PASSWORD, TYPES],
+        flags: &[],
+    },
+    SubcommandWords {
+        name: "passwd",
+        about: "Gives a principal new keys, which are made of a password",
+        options: &[DB, NAME, PASSWORD, TYPES],
+        flags: &[],
+    },
+    SubcommandWords {
+        name: "random",
+        about: "Gives a principal random keys; adds it where it is not there",
+        options: &[DB, NAME, SEED, TYPES],
+        flags: &[],
+    },
+    SubcommandWords {
+        name: "drop",
+        about: "Drops the keys of an old version",
+        options: &[DB, NAME, VERSION],
+        flags: &[],
+    },
+    SubcommandWords {
+        name: "policy",
+        about: "Sets a field of a principal's policy",
+        options: &[DB, NAME, FIELD, VALUE],
+        flags: &[],
+    },
+    SubcommandWords {
+        name: "remove",
+        about: "Removes a principal",
+        options: &[DB, NAME],
+        flags: &[],
+    },
+    SubcommandWords {
+        name: "list",
+        about: "Prints a line for each principal: its name, its current version, and the types of its keys",
+        options: &[DB],
+        flags: &[],
+    },
+    SubcommandWords {
+        name: "show",
+        about: "Prints a principal's policy, and the versions of its keys with their types",
+        options: &[DB, NAME],
+        flags: &[],
+    },
+    SubcommandWords {
+        name: "migrate",
+        about: "Writes a database of version 1 or 2 as version 2",
+        options: &[DB],
+        flags: &[],
+    },
+    SubcommandWords {
+        name: "keytab",
+        about: "Writes a keytab of a principal's current keys",
+        options: &[DB, NAME, OUT],
+        flags: &[APPENDS],
+    },
 ];
-
-fn kadm<'a>(alloc: Global) -> Result<Command<'a>, AllocError> {
-    let mut kadm = Command::new(alloc, "kadm")
-        .about("Makes, changes and lists the database of a Kerberos realm")
-        .after_help(EXAMPLE)
-        .subcommand_required(true);
-    for (name, about, needed, more) in SUBCOMMANDS {
-        let subcommand = Command::new(alloc, name).about(about);
-        kadm = kadm.subcommand(with_both(alloc, subcommand, needed, more)?)?;
-    }
-    kadm.subcommand(keytab(alloc)?)
-}
-
-/// The command, with options that have to be there, and with some that may be.
-fn with_both<'a>(
-    alloc: Global,
-    command: Command<'a>,
-    needed: &[OptionWords],
-    more: &[OptionWords],
-) -> Result<Command<'a>, AllocError> {
-    with_more_options(alloc, with_options(alloc, command, needed)?, more)
-}
-
-fn keytab<'a>(alloc: Global) -> Result<Command<'a>, AllocError> {
-    let keytab = Command::new(alloc, "keytab").about(
-        "Writes a keytab of a principal's current keys",
-    );
-    with_options(alloc, keytab, &[DB, NAME, OUT])?.arg(flag(
-        alloc,
-        APPEND,
-        "Keeps the entries that the keytab has, and adds the keys",
-    ))
-}

@@ -1,18 +1,18 @@
 //! One command line: from its words to the files.
-ghost use Rattle.std.specs.Prelude.{◌≤◌};
+ghost use Rattle.std.specs.Prelude.{◌≤◌, IfOk};
 
-use crate::changes::{
-    add, drop_keys, give_random_keys, make_realm, migrate, remove, set_password, set_policy,
-};
+use crate::changes::{change, make_realm, migrate};
 use crate::keytabs::write_keytab;
 use crate::listing::{print_list, print_row};
 use crate::order::{Order, OrderFault, Task, read_order, read_words};
 use crate::stop::{Stop, report};
-use clap::error::ErrorKind;
+use clap::ArgMatches;
+use clap::error::{Error, ErrorKind};
 use enctypes::Etype;
 use file_store::Store;
 use std::alloc::{AllocError, Global};
 use std::convert::AsStr;
+use std::io;
 use std::io::{BufWriter, Write};
 
 /// The status of a command that did what it was to do.
@@ -45,15 +45,27 @@ pub fn kadm_run<S: AsStr, T: Store, W: Write + Drop, E: Write + Drop>(
     let Ok(mut errors) = BufWriter::new(alloc, errors) else {
         return FAILED;
     };
-    let status = match run_to_end(alloc, words, store, &mut out) {
+    run_and_report(alloc, words, store, &mut out, &mut errors).unwrap_or(FAILED)
+}
+
+/// The status; an error is a failed write.
+fn run_and_report<S: AsStr, T: Store, W: Write, E: Write>(
+    alloc: Global,
+    words: &[S],
+    store: &mut T,
+    out: &mut W,
+    errors: &mut E,
+) -> io::Result<u8>
+    ensures { IfOk result (λ status. status ≤ 3) }
+{
+    let status = match run_to_end(alloc, words, store, out) {
         Ok(()) => DONE,
-        Err(stop) => report(&mut out, &mut errors, stop).unwrap_or(FAILED),
+        Err(stop) => report(out, errors, stop)?,
     };
     // the errors first: they tell of an output that is not taken
-    if errors.flush().is_err() || out.flush().is_err() {
-        return FAILED;
-    }
-    status
+    errors.flush()?;
+    out.flush()?;
+    Ok(status)
 }
 
 /// Does what the words say, up to where all that it prints is taken.
@@ -74,38 +86,51 @@ fn run_words<'a, S: AsStr, T: Store, W: Write>(
     out: &mut W,
 ) -> Result<(), Stop<'a>> {
     match read_words(alloc, words) {
-        Ok(matches) => match read_order(alloc, &matches) {
-            Ok(Order { db, task, etypes }) => run_order(alloc, db, task, &etypes, store, out),
-            Err(OrderFault::BadValue(fault)) => {
-                writeln!(out, "error: {fault}")?;
-                Err(Stop::Usage)
-            }
-            Err(OrderFault::Memory) => Err(Stop::from(AllocError)),
-        },
-        Err(error) if error.kind() == ErrorKind::OutOfMemory => Err(Stop::from(AllocError)),
-        Err(error) => {
-            write!(out, "{error}")?;
-            if error.exit_code() == 0 {
-                Ok(())
-            } else {
-                Err(Stop::Usage)
-            }
+        Ok(matches) => run_matches(alloc, &matches, store, out),
+        Err(error) => print_words_fault(out, &error),
+    }
+}
+
+/// Prints what is wrong with the words, or the help that they ask for.
+fn print_words_fault<'a, W: Write>(out: &mut W, error: &Error) -> Result<(), Stop<'a>> {
+    if error.kind() == ErrorKind::OutOfMemory {
+        return Err(Stop::from(AllocError));
+    }
+    write!(out, "{error}")?;
+    if error.exit_code() == 0 {
+        Ok(())
+    } else {
+        Err(Stop::Usage)
+    }
+}
+
+fn run_matches<'a, T: Store, W: Write>(
+    alloc: Global,
+    matches: &ArgMatches<'a>,
+    store: &mut T,
+    out: &mut W,
+) -> Result<(), Stop<'a>> {
+    match read_order(alloc, matches) {
+        Ok(order) => run_order(alloc, &order, store, out),
+        Err(OrderFault::BadValue(fault)) => {
+            writeln!(out, "error: {fault}")?;
+            Err(Stop::Usage)
         }
+        Err(OrderFault::Memory) => Err(Stop::from(AllocError)),
     }
 }
 
 fn run_order<'a, T: Store, W: Write>(
     alloc: Global,
-    db: &'a str,
-    task: Task<'a>,
-    etypes: &[Etype],
+    order: &Order<'a>,
     store: &mut T,
     out: &mut W,
 ) -> Result<(), Stop<'a>> {
-    match task {
+    let db = order.db;
+    match order.task {
         Task::List => return print_list(alloc, store, db, out),
         Task::Show { name } => return print_row(alloc, store, db, name, out),
-        task => run_task(alloc, db, task, etypes, store)?,
+        task => run_task(alloc, db, task, &order.etypes, store)?,
     }
     writeln!(out, "ok")?;
     Ok(())
@@ -121,12 +146,7 @@ fn run_task<'a, T: Store>(
 ) -> Result<(), Stop<'a>> {
     match task {
         Task::Init { realm, seed } => make_realm(alloc, store, db, realm, seed, etypes),
-        Task::Add { name, password } => add(alloc, store, db, name, password, etypes),
-        Task::Passwd { name, password } => set_password(alloc, store, db, name, password, etypes),
-        Task::Random { name, seed } => give_random_keys(alloc, store, db, name, seed, etypes),
-        Task::Drop { name, version } => drop_keys(alloc, store, db, name, version),
-        Task::Policy { name, field, value } => set_policy(alloc, store, db, name, field, value),
-        Task::Remove { name } => remove(alloc, store, db, name),
+        Task::Change { name, how } => change(alloc, store, db, name, how, etypes),
         Task::Keytab { name, out, append } => write_keytab(alloc, store, db, name, out, append),
         Task::Migrate => migrate(alloc, store, db),
         Task::List | Task::Show { .. } => Ok(()),

@@ -16,7 +16,7 @@ const MEMORY: &str = "memory";
 const STANDARD_OUTPUT: &str = "standard output";
 
 /// Why a command ends before it is done.
-#[derive(Clone, Copy, Debug)]
+#[derive(Clone, Copy)]
 pub(crate) enum Stop<'p> {
     /// The words are at fault, and that has been printed.
     Usage,
@@ -65,12 +65,9 @@ impl From<NameFault> for Stop<'_> {
 
 impl From<ReadFault> for Stop<'_> {
     fn from(fault: ReadFault) -> Self {
-        match fault {
-            ReadFault::NotJson => Stop::Refused("NotJson"),
-            ReadFault::BadVersion => Stop::Refused("BadVersion"),
-            ReadFault::BadRow => Stop::Refused("BadRow"),
-            ReadFault::NoTicketGranter => Stop::Refused("NoTicketGranter"),
-            ReadFault::Memory => Stop::from(AllocError),
+        match fault.refusal() {
+            Some(word) => Stop::Refused(word),
+            None => Stop::from(AllocError),
         }
     }
 }

@@ -5,8 +5,9 @@ use crate::steps::Step::{
 use crate::steps::{Step, file_after, run};
 use cred_files::Keytab;
 use enctypes::Etype;
-use kadm_run::{DONE, FAILED, REFUSED, password_keys, random_keys};
+use kadm_run::{DONE, FAILED, REFUSED};
 use krb_fields::Name;
+use principal_keys::{password_keys, random_keys};
 use std::alloc::Global;
 use std::io;
 use std::process::Abort;
@@ -120,6 +121,7 @@ const FAULTS: &[Step] = &[
     Run(INIT, "ok\n", DONE),
     IsAtFault("kadm", "Usage"),
     IsAtFault("kadm list", "--db"),
+    IsAtFault("kadm list --db ", "--db"),
     IsAtFault("kadm make --db db", "make"),
     IsAtFault("kadm show --db db", "--name"),
     IsAtFault("kadm drop --db db --name h --version +1", "--version"),
@@ -285,8 +287,8 @@ const ETYPES: [Etype; 4] = [
     Etype::Aes128CtsHmacSha256_128,
 ];
 
-/// The keys that ChaCha20 gives under a seed of 32 octets 07, as Python's `cryptography` computes it with a nonce of zeros:
-/// octets 0, 32, 64 and 96 on.
+/// The keys that ChaCha20 gives under a seed of 32 octets 07, as Python's `cryptography` computes it with a nonce of
+/// zeros: octets 0, 32, 64 and 96 on.
 const DRAWN: &[&[u8]] = &[
     b"\xf4\x00\x92\x78\x57\xaa\xf6\x41\x14\xf5\x61\xba\xac\xb3\x79\x70\x8c\x79\xa1\xdc\x14\x76\xab\x57\x32\x16\xa4\x02\x07\x64\xbd\xe5",
     b"\x45\xc1\x43\xdb\xb9\x60\x9c\x22\xab\x85\x5d\x60\x92\x5a\x99\x76",

@@ -37,8 +37,8 @@ const STOCK_KEYTAB: [u8; 169] = [
     0x0b, 0x0c, 0x0d, 0x0e, 0x0f, 0x00, 0x00, 0x00, 0x03,
 ];
 
-// ktutil of Heimdal 7.8: a hole where an entry was removed, then h of type 18 and version 2, and host/x.a.b of type 17 and
-// version 300; four octets of flags stand behind each version
+// ktutil of Heimdal 7.8: a hole where an entry was removed, then h of type 18 and version 2, and host/x.a.b of type
+// 17 and version 300; four octets of flags stand behind each version
 const HEIMDAL_KEYTAB: [u8; 181] = [
     0x05, 0x02, 0xff, 0xff, 0xff, 0xd1, 0x00, 0x00, 0x00, 0x00, 0x00, 0x00, 0x00, 0x00, 0x00, 0x00,
     0x00, 0x00, 0x00, 0x00, 0x00, 0x00, 0x00, 0x00, 0x00, 0x00, 0x00, 0x00, 0x00, 0x00, 0x00, 0x00,
@@ -337,6 +337,7 @@ fn end_of(cache: &Cache, service: &Name) -> Result<i64, FileFault> {
 fn expect_puts(rt: &impl Abort, alloc: Global, cache: &mut Cache) -> Result<(), Fail> {
     for (end, wanted) in [
         (1_704_103_200, None),
+        (2_147_483_648, None),
         (4_294_967_296, Some(FileFault::TooLate)),
         (1_704_103_201, None),
     ] {

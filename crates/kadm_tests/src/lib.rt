@@ -1,5 +1,5 @@
-//! The tests of keytabs and credential caches, and of the administrator's tool. They stand apart, since a crate with tests is
-//! proved twice.
+//! The tests of keytabs and credential caches, and of the administrator's tool. They stand apart, since a crate with
+//! tests is proved twice.
 #![tactic(auto)]
 
 #[cfg(test)]

@@ -1,8 +1,8 @@
 //! The encryption types of the keys that are made, in an order of preference.
 ghost use Rattle.std.specs.Prelude.{◌≡◌, ℕ, pos, IfOk, IfSome, IfNone};
 ghost use Rattle.enctypes.specs.declared.etype.Etype as types;
-ghost use Rattle.kadm_run.specs.Keys.{offered};
-ghost use Rattle.kadm_run.specs.Etypes.{IsEtypeText};
+ghost use Rattle.principal_keys.specs.Keys.{offered};
+ghost use Rattle.principal_keys.specs.Etypes.{IsEtypeText};
 
 use enctypes::Etype;
 use std::alloc::{AllocError, AllocFailed, Global};
@@ -10,7 +10,7 @@ use text_fields::number;
 
 /// Why a text names no encryption types.
 #[derive(Clone, Copy, Debug, PartialEq, Eq)]
-pub(crate) enum EtypesFault {
+pub enum EtypesFault {
     /// It is no list of types, each at most once.
     Form,
     Memory,
@@ -29,7 +29,7 @@ impl<T: Drop> From<AllocFailed<T>> for EtypesFault {
 }
 
 /// The types where none are named: 18, 17, 20 and 19.
-pub(crate) fn offered(alloc: Global) -> Result<Vec<Etype>, AllocError>
+pub fn offered(alloc: Global) -> Result<Vec<Etype>, AllocError>
     ensures { IfOk result (λ etypes. etypes.items ≡ offered) }
 {
     Vec::from_slice(
@@ -44,7 +44,7 @@ pub(crate) fn offered(alloc: Global) -> Result<Vec<Etype>, AllocError>
 }
 
 /// The types that a text names by their numbers, in its order: at least one, and each at most once.
-pub(crate) fn read_etypes(alloc: Global, text: &str) -> Result<Vec<Etype>, EtypesFault> {
+pub fn read_etypes(alloc: Global, text: &str) -> Result<Vec<Etype>, EtypesFault> {
     let mut etypes = Vec::new(alloc);
     for part in text.split(',') {
         let Some(etype) = read_etype(part) else {

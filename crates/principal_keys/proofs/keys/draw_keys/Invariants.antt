@@ -1,6 +1,6 @@
 use Rattle.std.proofs.Common.{◌≡◌, ◌++◌, drop}
-use Rattle.kadm_run.specs.Keys.{drawn_keys}
-use Rattle.kadm_run.proofs.keys.draw_keys.Given as goal
+use Rattle.principal_keys.specs.Keys.{drawn_keys}
+use Rattle.principal_keys.proofs.keys.draw_keys.Given as goal
 
 -- the keys so far, and those that are drawn for the types to come
 abbrev pub invariant-loop-etype : goal.invariant-loop-etype

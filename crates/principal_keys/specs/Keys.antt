@@ -1,7 +1,8 @@
 -- The keys that are made of a password, or of a seed.
 use Rattle.std.specs.Prelude.{ℕ, List, [], ◌∷◌, take}
 use Rattle.enctypes.specs.declared.etype.Etype.{Etype}
-use Rattle.enctypes.specs.declared.etype.Etype.TheVariants.{Aes128CtsHmacSha1_96, Aes256CtsHmacSha1_96, Aes128CtsHmacSha256_128, Aes256CtsHmacSha384_192}
+use Rattle.enctypes.specs.declared.etype.Etype.TheVariants.{Aes128CtsHmacSha1_96, Aes256CtsHmacSha1_96}
+use Rattle.enctypes.specs.declared.etype.Etype.TheVariants.{Aes128CtsHmacSha256_128, Aes256CtsHmacSha384_192}
 use Rattle.enctypes.specs.Derivation.{string_key}
 use Rattle.enctypes.specs.Etype.{default_count, key_len}
 use Rattle.enctypes.specs.Key.{ProtocolKey}

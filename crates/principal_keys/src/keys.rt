@@ -1,6 +1,6 @@
 //! The keys that the tool makes: one of each encryption type that is asked for, in that order.
 ghost use Rattle.std.specs.Prelude.{◌≡◌, IfOk, OnOk, ◌++◌, ◌∷◌, [], map};
-ghost use Rattle.kadm_run.specs.Keys.{drawn_key, drawn_keys, password_key, seeded};
+ghost use Rattle.principal_keys.specs.Keys.{drawn_key, drawn_keys, password_key, seeded};
 ghost use Rattle.rand_core.specs.Stream.{fill_bytes};
 
 use enctypes::{Etype, Key, string_to_key};

@@ -1,0 +1,8 @@
+//! The keys that an administrator gives a principal: of a password, or random, for a list of encryption types.
+#![tactic(auto)]
+
+mod etypes;
+mod keys;
+
+pub use etypes::{EtypesFault, offered, read_etypes};
+pub use keys::{password_keys, random_keys};
