@@ -1,9 +1,9 @@
 //! Messages over sockets (RFC 4120, section 7.2).
 ghost use Rattle.std.specs.Prelude.{◌≡◌};
-ghost use Rattle.file_store.specs.Counting.{IsCounted};
 
 use crate::deadline::Deadline;
 use crate::stream::TimedStream;
+use file_store::counted;
 use kclient_run::{Exchange, Transport};
 use std::alloc::Global;
 use std::io;
@@ -74,8 +74,8 @@ impl<'a, R: Net + Clock> SocketExchange<'a, R> {
 impl<'a, R: Net + Clock> Exchange for SocketExchange<'a, R> {
     ghost failure_count = { λ e. e.failures };
 
-    /// A datagram is sent three times, and its reply waited for 1, 2 and 4 seconds. A connection is held for 8 seconds. All
-    /// of it ends 30 seconds after the first message was sent.
+    /// A datagram is sent three times, and its reply waited for 1, 2 and 4 seconds. A connection is held for 8 seconds.
+    /// All of it ends 30 seconds after the first message was sent.
     fn exchange(
         &mut self,
         alloc: Global,
@@ -94,16 +94,6 @@ impl<'a, R: Net + Clock> Exchange for SocketExchange<'a, R> {
 
     fn failures(&self) -> u64 {
         self.failures
-    }
-}
-
-/// The count after a message, which stops at the greatest `u64`.
-fn counted<T>(failures: u64, done: &io::Result<T>) -> u64
-    ensures { IsCounted failures done.now result }
-{
-    match done {
-        Ok(_) => failures,
-        Err(_) => failures.saturating_add(1),
     }
 }
 

@@ -1,1 +1,2 @@
+mod InfoCopies
 mod NewCaches

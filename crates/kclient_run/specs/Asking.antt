@@ -1,15 +1,18 @@
 -- What the commands ask of a KDC (RFC 4120, section 5.4.1).
-use Rattle.std.specs.Prelude.{ℕ, ℤ, pos, ◌+◌, ◌+ℤ◌, int_lt, Bool, true, if◌then◌else◌, is_some, List, [], ◌∷◌, Option, Some, None, option_map}
+use Rattle.std.specs.Prelude.{ℕ, ℤ, pos, ◌+◌, ◌+ℤ◌, int_lt, Bool, true, if◌then◌else◌, is_some}
+use Rattle.std.specs.Prelude.{List, [], ◌∷◌, Option, Some, None, option_map}
 use Rattle.std.specs.Option.{unwrap_or}
 use Rattle.cred_files.specs.declared.principal.Principal.{Principal}
 use Rattle.client_core.specs.declared.asked.Asked.{Asked}
 use Rattle.enctypes.specs.declared.etype.Etype.{Etype}
-use Rattle.enctypes.specs.declared.etype.Etype.TheVariants.{Aes128CtsHmacSha1_96, Aes256CtsHmacSha1_96, Aes128CtsHmacSha256_128, Aes256CtsHmacSha384_192}
+use Rattle.enctypes.specs.declared.etype.Etype.TheVariants.{Aes128CtsHmacSha1_96, Aes256CtsHmacSha1_96}
+use Rattle.enctypes.specs.declared.etype.Etype.TheVariants.{Aes128CtsHmacSha256_128, Aes256CtsHmacSha384_192}
 use Rattle.krb_fields.specs.Flags.{has_bit, with_bit}
 use Rattle.krb_fields.specs.KdcOption.{kdc_option_number}
 use Rattle.krb_fields.specs.PrincipalName.{Name}
 use Rattle.krb_fields.specs.declared.kdc_option.KdcOption.{KdcOption}
-use Rattle.krb_fields.specs.declared.kdc_option.KdcOption.TheVariants.{AllowPostdate, Forwardable, Postdated, Proxiable, Renewable}
+use Rattle.krb_fields.specs.declared.kdc_option.KdcOption.TheVariants.{AllowPostdate, Forwardable, Postdated}
+use Rattle.krb_fields.specs.declared.kdc_option.KdcOption.TheVariants.{Proxiable, Renewable}
 use Rattle.krb_fields.specs.declared.kdc_option.KdcOption.TheVariants as options
 use Rattle.kclient_run.specs.declared.wishes.Again.{Again}
 use Rattle.kclient_run.specs.declared.wishes.Again.TheVariants.{Renew, Validate}
@@ -23,7 +26,8 @@ with_if wanted option bits = if wanted then with_bit bits (kdc_option_number opt
 -- of a ticket that is wished for; one that starts later is asked to be postdated
 abbrev pub options_of : Wishes → ℕ
 options_of w =
-    with_if (is_some w.start) Postdated (with_if w.proxiable Proxiable (with_if w.forwardable Forwardable (with_if w.renewable Renewable 0)))
+    with_if (is_some w.start) Postdated
+    (with_if w.proxiable Proxiable (with_if w.forwardable Forwardable (with_if w.renewable Renewable 0)))
 
 -- an option is kept where the ticket has the flag of its number
 abbrev pub with_kept : ℕ → KdcOption → ℕ → ℕ
@@ -36,7 +40,9 @@ again_option Validate = options.Validate
 -- of a ticket with these flags that is renewed or validated: some KDCs clear a flag whose option is not asked for again
 abbrev pub again_options : Again → ℕ → ℕ
 again_options again flags =
-    with_kept flags Renewable (with_kept flags AllowPostdate (with_kept flags Proxiable (with_kept flags Forwardable (with_if true (again_option again) 0))))
+    with_kept flags Renewable
+    (with_kept flags AllowPostdate
+    (with_kept flags Proxiable (with_kept flags Forwardable (with_if true (again_option again) 0))))
 
 -- ---- the times
 

@@ -9,7 +9,8 @@ use Rattle.krb_fields.specs.declared.ticket_flag.TicketFlag.TheVariants.{Invalid
 
 -- before its end, and not still to be validated
 abbrev pub is_good : ℤ → Credential → Bool
-is_good now credential = int_lt now credential.times.end_time && not (has_bit credential.flags (ticket_flag_number Invalid))
+is_good now credential =
+    int_lt now credential.times.end_time && not (has_bit credential.flags (ticket_flag_number Invalid))
 
 abbrev pub if_good : ℤ → Option Credential → Option Credential
 if_good now (Some credential) = if is_good now credential then Some credential else None

@@ -24,7 +24,10 @@ entry_for keytab service None kvno = None
 
 -- the key that the ticket names by its type and version
 abbrev pub ticket_key : List KeytabEntry → Ticket → Option Key
-ticket_key keytab ticket = option_map (λ e. e.key) (entry_for keytab (service_of ticket) (type_numbered ticket.enc_part.etype) ticket.enc_part.kvno)
+ticket_key keytab ticket =
+    option_map
+    (λ e. e.key)
+    (entry_for keytab (service_of ticket) (type_numbered ticket.enc_part.etype) ticket.enc_part.kvno)
 
 -- what a key opens a ticket to, usage 2
 abbrev pub part_under : Key → Ticket → Option EncTicketPart

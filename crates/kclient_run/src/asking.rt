@@ -9,14 +9,15 @@ use std::io::{Error, ErrorKind};
 use std::net::SocketAddr;
 
 /// Where the KDCs are, in the order in which they are asked, and whether they are asked by TCP alone.
-#[derive(Clone, Copy, Debug)]
+#[derive(Clone, Copy)]
 pub(crate) struct KdcPlace<'a> {
     pub addresses: &'a [SocketAddr],
     pub tcp_only: bool,
 }
 
-/// The reply to a request. The KDC that gave the last reply is asked first, so that all requests of a command go to one;
-/// where it gives nothing, the others are asked in their order. What comes back ends it, also where it is an error.
+/// The reply to a request. The KDC that gave the last reply is asked first, so that all requests of a command go to
+/// one; where it gives nothing, the others are asked in their order. What comes back ends it, also where it is an
+/// error.
 pub(crate) fn ask<X: Exchange>(
     alloc: Global,
     exchange: &mut X,
@@ -32,17 +33,17 @@ pub(crate) fn ask<X: Exchange>(
     ask_others(alloc, exchange, kdc, last, request)
 }
 
-/// The reply of the first KDC that gives one, but for the one that was asked before.
+/// The reply of the first KDC that gives one, but for the one that was asked before; else why the last one gave none.
 fn ask_others<X: Exchange>(
     alloc: Global,
     exchange: &mut X,
     kdc: KdcPlace<'_>,
-    last: Option<SocketAddr>,
+    asked: Option<SocketAddr>,
     request: &[u8],
 ) -> Result<Vec<u8>, Stop> {
     let mut stop = Stop::Failed(Error::from(ErrorKind::TimedOut), Place::Kdc);
     for address in kdc.addresses {
-        if last == Some(*address) {
+        if asked == Some(*address) {
             continue;
         }
         match ask_at(alloc, exchange, *address, kdc.tcp_only, request) {
@@ -53,8 +54,8 @@ fn ask_others<X: Exchange>(
     Err(stop)
 }
 
-/// The reply of one KDC. The request goes by UDP, and by TCP where no reply comes or the KDC says that it is too big for
-/// a datagram.
+/// The reply of one KDC. The request goes by UDP, and by TCP where no reply comes or the KDC says that it is too big
+/// for a datagram.
 fn ask_at<X: Exchange>(
     alloc: Global,
     exchange: &mut X,
@@ -62,12 +63,26 @@ fn ask_at<X: Exchange>(
     tcp_only: bool,
     request: &[u8],
 ) -> Result<Vec<u8>, Stop> {
-    if tcp_only {
-        return ask_by_tcp(alloc, exchange, address, request);
+    if !tcp_only && let Some(reply) = ask_by_udp(alloc, exchange, address, request) {
+        return Ok(reply);
     }
+    ask_by_tcp(alloc, exchange, address, request)
+}
+
+fn ask_by_udp<X: Exchange>(
+    alloc: Global,
+    exchange: &mut X,
+    address: SocketAddr,
+    request: &[u8],
+) -> Option<Vec<u8>> {
     match exchange.exchange(alloc, Transport::Udp, address, request) {
-        Ok(reply) if !is_too_big(&reply) => Ok(reply),
-        _ => ask_by_tcp(alloc, exchange, address, request),
+        Ok(reply) => {
+            if is_too_big(&reply) {
+                return None;
+            }
+            Some(reply)
+        }
+        Err(_) => None,
     }
 }
 

@@ -25,7 +25,8 @@ fn make_cache(alloc: Global, credential: &Credential) -> Result<Cache, Stop>
 
 /// Puts a credential into a cache.
 pub(crate) fn put(alloc: Global, cache: &mut Cache, credential: &Credential) -> Result<(), Stop>
-    ensures ok { OnOk result (cache.new ≡ record cache.old { credentials = put_first credential.now cache.old.credentials }) }
+    ensures ok { OnOk result (
+        cache.new ≡ record cache.old { credentials = put_first credential.now cache.old.credentials }) }
     ensures err { OnErr result (cache.new ≡ cache.old) }
 {
     if !credential.has_room() {

@@ -7,7 +7,7 @@ use std::io;
 use std::io::ErrorKind;
 
 /// Of what a fault is: a word of the command line, a file, the KDC, or the memory of the program.
-#[derive(Clone, Copy, Debug, PartialEq, Eq)]
+#[derive(Clone, Copy, PartialEq, Eq)]
 pub(crate) enum Place {
     Realm,
     Name,
@@ -23,7 +23,7 @@ pub(crate) enum Place {
 }
 
 /// Why a command is refused.
-#[derive(Clone, Copy, Debug, PartialEq, Eq)]
+#[derive(Clone, Copy)]
 pub(crate) enum Reason {
     BadName,
     LongFile,
@@ -57,7 +57,7 @@ pub(crate) enum Reason {
 }
 
 /// Why a command ends before it is done.
-#[derive(Clone, Copy, Debug)]
+#[derive(Clone, Copy)]
 pub(crate) enum Stop {
     Refused(Reason, Place),
     /// By the KDC, with the code of its KRB-ERROR.

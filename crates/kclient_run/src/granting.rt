@@ -10,7 +10,7 @@ use crate::faults::{Place, Reason, Stop};
 use crate::kinit::granter;
 use crate::wishes::{Again, again_options, further_asked};
 use client_core::{Asked, is_presentable, read_tgs_reply, session_key, tgs_request};
-use cred_files::{Cache, Credential};
+use cred_files::{Cache, Credential, Principal};
 use enctypes::Key;
 use krb_fields::{Flags, Moment, Name};
 use rand_chacha::ChaCha20Rng;
@@ -31,10 +31,11 @@ pub(crate) fn service_ticket<X: Exchange>(
 ) -> Result<Credential, Stop> {
     let granter = granter(alloc, &cache.principal().realm)?;
     let granting = granting_ticket(cache, &granter)?;
+    let client = cache.principal();
     let options = Flags::from_bits(0);
-    let nonce = draw_nonce(rng);
-    let asked = further_asked(alloc, options, cache.principal(), service, nonce)?;
-    ask_with_ticket(alloc, exchange, kdc, granting, &asked, rng, at)
+    ask_for(
+        alloc, exchange, kdc, granting, client, service, options, rng, at,
+    )
 }
 
 /// Asks for the cache's ticket for tickets anew, with itself.
@@ -49,9 +50,27 @@ pub(crate) fn ticket_again<X: Exchange>(
 ) -> Result<Credential, Stop> {
     let granter = granter(alloc, &cache.principal().realm)?;
     let granting = granting_ticket(cache, &granter)?;
+    let client = cache.principal();
     let options = again_options(again, granting.flags);
+    ask_for(
+        alloc, exchange, kdc, granting, client, &granter, options, rng, at,
+    )
+}
+
+/// Asks for a ticket of this service, with these options.
+fn ask_for<X: Exchange>(
+    alloc: Global,
+    exchange: &mut X,
+    kdc: KdcPlace<'_>,
+    granting: &Credential,
+    client: &Principal,
+    service: &Name,
+    options: Flags,
+    rng: &mut ChaCha20Rng,
+    at: Moment,
+) -> Result<Credential, Stop> {
     let nonce = draw_nonce(rng);
-    let asked = further_asked(alloc, options, cache.principal(), &granter, nonce)?;
+    let asked = further_asked(alloc, options, client, service, nonce)?;
     ask_with_ticket(alloc, exchange, kdc, granting, &asked, rng, at)
 }
 

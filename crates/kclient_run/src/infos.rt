@@ -1,60 +1,103 @@
 //! What a KDC says of the types of a client's keys (RFC 4120, section 5.2.7.5): in the METHOD-DATA of a refusal, or in
 //! the padata of an AS-REP.
+ghost use Rattle.std.specs.Prelude.{◌≡◌, IfOk, option_copied};
+ghost use Rattle.kclient_run.specs.Infos.{default_info, first_info, info_in, info_in_reply, info_of_refusal};
+ghost use Rattle.kclient_run.specs.Infos.{info_of_method_data, info_of_reply};
+
 use client_core::EtypeInfo2;
-use krb_elements::{MakeOwned, Octets, Seq, SeqRef, read};
-use krb_fields::{PA_ETYPE_INFO2, PaData, PaDataRef};
-use krb_parts::EtypeInfo2EntryRef;
-use krb_replies::read_kdc_rep;
+use krb_elements::{MakeOwned, Octets, OctetsRef, Seq, SeqRef, read};
+use krb_fields::{PA_ETYPE_INFO2, PaDataRef};
+use krb_parts::{EtypeInfo2Entry, EtypeInfo2EntryRef};
+use krb_replies::{KdcRepRef, read_kdc_rep};
 use std::alloc::{AllocError, Global};
 
 /// The message type of an AS-REP.
-const AS_REP: u8 = 11;
+pub(crate) const AS_REP: u8 = 11;
 
 /// What an AS-REP says; `None` where the octets are none.
-pub(crate) fn info_of_reply(alloc: Global, bytes: &[u8]) -> Result<Option<EtypeInfo2>, AllocError> {
-    let Ok(reply) = read_kdc_rep::<AS_REP>(bytes) else {
-        return Ok(None);
-    };
-    let Some(padata) = &reply.padata else {
-        return Ok(Some(Seq::new(alloc)));
-    };
-    let padata = padata.copy(alloc)?;
-    Ok(Some(info_among(alloc, padata.as_slice())?))
+pub(crate) fn info_of_reply(alloc: Global, bytes: &[u8]) -> Result<Option<EtypeInfo2>, AllocError>
+    ensures { IfOk result (λ info. info ≡ info_of_reply bytes.now) }
+{
+    match read_kdc_rep::<AS_REP>(bytes) {
+        Ok(reply) => Ok(Some(info_in_reply(alloc, &reply)?)),
+        Err(_) => Ok(None),
+    }
 }
 
-/// What the e-data of a refusal says.
+/// Where an AS-REP says nothing of keys, that of the type by which it is sealed has the default salt and parameters.
+fn info_in_reply(alloc: Global, reply: &KdcRepRef<'_, AS_REP>) -> Result<EtypeInfo2, AllocError>
+    ensures { IfOk result (λ info. info ≡ info_in_reply reply.now) }
+{
+    match first_info(reply.padata.as_ref()) {
+        Some(octets) => info_in(alloc, octets.as_slice()),
+        None => default_info(alloc, reply.enc_part.etype),
+    }
+}
+
+fn default_info(alloc: Global, etype: i32) -> Result<EtypeInfo2, AllocError>
+    ensures { IfOk result (λ info. info ≡ default_info etype) }
+{
+    let mut info = Seq::new(alloc);
+    info.push(EtypeInfo2Entry {
+        etype,
+        salt: None,
+        s2kparams: None,
+    })?;
+    Ok(info)
+}
+
+/// What the e-data of a refusal says; an empty list where it says nothing.
 pub(crate) fn info_of_refusal(
     alloc: Global,
     e_data: &Option<Octets>,
-) -> Result<EtypeInfo2, AllocError> {
-    let Some(octets) = e_data else {
-        return Ok(Seq::new(alloc));
-    };
-    info_of_method_data(alloc, octets.as_slice())
+) -> Result<EtypeInfo2, AllocError>
+    ensures { IfOk result (λ info. info ≡ info_of_refusal e_data.now) }
+{
+    match e_data {
+        Some(octets) => info_of_method_data(alloc, octets.as_slice()),
+        None => Ok(Seq::new(alloc)),
+    }
 }
 
-fn info_of_method_data(alloc: Global, octets: &[u8]) -> Result<EtypeInfo2, AllocError> {
+fn info_of_method_data(alloc: Global, octets: &[u8]) -> Result<EtypeInfo2, AllocError>
+    ensures { IfOk result (λ info. info ≡ info_of_method_data octets.now) }
+{
     let Ok(padata) = read::<SeqRef<'_, PaDataRef<'_>>>(octets) else {
         return Ok(Seq::new(alloc));
     };
-    let padata = padata.copy(alloc)?;
-    info_among(alloc, padata.as_slice())
+    match first_info(Some(&padata)) {
+        Some(value) => info_in(alloc, value.as_slice()),
+        None => Ok(Seq::new(alloc)),
+    }
 }
 
-/// The first PA-ETYPE-INFO2; an empty list where none is there.
-fn info_among(alloc: Global, padata: &[PaData]) -> Result<EtypeInfo2, AllocError> {
-    for entry in padata {
+/// The value of the first PA-ETYPE-INFO2.
+fn first_info<'p>(padata: Option<&SeqRef<'p, PaDataRef<'p>>>) -> Option<OctetsRef<'p>>
+    ensures { result ≡ first_info (option_copied padata.entry) }
+{
+    for entry in padata?.iter() {
         if entry.padata_type == PA_ETYPE_INFO2 {
-            return info_in(alloc, entry.padata_value.as_slice());
+            return Some(entry.padata_value);
         }
     }
-    Ok(Seq::new(alloc))
+    None
 }
 
 /// The list that the octets spell; an empty one where they spell none.
-fn info_in(alloc: Global, octets: &[u8]) -> Result<EtypeInfo2, AllocError> {
-    let Ok(entries) = read::<SeqRef<'_, EtypeInfo2EntryRef<'_>>>(octets) else {
-        return Ok(Seq::new(alloc));
-    };
+fn info_in(alloc: Global, octets: &[u8]) -> Result<EtypeInfo2, AllocError>
+    ensures { IfOk result (λ info. info ≡ info_in octets.now) }
+{
+    match read::<SeqRef<'_, EtypeInfo2EntryRef<'_>>>(octets) {
+        Ok(entries) => copied(alloc, &entries),
+        Err(_) => Ok(Seq::new(alloc)),
+    }
+}
+
+fn copied<'p>(
+    alloc: Global,
+    entries: &SeqRef<'p, EtypeInfo2EntryRef<'p>>,
+) -> Result<EtypeInfo2, AllocError>
+    ensures { IfOk result (λ info. info ≡ entries.now) }
+{
     entries.copy(alloc)
 }

@@ -11,9 +11,10 @@ use crate::exchange::Exchange;
 use crate::faults::{Place, Reason, Stop, of_name};
 use crate::files::{of, read_keytab};
 use crate::infos::info_of_refusal;
+use crate::places::Places;
 use crate::secrets::{Secret, key_of_next_reply, key_of_reply, key_wanted};
-use crate::wishes::{Wishes, first_asked};
-use crate::words::{CommonWords, KinitWords, SecretWords};
+use crate::wishes::first_asked;
+use crate::words::{FirstWords, SecretWords};
 use client_core::{
     Asked, ClientFault, EtypeInfo2, Refusal, as_request, read_as_reply, refusal_in, with_timestamp,
 };
@@ -39,62 +40,54 @@ struct Names {
 /// Gets a first ticket, and writes a cache of it.
 pub(crate) fn log_in<T: Store, X: Exchange>(
     alloc: Global,
-    common: &CommonWords<'_>,
-    words: &KinitWords<'_>,
+    places: &Places,
+    words: &FirstWords<'_>,
     kdc: KdcPlace<'_>,
     store: &mut T,
     exchange: &mut X,
     at: Moment,
 ) -> Result<(), Stop> {
-    let names = read_names(alloc, words)?;
-    let secret = read_secret(alloc, store, words)?;
-    let mut rng = generator(alloc, store, common)?;
-    let credential = ticket_of(
-        alloc,
-        exchange,
-        kdc,
-        &words.wishes,
-        &names,
-        &secret,
-        &mut rng,
-        at,
-    )?;
-    write_new_cache(alloc, store, common.cache, &credential)
+    let names = read_names(alloc, places, words)?;
+    let credential = ticket_of(alloc, places, words, &names, kdc, store, exchange, at)?;
+    write_new_cache(alloc, store, places.cache.as_str(), &credential)
 }
 
-fn ticket_of<X: Exchange>(
+fn ticket_of<T: Store, X: Exchange>(
     alloc: Global,
-    exchange: &mut X,
-    kdc: KdcPlace<'_>,
-    wishes: &Wishes,
+    places: &Places,
+    words: &FirstWords<'_>,
     names: &Names,
-    secret: &Secret,
-    rng: &mut ChaCha20Rng,
+    kdc: KdcPlace<'_>,
+    store: &mut T,
+    exchange: &mut X,
     at: Moment,
 ) -> Result<Credential, Stop> {
-    let nonce = draw_nonce(rng);
-    let asked = first_asked(alloc, wishes, &names.client, &names.service, at, nonce)?;
-    first_ticket(alloc, exchange, kdc, &asked, secret, rng, at)
+    let secret = read_secret(alloc, store, places, words)?;
+    let mut rng = generator(alloc, store, words.seed)?;
+    let nonce = draw_nonce(&mut rng);
+    let Names { client, service } = names;
+    let asked = first_asked(alloc, &words.wishes, client, service, at, nonce)?;
+    first_ticket(alloc, exchange, kdc, &asked, &secret, &mut rng, at)
 }
 
 /// The generator of what a command draws: ChaCha20 under the seed of a file, or under the system's random octets.
 pub(crate) fn generator<T: Store>(
     alloc: Global,
     store: &mut T,
-    common: &CommonWords<'_>,
+    seed: Option<&str>,
 ) -> Result<ChaCha20Rng, Stop> {
-    let seed = of(read_or_draw_seed(alloc, store, common.seed), Place::Seed)?;
+    let seed = of(read_or_draw_seed(alloc, store, seed), Place::Seed)?;
     Ok(ChaCha20Rng::from_seed(seed))
 }
 
-fn read_names(alloc: Global, words: &KinitWords<'_>) -> Result<Names, Stop> {
-    let client = read_client(alloc, words)?;
+fn read_names(alloc: Global, places: &Places, words: &FirstWords<'_>) -> Result<Names, Stop> {
+    let client = read_client(alloc, places, words)?;
     let service = read_service(alloc, words.service, &client.realm)?;
     Ok(Names { client, service })
 }
 
-fn read_client(alloc: Global, words: &KinitWords<'_>) -> Result<Principal, Stop> {
-    let realm = read_realm(alloc, words.realm)?;
+fn read_client(alloc: Global, places: &Places, words: &FirstWords<'_>) -> Result<Principal, Stop> {
+    let realm = read_realm(alloc, places.realm.as_str())?;
     let name = read_name(alloc, words.name, Place::Name)?;
     Ok(Principal { realm, name })
 }
@@ -130,7 +123,8 @@ pub(crate) fn granter(alloc: Global, realm: &KerberosString) -> Result<Name, All
 fn read_secret<T: Store>(
     alloc: Global,
     store: &mut T,
-    words: &KinitWords<'_>,
+    places: &Places,
+    words: &FirstWords<'_>,
 ) -> Result<Secret, Stop> {
     match words.secret {
         SecretWords::PasswordFile(path) => {
@@ -139,7 +133,7 @@ fn read_secret<T: Store>(
         }
         SecretWords::Keytab(path) => Ok(Secret::Keytab(read_keytab(alloc, store, path)?)),
         SecretWords::Asked => {
-            let pass = ask_password(alloc, store, words.name, words.realm);
+            let pass = ask_password(alloc, store, words.name, places.realm.as_str());
             Ok(Secret::Password(of(pass, Place::Password)?))
         }
     }
@@ -163,12 +157,22 @@ fn first_ticket<X: Exchange>(
     match key_of_reply(alloc, secret, asked, &reply)? {
         Some(key) => take(alloc, asked, &key, at, &reply),
         None => {
-            let info = info_wanted(alloc, &reply)?;
-            let key = key_wanted(alloc, secret, asked, &info)?;
+            let key = key_for_timestamp(alloc, secret, asked, &reply)?;
             let confounder = draw_confounder(rng);
             ask_with_timestamp(alloc, exchange, kdc, asked, secret, &key, &confounder, at)
         }
     }
+}
+
+/// The key by which a KDC that wants preauthentication is shown who asks; else why it gives no ticket.
+fn key_for_timestamp(
+    alloc: Global,
+    secret: &Secret,
+    asked: &Asked,
+    reply: &[u8],
+) -> Result<Key, Stop> {
+    let info = info_wanted(alloc, reply)?;
+    key_wanted(alloc, secret, asked, &info)
 }
 
 /// Asks with a timestamp under the client's key.

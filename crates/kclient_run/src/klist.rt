@@ -6,8 +6,9 @@ use crate::faults::{Place, Stop};
 use crate::files::read_keytab;
 use crate::listing::{lines_of_cache, lines_of_keytab};
 use crate::places::Places;
-use crate::run::{DONE, report};
-use clap::ArgMatches;
+use crate::reporting::report;
+use crate::run::DONE;
+use crate::words::KlistWords;
 use file_store::Store;
 use std::alloc::Global;
 use std::io;
@@ -16,15 +17,15 @@ use std::io::Write;
 /// Prints what a keytab holds, or else a cache.
 pub(crate) fn run_klist<T: Store, W: Write, E: Write>(
     alloc: Global,
-    matches: &ArgMatches<'_>,
     places: &Places,
+    words: &KlistWords<'_>,
     store: &mut T,
     out: &mut W,
     errors: &mut E,
 ) -> io::Result<u8>
     ensures { IfOk result (λ status. status ≤ 3) }
 {
-    if let Some(path) = matches.get_str("keytab") {
+    if let Some(path) = words.keytab {
         return print(out, errors, path, list_keytab(alloc, store, path));
     }
     let path = places.cache.as_str();

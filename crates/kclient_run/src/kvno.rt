@@ -9,17 +9,18 @@ use crate::holding::good_credential;
 use crate::kinit::{generator, read_name};
 use crate::moments::next_moment;
 use crate::opening::check_ticket;
-use crate::words::{CommonWords, KvnoWords};
+use crate::places::Places;
+use crate::words::KvnoWords;
 use cred_files::{Cache, Credential, Keytab};
 use file_store::Store;
 use krb_elements::read;
 use krb_fields::{Moment, Name};
 use krb_types::TicketRef;
 use rand_chacha::ChaCha20Rng;
-use std::alloc::Global;
+use std::alloc::{AllocFailed, Global};
 
 /// Why `kvno` ends before it is done.
-#[derive(Clone, Copy, Debug)]
+#[derive(Clone, Copy)]
 pub(crate) struct KvnoStop {
     pub stop: Stop,
     /// The place of the name at which it ends; absent: at none.
@@ -29,6 +30,12 @@ pub(crate) struct KvnoStop {
 impl From<Stop> for KvnoStop {
     fn from(stop: Stop) -> KvnoStop {
         KvnoStop { stop, index: None }
+    }
+}
+
+impl<T: Drop> From<AllocFailed<T>> for KvnoStop {
+    fn from(failed: AllocFailed<T>) -> KvnoStop {
+        KvnoStop::from(Stop::from(failed))
     }
 }
 
@@ -55,31 +62,48 @@ struct Desk {
     is_changed: bool,
 }
 
-/// Gets a ticket for each service, unless the cache has a good one, and puts it into the cache. The versions of the
-/// keys that the tickets are sealed under go to `versions`, in the order of the names.
+/// Gets a ticket for each service, unless the cache has a good one, and puts it into the cache. It gives the versions
+/// of the keys that the tickets are sealed under, in the order of the names.
 pub(crate) fn get_tickets<T: Store, X: Exchange>(
     alloc: Global,
-    common: &CommonWords<'_>,
+    places: &Places,
     words: &KvnoWords<'_>,
     names: &[&str],
     kdc: KdcPlace<'_>,
     store: &mut T,
     exchange: &mut X,
     at: Moment,
-    versions: &mut Vec<i64>,
-) -> Result<(), KvnoStop> {
+) -> Result<Vec<i64>, KvnoStop> {
     let services = read_services(alloc, names)?;
-    let mut desk = read_desk(alloc, common, words, store, at)?;
-    get_each(
+    let path = places.cache.as_str();
+    let mut desk = read_desk(alloc, path, words, store, at)?;
+    get_and_write(
         alloc,
+        path,
         words.fresh,
         kdc,
         &mut desk,
-        exchange,
         &services,
-        versions,
-    )?;
-    Ok(write_changed(alloc, common, store, &desk)?)
+        store,
+        exchange,
+    )
+}
+
+fn get_and_write<T: Store, X: Exchange>(
+    alloc: Global,
+    path: &str,
+    fresh: bool,
+    kdc: KdcPlace<'_>,
+    desk: &mut Desk,
+    services: &[Name],
+    store: &mut T,
+    exchange: &mut X,
+) -> Result<Vec<i64>, KvnoStop> {
+    let versions = get_each(alloc, fresh, kdc, desk, exchange, services)?;
+    if desk.is_changed {
+        write_cache(alloc, store, path, &desk.cache)?;
+    }
+    Ok(versions)
 }
 
 fn read_services(alloc: Global, names: &[&str]) -> Result<Vec<Name>, KvnoStop> {
@@ -97,14 +121,14 @@ fn add_service(alloc: Global, services: &mut Vec<Name>, name: &str) -> Result<()
 
 fn read_desk<T: Store>(
     alloc: Global,
-    common: &CommonWords<'_>,
+    path: &str,
     words: &KvnoWords<'_>,
     store: &mut T,
     at: Moment,
 ) -> Result<Desk, Stop> {
-    let cache = read_cache(alloc, store, common.cache)?;
+    let cache = read_cache(alloc, store, path)?;
     let keytab = read_checking_keytab(alloc, store, words.keytab)?;
-    let rng = generator(alloc, store, common)?;
+    let rng = generator(alloc, store, words.seed)?;
     Ok(Desk {
         cache,
         keytab,
@@ -125,19 +149,6 @@ fn read_checking_keytab<T: Store>(
     }
 }
 
-fn write_changed<T: Store>(
-    alloc: Global,
-    common: &CommonWords<'_>,
-    store: &mut T,
-    desk: &Desk,
-) -> Result<(), Stop> {
-    if desk.is_changed {
-        write_cache(alloc, store, common.cache, &desk.cache)
-    } else {
-        Ok(())
-    }
-}
-
 fn get_each<X: Exchange>(
     alloc: Global,
     fresh: bool,
@@ -145,15 +156,16 @@ fn get_each<X: Exchange>(
     desk: &mut Desk,
     exchange: &mut X,
     services: &[Name],
-    versions: &mut Vec<i64>,
-) -> Result<(), KvnoStop> {
+) -> Result<Vec<i64>, KvnoStop> {
+    let mut versions = Vec::new(alloc);
     for (index, service) in services.iter().enumerate() {
-        let got = get_ticket(alloc, fresh, kdc, desk, exchange, service, versions);
-        at_name(got, index)?;
+        let got = get_ticket(alloc, fresh, kdc, desk, exchange, service);
+        versions.push(at_name(got, index)?)?;
     }
-    Ok(())
+    Ok(versions)
 }
 
+/// The version of the key that the service's ticket is sealed under.
 fn get_ticket<X: Exchange>(
     alloc: Global,
     fresh: bool,
@@ -161,13 +173,11 @@ fn get_ticket<X: Exchange>(
     desk: &mut Desk,
     exchange: &mut X,
     service: &Name,
-    versions: &mut Vec<i64>,
-) -> Result<(), Stop> {
-    let version = match held_version(alloc, fresh, desk, service)? {
-        Some(version) => version,
-        None => new_version(alloc, kdc, desk, exchange, service)?,
-    };
-    Ok(versions.push(version)?)
+) -> Result<i64, Stop> {
+    match held_version(alloc, fresh, desk, service)? {
+        Some(version) => Ok(version),
+        None => new_version(alloc, kdc, desk, exchange, service),
+    }
 }
 
 /// The version of the key of the cache's own ticket, where it need not be asked for again.
@@ -205,8 +215,13 @@ fn new_version<X: Exchange>(
         &mut desk.rng,
         at,
     )?;
-    let version = checked_version(alloc, &desk.keytab, &credential)?;
-    put(alloc, &mut desk.cache, &credential)?;
+    keep(alloc, desk, &credential)
+}
+
+/// Puts a credential into the cache, and gives the version of its key.
+fn keep(alloc: Global, desk: &mut Desk, credential: &Credential) -> Result<i64, Stop> {
+    let version = checked_version(alloc, &desk.keytab, credential)?;
+    put(alloc, &mut desk.cache, credential)?;
     desk.is_changed = true;
     Ok(version)
 }

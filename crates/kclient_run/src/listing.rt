@@ -17,7 +17,8 @@ const SETTINGS_REALM: &[u8] = b"X-CACHECONF:";
 /// The first component of its name.
 const SETTINGS_NAME: &[u8] = b"krb5_ccache_conf_data";
 
-/// The letters of a ticket's flags (RFC 4120, section 5.3; RFC 8062, section 3), as MIT's `klist -f` has them, in its order.
+/// The letters of a ticket's flags (RFC 4120, section 5.3; RFC 8062, section 3), as MIT's `klist -f` has them, in its
+/// order.
 const LETTERS: &[(u32, char)] = &[
     // forwardable, forwarded
     (1 << 30, 'F'),
@@ -66,8 +67,8 @@ fn is_setting(server: &Principal) -> bool {
     }
 }
 
-/// Appends `NAME@REALM from DATE till DATE renew DATE flags LETTERS key TYPE ticket TYPE`, with `-` for what is not there;
-/// and ` client NAME@REALM` where the credential is another one's than the holder's.
+/// Appends `NAME@REALM from DATE till DATE renew DATE flags LETTERS key TYPE ticket TYPE`, with `-` for what is not
+/// there; and ` client NAME@REALM` where the credential is another one's than the holder's.
 fn push_credential(
     alloc: Global,
     lines: &mut String,
@@ -93,7 +94,8 @@ fn push_name(alloc: Global, lines: &mut String, principal: &Principal) -> Result
 
 /// The name's text and the realm's, of printable ASCII without spaces, with an `@` between them, which neither has.
 fn principal_text(alloc: Global, realm: &KerberosString, name: &Name) -> Result<String, AllocError>
-    ensures { IfOk result (λ text. string_bytes text ≡ text_of name.now.components ++ codes "@" ++ component_text realm.now) }
+    ensures { IfOk result (λ text.
+        string_bytes text ≡ text_of name.now.components ++ codes "@" ++ component_text realm.now) }
 {
     let mut text = name.to_text(alloc)?;
     let realm = component_to_text(alloc, realm.as_slice())?;

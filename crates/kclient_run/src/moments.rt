@@ -4,8 +4,8 @@ ghost use Rattle.kclient_run.specs.Moments.{next_microsecond, next_second};
 
 use krb_fields::Moment;
 
-/// The moment a microsecond later; the last one of the year 9999 stays. A KDC takes each moment of a client once, so each
-/// request with a ticket has its own.
+/// The moment a microsecond later; the last one of the year 9999 stays. A KDC takes each moment of a client once, so
+/// each request with a ticket has its own.
 pub(crate) fn next_moment(at: Moment) -> Moment
     ensures second { result.sec ≡ next_second at }
     ensures microsecond { result.usec ≡ next_microsecond at }

@@ -67,7 +67,8 @@ fn numbered_key<'k>(
     etype: Etype,
     kvno: UInt32,
 ) -> Option<&'k Key>
-    ensures { option_copied result ≡ option_map (λ e. e.key) (entry_for keytab.now (realm.now ∷ service.now.components) (Some etype) (Some kvno)) }
+    ensures { option_copied result
+        ≡ option_map (λ e. e.key) (entry_for keytab.now (realm.now ∷ service.now.components) (Some etype) (Some kvno)) }
 {
     let version = u32::try_from(kvno.get()).ok()?;
     keytab.find(realm, service, etype, Some(version)).ok()

@@ -2,6 +2,7 @@
 use crate::caches::read_cache;
 use crate::faults::{Place, Reason, Stop, of_name};
 use crate::files::of;
+use crate::words::Task;
 use clap::ArgMatches;
 use file_store::{Store, read_file};
 use krb_fields::{component_from_text, component_to_text};
@@ -26,7 +27,7 @@ impl<'a> Defaults<'a> {
 }
 
 /// Why a command does not begin.
-#[derive(Clone, Copy, Debug)]
+#[derive(Clone, Copy)]
 pub(crate) enum Unplaced {
     /// By a fault of the command line.
     Usage(&'static str),
@@ -52,7 +53,7 @@ impl<T: Drop> From<AllocFailed<T>> for Unplaced {
 }
 
 /// KDCs, and what is said of them where they fail.
-#[derive(Debug, Drop)]
+#[derive(Drop)]
 pub(crate) struct Kdcs {
     /// In the order in which they are asked.
     pub addresses: Vec<SocketAddr>,
@@ -60,7 +61,7 @@ pub(crate) struct Kdcs {
 }
 
 /// A realm, and its KDCs.
-#[derive(Debug, Drop)]
+#[derive(Drop)]
 struct Realm {
     /// The text of its name.
     text: String,
@@ -68,7 +69,7 @@ struct Realm {
 }
 
 /// Where a command works. What it needs none of is empty.
-#[derive(Debug, Drop)]
+#[derive(Drop)]
 pub(crate) struct Places {
     /// The path of the cache.
     pub cache: String,
@@ -87,27 +88,23 @@ const NO_ADDRESS: &str = "--kdc takes an address and a port, as 127.0.0.1:88 or 
 
 const TWO_FILES: &str = "--cache and --keytab don't go together";
 
-/// Where a command works, by the words behind its name.
+/// Where a command works.
 pub(crate) fn find_places<T: Store>(
     alloc: Global,
-    command: &str,
+    task: &Task<'_>,
     words: &ArgMatches<'_>,
     defaults: &Defaults<'_>,
     store: &mut T,
 ) -> Result<Places, Unplaced> {
-    match command {
-        "kinit" if !is_again(words) => kinit_places(alloc, words, defaults, store),
-        "kinit" | "kvno" => kvno_places(alloc, words, defaults, store),
-        _ => klist_places(alloc, words, defaults),
+    match task {
+        Task::First(_) => first_places(alloc, words, defaults, store),
+        // the realm is the cache's
+        Task::Again(_) | Task::Kvno(_) => kvno_places(alloc, words, defaults, store),
+        Task::Klist(_) => klist_places(alloc, words, defaults),
     }
 }
 
-/// Whether a ticket of the cache is asked for again: then the realm is the cache's.
-fn is_again(words: &ArgMatches<'_>) -> bool {
-    words.get_flag("renew") || words.get_flag("validate")
-}
-
-fn kinit_places<T: Store>(
+fn first_places<T: Store>(
     alloc: Global,
     words: &ArgMatches<'_>,
     defaults: &Defaults<'_>,
@@ -205,17 +202,11 @@ fn find_realm<T: Store>(
     defaults: &Defaults<'_>,
     store: &mut T,
 ) -> Result<Realm, Unplaced> {
+    let realm = words.get_str("realm");
     let given = given_kdcs(alloc, words)?;
-    match (words.get_str("realm"), given) {
-        (Some(realm), Some(kdcs)) => Ok(Realm {
-            text: String::from_str(alloc, realm)?,
-            kdcs,
-        }),
-        (realm, given) => {
-            let config = read_config(alloc, defaults, store)?;
-            configured(alloc, &config, realm, given)
-        }
-    }
+    let is_needed = realm.is_none() || given.is_none();
+    let config = config_if(alloc, defaults, store, is_needed)?;
+    configured(alloc, &config, realm, given)
 }
 
 /// The KDCs of the realm of a cache.
@@ -224,14 +215,24 @@ fn find_kdcs<T: Store>(
     words: &ArgMatches<'_>,
     defaults: &Defaults<'_>,
     store: &mut T,
-    cache: &str,
+    path: &str,
 ) -> Result<Kdcs, Unplaced> {
     if let Some(kdcs) = given_kdcs(alloc, words)? {
         return Ok(kdcs);
     }
-    let cache = read_cache(alloc, store, cache)?;
+    let cache = read_cache(alloc, store, path)?;
+    let realm = cache.principal().realm.as_slice();
+    Ok(kdcs_in_config(alloc, defaults, store, realm)?)
+}
+
+fn kdcs_in_config<T: Store>(
+    alloc: Global,
+    defaults: &Defaults<'_>,
+    store: &mut T,
+    realm: &[u8],
+) -> Result<Kdcs, Stop> {
     let config = read_config(alloc, defaults, store)?;
-    Ok(configured_kdcs(alloc, &config, cache.principal().realm.as_slice())?)
+    configured_kdcs(alloc, &config, realm)
 }
 
 /// The KDCs of the words; `None` where no word names one.
@@ -264,6 +265,19 @@ fn add_kdc(kdcs: &mut Kdcs, address: SocketAddr, text: &str) -> Result<(), Alloc
     Ok(kdcs.addresses.push(address)?)
 }
 
+/// The `krb5.conf`, where a word lacks; else no text.
+fn config_if<T: Store>(
+    alloc: Global,
+    defaults: &Defaults<'_>,
+    store: &mut T,
+    is_needed: bool,
+) -> Result<Vec<u8>, Stop> {
+    if !is_needed {
+        return Ok(Vec::new(alloc));
+    }
+    read_config(alloc, defaults, store)
+}
+
 fn read_config<T: Store>(
     alloc: Global,
     defaults: &Defaults<'_>,
@@ -275,7 +289,7 @@ fn read_config<T: Store>(
     )
 }
 
-/// What a `krb5.conf` says where words lack.
+/// The realm and its KDCs, of a `krb5.conf` where words lack.
 fn configured(
     alloc: Global,
     config: &[u8],

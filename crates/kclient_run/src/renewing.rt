@@ -5,8 +5,9 @@ use crate::exchange::Exchange;
 use crate::faults::Stop;
 use crate::granting::ticket_again;
 use crate::kinit::generator;
-use crate::wishes::Again;
-use crate::words::CommonWords;
+use crate::places::Places;
+use crate::words::AgainWords;
+use cred_files::Credential;
 use file_store::Store;
 use krb_fields::Moment;
 use std::alloc::Global;
@@ -14,15 +15,28 @@ use std::alloc::Global;
 /// Gets the cache's ticket for tickets again, and writes a new cache of it.
 pub(crate) fn get_again<T: Store, X: Exchange>(
     alloc: Global,
-    common: &CommonWords<'_>,
-    again: Again,
+    places: &Places,
+    words: &AgainWords<'_>,
     kdc: KdcPlace<'_>,
     store: &mut T,
     exchange: &mut X,
     at: Moment,
 ) -> Result<(), Stop> {
-    let cache = read_cache(alloc, store, common.cache)?;
-    let mut rng = generator(alloc, store, common)?;
-    let credential = ticket_again(alloc, exchange, kdc, &cache, again, &mut rng, at)?;
-    write_new_cache(alloc, store, common.cache, &credential)
+    let path = places.cache.as_str();
+    let credential = ticket_of(alloc, path, words, kdc, store, exchange, at)?;
+    write_new_cache(alloc, store, path, &credential)
+}
+
+fn ticket_of<T: Store, X: Exchange>(
+    alloc: Global,
+    path: &str,
+    words: &AgainWords<'_>,
+    kdc: KdcPlace<'_>,
+    store: &mut T,
+    exchange: &mut X,
+    at: Moment,
+) -> Result<Credential, Stop> {
+    let cache = read_cache(alloc, store, path)?;
+    let mut rng = generator(alloc, store, words.seed)?;
+    ticket_again(alloc, exchange, kdc, &cache, words.again, &mut rng, at)
 }

@@ -1,9 +1,11 @@
 //! By what a client shows that it is itself: a password, or a keytab (RFC 4120, section 5.2.7.5).
-ghost use Rattle.std.specs.Prelude.{◌≡◌, ◌∷◌, option_copied};
+ghost use Rattle.std.specs.Prelude.{◌≡◌, ◌∷◌, option_copied, option_map, Ok, IfOk};
+ghost use Rattle.client_core.specs.Passwords.{password_key};
+ghost use Rattle.kclient_run.specs.Infos.{info_of_reply};
 ghost use Rattle.kclient_run.specs.Keys.{key_named, key_numbered, key_typed, type_of_reply};
 
 use crate::faults::{Place, Reason, Stop};
-use crate::infos::info_of_reply;
+use crate::infos::{AS_REP, info_of_reply};
 use client_core::{Asked, EtypeInfo2, password_key};
 use cred_files::Keytab;
 use enctypes::{Etype, Key};
@@ -12,9 +14,6 @@ use krb_parts::EtypeInfo2Entry;
 use krb_replies::read_kdc_rep;
 use sealed_parts::type_numbered;
 use std::alloc::Global;
-
-/// The message type of an AS-REP.
-const AS_REP: u8 = 11;
 
 /// What a client's key is made of, or where it stands.
 #[derive(Drop)]
@@ -71,7 +70,11 @@ fn password_for_reply(
     pass: &[u8],
     asked: &Asked,
     reply: &[u8],
-) -> Result<Option<Key>, Stop> {
+) -> Result<Option<Key>, Stop>
+    // The password's key by what the reply says of it.
+    ensures { IfOk result (λ found. option_map Ok found
+        ≡ option_map (password_key pass.now asked.now.realm asked.now.client) (info_of_reply reply.now)) }
+{
     let Some(info) = info_of_reply(alloc, reply)? else {
         return Ok(None);
     };
@@ -83,7 +86,9 @@ fn key_of_password(
     pass: &[u8],
     asked: &Asked,
     info: &EtypeInfo2,
-) -> Result<Key, Stop> {
+) -> Result<Key, Stop>
+    ensures { IfOk result (λ key. Ok key ≡ password_key pass.now asked.now.realm asked.now.client info.now) }
+{
     match password_key(alloc, pass, asked.realm.as_slice(), &asked.client, info) {
         Ok(key) => Ok(key),
         Err(fault) => Err(Stop::from(fault)),

@@ -1,6 +1,7 @@
 //! What the commands ask of a KDC (RFC 4120, section 5.4.1).
 ghost use Rattle.std.specs.Prelude.{◌≡◌, ◌<◌, ◌^◌, IfOk};
-ghost use Rattle.kclient_run.specs.Asking.{again_option, again_options, first_asked, from_of, further_asked, offered, options_of, rtime_of, till_of, time_after, up_to_last, with_if, with_kept};
+ghost use Rattle.kclient_run.specs.Asking.{again_option, again_options, first_asked, from_of, further_asked, offered};
+ghost use Rattle.kclient_run.specs.Asking.{options_of, rtime_of, till_of, time_after, up_to_last, with_if, with_kept};
 
 use client_core::Asked;
 use cred_files::Principal;
@@ -11,7 +12,7 @@ use krb_fields::{Flags, KdcOption, Moment, Name};
 use std::alloc::{AllocError, Global};
 
 /// What a first ticket is to be.
-#[derive(Clone, Copy, Debug)]
+#[derive(Clone, Copy)]
 pub(crate) struct Wishes {
     /// For how many seconds; absent: for as long as the KDC gives.
     pub life: Option<u32>,
@@ -23,7 +24,7 @@ pub(crate) struct Wishes {
 }
 
 /// What is to be done with a ticket that the client has.
-#[derive(Clone, Copy, Debug, PartialEq, Eq)]
+#[derive(Clone, Copy)]
 pub(crate) enum Again {
     Renew,
     Validate,

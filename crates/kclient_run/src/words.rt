@@ -1,38 +1,40 @@
-//! The words of a command line.
-use crate::asking::KdcPlace;
-use crate::places::Places;
+//! What the words of a command line say.
 use crate::wishes::{Again, Wishes};
-use clap::error::Error;
-use clap::{ArgAction, ArgMatches, Command};
-use command_options::{OptionWords, flag, option, with_more_options};
-use std::alloc::{AllocError, Global};
-use std::convert::AsStr;
+use clap::ArgMatches;
 use text_fields::number_u32;
 
-/// The words of either subcommand.
-#[derive(Clone, Copy, Debug)]
-pub(crate) struct CommonWords<'a> {
-    /// The addresses of the KDCs, as they were given.
-    pub kdc: &'a str,
-    /// The path of the credential cache.
-    pub cache: &'a str,
-    /// The path of the seed's file; absent: the seed is the system's.
-    pub seed: Option<&'a str>,
+/// What a command line orders, but for its places.
+#[derive(Clone, Copy)]
+pub(crate) enum Task<'a> {
+    /// A first ticket, by `kinit`.
+    First(FirstWords<'a>),
+    /// A ticket that the client has, once more, by `kinit`.
+    Again(AgainWords<'a>),
+    Kvno(KvnoWords<'a>),
+    Klist(KlistWords<'a>),
 }
 
-/// The words of `kinit` alone, for a first ticket.
-#[derive(Clone, Copy, Debug)]
-pub(crate) struct KinitWords<'a> {
-    pub realm: &'a str,
+/// The words of a first ticket, but for the realm.
+#[derive(Clone, Copy)]
+pub(crate) struct FirstWords<'a> {
     pub name: &'a str,
     pub secret: SecretWords<'a>,
     /// The name of the service; absent: the ticket-granting one.
     pub service: Option<&'a str>,
+    /// The path of the seed's file; absent: the seed is the system's.
+    pub seed: Option<&'a str>,
     pub wishes: Wishes,
 }
 
+#[derive(Clone, Copy)]
+pub(crate) struct AgainWords<'a> {
+    pub again: Again,
+    /// The path of the seed's file; absent: the seed is the system's.
+    pub seed: Option<&'a str>,
+}
+
 /// Where the client's key is, or the password that it is made of.
-#[derive(Clone, Copy, Debug)]
+#[derive(Clone, Copy)]
 pub(crate) enum SecretWords<'a> {
     /// The path of the password's file.
     PasswordFile(&'a str),
@@ -42,101 +44,22 @@ pub(crate) enum SecretWords<'a> {
     Asked,
 }
 
-/// The words of `kvno` alone, but for its names.
-#[derive(Clone, Copy, Debug)]
+/// The words of `kvno`, but for its names.
+#[derive(Clone, Copy)]
 pub(crate) struct KvnoWords<'a> {
     /// The path of the keytab that has to open each ticket.
     pub keytab: Option<&'a str>,
+    /// The path of the seed's file; absent: the seed is the system's.
+    pub seed: Option<&'a str>,
     /// Whether each ticket is asked for, also where the cache has a good one.
     pub fresh: bool,
 }
 
-const ABOUT: &str = "Gets Kerberos tickets and keeps them in a credential cache";
-
-const AFTER_HELP: &str = "\
-A first ticket, and one for a service:
-  kclient kinit --kdc 127.0.0.1:88 --realm EXAMPLE.COM --name alice --cache cache
-  kclient kvno --kdc 127.0.0.1:88 --cache cache --name host/www.example.com
-
-Without --cache it is the file that KRB5CCNAME names. Without --realm or --kdc it is the default realm, and the addresses of the
-realm's KDCs, of the file that KRB5_CONFIG names, or /etc/krb5.conf.
-
-`kinit` prints `ok`, `kvno` prints for each service its name and the version of its key. Else `refused` is printed with a reason,
-or with the error code of the KDC, and the status is 1; or `failed`, with status 3, where a file, a socket, the clock or
-memory failed. A faulty command line has status 2. Standard error says in words what it was, and where.
-
-Names are components joined by `/`. Octets but 21 to 7e, and `/`, `\\` and `@` inside a component, are written `\\` and two
-lower case hexadecimal digits.";
-
-const KDC: OptionWords = OptionWords {
-    name: "kdc",
-    shape: "ADDRESS:PORT",
-    help: "Where a KDC is, as 127.0.0.1:88 or [::1]:88; of several the next is asked where one gives nothing",
-};
-
-const CACHE: OptionWords = OptionWords {
-    name: "cache",
-    shape: "FILE",
-    help: "The credential cache, as MIT's and Heimdal's tools read it",
-};
-
-const SEED: OptionWords = OptionWords {
-    name: "seed",
-    shape: "FILE",
-    help: "32 random octets, others for each command; else they are the system's",
-};
-
-/// The options of `kinit` with a value.
-const KINIT: &[OptionWords] = &[
-    OptionWords {
-        name: "realm",
-        shape: "REALM",
-        help: "The realm's name",
-    },
-    OptionWords {
-        name: "name",
-        shape: "NAME",
-        help: "The client's name, without its realm",
-    },
-    OptionWords {
-        name: "password-file",
-        shape: "FILE",
-        help: "The password is the first line, without its line feed, of at most 1,024 octets; else standard input's",
-    },
-    OptionWords {
-        name: "keytab",
-        shape: "FILE",
-        help: "The client's keys, in place of a password",
-    },
-    OptionWords {
-        name: "service",
-        shape: "NAME",
-        help: "The service that the ticket is for; else krbtgt/REALM",
-    },
-    OptionWords {
-        name: "life",
-        shape: "SECONDS",
-        help: "For how long the ticket is asked; else for as long as the KDC gives",
-    },
-    OptionWords {
-        name: "start",
-        shape: "SECONDS",
-        help: "Asks for a postdated ticket, which starts so many seconds from now and has to be validated then",
-    },
-    SEED,
-];
-
-/// The options of `kinit` that have no value.
-const KINIT_FLAGS: &[(&str, &str)] = &[
-    ("renewable", "Asks for a renewable ticket"),
-    ("forwardable", "Asks for a forwardable ticket"),
-    ("proxiable", "Asks for a proxiable ticket"),
-    ("renew", "Renews the cache's ticket for tickets"),
-    (
-        "validate",
-        "Validates the cache's ticket for tickets, which was postdated",
-    ),
-];
+#[derive(Clone, Copy)]
+pub(crate) struct KlistWords<'a> {
+    /// The path of the keytab; absent: a cache is listed.
+    pub keytab: Option<&'a str>,
+}
 
 /// What is said of a first ticket alone: options with a value, and those that have none.
 const FIRST_ALONE: &[&str] = &[
@@ -150,31 +73,6 @@ const FIRST_ALONE: &[&str] = &[
 ];
 
 const FIRST_FLAGS: &[&str] = &["renewable", "forwardable", "proxiable"];
-
-const SERVICE: OptionWords = OptionWords {
-    name: "name",
-    shape: "NAME",
-    help: "A service's name, without its realm; it may stand more than once",
-};
-
-/// The options of `kvno` with a value, but for its names.
-const KVNO: &[OptionWords] = &[
-    OptionWords {
-        name: "keytab",
-        shape: "FILE",
-        help: "The keys of the services, which have to open their tickets",
-    },
-    SEED,
-];
-
-const KLIST: &[OptionWords] = &[
-    CACHE,
-    OptionWords {
-        name: "keytab",
-        shape: "FILE",
-        help: "The keytab, in place of a cache",
-    },
-];
 
 // What stands behind `error:` where options don't go together, or a value is none.
 
@@ -191,92 +89,33 @@ const TWO_WAYS: &str = "--renew and --validate don't go together";
 const AGAIN: &str = "\
 --renew and --validate take the ticket of the cache: no option of a first ticket goes with them";
 
-/// Reads the words, the program's name in front.
-pub(crate) fn read_words<'a, S: AsStr>(
-    alloc: Global,
-    words: &'a [S],
-) -> Result<ArgMatches<'a>, Error> {
-    let kclient = Command::new(alloc, "kclient")
-        .about(ABOUT)
-        .after_help(AFTER_HELP)
-        .subcommand_required(true)
-        .subcommand(kinit_command(alloc)?)?
-        .subcommand(kvno_command(alloc)?)?
-        .subcommand(klist_command(alloc)?)?;
-    kclient.try_get_matches_from(words)
-}
-
-fn kinit_command<'a>(alloc: Global) -> Result<Command<'a>, AllocError> {
-    let command = Command::new(alloc, "kinit").about(
-        "Gets a ticket for tickets by a password or a keytab, and makes a credential cache of it",
-    );
-    let command = with_more_options(alloc, command, KINIT)?;
-    with_places(alloc, with_flags(alloc, command, KINIT_FLAGS)?)
-}
-
-fn kvno_command<'a>(alloc: Global) -> Result<Command<'a>, AllocError> {
-    let command = Command::new(alloc, "kvno").about(
-        "Gets tickets for services, puts them into the cache, and prints the versions of the services' keys",
-    );
-    let names = option(alloc, &SERVICE).action(ArgAction::Append);
-    let command = with_more_options(alloc, command.arg(names.required(true))?, KVNO)?;
-    let fresh = flag(alloc, "fresh", "Asks also for a ticket that the cache has");
-    with_places(alloc, command.arg(fresh)?)
-}
-
-fn klist_command<'a>(alloc: Global) -> Result<Command<'a>, AllocError> {
-    let command = Command::new(alloc, "klist").about(
-        "Prints what a credential cache or a keytab holds, but no key",
-    );
-    with_more_options(alloc, command, KLIST)
-}
-
-fn with_flags<'a>(
-    alloc: Global,
-    mut command: Command<'a>,
-    flags: &[(&'static str, &'static str)],
-) -> Result<Command<'a>, AllocError> {
-    for (name, help) in flags {
-        command = command.arg(flag(alloc, name, help))?;
-    }
-    Ok(command)
-}
-
-/// The command, with the options of where the cache and the KDCs are.
-fn with_places<'a>(alloc: Global, command: Command<'a>) -> Result<Command<'a>, AllocError> {
-    let command = command
-        .arg(option(alloc, &KDC).action(ArgAction::Append))?
-        .arg(option(alloc, &CACHE))?;
-    command.arg(flag(alloc, "tcp", "Asks by TCP alone; else by UDP first"))
-}
-
-/// The words that both subcommands have.
-pub(crate) fn common_words<'a>(words: &ArgMatches<'a>, places: &'a Places) -> CommonWords<'a> {
-    CommonWords {
-        kdc: places.kdcs.text.as_str(),
-        cache: places.cache.as_str(),
-        seed: words.get_str("seed"),
+/// What the words behind a command's name order; else what is wrong with them.
+pub(crate) fn task_of<'a>(command: &str, words: &ArgMatches<'a>) -> Result<Task<'a>, &'static str> {
+    match command {
+        "kinit" => kinit_task(words),
+        "kvno" => Ok(Task::Kvno(KvnoWords {
+            keytab: words.get_str("keytab"),
+            seed: words.get_str("seed"),
+            fresh: words.get_flag("fresh"),
+        })),
+        _ => Ok(Task::Klist(KlistWords {
+            keytab: words.get_str("keytab"),
+        })),
     }
 }
 
-/// Where the KDCs are.
-pub(crate) fn kdc_place<'a>(words: &ArgMatches<'_>, places: &'a Places) -> KdcPlace<'a> {
-    KdcPlace {
-        addresses: &places.kdcs.addresses,
-        tcp_only: words.get_flag("tcp"),
-    }
-}
-
-/// The words of `kvno` alone, but for its names.
-pub(crate) fn kvno_words<'a>(words: &ArgMatches<'a>) -> KvnoWords<'a> {
-    KvnoWords {
-        keytab: words.get_str("keytab"),
-        fresh: words.get_flag("fresh"),
+fn kinit_task<'a>(words: &ArgMatches<'a>) -> Result<Task<'a>, &'static str> {
+    match again(words)? {
+        Some(again) => Ok(Task::Again(AgainWords {
+            again,
+            seed: words.get_str("seed"),
+        })),
+        None => Ok(Task::First(first_words(words)?)),
     }
 }
 
 /// What is to be done with a ticket that the client has; `None` where a first ticket is asked. Else what is wrong.
-pub(crate) fn again(words: &ArgMatches<'_>) -> Result<Option<Again>, &'static str> {
+fn again(words: &ArgMatches<'_>) -> Result<Option<Again>, &'static str> {
     let again = match (words.get_flag("renew"), words.get_flag("validate")) {
         (true, true) => return Err(TWO_WAYS),
         (true, false) => Again::Renew,
@@ -304,50 +143,13 @@ fn asks_for_first(words: &ArgMatches<'_>) -> bool {
     false
 }
 
-/// What is wrong with the words of a command, but for those of its places.
-pub(crate) fn fault_of(command: &str, words: &ArgMatches<'_>) -> Option<&'static str> {
-    if command != "kinit" {
-        return None;
-    }
-    match again(words) {
-        Ok(Some(_)) => None,
-        Ok(None) => first_words(words).err(),
-        Err(fault) => Some(fault),
-    }
-}
-
-/// What the words say of a first ticket, but for the realm.
-#[derive(Clone, Copy, Debug)]
-struct FirstWords<'a> {
-    name: &'a str,
-    secret: SecretWords<'a>,
-    wishes: Wishes,
-}
-
 fn first_words<'a>(words: &ArgMatches<'a>) -> Result<FirstWords<'a>, &'static str> {
     Ok(FirstWords {
         name: words.get_str("name").ok_or(NO_NAME)?,
         secret: secret_words(words)?,
-        wishes: wishes(words)?,
-    })
-}
-
-/// The words of `kinit` for a first ticket, or what is wrong with them.
-pub(crate) fn kinit_words<'a>(
-    words: &ArgMatches<'a>,
-    places: &'a Places,
-) -> Result<KinitWords<'a>, &'static str> {
-    let FirstWords {
-        name,
-        secret,
-        wishes,
-    } = first_words(words)?;
-    Ok(KinitWords {
-        realm: places.realm.as_str(),
-        name,
-        secret,
         service: words.get_str("service"),
-        wishes,
+        seed: words.get_str("seed"),
+        wishes: wishes(words)?,
     })
 }
 

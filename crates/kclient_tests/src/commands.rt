@@ -27,6 +27,30 @@ const GOT: &[Run] = &[
         ways: "t",
         ..KVNO
     },
+    // AS-REP without padata, and without a start, as a model in Python seals it (RFC 3962) under the key of
+    // "password" with the default salt; its nonce is of ChaCha20 under octets 7
+    Run {
+        link: Link::Forged(
+            "\
+                6b82013d30820139a003020105a10302010ba3051b03412e42a40e300ca003020101a10530031b0176a540613e303ca00302\
+                0105a1051b03412e42a2183016a003020102a10f300d1b066b72627467741b03412e42a3143012a003020112a103020101a2\
+                06040400000000a681d33081d0a003020112a281c80481c57ace0f667146bac017940823e444022392560693b16706e204e7\
+                5c0a27aa0df7adb9a07afd2a0535e14d13d30dc27a7e95a4543f157c64bd4245263df520b17e5f3fca41444cef7bcfb745e1\
+                3fe33fc8c5ba6d3f8f7ca376f3ce6363adcf133fb397e9b24f65f863ffe68afe0e61709e32a31295f029a48d3002208bf5e4\
+                573e6e8a3dcc056e617399375336f5ecdadbb9e70d369b504b054619f09e07c4144d21720fabbdf42e3b6e2f9a178738423f\
+                3847476bfd985c8aa380adc67457db6dd7153e50df",
+        ),
+        held: "krbtgt/A.B 0 - 36000 - 00400000 18\n",
+        ..KINIT_V
+    },
+    Run {
+        line: "kclient klist --cache cc",
+        out: "\
+            principal v@A.B\nkrbtgt/A.B@A.B from 2024-01-01T00:00:00Z till 2024-01-01T10:00:00Z renew - flags I \
+            key 18 ticket 18\n",
+        ways: "",
+        ..KINIT_V
+    },
 ];
 
 /// With the cache of `u` that the first line makes.
@@ -51,7 +75,9 @@ const REFUSED_BY_A_REPLY: &[Run] = &[
         line: "kclient kinit --kdc 192.0.2.1:88 --realm A.B --name u --password-file wrong --cache cc --seed seed",
         status: REFUSED,
         out: "refused 24\n",
-        errors: "kclient: 192.0.2.1:88: error 24: the preauthentication failed: the password is another, or the clocks differ\n",
+        errors: "\
+            kclient: 192.0.2.1:88: error 24: the preauthentication failed: the password is another, or the \
+            clocks differ\n",
         ..KINIT
     },
     Run {
@@ -89,7 +115,10 @@ const REFUSED_BY_A_REPLY: &[Run] = &[
     // KRB-ERROR with code 25, whose PA-ETYPE-INFO2 asks for 4294967295 iterations
     Run {
         link: Link::Forged(
-            "7e743072a003020105a10302011ea411180f32303234303130313030303030305aa503020100a603020119a9051b03412e42aa183016a003020102a10f300d1b066b72627467741b03412e42ac28042630243022a103020113a21b041930173015a003020112a1061b04412e4275a2060404ffffffff",
+            "\
+                7e743072a003020105a10302011ea411180f32303234303130313030303030305aa503020100a603020119a9051b03412e42\
+                aa183016a003020102a10f300d1b066b72627467741b03412e42ac28042630243022a103020113a21b041930173015a00302\
+                0112a1061b04412e4275a2060404ffffffff",
         ),
         status: REFUSED,
         out: "refused CountTooLarge\n",
@@ -111,6 +140,16 @@ const REFUSED_BY_A_WORD: &[Run] = &[
     Run {
         line: "kclient kinit --kdc 192.0.2.1:88 --realm A/B --name u --password-file pass --cache cc --seed seed",
         errors: "kclient: A/B: no name is written so\n",
+        ..BAD_NAME
+    },
+    Run {
+        line: "kclient kinit --kdc 192.0.2.1:88 --realm  --name u --password-file pass --cache cc --seed seed",
+        errors: "kclient: --realm: no name is written so\n",
+        ..BAD_NAME
+    },
+    Run {
+        line: "kclient kvno --kdc 192.0.2.1:88 --cache cc --name h --name  --seed seed",
+        errors: "kclient: --name: this name ended the command\nkclient: --name: no name is written so\n",
         ..BAD_NAME
     },
     BAD_NAME,
@@ -281,16 +320,25 @@ const FAULTS: &[Run] = &[
         ..FAULT
     },
     Run {
-        line: "kclient kinit --kdc 192.0.2.1:88 --realm A.B --name u --password-file pass --cache cc --seed seed --life +1",
+        line: "\
+            kclient kinit --kdc 192.0.2.1:88 --realm A.B --name u --password-file pass --cache cc --seed seed \
+            --life +1",
         ..FAULT
     },
     Run {
-        line: "kclient kinit --kdc 192.0.2.1:88 --realm A.B --name u --password-file pass --cache cc --seed seed --life 4294967296",
+        line: "\
+            kclient kinit --kdc 192.0.2.1:88 --realm A.B --name u --password-file pass --cache cc --seed seed \
+            --life 4294967296",
         ..FAULT
     },
     Run {
         line: "kclient kvno --kdc 192.0.2.1:88 --name h",
         out: "--cache",
+        ..FAULT
+    },
+    Run {
+        line: "kclient kvno --kdc 192.0.2.1:88 --cache  --name h",
+        out: "a value is required for '--cache <FILE>'",
         ..FAULT
     },
     Run {
@@ -309,7 +357,9 @@ const FAULTS: &[Run] = &[
         ..FAULT
     },
     Run {
-        line: "kclient kinit --kdc 192.0.2.1:88 --realm A.B --name u --password-file pass --cache cc --start 4294967296",
+        line: "\
+            kclient kinit --kdc 192.0.2.1:88 --realm A.B --name u --password-file pass --cache cc --start \
+            4294967296",
         out: "--start",
         ..FAULT
     },

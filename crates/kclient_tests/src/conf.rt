@@ -4,8 +4,9 @@ use std::alloc::Global;
 use std::process::Abort;
 use std::test::Fail;
 
-/// As a site may have it: a comment of each kind, another section and relation before, blanks and tabs, lines that end with a
-/// carriage return, groups in groups, a realm that is there twice, another way, and a last line without a line feed.
+/// As a site may have it: a comment of each kind, another section and relation before, blanks and tabs, lines that
+/// end with a carriage return, groups in groups, a realm that is there twice, another way, and a last line without a
+/// line feed.
 const TEXT: &[u8] = b"# a site\n\
 ; of two realms\n\
 [logging]\n\

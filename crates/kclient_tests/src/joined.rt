@@ -29,8 +29,9 @@ pub enum Link {
 }
 
 /// KRB-ERROR with code 52.
-const TOO_BIG: &str =
-    "7e4a3048a003020105a10302011ea411180f32303234303130313030303030305aa503020100a603020134a9051b03412e42aa183016a003020102a10f300d1b066b72627467741b03412e42";
+const TOO_BIG: &str = "\
+        7e4a3048a003020105a10302011ea411180f32303234303130313030303030305aa503020100a603020134a9051b03412e42\
+        aa183016a003020102a10f300d1b066b72627467741b03412e42";
 
 /// The port of the second KDC.
 const SECOND_PORT: u16 = 89;
@@ -77,8 +78,8 @@ impl JoinedExchange {
         self.failures = 0;
     }
 
-    /// The messages of the command: `u` for a datagram, `t` for one by TCP, `=` for one by TCP with the octets of the message
-    /// before it; `U`, `T` and `#` for those to the second KDC.
+    /// The messages of the command: `u` for a datagram, `t` for one by TCP, `=` for one by TCP with the octets of the
+    /// message before it; `U`, `T` and `#` for those to the second KDC.
     pub fn ways(&self) -> &str {
         self.ways.as_str()
     }
@@ -180,7 +181,9 @@ fn ask(
     message: &[u8],
     answered: &mut Vec<u8>,
 ) -> io::Result<Vec<u8>> {
-    match kdc.handle(alloc, at, &[7; 64], u32::MAX, message) {
+    let random = [7; 64];
+    let handled = kdc.handle(alloc, at, &random, u32::MAX, message);
+    match handled {
         Ok(Some(reply)) => {
             *answered = Vec::from_slice(alloc, &reply)?;
             Ok(reply)

@@ -28,7 +28,9 @@ const FIRST: &[Run] = &[
         line: "kclient kinit --kdc 192.0.2.1:88 --realm A.B --name u --keytab old --cache cc --seed seed",
         status: REFUSED,
         out: "refused 24\n",
-        errors: "kclient: 192.0.2.1:88: error 24: the preauthentication failed: the password is another, or the clocks differ\n",
+        errors: "\
+            kclient: 192.0.2.1:88: error 24: the preauthentication failed: the password is another, or the \
+            clocks differ\n",
         ..KINIT
     },
     Run {
@@ -54,19 +56,25 @@ const FIRST: &[Run] = &[
         ..NO_KEY
     },
     Run {
-        line: "kclient kinit --kdc 192.0.2.1:88 --realm A.B --name u --password-file pass --cache cc --seed seed --service h",
+        line: "\
+            kclient kinit --kdc 192.0.2.1:88 --realm A.B --name u --password-file pass --cache cc --seed seed \
+            --service h",
         held: "h 90 90 36090 - 00600000 18\n",
         ..KINIT
     },
     Run {
-        line: "kclient kinit --kdc 192.0.2.1:88 --realm A.B --name u --password-file pass --cache cc --seed seed --service h/",
+        line: "\
+            kclient kinit --kdc 192.0.2.1:88 --realm A.B --name u --password-file pass --cache cc --seed seed \
+            --service h/",
         out: "refused BadName\n",
         errors: "kclient: h/: no name is written so\n",
         ways: "",
         ..NO_KEY
     },
     Run {
-        line: "kclient kinit --kdc 192.0.2.1:88 --realm A.B --name u --password-file pass --cache cc --seed seed --proxiable --life 60",
+        line: "\
+            kclient kinit --kdc 192.0.2.1:88 --realm A.B --name u --password-file pass --cache cc --seed seed \
+            --proxiable --life 60",
         held: "krbtgt/A.B 110 110 170 - 10600000 18\n",
         ..KINIT
     },
@@ -89,7 +97,9 @@ const FIRST: &[Run] = &[
         input: "passw0rd\n",
         status: REFUSED,
         out: "refused 24\n",
-        errors: "kclient: 192.0.2.1:88: error 24: the preauthentication failed: the password is another, or the clocks differ\n",
+        errors: "\
+            kclient: 192.0.2.1:88: error 24: the preauthentication failed: the password is another, or the \
+            clocks differ\n",
         ..KINIT
     },
     Run {
@@ -113,7 +123,9 @@ const NO_KEY: Run = Run {
 /// A ticket is renewed: it starts now, lives as long as it lived, and keeps until when it is renewable.
 const RENEWED: &[Run] = &[
     Run {
-        line: "kclient kinit --kdc 192.0.2.1:88 --realm A.B --name u --password-file pass --cache cc --seed seed --life 3600 --renewable --forwardable",
+        line: "\
+            kclient kinit --kdc 192.0.2.1:88 --realm A.B --name u --password-file pass --cache cc --seed seed \
+            --life 3600 --renewable --forwardable",
         held: "krbtgt/A.B 0 0 3600 604800 40e00000 18\n",
         ..KINIT
     },
@@ -163,7 +175,9 @@ const RENEWED: &[Run] = &[
 /// A ticket that starts later is validated from its start on, and keeps its times. Its life counts from its start.
 const VALIDATED: &[Run] = &[
     Run {
-        line: "kclient kinit --kdc 192.0.2.1:88 --realm A.B --name u --password-file pass --cache cc --seed seed --start 20 --life 100",
+        line: "\
+            kclient kinit --kdc 192.0.2.1:88 --realm A.B --name u --password-file pass --cache cc --seed seed \
+            --start 20 --life 100",
         held: "krbtgt/A.B 0 20 120 - 03600000 18\n",
         ..KINIT
     },
@@ -194,7 +208,9 @@ const VALIDATED: &[Run] = &[
         ..KINIT
     },
     Run {
-        line: "kclient kinit --kdc 192.0.2.1:88 --realm A.B --name u --password-file pass --cache cc --seed seed --start 20",
+        line: "\
+            kclient kinit --kdc 192.0.2.1:88 --realm A.B --name u --password-file pass --cache cc --seed seed \
+            --start 20",
         held: "krbtgt/A.B 50 70 36070 - 03600000 18\n",
         ..KINIT
     },

@@ -5,7 +5,9 @@ use kclient_run::{DONE, Defaults, FAILED, REFUSED, USAGE};
 use std::test::Fail;
 
 const TWO_KDCS: Run = Run {
-    line: "kclient kinit --kdc 192.0.2.1:88 --kdc 192.0.2.2:89 --realm A.B --name u --password-file pass --cache cc --seed seed",
+    line: "\
+        kclient kinit --kdc 192.0.2.1:88 --kdc 192.0.2.2:89 --realm A.B --name u --password-file pass \
+        --cache cc --seed seed",
     ..KINIT
 };
 
@@ -59,7 +61,9 @@ const SEVERAL: &[Run] = &[
         ..TWO_KDCS
     },
     Run {
-        line: "kclient kinit --kdc 192.0.2.1:88 --kdc kdc:89 --realm A.B --name u --password-file pass --cache cc --seed seed",
+        line: "\
+            kclient kinit --kdc 192.0.2.1:88 --kdc kdc:89 --realm A.B --name u --password-file pass --cache cc \
+            --seed seed",
         out: "--kdc takes an address and a port",
         ..FAULT
     },
@@ -136,14 +140,22 @@ const BY_DEFAULTS: &[Run] = &[
         ways: "",
         ..CONFIGURED
     },
+    // the store has a file /etc/krb5.conf
     Run {
         defaults: Defaults {
             cache: Some("cc"),
             config: None,
         },
+        ..CONFIGURED
+    },
+    Run {
+        defaults: Defaults {
+            cache: Some("cc"),
+            config: Some("nowhere"),
+        },
         status: FAILED,
         out: "failed\n",
-        errors: "kclient: /etc/krb5.conf: entity not found\n",
+        errors: "kclient: nowhere: entity not found\n",
         ways: "",
         ..CONFIGURED
     },

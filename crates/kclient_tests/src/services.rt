@@ -23,7 +23,9 @@ const SERVICES: &[Run] = &[
         line: "kclient kvno --kdc 192.0.2.1:88 --cache cc --seed seed --fresh --name v --name u",
         out: "v kvno 1\nu kvno 1\n",
         ways: "uu",
-        held: "krbtgt/A.B 0 0 36000 - 00600000 18\nh 0 30 36000 - 00200000 18\nu 0 50 36000 - 00200000 18\nv 0 50 36000 - 00200000 18\n",
+        held: "\
+            krbtgt/A.B 0 0 36000 - 00600000 18\nh 0 30 36000 - 00200000 18\nu 0 50 36000 - 00200000 18\nv 0 50 \
+            36000 - 00200000 18\n",
         ..KVNO
     },
     Run {
@@ -33,7 +35,9 @@ const SERVICES: &[Run] = &[
     Run {
         line: "kclient kvno --kdc 192.0.2.1:88 --cache cc --seed seed --fresh --name h --name x --name v",
         out: "refused 7\n",
-        errors: "kclient: x: this name ended the command\nkclient: 192.0.2.1:88: error 7: the service is not in the database\n",
+        errors: "\
+            kclient: x: this name ended the command\nkclient: 192.0.2.1:88: error 7: the service is not in the \
+            database\n",
         ways: "uu",
         ..STOPPED
     },
@@ -44,7 +48,9 @@ const SERVICES: &[Run] = &[
         ..STOPPED
     },
     Run {
-        line: "kclient kinit --kdc 192.0.2.1:88 --realm A.B --name u --password-file pass --cache cc --seed seed --life 20",
+        line: "\
+            kclient kinit --kdc 192.0.2.1:88 --realm A.B --name u --password-file pass --cache cc --seed seed \
+            --life 20",
         ..KINIT
     },
     Run {
@@ -85,7 +91,9 @@ const OPENED: &[Run] = &[
     },
     Run {
         line: "kclient kvno --kdc 192.0.2.1:88 --cache cc --seed seed --keytab keys --name h --name v",
-        errors: "kclient: v: this name ended the command\nkclient: keys: its key does not open the ticket: it is another of the same version\n",
+        errors: "\
+            kclient: v: this name ended the command\nkclient: keys: its key does not open the ticket: it is \
+            another of the same version\n",
         ways: "u",
         ..STOPPED
     },

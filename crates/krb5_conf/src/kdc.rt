@@ -47,7 +47,8 @@ pub(crate) fn plain_texts<'a>(
 
 /// Appends a text, unless it names another way.
 fn push_plain<'a>(plain: &mut Vec<&'a [u8]>, text: &'a [u8]) -> Result<(), AllocError>
-    ensures { OnOk result (map (λ t. t.now) plain.new.items ≡ map (λ t. t.now) plain.old.items ++ kdc_texts (text.now ∷ [])) }
+    ensures { OnOk result (
+        map (λ t. t.now) plain.new.items ≡ map (λ t. t.now) plain.old.items ++ kdc_texts (text.now ∷ [])) }
 {
     if is_other_way(text) {
         return Ok(());
@@ -83,7 +84,8 @@ fn is_other_way(text: &[u8]) -> bool
 /// The address that a text spells, where the port may lack and is then 88.
 fn address(alloc: Global, text: &[u8]) -> Result<Option<SocketAddr>, AllocError>
     ensures some { IfOk result (λ found. IfSome found (λ address. IsKdcText text.now address)) }
-    ensures none { IfOk result (λ found. IfNone found ((address : addresses.SocketAddr) → ¬ IsKdcText text.now address)) }
+    ensures none { IfOk result (λ found.
+        IfNone found ((address : addresses.SocketAddr) → ¬ IsKdcText text.now address)) }
 {
     if let Ok(address) = SocketAddr::parse_ascii(text) {
         return Ok(Some(address));

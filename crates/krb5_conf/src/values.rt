@@ -16,7 +16,8 @@ pub(crate) fn values<'a>(
     wanted: Place<'_>,
     tag: &[u8],
 ) -> Result<Vec<&'a [u8]>, AllocError>
-    ensures { IfOk result (λ values. map (λ value. value.now) values.items ≡ values_of (place_of wanted.entry) tag.now text.now) }
+    ensures { IfOk result (λ values.
+        map (λ value. value.now) values.items ≡ values_of (place_of wanted.entry) tag.now text.now) }
 {
     let mut values = Vec::new(alloc);
     let mut place = Place::of_section(b"");
@@ -31,7 +32,8 @@ pub(crate) fn values<'a>(
 
 /// Appends a value, where there is one.
 fn push_some<'a>(values: &mut Vec<&'a [u8]>, value: Option<&'a [u8]>) -> Result<(), AllocError>
-    ensures { OnOk result (map (λ v. v.now) values.new.items ≡ map (λ v. v.now) values.old.items ++ option_to_list (option_map (λ v. v.now) value.entry)) }
+    ensures { OnOk result (map (λ v. v.now) values.new.items
+        ≡ map (λ v. v.now) values.old.items ++ option_to_list (option_map (λ v. v.now) value.entry)) }
 {
     match value {
         Some(value) => Ok(values.push(value)?),
@@ -48,7 +50,8 @@ fn lines<'a>(alloc: Global, text: &'a [u8]) -> Result<Vec<&'a [u8]>, AllocError>
 
 /// The value that a line gives, where it is a relation with this tag that stands at the place that is wanted.
 fn value_at<'a>(wanted: Place<'_>, tag: &[u8], place: Place<'_>, line: Line<'a>) -> Option<&'a [u8]>
-    ensures { option_map (λ value. value.now) result ≡ value_by (place_of wanted.entry) tag.now (place_of place.entry) (said line.entry) }
+    ensures { option_map (λ value. value.now) result
+        ≡ value_by (place_of wanted.entry) tag.now (place_of place.entry) (said line.entry) }
 {
     match line {
         Line::Relation(found, value) if place.is(wanted) && found == tag => Some(value),
