@@ -8,7 +8,7 @@ use Rattle.std.proofs.lemmas.Int.{ints, clamps}
 use Rattle.std.proofs.lemmas.Bool.Decides.{nat_tests}
 use Rattle.krb_fields.specs.Skew.{skew}
 use Rattle.replay.specs.Memory.{floor_at, if_kept, remembered, verdict}
-use Rattle.replay.specs.Stamp.{Stamp, stamp_cmp, is_from, is_skewed}
+use Rattle.replay.specs.Stamp.{Stamp, stamp_cmp, is_from, is_untimely}
 use Rattle.replay.specs.declared.memory.Memory.{Memory}
 use Rattle.replay.specs.declared.verdict.Verdict.{Verdict}
 use Rattle.replay.specs.declared.verdict.Verdict.TheVariants.{Fresh, Skew, Full}
@@ -74,7 +74,7 @@ abbrev compared : View → ℤ → Stamp → ℕ → Verdict ⊤
 compared v now stamp limit = if_kept (map.get v.1 stamp) (if nat_le limit (map.len (map.retain_keys v.1 (is_from (floor_at v.0 now)))) then Full else Fresh)
 
 abbrev seen : View → ℤ → Stamp → ℕ → Verdict ⊤
-seen v now stamp limit = if is_skewed v.0 now stamp.0 then Skew else compared v now stamp limit
+seen v now stamp limit = if is_untimely v.0 now stamp.0 then Skew else compared v now stamp limit
 
 not_far : (far low : Bool) → (far || low) ≡ false → far ≡ false
 not_far true low e = cc
@@ -105,7 +105,7 @@ module _ (second now : ℤ) (v : View) (stamp : Stamp) (le : second ≤ℤ (now 
   same_skew true e = refl
   same_skew false e = same_low e (int_lt stamp.0 v.0) refl
 
-  same_pair : is_skewed v.0 now stamp.0 ≡ false → map.get (further second v).1 stamp ≡ map.get v.1 stamp
+  same_pair : is_untimely v.0 now stamp.0 ≡ false → map.get (further second v).1 stamp ≡ map.get v.1 stamp
   same_pair timely =
       let far = nat_lt skew (unsigned_abs (stamp.0 -ℤ now)) in
       let near : far ≡ false = not_far far (int_lt stamp.0 v.0) timely in
@@ -114,15 +114,15 @@ module _ (second now : ℤ) (v : View) (stamp : Stamp) (le : second ≤ℤ (now 
 
   -- nothing else from the second on, with the skew of clocks
   seen_further : (limit : ℕ) → seen (further second v) now stamp limit ≡ seen v now stamp limit
-  seen_further limit = ap (λ b. cond b Skew (compared (further second v) now stamp limit)) same ∙ at (is_skewed v.0 now stamp.0) refl
+  seen_further limit = ap (λ b. cond b Skew (compared (further second v) now stamp limit)) same ∙ at (is_untimely v.0 now stamp.0) refl
     where
-      same : is_skewed (int_max v.0 second) now stamp.0 ≡ is_skewed v.0 now stamp.0
+      same : is_untimely (int_max v.0 second) now stamp.0 ≡ is_untimely v.0 now stamp.0
       same = same_skew (nat_lt skew (unsigned_abs (stamp.0 -ℤ now))) refl
 
       left : (further (now -ℤ pos skew) (further second v)).1 ≡ (further (now -ℤ pos skew) v).1
       left = ap (λ (w : View). w.1) (sym (further_twice second (now -ℤ pos skew) v le))
 
-      at : (b : Bool) → is_skewed v.0 now stamp.0 ≡ b → cond b Skew (compared (further second v) now stamp limit) ≡ cond b Skew (compared v now stamp limit)
+      at : (b : Bool) → is_untimely v.0 now stamp.0 ≡ b → cond b Skew (compared (further second v) now stamp limit) ≡ cond b Skew (compared v now stamp limit)
       at true e = refl
       at false e = λ i. if_kept (same_pair e i) (if nat_le limit (map.len (left i)) then Full else Fresh)
 

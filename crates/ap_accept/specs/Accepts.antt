@@ -77,6 +77,11 @@ accepted_with reply p = record {
   ap_rep = reply;
 }
 
+-- the same, where it may be refused
+abbrev pub accepted_if : Presented → Result (Option (List ℕ)) ApFault → Result Accepted ApFault
+accepted_if p (Ok reply) = Ok (accepted_with reply p)
+accepted_if p (Err fault) = Err fault
+
 abbrev pub accepted : List ℕ → Bool → Presented → Accepted
 accepted confounder wanted p = accepted_with (reply_if wanted p.session_key confounder p.authenticator) p
 

@@ -3,11 +3,12 @@ pub mod Fault
 pub mod Tickets
 pub mod Authenticators
 pub mod Presented
-pub mod PresentedLaws
 pub mod Clients
 pub mod State
 pub mod Validity
 pub mod Reply
 pub mod Accepts
 pub mod Run
+-- laws that proofs cite: no reader of a contract needs them
+pub mod PresentedLaws
 pub mod LengthLaws

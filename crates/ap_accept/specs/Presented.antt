@@ -10,6 +10,7 @@ use Rattle.refusals.specs.Stages.{◌>>=◌}
 use Rattle.ap_accept.specs.Tickets.{ticket_of, session_key_of}
 use Rattle.ap_accept.specs.Authenticators.{authenticator_of, subkey_of}
 use Rattle.ap_accept.specs.declared.presented.Presented.{Presented}
+use Rattle.ap_accept.specs.declared.presented.Shown.{Shown}
 use Rattle.ap_accept.specs.declared.refusal.ApRefusal.{ApRefusal}
 
 -- the name of a service with its realm before it
@@ -25,11 +26,17 @@ presented_as ap part key auth subkey = record {
   subkey = subkey;
 }
 
+-- what the authenticator shows under the ticket's session key
+abbrev pub shown_in : ApReq → EncTicketPart → Result Shown ApRefusal
+shown_in ap part = do
+  key ← session_key_of ap.ticket.realm part
+  auth ← authenticator_of key ap.authenticator
+  subkey ← subkey_of part auth
+  Ok (record { session_key = key; authenticator = auth; subkey = subkey })
+
 -- what the request presents
 abbrev pub presented : List KeytabEntry → ApReq → Result Presented ApRefusal
 presented keytab ap = do
   part ← ticket_of keytab ap
-  key ← session_key_of ap.ticket.realm part
-  auth ← authenticator_of key ap.authenticator
-  subkey ← subkey_of part auth
-  Ok (presented_as ap part key auth subkey)
+  shown ← shown_in ap part
+  Ok (presented_as ap part shown.session_key shown.authenticator shown.subkey)

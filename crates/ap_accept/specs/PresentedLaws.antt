@@ -7,24 +7,28 @@ use Rattle.krb_parts.specs.EncTicketPart.{EncTicketPart}
 use Rattle.cred_files.specs.declared.keytab_entry.KeytabEntry.{KeytabEntry}
 use Rattle.refusals.specs.Stages.{◌>>=◌}
 use Rattle.ap_accept.specs.Authenticators.{authenticator_of, subkey_of}
-use Rattle.ap_accept.specs.Presented.{presented, presented_as}
+use Rattle.ap_accept.specs.Presented.{presented, presented_as, shown_in}
 use Rattle.ap_accept.specs.Tickets.{session_key_of, ticket_of}
 use Rattle.ap_accept.specs.declared.presented.Presented.{Presented}
+use Rattle.ap_accept.specs.declared.presented.Shown.{Shown}
 use Rattle.ap_accept.specs.declared.refusal.ApRefusal.{ApRefusal}
 
 module _ (request : ApReq) where
   -- what follows each stage
-  abbrev by_subkey : EncTicketPart → Key → Authenticator → Option Key → Result Presented ApRefusal
-  by_subkey part key auth subkey = Ok (presented_as request part key auth subkey)
+  abbrev by_subkey : Key → Authenticator → Option Key → Result Shown ApRefusal
+  by_subkey key auth subkey = Ok (record { session_key = key; authenticator = auth; subkey = subkey })
 
-  abbrev by_authenticator : EncTicketPart → Key → Authenticator → Result Presented ApRefusal
-  by_authenticator part key auth = subkey_of part auth >>= λ subkey. by_subkey part key auth subkey
+  abbrev by_authenticator : EncTicketPart → Key → Authenticator → Result Shown ApRefusal
+  by_authenticator part key auth = subkey_of part auth >>= λ subkey. by_subkey key auth subkey
 
-  abbrev by_session_key : EncTicketPart → Key → Result Presented ApRefusal
+  abbrev by_session_key : EncTicketPart → Key → Result Shown ApRefusal
   by_session_key part key = authenticator_of key request.authenticator >>= λ auth. by_authenticator part key auth
 
+  abbrev by_shown : EncTicketPart → Shown → Result Presented ApRefusal
+  by_shown part shown = Ok (presented_as request part shown.session_key shown.authenticator shown.subkey)
+
   abbrev by_ticket : EncTicketPart → Result Presented ApRefusal
-  by_ticket part = session_key_of request.ticket.realm part >>= λ key. by_session_key part key
+  by_ticket part = shown_in request part >>= λ shown. by_shown part shown
 
   pub all_found : (keytab : List KeytabEntry) (part : EncTicketPart) (key : Key) (auth : Authenticator)
       (subkey : Option Key)
@@ -33,6 +37,6 @@ module _ (request : ApReq) where
       → presented keytab request ≡ Ok (presented_as request part key auth subkey)
   all_found keytab part key auth subkey opens keyed shows chosen =
       ap (λ (r : Result EncTicketPart ApRefusal). r >>= by_ticket) opens
-      ∙ ap (λ (r : Result Key ApRefusal). r >>= by_session_key part) keyed
-      ∙ ap (λ (r : Result Authenticator ApRefusal). r >>= by_authenticator part key) shows
-      ∙ ap (λ (r : Result (Option Key) ApRefusal). r >>= by_subkey part key auth) chosen
+      ∙ ap (λ (r : Result Key ApRefusal). (r >>= by_session_key part) >>= by_shown part) keyed
+      ∙ ap (λ (r : Result Authenticator ApRefusal). (r >>= by_authenticator part key) >>= by_shown part) shows
+      ∙ ap (λ (r : Result (Option Key) ApRefusal). (r >>= by_subkey key auth) >>= by_shown part) chosen

@@ -2,9 +2,10 @@
 ghost use Rattle.std.specs.Prelude.{◌≡◌, false, None, IfOk, IfNone, IfSome, OnOk, OnErr};
 ghost use Rattle.std.specs.FinMap as map;
 ghost use Rattle.replay.specs.Memory.{verdict_copied};
-ghost use Rattle.replay.specs.Stamp.{is_skewed};
-ghost use Rattle.ap_accept.specs.Accepts.{accepted_with, accepts, memory_for, memory_refusal, presented_by, refusal_by};
-ghost use Rattle.ap_accept.specs.Accepts.{remembering, stamp_of, unless_seen, IsAfter, IsAnswer};
+ghost use Rattle.replay.specs.Stamp.{is_untimely};
+ghost use Rattle.ap_accept.specs.Accepts.{accepted_if, accepted_with, accepts, memory_for, memory_refusal};
+ghost use Rattle.ap_accept.specs.Accepts.{presented_by, refusal_by, remembering, stamp_of, unless_seen};
+ghost use Rattle.ap_accept.specs.Accepts.{IsAfter, IsAnswer};
 ghost use Rattle.ap_accept.specs.Reply.{IsApReply};
 
 use crate::accepted::Accepted;
@@ -63,16 +64,40 @@ fn judge(
     ensures reply { IfOk result (λ accepted. IfSome accepted.ap_rep (λ octets.
         IsApReply presented.session_key confounder.now presented.authenticator octets)) }
 {
-    if let Some(refusal) = memory_refusal(state, alloc, at, &presented) {
+    match admit(state, alloc, at, confounder, wanted, &presented) {
+        Ok(reply) => Ok(accepted_with(reply, presented)),
+        Err(fault) => Err(fault),
+    }
+}
+
+/// The octets of the AP-REP, where one is asked for, if what is presented is accepted; or why it is refused.
+fn admit(
+    state: &mut State,
+    alloc: Global,
+    at: Moment,
+    confounder: &[u8; 16],
+    wanted: bool,
+    presented: &Presented,
+) -> Result<Option<Octets>, ApFault>
+    ensures answer { IsAnswer (accepted_if presented.now result)
+        (unless_seen state.old at.sec confounder.now wanted presented.now
+        (memory_refusal state.old at.sec presented.now)).answer }
+    ensures state { IsAfter (accepted_if presented.now result) state.old state.new
+        (unless_seen state.old at.sec confounder.now wanted presented.now
+        (memory_refusal state.old at.sec presented.now)).state }
+    ensures reply { IfOk result (λ reply. IfSome reply (λ octets.
+        IsApReply presented.now.session_key confounder.now presented.now.authenticator octets)) }
+{
+    if let Some(refusal) = memory_refusal(state, alloc, at, presented) {
         return Err(ApFault::Refused(refusal));
     }
     let Some(refusal) = ticket_refusal(&terms_of(&presented.ticket), at) else {
         let key = &presented.session_key;
         let reply = reply_if(alloc, wanted, key, confounder, &presented.authenticator)?;
-        remember(state, alloc, at, &presented)?;
-        return Ok(accepted_with(reply, presented));
+        remember(state, alloc, at, presented)?;
+        return Ok(reply);
     };
-    remember(state, alloc, at, &presented)?;
+    remember(state, alloc, at, presented)?;
     Err(ApFault::Refused(refusal))
 }
 
@@ -85,7 +110,7 @@ fn memory_refusal(
 ) -> Option<ApRefusal>
     ensures value { result ≡ memory_refusal state.now at.sec presented.now }
     ensures timely { IfNone result
-        (is_skewed (memory_for state.now presented.now).floor at.sec presented.now.authenticator.ctime ≡ false) }
+        (is_untimely (memory_for state.now presented.now).floor at.sec presented.now.authenticator.ctime ≡ false) }
     ensures new { IfNone result (map.get (memory_for state.now presented.now).pairs (stamp_of presented.now) ≡ None) }
 {
     let opened = Clients::opened(alloc, state.opening);
@@ -115,7 +140,7 @@ fn remember(
     at: Moment,
     presented: &Presented,
 ) -> Result<(), AllocError>
-    requires timely { is_skewed (memory_for state.old presented.now).floor at.sec presented.now.authenticator.ctime
+    requires timely { is_untimely (memory_for state.old presented.now).floor at.sec presented.now.authenticator.ctime
         ≡ false }
     requires new { map.get (memory_for state.old presented.now).pairs (stamp_of presented.now) ≡ None }
     ensures ok { OnOk result (state.new ≡ remembering state.old at.sec presented.now) }

@@ -36,7 +36,7 @@ impl Model for Acceptor {
 }
 
 impl Acceptor {
-    /// Opens with the keys of the services. It answers want of memory alone; today it takes none.
+    /// Opens with the keys of the services. It takes no memory; want of memory is the only fault that its type knows.
     pub fn open(
         alloc: Global,
         keytab: Keytab,

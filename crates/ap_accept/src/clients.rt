@@ -1,10 +1,10 @@
 //! What is remembered of a service's clients.
 ghost use Rattle.std.specs.Prelude.{◌≡◌, false, None, OnOk, OnErr};
 ghost use Rattle.std.specs.FinMap as map;
-ghost use Rattle.replay.specs.Stamp.{is_skewed};
+ghost use Rattle.replay.specs.Stamp.{is_untimely};
 ghost use Rattle.replay.specs.Memory.{remembered};
-ghost use Rattle.ap_accept.specs.Clients.{empty_memory, lasts, let_go, memory_among, memory_in, opened_clients};
-ghost use Rattle.ap_accept.specs.Clients.{with_memory};
+ghost use Rattle.ap_accept.specs.Clients.{empty_memory, floor_for, lasts, let_go, memory_among, memory_in};
+ghost use Rattle.ap_accept.specs.Clients.{opened_clients, with_memory};
 
 use krb_fields::{Moment, Name, SKEW};
 use principal_rows::{NameMap, ValueTest};
@@ -57,7 +57,7 @@ impl Clients {
         ctime: i64,
         cusec: u32,
     ) -> Result<(), AllocError>
-        requires timely { is_skewed (memory_in self.old client.now.components).floor at.sec ctime ≡ false }
+        requires timely { is_untimely (memory_in self.old client.now.components).floor at.sec ctime ≡ false }
         requires new { map.get (memory_in self.old client.now.components).pairs (ctime, cusec) ≡ None }
         ensures ok { OnOk result (self.new ≡ let_go at.sec (with_memory self.old client.now.components
             (remembered (memory_in self.old client.now.components) at.sec (ctime, cusec) tt))) }
@@ -73,12 +73,19 @@ impl Clients {
     fn let_go(&mut self, at: Moment)
         ensures { self.new ≡ let_go at.sec self.old }
     {
-        let floor = at.sec - SKEW - HOUR;
+        let floor = floor_for(at);
         if self.floor < floor - HOUR {
             self.memories.retain(&Lasting { floor });
             self.floor = floor;
         }
     }
+}
+
+/// The second an hour and the skew of clocks before this moment.
+fn floor_for(at: Moment) -> i64
+    ensures { result ≡ floor_for at.sec }
+{
+    at.sec - SKEW - HOUR
 }
 
 /// The memory of a client of which nothing is remembered.
@@ -102,16 +109,16 @@ fn remember_among(
     ctime: i64,
     cusec: u32,
 ) -> Result<(), AllocError>
-    requires timely { is_skewed (memory_among floor memories.old client.now.components).floor at.sec ctime ≡ false }
+    requires timely { is_untimely (memory_among floor memories.old client.now.components).floor at.sec ctime ≡ false }
     requires new { map.get (memory_among floor memories.old client.now.components).pairs (ctime, cusec) ≡ None }
     ensures ok { OnOk result (memories.new ≡ map.insert memories.old client.now.components
         (remembered (memory_among floor memories.old client.now.components) at.sec (ctime, cusec) tt)) }
     ensures err { OnErr result (memories.new ≡ memories.old) }
 {
     let mut memory = empty_memory(alloc, floor);
-    if memories.exchange(client, &mut memory) {
+    if memories.replace(client, &mut memory) {
         let done = memory.remember(at, ctime, cusec, ());
-        let _ = memories.exchange(client, &mut memory);
+        let _ = memories.replace(client, &mut memory);
         done
     } else {
         memory.remember(at, ctime, cusec, ())?;

@@ -1,16 +1,17 @@
 //! The ticket and the authenticator of an AP-REQ, opened (RFC 4120, section 3.2.3).
 ghost use Rattle.std.specs.Prelude.{◌≡◌, IfOk};
 ghost use Rattle.ap_accept.specs.Fault.{Gives};
-ghost use Rattle.ap_accept.specs.Presented.{full_name, presented};
+ghost use Rattle.ap_accept.specs.Presented.{full_name, presented, shown_in};
 
 use crate::authenticators::{authenticator_of, subkey_of};
 use crate::fault::ApFault;
-use crate::presented::Presented;
+use crate::presented::{Presented, Shown};
 use crate::tickets::{session_key_of, ticket_of};
 use cred_files::Keytab;
 use krb_ap::ApReqRef;
 use krb_elements::{KerberosString, Seq};
 use krb_fields::{Name, NameRef};
+use krb_parts::EncTicketPart;
 use std::alloc::{AllocError, Global};
 
 /// What an AP-REQ presents, or the first rule by which that is refused.
@@ -21,14 +22,30 @@ pub fn open_request(
 ) -> Result<Presented, ApFault>
     ensures { Gives result (presented keytab.now request.now) }
 {
-    let realm = request.ticket.realm.as_slice();
     let ticket = ticket_of(alloc, keytab, request)?;
-    let session_key = session_key_of(realm, &ticket)?;
-    let authenticator = authenticator_of(alloc, &session_key, &request.authenticator)?;
-    let subkey = subkey_of(&ticket, &authenticator)?;
+    let service = full_name(
+        alloc,
+        request.ticket.realm.as_slice(),
+        &request.ticket.sname,
+    )?;
+    let shown = shown_in(alloc, request, &ticket)?;
     Ok(Presented {
-        service: full_name(alloc, realm, &request.ticket.sname)?,
+        service,
         ticket,
+        session_key: shown.session_key,
+        authenticator: shown.authenticator,
+        subkey: shown.subkey,
+    })
+}
+
+/// What the authenticator shows under the ticket's session key.
+fn shown_in(alloc: Global, request: &ApReqRef<'_>, ticket: &EncTicketPart) -> Result<Shown, ApFault>
+    ensures { Gives result (shown_in request.now ticket.now) }
+{
+    let session_key = session_key_of(request.ticket.realm.as_slice(), ticket)?;
+    let authenticator = authenticator_of(alloc, &session_key, &request.authenticator)?;
+    let subkey = subkey_of(ticket, &authenticator)?;
+    Ok(Shown {
         session_key,
         authenticator,
         subkey,

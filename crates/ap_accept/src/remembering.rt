@@ -1,7 +1,7 @@
 //! What is remembered of the clients of services.
 ghost use Rattle.std.specs.Prelude.{◌≡◌, false, None, OnOk, OnErr};
 ghost use Rattle.std.specs.FinMap as map;
-ghost use Rattle.replay.specs.Stamp.{is_skewed};
+ghost use Rattle.replay.specs.Stamp.{is_untimely};
 ghost use Rattle.replay.specs.Memory.{remembered};
 ghost use Rattle.ap_accept.specs.Clients.{let_go, opened_clients, with_memory};
 ghost use Rattle.ap_accept.specs.State.{clients_of, memory_of, with_clients};
@@ -34,7 +34,7 @@ impl State {
         ctime: i64,
         cusec: u32,
     ) -> Result<(), AllocError>
-        requires timely { is_skewed (memory_of self.old service.now.components client.now.components).floor at.sec ctime
+        requires timely { is_untimely (memory_of self.old service.now.components client.now.components).floor at.sec ctime
             ≡ false }
         requires new { map.get (memory_of self.old service.now.components client.now.components).pairs (ctime, cusec)
             ≡ None }
@@ -44,9 +44,9 @@ impl State {
         ensures err { OnErr result (self.new ≡ self.old) }
     {
         let mut clients = Clients::opened(alloc, self.opening);
-        if self.services.exchange(service, &mut clients) {
+        if self.services.replace(service, &mut clients) {
             let done = clients.remember(alloc, client, at, ctime, cusec);
-            let _ = self.services.exchange(service, &mut clients);
+            let _ = self.services.replace(service, &mut clients);
             done
         } else {
             clients.remember(alloc, client, at, ctime, cusec)?;

@@ -31,7 +31,8 @@ IsOpening status None new keytab remembered opening = IsOpeningOf status new key
 -- ---- accepting
 
 abbrev pub IsTakenBy : Status → Service → Option Service → Moment → List ℕ → List ℕ → Numbers → Type 0
-IsTakenBy status old (Some new) at confounder octets numbers = IsTaken status old new (accepts old.acceptor at confounder octets) × (numbers ≡ numbers_if new.accepted)
+IsTakenBy status old (Some new) at confounder octets numbers =
+    IsTaken status old new (accepts old.acceptor at confounder octets) × (numbers ≡ numbers_if new.accepted)
 IsTakenBy status old None at confounder octets numbers = ⊥
 
 -- a closed acceptor accepts nothing

@@ -34,25 +34,31 @@ pub record AtMoment (sec : ℤ) (usec : ℕ) (P : Moment → Type 0) : Type 0 wh
   pub holds : P at
 
 abbrev pub IsOpenAt : Status → Option Service → Option Service → List ℕ → ℕ → Bool → ℤ → ℕ → Type 0
-IsOpenAt status old new keytab remembered is_first sec usec = IsNoMoment status old new sec usec ⊎ AtMoment sec usec (λ at. IsOpening status old new keytab remembered (opening_at is_first at))
+IsOpenAt status old new keytab remembered is_first sec usec =
+    IsNoMoment status old new sec usec
+    ⊎ AtMoment sec usec (λ at. IsOpening status old new keytab remembered (opening_at is_first at))
 
 -- the same of an AP-REQ that came in at the moment of these numbers, if there is one
-pub record IsAcceptedAt (status : Status) (old new : Option Service) (sec : ℤ) (usec : ℕ) (confounder octets : List ℕ) (numbers : Numbers) : Type 0 where
+pub record IsAcceptedAt (status : Status) (old new : Option Service) (sec : ℤ) (usec : ℕ) (confounder octets : List ℕ)
+    (numbers : Numbers) : Type 0 where
   pub none : (IsSecond sec × IsMicrosecond usec → ⊥) → (status ≡ BadArgument) × (new ≡ old)
   pub accepted : (at : Moment) → IsAt at sec usec → IsAccepted status old new at confounder octets numbers
 
 abbrev pub IsOpenCall : ℤ → Option Service → Option Service → List ℕ → ℕ → Bool → ℤ → ℕ → Type 0
-IsOpenCall n old new keytab remembered is_first sec usec = Numbered n (λ status. IsOpenAt status old new keytab remembered is_first sec usec)
+IsOpenCall n old new keytab remembered is_first sec usec =
+    Numbered n (λ status. IsOpenAt status old new keytab remembered is_first sec usec)
 
 abbrev pub IsAcceptCall : ℤ → Option Service → Option Service → ℤ → ℕ → List ℕ → List ℕ → Numbers → Type 0
-IsAcceptCall n old new sec usec confounder octets numbers = Numbered n (λ status. IsAcceptedAt status old new sec usec confounder octets numbers)
+IsAcceptCall n old new sec usec confounder octets numbers =
+    Numbered n (λ status. IsAcceptedAt status old new sec usec confounder octets numbers)
 
 abbrev pub IsFetchPart : Status → Option Part → Option Service → List ℕ → List ℕ → ℕ → Type 0
 IsFetchPart status (Some part) service old new len = IsFetched status service part old new len
 IsFetchPart status None service old new len = (status ≡ BadArgument) × (new ≡ old) × (len ≡ 0)
 
 abbrev pub IsFetchCall : ℤ → Option Service → ℕ → List ℕ → List ℕ → ℕ → Type 0
-IsFetchCall n service part old new len = Numbered n (λ status. IsFetchPart status (part_numbered part) service old new len)
+IsFetchCall n service part old new len =
+    Numbered n (λ status. IsFetchPart status (part_numbered part) service old new len)
 
 abbrev pub IsCloseCall : ℤ → Option Service → Type 0
 IsCloseCall n old = Numbered n (λ status. IsClosing status old)

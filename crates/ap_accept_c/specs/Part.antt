@@ -3,7 +3,8 @@ use Rattle.std.specs.Prelude.{ℕ, ◌==◌, if◌then◌else◌, List, Option, 
 use Rattle.krb_fields.specs.NameText.{text_of}
 use Rattle.ap_accept.specs.declared.accepted.Accepted.{Accepted}
 use Rattle.ap_accept_c.specs.declared.part.Part.{Part}
-use Rattle.ap_accept_c.specs.declared.part.Part.TheVariants.{ClientRealm, ClientName, SessionKey, Subkey, Checksum, ApRep}
+use Rattle.ap_accept_c.specs.declared.part.Part.TheVariants.{ClientRealm, ClientName, SessionKey, Subkey, Checksum}
+use Rattle.ap_accept_c.specs.declared.part.Part.TheVariants.{ApRep}
 
 abbrev pub part_numbered : ℕ → Option Part
 part_numbered n =

@@ -9,7 +9,8 @@ use Rattle.ap_accept.specs.State.{opened}
 use Rattle.ap_accept.specs.declared.fault.ApFault.TheVariants as faults
 use Rattle.ap_accept_c.specs.declared.service.Service.{Service}
 use Rattle.ap_accept_c.specs.declared.status.Status.{Status}
-use Rattle.ap_accept_c.specs.declared.status.Status.TheVariants.{Done, NotAnApReq, NoMemory, BadArgument, BadKeytab, Refused}
+use Rattle.ap_accept_c.specs.declared.status.Status.TheVariants.{Done, NotAnApReq, NoMemory, BadArgument, BadKeytab}
+use Rattle.ap_accept_c.specs.declared.status.Status.TheVariants.{Refused}
 
 -- it holds the keys of the keytab that the octets are, and has accepted nothing
 pub record IsOpened (service : Service) (octets : List ℕ) (limit : ℕ) (opening : Opening) : Type 0 where

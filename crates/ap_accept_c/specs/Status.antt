@@ -7,7 +7,8 @@ use Rattle.ap_accept.specs.declared.fault.ApFault.TheVariants as faults
 use Rattle.cred_files.specs.declared.fault.FileFault.{FileFault}
 use Rattle.cred_files.specs.declared.fault.FileFault.TheVariants as files
 use Rattle.ap_accept_c.specs.declared.status.Status.{Status}
-use Rattle.ap_accept_c.specs.declared.status.Status.TheVariants.{Done, NotAnApReq, NoMemory, BadArgument, TooSmall, BadKeytab, Closed, Absent, Refused}
+use Rattle.ap_accept_c.specs.declared.status.Status.TheVariants.{Done, NotAnApReq, NoMemory, BadArgument, TooSmall}
+use Rattle.ap_accept_c.specs.declared.status.Status.TheVariants.{BadKeytab, Closed, Absent, Refused}
 
 -- negsuc n is the number -n - 1
 abbrev pub number_of : Status → ℤ

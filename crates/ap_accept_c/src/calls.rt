@@ -27,7 +27,8 @@ pub fn open_at(
 ) -> Status
     requires { IsHolder holder.old }
     ensures holder { IsHolder holder.new }
-    ensures opened { IsOpenAt result holder.old.held.value holder.new.held.value keytab.now remembered is_first sec usec }
+    ensures opened { IsOpenAt result holder.old.held.value holder.new.held.value
+        keytab.now remembered is_first sec usec }
 {
     let Some(at) = Moment::new(sec, usec) else {
         return Status::BadArgument;
@@ -97,7 +98,8 @@ pub fn accept_at(
 ) -> Status
     requires { IsHolder holder.old }
     ensures holder { IsHolder holder.new }
-    ensures accepted { IsAcceptedAt result holder.old.held.value holder.new.held.value sec usec confounder.now ap_req.now numbers.new }
+    ensures accepted { IsAcceptedAt result holder.old.held.value holder.new.held.value
+        sec usec confounder.now ap_req.now numbers.new }
 {
     *numbers = Numbers::NONE;
     let Some(at) = Moment::new(sec, usec) else {
@@ -116,7 +118,8 @@ fn accept(
 ) -> Status
     requires { IsHolder holder.old }
     ensures holder { IsHolder holder.new }
-    ensures accepted { IsAccepted result holder.old.held.value holder.new.held.value at confounder.now ap_req.now numbers.new }
+    ensures accepted { IsAccepted result holder.old.held.value holder.new.held.value
+        at confounder.now ap_req.now numbers.new }
 {
     *numbers = Numbers::NONE;
     let Some(mut service) = holder.take(alloc) else {

@@ -26,7 +26,8 @@ pub extern "C" fn ap_accept_c_open(
 ) -> i32
     requires { IsHolder holder.old }
     ensures holder { IsHolder holder.new }
-    ensures opened { IsOpenCall result holder.old.held.value holder.new.held.value keytab.now remembered is_first sec usec }
+    ensures opened { IsOpenCall result holder.old.held.value holder.new.held.value
+        keytab.now remembered is_first sec usec }
 {
     calls::open_at(holder, alloc, keytab, remembered, is_first, sec, usec).number()
 }
@@ -44,7 +45,8 @@ pub extern "C" fn ap_accept_c_accept(
 ) -> i32
     requires { IsHolder holder.old }
     ensures holder { IsHolder holder.new }
-    ensures accepted { IsAcceptCall result holder.old.held.value holder.new.held.value sec usec confounder.now ap_req.now numbers.new }
+    ensures accepted { IsAcceptCall result holder.old.held.value holder.new.held.value
+        sec usec confounder.now ap_req.now numbers.new }
 {
     calls::accept_at(holder, alloc, sec, usec, confounder, ap_req, numbers).number()
 }

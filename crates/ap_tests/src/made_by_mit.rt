@@ -1,8 +1,9 @@
-//! AP-REQs by MIT's library, made by `tools/mk_req.c` with tickets of MIT's `krb5kdc`, both of version 1.20.1 on Debian.
+//! AP-REQs by MIT's library, made by `tools/mk_req.c` with tickets of MIT's `krb5kdc`, both of version 1.20.1 on
+//! Debian.
 //!
-//! What is said of each is what that library reads of it, as the tool prints it. The AP-REPs are of an independent model
-//! in Python, and the library has taken each. All octets are hexadecimal digits in texts, since long lists of octets
-//! take minutes to check.
+//! What is said of each is what that library reads of it, as the tool prints it. The AP-REPs are of an independent
+//! model in Python, and the library has taken each. All octets are hexadecimal digits in texts, since long lists of
+//! octets take minutes to check.
 use enctypes::Etype;
 
 /// An AP-REQ, and what MIT's library reads of it.

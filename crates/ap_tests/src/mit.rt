@@ -9,8 +9,8 @@ use krb_fields::{Name, Typed};
 use std::alloc::Global;
 use std::test::Fail;
 
-/// Whether an acceptor with the keytab that MIT's `kadmin.local` wrote accepts each of them; and if that is asked, none with
-/// an octet changed before that.
+/// Whether an acceptor with the keytab that MIT's `kadmin.local` wrote accepts each of them; and if that is asked,
+/// none with an octet changed before that.
 fn holds(alloc: Global, changed: bool) -> Result<bool, Fail> {
     let keytab = Keytab::read(alloc, &octets(alloc, KEYTAB)?)?;
     let mut acceptor = opened(alloc, keytab, 64)?;

@@ -179,7 +179,9 @@ fn answer(
     asked: Asked,
     request: &[u8],
 ) -> Result<usize, AllocError> {
-    Ok(match kdc.handle(alloc, at, &[7; 64], ROOM, request)? {
+    let random = [7; 64];
+    let reply = kdc.handle(alloc, at, &random, ROOM, request)?;
+    Ok(match reply {
         Some(reply) => ticket_len(&reply, asked.ticket_tag()),
         None => 0,
     })

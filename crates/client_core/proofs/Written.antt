@@ -1,21 +1,23 @@
 -- Requests and what they are made of.
-use Rattle.std.proofs.Common.{◌≡◌, ◌∙◌, ℕ, ℤ, pos, List, [], ◌∷◌, Option, Some, None, ap, to_z, of_z, w32}
+use Rattle.std.proofs.Common.{◌≡◌, ◌∙◌, ◌≤◌, ℕ, ℤ, pos, List, [], ◌∷◌, length, Option, Some, None, Result, Ok, Err, IfOk, ap, to_z, of_z, w32}
 use Rattle.cred_files.specs.declared.principal.Principal.{Principal}
 use Rattle.enctypes.specs.KeyUsage.{usage_number}
 use Rattle.enctypes.specs.declared.key.Key.{Key}
 use Rattle.enctypes.specs.declared.key_usage.KeyUsage.TheVariants.{ApReqAuthenticator}
-use Rattle.krb_ap.specs.ApReq.{ApReq}
+use Rattle.krb_ap.specs.ApReq.{ApReq, ap_req}
+use Rattle.krb_elements.specs.Codec.{written}
 use Rattle.krb_fields.specs.PaData.{PaData}
-use Rattle.krb_fields.specs.Typed.{Typed}
+use Rattle.krb_fields.specs.PrincipalName.{Name}
 use Rattle.krb_fields.specs.declared.moment.Moment.{Moment}
 use Rattle.krb_parts.specs.Authenticator.{Authenticator}
 use Rattle.krb_types.specs.KdcReq.{KdcReq, request_type}
 use Rattle.krb_types.specs.ReqBody.{ReqBody}
 use Rattle.krb_types.specs.declared.kdc_req.Exchange.{Exchange}
 use Rattle.krb_types.specs.declared.kdc_req.Exchange.TheVariants.{As, Tgs}
-use Rattle.client_core.specs.Presenting.{authenticator_of, presents}
-use Rattle.client_core.specs.Requests.{asks_tgs, body_of, request_of, tgs_data}
-use Rattle.client_core.specs.ServiceRequests.{ap_options, asks_ap}
+use Rattle.client_core.specs.Presenting.{presents}
+use Rattle.client_core.specs.Requests.{asks_as, asks_tgs, body_of, request_of, tgs_data}
+use Rattle.client_core.specs.ServiceRequests.{ap_authenticator, ap_options, asks_ap}
+use Rattle.client_core.specs.ShortLaws.{presented_short}
 use Rattle.client_core.specs.declared.asked.Asked.{Asked}
 use Rattle.client_core.specs.declared.service_asked.ServiceAsked.{ServiceAsked}
 use Rattle.client_core.specs.declared.sessions.Session.{Session}
@@ -36,11 +38,20 @@ tgs_req_is asked client session at subkey confounder body entry padata one made 
     ∙ ap (λ (e : PaData). request_of Tgs (Some (e ∷ [])) body) made
     ∙ ap (λ (b : ReqBody). request_of Tgs (Some (tgs_data client session at subkey confounder b ∷ [])) b) is
 
-pub ap_req_is : (client : Principal) (session : Session) (at : Moment) (asked : ServiceAsked) (confounder : List ℕ) (cksum : Option Typed) (options : ℕ) (auth : Authenticator) (request : ApReq)
-    → cksum ≡ asked.checksum → options ≡ ap_options asked.mutual_required → auth ≡ authenticator_of client at cksum asked.subkey asked.seq_number → request ≡ presents session options (usage_number ApReqAuthenticator) confounder auth
-    → request ≡ asks_ap client session at asked confounder
-ap_req_is client session at asked confounder cksum options auth request same chosen says is =
-    is
-    ∙ ap (λ (o : ℕ). presents session o (usage_number ApReqAuthenticator) confounder auth) chosen
+pub ap_req_is : (client : Principal) (session : Session) (at : Moment) (asked : ServiceAsked) (confounder : List ℕ) (options : ℕ) (auth : Authenticator)
+    → options ≡ ap_options asked.mutual_required → auth ≡ ap_authenticator client at asked
+    → presents session options (usage_number ApReqAuthenticator) confounder auth ≡ asks_ap client session at asked confounder
+ap_req_is client session at asked confounder options auth chosen says =
+    ap (λ (o : ℕ). presents session o (usage_number ApReqAuthenticator) confounder auth) chosen
     ∙ ap (λ (a : Authenticator). presents session (ap_options asked.mutual_required) (usage_number ApReqAuthenticator) confounder a) says
-    ∙ ap (λ (k : Option Typed). presents session (ap_options asked.mutual_required) (usage_number ApReqAuthenticator) confounder (authenticator_of client at k asked.subkey asked.seq_number)) same
+
+pub as_req_is : (asked : Asked) (client : Name) (padata : Option (List PaData)) (body : ReqBody) → client ≡ asked.client → body ≡ body_of (Some client) asked
+    → request_of As padata body ≡ asks_as padata asked
+as_req_is asked client padata body same is =
+    ap (λ (b : ReqBody). request_of As padata b) is
+    ∙ ap (λ (n : Name). request_of As padata (body_of (Some n) asked)) same
+
+-- an AP-REQ that is short has short octets
+pub short_octets : {V E : Type 0} (octets : V → List ℕ) (x : ApReq) (r : Result V E) → length (ap_req.text x) ≤ 34000000 → IfOk r (λ v. octets v ≡ written ap_req x) → IfOk r (λ v. length (octets v) ≤ 34000006)
+short_octets octets x (Ok v) short is = presented_short x (octets v) short is
+short_octets octets x (Err e) short is = tt

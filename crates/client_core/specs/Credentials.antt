@@ -4,7 +4,10 @@ use Rattle.std.specs.Prelude.{Some, None}
 use Rattle.std.specs.Bool.{then_some}
 use Rattle.std.specs.List.{list_all}
 use Rattle.std.specs.Option.{unwrap_or}
+use Rattle.client_core.specs.declared.credentials.Parties.{Parties}
 use Rattle.cred_files.specs.declared.credential.Credential.{Credential}
+use Rattle.cred_files.specs.declared.credential.SessionKey.{SessionKey}
+use Rattle.cred_files.specs.declared.credential.Times.{Times}
 use Rattle.cred_files.specs.declared.credential.TypedOctets.{TypedOctets}
 use Rattle.krb_elements.specs.Codec.{written}
 use Rattle.krb_fields.specs.Typed.{Typed}
@@ -41,18 +44,31 @@ abbrev pub addresses_of : Option (List Typed) → List TypedOctets
 addresses_of (Some list) = map address_of list
 addresses_of None = []
 
+abbrev pub key_of : Typed → SessionKey
+key_of key = record { key_type = in_16_bits key.number; octets = key.octets }
+
+abbrev pub parties_of : (type : ℕ) → KdcRep type → EncKdcRepPart → Parties
+parties_of type reply part = record {
+  client = record { realm = reply.crealm; name = reply.cname };
+  server = record { realm = part.srealm; name = part.sname };
+  key = key_of part.key;
+}
+
 -- a time that is absent is the start of 1970
+abbrev pub times_of : EncKdcRepPart → Times
+times_of part = record {
+  auth_time = part.authtime;
+  start_time = unwrap_or part.starttime (pos 0);
+  end_time = part.endtime;
+  renew_till = unwrap_or part.renew_till (pos 0);
+}
+
 abbrev pub credential_of : (type : ℕ) → KdcRep type → EncKdcRepPart → Credential
 credential_of type reply part = record {
   client = record { realm = reply.crealm; name = reply.cname };
   server = record { realm = part.srealm; name = part.sname };
-  key = record { key_type = in_16_bits part.key.number; octets = part.key.octets };
-  times = record {
-    auth_time = part.authtime;
-    start_time = unwrap_or part.starttime (pos 0);
-    end_time = part.endtime;
-    renew_till = unwrap_or part.renew_till (pos 0);
-  };
+  key = key_of part.key;
+  times = times_of part;
   flags = part.flags;
   addresses = addresses_of part.caddr;
   authorization = [];

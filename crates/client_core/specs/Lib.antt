@@ -7,7 +7,8 @@ pub mod ServiceRequests
 pub mod Credentials
 pub mod Replies
 pub mod Taken
-pub mod TakenLaws
 pub mod ServiceReplies
 pub mod Passwords
 pub mod ShortLaws
+-- laws that proofs cite: no reader of a contract needs them
+pub mod TakenLaws

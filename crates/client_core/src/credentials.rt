@@ -5,6 +5,7 @@ ghost use Rattle.krb_elements.specs.Codec.{written};
 ghost use Rattle.krb_types.specs.Ticket.{ticket};
 ghost use Rattle.client_core.specs.Credentials.{address_of, addresses_of, are_short_types, credential_in};
 ghost use Rattle.client_core.specs.Credentials.{credential_of, has_16_bits, has_room, in_16_bits, is_short_type};
+ghost use Rattle.client_core.specs.Credentials.{key_of, parties_of, times_of};
 
 use cred_files::{Credential, Principal, SessionKey, Times, TypedOctets};
 use krb_der::KTime;
@@ -38,32 +39,85 @@ fn credential_of<const TYPE: u8>(
     requires { length (ticket.text reply.now.ticket) < 2 ^ 32 }
     ensures { IfOk result (λ credential. credential ≡ credential_of TYPE reply.now part.now) }
 {
-    let unset = KTime::of(0);
+    let addresses = addresses_of(alloc, &part.caddr)?;
+    let ticket = ticket_octets(alloc, &reply.ticket)?;
+    let parties = parties_of(alloc, reply, part)?;
     Ok(Credential {
-        client: Principal {
-            realm: KerberosString::from_slice(alloc, reply.crealm.as_slice())?,
-            name: reply.cname.to_name(alloc)?,
-        },
-        server: Principal {
-            realm: part.srealm.copy(alloc)?,
-            name: part.sname.copy(alloc)?,
-        },
-        key: SessionKey {
-            key_type: in_16_bits(part.key.number),
-            octets: part.key.octets.copy(alloc)?,
-        },
-        times: Times {
-            auth_time: part.authtime,
-            start_time: part.starttime.unwrap_or(unset),
-            end_time: part.endtime,
-            renew_till: part.renew_till.unwrap_or(unset),
-        },
+        client: parties.client,
+        server: parties.server,
+        key: parties.key,
+        times: times_of(part),
         flags: part.flags,
-        addresses: addresses_of(alloc, &part.caddr)?,
+        addresses,
         authorization: Seq::new(alloc),
-        ticket: ticket_octets(alloc, &reply.ticket)?,
+        ticket,
         second_ticket: Octets::new(Vec::new(alloc)),
     })
+}
+
+/// A client and a service, and the key that they share.
+#[derive(Drop)]
+struct Parties {
+    client: Principal,
+    server: Principal,
+    key: SessionKey,
+}
+
+fn parties_of<const TYPE: u8>(
+    alloc: Global,
+    reply: &KdcRepRef<'_, TYPE>,
+    part: &EncKdcRepPart,
+) -> Result<Parties, AllocError>
+    ensures { IfOk result (λ parties. parties ≡ parties_of TYPE reply.now part.now) }
+{
+    Ok(Parties {
+        client: client_of(alloc, reply)?,
+        server: server_of(alloc, part)?,
+        key: key_of(alloc, &part.key)?,
+    })
+}
+
+fn client_of<const TYPE: u8>(
+    alloc: Global,
+    reply: &KdcRepRef<'_, TYPE>,
+) -> Result<Principal, AllocError>
+    ensures { IfOk result (λ client. client ≡ record { realm = reply.now.crealm; name = reply.now.cname }) }
+{
+    Ok(Principal {
+        realm: KerberosString::from_slice(alloc, reply.crealm.as_slice())?,
+        name: reply.cname.to_name(alloc)?,
+    })
+}
+
+fn server_of(alloc: Global, part: &EncKdcRepPart) -> Result<Principal, AllocError>
+    ensures { IfOk result (λ server. server ≡ record { realm = part.now.srealm; name = part.now.sname }) }
+{
+    Ok(Principal {
+        realm: part.srealm.copy(alloc)?,
+        name: part.sname.copy(alloc)?,
+    })
+}
+
+/// The session key, its type cut to 16 bits.
+fn key_of(alloc: Global, key: &Typed) -> Result<SessionKey, AllocError>
+    ensures { IfOk result (λ made. made ≡ key_of key.now) }
+{
+    Ok(SessionKey {
+        key_type: in_16_bits(key.number),
+        octets: key.octets.copy(alloc)?,
+    })
+}
+
+fn times_of(part: &EncKdcRepPart) -> Times
+    ensures { result ≡ times_of part.now }
+{
+    let unset = KTime::of(0);
+    Times {
+        auth_time: part.authtime,
+        start_time: part.starttime.unwrap_or(unset),
+        end_time: part.endtime,
+        renew_till: part.renew_till.unwrap_or(unset),
+    }
 }
 
 /// The octets of the ticket.

@@ -2,6 +2,7 @@
 ghost use Rattle.std.specs.Prelude.{◌≡◌, ◌≤◌, ◌<◌, length, IfOk, Some, option_map, pos};
 ghost use Rattle.enctypes.specs.KeyUsage.{usage_number};
 ghost use Rattle.krb_ap.specs.ApReq.{ap_req};
+ghost use Rattle.krb_elements.specs.Codec.{written};
 ghost use Rattle.krb_fields.specs.NameLimits.{IsComponent, IsWithinLimits};
 ghost use Rattle.krb_parts.specs.Authenticator as parts;
 ghost use Rattle.krb_types.specs.Ticket.{ticket};
@@ -11,7 +12,7 @@ ghost use Rattle.client_core.specs.Presenting.{IsShortChecksum, authenticator_of
 use crate::sessions::Session;
 use cred_files::Principal;
 use enctypes::{Key, KeyUsage};
-use krb_ap::{AP_REQ, ApReq};
+use krb_ap::{AP_REQ, ApReq, encode_ap_req};
 use krb_elements::UInt32;
 use krb_fields::{Flags, Moment, Typed};
 use krb_parts::Authenticator;
@@ -65,9 +66,33 @@ fn number_part(number: Option<u32>) -> Option<UInt32>
     }
 }
 
-/// An AP-REQ with the session's ticket and this authenticator. `confounder` is 16 random octets.
-#[tactic(auto, using(crate::specs::ShortLaws::presents_short))]
+/// The octets of an AP-REQ with the session's ticket and this authenticator. `confounder` is 16 random octets.
 pub fn present(
+    alloc: Global,
+    session: Session,
+    options: Flags,
+    usage: KeyUsage,
+    confounder: &[u8; 16],
+    authenticator: &Authenticator,
+) -> Result<Vec<u8>, AllocError>
+    requires ticket { length (ticket.text session.ticket) < 16777216 }
+    requires authenticator { length (parts.authenticator.text authenticator.now) ≤ 16800000 }
+    ensures written { IfOk result (λ v.
+        v.items ≡ written ap_req (presents session options (usage_number usage) confounder.now authenticator.now)) }
+    ensures spelled { IfOk result (λ v.
+        ap_req.Spells (presents session options (usage_number usage) confounder.now authenticator.now) v.items) }
+    ensures opens { IfOk result (λ v.
+        decrypted parts.authenticator session.key (usage_number usage)
+        (presents session options (usage_number usage) confounder.now authenticator.now).authenticator
+        ≡ Some authenticator.now) }
+    ensures short { IfOk result (λ v. length v.items ≤ 34000006) }
+{
+    let request = presented(alloc, session, options, usage, confounder, authenticator)?;
+    encode_ap_req(alloc, &request)
+}
+
+#[tactic(auto, using(crate::specs::ShortLaws::presents_short))]
+fn presented(
     alloc: Global,
     session: Session,
     options: Flags,

@@ -1,5 +1,5 @@
 //! AS-REQ (RFC 4120, sections 3.1.1 and 5.4.1).
-ghost use Rattle.std.specs.Prelude.{◌≡◌, ◌≤◌, length, None, Some, IfOk};
+ghost use Rattle.std.specs.Prelude.{◌≡◌, ◌≤◌, ◌∷◌, [], length, None, Some, IfOk};
 ghost use Rattle.krb_elements.specs.Codec.{list_of, written};
 ghost use Rattle.krb_elements.specs.TextLengthLaws.{most_maybe};
 ghost use Rattle.krb_fields.specs.PaData.{pa_data};
@@ -43,9 +43,18 @@ pub fn with_timestamp(
     ensures spelled { IfOk result (λ v.
         SpellsKdcReq (As, asks_with_timestamp asked.now key.now at confounder.now) v.items) }
 {
-    let mut padata = Seq::new(alloc);
-    padata.push(timestamp_data(alloc, key, at, confounder)?)?;
+    let entry = timestamp_data(alloc, key, at, confounder)?;
+    let padata = one_entry(alloc, entry)?;
     as_req(alloc, asked, Some(padata))
+}
+
+/// The data of a request that has one entry.
+pub fn one_entry(alloc: Global, entry: PaData) -> Result<Seq<PaData>, AllocError>
+    ensures { IfOk result (λ padata. padata ≡ entry ∷ []) }
+{
+    let mut padata = Seq::new(alloc);
+    padata.push(entry)?;
+    Ok(padata)
 }
 
 fn as_req(alloc: Global, asked: &Asked, padata: Option<Seq<PaData>>) -> Result<Vec<u8>, AllocError>
@@ -60,7 +69,6 @@ fn as_req(alloc: Global, asked: &Asked, padata: Option<Seq<PaData>>) -> Result<V
 }
 
 /// The octets of a request.
-#[tactic(auto, using(crate::specs::ShortLaws::request_short))]
 pub fn request(
     alloc: Global,
     exchange: Exchange,

@@ -3,8 +3,8 @@ ghost use Rattle.std.specs.Prelude.{◌≡◌, IfOk};
 ghost use Rattle.krb_parts.specs.EncApRepPart.{enc_ap_rep_part};
 ghost use Rattle.sealed_parts.specs.Encrypted.{decrypted};
 ghost use Rattle.client_core.specs.Faults.{Gives};
-ghost use Rattle.client_core.specs.ServiceReplies.{ap_part, ap_part_rules, ap_reply_in, if_ap_part, if_ap_reply};
-ghost use Rattle.client_core.specs.ServiceReplies.{reads_ap, repeated};
+ghost use Rattle.client_core.specs.ServiceReplies.{ap_part, ap_part_rules, ap_reply_in, ap_rules, if_ap_part};
+ghost use Rattle.client_core.specs.ServiceReplies.{if_ap_reply, reads_ap, repeated};
 
 use crate::fault::{ClientFault, Mismatch, Rejection, given, unless_rejected};
 use crate::replies::refusal_in;
@@ -79,13 +79,19 @@ fn ap_part(
 ) -> Result<Result<EncApRepPart, Rejection>, AllocError>
     ensures { IfOk result (λ found. found ≡ ap_part key.now reply.now) }
 {
-    let rules = [(
-        reply.enc_part.etype != key.etype().number(),
-        Rejection::Unopened,
-    )];
+    let rules = ap_rules(key, reply);
     let cipher = reply.enc_part.cipher.as_slice();
     let opened = open_part(alloc, key, KeyUsage::ApRepEncPart, cipher)?;
     Ok(decide(&rules, opened, Rejection::Unopened))
+}
+
+fn ap_rules(key: &Key, reply: &ApRepRef<'_>) -> [(bool, Rejection); 1]
+    ensures { result ≡ ap_rules key.now reply.now }
+{
+    [(
+        reply.enc_part.etype != key.etype().number(),
+        Rejection::Unopened,
+    )]
 }
 
 /// The part, where it repeats the moment that was sent.

@@ -1,5 +1,5 @@
 //! AP-REQ (RFC 4120, sections 3.2.2 and 5.5.1).
-ghost use Rattle.std.specs.Prelude.{◌≡◌, ◌<◌, length, IfOk, IfSome, Some};
+ghost use Rattle.std.specs.Prelude.{◌≡◌, ◌≤◌, ◌<◌, length, IfOk, IfSome, Some};
 ghost use Rattle.enctypes.specs.KeyUsage.{usage_number};
 ghost use Rattle.enctypes.specs.declared.key_usage.KeyUsage.TheVariants.{ApReqAuthenticator};
 ghost use Rattle.krb_ap.specs.ApReq.{ap_req};
@@ -17,9 +17,8 @@ use crate::service_asked::ServiceAsked;
 use crate::sessions::{Session, session_of};
 use cred_files::{Credential, Principal};
 use enctypes::KeyUsage;
-use krb_ap::encode_ap_req;
-use krb_elements::Octets;
 use krb_fields::{ApOption, Flags, Moment, Typed};
+use krb_parts::Authenticator;
 use std::alloc::{AllocError, Global};
 
 /// The octets of an AP-REQ that presents the credential's ticket. `confounder` is 16 random octets.
@@ -67,12 +66,27 @@ fn ap_req(
         (asks_ap client.now session at asked.now confounder.now).authenticator
         ≡ Some (ap_authenticator client.now at asked.now)) }
 {
-    let cksum = copied(alloc, &asked.checksum)?;
-    let authenticator = authenticator(alloc, client, at, cksum, asked.subkey, asked.seq_number)?;
+    let authenticator = ap_authenticator(alloc, client, at, asked)?;
     let options = options(asked.mutual_required);
     let usage = KeyUsage::ApReqAuthenticator;
-    let request = present(alloc, session, options, usage, confounder, &authenticator)?;
-    encode_ap_req(alloc, &request)
+    present(alloc, session, options, usage, confounder, &authenticator)
+}
+
+/// What the client says to the service.
+fn ap_authenticator(
+    alloc: Global,
+    client: &Principal,
+    at: Moment,
+    asked: &ServiceAsked,
+) -> Result<Authenticator, AllocError>
+    requires realm { IsComponent client.now.realm }
+    requires name { IsWithinLimits client.now.name.components }
+    requires checksum { IsShortChecksum asked.now.checksum }
+    ensures value { IfOk result (λ made. made ≡ ap_authenticator client.now at asked.now) }
+    ensures short { IfOk result (λ made. length (parts.authenticator.text made) ≤ 16800000) }
+{
+    let cksum = copied(alloc, &asked.checksum)?;
+    authenticator(alloc, client, at, cksum, asked.subkey, asked.seq_number)
 }
 
 fn options(required: bool) -> Flags

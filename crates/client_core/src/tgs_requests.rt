@@ -2,23 +2,24 @@
 ghost use Rattle.std.specs.Prelude.{◌≡◌, ◌≤◌, ◌<◌, length, IfOk, IfSome};
 ghost use Rattle.krb_elements.specs.Codec.{written};
 ghost use Rattle.krb_fields.specs.NameLimits.{IsComponent, IsWithinLimits};
+ghost use Rattle.krb_parts.specs.Authenticator as parts;
 ghost use Rattle.krb_types.specs.KdcReq.{SpellsKdcReq, message};
 ghost use Rattle.krb_types.specs.ReqBody.{req_body};
 ghost use Rattle.krb_types.specs.Ticket.{ticket};
 ghost use Rattle.krb_types.specs.declared.kdc_req.Exchange.TheVariants.{Tgs};
 ghost use Rattle.client_core.specs.Asked.{IsAskable};
-ghost use Rattle.client_core.specs.Requests.{asks_tgs, body_checksum, tgs_data};
+ghost use Rattle.client_core.specs.Requests.{asks_tgs, body_checksum, tgs_authenticator, tgs_data};
 ghost use Rattle.client_core.specs.Sessions as definitions;
 
 use crate::asked::Asked;
 use crate::presenting::{authenticator, present};
-use crate::requests::request;
+use crate::requests::{one_entry, request};
 use crate::sessions::{Session, session_of};
 use cred_files::{Credential, Principal};
 use enctypes::{Key, KeyUsage, checksum};
-use krb_ap::encode_ap_req;
-use krb_elements::{Octets, Seq, write};
+use krb_elements::{Octets, write};
 use krb_fields::{Flags, Moment, PA_TGS_REQ, PaData, Typed};
+use krb_parts::Authenticator;
 use krb_types::{Exchange, ReqBody};
 use std::alloc::{AllocError, Global};
 
@@ -72,8 +73,7 @@ fn tgs_req(
 {
     let body = asked.body(alloc, None)?;
     let entry = tgs_data(alloc, client, session, at, subkey, confounder, &body)?;
-    let mut padata = Seq::new(alloc);
-    padata.push(entry)?;
+    let padata = one_entry(alloc, entry)?;
     request(alloc, Exchange::Tgs, Some(padata), body)
 }
 
@@ -94,15 +94,32 @@ fn tgs_data(
     ensures value { IfOk result (λ made. made ≡ tgs_data client.now session at subkey confounder.now body.now) }
     ensures short { IfOk result (λ made. length made.padata_value ≤ 34000006) }
 {
-    let cksum = body_checksum(alloc, &session.key, body)?;
-    let authenticator = authenticator(alloc, client, at, Some(cksum), subkey, None)?;
+    let authenticator = tgs_authenticator(alloc, client, &session, at, subkey, body)?;
     let options = Flags::from_bits(0);
     let usage = KeyUsage::TgsReqAuthenticator;
-    let ap = present(alloc, session, options, usage, confounder, &authenticator)?;
+    let octets = present(alloc, session, options, usage, confounder, &authenticator)?;
     Ok(PaData {
         padata_type: PA_TGS_REQ,
-        padata_value: Octets::new(encode_ap_req(alloc, &ap)?),
+        padata_value: Octets::new(octets),
     })
+}
+
+fn tgs_authenticator(
+    alloc: Global,
+    client: &Principal,
+    session: &Session,
+    at: Moment,
+    subkey: Option<Key>,
+    body: &ReqBody,
+) -> Result<Authenticator, AllocError>
+    requires realm { IsComponent client.now.realm }
+    requires name { IsWithinLimits client.now.name.components }
+    requires body { req_body.most body.now ≤ 20000 }
+    ensures value { IfOk result (λ made. made ≡ tgs_authenticator client.now session.now at subkey body.now) }
+    ensures short { IfOk result (λ made. length (parts.authenticator.text made) ≤ 16800000) }
+{
+    let cksum = body_checksum(alloc, &session.key, body)?;
+    authenticator(alloc, client, at, Some(cksum), subkey, None)
 }
 
 /// The checksum of the body's octets.

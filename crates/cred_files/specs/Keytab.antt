@@ -14,6 +14,7 @@ use Rattle.krb_fields.specs.Name.{Components, name_cmp}
 use Rattle.cred_files.specs.declared.fault.FileFault.{FileFault}
 use Rattle.cred_files.specs.declared.fault.FileFault.TheVariants.{BadEntry, Memory}
 use Rattle.cred_files.specs.declared.keytab_entry.EntryFields.{EntryFields}
+use Rattle.cred_files.specs.declared.keytab_entry.KeyFields.{KeyFields}
 use Rattle.cred_files.specs.declared.keytab_entry.KeytabEntry.{KeytabEntry}
 use Rattle.cred_files.specs.declared.keytab.Miss.{Miss}
 use Rattle.cred_files.specs.declared.keytab.Miss.TheVariants.{NoService, NoEtype, NoVersion}
@@ -23,19 +24,29 @@ use Rattle.cred_files.specs.Format.{structure}
 
 -- ---- an entry
 
--- the number of components, the realm, the components, the name-type, a time, the version, the key's type, the key
+-- a time, the version, the key's type, the key
+abbrev pub key_fields : Format KeyFields
+key_fields = structure (blank 4 >> octet >> word16 >> counted_octets Two)
+    (λ v. record { version = v.1.0; key_type = v.1.1.0; octets = v.1.1.1 })
+    (λ k. (tt, (k.version, (k.key_type, k.octets))))
+    (λ v. refl) (λ k. refl)
+
+-- what an entry says of its key
+abbrev pub key_fields_of : EntryFields → KeyFields
+key_fields_of e = record { version = e.version; key_type = e.key_type; octets = e.key }
+
+-- the number of components, the realm, the components, the name-type, the fields of the key
 unfoldable pub entry_fields : Format EntryFields
 entry_fields =
-    structure (after_count Two (counted_octets Two)
-    (counted_octets Two) >> signed32 >> blank 4 >> octet >> word16 >> counted_octets Two)
+    structure (after_count Two (counted_octets Two) (counted_octets Two) >> signed32 >> key_fields)
     (λ v. record {
       realm = v.0.0;
       name = record { name_type = v.1.0; components = v.0.1 };
-      version = v.1.1.1.0;
-      key_type = v.1.1.1.1.0;
-      key = v.1.1.1.1.1;
+      version = v.1.1.version;
+      key_type = v.1.1.key_type;
+      key = v.1.1.octets;
     })
-    (λ e. ((e.realm, e.name.components), (e.name.name_type, (tt, (e.version, (e.key_type, e.key))))))
+    (λ e. ((e.realm, e.name.components), (e.name.name_type, key_fields_of e)))
     (λ v. refl) (λ e. refl)
 
 -- a version in four octets counts where it is there and not zero

@@ -43,7 +43,7 @@ impl fmt::Display for Miss {
 impl Error for Miss {}
 
 /// What stands between two lengths of a keytab.
-#[derive(Debug, Drop)]
+#[derive(Drop)]
 enum Part {
     End,
     /// A hole, or an entry whose key is of another type.

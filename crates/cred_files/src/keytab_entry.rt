@@ -3,6 +3,7 @@ ghost use Rattle.std.specs.Prelude.{◌≡◌, ◌∷◌, nat_lt, length, unsign
 ghost use Rattle.std.specs.List.{list_all};
 ghost use Rattle.enctypes.specs.Etype.{key_len, number};
 ghost use Rattle.cred_files.specs.Keytab.{HasCounts, HasRoom, IsEntry, IsNotWritten, entry_fields, entry_text};
+ghost use Rattle.cred_files.specs.Keytab.{key_fields};
 ghost use Rattle.cred_files.specs.Keytab.{etype_of, is_numbered, is_typed, passes, version_of, written_fields};
 ghost use Rattle.cred_files.specs.KeytabReading.{Gives, content_at};
 ghost use Rattle.cred_files.specs.Reading.{Reads};
@@ -28,13 +29,21 @@ pub struct KeytabEntry {
 }
 
 /// The fields of an entry as they stand in the file, before the version of four octets.
-#[derive(Debug, Drop)]
+#[derive(Drop)]
 struct EntryFields {
     realm: KerberosString,
     name: Name,
     version: u8,
     key_type: u16,
     key: Octets,
+}
+
+/// What an entry says of its key: the version in one octet, the type and the octets.
+#[derive(Drop)]
+struct KeyFields {
+    version: u8,
+    key_type: u16,
+    octets: Octets,
 }
 
 impl KeytabEntry {
@@ -91,10 +100,7 @@ fn read_fields(alloc: Global, reader: &mut Reader<'_>) -> Result<EntryFields, Cu
     let realm = KerberosString::read(alloc, reader, Width::Two)?;
     let components = read_several(alloc, reader, Width::Two, count)?;
     let name_type = reader.read_i32()?;
-    let _time = reader.read_part(4)?;
-    let version = reader.read_u8()?;
-    let key_type = reader.read_u16()?;
-    let key = Octets::from_slice(alloc, reader.read_counted(Width::Two)?)?;
+    let key = read_key_fields(alloc, reader)?;
     let name = Name {
         name_type,
         components,
@@ -102,9 +108,23 @@ fn read_fields(alloc: Global, reader: &mut Reader<'_>) -> Result<EntryFields, Cu
     Ok(EntryFields {
         realm,
         name,
+        version: key.version,
+        key_type: key.key_type,
+        key: key.octets,
+    })
+}
+
+fn read_key_fields(alloc: Global, reader: &mut Reader<'_>) -> Result<KeyFields, Cut>
+    ensures { Reads result reader.new (key_fields.form.at reader.old) }
+{
+    let _time = reader.read_part(4)?;
+    let version = reader.read_u8()?;
+    let key_type = reader.read_u16()?;
+    let octets = Octets::from_slice(alloc, reader.read_counted(Width::Two)?)?;
+    Ok(KeyFields {
         version,
         key_type,
-        key,
+        octets,
     })
 }
 

@@ -10,8 +10,8 @@ const MIDNIGHT: i64 = 1_704_067_200;
 /// The realm of all.
 pub const REALM: &[u8] = b"A.B";
 
-/// The options of a request, and the flags of a ticket that they ask for (RFC 4120, sections 5.3 and 5.4.1): bit 0 is the
-/// most significant.
+/// The options of a request, and the flags of a ticket that they ask for (RFC 4120, sections 5.3 and 5.4.1): bit 0 is
+/// the most significant.
 pub const FORWARDABLE: u32 = 1 << 30;
 
 pub const FORWARDED: u32 = 1 << 29;

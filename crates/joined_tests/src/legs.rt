@@ -11,7 +11,8 @@ use krb_joined::{Issuing, Reader};
 use std::alloc::Global;
 use std::test::Fail;
 
-/// A request of a ticket's way. The first one is an AS-REQ with a timestamp; each later one presents the ticket before it.
+/// A request of a ticket's way. The first one is an AS-REQ with a timestamp; each later one presents the ticket
+/// before it.
 pub struct Leg {
     /// When it is sent and answered, in seconds after midnight.
     pub at: u32,
@@ -34,7 +35,7 @@ impl Leg {
     pub fn issuing(&self) -> Result<Issuing, Fail> {
         Ok(Issuing {
             at: moment(self.at, 0)?,
-            words: up(self.octet()),
+            random: up(self.octet()),
             room: 1400,
         })
     }

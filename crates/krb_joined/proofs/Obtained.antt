@@ -21,28 +21,28 @@ use Rattle.krb_joined.specs.declared.reading.Reader.{Reader}
 use Rattle.krb_joined.proofs.Sessions.{credential_is}
 use Rattle.krb_joined.proofs.Taken.{credential_taken}
 
-module _ (v : View) (at : Moment) (words : List ℕ) where
+module _ (v : View) (at : Moment) (random : List ℕ) where
   -- ---- a request without a reply is issued nothing
 
-  replied : (incoming : Incoming) (held : Contents) → (answer_of v incoming held).reply ≡ None → issued_of v at words held ≡ None
+  replied : (incoming : Incoming) (held : Contents) → (answer_of v incoming held).reply ≡ None → issued_of v at random held ≡ None
   replied incoming NoRequest none = refl
   replied incoming (AsReq message) none = absurd cc
   replied incoming (RefusedTgsReq message refusal) none = refl
   replied incoming (TgsReq message p) none = absurd cc
 
   pub none_issued : (room : ℕ) (bytes : List ℕ) (request : Option Request)
-      → (answer_of v (record { at = at; random = words; room = room; octets = bytes }) (contents v request)).reply ≡ None → issued v at words request ≡ None
-  none_issued room bytes request none = replied (record { at = at; random = words; room = room; octets = bytes }) (contents v request) none
+      → (answer_of v (record { at = at; random = random; room = room; octets = bytes }) (contents v request)).reply ≡ None → issued v at random request ≡ None
+  none_issued room bytes request none = replied (record { at = at; random = random; room = room; octets = bytes }) (contents v request) none
 
   -- ---- a reply
 
-  module _ (octets : List ℕ) (request : Option Request) (long : 32 ≤ length words) (fits : IsBytes octets) (spelled : IsReply v at words request (Some octets)) (keys : OneTicketTwoKeys v at words request) where
-    pub obtained : (own : Reader) (asked : Asked) (c : Credential) → IsTakenBy own asked octets c → IfSome (issued v at words request) (λ issue. IsReader own issue → IsCredentialOf issue c)
-    obtained own asked c taken = by_issue (issued v at words request) refl
+  module _ (octets : List ℕ) (request : Option Request) (long : 32 ≤ length random) (fits : IsBytes octets) (spelled : IsReply v at random request (Some octets)) (keys : OneTicketTwoKeys v at random request) where
+    pub obtained : (own : Reader) (asked : Asked) (c : Credential) → IsTakenBy own asked octets c → IfSome (issued v at random request) (λ issue. IsReader own issue → IsCredentialOf issue c)
+    obtained own asked c taken = by_issue (issued v at random request) refl
       where
-        by_issue : (o : Option Issue) → issued v at words request ≡ o → IfSome o (λ issue. IsReader own issue → IsCredentialOf issue c)
+        by_issue : (o : Option Issue) → issued v at random request ≡ o → IfSome o (λ issue. IsReader own issue → IsCredentialOf issue c)
         by_issue (Some issue) e = λ reader.
-            let t = credential_taken issue octets fits own asked c reader (reply_is_issued v at words octets long issue request spelled keys e) taken in
+            let t = credential_taken issue octets fits own asked c reader (reply_is_issued v at random octets long issue request spelled keys e) taken in
             credential_is issue octets c fits t.0 t.1
         by_issue None e = tt
 

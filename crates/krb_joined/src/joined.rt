@@ -33,19 +33,19 @@ pub fn end_to_end(
     accepting: &Sealing,
 ) -> Result<Accepted, JoinedFault>
     requires { IsShortChecksum client.now.wanted.checksum }
-    ensures value { IfSome (issued (view kdc.old request.now) issuing.now.at issuing.now.words (request_of request.now))
+    ensures value { IfSome (issued (view kdc.old request.now) issuing.now.at issuing.now.random (request_of request.now))
         (λ issue. IsReader client.now.reader issue
         → MayBeAccepted issue acceptor.old accepting.now.at.sec client.now.presenting.at
         → IsJoined issue client.now.wanted client.now.presenting.at result) }
     // Whatever reply the client takes, it can't be presented, or the client takes the AP-REP too before anything is
     // accepted.
     ensures presented { IfSome
-        (answer (view kdc.old request.now) issuing.now.at issuing.now.words issuing.now.room request.now).reply
+        (answer (view kdc.old request.now) issuing.now.at issuing.now.random issuing.now.room request.now).reply
         (λ octets. IfOk (reads_reply client.now.reader client.now.asked octets) (λ credential.
         IsPresented credential client.now.presenting.at result)) }
     // It ends with the KDC where that gives no reply, or one that the client's rules don't take.
     ensures ended { IfErr result (IsEnded
-        (answer (view kdc.old request.now) issuing.now.at issuing.now.words issuing.now.room request.now).reply
+        (answer (view kdc.old request.now) issuing.now.at issuing.now.random issuing.now.room request.now).reply
         client.now.asked client.now.reader) }
 {
     match obtain(alloc, kdc, issuing, request, &client.asked, &client.reader) {

@@ -21,7 +21,7 @@ use std::alloc::Global;
 #[derive(Debug, Clone, Copy)]
 pub struct Issuing {
     pub at: Moment,
-    pub words: [u8; 64],
+    pub random: [u8; 64],
     pub room: u32,
 }
 
@@ -37,22 +37,22 @@ pub fn obtain(
     // Where the KDC issues a ticket, and the client reads the reply with its key, it takes the credential of that
     // ticket.
     ensures obtained { IfOk result (λ credential.
-        IfSome (issued (view kdc.old request.now) issuing.now.at issuing.now.words (request_of request.now)) (λ issue.
+        IfSome (issued (view kdc.old request.now) issuing.now.at issuing.now.random (request_of request.now)) (λ issue.
         IsReader reader.now issue → IsCredentialOf issue credential)) }
     ensures read { IfOk result (IsRead
-        (answer (view kdc.old request.now) issuing.now.at issuing.now.words issuing.now.room request.now).reply
+        (answer (view kdc.old request.now) issuing.now.at issuing.now.random issuing.now.room request.now).reply
         asked.now reader.now) }
     // Else it ends before a service is asked: without a reply, or with one that the client's rules don't take.
     ensures before { IfErr result IsBefore }
     ensures ended { IfErr result (IsEnded
-        (answer (view kdc.old request.now) issuing.now.at issuing.now.words issuing.now.room request.now).reply
+        (answer (view kdc.old request.now) issuing.now.at issuing.now.random issuing.now.room request.now).reply
         asked.now reader.now) }
 {
-    let reply = kdc.handle(alloc, issuing.at, &issuing.words, issuing.room, request)?;
+    let reply = kdc.handle(alloc, issuing.at, &issuing.random, issuing.room, request)?;
     let Some(octets) = reply else {
         return Err(JoinedFault::NoReply);
     };
-    look(&issuing.words, &octets);
+    look(&issuing.random, &octets);
     match read_reply(alloc, asked, reader, &octets) {
         Ok(credential) => Ok(credential),
         Err(fault) => Err(JoinedFault::NotTaken(fault)),
@@ -60,7 +60,7 @@ pub fn obtain(
 }
 
 /// Looks at random octets, of which there are enough for a session key, and at a reply's octets.
-fn look(words: &[u8; 64], octets: &[u8])
-    ensures words { 32 ≤ length words.now }
+fn look(random: &[u8; 64], octets: &[u8])
+    ensures random { 32 ≤ length random.now }
     ensures octets { IsBytes octets.now }
 {}

@@ -7,37 +7,37 @@ use Rattle.ap_accept.specs.Clients.{empty_memory}
 use Rattle.ap_accept.proofs.Storing.{is_there, stored_ok, stored_err, stored_first}
 use Rattle.ap_accept.proofs.clients.remember_among.Goals as goal
 
-pub returns-then-exchange-clause-ok : goal.returns-then-exchange-clause-ok
-returns-then-exchange-clause-ok c =
+pub returns-then-replace-clause-ok : goal.returns-then-replace-clause-ok
+returns-then-replace-clause-ok c =
     let ctime : SFits w64 c.args.ctime = search rules in
-    let out = c.exchange.ensures in
-    let back = c.exchange-then-exchange.ensures in
-    let there = out.taken c.if-exchange.true in
-    let left = out.given c.if-exchange.true in
+    let out = c.replace.ensures in
+    let back = c.replace-then-replace.ensures in
+    let there = out.taken c.if-replace.true in
+    let left = out.given c.if-replace.true in
     let f = λ (m : Memory ⊤). remembered m c.args.at.sec (c.args.ctime, c.args.cusec) tt in
     let d = empty_memory c.args.floor in
-    stored_ok c.args.memories.now c.args.client.now.components f d c.empty_memory-memory.result c.exchange.new.value c.remember-done.new.self c.exchange.new.self c.exchange-then-exchange.new.self there left c.remember-done.result
+    stored_ok c.args.memories.now c.args.client.now.components f d c.empty_memory-memory.result c.replace.new.value c.remember-done.new.self c.replace.new.self c.replace-then-replace.new.self there left c.remember-done.result
     (simp to_z-of_z at c.remember-done.ensures.ok)
-    (back.given (back.there ∙ is_there c.args.memories.now c.args.client.now.components f d c.empty_memory-memory.result c.exchange.new.value c.remember-done.new.self c.exchange.new.self c.exchange-then-exchange.new.self there left))
+    (back.given (back.there ∙ is_there c.args.memories.now c.args.client.now.components f d c.empty_memory-memory.result c.replace.new.value c.remember-done.new.self c.replace.new.self c.replace-then-replace.new.self there left))
 
-pub returns-then-exchange-clause-err : goal.returns-then-exchange-clause-err
-returns-then-exchange-clause-err c =
-    let out = c.exchange.ensures in
-    let back = c.exchange-then-exchange.ensures in
-    let there = out.taken c.if-exchange.true in
-    let left = out.given c.if-exchange.true in
+pub returns-then-replace-clause-err : goal.returns-then-replace-clause-err
+returns-then-replace-clause-err c =
+    let out = c.replace.ensures in
+    let back = c.replace-then-replace.ensures in
+    let there = out.taken c.if-replace.true in
+    let left = out.given c.if-replace.true in
     let f = λ (m : Memory ⊤). m in
     let d = empty_memory c.args.floor in
-    stored_err c.args.memories.now c.args.client.now.components f d c.empty_memory-memory.result c.exchange.new.value c.remember-done.new.self c.exchange.new.self c.exchange-then-exchange.new.self there left c.remember-done.result
+    stored_err c.args.memories.now c.args.client.now.components f d c.empty_memory-memory.result c.replace.new.value c.remember-done.new.self c.replace.new.self c.replace-then-replace.new.self there left c.remember-done.result
     c.remember-done.ensures.err
-    (back.given (back.there ∙ is_there c.args.memories.now c.args.client.now.components f d c.empty_memory-memory.result c.exchange.new.value c.remember-done.new.self c.exchange.new.self c.exchange-then-exchange.new.self there left))
+    (back.given (back.there ∙ is_there c.args.memories.now c.args.client.now.components f d c.empty_memory-memory.result c.replace.new.value c.remember-done.new.self c.replace.new.self c.replace-then-replace.new.self there left))
 
 pub returns-in_ok-copy-clause-ok : goal.returns-in_ok-copy-clause-ok
 returns-in_ok-copy-clause-ok c =
     let ctime : SFits w64 c.args.ctime = search rules in
     let floor : SFits w64 c.args.floor = search rules in
-    let out = c.exchange.ensures in
-    let none = out.absent c.if-exchange.false in
+    let out = c.replace.ensures in
+    let none = out.absent c.if-replace.false in
     let f = λ (m : Memory ⊤). remembered m c.args.at.sec (c.args.ctime, c.args.cusec) tt in
-    stored_first c.args.memories.now c.args.client.now.components f (empty_memory c.args.floor) c.in_ok-copy.field-0.components c.exchange.new.value c.remember.new.self c.exchange.new.self c.put.new.self c.put.result
-    (sym out.there ∙ c.if-exchange.false) none.0 (none.1 ∙ simp to_z-of_z at c.empty_memory-memory.ensures) (ap (λ n. n.components) c.in_ok-copy.ensures) (simp to_z-of_z at c.in_ok-remember.ensures.ok) c.put.ensures.ok
+    stored_first c.args.memories.now c.args.client.now.components f (empty_memory c.args.floor) c.in_ok-copy.field-0.components c.replace.new.value c.remember.new.self c.replace.new.self c.put.new.self c.put.result
+    (sym out.there ∙ c.if-replace.false) none.0 (none.1 ∙ simp to_z-of_z at c.empty_memory-memory.ensures) (ap (λ n. n.components) c.in_ok-copy.ensures) (simp to_z-of_z at c.in_ok-remember.ensures.ok) c.put.ensures.ok

@@ -5,7 +5,6 @@ use Rattle.client_core.proofs.service_requests.ap_req.Goals as goal
 
 pub returns-clause-spelled : goal.returns-clause-spelled
 returns-clause-spelled c =
-    respelled ap_req.Spells (λ v. v.items) _ _ c.encode_ap_req.result
-    (ap_req_is c.args.client.now c.args.session c.args.at c.args.asked.now c.args.confounder.now c.in_ok-cksum.cksum c.options-options.result c.in_ok-authenticator.authenticator c.in_ok-request.request
-    c.in_ok-cksum.ensures c.options-options.ensures c.in_ok-authenticator.ensures.value c.in_ok-request.ensures.value)
-    c.encode_ap_req.ensures.spelled
+    respelled ap_req.Spells (λ v. v.items) _ _ c.present.result
+    (ap_req_is c.args.client.now c.args.session c.args.at c.args.asked.now c.args.confounder.now c.options-options.result c.in_ok-authenticator.authenticator c.options-options.ensures c.in_ok-authenticator.ensures.value)
+    c.present.ensures.spelled
