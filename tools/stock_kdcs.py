@@ -1,0 +1,164 @@
+"""One realm served by three KDCs: `kdcd serve`, MIT's `krb5kdc` and Heimdal's `kdc`. For the scripts beside this file; Linux and
+Python 3. The stock KDCs are Debian's packages krb5-kdc and krb5-admin-server, heimdal-kdc and heimdal-clients. They can't all be
+installed, so each is named by a folder: `/` where it is installed, or one in which `dpkg -x` has unpacked it with the libraries that the
+system lacks."""
+
+import dataclasses
+import glob
+import os
+import pathlib
+import signal
+import subprocess
+import sys
+import time
+
+from kerberos import as_req
+from measure_server import Peer
+
+NAMES = {
+    17: "aes128-cts-hmac-sha1-96",
+    18: "aes256-cts-hmac-sha1-96",
+    19: "aes128-cts-hmac-sha256-128",
+    20: "aes256-cts-hmac-sha384-192",
+}
+
+
+@dataclasses.dataclass
+class Principal:
+    """What a realm holds of one name, beside `krbtgt/REALM`: without a password its keys are random."""
+
+    name: str
+    password: str | None = None
+    preauth: bool = True
+    types: tuple = (18,)
+
+
+class Running:
+    """A server that listens on this port of 127.0.0.1, and all processes that it started."""
+
+    def __init__(self, words, realm, port, **how):
+        self.process = subprocess.Popen(words, start_new_session=True, **how)
+        self.udp = ("127.0.0.1", port)
+        self.address = f"127.0.0.1:{port}"
+        peer = Peer(self)
+        for _ in range(100):
+            try:
+                peer.ask(as_req(realm.encode(), b"nobody"))
+                return
+            except OSError:
+                time.sleep(0.1)
+        sys.exit(f"{words[0]} does not answer")
+
+    def processor_seconds(self):
+        used = 0
+        for process in pathlib.Path("/proc").glob("[0-9]*"):
+            try:
+                if os.getpgid(int(process.name)) == self.process.pid:
+                    used += sum(int(task.read_text().split()[0]) for task in process.glob("task/*/schedstat"))
+            except (OSError, IndexError):
+                continue
+        return used / 1e9
+
+    def end(self):
+        os.killpg(self.process.pid, signal.SIGTERM)
+        self.process.wait()
+
+
+def run(words, **how):
+    ran = subprocess.run(words, stdin=subprocess.DEVNULL, stdout=subprocess.PIPE, stderr=subprocess.STDOUT, text=True, **how)
+    if ran.returncode:
+        sys.exit(f"{' '.join(map(str, words))}: {ran.stdout}")
+
+
+def kdcd(programs, folder, realm, principals, port, log=False):
+    """`programs` is a folder with `kadm` and `kdcd`, or that of the crates, which have each at NAME/out/NAME."""
+    found = {name: next(p for p in (f"{programs}/{name}", f"{programs}/{name}/out/{name}") if os.path.isfile(p)) for name in ("kadm", "kdcd")}
+    kadm = lambda sub, *words: run([found["kadm"], sub, "--db", folder / "database", *words])
+    kadm("init", "--realm", realm)
+    for each in principals:
+        types = ("--types", ",".join(map(str, each.types)))
+        if each.password is None:
+            kadm("random", "--name", each.name, *types)
+        else:
+            (folder / "password").write_text(each.password + "\n")
+            kadm("add", "--name", each.name, "--password-file", folder / "password", *types)
+        if not each.preauth:
+            kadm("policy", "--name", each.name, "--field", "preauth", "--value", "false")
+    address = f"127.0.0.1:{port}"
+    words = [found["kdcd"], "serve", "--db", folder / "database", "--udp", address, "--tcp", address, "--first", *["--log"] * log]
+    return Running(words, realm, port, stdout=subprocess.DEVNULL, stderr=open(folder / "log", "w"))
+
+
+def unpacked(root):
+    """The environment and the programs of packages that stand below a folder."""
+    if root == "/":
+        return {**os.environ, "PATH": f"/usr/sbin:/usr/lib/heimdal-servers:{os.environ['PATH']}"}
+    libraries = [folder for folder in glob.glob(f"{root}/**/lib/**/", recursive=True) if glob.glob(f"{folder}/*.so*")]
+    programs = [f"{root}/usr/sbin", f"{root}/usr/bin", f"{root}/usr/lib/heimdal-servers", os.environ["PATH"]]
+    return {**os.environ, "LD_LIBRARY_PATH": ":".join(libraries), "PATH": ":".join(programs)}
+
+
+def mit(root, folder, realm, principals, port):
+    (folder / "krb5.conf").write_text(f"""
+[libdefaults]
+    default_realm = {realm}
+[dbmodules]
+    db_module_dir = {next(iter(glob.glob(f"{root}/usr/lib/*/krb5/plugins/kdb")), "")}
+[logging]
+    kdc = FILE:{folder}/kdc.log
+""")
+    (folder / "kdc.conf").write_text(f"""
+[kdcdefaults]
+    kdc_listen = 127.0.0.1:{port}
+    kdc_tcp_listen = 127.0.0.1:{port}
+[realms]
+    {realm} = {{
+        database_name = {folder}/principal
+        key_stash_file = {folder}/stash
+        acl_file = {folder}/acl
+        supported_enctypes = {NAMES[18]}:normal
+    }}
+""")
+    known = unpacked(root)
+    known.update(KRB5_CONFIG=str(folder / "krb5.conf"), KRB5_KDC_PROFILE=str(folder / "kdc.conf"))
+    run(["kdb5_util", "create", "-s", "-P", "master"], env=known)
+    for each in principals:
+        types = ",".join(f"{NAMES[etype]}:normal" for etype in each.types)
+        secret = "-randkey" if each.password is None else f'-pw "{each.password}"'
+        preauth = "+requires_preauth" if each.preauth and each.password is not None else "-requires_preauth"
+        run(["kadmin.local", "-q", f"addprinc {preauth} -e {types} {secret} {each.name}"], env=known)
+    return Running(["krb5kdc", "-n"], realm, port, env=known, stdout=subprocess.DEVNULL, stderr=subprocess.DEVNULL)
+
+
+def heimdal(root, folder, realm, principals, port):
+    def configuration(types):
+        file = folder / f"kdc-{'-'.join(map(str, types))}.conf"
+        file.write_text(f"""
+[libdefaults]
+    default_realm = {realm}
+[kdc]
+    database = {{
+        dbname = {folder}/heimdal
+        mkey_file = {folder}/m-key
+        log_file = {folder}/iprop-log
+    }}
+    require-preauth = no
+    ports = {port}
+    addresses = 127.0.0.1
+[kadmin]
+    default_keys = {" ".join(f"{NAMES[etype]}:pw-salt" for etype in types)}
+[logging]
+    kdc = 0-/FILE:{folder}/kdc.log
+""")
+        return file
+
+    known = unpacked(root)
+    kadmin = lambda types, *words: run(["kadmin.heimdal", "-l", f"--config-file={configuration(types)}", *words], env=known)
+    kadmin((18,), "init", "--realm-max-ticket-life=1 day", "--realm-max-renewable-life=1 week", realm)
+    for each in principals:
+        secret = "--random-key" if each.password is None else f"--password={each.password}"
+        kadmin(each.types, "add", "--use-defaults", secret, each.name)
+        if each.preauth and each.password is not None:
+            kadmin((18,), "modify", "--attributes=requires-pre-auth", each.name)
+    words = ["kdc", f"--config-file={configuration((18,))}"]
+    return Running(words, realm, port, env=known, stdout=subprocess.DEVNULL, stderr=subprocess.DEVNULL)
