@@ -7,9 +7,9 @@ use Rattle.enctypes.specs.declared.key_usage.KeyUsage.TheVariants.{TgsReqAuthent
 use Rattle.enctypes.specs.Etype.{number, checksum_type}
 use Rattle.enctypes.specs.KeyUsage.{usage_number}
 use Rattle.enctypes.specs.Sealing.{mac}
-use Rattle.krb_ap.specs.ApReq.{ap_req}
+use Rattle.krb_ap.specs.ApReq.{ApReq, ap_req}
 use Rattle.krb_elements.specs.Codec.{written}
-use Rattle.krb_fields.specs.EncryptedData.{encrypted_data}
+use Rattle.krb_fields.specs.EncryptedData.{EncryptedData, encrypted_data}
 use Rattle.krb_fields.specs.PaData.{PaData}
 use Rattle.krb_fields.specs.PrincipalName.{Name}
 use Rattle.krb_fields.specs.Typed.{Typed}
@@ -57,12 +57,13 @@ asks_as padata asked = request_of As padata (body_of (Some asked.client) asked)
 abbrev pub timestamp_part : Moment → PaEncTsEnc
 timestamp_part at = record { patimestamp = at.sec; pausec = Some at.usec }
 
+abbrev pub sealed_timestamp : Key → Moment → List ℕ → EncryptedData
+sealed_timestamp key at confounder =
+    encrypted pa_enc_ts_enc key (usage_number PaEncTimestamp) None confounder (timestamp_part at)
+
 abbrev pub timestamp_data : Key → Moment → List ℕ → PaData
-timestamp_data key at confounder = record {
-  padata_type = pos 2;
-  padata_value = written encrypted_data
-      (encrypted pa_enc_ts_enc key (usage_number PaEncTimestamp) None confounder (timestamp_part at));
-}
+timestamp_data key at confounder =
+    record { padata_type = pos 2; padata_value = written encrypted_data (sealed_timestamp key at confounder) }
 
 abbrev pub asks_with_timestamp : Asked → Key → Moment → List ℕ → KdcReq
 asks_with_timestamp asked key at confounder = asks_as (Some (timestamp_data key at confounder ∷ [])) asked
@@ -80,13 +81,16 @@ abbrev pub tgs_authenticator : Principal → Session → Moment → Option Key �
 tgs_authenticator client session at subkey body =
     authenticator_of client at (Some (body_checksum session.key body)) subkey None
 
--- PA-TGS-REQ (section 5.2.7.1): an AP-REQ without options
+-- an AP-REQ without options
+abbrev pub tgs_presents : Principal → Session → Moment → Option Key → List ℕ → ReqBody → ApReq
+tgs_presents client session at subkey confounder body =
+    presents session 0 (usage_number TgsReqAuthenticator) confounder (tgs_authenticator client session at subkey body)
+
+-- PA-TGS-REQ (section 5.2.7.1)
 abbrev pub tgs_data : Principal → Session → Moment → Option Key → List ℕ → ReqBody → PaData
 tgs_data client session at subkey confounder body = record {
   padata_type = pos 1;
-  padata_value = written ap_req
-      (presents session 0 (usage_number TgsReqAuthenticator) confounder
-      (tgs_authenticator client session at subkey body));
+  padata_value = written ap_req (tgs_presents client session at subkey confounder body);
 }
 
 -- `client` is the credential's, and `session` what it gives

@@ -1,13 +1,18 @@
 //! AS-REQ (RFC 4120, sections 3.1.1 and 5.4.1).
 ghost use Rattle.std.specs.Prelude.{◌≡◌, ◌≤◌, ◌∷◌, [], length, None, Some, IfOk};
+ghost use Rattle.enctypes.specs.KeyUsage.{usage_number};
+ghost use Rattle.enctypes.specs.declared.key_usage.KeyUsage.TheVariants as usages;
 ghost use Rattle.krb_elements.specs.Codec.{list_of, written};
 ghost use Rattle.krb_elements.specs.TextLengthLaws.{most_maybe};
 ghost use Rattle.krb_fields.specs.PaData.{pa_data};
+ghost use Rattle.krb_parts.specs.PaEncTsEnc as parts;
 ghost use Rattle.krb_types.specs.KdcReq.{SpellsKdcReq, message};
 ghost use Rattle.krb_types.specs.ReqBody.{req_body};
 ghost use Rattle.krb_types.specs.declared.kdc_req.Exchange.TheVariants.{As};
+ghost use Rattle.sealed_parts.specs.Encrypted.{decrypted};
 ghost use Rattle.client_core.specs.Asked.{IsAskable};
-ghost use Rattle.client_core.specs.Requests.{asks_as, asks_with_timestamp, request_of, timestamp_data};
+ghost use Rattle.client_core.specs.Requests.{asks_as, asks_with_timestamp, request_of, sealed_timestamp};
+ghost use Rattle.client_core.specs.Requests.{timestamp_data, timestamp_part};
 ghost use Rattle.client_core.specs.ShortLaws.{AreShortData};
 
 use crate::asked::Asked;
@@ -42,6 +47,10 @@ pub fn with_timestamp(
         v.items ≡ written (message As) (asks_with_timestamp asked.now key.now at confounder.now)) }
     ensures spelled { IfOk result (λ v.
         SpellsKdcReq (As, asks_with_timestamp asked.now key.now at confounder.now) v.items) }
+    // The key opens the PA-ENC-TIMESTAMP in it to the moment.
+    ensures opens { IfOk result (λ v.
+        decrypted parts.pa_enc_ts_enc key.now (usage_number usages.PaEncTimestamp)
+        (sealed_timestamp key.now at confounder.now) ≡ Some (timestamp_part at)) }
 {
     let entry = timestamp_data(alloc, key, at, confounder)?;
     let padata = one_entry(alloc, entry)?;
@@ -97,6 +106,9 @@ fn timestamp_data(
     confounder: &[u8; 16],
 ) -> Result<PaData, AllocError>
     ensures value { IfOk result (λ made. made ≡ timestamp_data key.now at confounder.now) }
+    ensures opens { IfOk result (λ made.
+        decrypted parts.pa_enc_ts_enc key.now (usage_number usages.PaEncTimestamp)
+        (sealed_timestamp key.now at confounder.now) ≡ Some (timestamp_part at)) }
     ensures short { IfOk result (λ made. length made.padata_value ≤ 1000) }
 {
     let part = PaEncTsEnc {

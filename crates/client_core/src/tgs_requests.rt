@@ -1,5 +1,7 @@
 //! TGS-REQ (RFC 4120, sections 3.3.1 and 5.4.1).
-ghost use Rattle.std.specs.Prelude.{◌≡◌, ◌≤◌, ◌<◌, length, IfOk, IfSome};
+ghost use Rattle.std.specs.Prelude.{◌≡◌, ◌≤◌, ◌<◌, length, IfOk, IfSome, None, Some};
+ghost use Rattle.enctypes.specs.KeyUsage.{usage_number};
+ghost use Rattle.enctypes.specs.declared.key_usage.KeyUsage.TheVariants.{TgsReqAuthenticator};
 ghost use Rattle.krb_elements.specs.Codec.{written};
 ghost use Rattle.krb_fields.specs.NameLimits.{IsComponent, IsWithinLimits};
 ghost use Rattle.krb_parts.specs.Authenticator as parts;
@@ -7,8 +9,10 @@ ghost use Rattle.krb_types.specs.KdcReq.{SpellsKdcReq, message};
 ghost use Rattle.krb_types.specs.ReqBody.{req_body};
 ghost use Rattle.krb_types.specs.Ticket.{ticket};
 ghost use Rattle.krb_types.specs.declared.kdc_req.Exchange.TheVariants.{Tgs};
+ghost use Rattle.sealed_parts.specs.Encrypted.{decrypted};
 ghost use Rattle.client_core.specs.Asked.{IsAskable};
-ghost use Rattle.client_core.specs.Requests.{asks_tgs, body_checksum, tgs_authenticator, tgs_data};
+ghost use Rattle.client_core.specs.Requests.{asks_tgs, body_checksum, body_of, tgs_authenticator, tgs_data};
+ghost use Rattle.client_core.specs.Requests.{tgs_presents};
 ghost use Rattle.client_core.specs.Sessions as definitions;
 
 use crate::asked::Asked;
@@ -40,6 +44,11 @@ pub fn tgs_request(
         (asks_tgs asked.now credential.now.client session at subkey confounder.now))) }
     ensures spelled { IfSome (definitions.session credential.now) (λ session. IfOk result (λ v.
         SpellsKdcReq (Tgs, asks_tgs asked.now credential.now.client session at subkey confounder.now) v.items)) }
+    // The session key opens the authenticator in it to what the client says.
+    ensures opens { IfSome (definitions.session credential.now) (λ session. IfOk result (λ v.
+        decrypted parts.authenticator session.key (usage_number TgsReqAuthenticator)
+        (tgs_presents credential.now.client session at subkey confounder.now (body_of None asked.now)).authenticator
+        ≡ Some (tgs_authenticator credential.now.client session at subkey (body_of None asked.now)))) }
 {
     let session = session_of(alloc, credential)?;
     tgs_req(
@@ -70,6 +79,10 @@ fn tgs_req(
         v.items ≡ written (message Tgs) (asks_tgs asked.now client.now session at subkey confounder.now)) }
     ensures spelled { IfOk result (λ v.
         SpellsKdcReq (Tgs, asks_tgs asked.now client.now session at subkey confounder.now) v.items) }
+    ensures opens { IfOk result (λ v.
+        decrypted parts.authenticator session.key (usage_number TgsReqAuthenticator)
+        (tgs_presents client.now session at subkey confounder.now (body_of None asked.now)).authenticator
+        ≡ Some (tgs_authenticator client.now session at subkey (body_of None asked.now))) }
 {
     let body = asked.body(alloc, None)?;
     let entry = tgs_data(alloc, client, session, at, subkey, confounder, &body)?;
@@ -92,6 +105,10 @@ fn tgs_data(
     requires ticket { length (ticket.text session.ticket) < 16777216 }
     requires body { req_body.most body.now ≤ 20000 }
     ensures value { IfOk result (λ made. made ≡ tgs_data client.now session at subkey confounder.now body.now) }
+    ensures opens { IfOk result (λ made.
+        decrypted parts.authenticator session.key (usage_number TgsReqAuthenticator)
+        (tgs_presents client.now session at subkey confounder.now body.now).authenticator
+        ≡ Some (tgs_authenticator client.now session at subkey body.now)) }
     ensures short { IfOk result (λ made. length made.padata_value ≤ 34000006) }
 {
     let authenticator = tgs_authenticator(alloc, client, &session, at, subkey, body)?;
