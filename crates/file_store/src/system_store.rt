@@ -41,14 +41,6 @@ impl<'a, R: Files> FileStore<'a, R> {
         }
     }
 
-    /// Removes what a run that was killed has left.
-    fn remove_left(&self, path: &str) -> io::Result<()> {
-        match fs::remove_file(self.files, path) {
-            Err(error) if error.kind() != ErrorKind::NotFound => Err(error),
-            _ => Ok(()),
-        }
-    }
-
     /// Writes the new file to its end, and only then puts it in place.
     fn fill(&self, new: R::File, beside: &str, path: &str, octets: &[u8]) -> io::Result<()> {
         let mut new = new;
@@ -74,15 +66,16 @@ impl<'a, R: Files> FileStore<'a, R> {
         }
         Ok(Some(octets))
     }
+}
 
-    /// The new file is `PATH.new` until it is whole and synced; then it is renamed. So a kill at any moment leaves
-    /// the old file or the new one.
+impl<'a, R: Files + RandomSource> FileStore<'a, R> {
+    /// The new file has a name of its own until it is whole and synced; then it is renamed. So a kill at any moment
+    /// leaves the old file or the new one, and of two writes at once each fills its own file.
     fn replace(&self, alloc: Global, path: &str, octets: &[u8]) -> io::Result<()> {
         if !self.takes_file(path)? {
             return Err(Error::from(ErrorKind::InvalidInput));
         }
-        let beside = format!(in alloc; "{path}.new")?;
-        self.remove_left(&beside)?;
+        let beside = name_beside(alloc, self.files, path)?;
         let mut how = OpenOptions::new();
         how.write(true).create_new(true).mode(OWNER_ONLY);
         let new = how.open(self.files, beside.as_str())?;
@@ -92,6 +85,14 @@ impl<'a, R: Files> FileStore<'a, R> {
         }
         filled
     }
+}
+
+/// `PATH.HEX.new`: the path of a new file, with 16 random hexadecimal digits.
+fn name_beside(alloc: Global, source: &impl RandomSource, path: &str) -> io::Result<String> {
+    let mut octets = [0; 8];
+    source.fill_bytes(&mut octets)?;
+    let number = u64::from_be_bytes(octets);
+    Ok(format!(in alloc; "{path}.{number:016x}.new")?)
 }
 
 /// Locks `PATH.lock`, which stays there without a lock: another command that waited for it to be removed and made anew
