@@ -17,7 +17,7 @@ use Rattle.ap_accept.specs.Accepts.{accepts, if_presented, if_request, memory_fo
 use Rattle.ap_accept.specs.Clients.{floor_for, hour}
 use Rattle.ap_accept.specs.Presented.{presented}
 use Rattle.ap_accept.specs.Reply.{asks_reply}
-use Rattle.ap_accept.specs.Run.{Call, LetsGoUnseen, Steady, after_call, after_keeping, after_presented, answers, is_party, keeping, unless_refused}
+use Rattle.ap_accept.specs.Run.{Call, LetsGoUnseen, Steady, after_call, after_keeping, after_presented, answers, is_party, keeping, remembered_unless}
 use Rattle.ap_accept.specs.State.{memory_of}
 use Rattle.ap_accept.specs.declared.accepted.Accepted.{Accepted}
 use Rattle.ap_accept.specs.declared.fault.ApFault.{ApFault}
@@ -64,7 +64,7 @@ module _ (second now : ℤ) (s t : State) (alike : Alike second s t) (le : secon
 -- ---- the state afterwards
 
 module _ (state : State) (now : ℤ) (confounder : List ℕ) where
-  by_refusal : (wanted : Bool) (p : Presented) (r : Option ApRefusal) → (unless_seen state now confounder wanted p r).state ≡ unless_refused remembering state now p r
+  by_refusal : (wanted : Bool) (p : Presented) (r : Option ApRefusal) → (unless_seen state now confounder wanted p r).state ≡ remembered_unless remembering state now p r
   by_refusal wanted p (Some refusal) = refl
   by_refusal wanted p None = refl
 
@@ -109,12 +109,12 @@ module _ (second now high : ℤ) (s t : State) (alike : Alike second s t) (le : 
     memories = λ service client. same_gone p service client ∙ sym (same_kept p service client);
   }
 
-  alike_unless : (p : Presented) (r : Option ApRefusal) → Alike high (unless_refused remembering s now p r) (unless_refused keeping t now p r)
+  alike_unless : (p : Presented) (r : Option ApRefusal) → Alike high (remembered_unless remembering s now p r) (remembered_unless keeping t now p r)
   alike_unless p (Some refusal) = still_alike
   alike_unless p None = alike_remembering p
 
   alike_presented : (o : Option Presented) → Alike high (after_presented remembering s now o) (after_presented keeping t now o)
-  alike_presented (Some p) = subst (λ r. Alike high (unless_refused remembering s now p (memory_refusal s now p)) (unless_refused keeping t now p r)) (same_refusal second now s t alike le p) (alike_unless p (memory_refusal s now p))
+  alike_presented (Some p) = subst (λ r. Alike high (remembered_unless remembering s now p (memory_refusal s now p)) (remembered_unless keeping t now p r)) (same_refusal second now s t alike le p) (alike_unless p (memory_refusal s now p))
   alike_presented None = still_alike
 
   alike_after : (confounder : List ℕ) (o : Option ApReq) → Alike high (if_request s now confounder o).state (after_presented keeping t now (presented_if t o))

@@ -58,12 +58,12 @@ abbrev pub keeping : State → ℤ → Presented → State
 keeping state now p = with_clients state p.service.components (remembering_clients state now p)
 
 -- the state after what is presented, where `remember` makes the one in which it is remembered
-abbrev pub unless_refused : (State → ℤ → Presented → State) → State → ℤ → Presented → Option ApRefusal → State
-unless_refused remember state now p (Some refusal) = state
-unless_refused remember state now p None = remember state now p
+abbrev pub remembered_unless : (State → ℤ → Presented → State) → State → ℤ → Presented → Option ApRefusal → State
+remembered_unless remember state now p (Some refusal) = state
+remembered_unless remember state now p None = remember state now p
 
 abbrev pub after_presented : (State → ℤ → Presented → State) → State → ℤ → Option Presented → State
-after_presented remember state now (Some p) = unless_refused remember state now p (memory_refusal state now p)
+after_presented remember state now (Some p) = remembered_unless remember state now p (memory_refusal state now p)
 after_presented remember state now None = state
 
 abbrev pub after_keeping : State → Call → State

@@ -24,7 +24,7 @@ use Rattle.preauth.specs.declared.timestamp.Outcome.{Outcome}
 use Rattle.principal_rows.specs.declared.row.Row.{Row}
 use Rattle.replay.specs.declared.failures.Failures.{Failures}
 use Rattle.as_exchange.specs.View.{AsView}
-use Rattle.as_exchange.specs.Rules.{is_good, timestamp_of, verdict, code_of}
+use Rattle.as_exchange.specs.Rules.{is_good, timestamp_of, admitted, code_of}
 use Rattle.as_exchange.specs.Issue.{as_rep, grant_by}
 use Rattle.as_exchange.specs.declared.refusal.AsRefusal.{AsRefusal}
 use Rattle.as_exchange.specs.declared.refusal.AsRefusal.TheVariants.{BadVersion, BadMessageType, ClientUnknown}
@@ -121,7 +121,7 @@ answer_by v incoming body timestamp (Ok admission) =
 abbrev pub as_answer : AsView → Incoming → Received → AsAnswer
 as_answer v incoming message =
     answer_by v incoming message.body.value (timestamp_of v.client incoming.at.sec message)
-    (verdict v incoming.at.sec message)
+    (admitted v incoming.at.sec message)
 
 -- ---- what the octets spell
 
@@ -134,7 +134,7 @@ SpelledBy v at random body timestamp (Ok admission) octets =
 
 abbrev pub Spelled : AsView → Moment → List ℕ → Received → List ℕ → Type 0
 Spelled v at random message octets =
-    SpelledBy v at random message.body.value (timestamp_of v.client at.sec message) (verdict v at.sec message) octets
+    SpelledBy v at random message.body.value (timestamp_of v.client at.sec message) (admitted v at.sec message) octets
 
 -- The client's key opens the AS-REP to what the service's key finds in the ticket, and both are those that the sealed
 -- parts name in the rows of the client and of the service.
@@ -158,4 +158,4 @@ OpensBy v at random body timestamp (Ok admission) = OpensFor v at random body ti
 
 abbrev pub Opens : AsView → Moment → List ℕ → Received → Type 0
 Opens v at random message =
-    OpensBy v at random message.body.value (timestamp_of v.client at.sec message) (verdict v at.sec message)
+    OpensBy v at random message.body.value (timestamp_of v.client at.sec message) (admitted v at.sec message)

@@ -10,7 +10,7 @@ use Rattle.krb_types.specs.ReqBody.{ReqBody}
 use Rattle.krb_types.specs.declared.kdc_req.Exchange.TheVariants.{As}
 use Rattle.preauth.specs.declared.timestamp.Outcome.{Outcome}
 use Rattle.as_exchange.specs.View.{AsView}
-use Rattle.as_exchange.specs.Rules.{timestamp_of, verdict}
+use Rattle.as_exchange.specs.Rules.{timestamp_of, admitted}
 use Rattle.as_exchange.specs.Issue.{grant_by, reply_info, reply_key_of}
 use Rattle.as_exchange.specs.Answer.{Opens, OpensBy, Spelled, SpelledBy}
 use Rattle.as_exchange.specs.declared.refusal.AsRefusal.{AsRefusal}
@@ -35,7 +35,7 @@ issued_by v at random body timestamp (Err refusal) = None
 
 abbrev pub issued : AsView → Moment → List ℕ → Received → Option Issue
 issued v at random message =
-    issued_by v at random message.body.value (timestamp_of v.client at.sec message) (verdict v at.sec message)
+    issued_by v at random message.body.value (timestamp_of v.client at.sec message) (admitted v at.sec message)
 
 -- ---- the law
 
@@ -64,4 +64,4 @@ module _ (v : AsView) (at : Moment) (random octets : List ℕ) (long : 32 ≤ le
       → Opens v at random message → issued v at random message ≡ Some issue → IsIssuedOrError issue octets
   reply_is_issued message issue spelled opens e =
       reply_by message.body.value (timestamp_of v.client at.sec message)
-      (verdict v at.sec message) issue spelled opens e
+      (admitted v at.sec message) issue spelled opens e

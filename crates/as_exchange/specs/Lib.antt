@@ -5,4 +5,5 @@ pub mod Rules
 pub mod Issue
 pub mod Answer
 pub mod Issued
+-- what private clauses and proofs cite: no reader of a public contract needs it
 pub mod NamedLaws

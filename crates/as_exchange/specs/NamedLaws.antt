@@ -93,13 +93,13 @@ decided_named rules v body found times otherwise a known is e =
     (subst (λ (o : Option Terms). o ≡ Some a.terms) is
     (admitted_terms found times a (decided_found rules (admission_of found times) otherwise a e)))
 
-pub verdict_named : {R : Type 0} (rules : List (Rule R)) (v : AsView) (body : ReqBody) (found : Option Terms)
+pub admitted_named : {R : Type 0} (rules : List (Rule R)) (v : AsView) (body : ReqBody) (found : Option Terms)
     (times : Option Times) (otherwise : R) (r : Result Admission R)
     → IsKnown v body → found ≡ terms v body → r ≡ decided rules (admission_of found times) otherwise
     → IfOk r (λ a. IsNamed v.client v.service a.terms)
-verdict_named rules v body found times otherwise (Ok a) known is e =
+admitted_named rules v body found times otherwise (Ok a) known is e =
     decided_named rules v body found times otherwise a known is (sym e)
-verdict_named rules v body found times otherwise (Err refusal) known is e = tt
+admitted_named rules v body found times otherwise (Err refusal) known is e = tt
 
 -- ---- one PA-ETYPE-INFO2 is short
 pub data_short : (info : PaData) (list : List PaData) → length info.padata_value ≤ 32926 → list ≡ info ∷ []

@@ -124,16 +124,16 @@ rules_by v now message timestamp found times =
     ∷ []
 
 -- what is admitted, or the first rule by which nothing is
-abbrev pub verdict_on : AsView → ℤ → Received → Outcome → Option Terms → Option Times → Result Admission AsRefusal
-verdict_on v now message timestamp found times =
+abbrev pub admitted_on : AsView → ℤ → Received → Outcome → Option Terms → Option Times → Result Admission AsRefusal
+admitted_on v now message timestamp found times =
     decided (rules_by v now message timestamp found times) (admission_of found times) NeverValid
 
-abbrev pub verdict_by : AsView → ℤ → Received → Outcome → Option Terms → Result Admission AsRefusal
-verdict_by v now message timestamp found =
-    verdict_on v now message timestamp found (times_of v.limits now message.body.value found)
+abbrev pub admitted_by : AsView → ℤ → Received → Outcome → Option Terms → Result Admission AsRefusal
+admitted_by v now message timestamp found =
+    admitted_on v now message timestamp found (times_of v.limits now message.body.value found)
 
-abbrev pub verdict : AsView → ℤ → Received → Result Admission AsRefusal
-verdict v now message = verdict_by v now message (timestamp_of v.client now message) (terms v message.body.value)
+abbrev pub admitted : AsView → ℤ → Received → Result Admission AsRefusal
+admitted v now message = admitted_by v now message (timestamp_of v.client now message) (terms v message.body.value)
 
 abbrev pub code_of : AsRefusal → Code
 code_of BadVersion = codes.TheVariants.KdcErrBadPvno

@@ -11,7 +11,7 @@ ghost use Rattle.as_exchange.specs.NamedLaws.{IsNamed};
 use crate::errors::as_error;
 use crate::issuing::as_rep;
 use crate::refusal::{AsRefusal, Sequel};
-use crate::rules::{is_good, timestamp_of, verdict};
+use crate::rules::{admitted, is_good, timestamp_of};
 use crate::terms::{Admission, terms_for};
 use crate::view::AsView;
 use kdc_replies::{Incoming, too_big};
@@ -39,7 +39,7 @@ pub fn as_answer(
     ensures reply { IfOk result (λ answer. answer.reply.items ≡ (as_answer view.now incoming.now message.now).reply) }
     ensures failures { IfOk result (λ answer.
         answer.failures ≡ (as_answer view.now incoming.now message.now).failures) }
-    // The octets spell the message that the verdict says.
+    // The octets spell the message that is due: the error of the rule that refuses, or the ticket's reply.
     ensures spelled { IfOk result (λ answer.
         Spelled view.now incoming.now.at incoming.now.random message.now answer.reply.items) }
     // Where they spell an AS-REP, the client's key and the service's find the same inside.
@@ -48,31 +48,31 @@ pub fn as_answer(
     let body = &message.body.value;
     let timestamp = timestamp_of(alloc, view.client, incoming.at, message)?;
     let terms = terms_for(alloc, view, body)?;
-    let verdict = verdict(view, incoming.at, message, timestamp, terms);
-    answer_by(alloc, view, incoming, body, timestamp, &verdict)
+    let admitted = admitted(view, incoming.at, message, timestamp, terms);
+    answer_by(alloc, view, incoming, body, timestamp, &admitted)
 }
 
-/// The answer by a verdict.
+/// The answer by what is admitted, or by the rule that refuses.
 fn answer_by(
     alloc: Global,
     view: &AsView<'_>,
     incoming: &Incoming<'_>,
     body: &ReqBodyRef<'_>,
     timestamp: Outcome,
-    verdict: &Result<Admission, AsRefusal>,
+    admitted: &Result<Admission, AsRefusal>,
 ) -> Result<AsAnswer, AllocError>
     requires known { IsKnown view.now body.now }
-    requires named { IfOk verdict.now (λ admission. IsNamed view.now.client view.now.service admission.terms) }
+    requires named { IfOk admitted.now (λ admission. IsNamed view.now.client view.now.service admission.terms) }
     ensures reply { IfOk result (λ answer.
-        answer.reply.items ≡ (answer_by view.now incoming.now body.now timestamp verdict.now).reply) }
+        answer.reply.items ≡ (answer_by view.now incoming.now body.now timestamp admitted.now).reply) }
     ensures failures { IfOk result (λ answer.
-        answer.failures ≡ (answer_by view.now incoming.now body.now timestamp verdict.now).failures) }
+        answer.failures ≡ (answer_by view.now incoming.now body.now timestamp admitted.now).failures) }
     ensures spelled { IfOk result (λ answer.
-        SpelledBy view.now incoming.now.at incoming.now.random body.now timestamp verdict.now answer.reply.items) }
+        SpelledBy view.now incoming.now.at incoming.now.random body.now timestamp admitted.now answer.reply.items) }
     ensures same { IfOk result (λ answer.
-        OpensBy view.now incoming.now.at incoming.now.random body.now timestamp verdict.now) }
+        OpensBy view.now incoming.now.at incoming.now.random body.now timestamp admitted.now) }
 {
-    match verdict {
+    match admitted {
         Err(refusal) => refused(alloc, view, incoming.at, body, timestamp, *refusal),
         Ok(admission) => {
             let reply = as_rep(alloc, view, incoming, body, timestamp, admission)?;

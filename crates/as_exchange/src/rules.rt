@@ -5,7 +5,7 @@ ghost use Rattle.as_exchange.specs.Rules.{has_expired_password, is_client_revoke
 ghost use Rattle.as_exchange.specs.Rules.{lacks_preauth, forbids_postdating};
 ghost use Rattle.as_exchange.specs.Rules.{is_postdating_refused, is_bad, is_timestamp_skewed, is_absent, is_good};
 ghost use Rattle.as_exchange.specs.Rules.{timestamp_of};
-ghost use Rattle.as_exchange.specs.Rules.{rules_by, verdict_by};
+ghost use Rattle.as_exchange.specs.Rules.{rules_by, admitted_by};
 
 use crate::refusal::AsRefusal;
 use crate::terms::{Admission, Terms, admission_of, times_of};
@@ -20,14 +20,14 @@ use std::alloc::{AllocError, Global};
 use ticket_times::{Times, asks, starts_too_late};
 
 /// What is admitted, or the first rule by which nothing is.
-pub fn verdict(
+pub fn admitted(
     view: &AsView<'_>,
     at: Moment,
     message: &KdcReqRef<'_>,
     timestamp: Outcome,
     terms: Option<Terms>,
 ) -> Result<Admission, AsRefusal>
-    ensures { result ≡ verdict_by view.now at.sec message.now timestamp terms }
+    ensures { result ≡ admitted_by view.now at.sec message.now timestamp terms }
 {
     let times = times_of(view.limits, at, &message.body.value, &terms);
     let rules = rules_by(view, at, message, timestamp, &terms, &times);

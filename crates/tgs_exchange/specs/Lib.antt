@@ -6,6 +6,6 @@ pub mod Issue
 pub mod Decision
 pub mod Answer
 pub mod Issued
+-- what private clauses and proofs cite: no reader of a public contract needs it
 pub mod NamedLaws
--- laws that proofs cite: no reader of a contract needs them
 pub mod DecisionLaws

@@ -1,5 +1,5 @@
 use Rattle.std.proofs.Common.{rules, ◌≡◌}
-use Rattle.as_exchange.specs.NamedLaws.{verdict_named}
+use Rattle.as_exchange.specs.NamedLaws.{admitted_named}
 use Rattle.as_exchange.specs.Rules.{rules_by}
 use Rattle.as_exchange.specs.Terms.{terms, times_of}
 use Rattle.as_exchange.specs.declared.refusal.AsRefusal.TheVariants.{NeverValid}
@@ -13,4 +13,4 @@ answer_by-requires-clause-named c =
     let found = c.in_ok-terms.terms in
     let is : found ≡ terms view message.body.value = search rules in
     let times = times_of view.limits now message.body.value found in
-    verdict_named (rules_by view now message c.in_ok-timestamp.timestamp found times) view message.body.value found times NeverValid c.verdict-verdict.result c.requires is c.verdict-verdict.ensures
+    admitted_named (rules_by view now message c.in_ok-timestamp.timestamp found times) view message.body.value found times NeverValid c.admitted-admitted.result c.requires is c.admitted-admitted.ensures
