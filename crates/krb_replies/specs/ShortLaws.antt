@@ -27,7 +27,7 @@ ticket_in type =
     (past_field ticket_size 164 _ _ (λ y. Some y.0)
     (in_field ticket_size 165 _ _ (λ t. Some t) ticket_inside))))))
 
-ticket_short : (type : ℕ) (x : KdcRep type) (bytes : List ℕ) → IsBytes bytes → (kdc_rep type).Spells x bytes
+pub ticket_short : (type : ℕ) (x : KdcRep type) (bytes : List ℕ) → IsBytes bytes → (kdc_rep type).Spells x bytes
     → length (ticket.text x.ticket) < 2 ^ 32
 ticket_short type x bytes fits s = omega (arith, s.1, (ticket_in type).is x s.0 (inside_fits _ bytes s.0 fits s.3) s.2)
 
