@@ -188,11 +188,19 @@ fn a_fault_of_the_command_line_has_status_2_and_names_the_option(
 }
 
 /// The database of version 1 that is migrated, and the one of version 2 that comes of it.
-const VERSION_1: &[u8] =
-    br#"{"principals":{"krbtgt/A.B":{"disabled":false,"expires":null,"forwardable":true,"greatest_life":4294967295,"greatest_renewable":4294967295,"keys":[{"keys":[{"etype":17,"key":"000102030405060708090a0b0c0d0e0f"}],"version":1}],"ok_as_delegate":false,"password_expires":null,"postdate":false,"preauth":true,"proxiable":true}},"realm":"A.B","version":1}"#;
+const VERSION_1: &[u8] = b"\
+        {\"principals\":{\"krbtgt/A.B\":{\"disabled\":false,\"expires\":null,\"forwardable\":true,\
+        \"greatest_life\":4294967295,\"greatest_renewable\":4294967295,\"keys\":[{\"keys\":[{\"etype\":17,\
+        \"key\":\"000102030405060708090a0b0c0d0e0f\"}],\"version\":1}],\"ok_as_delegate\":false,\
+        \"password_expires\":null,\"postdate\":false,\"preauth\":true,\"proxiable\":true}},\"realm\":\"A.B\",\
+        \"version\":1}";
 
-const VERSION_2: &[u8] =
-    br#"{"principals":{"krbtgt/A.B":{"disabled":false,"expires":null,"forwardable":true,"greatest_life":4294967295,"greatest_renewable":4294967295,"keys":[{"keys":[{"etype":17,"key":"000102030405060708090a0b0c0d0e0f"}],"version":1}],"ok_as_delegate":false,"password_expires":null,"postdate":false,"preauth":true,"proxiable":true,"revoked_before":null}},"realm":"A.B","version":2}"#;
+const VERSION_2: &[u8] = b"\
+        {\"principals\":{\"krbtgt/A.B\":{\"disabled\":false,\"expires\":null,\"forwardable\":true,\
+        \"greatest_life\":4294967295,\"greatest_renewable\":4294967295,\"keys\":[{\"keys\":[{\"etype\":17,\
+        \"key\":\"000102030405060708090a0b0c0d0e0f\"}],\"version\":1}],\"ok_as_delegate\":false,\
+        \"password_expires\":null,\"postdate\":false,\"preauth\":true,\"proxiable\":true,\"revoked_before\":null}},\
+        \"realm\":\"A.B\",\"version\":2}";
 
 const MIGRATIONS: &[Step] = &[
     Put("db", VERSION_1),
@@ -290,9 +298,13 @@ const ETYPES: [Etype; 4] = [
 /// The keys that ChaCha20 gives under a seed of 32 octets 07, as Python's `cryptography` computes it with a nonce of
 /// zeros: octets 0, 32, 64 and 96 on.
 const DRAWN: &[&[u8]] = &[
-    b"\xf4\x00\x92\x78\x57\xaa\xf6\x41\x14\xf5\x61\xba\xac\xb3\x79\x70\x8c\x79\xa1\xdc\x14\x76\xab\x57\x32\x16\xa4\x02\x07\x64\xbd\xe5",
+    b"\
+        \xf4\x00\x92\x78\x57\xaa\xf6\x41\x14\xf5\x61\xba\xac\xb3\x79\x70\
+        \x8c\x79\xa1\xdc\x14\x76\xab\x57\x32\x16\xa4\x02\x07\x64\xbd\xe5",
     b"\x45\xc1\x43\xdb\xb9\x60\x9c\x22\xab\x85\x5d\x60\x92\x5a\x99\x76",
-    b"\x37\x84\x29\x0c\x60\x6b\x04\xfd\xc0\x72\x04\x00\xc9\x61\xe3\x66\xb6\xea\x14\xd4\x11\xfc\xc5\x3d\xea\x4f\x44\xc9\xbb\x4d\x74\x08",
+    b"\
+        \x37\x84\x29\x0c\x60\x6b\x04\xfd\xc0\x72\x04\x00\xc9\x61\xe3\x66\
+        \xb6\xea\x14\xd4\x11\xfc\xc5\x3d\xea\x4f\x44\xc9\xbb\x4d\x74\x08",
     b"\xde\x0e\xa8\x9a\x53\xf1\xec\xf3\xf3\xd0\xa4\x62\xfb\x77\xd2\xba",
 ];
 

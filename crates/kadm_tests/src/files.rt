@@ -365,3 +365,27 @@ fn puts_and_finds_credentials(rt: HostRuntime) -> Result<(), Fail> {
     let mut cache = cache(alloc)?;
     expect_found(&rt, alloc, &mut cache)
 }
+
+/// Whether of two calls each gives these octets, but for one that may want memory.
+fn wants_memory_once(outcomes: &[Result<Vec<u8>, FileFault>; 2], octets: &[u8]) -> bool {
+    match outcomes {
+        [Ok(first), Ok(second)] => first.as_slice() == octets && second.as_slice() == octets,
+        [Ok(written), Err(fault)] | [Err(fault), Ok(written)] => {
+            written.as_slice() == octets && *fault == FileFault::Memory
+        }
+        _ => false,
+    }
+}
+
+// Passes whichever allocation of the calls is refused.
+#[test]
+fn a_file_without_memory_is_read_and_written_when_it_comes_again(rt: HostRuntime) {
+    let alloc = rt.alloc();
+    let keytabs = [rewritten(alloc, &KEYTAB), rewritten(alloc, &KEYTAB)];
+    assert!(rt; wants_memory_once(&keytabs, &KEYTAB));
+    let caches = [
+        written_again(alloc, &STOCK_CACHE),
+        written_again(alloc, &STOCK_CACHE),
+    ];
+    assert!(rt; wants_memory_once(&caches, &STOCK_CACHE));
+}

@@ -1,5 +1,5 @@
-//! The tests of keytabs and credential caches, and of the administrator's tool. They stand apart, since a crate with
-//! tests is proved twice.
+//! The tests of keytabs and credential caches, of the administrator's tool, and of its files. They stand apart, since a
+//! crate with tests is proved twice.
 #![tactic(auto)]
 
 #[cfg(test)]
@@ -12,3 +12,5 @@ mod given;
 mod rows;
 #[cfg(test)]
 mod steps;
+#[cfg(test)]
+mod system_files;

@@ -1,6 +1,6 @@
 //! What a row shows: policies by seconds and by dates, types of keys, and keytabs with older keys.
 use crate::commands::INIT;
-use crate::steps::Step::{Contains, Holds, Put, Run};
+use crate::steps::Step::{Contains, Holds, NamesFields, Put, Run};
 use crate::steps::{Step, file_after, run};
 use cred_files::Keytab;
 use enctypes::Etype;
@@ -83,14 +83,20 @@ const POLICIES: &[Step] = &[
 ];
 
 #[test]
+fn the_help_names_each_field_of_a_policy(rt: HostRuntime) -> io::Result<()> {
+    run(&rt, rt.alloc(), &[NamesFields("kadm policy --help")])
+}
+
+#[test]
 fn a_row_shows_its_policy_and_its_versions(rt: HostRuntime) -> io::Result<()> {
     run(&rt, rt.alloc(), POLICIES)
 }
 
 /// The octets that ChaCha20 gives under the seed, as Python's `cryptography` computes them: 32 for type 20, and of the
 /// next 32 the first 16 for type 17.
-const DRAWN: &str =
-    r#"[{"etype":20,"key":"f400927857aaf64114f561baacb379708c79a1dc1476ab573216a4020764bde5"},{"etype":17,"key":"45c143dbb9609c22ab855d60925a9976"}]"#;
+const DRAWN: &str = "\
+        [{\"etype\":20,\"key\":\"f400927857aaf64114f561baacb379708c79a1dc1476ab573216a4020764bde5\"},{\"etype\":17,\
+        \"key\":\"45c143dbb9609c22ab855d60925a9976\"}]";
 
 const VERSIONS: &[Step] = &[
     Run(INIT, "ok\n", DONE),
@@ -158,12 +164,14 @@ fn expect_versions(rt: &impl Abort, alloc: Global, octets: &[u8]) -> Result<(), 
 }
 
 /// An entry of `h` in `A.B`, version 1, with a key of type 23 of 16 octets, at a time that is not zero.
-const OTHER_TYPE: &[u8] =
-    b"\x05\x02\x00\x00\x00\x2b\x00\x01\x00\x03A.B\x00\x01h\x00\x00\x00\x01\x65\x92\x00\x80\x01\x00\x17\x00\x10\x00\x01\x02\x03\x04\x05\x06\x07\x08\x09\x0a\x0b\x0c\x0d\x0e\x0f\x00\x00\x00\x01";
+const OTHER_TYPE: &[u8] = b"\
+        \x05\x02\x00\x00\x00\x2b\x00\x01\x00\x03A.B\x00\x01h\x00\x00\x00\x01\x65\x92\x00\x80\x01\x00\x17\x00\x10\x00\
+        \x01\x02\x03\x04\x05\x06\x07\x08\x09\x0a\x0b\x0c\x0d\x0e\x0f\x00\x00\x00\x01";
 
 /// That entry, the end, and what stands behind it.
-const OLD: &[u8] =
-    b"\x05\x02\x00\x00\x00\x2b\x00\x01\x00\x03A.B\x00\x01h\x00\x00\x00\x01\x65\x92\x00\x80\x01\x00\x17\x00\x10\x00\x01\x02\x03\x04\x05\x06\x07\x08\x09\x0a\x0b\x0c\x0d\x0e\x0f\x00\x00\x00\x01\x00\x00\x00\x00behind";
+const OLD: &[u8] = b"\
+        \x05\x02\x00\x00\x00\x2b\x00\x01\x00\x03A.B\x00\x01h\x00\x00\x00\x01\x65\x92\x00\x80\x01\x00\x17\x00\x10\x00\
+        \x01\x02\x03\x04\x05\x06\x07\x08\x09\x0a\x0b\x0c\x0d\x0e\x0f\x00\x00\x00\x01\x00\x00\x00\x00behind";
 
 const APPENDED_TO_OLD: &[Step] = &[
     Run(INIT, "ok\n", DONE),

@@ -3,9 +3,11 @@
 //! A store is let go in `file_after` alone, and all else borrows it: proofs about its end take long for each place.
 use file_store::{LONGEST_FILE, MemoryStore};
 use kadm_run::{DONE, FAILED, USAGE, kadm_run};
+use principal_rows::Policy;
 use std::alloc::{AllocError, Global};
 use std::io;
 use std::process::Abort;
+use text_fields::Setting;
 
 /// What is done with a store, or is looked at in it.
 #[derive(Clone, Copy, Debug)]
@@ -20,6 +22,8 @@ pub enum Step {
     Says(&'static str, &'static str),
     /// A command line is at fault, and what is printed has this in it.
     IsAtFault(&'static str, &'static str),
+    /// What a command line prints has the name of each field of a policy in it.
+    NamesFields(&'static str),
     /// A file is made of these octets.
     Put(&'static str, &'static [u8]),
     /// A file is made that is longer than the longest that is read.
@@ -166,6 +170,25 @@ fn expect_fault(
     Ok(())
 }
 
+/// Whether a text has this word, which commas and other marks may stand beside.
+fn has_word(text: &str, word: &str) -> bool {
+    text.split(|mark: char| !mark.is_ascii_lowercase() && mark != '_')
+        .any(|found| found == word)
+}
+
+fn expect_fields(
+    rt: &impl Abort,
+    alloc: Global,
+    store: &mut MemoryStore,
+    line: &str,
+) -> io::Result<()> {
+    let ended = run_line(alloc, store, line)?;
+    for setting in Setting::all(Policy::default()) {
+        assert!(rt; has_word(text(&ended.written), setting.name()), "{line}");
+    }
+    Ok(())
+}
+
 fn put_too_long(alloc: Global, store: &mut MemoryStore, path: &str) -> io::Result<()> {
     let octets = letters(alloc, LONGEST_FILE + 1)?;
     Ok(store.set(alloc, path, &octets)?)
@@ -215,6 +238,7 @@ fn do_step(rt: &impl Abort, alloc: Global, store: &mut MemoryStore, step: Step) 
         Step::FailsAtEach(line, calls) => expect_failures(rt, alloc, store, line, calls),
         Step::Says(line, said) => expect_error(rt, alloc, store, line, said),
         Step::IsAtFault(line, said) => expect_fault(rt, alloc, store, line, said),
+        Step::NamesFields(line) => expect_fields(rt, alloc, store, line),
         Step::PutTooLong(path) => put_too_long(alloc, store, path),
         Step::Copy(from, to) => copy(alloc, store, from, to),
         Step::Put(path, octets) => Ok(store.set(alloc, path, octets)?),

@@ -1,0 +1,77 @@
+//! The store over the system's files (`file_store`). Each test removes its files in the end.
+use file_store::{FileStore, Store};
+use std::os::unix::fs::MetadataExt;
+use std::test::Fail;
+use std::{fs, io};
+
+const WRITTEN: &str = "tested.written";
+
+const LIMITED: &str = "tested.limited";
+
+const LOCKED: &str = "tested.locked";
+
+/// What a file holds that was written twice, and the rights on it.
+fn written_twice(rt: &HostRuntime) -> io::Result<(Option<Vec<u8>>, u32)> {
+    let mut store = FileStore::new(rt);
+    store.write(rt.alloc(), WRITTEN, b"first, and longer")?;
+    store.write(rt.alloc(), WRITTEN, b"second")?;
+    let rights = fs::metadata(rt, WRITTEN)?.mode() & 0o777;
+    Ok((store.read(rt.alloc(), WRITTEN, 100)?, rights))
+}
+
+#[test]
+fn a_file_that_is_written_anew_is_its_owners_alone(rt: HostRuntime) -> Result<(), Fail> {
+    let (octets, rights) = written_twice(&rt)?;
+    fs::remove_file(&rt, WRITTEN)?;
+    assert!(rt; octets.is_some_and(|octets| octets.as_slice() == b"second".as_slice()));
+    assert_eq!(rt; rights, 0o600);
+    Ok(())
+}
+
+#[test]
+fn a_device_is_not_replaced(rt: HostRuntime) -> Result<(), Fail> {
+    let mut store = FileStore::new(&rt);
+    assert!(rt; store.write(rt.alloc(), "/dev/null", b"octets").is_err());
+    assert!(rt; !fs::metadata(&rt, "/dev/null")?.is_file());
+    Ok(())
+}
+
+/// Whether a file of six octets is taken, with a limit of so many.
+fn is_taken(rt: &HostRuntime, most: usize) -> io::Result<bool> {
+    let mut store = FileStore::new(rt);
+    store.write(rt.alloc(), LIMITED, b"octets")?;
+    Ok(store.read(rt.alloc(), LIMITED, most)?.is_some())
+}
+
+#[test]
+fn a_file_past_its_limit_is_refused(rt: HostRuntime) -> Result<(), Fail> {
+    let taken = [is_taken(&rt, 6)?, is_taken(&rt, 5)?];
+    fs::remove_file(&rt, LIMITED)?;
+    assert_eq!(rt; taken, [true, false]);
+    Ok(())
+}
+
+/// Whether one store gets a file to itself, and another one meanwhile, and behind it.
+fn locks(rt: &HostRuntime) -> io::Result<[bool; 3]> {
+    let mut second = FileStore::new(rt);
+    let (is_first, is_second) = locks_beside(rt, &mut second)?;
+    Ok([is_first, is_second, second.lock(rt.alloc(), LOCKED)?])
+}
+
+/// Whether a store gets it that is let go in the end, and the other one meanwhile.
+fn locks_beside(
+    rt: &HostRuntime,
+    second: &mut FileStore<'_, HostRuntime>,
+) -> io::Result<(bool, bool)> {
+    let mut first = FileStore::new(rt);
+    let is_first = first.lock(rt.alloc(), LOCKED)?;
+    Ok((is_first, second.lock(rt.alloc(), LOCKED)?))
+}
+
+#[test]
+fn a_file_is_one_stores_until_it_is_let_go(rt: HostRuntime) -> Result<(), Fail> {
+    let locks = locks(&rt)?;
+    fs::remove_file(&rt, "tested.locked.lock")?;
+    assert_eq!(rt; locks, [true, false, true]);
+    Ok(())
+}
