@@ -7,7 +7,7 @@
 //! drop NAME VERSION
 //! remove NAME
 //! policy NAME FIELD=VALUE
-//! request SEC USEC WORDS ROOM HEX
+//! request SEC USEC RANDOM ROOM HEX
 //! restart SEC
 //! ```
 ghost use Rattle.std.specs.Prelude.{◌≡◌, ◌==◌, ◌<◌, ◌∷◌, All, IfOk, IfNone, IfSome, codes, map};
