@@ -7,7 +7,7 @@ use Rattle.krb_parts.specs.Authenticator.{Authenticator}
 use Rattle.krb_parts.specs.EncTicketPart.{EncTicketPart}
 use Rattle.cred_files.specs.declared.keytab_entry.KeytabEntry.{KeytabEntry}
 use Rattle.refusals.specs.Stages.{◌>>=◌}
-use Rattle.ap_accept.specs.Tickets.{ticket_of, session_key_of}
+use Rattle.ap_accept.specs.Tickets.{shown_ticket, session_key_of}
 use Rattle.ap_accept.specs.Authenticators.{authenticator_of, subkey_of}
 use Rattle.ap_accept.specs.declared.presented.Presented.{Presented}
 use Rattle.ap_accept.specs.declared.presented.Shown.{Shown}
@@ -37,6 +37,6 @@ shown_in ap part = do
 -- what the request presents
 abbrev pub presented : List KeytabEntry → ApReq → Result Presented ApRefusal
 presented keytab ap = do
-  part ← ticket_of keytab ap
+  part ← shown_ticket keytab ap
   shown ← shown_in ap part
   Ok (presented_as ap part shown.session_key shown.authenticator shown.subkey)

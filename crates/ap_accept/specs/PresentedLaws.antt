@@ -8,7 +8,7 @@ use Rattle.cred_files.specs.declared.keytab_entry.KeytabEntry.{KeytabEntry}
 use Rattle.refusals.specs.Stages.{◌>>=◌}
 use Rattle.ap_accept.specs.Authenticators.{authenticator_of, subkey_of}
 use Rattle.ap_accept.specs.Presented.{presented, presented_as, shown_in}
-use Rattle.ap_accept.specs.Tickets.{session_key_of, ticket_of}
+use Rattle.ap_accept.specs.Tickets.{session_key_of, shown_ticket}
 use Rattle.ap_accept.specs.declared.presented.Presented.{Presented}
 use Rattle.ap_accept.specs.declared.presented.Shown.{Shown}
 use Rattle.ap_accept.specs.declared.refusal.ApRefusal.{ApRefusal}
@@ -32,7 +32,7 @@ module _ (request : ApReq) where
 
   pub all_found : (keytab : List KeytabEntry) (part : EncTicketPart) (key : Key) (auth : Authenticator)
       (subkey : Option Key)
-      → ticket_of keytab request ≡ Ok part → session_key_of request.ticket.realm part ≡ Ok key
+      → shown_ticket keytab request ≡ Ok part → session_key_of request.ticket.realm part ≡ Ok key
       → authenticator_of key request.authenticator ≡ Ok auth → subkey_of part auth ≡ Ok subkey
       → presented keytab request ≡ Ok (presented_as request part key auth subkey)
   all_found keytab part key auth subkey opens keyed shows chosen =

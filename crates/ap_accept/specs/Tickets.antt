@@ -82,8 +82,8 @@ abbrev pub part_of : List KeytabEntry → Ticket → Option EncTicketPart
 part_of keytab ticket =
     opened_with enc_ticket_part (usage_number TicketUsage) (ticket_key keytab ticket) ticket.enc_part.cipher
 
-abbrev pub ticket_of : List KeytabEntry → ApReq → Result EncTicketPart ApRefusal
-ticket_of keytab ap = decided (ticket_rules keytab ap) (part_of keytab ap.ticket) TicketNotOpened
+abbrev pub shown_ticket : List KeytabEntry → ApReq → Result EncTicketPart ApRefusal
+shown_ticket keytab ap = decided (ticket_rules keytab ap) (part_of keytab ap.ticket) TicketNotOpened
 
 -- ---- the session key
 

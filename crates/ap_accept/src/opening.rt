@@ -6,7 +6,7 @@ ghost use Rattle.ap_accept.specs.Presented.{full_name, presented, shown_in};
 use crate::authenticators::{authenticator_of, subkey_of};
 use crate::fault::ApFault;
 use crate::presented::{Presented, Shown};
-use crate::tickets::{session_key_of, ticket_of};
+use crate::tickets::{session_key_of, shown_ticket};
 use cred_files::Keytab;
 use krb_ap::ApReqRef;
 use krb_elements::{KerberosString, Seq};
@@ -22,7 +22,7 @@ pub fn open_request(
 ) -> Result<Presented, ApFault>
     ensures { Gives result (presented keytab.now request.now) }
 {
-    let ticket = ticket_of(alloc, keytab, request)?;
+    let ticket = shown_ticket(alloc, keytab, request)?;
     let service = full_name(
         alloc,
         request.ticket.realm.as_slice(),

@@ -4,7 +4,7 @@ ghost use Rattle.enctypes.specs.KeyUsage.{usage_number};
 ghost use Rattle.krb_parts.specs.EncTicketPart.{enc_ticket_part};
 ghost use Rattle.ap_accept.specs.Fault.{Gives};
 ghost use Rattle.ap_accept.specs.Tickets.{entry_for, is_other_version, lacks_service, lacks_type, opened_with};
-ghost use Rattle.ap_accept.specs.Tickets.{part_rules, session_key_of, ticket_key, ticket_of, ticket_rules};
+ghost use Rattle.ap_accept.specs.Tickets.{part_rules, session_key_of, ticket_key, shown_ticket, ticket_rules};
 
 use crate::fault::ApFault;
 use crate::refusal::ApRefusal;
@@ -22,12 +22,12 @@ use std::alloc::{AllocError, Global};
 /// What the ticket holds.
 ///
 /// Until the ticket is opened, it takes no more memory than the service's name and the ticket's cipher need.
-pub fn ticket_of(
+pub fn shown_ticket(
     alloc: Global,
     keytab: &Keytab,
     request: &ApReqRef<'_>,
 ) -> Result<EncTicketPart, ApFault>
-    ensures { Gives result (ticket_of keytab.now request.now) }
+    ensures { Gives result (shown_ticket keytab.now request.now) }
 {
     let ticket = &request.ticket;
     let service = ticket.sname.to_name(alloc)?;

@@ -18,7 +18,7 @@ use Rattle.kdc_replies.specs.declared.replies.ReplyKey.{ReplyKey}
 use Rattle.kdc_replies.specs.declared.tickets.ServiceKey.{ServiceKey}
 use Rattle.sealed_parts.specs.Encrypted.{decrypted}
 use Rattle.kdc_replies.specs.Grant.{ticket_part, reply_part}
-use Rattle.kdc_replies.specs.Reply.{reply_of, ticket_of}
+use Rattle.kdc_replies.specs.Reply.{reply_of, granted_ticket}
 
 -- the message type of an exchange's replies, and the tag of their sealed part
 abbrev pub reply_type : Exchange → ℕ
@@ -47,7 +47,7 @@ issued_reply i =
     (part_tag i.exchange) i.grant i.service_key i.reply_key i.padata i.nonce i.now i.random
 
 abbrev pub issued_ticket : Issue → Ticket
-issued_ticket i = ticket_of i.grant i.service_key i.random
+issued_ticket i = granted_ticket i.grant i.service_key i.random
 
 -- what the reply key opens, and what the service's key opens
 abbrev pub issued_part : Issue → EncKdcRepPart

@@ -25,8 +25,8 @@ abbrev pub reply_confounder : List ℕ → List ℕ
 reply_confounder random = take 16 (drop 48 random)
 
 -- Ticket (section 5.3): sealed under the service's key
-abbrev pub ticket_of : Grant → ServiceKey → List ℕ → Ticket
-ticket_of grant service random = record {
+abbrev pub granted_ticket : Grant → ServiceKey → List ℕ → Ticket
+granted_ticket grant service random = record {
   tkt_vno = pos 5;
   realm = grant.realm;
   sname = grant.service;
@@ -49,7 +49,7 @@ reply_of type tag grant service reply padata nonce now random = record {
   padata = padata;
   crealm = grant.realm;
   cname = grant.client;
-  ticket = ticket_of grant service random;
+  ticket = granted_ticket grant service random;
   enc_part = sealed_part tag grant reply nonce now random;
 }
 

@@ -5,7 +5,7 @@ ghost use Rattle.enctypes.specs.declared.key_usage.KeyUsage.TheVariants.{Ticket 
 ghost use Rattle.krb_parts.specs.EncTicketPart.{enc_ticket_part};
 ghost use Rattle.sealed_parts.specs.Encrypted.{decrypted};
 ghost use Rattle.kdc_replies.specs.Grant.{IsShort, ticket_part};
-ghost use Rattle.kdc_replies.specs.Reply.{ticket_confounder, ticket_of};
+ghost use Rattle.kdc_replies.specs.Reply.{ticket_confounder, granted_ticket};
 
 use crate::grant::{Grant, LentName, LentRealm};
 use enctypes::{Key, KeyUsage, ReadyKey};
@@ -35,7 +35,7 @@ pub fn ticket<'g, 'a>(
     random: &[u8; 64],
 ) -> Result<LentTicket<'g, 'a>, AllocError>
     requires { IsShort grant.now }
-    ensures value { IfOk result (λ ticket. ticket ≡ ticket_of grant.now service.now random.now) }
+    ensures value { IfOk result (λ ticket. ticket ≡ granted_ticket grant.now service.now random.now) }
     ensures opens { IfOk result (λ ticket.
         decrypted enc_ticket_part service.now.key (usage_number TicketUsage) ticket.enc_part
         ≡ Some (ticket_part grant.now)) }
@@ -58,7 +58,7 @@ fn sealed(
     random: &[u8; 64],
 ) -> Result<EncryptedData, AllocError>
     requires { IsShort grant.now }
-    ensures value { IfOk result (λ sealed. sealed ≡ (ticket_of grant.now service.now random.now).enc_part) }
+    ensures value { IfOk result (λ sealed. sealed ≡ (granted_ticket grant.now service.now random.now).enc_part) }
     ensures opens { IfOk result (λ sealed.
         decrypted enc_ticket_part service.now.key (usage_number TicketUsage) sealed ≡ Some (ticket_part grant.now)) }
     ensures most { IfOk result (λ sealed. length sealed.cipher ≤ 2147490100) }

@@ -39,7 +39,7 @@ use Rattle.ap_accept.specs.Authenticators.{authenticator_of, subkey_in, subkey_o
 use Rattle.ap_accept.specs.Presented.{presented, presented_as}
 use Rattle.ap_accept.specs.PresentedLaws.{all_found}
 use Rattle.ap_accept.specs.Reply.{asks_reply}
-use Rattle.ap_accept.specs.Tickets.{entry_for, opened_with, session_key_of, service_of, ticket_key, ticket_of}
+use Rattle.ap_accept.specs.Tickets.{entry_for, opened_with, session_key_of, service_of, ticket_key, shown_ticket}
 use Rattle.ap_accept.specs.Validity.{terms_of, validity_rules}
 use Rattle.ap_accept.specs.declared.presented.Presented.{Presented}
 use Rattle.ap_accept.specs.declared.refusal.ApRefusal.{ApRefusal}
@@ -152,7 +152,7 @@ module _ (issue : Issue) (state : State) (sent : Moment) (asked : ServiceAsked) 
     ticket_by asks service type version opened =
         unless_refused (first_holding ((false, BadVersion) ∷ (false, BadMessageType) ∷ (asks, SessionKeyAsked) ∷ (not service, NotForUs) ∷ (not type, NoKey) ∷ (version, BadKeyVersion) ∷ [])) opened TicketNotOpened
 
-    pub ticket_is : decrypted enc_ticket_part issue.service_key.key (usage_number TicketUsage) (issued_ticket issue).enc_part ≡ Some part → ticket_of state.keytab ap_req ≡ Ok part
+    pub ticket_is : decrypted enc_ticket_part issue.service_key.key (usage_number TicketUsage) (issued_ticket issue).enc_part ≡ Some part → shown_ticket state.keytab ap_req ≡ Ok part
     ticket_is opens =
         let found = ap (λ (k : Option Key). opened_with enc_ticket_part (usage_number TicketUsage) k (issued_ticket issue).enc_part.cipher) held ∙ opens in
         λ i. ticket_by (no_session_key asked.mutual_required i) (service_held i) (type_held i) (is_none (held i)) (found i)

@@ -11,7 +11,7 @@ use Rattle.sealed_parts.specs.Parts.{IsSpelledWithin}
 use Rattle.tgs_opening.specs.Authenticators.{authenticator_of, session_key_of, subkey_of}
 use Rattle.tgs_opening.specs.Opening.{presented}
 use Rattle.tgs_opening.specs.PartLaws.{AreFew, few_data}
-use Rattle.tgs_opening.specs.Tickets.{ap_req_in, ap_req_of, request_rules, tgs_data, ticket_of}
+use Rattle.tgs_opening.specs.Tickets.{ap_req_in, ap_req_of, request_rules, tgs_data, shown_ticket}
 use Rattle.tgs_opening.specs.View.{TicketView}
 use Rattle.tgs_opening.specs.declared.refusal.TgsRefusal.{TgsRefusal}
 use Rattle.tgs_opening.specs.declared.refusal.TgsRefusal.TheVariants.{MalformedApReq}
@@ -41,7 +41,7 @@ few_presented message ap part read few short within =
 -- what the last stage refuses is refused
 pub refused_last : (v : TicketView) (message : Received) (ap_req : ApReq) (part : EncTicketPart) (key : Key)
     (auth : Authenticator) (body : List ℕ) (refusal : TgsRefusal)
-    → ap_req_of message ≡ Ok ap_req → ticket_of v message.body.value ap_req ≡ Ok part → session_key_of v part ≡ Ok key
+    → ap_req_of message ≡ Ok ap_req → shown_ticket v message.body.value ap_req ≡ Ok part → session_key_of v part ≡ Ok key
     → authenticator_of key ap_req.authenticator ≡ Ok auth → body ≡ message.body.octets
     → subkey_of part key body auth ≡ Err refusal → presented v message ≡ Err refusal
 refused_last v message ap_req part key auth body refusal read opens keys shows same refuses =

@@ -7,7 +7,7 @@ use Rattle.krb_parts.specs.EncTicketPart.{EncTicketPart}
 use Rattle.krb_types.specs.KdcReq.{Received}
 use Rattle.refusals.specs.Stages.{◌>>=◌}
 use Rattle.tgs_opening.specs.Authenticators.{session_key_of, authenticator_of, subkey_of}
-use Rattle.tgs_opening.specs.Tickets.{ap_req_of, ticket_of}
+use Rattle.tgs_opening.specs.Tickets.{ap_req_of, shown_ticket}
 use Rattle.tgs_opening.specs.View.{TicketView}
 use Rattle.tgs_opening.specs.declared.presented.Presented.{Presented}
 use Rattle.tgs_opening.specs.declared.refusal.TgsRefusal.{TgsRefusal}
@@ -21,7 +21,7 @@ pub record OpenedTicket : Type 0 where
 abbrev pub opened_ticket : TicketView → Received → Result OpenedTicket TgsRefusal
 opened_ticket v message = do
   ap ← ap_req_of message
-  part ← ticket_of v message.body.value ap
+  part ← shown_ticket v message.body.value ap
   Ok (record { request = ap; part = part })
 
 abbrev pub presented_as : OpenedTicket → Key → Authenticator → Option Key → Presented

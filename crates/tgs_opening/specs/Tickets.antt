@@ -148,5 +148,5 @@ part_of v body ticket =
     (ticket_key (holder v body ticket) ticket.enc_part) ticket.enc_part.cipher
 
 -- a ticket that is not opened is the last reason (section 3.2.3)
-abbrev pub ticket_of : TicketView → ReqBody → ApReq → Result EncTicketPart TgsRefusal
-ticket_of v body ap = decided (ticket_rules v body ap) (part_of v body ap.ticket) TicketNotOpened
+abbrev pub shown_ticket : TicketView → ReqBody → ApReq → Result EncTicketPart TgsRefusal
+shown_ticket v body ap = decided (ticket_rules v body ap) (part_of v body ap.ticket) TicketNotOpened

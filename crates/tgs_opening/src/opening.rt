@@ -9,7 +9,7 @@ ghost use Rattle.tgs_opening.specs.Tickets.{tgs_data};
 use crate::authenticators::{authenticator_of, session_key_of, subkey_of};
 use crate::fault::TgsFault;
 use crate::presented::Presented;
-use crate::tickets::{ap_req_of, ticket_of};
+use crate::tickets::{ap_req_of, shown_ticket};
 use crate::view::TicketView;
 use krb_types::KdcReqRef;
 use std::alloc::Global;
@@ -29,7 +29,7 @@ pub fn tgs_open(
         IfSome presented.ticket.authorization_data (λ list. length ((list_of typed).text list) < 2147483648)) }
 {
     let ap = ap_req_of(request)?;
-    let ticket = ticket_of(alloc, view, &request.body.value, &ap)?;
+    let ticket = shown_ticket(alloc, view, &request.body.value, &ap)?;
     let session_key = session_key_of(view, &ticket)?;
     let authenticator = authenticator_of(alloc, &session_key, &ap.authenticator)?;
     let body = body_octets(request);

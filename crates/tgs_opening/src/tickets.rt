@@ -10,7 +10,7 @@ ghost use Rattle.tgs_opening.specs.Fault.{Gives};
 ghost use Rattle.tgs_opening.specs.Tickets.{addressee, ap_req_in, ap_req_of, holder, holds_type, is_for_asked};
 ghost use Rattle.tgs_opening.specs.Tickets.{is_named, is_other};
 ghost use Rattle.tgs_opening.specs.Tickets.{lacks_key, opened_with, request_rules, row_of, tgs_data, ticket_key};
-ghost use Rattle.tgs_opening.specs.Tickets.{ticket_of, ticket_rules};
+ghost use Rattle.tgs_opening.specs.Tickets.{shown_ticket, ticket_rules};
 
 use crate::fault::TgsFault;
 use crate::refusal::TgsRefusal;
@@ -75,13 +75,13 @@ fn ap_req_in(value: Option<OctetsRef<'_>>) -> Option<ApReqRef<'_>>
 }
 
 /// What the presented ticket holds.
-pub fn ticket_of(
+pub fn shown_ticket(
     alloc: Global,
     view: &TicketView<'_>,
     body: &ReqBodyRef<'_>,
     ap: &ApReqRef<'_>,
 ) -> Result<EncTicketPart, TgsFault>
-    ensures value { Gives result (ticket_of view.now body.now ap.now) }
+    ensures value { Gives result (shown_ticket view.now body.now ap.now) }
     ensures within { IfOk result (λ part. IsSpelledWithin enc_ticket_part part ap.now.ticket.enc_part.cipher) }
 {
     let whom = addressee_of(alloc, view.realm, body, &ap.ticket.sname)?;

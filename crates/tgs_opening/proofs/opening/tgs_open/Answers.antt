@@ -4,7 +4,7 @@ use Rattle.std.proofs.lemmas.Result.{err_from_is_err_and}
 use Rattle.krb_parts.specs.EncTicketPart.{enc_ticket_part}
 use Rattle.sealed_parts.specs.Parts.{IsSpelledWithin}
 use Rattle.tgs_opening.specs.Authenticators.{authenticator_of, session_key_of, subkey_of}
-use Rattle.tgs_opening.specs.Tickets.{ap_req_of, tgs_data, ticket_of}
+use Rattle.tgs_opening.specs.Tickets.{ap_req_of, tgs_data, shown_ticket}
 use Rattle.tgs_opening.proofs.Presenting.{few_presented, refused_last}
 use Rattle.tgs_opening.proofs.opening.tgs_open.Goals as goal
 
@@ -16,7 +16,7 @@ returns-in_err-subkey-clause-value c =
     let auth = c.in_ok-authenticator.authenticator in
     let octets = c.body_octets-body.result.now in
     let read : ap_req_of c.args.request.now ≡ Ok c.in_ok-ap.ap = search rules in
-    let opens : ticket_of c.args.view.now c.args.request.now.body.value c.in_ok-ap.ap ≡ Ok c.in_ok-ticket.ticket = search rules in
+    let opens : shown_ticket c.args.view.now c.args.request.now.body.value c.in_ok-ap.ap ≡ Ok c.in_ok-ticket.ticket = search rules in
     let keys : session_key_of c.args.view.now c.in_ok-ticket.ticket ≡ Ok c.in_ok-session_key.session_key = search rules in
     let shows : authenticator_of c.in_ok-session_key.session_key c.in_ok-ap.ap.authenticator ≡ Ok c.in_ok-authenticator.authenticator = search rules in
     let same : c.body_octets-body.result.now ≡ c.args.request.now.body.octets = search rules in
