@@ -16,12 +16,15 @@ use std::{env, io};
 const USAGE: u8 = 2;
 
 fn main(rt: HostRuntime) -> ExitCode {
-    let Ok(status) = run(&rt) else {
-        // A failed write may be why, so this one may fail as well.
-        let _ = println!(rt; "failed");
-        return ExitCode::from(FAILED);
-    };
-    ExitCode::from(status)
+    match run(&rt) {
+        Ok(status) => ExitCode::from(status),
+        Err(error) => {
+            // A failed write may be why, so these may fail as well.
+            let _ = println!(rt; "failed");
+            let _ = eprintln!(rt; "kdcd: {error}");
+            ExitCode::from(FAILED)
+        }
+    }
 }
 
 /// The status of the program; an error is a failed write, or want of memory.

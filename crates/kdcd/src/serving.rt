@@ -3,13 +3,14 @@ use kdc_core::{Kdc, Opening};
 use kdc_hub::Hub;
 use kdc_serving::serve_life;
 use kdc_wire::{BindFault, SocketWire, now};
-use kdcd_start::{FileFault, RequestLines, RowsFile, ServeOptions, Started, read_whole, seed_of};
+use kdcd_start::{FileFault, RequestLines, RowsFile, ServeOptions, Started, read_at_most, seed_of};
 use observed_wire::Observed;
 use rand_chacha::ChaCha20Rng;
 use rand_core::SeedableRng;
+use ready_writer::ReadyWriter;
 use std::alloc::AllocError;
 use std::fs::File;
-use std::io::Stderr;
+use std::io::{Stderr, Write};
 use std::random::RandomSource;
 use std::time::Duration;
 use std::{fmt, io};
@@ -29,6 +30,9 @@ const ENDLESS: u64 = u64::MAX;
 /// How many milliseconds a round waits where nothing comes.
 const WAIT: u64 = 100;
 
+/// The most octets of the file of a seed, of which the first 32 count.
+const LONGEST_SEED: usize = 16_777_216;
+
 /// Why a server did not start.
 #[derive(Debug, Drop)]
 enum StartFault<'a> {
@@ -36,6 +40,8 @@ enum StartFault<'a> {
     File(&'a str, FileFault),
     /// The system's source of random octets.
     Random(io::Error),
+    /// Standard error.
+    Errors(io::Error),
     Clock(io::Error),
     Sockets(BindFault),
     Memory,
@@ -46,6 +52,7 @@ impl fmt::Display for StartFault<'_> {
         match self {
             StartFault::File(path, fault) => write!(f, "{path}: {fault}"),
             StartFault::Random(error) => write!(f, "random octets: {error}"),
+            StartFault::Errors(error) => write!(f, "standard error: {error}"),
             StartFault::Clock(error) => write!(f, "the clock: {error}"),
             StartFault::Sockets(fault) => write!(f, "{fault}"),
             StartFault::Memory => f.write_str("out of memory"),
@@ -69,8 +76,11 @@ impl StartFault<'_> {
     }
 }
 
+/// Standard error, whose reader may stop reading while the server goes on.
+type Errors = ReadyWriter<Stderr>;
+
 /// The sockets, and the log of what comes and goes through them.
-type ServerWire = Observed<SocketWire<HostRuntime>, RequestLines<Stderr>>;
+type ServerWire = Observed<SocketWire<HostRuntime>, RequestLines<Errors>>;
 
 /// A server that listens.
 #[derive(Drop)]
@@ -80,7 +90,7 @@ struct Server<'a> {
     /// How many rows it starts with.
     row_count: usize,
     /// Where its rows come from, unless they are fixed.
-    rows: Option<RowsFile<'a, HostRuntime, Stderr>>,
+    rows: Option<RowsFile<'a, HostRuntime, Errors>>,
 }
 
 /// Serves as the options say, and gives the status. An error is a failed write.
@@ -125,18 +135,22 @@ fn say_start(rt: &HostRuntime, server: &Server<'_>, options: &ServeOptions<'_>) 
         rows: server.row_count,
         limits: options.limits,
     };
-    // If that fails, there is nobody to be told.
-    let _ = eprint!(rt; "{started}");
+    say(rt, &started);
     Ok(())
 }
 
 /// Says how many lines of the log were lost, if any.
 fn say_lost(rt: &HostRuntime, wire: &ServerWire) {
-    if let Some(log) = wire.observer() {
-        let lost = log.lost();
-        if lost > 0 {
-            let _ = eprintln!(rt; "kdcd: log: {lost} lines are lost");
-        }
+    let lost = wire.observer().map_or(0, |log| log.lost());
+    if lost > 0 {
+        say(rt, &format_args!("kdcd: log: {lost} lines are lost\n"));
+    }
+}
+
+/// Writes a text to standard error. If that fails, there is nobody to be told.
+fn say(rt: &HostRuntime, text: &impl fmt::Display) {
+    if let Ok(mut errors) = errors_of(rt) {
+        let _ = write!(errors, "{text}");
     }
 }
 
@@ -160,9 +174,10 @@ fn start<'a>(
     rt: &'a HostRuntime,
     options: &ServeOptions<'a>,
 ) -> Result<Server<'a>, StartFault<'a>> {
-    let rows = RowsFile::new(rt, options.db, rt.stderr());
+    let rows = RowsFile::new(rt, options.db, errors_of(rt)?);
+    let log = open_log(rt, options)?;
     let (hub, row_count) = open_hub(rt, options, &rows)?;
-    match open_wire(rt, options) {
+    match open_wire(rt, options, log) {
         Ok(wire) => Ok(Server {
             hub,
             wire,
@@ -173,7 +188,30 @@ fn start<'a>(
     }
 }
 
-fn open_wire(rt: &HostRuntime, options: &ServeOptions<'_>) -> Result<ServerWire, BindFault> {
+fn errors_of<'a>(rt: &HostRuntime) -> Result<Errors, StartFault<'a>> {
+    match ReadyWriter::new(rt.alloc(), rt, rt.stderr()) {
+        Ok(errors) => Ok(errors),
+        Err(error) => Err(StartFault::Errors(error)),
+    }
+}
+
+/// The log of requests, if the options ask for one.
+fn open_log<'a>(
+    rt: &HostRuntime,
+    options: &ServeOptions<'_>,
+) -> Result<Option<RequestLines<Errors>>, StartFault<'a>> {
+    if !options.logs {
+        return Ok(None);
+    }
+    let lines = RequestLines::new(errors_of(rt)?, options.limits.greatest_life);
+    Ok(Some(lines))
+}
+
+fn open_wire(
+    rt: &HostRuntime,
+    options: &ServeOptions<'_>,
+    log: Option<RequestLines<Errors>>,
+) -> Result<ServerWire, BindFault> {
     let wait = Duration::from_millis(WAIT);
     let sockets = SocketWire::bind(
         rt.alloc(),
@@ -183,8 +221,6 @@ fn open_wire(rt: &HostRuntime, options: &ServeOptions<'_>) -> Result<ServerWire,
         &options.tcp,
         wait,
     )?;
-    let lines = RequestLines::new(rt.stderr(), options.limits.greatest_life);
-    let log = options.logs.then_some(lines);
     Ok(Observed::new(rt.alloc(), sockets, log))
 }
 
@@ -192,7 +228,7 @@ fn open_wire(rt: &HostRuntime, options: &ServeOptions<'_>) -> Result<ServerWire,
 fn open_hub<'a>(
     rt: &HostRuntime,
     options: &ServeOptions<'a>,
-    rows: &RowsFile<'_, HostRuntime, Stderr>,
+    rows: &RowsFile<'_, HostRuntime, Errors>,
 ) -> Result<(Hub<ChaCha20Rng>, usize), StartFault<'a>> {
     let database = match rows.read(rt.alloc()) {
         Ok(database) => database,
@@ -225,7 +261,7 @@ fn system_seed<'a>(rt: &HostRuntime) -> Result<[u8; 32], StartFault<'a>> {
 }
 
 fn read_seed(rt: &HostRuntime, path: &str) -> Result<[u8; 32], FileFault> {
-    let octets = read_whole(rt.alloc(), File::open(rt, path)?)?;
+    let octets = read_at_most(rt.alloc(), File::open(rt, path)?, LONGEST_SEED)?;
     seed_of(&octets)
 }
 

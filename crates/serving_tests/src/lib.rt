@@ -4,6 +4,8 @@
 #![tactic(auto)]
 
 #[cfg(test)]
+mod code_words;
+#[cfg(test)]
 mod lines;
 #[cfg(test)]
 mod lives;
@@ -15,3 +17,5 @@ mod octets;
 mod rows_files;
 #[cfg(test)]
 mod starts;
+#[cfg(test)]
+mod unread_lines;

@@ -1,0 +1,87 @@
+//! A stream of lines that keeps nobody waiting.
+ghost use Rattle.std.specs.Prelude.{◌≤◌, IfOk, length};
+ghost use Rattle.std.specs.Io.{WritesAtMost};
+
+use crate::readiness::Readiness;
+use std::alloc::Global;
+use std::io;
+use std::io::{ErrorKind, Write};
+use std::net::Net;
+use std::os::fd::AsFd;
+
+/// What stands at the end of what was written.
+#[derive(Clone, Copy, Debug, PartialEq, Eq)]
+enum LineState {
+    /// The end of a line, or nothing.
+    Ended,
+    Begun,
+    /// The beginning of a line, of which the rest was refused.
+    Cut,
+}
+
+/// A stream that is written to only where it takes octets at once. Else a write is the error `WouldBlock`, and the line
+/// is lost. Where the beginning of that line was written before, the next one starts on a line of its own.
+#[derive(Drop)]
+pub struct ReadyWriter<W> {
+    stream: W,
+    /// None of a stream that takes all at once.
+    readiness: Option<Readiness>,
+    line: LineState,
+}
+
+impl<W: Write + AsFd + Drop> ReadyWriter<W> {
+    /// A stream to which nothing has been written. An error is that the system has no poll left, or want of memory.
+    pub fn new(alloc: Global, net: &impl Net, stream: W) -> io::Result<ReadyWriter<W>> {
+        let readiness = Readiness::of(alloc, net, &stream)?;
+        Ok(ReadyWriter {
+            stream,
+            readiness,
+            line: LineState::Ended,
+        })
+    }
+}
+
+impl<W: Write> ReadyWriter<W> {
+    /// Writes what the stream takes of these octets at once.
+    fn write_now(&mut self, octets: &[u8]) -> io::Result<usize>
+        ensures bound { WritesAtMost result octets.now }
+    {
+        let piece = self.piece_of(octets)?;
+        let written = self.stream.write(piece)?;
+        self.line = match piece.get(..written).and_then(|written| written.last()) {
+            Some(b'\n') => LineState::Ended,
+            Some(_) => LineState::Begun,
+            None => self.line,
+        };
+        Ok(written)
+    }
+
+    /// The first of these octets, as many as one write may take.
+    fn piece_of<'a>(&mut self, octets: &'a [u8]) -> io::Result<&'a [u8]>
+        ensures short { IfOk result (λ piece. length piece.now ≤ length octets.now) }
+    {
+        let Some(readiness) = &mut self.readiness else {
+            return Ok(octets);
+        };
+        if readiness.is_ready()? {
+            return Ok(readiness.piece_of(octets));
+        }
+        if self.line == LineState::Begun {
+            self.line = LineState::Cut;
+        }
+        Err(io::Error::from(ErrorKind::WouldBlock))
+    }
+}
+
+impl<W: Write> Write for ReadyWriter<W> {
+    fn write(&mut self, octets: &[u8]) -> io::Result<usize> {
+        if self.line == LineState::Cut {
+            self.write_now(b"\n")?;
+        }
+        self.write_now(octets)
+    }
+
+    fn flush(&mut self) -> io::Result<()> {
+        self.stream.flush()
+    }
+}

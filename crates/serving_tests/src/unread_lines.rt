@@ -1,0 +1,135 @@
+//! A log that nobody reads (`ready_writer`, `kdcd_start`): over a pipe, which is full at last, over one whose reader is
+//! gone, and over a file, which takes all.
+use kdcd_start::RequestLines;
+use krb_fields::Moment;
+use ready_writer::ReadyWriter;
+use request_log::{Asker, Observer, Transport};
+use std::alloc::{AllocError, Global};
+use std::fs::File;
+use std::io::{ErrorKind, PipeReader, PipeWriter, Read, Write};
+use std::test::Fail;
+use std::{fs, io};
+
+/// Who sends octets that are no request.
+const PEER: &str = "[2001:db8:1111:2222:3333:4444:5555:6666]:65535";
+
+/// Their line, of 77 octets.
+const LINE: &str = "2024-01-01T00:00:00Z [2001:db8:1111:2222:3333:4444:5555:6666]:65535 udp none\n";
+
+/// More of these lines than a pipe holds, which is 65,536 octets.
+const MANY: u64 = 1_000;
+
+/// Has a log tell of so many requests, and gives how many lines it lost.
+fn lost_of_many<W: Write + Drop>(alloc: Global, lines: W) -> Result<u64, Fail> {
+    let asker = Asker {
+        transport: Transport::Udp,
+        peer: Some(PEER.parse()?),
+    };
+    let now = Moment::new(1_704_067_200, 0).ok_or("a moment")?;
+    let mut log = RequestLines::new(lines, 86_400);
+    for _ in 0..MANY {
+        log.answered(alloc, asker, now, &[], None);
+    }
+    Ok(log.lost())
+}
+
+/// How many of the lines are as wanted; none where one is not.
+fn count_lines(text: &str, wanted: &str) -> Option<u64> {
+    let mut count = 0u64;
+    for line in text.split_inclusive('\n') {
+        if line != wanted {
+            return None;
+        }
+        count = count.saturating_add(1);
+    }
+    Some(count)
+}
+
+/// All that is left in a pipe that nobody writes to any more.
+fn rest_of(alloc: Global, reader: PipeReader) -> io::Result<String> {
+    let mut reader = reader;
+    let mut text = String::new(alloc);
+    reader.read_to_string(&mut text)?;
+    Ok(text)
+}
+
+#[test]
+fn a_pipe_that_nobody_reads_keeps_no_request_waiting(rt: HostRuntime) -> Result<(), Fail> {
+    let alloc = rt.alloc();
+    let (reader, writer) = io::pipe(&rt)?;
+    let lost = lost_of_many(alloc, ReadyWriter::new(alloc, &rt, writer)?)?;
+    let text = rest_of(alloc, reader)?;
+    assert!(rt; lost > 0 && lost < MANY);
+    assert_eq!(rt; count_lines(&text, LINE), Some(MANY - lost));
+    Ok(())
+}
+
+#[test]
+fn a_pipe_whose_reader_is_gone_loses_all_lines(rt: HostRuntime) -> Result<(), Fail> {
+    let alloc = rt.alloc();
+    let (reader, writer) = io::pipe(&rt)?;
+    drop(reader);
+    let lost = lost_of_many(alloc, ReadyWriter::new(alloc, &rt, writer)?)?;
+    assert_eq!(rt; lost, MANY);
+    Ok(())
+}
+
+#[test]
+fn a_file_takes_all_lines(rt: HostRuntime) -> Result<(), Fail> {
+    let alloc = rt.alloc();
+    let path = "unread_lines.log";
+    let lost = lost_of_many(
+        alloc,
+        ReadyWriter::new(alloc, &rt, File::create(&rt, path)?)?,
+    )?;
+    let text = fs::read_to_string(&rt, path)?;
+    fs::remove_file(&rt, path)?;
+    assert_eq!(rt; lost, 0);
+    assert_eq!(rt; count_lines(&text, LINE), Some(MANY));
+    Ok(())
+}
+
+/// A line that takes three writes.
+fn long_line(alloc: Global) -> Result<String, AllocError> {
+    format!(in alloc; "{}\n", "x".repeat(alloc, 639)?)
+}
+
+/// Writes the line until it is refused, and gives how many were written whole.
+fn fill(lines: &mut ReadyWriter<PipeWriter>, line: &str) -> Result<u64, Fail> {
+    for count in 0..MANY {
+        if let Err(error) = lines.write_all(line.as_bytes()) {
+            return match error.kind() {
+                ErrorKind::WouldBlock => Ok(count),
+                _ => Err("another error")?,
+            };
+        }
+    }
+    Err("no end")?
+}
+
+#[test]
+fn what_comes_behind_a_line_that_was_cut_has_a_line_of_its_own(
+    rt: HostRuntime,
+) -> Result<(), Fail> {
+    let alloc = rt.alloc();
+    let (mut reader, writer) = io::pipe(&rt)?;
+    let mut lines = ReadyWriter::new(alloc, &rt, writer)?;
+    let line = long_line(alloc)?;
+    let whole = fill(&mut lines, &line)?;
+    let mut first = [0; 65_536];
+    let count = reader.read(&mut first)?;
+    lines.write_all(b"next\n")?;
+    drop(lines);
+    let behind = rest_of(alloc, reader)?;
+    let text = String::from_utf8_lossy(alloc, first.get(..count).unwrap_or(&[]))?;
+    assert_eq!(rt;
+        behind.as_str(),
+        if text.ends_with('\n') {
+            "next\n"
+        } else {
+            "\nnext\n"
+        }
+    );
+    assert!(rt; text.starts_with(&line.repeat(alloc, whole as usize)?));
+    Ok(())
+}
