@@ -79,7 +79,8 @@ impl Asked {
         Ok(())
     }
 
-    /// Adds the requests that a piece completes: each has a length in front, and one of them may have begun before.
+    /// Adds the requests that a piece completes: each has a length in front, and one of them may have begun before. A
+    /// length at fault is a request of no octets, since it is answered.
     fn cut(&mut self, alloc: Global, conn: u64, piece: &[u8]) -> Result<(), AllocError> {
         let Some(stream) = self.streams.get_mut(&conn) else {
             return Ok(());
@@ -89,8 +90,11 @@ impl Asked {
             match stream.next(alloc) {
                 Ok(Some(request)) => self.requests.push_back(Octets::new(request))?,
                 Err(FrameFault::Memory) => return Err(AllocError),
-                // After a length at fault nothing follows.
-                Ok(None) | Err(_) => return Ok(()),
+                Ok(None) => return Ok(()),
+                Err(_) => {
+                    self.requests.push_back(Octets::new(Vec::new(alloc)))?;
+                    return Ok(());
+                }
             }
         }
         Ok(())

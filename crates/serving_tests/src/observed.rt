@@ -82,7 +82,7 @@ const DEEDS: &[Deed] = &[
     Deed::Write(b"tenth"),
     Deed::Closed,
     Deed::Piece(b"\0\0\0\x06eleven"),
-    // A length at fault is no request.
+    // A length at fault is answered, and told as a request of no octets.
     Deed::Opened,
     Deed::Piece(b"\xff\xff\xff\xff"),
     Deed::Write(b"too long"),
@@ -90,7 +90,8 @@ const DEEDS: &[Deed] = &[
 ];
 
 const TOLD: &str =
-    "udp one=first;tcp two=second;tcp three=third;udp four=-;tcp five=fifth;tcp six=-;tcp seven=-;tcp ten=tenth;";
+    "udp one=first;tcp two=second;tcp three=third;udp four=-;tcp five=fifth;tcp six=-;tcp seven=-;tcp ten=tenth;\
+    tcp =too long;";
 
 fn event_of(alloc: Global, deed: Deed) -> Result<Option<Event>, Fail> {
     let peer = SocketAddr::from((Ipv4Addr::LOCALHOST, 1001));
