@@ -11,8 +11,11 @@ use std::time::CpuClock;
 const ROWS: u32 = 30_000;
 
 /// What every row is but for its name: two keys, and the policy of a new principal.
-const ROW: &str =
-    r#"{"disabled":false,"expires":null,"forwardable":true,"greatest_life":4294967295,"greatest_renewable":4294967295,"keys":[{"keys":[{"etype":18,"key":"000102030405060708090a0b0c0d0e0f101112131415161718191a1b1c1d1e1f"},{"etype":17,"key":"000102030405060708090a0b0c0d0e0f"}],"version":1}],"ok_as_delegate":false,"password_expires":null,"postdate":false,"preauth":true,"proxiable":true,"revoked_before":null}"#;
+const ROW: &str = r#"{"disabled":false,"expires":null,"forwardable":true,"greatest_life":4294967295,
+        "greatest_renewable":4294967295,"keys":[{"keys":[{"etype":18,
+        "key":"000102030405060708090a0b0c0d0e0f101112131415161718191a1b1c1d1e1f"},{"etype":17,
+        "key":"000102030405060708090a0b0c0d0e0f"}],"version":1}],"ok_as_delegate":false,"password_expires":null,
+        "postdate":false,"preauth":true,"proxiable":true,"revoked_before":null}"#;
 
 /// The text of a database of `A.B` with so many principals.
 pub fn text_of_rows(alloc: Global, rows: u32) -> Result<String, AllocError> {

@@ -21,6 +21,7 @@ const LINES: &[(&str, Option<&str>)] = &[
     ),
     ("--udp 127.0.0.1:88 --rounds 4294967296", Some("--rounds")),
     ("--udp 127.0.0.1:88 --rounds +7", Some("--rounds")),
+    ("--udp 127.0.0.1:88 --rounds -7", Some("--rounds")),
     ("--udp 127.0.0.1:88 --rounds many", Some("--rounds")),
     ("--tcp [::1]:88 --seed s --fixed --log", None),
     ("--udp 127.0.0.1 --tcp [::1]:88", Some("--udp")),
@@ -47,6 +48,7 @@ const LINES: &[(&str, Option<&str>)] = &[
         Some("--remembered"),
     ),
     ("--udp 127.0.0.1:88 --remembered x", Some("--remembered")),
+    ("--udp 127.0.0.1:88 --remembered -1", Some("--remembered")),
     (
         "--udp 127.0.0.1:88 --lock-after 0 --lock-seconds 0 --greatest-life 0 --greatest-renewable 0",
         None,
@@ -177,7 +179,10 @@ fn a_server_says_what_it_serves(rt: HostRuntime) -> Result<(), Fail> {
 
 /// A row of version 2 with a key of type 17.
 const DATABASE: &str =
-    r#"{"principals":{"krbtgt/A.B":{"disabled":false,"expires":null,"forwardable":true,"greatest_life":4294967295,"greatest_renewable":4294967295,"keys":[{"keys":[{"etype":17,"key":"000102030405060708090a0b0c0d0e0f"}],"version":1}],"ok_as_delegate":false,"password_expires":null,"postdate":false,"preauth":true,"proxiable":true,"revoked_before":null}},"realm":"A.B","version":2}"#;
+    r#"{"principals":{"krbtgt/A.B":{"disabled":false,"expires":null,"forwardable":true,"greatest_life":4294967295,
+        "greatest_renewable":4294967295,"keys":[{"keys":[{"etype":17,"key":"000102030405060708090a0b0c0d0e0f"}],
+        "version":1}],"ok_as_delegate":false,"password_expires":null,"postdate":false,"preauth":true,"proxiable":true,
+        "revoked_before":null}},"realm":"A.B","version":2}"#;
 
 /// The word for what stands in a file of a database, if it is refused.
 fn refusal_of(alloc: Global, octets: &[u8]) -> Option<&'static str> {
