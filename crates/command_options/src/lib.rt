@@ -108,6 +108,8 @@ fn option<'a>(alloc: Global, words: &OptionWords) -> Arg<'a> {
         .value_name(words.shape)
         .action(words.times.action())
         .required(words.times.is_needed())
+        // So that what reads the value names the option where it is none.
+        .allow_negative_numbers(true)
         .help(words.help);
     if words.shape == FILE {
         option.value_parser(ValueParser::NonEmptyString)

@@ -86,6 +86,8 @@ true or false; a second since 1970, a date (2027-01-01, 2027-01-01T12:00:00Z) or
 
 const NO_VERSION: &str = "--version takes a number, 0 to 4294967295";
 
+const NO_KEYTAB: &str = "--out takes another file than --db: try 'kadm keytab --help'";
+
 const NO_SETTING: &str = "\
 --field takes the name of a field, and --value a value of that field: try 'kadm policy --help'";
 
@@ -128,6 +130,7 @@ pub(crate) fn read_order<'a>(
 fn bad_value(sub: &str) -> &'static str {
     match sub {
         "drop" => NO_VERSION,
+        "keytab" => NO_KEYTAB,
         "policy" => NO_SETTING,
         _ => NO_COMMAND,
     }
@@ -141,7 +144,7 @@ fn read_key_types(alloc: Global, words: &ArgMatches<'_>) -> Result<Vec<Etype>, E
     }
 }
 
-/// The path of the database and what is to be done; `None` where a number, or a setting, is none.
+/// The path of the database and what is to be done; `None` where a number, a setting, or the path of a keytab, is none.
 fn task_of<'a>(sub: &str, words: &ArgMatches<'a>) -> Option<(&'a str, Task<'a>)> {
     let db = words.get_str("db")?;
     let task = match words.get_str("name") {
@@ -157,7 +160,7 @@ fn task_on<'a>(sub: &str, name: &'a str, words: &ArgMatches<'a>) -> Option<Task<
         "show" => Task::Show { name },
         "keytab" => Task::Keytab {
             name,
-            out: words.get_str("out")?,
+            out: keytab_path(words)?,
             append: words.get_flag(APPEND),
         },
         _ => Task::Change {
@@ -165,6 +168,15 @@ fn task_on<'a>(sub: &str, name: &'a str, words: &ArgMatches<'a>) -> Option<Task<
             how: change_words(sub, words)?,
         },
     })
+}
+
+/// The path of a keytab; `None` where it is that of the database, which it would replace.
+fn keytab_path<'a>(words: &ArgMatches<'a>) -> Option<&'a str> {
+    let out = words.get_str("out")?;
+    if out == words.get_str("db")? {
+        return None;
+    }
+    Some(out)
 }
 
 fn change_words<'a>(sub: &str, words: &ArgMatches<'a>) -> Option<ChangeWords<'a>> {

@@ -125,6 +125,8 @@ const FAULTS: &[Step] = &[
     IsAtFault("kadm make --db db", "make"),
     IsAtFault("kadm show --db db", "--name"),
     IsAtFault("kadm drop --db db --name h --version +1", "--version"),
+    IsAtFault("kadm drop --db db --name h --version -1", "--version"),
+    IsAtFault("kadm keytab --db db --name h --out db", "--out"),
     IsAtFault(
         "kadm drop --db db --name h --version 4294967296",
         "--version",

@@ -140,7 +140,8 @@ const SERVE: SubcommandWords = SubcommandWords {
     flags: &[
         FlagWords {
             name: "first",
-            help: "No request was ever answered with this database; else TGS-REQs are refused as skewed for 301 seconds",
+            help: "\
+                No request was ever answered with this database; else TGS-REQs are refused as skewed for 301 seconds",
         },
         FlagWords {
             name: "fixed",
