@@ -3,6 +3,11 @@ use std::io::{Error, ErrorKind, Result};
 use std::rt::Clock;
 use std::time::{Duration, Instant};
 
+/// That nothing came in time.
+pub(crate) fn no_reply() -> Error {
+    Error::new(ErrorKind::TimedOut, "no reply in time")
+}
+
 /// A time at which waiting ends.
 #[derive(Clone, Copy)]
 pub(crate) struct Deadline {
@@ -33,7 +38,7 @@ impl Deadline {
         let gone = Instant::now(clock)?.saturating_duration_since(self.begun);
         match self.wait.checked_sub(gone) {
             Some(left) if !left.is_zero() => Ok(left),
-            _ => Err(Error::from(ErrorKind::TimedOut)),
+            _ => Err(no_reply()),
         }
     }
 }

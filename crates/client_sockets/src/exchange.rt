@@ -1,7 +1,7 @@
 //! Messages over sockets (RFC 4120, section 7.2).
 ghost use Rattle.std.specs.Prelude.{◌≡◌};
 
-use crate::deadline::Deadline;
+use crate::deadline::{Deadline, no_reply};
 use crate::stream::TimedStream;
 use file_store::counted;
 use kclient_run::{Exchange, Transport};
@@ -120,7 +120,7 @@ fn by_datagrams<R: Net + Clock>(
             Err(error) => return Err(error),
         }
     }
-    Err(Error::from(ErrorKind::TimedOut))
+    Err(no_reply())
 }
 
 /// Any address of this computer of the same kind.

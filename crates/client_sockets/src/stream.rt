@@ -1,9 +1,9 @@
 //! A connection that is given up at its deadline, however its peer sends.
 ghost use Rattle.std.specs.Io.{ReadsAtMost, WritesAtMost};
 
-use crate::deadline::Deadline;
+use crate::deadline::{Deadline, no_reply};
 use std::io;
-use std::io::{Read, Write};
+use std::io::{ErrorKind, Read, Write};
 use std::net::OpenStream;
 use std::rt::Clock;
 
@@ -29,7 +29,10 @@ impl<'a, S: Read + OpenStream, C: Clock> Read for TimedStream<'a, S, C> {
     fn read(&mut self, buf: &mut [u8]) -> io::Result<usize> {
         let left = self.deadline.left(self.clock)?;
         self.stream.set_read_timeout(Some(left))?;
-        self.stream.read(buf)
+        match self.stream.read(buf) {
+            Err(error) if error.kind() == ErrorKind::WouldBlock => Err(no_reply()),
+            done => done,
+        }
     }
 }
 
@@ -37,7 +40,10 @@ impl<'a, S: Write + OpenStream, C: Clock> Write for TimedStream<'a, S, C> {
     fn write(&mut self, buf: &[u8]) -> io::Result<usize> {
         let left = self.deadline.left(self.clock)?;
         self.stream.set_write_timeout(Some(left))?;
-        self.stream.write(buf)
+        match self.stream.write(buf) {
+            Err(error) if error.kind() == ErrorKind::WouldBlock => Err(no_reply()),
+            done => done,
+        }
     }
 
     fn flush(&mut self) -> io::Result<()> {
