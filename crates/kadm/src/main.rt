@@ -7,10 +7,18 @@ use std::process::ExitCode;
 use std::{env, io};
 
 fn main(rt: HostRuntime) -> ExitCode {
-    ExitCode::from(run(&rt).unwrap_or(FAILED))
+    match run(&rt) {
+        Ok(status) => ExitCode::from(status),
+        Err(error) => {
+            // where these can't be written there is no one to tell
+            let _ = println!(rt; "failed");
+            let _ = eprintln!(rt; "kadm: the words of the command line: {error}");
+            ExitCode::from(FAILED)
+        }
+    }
 }
 
-/// The status of the program; an error is one of reading the words.
+/// The status of the program; an error is one of reading the words, as where one is not UTF-8.
 fn run(rt: &HostRuntime) -> io::Result<u8> {
     let alloc = rt.alloc();
     let words: Vec<String> = env::args(rt)?.collect(alloc)?;

@@ -3,31 +3,60 @@
 
 use client_sockets::{SocketExchange, now};
 use file_store::FileStore;
-use kclient_run::{Defaults, FAILED, kclient_run};
+use kclient_run::{Defaults, FAILED, Variable, kclient_run};
+use std::alloc::{AllocError, AllocFailed};
 use std::env::VarError;
-use std::io::{Error, ErrorKind};
 use std::process::ExitCode;
-use std::{env, io};
+use std::{env, fmt, io};
 
-fn main(rt: HostRuntime) -> ExitCode {
-    let Ok(status) = run(&rt) else {
-        // A failed write may be why, so this one may fail as well.
-        let _ = println!(rt; "failed");
-        return ExitCode::from(FAILED);
-    };
-    ExitCode::from(status)
+/// Why the command line is not looked at.
+#[derive(Clone, Copy)]
+enum Fault {
+    /// The clock can't be read, or shows no moment of the years 1970 to 9999.
+    Clock(io::Error),
+    /// The words of the command line can't be read, as where one is not UTF-8.
+    Words(io::Error),
+    Memory,
 }
 
-/// The status of the program; an error is one of the clock, or of reading the words.
-fn run(rt: &HostRuntime) -> io::Result<u8> {
-    let at = now(rt)?;
+impl fmt::Display for Fault {
+    fn fmt<W: fmt::Write>(&self, f: &mut fmt::Formatter<W>) -> fmt::Result {
+        match self {
+            Fault::Clock(error) => write!(f, "the clock: {error}"),
+            Fault::Words(error) => write!(f, "the words of the command line: {error}"),
+            Fault::Memory => f.write_str("out of memory"),
+        }
+    }
+}
+
+impl<T: Drop> From<AllocFailed<T>> for Fault {
+    fn from(_: AllocFailed<T>) -> Fault {
+        Fault::Memory
+    }
+}
+
+fn main(rt: HostRuntime) -> ExitCode {
+    match run(&rt) {
+        Ok(status) => ExitCode::from(status),
+        Err(fault) => {
+            // where these can't be written there is no one to tell
+            let _ = println!(rt; "failed");
+            let _ = eprintln!(rt; "kclient: {fault}");
+            ExitCode::from(FAILED)
+        }
+    }
+}
+
+/// The status of the program.
+fn run(rt: &HostRuntime) -> Result<u8, Fault> {
+    let at = now(rt).map_err(Fault::Clock)?;
     let alloc = rt.alloc();
-    let words: Vec<String> = env::args(rt)?.collect(alloc)?;
-    let cache = variable(rt, "KRB5CCNAME")?;
-    let config = variable(rt, "KRB5_CONFIG")?;
+    let words: Vec<String> = env::args(rt).map_err(Fault::Words)?.collect(alloc)?;
+    let cache = env::var(rt, "KRB5CCNAME");
+    let config = env::var(rt, "KRB5_CONFIG");
     let defaults = Defaults {
-        cache: text_of(&cache),
-        config: text_of(&config),
+        cache: variable(&cache)?,
+        config: variable(&config)?,
     };
     let mut store = FileStore::new(rt);
     let mut exchange = SocketExchange::new(rt);
@@ -43,19 +72,13 @@ fn run(rt: &HostRuntime) -> io::Result<u8> {
     ))
 }
 
-/// The value of a variable of the environment; `None` where it is not there, or empty.
-fn variable(rt: &HostRuntime, name: &str) -> io::Result<Option<String>> {
-    match env::var(rt, name) {
-        Ok(value) if !value.is_empty() => Ok(Some(value)),
-        Ok(_) | Err(VarError::NotPresent) => Ok(None),
-        Err(VarError::NotUnicode) => Err(Error::from(ErrorKind::InvalidData)),
-        Err(VarError::OutOfMemory) => Err(Error::from(ErrorKind::OutOfMemory)),
-    }
-}
-
-fn text_of(value: &Option<String>) -> Option<&str> {
-    match value {
-        Some(value) => Some(value.as_str()),
-        None => None,
+/// A variable of the environment, of what was read of it.
+fn variable(read: &Result<String, VarError>) -> Result<Variable<'_>, Fault> {
+    match read {
+        Ok(value) if value.is_empty() => Ok(Variable::Absent),
+        Ok(value) => Ok(Variable::Text(value.as_str())),
+        Err(VarError::NotPresent) => Ok(Variable::Absent),
+        Err(VarError::NotUnicode) => Ok(Variable::NotUtf8),
+        Err(VarError::OutOfMemory) => Err(Fault::Memory),
     }
 }

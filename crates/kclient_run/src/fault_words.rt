@@ -1,15 +1,54 @@
-//! What stands on the command line for the place of a fault.
+//! What a fault is of, in the words of the command line.
 ghost use Rattle.std.specs.Prelude.{◌≡◌, ◌<◌, [], length};
 
 use crate::faults::Place;
 use crate::places::Places;
 use crate::words::{FirstWords, KvnoWords, SecretWords};
+use std::fmt;
+use std::net::SocketAddr;
 
 /// What stands for a password that is in no file.
 const STANDARD_INPUT: &str = "standard input";
 
 /// What stands for a seed that is in no file.
 const SYSTEM_SOURCE: &str = "the system's random octets";
+
+/// What a fault is of, as standard error names it.
+#[derive(Clone, Copy)]
+pub(crate) enum Subject<'a> {
+    /// A file, KDCs, or what stands in place of them.
+    Thing(&'a str),
+    /// A KDC that answered.
+    Kdc(SocketAddr),
+    /// The word of an option. Where it lacks, or is empty, the option stands alone.
+    Word {
+        option: &'static str,
+        word: Option<&'a str>,
+    },
+    /// A `kdc` of the `krb5.conf` of this path.
+    KdcLine {
+        path: &'a str,
+        value: &'a str,
+    },
+}
+
+/// What a fault is of where memory ran out.
+pub(crate) const MEMORY: Subject<'static> = Subject::Thing("memory");
+
+impl fmt::Display for Subject<'_> {
+    fn fmt<W: fmt::Write>(&self, f: &mut fmt::Formatter<W>) -> fmt::Result {
+        match self {
+            Subject::Thing(name) => f.write_str(name),
+            Subject::Kdc(address) => write!(f, "{address}"),
+            Subject::Word {
+                option,
+                word: Some(word),
+            } if !word.is_empty() => write!(f, "{option} {word}"),
+            Subject::Word { option, .. } => f.write_str(option),
+            Subject::KdcLine { path, value } => write!(f, "{path}: kdc = {value}"),
+        }
+    }
+}
 
 /// The word behind an option, or the option where its word is empty: so each fault names what it is of.
 pub(crate) fn word_of<'a>(option: &'static str, word: &'a str) -> &'a str
@@ -19,62 +58,51 @@ pub(crate) fn word_of<'a>(option: &'static str, word: &'a str) -> &'a str
     if word.is_empty() { option } else { word }
 }
 
-/// Where a first ticket is asked for.
-pub(crate) fn first_place<'a>(
+/// What a fault of a first ticket is of.
+pub(crate) fn first_subject<'a>(
     places: &'a Places,
     words: &'a FirstWords<'_>,
     place: Place,
-) -> &'a str {
+) -> Subject<'a> {
     match place {
-        Place::Realm => word_of("--realm", places.realm.as_str()),
-        Place::Name => word_of("--name", words.name),
-        Place::Service => service_word(words.service),
-        Place::Password | Place::Keytab => secret_place(words.secret),
-        _ => {
-            let seed = seed_word(words.seed);
-            common_place(places, seed, place)
-        }
+        Place::Realm => Subject::Word {
+            option: "--realm",
+            word: Some(places.realm.as_str()),
+        },
+        Place::Name => Subject::Word {
+            option: "--name",
+            word: Some(words.name),
+        },
+        Place::Service => Subject::Word {
+            option: "--service",
+            word: words.service,
+        },
+        Place::Password | Place::Keytab => Subject::Thing(secret_word(words.secret)),
+        _ => common_subject(places, words.seed, place),
     }
 }
 
-fn service_word(name: Option<&str>) -> &str {
-    match name {
-        Some(name) => word_of("--service", name),
-        None => "--service",
-    }
-}
-
-fn secret_place<'a>(secret: SecretWords<'a>) -> &'a str {
+fn secret_word<'a>(secret: SecretWords<'a>) -> &'a str {
     match secret {
         SecretWords::PasswordFile(path) | SecretWords::Keytab(path) => path,
         SecretWords::Asked => STANDARD_INPUT,
     }
 }
 
-/// Where tickets of services are asked for, at this name.
-pub(crate) fn kvno_place<'a>(
+/// What a fault of tickets of services is of, at this name where it is of one.
+pub(crate) fn kvno_subject<'a>(
     places: &'a Places,
     words: &'a KvnoWords<'_>,
-    name: &'a str,
+    name: Option<&'a str>,
     place: Place,
-) -> &'a str {
+) -> Subject<'a> {
     match place {
-        Place::Name => word_of("--name", name),
-        Place::Keytab => keytab_word(words.keytab),
-        _ => {
-            let seed = seed_word(words.seed);
-            common_place(places, seed, place)
-        }
-    }
-}
-
-/// Where any ticket is asked for, with this seed.
-pub(crate) fn common_place<'a>(places: &'a Places, seed: &'a str, place: Place) -> &'a str {
-    match place {
-        Place::Cache => places.cache.as_str(),
-        Place::Seed => seed,
-        Place::Kdc => places.kdcs.text.as_str(),
-        _ => "memory",
+        Place::Name => Subject::Word {
+            option: "--name",
+            word: name,
+        },
+        Place::Keytab => Subject::Thing(keytab_word(words.keytab)),
+        _ => common_subject(places, words.seed, place),
     }
 }
 
@@ -85,8 +113,21 @@ fn keytab_word(path: Option<&str>) -> &str {
     }
 }
 
-/// The path of the seed's file, or what stands for it.
-pub(crate) fn seed_word(path: Option<&str>) -> &str {
+/// What a fault of any ticket is of, where this is the path of the seed's file.
+pub(crate) fn common_subject<'a>(
+    places: &'a Places,
+    seed: Option<&'a str>,
+    place: Place,
+) -> Subject<'a> {
+    match place {
+        Place::Cache => Subject::Thing(places.cache.as_str()),
+        Place::Seed => Subject::Thing(seed_word(seed)),
+        Place::Kdc => Subject::Thing(places.kdcs.text.as_str()),
+        _ => MEMORY,
+    }
+}
+
+fn seed_word(path: Option<&str>) -> &str {
     match path {
         Some(path) => path,
         None => SYSTEM_SOURCE,

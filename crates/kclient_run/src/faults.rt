@@ -40,6 +40,8 @@ pub(crate) enum Reason {
     CountTooLarge,
     /// A `krb5.conf` names no default realm.
     NoRealm,
+    /// The default realm of a `krb5.conf` is none.
+    BadRealm,
     /// A `krb5.conf` has no KDC of the realm.
     NoKdc,
     /// What stands for a KDC in a `krb5.conf` is no address.
@@ -109,6 +111,7 @@ impl Reason {
             Reason::NoTicketKey => "Absent",
             Reason::Unopened => "CannotOpen",
             Reason::NoRealm => "NoRealm",
+            Reason::BadRealm => "BadName",
             Reason::NoKdc => "NoKdc",
             Reason::NotAnAddress => "NotAnAddress",
         }
@@ -141,9 +144,10 @@ impl Reason {
             Reason::Unopened =>
                 "its key does not open the ticket: it is another of the same version",
             Reason::NoRealm => "it has no default_realm in [libdefaults]; --realm names one",
+            Reason::BadRealm => "its default_realm has not 1 to 255 octets; --realm names one",
             Reason::NoKdc => "it has no kdc of the realm in [realms]; --kdc takes its address",
             Reason::NotAnAddress =>
-                "a kdc of the realm is no address, and no name is looked up; --kdc takes its address",
+                "it is no address, and no name is looked up; --kdc takes its address",
         }
     }
 }

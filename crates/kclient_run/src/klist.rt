@@ -2,6 +2,7 @@
 ghost use Rattle.std.specs.Prelude.{◌≤◌, IfOk};
 
 use crate::caches::read_cache;
+use crate::fault_words::{MEMORY, Subject};
 use crate::faults::{Place, Stop};
 use crate::files::read_keytab;
 use crate::listing::{lines_of_cache, lines_of_keytab};
@@ -56,13 +57,13 @@ fn print<W: Write, E: Write>(
             write!(out, "{lines}")?;
             Ok(DONE)
         }
-        Err(stop) => report(out, errors, place_of(stop, path), 0, stop),
+        Err(stop) => report(out, errors, subject_of(stop, path), 0, stop),
     }
 }
 
-fn place_of<'a>(stop: Stop, path: &'a str) -> &'a str {
+fn subject_of<'a>(stop: Stop, path: &'a str) -> Subject<'a> {
     match stop.place() {
-        Place::Memory => "memory",
-        _ => path,
+        Place::Memory => MEMORY,
+        _ => Subject::Thing(path),
     }
 }

@@ -9,6 +9,7 @@ mod asking;
 mod caches;
 mod codes;
 mod draws;
+mod environment;
 mod exchange;
 mod fault_words;
 mod faults;
@@ -32,6 +33,6 @@ mod wishes;
 mod words;
 
 pub use draws::{draw_confounder, draw_nonce};
+pub use environment::{Defaults, Variable};
 pub use exchange::{Exchange, Transport};
-pub use places::Defaults;
 pub use run::{DONE, FAILED, REFUSED, USAGE, kclient_run};

@@ -1,36 +1,25 @@
 //! Where a command works: its cache, its realm and its KDCs, as its words say, or else what stands for them.
 use crate::caches::read_cache;
+use crate::environment::Defaults;
 use crate::faults::{Place, Reason, Stop, of_name};
 use crate::files::of;
 use crate::words::Task;
 use clap::ArgMatches;
 use file_store::{Store, read_file};
-use krb_fields::{component_from_text, component_to_text};
+use krb_fields::{component_from_text, component_to_text, is_component};
 use krb5_conf::{KdcFault, default_realm, kdcs};
 use std::alloc::{AllocError, AllocFailed, Global};
 use std::net::SocketAddr;
 
-/// What stands for words that a command line lacks, as the environment has it.
-#[derive(Clone, Copy, Debug)]
-pub struct Defaults<'a> {
-    /// The value of `KRB5CCNAME`: the cache, as `FILE:PATH` or as a path.
-    pub cache: Option<&'a str>,
-    /// The value of `KRB5_CONFIG`: the path of a `krb5.conf`.
-    pub config: Option<&'a str>,
-}
-
-impl<'a> Defaults<'a> {
-    /// The path of the `krb5.conf`.
-    pub(crate) fn config_path(&self) -> &'a str {
-        self.config.unwrap_or("/etc/krb5.conf")
-    }
-}
-
 /// Why a command does not begin.
-#[derive(Clone, Copy)]
+#[derive(Drop)]
 pub(crate) enum Unplaced {
     /// By a fault of the command line.
     Usage(&'static str),
+    /// This word of `--kdc` is no address.
+    BadKdc(String),
+    /// A `kdc` of the `krb5.conf` is no address. This is its text, as that of a name's component.
+    BadKdcLine(String),
     Stopped(Stop),
 }
 
@@ -77,14 +66,6 @@ pub(crate) struct Places {
     pub realm: String,
     pub kdcs: Kdcs,
 }
-
-const NO_CACHE: &str =
-    "--cache has to stand there, or the environment variable KRB5CCNAME name a file";
-
-const OTHER_CACHE: &str =
-    "KRB5CCNAME names a cache of another type than FILE, which kclient has not: --cache takes a file";
-
-const NO_ADDRESS: &str = "--kdc takes an address and a port, as 127.0.0.1:88 or [::1]:88";
 
 const TWO_FILES: &str = "--cache and --keytab don't go together";
 
@@ -170,29 +151,10 @@ fn cache_path(
     if let Some(path) = words.get_str("cache") {
         return Ok(String::from_str(alloc, path)?);
     }
-    let Some(name) = defaults.cache else {
-        return Err(Unplaced::Usage(NO_CACHE));
-    };
-    match path_in(name) {
+    match defaults.cache_path() {
         Ok(path) => Ok(String::from_str(alloc, path)?),
         Err(fault) => Err(Unplaced::Usage(fault)),
     }
-}
-
-/// The path in a cache's name: a path, or `FILE:` and one.
-fn path_in(name: &str) -> Result<&str, &'static str> {
-    match name.split_once(':') {
-        Some(("FILE", path)) => path_there(path),
-        Some((front, _)) if !front.contains('/') => Err(OTHER_CACHE),
-        _ => path_there(name),
-    }
-}
-
-fn path_there(path: &str) -> Result<&str, &'static str> {
-    if path.is_empty() {
-        return Err(NO_CACHE);
-    }
-    Ok(path)
 }
 
 /// The realm and the KDCs of `kinit`.
@@ -222,7 +184,7 @@ fn find_kdcs<T: Store>(
     }
     let cache = read_cache(alloc, store, path)?;
     let realm = cache.principal().realm.as_slice();
-    Ok(kdcs_in_config(alloc, defaults, store, realm)?)
+    kdcs_in_config(alloc, defaults, store, realm)
 }
 
 fn kdcs_in_config<T: Store>(
@@ -230,7 +192,7 @@ fn kdcs_in_config<T: Store>(
     defaults: &Defaults<'_>,
     store: &mut T,
     realm: &[u8],
-) -> Result<Kdcs, Stop> {
+) -> Result<Kdcs, Unplaced> {
     let config = read_config(alloc, defaults, store)?;
     configured_kdcs(alloc, &config, realm)
 }
@@ -243,7 +205,7 @@ fn given_kdcs(alloc: Global, words: &ArgMatches<'_>) -> Result<Option<Kdcs>, Unp
     let mut kdcs = no_kdcs(alloc);
     for text in texts {
         let Ok(address) = text.parse() else {
-            return Err(Unplaced::Usage(NO_ADDRESS));
+            return Err(Unplaced::BadKdc(String::from_str(alloc, text)?));
         };
         add_kdc(&mut kdcs, address, text)?;
     }
@@ -271,7 +233,7 @@ fn config_if<T: Store>(
     defaults: &Defaults<'_>,
     store: &mut T,
     is_needed: bool,
-) -> Result<Vec<u8>, Stop> {
+) -> Result<Vec<u8>, Unplaced> {
     if !is_needed {
         return Ok(Vec::new(alloc));
     }
@@ -282,11 +244,11 @@ fn read_config<T: Store>(
     alloc: Global,
     defaults: &Defaults<'_>,
     store: &mut T,
-) -> Result<Vec<u8>, Stop> {
-    of(
-        read_file(alloc, store, defaults.config_path()),
-        Place::Config,
-    )
+) -> Result<Vec<u8>, Unplaced> {
+    match defaults.config_path() {
+        Ok(path) => Ok(of(read_file(alloc, store, path), Place::Config)?),
+        Err(fault) => Err(Unplaced::Usage(fault)),
+    }
 }
 
 /// The realm and its KDCs, of a `krb5.conf` where words lack.
@@ -310,24 +272,34 @@ fn configured(
 /// The text of the default realm's name.
 fn configured_realm(alloc: Global, config: &[u8]) -> Result<String, Stop> {
     match default_realm(alloc, config)? {
-        Some(realm) => Ok(component_to_text(alloc, realm)?),
+        Some(realm) if is_component(realm) => Ok(component_to_text(alloc, realm)?),
+        Some(_) => Err(Stop::Refused(Reason::BadRealm, Place::Config)),
         None => Err(Stop::Refused(Reason::NoRealm, Place::Config)),
     }
 }
 
-fn kdcs_of_realm(alloc: Global, config: &[u8], realm: &str) -> Result<Kdcs, Stop> {
+fn kdcs_of_realm(alloc: Global, config: &[u8], realm: &str) -> Result<Kdcs, Unplaced> {
     match component_from_text(alloc, realm) {
         Ok(realm) => configured_kdcs(alloc, config, realm.as_slice()),
-        Err(fault) => Err(of_name(fault, Place::Realm)),
+        Err(fault) => Err(Unplaced::from(of_name(fault, Place::Realm))),
     }
 }
 
-fn configured_kdcs(alloc: Global, config: &[u8], realm: &[u8]) -> Result<Kdcs, Stop> {
+fn configured_kdcs(alloc: Global, config: &[u8], realm: &[u8]) -> Result<Kdcs, Unplaced> {
     match kdcs(alloc, config, realm) {
-        Ok(addresses) if addresses.is_empty() => Err(Stop::Refused(Reason::NoKdc, Place::Config)),
+        Ok(addresses) if addresses.is_empty() => Err(Unplaced::from(NO_KDC)),
         Ok(addresses) => Ok(described(alloc, addresses)?),
-        Err(KdcFault::NotAnAddress(_)) => Err(Stop::Refused(Reason::NotAnAddress, Place::Config)),
-        Err(KdcFault::Memory) => Err(Stop::from(AllocError)),
+        Err(KdcFault::NotAnAddress(value)) => Err(bad_kdc_line(alloc, value)),
+        Err(KdcFault::Memory) => Err(Unplaced::from(AllocError)),
+    }
+}
+
+const NO_KDC: Stop = Stop::Refused(Reason::NoKdc, Place::Config);
+
+fn bad_kdc_line(alloc: Global, value: &[u8]) -> Unplaced {
+    match component_to_text(alloc, value) {
+        Ok(text) => Unplaced::BadKdcLine(text),
+        Err(error) => Unplaced::from(error),
     }
 }
 

@@ -2,14 +2,15 @@
 ghost use Rattle.std.specs.Prelude.{◌≤◌, IfOk};
 
 use crate::codes::code_text;
+use crate::environment::Defaults;
 use crate::exchange::Exchange;
-use crate::fault_words::word_of;
+use crate::fault_words::{MEMORY, Subject};
 use crate::faults::{Place, Reason, Stop};
-use crate::places::{Defaults, Unplaced};
+use crate::places::Unplaced;
 use crate::run::{DONE, FAILED, REFUSED, USAGE};
 use clap::ArgMatches;
 use clap::error::{Error, ErrorKind};
-use std::alloc::{AllocError, Global};
+use std::alloc::AllocError;
 use std::io;
 use std::io::Write;
 
@@ -18,30 +19,30 @@ use std::io::Write;
 pub(crate) fn report<W: Write, E: Write>(
     out: &mut W,
     errors: &mut E,
-    place: &str,
+    subject: Subject<'_>,
     failures: u64,
     stop: Stop,
 ) -> io::Result<u8>
     ensures { IfOk result (λ status. status ≤ 3) }
 {
     match stop {
-        Stop::Refused(reason, _) => print_refusal(out, errors, place, reason),
-        Stop::Error(code) => print_error(out, errors, place, code),
-        Stop::Failed(error, Place::Kdc) => print_silence(out, errors, place, failures, error),
-        Stop::Failed(error, _) => print_failure(out, errors, place, error),
+        Stop::Refused(reason, _) => print_refusal(out, errors, subject, reason),
+        Stop::Error(code) => print_error(out, errors, subject, code),
+        Stop::Failed(error, Place::Kdc) => print_silence(out, errors, subject, failures, error),
+        Stop::Failed(error, _) => print_failure(out, errors, subject, error),
     }
 }
 
 fn print_refusal<W: Write, E: Write>(
     out: &mut W,
     errors: &mut E,
-    place: &str,
+    subject: Subject<'_>,
     reason: Reason,
 ) -> io::Result<u8>
     ensures { IfOk result (λ status. status ≤ 3) }
 {
     writeln!(out, "refused {}", reason.name())?;
-    writeln!(errors, "kclient: {place}: {}", reason.text())?;
+    writeln!(errors, "kclient: {subject}: {}", reason.text())?;
     Ok(REFUSED)
 }
 
@@ -49,7 +50,7 @@ fn print_refusal<W: Write, E: Write>(
 fn print_error<W: Write, E: Write>(
     out: &mut W,
     errors: &mut E,
-    place: &str,
+    subject: Subject<'_>,
     code: i32,
 ) -> io::Result<u8>
     ensures { IfOk result (λ status. status ≤ 3) }
@@ -57,7 +58,7 @@ fn print_error<W: Write, E: Write>(
     writeln!(out, "refused {code}")?;
     writeln!(
         errors,
-        "kclient: {place}: error {code}: {}",
+        "kclient: {subject}: error {code}: {}",
         code_text(code)
     )?;
     Ok(REFUSED)
@@ -66,13 +67,13 @@ fn print_error<W: Write, E: Write>(
 fn print_failure<W: Write, E: Write>(
     out: &mut W,
     errors: &mut E,
-    place: &str,
+    subject: Subject<'_>,
     error: io::Error,
 ) -> io::Result<u8>
     ensures { IfOk result (λ status. status ≤ 3) }
 {
     writeln!(out, "failed")?;
-    writeln!(errors, "kclient: {place}: {error}")?;
+    writeln!(errors, "kclient: {subject}: {error}")?;
     Ok(FAILED)
 }
 
@@ -80,7 +81,7 @@ fn print_failure<W: Write, E: Write>(
 fn print_silence<W: Write, E: Write>(
     out: &mut W,
     errors: &mut E,
-    place: &str,
+    subject: Subject<'_>,
     failures: u64,
     error: io::Error,
 ) -> io::Result<u8>
@@ -89,34 +90,31 @@ fn print_silence<W: Write, E: Write>(
     writeln!(out, "failed")?;
     writeln!(
         errors,
-        "kclient: {place}: {error} (messages without a reply: {failures})"
+        "kclient: {subject}: {error} (messages without a reply: {failures})"
     )?;
     Ok(FAILED)
 }
 
-/// Prints why a command ended early. What came back is that of the address from which it came.
+/// Prints why a command ended early. What came back is of the address from which it came.
 pub(crate) fn report_asked<X: Exchange, W: Write, E: Write>(
-    alloc: Global,
     out: &mut W,
     errors: &mut E,
-    place: &str,
+    subject: Subject<'_>,
     exchange: &X,
     stop: Stop,
 ) -> io::Result<u8>
     ensures { IfOk result (λ status. status ≤ 3) }
 {
     let failures = exchange.failures();
-    let from = if stop.is_of_reply() {
-        exchange.answered()
-    } else {
-        None
-    };
-    match from {
-        Some(address) => {
-            let place = format!(in alloc; "{address}")?;
-            report(out, errors, place.as_str(), failures, stop)
-        }
-        None => report(out, errors, place, failures, stop),
+    match exchange.answered() {
+        Some(address) if stop.is_of_reply() => report(
+            out,
+            errors,
+            Subject::Kdc(address),
+            failures,
+            stop,
+        ),
+        _ => report(out, errors, subject, failures, stop),
     }
 }
 
@@ -124,7 +122,7 @@ pub(crate) fn report_asked<X: Exchange, W: Write, E: Write>(
 pub(crate) fn report_unplaced<W: Write, E: Write>(
     out: &mut W,
     errors: &mut E,
-    unplaced: Unplaced,
+    unplaced: &Unplaced,
     options: &ArgMatches<'_>,
     defaults: &Defaults<'_>,
 ) -> io::Result<u8>
@@ -132,15 +130,36 @@ pub(crate) fn report_unplaced<W: Write, E: Write>(
 {
     match unplaced {
         Unplaced::Usage(fault) => print_fault(out, fault),
-        Unplaced::Stopped(stop) => match stop.place() {
-            Place::Config => report(out, errors, defaults.config_path(), 0, stop),
-            Place::Cache => report_cache(out, errors, stop, options, defaults),
-            Place::Realm => {
-                let realm = options.get_str("realm").unwrap_or("");
-                report(out, errors, word_of("--realm", realm), 0, stop)
-            }
-            _ => report(out, errors, "memory", 0, stop),
-        },
+        Unplaced::BadKdc(word) => print_bad_kdc(out, word.as_str()),
+        Unplaced::BadKdcLine(value) => {
+            let path = config_word(defaults);
+            let value = value.as_str();
+            let subject = Subject::KdcLine { path, value };
+            print_refusal(out, errors, subject, Reason::NotAnAddress)
+        }
+        Unplaced::Stopped(stop) => report_stopped(out, errors, *stop, options, defaults),
+    }
+}
+
+/// Prints why it is not known where a command works.
+fn report_stopped<W: Write, E: Write>(
+    out: &mut W,
+    errors: &mut E,
+    stop: Stop,
+    options: &ArgMatches<'_>,
+    defaults: &Defaults<'_>,
+) -> io::Result<u8>
+    ensures { IfOk result (λ status. status ≤ 3) }
+{
+    match stop.place() {
+        Place::Config => report(out, errors, Subject::Thing(config_word(defaults)), 0, stop),
+        Place::Cache => report_cache(out, errors, stop, options, defaults),
+        Place::Realm => {
+            let option = "--realm";
+            let word = options.get_str("realm");
+            report(out, errors, Subject::Word { option, word }, 0, stop)
+        }
+        _ => report(out, errors, MEMORY, 0, stop),
     }
 }
 
@@ -155,8 +174,24 @@ fn report_cache<W: Write, E: Write>(
     ensures { IfOk result (λ status. status ≤ 3) }
 {
     match options.get_str("cache") {
-        Some(path) => report(out, errors, path, 0, stop),
-        None => report(out, errors, defaults.cache.unwrap_or("--cache"), 0, stop),
+        Some(path) => report(out, errors, Subject::Thing(path), 0, stop),
+        None => report(out, errors, Subject::Thing(cache_word(defaults)), 0, stop),
+    }
+}
+
+/// The path of the `krb5.conf`, or the variable that has to name it.
+fn config_word<'a>(defaults: &Defaults<'a>) -> &'a str {
+    match defaults.config_path() {
+        Ok(path) => path,
+        Err(_) => "KRB5_CONFIG",
+    }
+}
+
+/// The path of the cache, or the variable that has to name it.
+fn cache_word<'a>(defaults: &Defaults<'a>) -> &'a str {
+    match defaults.cache_path() {
+        Ok(path) => path,
+        Err(_) => "KRB5CCNAME",
     }
 }
 
@@ -169,7 +204,7 @@ pub(crate) fn report_words<W: Write, E: Write>(
     ensures { IfOk result (λ status. status ≤ 3) }
 {
     if error.kind() == ErrorKind::OutOfMemory {
-        return report(out, errors, "memory", 0, Stop::from(AllocError));
+        return report(out, errors, MEMORY, 0, Stop::from(AllocError));
     }
     write!(out, "{error}")?;
     Ok(if error.exit_code() == 0 { DONE } else { USAGE })
@@ -181,4 +216,26 @@ pub(crate) fn print_fault<W: Write>(out: &mut W, fault: &str) -> io::Result<u8>
 {
     writeln!(out, "error: {fault}")?;
     Ok(USAGE)
+}
+
+/// Prints that a word of `--kdc` is no address.
+fn print_bad_kdc<W: Write>(out: &mut W, word: &str) -> io::Result<u8>
+    ensures { IfOk result (λ status. status ≤ 3) }
+{
+    let subject = Subject::Word {
+        option: "--kdc",
+        word: Some(word),
+    };
+    writeln!(
+        out,
+        "error: {subject}: it takes an address and a port, as 127.0.0.1:88 or [::1]:88"
+    )?;
+    Ok(USAGE)
+}
+
+/// Says on standard error that standard output does not take what is printed. Where that fails too there is no one to
+/// tell.
+pub(crate) fn tell_unwritten<E: Write>(errors: &mut E, error: io::Error) {
+    let _ = writeln!(errors, "kclient: standard output: {error}");
+    let _ = errors.flush();
 }

@@ -2,15 +2,16 @@
 ghost use Rattle.std.specs.Prelude.{◌≤◌, IfOk};
 
 use crate::asking::KdcPlace;
+use crate::environment::Defaults;
 use crate::exchange::Exchange;
-use crate::fault_words::{common_place, first_place, kvno_place, seed_word, word_of};
+use crate::fault_words::{common_subject, first_subject, kvno_subject, word_of};
 use crate::kinit::log_in;
 use crate::klist::run_klist;
 use crate::kvno::{KvnoStop, get_tickets};
 use crate::options::read_words;
-use crate::places::{Defaults, Places, find_places};
+use crate::places::{Places, find_places};
 use crate::renewing::get_again;
-use crate::reporting::{print_fault, report_asked, report_unplaced, report_words};
+use crate::reporting::{print_fault, report_asked, report_unplaced, report_words, tell_unwritten};
 use crate::words::{AgainWords, FirstWords, KvnoWords, Task, task_of};
 use clap::ArgMatches;
 use file_store::Store;
@@ -47,11 +48,15 @@ pub fn kclient_run<S: AsStr, T: Store, X: Exchange, W: Write + Drop, E: Write + 
 ) -> u8
     ensures { result ≤ 3 }
 {
-    let Ok(mut out) = BufWriter::new(alloc, writer) else {
-        return FAILED;
-    };
     let Ok(mut errors) = BufWriter::new(alloc, errors) else {
         return FAILED;
+    };
+    let mut out = match BufWriter::new(alloc, writer) {
+        Ok(out) => out,
+        Err(error) => {
+            tell_unwritten(&mut errors, error);
+            return FAILED;
+        }
     };
     let done = run_to_end(
         alloc,
@@ -63,7 +68,13 @@ pub fn kclient_run<S: AsStr, T: Store, X: Exchange, W: Write + Drop, E: Write + 
         &mut out,
         &mut errors,
     );
-    done.unwrap_or(FAILED)
+    match done {
+        Ok(status) => status,
+        Err(error) => {
+            tell_unwritten(&mut errors, error);
+            FAILED
+        }
+    }
 }
 
 /// The status; an error is a failed write.
@@ -144,7 +155,7 @@ fn run_placed<T: Store, X: Exchange, W: Write, E: Write>(
         Ok(places) => run_task(
             alloc, task, options, &places, store, exchange, at, out, errors,
         ),
-        Err(unplaced) => report_unplaced(out, errors, unplaced, options, defaults),
+        Err(unplaced) => report_unplaced(out, errors, &unplaced, options, defaults),
     }
 }
 
@@ -198,8 +209,8 @@ fn run_first<T: Store, X: Exchange, W: Write, E: Write>(
     match log_in(alloc, places, words, kdc, store, exchange, at) {
         Ok(()) => print_done(out),
         Err(stop) => {
-            let place = first_place(places, words, stop.place());
-            report_asked(alloc, out, errors, place, exchange, stop)
+            let subject = first_subject(places, words, stop.place());
+            report_asked(out, errors, subject, exchange, stop)
         }
     }
 }
@@ -220,8 +231,8 @@ fn run_again<T: Store, X: Exchange, W: Write, E: Write>(
     match get_again(alloc, places, words, kdc, store, exchange, at) {
         Ok(()) => print_done(out),
         Err(stop) => {
-            let place = common_place(places, seed_word(words.seed), stop.place());
-            report_asked(alloc, out, errors, place, exchange, stop)
+            let subject = common_subject(places, words.seed, stop.place());
+            report_asked(out, errors, subject, exchange, stop)
         }
     }
 }
@@ -249,7 +260,7 @@ fn run_kvno<T: Store, X: Exchange, W: Write, E: Write>(
 {
     match get_tickets(alloc, places, words, names, kdc, store, exchange, at) {
         Ok(versions) => print_versions(out, names, &versions, words.keytab.is_some()),
-        Err(stop) => report_kvno(alloc, out, errors, places, words, names, exchange, stop),
+        Err(stop) => report_kvno(out, errors, places, words, names, exchange, stop),
     }
 }
 
@@ -274,7 +285,6 @@ const OPENED: &str = ", keytab entry valid";
 
 /// Prints why `kvno` ended early; of several names also at which.
 fn report_kvno<X: Exchange, W: Write, E: Write>(
-    alloc: Global,
     out: &mut W,
     errors: &mut E,
     places: &Places,
@@ -287,20 +297,17 @@ fn report_kvno<X: Exchange, W: Write, E: Write>(
 {
     let KvnoStop { stop, index } = stop;
     let name = name_at(names, index);
-    if names.len() > 1 && !name.is_empty() {
-        writeln!(errors, "kclient: {name}: this name ended the command")?;
+    if names.len() > 1
+        && let Some(name) = name
+    {
+        let word = word_of("--name", name);
+        writeln!(errors, "kclient: {word}: this name ended the command")?;
     }
-    let place = kvno_place(places, words, name, stop.place());
-    report_asked(alloc, out, errors, place, exchange, stop)
+    let subject = kvno_subject(places, words, name, stop.place());
+    report_asked(out, errors, subject, exchange, stop)
 }
 
-/// The name that ended a command; empty where none did.
-fn name_at<'a>(names: &[&'a str], index: Option<usize>) -> &'a str {
-    let Some(index) = index else {
-        return "";
-    };
-    match names.get(index) {
-        Some(name) => word_of("--name", name),
-        None => "",
-    }
+/// The name that ended a command.
+fn name_at<'a>(names: &[&'a str], index: Option<usize>) -> Option<&'a str> {
+    Some(*names.get(index?)?)
 }

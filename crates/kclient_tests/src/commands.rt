@@ -139,7 +139,7 @@ const REFUSED_BY_A_WORD: &[Run] = &[
     KINIT,
     Run {
         line: "kclient kinit --kdc 192.0.2.1:88 --realm A/B --name u --password-file pass --cache cc --seed seed",
-        errors: "kclient: A/B: no name is written so\n",
+        errors: "kclient: --realm A/B: no name is written so\n",
         ..BAD_NAME
     },
     Run {
@@ -154,8 +154,27 @@ const REFUSED_BY_A_WORD: &[Run] = &[
     },
     BAD_NAME,
     Run {
+        line: "kclient kinit --kdc 192.0.2.1:88 --realm A.B --name  --password-file pass --cache cc --seed seed",
+        errors: "kclient: --name: no name is written so\n",
+        ..BAD_NAME
+    },
+    Run {
+        line: "\
+            kclient kinit --kdc 192.0.2.1:88 --realm A.B --name u --password-file pass --cache cc --seed seed \
+            --service h@",
+        errors: "kclient: --service h@: no name is written so\n",
+        ..BAD_NAME
+    },
+    Run {
+        line: "\
+            kclient kinit --kdc 192.0.2.1:88 --realm A.B --name u --password-file pass --cache cc --service  --seed \
+            seed",
+        errors: "kclient: --service: no name is written so\n",
+        ..BAD_NAME
+    },
+    Run {
         line: "kclient kvno --kdc 192.0.2.1:88 --cache cc --name h/ --seed seed",
-        errors: "kclient: h/: no name is written so\n",
+        errors: "kclient: --name h/: no name is written so\n",
         ..BAD_NAME
     },
     Run {
@@ -207,7 +226,7 @@ const BAD_NAME: Run = Run {
     line: "kclient kinit --kdc 192.0.2.1:88 --realm A.B --name u//v --password-file pass --cache cc --seed seed",
     status: REFUSED,
     out: "refused BadName\n",
-    errors: "kclient: u//v: no name is written so\n",
+    errors: "kclient: --name u//v: no name is written so\n",
     ways: "",
     ..KINIT
 };
@@ -313,10 +332,17 @@ const FAULTS: &[Run] = &[
     },
     Run {
         line: "kclient kinit --kdc 192.0.2.1 --realm A.B --name u --password-file pass --cache cc --seed seed",
+        out: "error: --kdc 192.0.2.1: it takes an address and a port, as 127.0.0.1:88 or [::1]:88\n",
         ..FAULT
     },
     Run {
         line: "kclient kinit --kdc kdc:88 --realm A.B --name u --password-file pass --cache cc --seed seed",
+        out: "error: --kdc kdc:88: it takes an address and a port, as 127.0.0.1:88 or [::1]:88\n",
+        ..FAULT
+    },
+    Run {
+        line: "kclient kvno --kdc 192.0.2.1:88 --kdc  --cache cc --name h --seed seed",
+        out: "error: --kdc: it takes an address and a port, as 127.0.0.1:88 or [::1]:88\n",
         ..FAULT
     },
     Run {

@@ -1,17 +1,17 @@
 //! What `klist` prints.
 use crate::silent::Silence;
 use file_store::MemoryStore;
-use kclient_run::{DONE, Defaults, FAILED, REFUSED, USAGE, kclient_run};
+use kclient_run::{DONE, Defaults, FAILED, REFUSED, USAGE, Variable, kclient_run};
 use krb_fields::Moment;
 use std::alloc::{AllocError, Global};
+use std::io::Write;
 use std::process::Abort;
 use std::test::Fail;
 
 /// A cache as a model in Python writes it, by the format: a header as MIT's library writes it; the default principal
-/// `u` of
-/// `A.B`; a setting of the library; a ticket for tickets; one for a service whose name has a line feed, `@`, `/` and `\\`,
-/// without a start, sealed under a key of another type; and one of `v` in `C D`, with all flags, the last end, and
-/// octets that are no ticket.
+/// `u` of `A.B`; a setting of the library; a ticket for tickets; one for a service whose name has a line feed, `@`, `/`
+/// and `\\`, without a start, sealed under a key of another type; and one of `v` in `C D`, with all flags, the last
+/// end, and octets that are no ticket.
 const CACHE: &str = "\
         0504000c000100080000000000000000000000010000000100000003412e420000000175000000010000000100000003412e\
         42000000017500000000000000030000000c582d4341434845434f4e463a000000156b7262355f6363616368655f636f6e66\
@@ -30,11 +30,12 @@ const CACHE: &str = "\
 /// By the format, its dates by Python's `datetime`; its letters are those of MIT's `klist -f` (1.20.1) of the same
 /// cache.
 const CACHE_LINES: &str = "\
-principal u@A.B
-krbtgt/A.B@A.B from 2024-01-01T00:00:00Z till 2024-01-01T10:00:00Z renew 2024-01-08T00:00:00Z flags FRIA key 18 ticket 18
-host/a\\0ab\\40\\2f\\5cc@A.B from 2024-01-01T00:00:00Z till 2024-01-01T01:00:00Z renew - flags - key 17 ticket 20
-h@C\\20D from 2024-01-01T00:01:00Z till 2106-02-07T06:28:15Z renew - flags FfPpDdiRIHATOa key 23 ticket - client v@C\\20D
-";
+    principal u@A.B\n\
+    krbtgt/A.B@A.B from 2024-01-01T00:00:00Z till 2024-01-01T10:00:00Z renew 2024-01-08T00:00:00Z flags FRIA key 18 \
+    ticket 18\n\
+    host/a\\0ab\\40\\2f\\5cc@A.B from 2024-01-01T00:00:00Z till 2024-01-01T01:00:00Z renew - flags - key 17 ticket 20\n\
+    h@C\\20D from 2024-01-01T00:01:00Z till 2106-02-07T06:28:15Z renew - flags FfPpDdiRIHATOa key 23 ticket - \
+    client v@C\\20D\n";
 
 /// A keytab of the same model: an entry with a version of four octets, a hole, one of type 23, and one with a version
 /// of one octet whose name has a line feed.
@@ -130,18 +131,18 @@ fn fill(alloc: Global, store: &mut MemoryStore) -> Result<(), Fail> {
 }
 
 /// What a command line prints goes to `out` and `errors`.
-fn run_line(
+fn run_line<W: Write + Drop>(
     alloc: Global,
     store: &mut MemoryStore,
     at: Moment,
     line: &str,
-    out: &mut Vec<u8>,
+    out: W,
     errors: &mut Vec<u8>,
 ) -> Result<u8, AllocError> {
     let words: Vec<&str> = line.split(' ').collect(alloc)?;
     let defaults = Defaults {
-        cache: None,
-        config: None,
+        cache: Variable::Absent,
+        config: Variable::Absent,
     };
     let mut silence = Silence::new();
     Ok(kclient_run(
@@ -173,6 +174,49 @@ fn expect_run(
     assert_eq!(rt; text(&errors), run.errors, "{}", run.line);
     assert_eq!(rt; text(&out), run.out, "{}", run.line);
     assert_eq!(rt; status, run.status, "{}", run.line);
+    Ok(())
+}
+
+/// Command lines, and what standard error has of them where standard output has no room.
+const UNWRITTEN: &[(&str, &str)] = &[
+    (
+        "kclient klist --cache cc",
+        "kclient: standard output: failed to write the buffered data\n",
+    ),
+    (
+        "kclient klist --cache cut",
+        "kclient: cut: the file ends too early\nkclient: standard output: failed to write the buffered data\n",
+    ),
+    (
+        "kclient klist --cache cc --keytab kt",
+        "kclient: standard output: failed to write the buffered data\n",
+    ),
+];
+
+/// Standard output has room for four octets.
+fn expect_unwritten(
+    rt: &impl Abort,
+    alloc: Global,
+    store: &mut MemoryStore,
+    at: Moment,
+    line: &str,
+    wanted: &str,
+) -> Result<(), AllocError> {
+    let mut room = [0; 4];
+    let mut errors = Vec::new(alloc);
+    let status = run_line(alloc, store, at, line, room.as_mut_slice(), &mut errors)?;
+    assert_eq!(rt; text(&errors), wanted, "{line}");
+    assert_eq!(rt; status, FAILED, "{line}");
+    Ok(())
+}
+
+#[test]
+fn standard_error_says_that_standard_output_has_no_room(rt: HostRuntime) -> Result<(), Fail> {
+    let at = Moment::new(0, 0).ok_or("a moment")?;
+    let mut store = store(rt.alloc())?;
+    for (line, wanted) in UNWRITTEN {
+        expect_unwritten(&rt, rt.alloc(), &mut store, at, line, wanted)?;
+    }
     Ok(())
 }
 

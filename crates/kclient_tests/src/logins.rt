@@ -67,7 +67,7 @@ const FIRST: &[Run] = &[
             kclient kinit --kdc 192.0.2.1:88 --realm A.B --name u --password-file pass --cache cc --seed seed \
             --service h/",
         out: "refused BadName\n",
-        errors: "kclient: h/: no name is written so\n",
+        errors: "kclient: --service h/: no name is written so\n",
         ways: "",
         ..NO_KEY
     },

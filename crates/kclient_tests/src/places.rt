@@ -1,7 +1,7 @@
 //! Where a command works: of several KDCs, and by what stands for words that a command line lacks.
 use crate::joined::Link;
 use crate::runs::{KINIT, KVNO, Run, expect_runs};
-use kclient_run::{DONE, Defaults, FAILED, REFUSED, USAGE};
+use kclient_run::{DONE, Defaults, FAILED, REFUSED, USAGE, Variable};
 use std::test::Fail;
 
 const TWO_KDCS: Run = Run {
@@ -64,7 +64,7 @@ const SEVERAL: &[Run] = &[
         line: "\
             kclient kinit --kdc 192.0.2.1:88 --kdc kdc:89 --realm A.B --name u --password-file pass --cache cc \
             --seed seed",
-        out: "--kdc takes an address and a port",
+        out: "error: --kdc kdc:89: it takes an address and a port, as 127.0.0.1:88 or [::1]:88\n",
         ..FAULT
     },
 ];
@@ -72,8 +72,8 @@ const SEVERAL: &[Run] = &[
 const CONFIGURED: Run = Run {
     line: "kclient kinit --name u --password-file pass --seed seed",
     defaults: Defaults {
-        cache: Some("FILE:cc"),
-        config: Some("conf"),
+        cache: Variable::Text("FILE:cc"),
+        config: Variable::Text("conf"),
     },
     ..KINIT
 };
@@ -81,10 +81,25 @@ const CONFIGURED: Run = Run {
 const CONFIGURED_KVNO: Run = Run {
     line: "kclient kvno --name h --seed seed",
     defaults: Defaults {
-        cache: Some("cc"),
-        config: Some("conf"),
+        cache: Variable::Text("cc"),
+        config: Variable::Text("conf"),
     },
     ..KVNO
+};
+
+/// Octets that are not printed plain are written as those of a name.
+const ODD: Run = Run {
+    line: "kclient kinit --realm X --name u --password-file pass --seed seed",
+    defaults: Defaults {
+        cache: Variable::Text("cc"),
+        config: Variable::Text("odd"),
+    },
+    status: REFUSED,
+    out: "refused NotAnAddress\n",
+    errors: "\
+        kclient: odd: kdc = a\\20b\\1b[\\40: it is no address, and no name is looked up; --kdc takes its address\n",
+    ways: "",
+    ..CONFIGURED
 };
 
 const FAULT: Run = Run {
@@ -107,8 +122,8 @@ const BY_DEFAULTS: &[Run] = &[
     Run {
         line: "kclient kvno --kdc 192.0.2.3:89 --cache cc --name h --seed seed",
         defaults: Defaults {
-            cache: Some("KCM:"),
-            config: Some("nowhere"),
+            cache: Variable::Text("KCM:"),
+            config: Variable::Text("nowhere"),
         },
         ways: "U",
         ..CONFIGURED_KVNO
@@ -125,14 +140,28 @@ const BY_DEFAULTS: &[Run] = &[
         line: "kclient kinit --realm N --name u --password-file pass --seed seed",
         status: REFUSED,
         out: "refused NotAnAddress\n",
-        errors: "kclient: conf: a kdc of the realm is no address, and no name is looked up; --kdc takes its address\n",
+        errors: "\
+            kclient: conf: kdc = kdc.example.com: it is no address, and no name is looked up; --kdc takes its \
+            address\n",
         ways: "",
         ..CONFIGURED
     },
+    ODD,
+    Run {
+        line: "kclient kinit --realm Y --name u --password-file pass --seed seed",
+        errors: "kclient: odd: kdc = : it is no address, and no name is looked up; --kdc takes its address\n",
+        ..ODD
+    },
+    Run {
+        line: "kclient kinit --name u --password-file pass --seed seed",
+        out: "refused BadName\n",
+        errors: "kclient: odd: its default_realm has not 1 to 255 octets; --realm names one\n",
+        ..ODD
+    },
     Run {
         defaults: Defaults {
-            cache: Some("cc"),
-            config: Some("bare"),
+            cache: Variable::Text("cc"),
+            config: Variable::Text("bare"),
         },
         status: REFUSED,
         out: "refused NoRealm\n",
@@ -143,15 +172,15 @@ const BY_DEFAULTS: &[Run] = &[
     // the store has a file /etc/krb5.conf
     Run {
         defaults: Defaults {
-            cache: Some("cc"),
-            config: None,
+            cache: Variable::Text("cc"),
+            config: Variable::Absent,
         },
         ..CONFIGURED
     },
     Run {
         defaults: Defaults {
-            cache: Some("cc"),
-            config: Some("nowhere"),
+            cache: Variable::Text("cc"),
+            config: Variable::Text("nowhere"),
         },
         status: FAILED,
         out: "failed\n",
@@ -159,11 +188,43 @@ const BY_DEFAULTS: &[Run] = &[
         ways: "",
         ..CONFIGURED
     },
+    // the cache's path, and not all of the variable
+    Run {
+        defaults: Defaults {
+            cache: Variable::Text("FILE:nowhere"),
+            config: Variable::Text("conf"),
+        },
+        status: FAILED,
+        out: "failed\n",
+        errors: "kclient: nowhere: entity not found\n",
+        ways: "",
+        ..CONFIGURED_KVNO
+    },
+    Run {
+        line: "kclient kvno --kdc 192.0.2.1:88 --name h --seed seed",
+        defaults: Defaults {
+            cache: Variable::Text("FILE:nowhere"),
+            config: Variable::Absent,
+        },
+        status: FAILED,
+        out: "failed\n",
+        errors: "kclient: nowhere: entity not found\n",
+        ways: "",
+        ..CONFIGURED_KVNO
+    },
+    // of the files conf, pass, seed and cc the last
+    Run {
+        failing: 4,
+        status: FAILED,
+        out: "failed\n",
+        errors: "kclient: cc: permission denied\n",
+        ..CONFIGURED
+    },
     FAULT,
     Run {
         defaults: Defaults {
-            cache: Some("KCM:"),
-            config: Some("conf"),
+            cache: Variable::Text("KCM:"),
+            config: Variable::Text("conf"),
         },
         out: "KRB5CCNAME names a cache of another type",
         ..FAULT
@@ -173,6 +234,74 @@ const BY_DEFAULTS: &[Run] = &[
         ..FAULT
     },
 ];
+
+const NOT_UTF8: Defaults<'static> = Defaults {
+    cache: Variable::NotUtf8,
+    config: Variable::NotUtf8,
+};
+
+const CACHE_NOT_UTF8: Run = Run {
+    line: "kclient kinit --name u --password-file pass --seed seed",
+    defaults: Defaults {
+        cache: Variable::NotUtf8,
+        config: Variable::Text("conf"),
+    },
+    status: USAGE,
+    out: "error: KRB5CCNAME is not UTF-8: --cache takes a file\n",
+    ways: "",
+    ..KINIT
+};
+
+const CONFIG_NOT_UTF8: Run = Run {
+    line: "kclient kinit --kdc 192.0.2.1:88 --name u --password-file pass --cache cc --seed seed",
+    defaults: NOT_UTF8,
+    status: USAGE,
+    out: "error: KRB5_CONFIG, which names the krb5.conf to be read, is not UTF-8\n",
+    ways: "",
+    ..KINIT
+};
+
+/// A variable that is not UTF-8 is a fault only where it is needed.
+const BY_BAD_DEFAULTS: &[Run] = &[
+    Run {
+        defaults: NOT_UTF8,
+        ..KINIT
+    },
+    Run {
+        defaults: NOT_UTF8,
+        ..KVNO
+    },
+    Run {
+        line: "kclient klist --keytab other",
+        defaults: NOT_UTF8,
+        out: "u@A.B version 1 type 17\nh@A.B version 2 type 18\n",
+        ways: "",
+        ..KINIT
+    },
+    CACHE_NOT_UTF8,
+    Run {
+        line: "kclient kvno --kdc 192.0.2.1:88 --name h --seed seed",
+        ..CACHE_NOT_UTF8
+    },
+    Run {
+        line: "kclient klist",
+        ..CACHE_NOT_UTF8
+    },
+    CONFIG_NOT_UTF8,
+    Run {
+        line: "kclient kinit --realm A.B --name u --password-file pass --cache cc --seed seed",
+        ..CONFIG_NOT_UTF8
+    },
+    Run {
+        line: "kclient kvno --cache cc --name h --seed seed",
+        ..CONFIG_NOT_UTF8
+    },
+];
+
+#[test]
+fn a_variable_that_is_not_utf8_is_a_fault_where_it_is_needed(rt: HostRuntime) -> Result<(), Fail> {
+    expect_runs(&rt, rt.alloc(), BY_BAD_DEFAULTS)
+}
 
 #[test]
 fn the_next_kdc_is_asked_where_one_gives_nothing(rt: HostRuntime) -> Result<(), Fail> {

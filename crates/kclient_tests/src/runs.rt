@@ -3,7 +3,7 @@ use crate::joined::{JoinedExchange, Link};
 use crate::realm::open;
 use cred_files::{Cache, Credential};
 use file_store::{LONGEST_FILE, MemoryStore};
-use kclient_run::{DONE, Defaults, USAGE, kclient_run};
+use kclient_run::{DONE, Defaults, USAGE, Variable, kclient_run};
 use krb_der::KTime;
 use krb_fields::{Moment, Name};
 use std::alloc::{AllocError, Global};
@@ -48,8 +48,8 @@ pub struct Run {
 pub const KINIT: Run = Run {
     line: "kclient kinit --kdc 192.0.2.1:88 --realm A.B --name u --password-file pass --cache cc --seed seed",
     defaults: Defaults {
-        cache: None,
-        config: None,
+        cache: Variable::Absent,
+        config: Variable::Absent,
     },
     link: Link::Good,
     input: "",
@@ -127,9 +127,23 @@ const CONF: &[u8] = b"\
     }
 ";
 
+/// A `krb5.conf` whose default realm is empty, and two realms with a `kdc` that is no address.
+const ODD: &[u8] = b"\
+[libdefaults]
+    default_realm =
+[realms]
+    X = {
+        kdc = 192.0.2.1
+        kdc = a b\x1b[@
+    }
+    Y = {
+        kdc =
+    }
+";
+
 /// Two seeds and a short one; a password, another and one that is too long; a file that is too long; a cache without
-/// credentials and one that is cut; a `krb5.conf`, also as the system's, and one that names nothing; keytabs. The
-/// system's random octets are all 9.
+/// credentials and one that is cut; a `krb5.conf`, also as the system's, one that names nothing, and an odd one;
+/// keytabs. The system's random octets are all 9.
 fn store(alloc: Global) -> Result<MemoryStore, Fail> {
     let mut store = MemoryStore::new(alloc);
     fill(alloc, &mut store)?;
@@ -152,6 +166,7 @@ fn fill(alloc: Global, store: &mut MemoryStore) -> Result<(), AllocError> {
     store.set(alloc, "cut", b"\x05\x04\x00")?;
     store.set(alloc, "conf", CONF)?;
     store.set(alloc, "/etc/krb5.conf", CONF)?;
+    store.set(alloc, "odd", ODD)?;
     store.set(alloc, "bare", b"[realms]\n")
 }
 

@@ -44,7 +44,7 @@ const SERVICES: &[Run] = &[
     Run {
         line: "kclient kvno --kdc 192.0.2.1:88 --cache cc --seed seed --name h --name h/",
         out: "refused BadName\n",
-        errors: "kclient: h/: this name ended the command\nkclient: h/: no name is written so\n",
+        errors: "kclient: h/: this name ended the command\nkclient: --name h/: no name is written so\n",
         ..STOPPED
     },
     Run {
