@@ -1,0 +1,599 @@
+#!/usr/bin/env python3
+"""Tries what an administrator and a user meet of `kadm`, `kdcd serve` and `kclient`: options with good and with bad
+values, limits at their ends, two commands at once, several addresses, locks, live changes, a log that nobody takes,
+terminals, and the tools of MIT and Heimdal where they are on the path. Linux and Python 3 alone are needed.
+
+    python3 tools/try_operators.py [--programs FOLDER] [--only PART ..] [--requests N]
+
+The folder is that of the three programs, or that of the crates, which have each at NAME/out/NAME. It prints a line for
+each thing that it tried, with `ok` or what was wrong, and ends with status 1 if anything was."""
+
+import argparse
+import collections
+import os
+import pathlib
+import pty
+import re
+import shlex
+import shutil
+import socket
+import subprocess
+import sys
+import tempfile
+import time
+
+from trial import (
+    PATIENCE, REALM, SINKS, Server, Trial, answer, ask_tcp, ask_udp, datagrams, drained, end_all, flood, free_port,
+    is_locked, login, programs_in, sink_of,
+)
+
+MOST = 4294967295
+
+# Values that are none, by the options that take them.
+NUMBERS = ("", "-1", "+1", "1.5", "0x10", "ten", " 1", "1 ", "\u0661", str(MOST + 1), "18446744073709551617")
+ADDRESSES = (
+    "", "localhost:88", "127.0.0.1", "127.0.0.1:", "127.0.0.1:65536", ":88", "::1:88", "[::1]", "127.1:88", " [::1]:88",
+)
+BAD = {
+    **dict.fromkeys(("db", "seed", "password-file", "out", "keytab", "cache"), ("",)),
+    **dict.fromkeys(("version", "rounds", "lock-after", "lock-seconds", "life", "start"), NUMBERS),
+    **dict.fromkeys(("greatest-life", "greatest-renewable"), NUMBERS),
+    **dict.fromkeys(("udp", "tcp", "kdc"), ADDRESSES),
+    "remembered": (*NUMBERS, "0", "65537"),
+    "types": ("", "16", "18,18", "18,", ",18", "18 17", "18;17", "aes256-cts", "18,17,20,19,23"),
+    "field": ("", "nonsense", "Disabled"),
+    "value": ("", "nonsense"),
+}
+GOOD = {
+    "db": "database", "realm": REALM, "name": "n", "seed": "seed", "password-file": "pw", "types": "18", "version": "1",
+    "field": "disabled", "value": "true", "out": "kt", "keytab": "kt", "udp": "127.0.0.1:0", "cache": "cc",
+}
+# The options of each command: `!` has to stand there, `*` may stand more than once, and `-` has no value.
+COMMANDS = {
+    "kadm init": "db! realm! seed",
+    "kadm add": "db! name! password-file types",
+    "kadm passwd": "db! name! password-file types",
+    "kadm random": "db! name! seed types",
+    "kadm drop": "db! name! version!",
+    "kadm policy": "db! name! field! value!",
+    "kadm remove": "db! name!",
+    "kadm list": "db!",
+    "kadm show": "db! name!",
+    "kadm keytab": "db! name! out! append-",
+    "kadm migrate": "db!",
+    "kdcd serve": "db! udp!* tcp* log- first- fixed- seed rounds remembered lock-after lock-seconds greatest-life "
+    "greatest-renewable",
+    "kclient kinit": "kdc* realm name! password-file keytab cache! service seed life start renewable- forwardable- "
+    "proxiable- tcp- renew- validate-",
+    "kclient kvno": "kdc* cache! name!* keytab seed fresh- tcp-",
+    "kclient klist": "cache! keytab",
+}
+FLAGS = ("disabled", "preauth", "forwardable", "proxiable", "postdate", "ok_as_delegate")
+TIMES = ("expires", "password_expires", "revoked_before")
+SPANS = ("greatest_life", "greatest_renewable")
+# Values of the fields of a policy, good and bad.
+SETTINGS = {
+    **dict.fromkeys(FLAGS, (("true", "false"), ("", "TRUE", "yes", "1", "never", "true "))),
+    **dict.fromkeys(TIMES, (
+        ("never", "0", "1798761600", "2027-01-01", "2027-01-01T12:00:00Z", "2028-02-29"),
+        ("", "Never", "-1", "2027-1-1", "2027-02-29", "2027-13-01", "2027-01-01T24:00:00Z", "2027-01-01 12:00:00Z"),
+    )),
+    **dict.fromkeys(SPANS, (("0", "1", str(MOST)), ("", "-1", "never", "10h", str(MOST + 1)))),
+}
+NAMES = (
+    "", "a b", "a//b", "/a", "a/", "u@x", "\\41", "\\4A", "\\4", "\u00e9", "a" * 256, "a/" * 16 + "a", "a\nb",
+)
+# What a line of the log is.
+LINE = re.compile(
+    r"\d{4}-\d\d-\d\dT\d\d:\d\d:\d\dZ \S+:\d+ (udp|tcp) "
+    r"(none|(as|tgs) \S+ \S+ (ticket \w+|refused \d+ [a-z-]+|unanswered))"
+)
+
+
+def faults_of(trial, base, values, status, *texts):
+    """What is wrong where a command with each of these last words has to end so."""
+    faults = ((value, trial.run([*base, value], seconds=10).fault(status, *texts)) for value in values)
+    return " | ".join(f"{value[:40]!r}: {fault}" for value, fault in faults if fault)
+
+
+def try_words(trial):
+    """The words of each command: help, and each option with values that are none, left away, twice, without a value."""
+    trial.realm("words")
+    for program in ("kadm", "kdcd", "kclient"):
+        subcommands = [each.split()[1] for each in COMMANDS if each.startswith(program)]
+        trial.expect(f"{program} --help", 0, *subcommands)
+        for words in ([], ["nonsense"], ["--nonsense"], [""], ["\udcff"], [subcommands[0], "\udcff"]):
+            trial.note(f"{program} {shlex.join(words)}", trial.run([program, *words]).fault(2))
+    for command, options in COMMANDS.items():
+        options = {each.rstrip("!*-"): each[len(each.rstrip("!*-")):] for each in options.split()}
+        trial.expect(f"{command} --help", 0, *[f"--{name}" for name in options])
+        base = {name: GOOD[name] for name, marks in options.items() if "!" in marks}
+        for name, marks in options.items():
+            try_option(trial, command, base, name, marks)
+        trial.expect(f"{command} {shlex.join(joined(base))} --nonsense", 2, "--nonsense")
+
+
+def joined(base):
+    return [word for name, value in base.items() for word in (f"--{name}", value)]
+
+
+def try_option(trial, command, base, name, marks):
+    option, values = f"--{name}", BAD.get(name, ())
+    if "-" in marks:
+        cases = [[f"{option}=yes"], [option, option]]
+    else:
+        cases = [[option], *[[option, value] for value in values], *[[f"{option}={value}"] for value in values]]
+        cases += [] if "*" in marks else [[option, GOOD.get(name, "1")] * 2]
+        cases += [[]] if "!" in marks else []
+    others = joined({each: value for each, value in base.items() if each != name})
+    ran = ((case, trial.run([*command.split(), *others, *case], seconds=10).fault(2, option)) for case in cases)
+    faults = " | ".join(f"{shlex.join(case) or 'left away'}: {fault}" for case, fault in ran if fault)
+    trial.note(f"{command} {option}: {len(cases)} faulty uses", faults)
+
+
+def try_kadm(trial):
+    """Each command and option of `kadm` with good values, the faults of names and files, and what is printed."""
+    trial.realm("kadm")
+    trial.cases("""
+        kadm init --db new --realm R.S -> 0 =ok
+        kadm init --db seeded --realm R.S --seed seed -> 0 =ok
+        kadm add --db database --name a --password-file pw -> 0 =ok
+        kadm add --db database --name b --password-file pw --types 17 -> 0 =ok
+        kadm add --db database --name c <<< a password -> 0 =ok
+        kadm passwd --db database --name a --password-file other --types 20,18 -> 0 =ok
+        kadm passwd --db database --name c <<< another -> 0 =ok
+        kadm random --db database --name r -> 0 =ok
+        kadm random --db database --name r --seed seed --types 19,17 -> 0 =ok
+        kadm drop --db database --name r --version 0000000001 -> 0 =ok
+        kadm keytab --db database --name a --out a.keytab -> 0 =ok
+        kadm keytab --db database --name b --out a.keytab --append -> 0 =ok
+        kadm remove --db database --name b -> 0 =ok
+        kadm migrate --db database -> 0 =ok
+    """)
+    every, rows = "1 18,17,20,19", ["a 2 20,18", "c 2 18,17,20,19"]
+    rows += [f"h {every}", f"host/n {every}", f"krbtgt/{REALM} {every}", "r 2 19,17", f"u {every}", f"v {every}"]
+    trial.expect("kadm list --db database", 0, "=" + "\n".join(rows))
+    policy = "kadm policy --db database --name a --field".split()
+    for field, (good, bad) in SETTINGS.items():
+        faults = faults_of(trial, [*policy, field, "--value"], good, 0, "=ok")
+        faults += faults_of(trial, [*policy, field, "--value"], bad, 2, "--value")
+        trial.note(f"kadm policy --field {field}: {len(good)} good values, {len(bad)} bad ones", faults)
+    last = {**dict.fromkeys(FLAGS, "false"), **dict.fromkeys(SPANS, str(MOST))}
+    last.update(dict.fromkeys(TIMES, "1835395200 2028-02-29T00:00:00Z"))
+    rows = [*[f"{field} {value}" for field, value in sorted(last.items())], "version 2 20,18", "version 1 18,17,20,19"]
+    trial.expect("kadm show --db database --name a", 0, "=" + "\n".join(rows))
+    random = "kadm random --db database --name".split()
+    trial.note(f"{len(NAMES)} names that are none", faults_of(trial, random, NAMES, 1, "=refused BadName"))
+    trial.write("long", "p" * 1025)
+    trial.write("longest", "p" * 1024)
+    (trial.folder / "folder").mkdir()
+    before = (trial.folder / "database").read_bytes()
+    trial.cases("""
+        kadm init --db database --realm A.B -> 1 =refused Exists
+        kadm init --db n --realm A/B -> 1 =refused BadName
+        kadm init --db n --realm "" -> 1 =refused BadName
+        kadm add --db database --name u --password-file pw -> 1 =refused Exists
+        kadm add --db database --name x --password-file long -> 1 =refused LongPassword
+        kadm add --db database --name x --password-file none -> 3 =failed; none: No such file
+        kadm add --db database --name x -> 3 =failed; standard input
+        kadm passwd --db database --name x --password-file pw -> 1 =refused Absent
+        kadm random --db database --name x --seed short -> 1 =refused ShortSeed
+        kadm drop --db database --name a --version 2 -> 1 =refused CurrentKeys
+        kadm drop --db database --name a --version 7 -> 1 =refused Absent
+        kadm remove --db database --name krbtgt/A.B -> 1 =refused Protected
+        kadm show --db database --name x -> 1 =refused Absent
+        kadm list --db none -> 3 =failed; none: No such file
+        kadm list --db folder -> 3 =failed; folder: 
+        kadm list --db text -> 1 =refused NotJson
+        kadm keytab --db database --name a --out folder -> 3 =failed; folder: 
+        kadm keytab --db database --name a --out no/kt -> 3 =failed; no/kt
+        kadm keytab --db database --name a --out /dev/full -> 3 =failed; /dev/full: 
+        kadm keytab --db database --name a --out text --append -> 1 =refused BadMagic
+    """)
+    changed = (trial.folder / "database").read_bytes() != before
+    trial.note("the database is as it was before these", "it is another" if changed else "")
+    trial.expect("kadm add --db database --name longest --password-file longest", 0, "=ok")
+    modes = {(trial.folder / name).stat().st_mode & 0o777 for name in ("database", "a.keytab", "new")}
+    trial.note("a database and a keytab are their owner's alone", "" if modes == {0o600} else str(modes))
+    for sink in ("/dev/full", "a pipe that is closed"):
+        writer, _ = sink_of(trial, sink)
+        trial.expect("kadm list --db database", 3, stdout=writer, what=f"kadm list, whose output is {sink}")
+        os.close(writer)
+    for number, closed in enumerate(("0<&-", "1>&-", "2>&-", "0<&- 1>&- 2>&-")):
+        words = f"exec {shlex.quote(trial.programs['kadm'])} random --db database --name closed{number} {closed}"
+        trial.run(["sh", "-c", words])
+        trial.expect("kadm show --db database --name u", 0, "version 1 ", what=f"the database is whole: kadm {closed}")
+
+
+def try_limits(trial):
+    """Each option of `kdcd serve`, its limits at their ends, and servers with them that are asked."""
+    trial.realm("limits")
+    limits = ("lock-after", "lock-seconds", "greatest-life", "greatest-renewable")
+    for name, ends in {"remembered": (1, 65536), **dict.fromkeys(limits, (0, MOST))}.items():
+        for end in ends:
+            words = f"kdcd serve --db database --udp 127.0.0.1:0 --rounds 0 --{name} {end}"
+            trial.expect(words, 0, f"{name} {end}", "=served 0 0 0")
+    port, nine = free_port(), " ".join(["--udp 127.0.0.1:0"] * 9)
+    with socket.socket(type=socket.SOCK_DGRAM) as taken:
+        taken.bind(("127.0.0.1", port))
+        trial.cases(f"""
+            kdcd serve --db database --rounds 0 --tcp 127.0.0.1:0 -> 0 =served 0 0 0; with 5 rows
+            kdcd serve --db database --rounds 0 --udp 127.0.0.1:0 --seed seed --fixed --log --first -> 0 =served 0 0 0
+            kdcd serve --db database --udp 127.0.0.1:{port} -> 3 =failed; udp 127.0.0.1:{port}: 
+            kdcd serve --db database {nine} -> 2 --udp; 8
+            kdcd serve --db text --udp 127.0.0.1:0 -> 1 =refused NotJson; text: 
+            kdcd serve --db none --udp 127.0.0.1:0 -> 3 =failed; none: No such file
+            kdcd serve --db . --udp 127.0.0.1:0 -> 3 =failed
+            kdcd serve --db database --seed short --udp 127.0.0.1:0 -> 1 =refused ShortSeed; short: 
+            kdcd serve --db database --seed none --udp 127.0.0.1:0 -> 3 =failed; none: No such file
+        """)
+    served = trial.serve("--first --remembered 1")
+    trial.cases("KINIT u --password-file pw -> 0 =ok\nKVNO h -> 0 =h kvno 1\nKVNO host/n -> 1 =refused 29")
+    status = served.end()
+    trial.note("SIGTERM ends a server at once", "" if status == -15 else f"status {status}")
+    wrong, right = "KINIT u --password-file other -> 1 =refused 24\n", "KINIT u --password-file pw -> 0 =ok\n"
+    most = f"--rounds {MOST} --remembered 65536 --lock-after {MOST} --lock-seconds {MOST}"
+    trial.with_server(f"--first {most}", f"{4 * wrong}{right}KVNO h --name host/n -> 0 h kvno 1; host/n kvno 1")
+    locked = f"{wrong}KINIT u --password-file pw -> 1 =refused 18"
+    trial.with_server(f"--first --lock-after 1 --lock-seconds {MOST}", locked)
+    trial.with_server("--first --lock-after 1 --lock-seconds 0", f"{wrong}sleep 1.1 -> 0\n{right}")
+    for life in (1, 60, 86400):
+        served = trial.serve(f"--first --greatest-life {life} --greatest-renewable {life}")
+        trial.cases("KINIT u --renewable --password-file pw -> 0 =ok")
+        ends = re.search(r"from (\S+) till (\S+)", trial.run("kclient klist --cache cc").out)
+        lived = seconds_of(ends[2]) - seconds_of(ends[1]) if ends else None
+        trial.note(f"--greatest-life {life} is the ticket's life", "" if lived == life else f"it is {lived}")
+        served.end()
+    longest = "KINIT u --life 86400 --password-file pw -> 0 =ok\nKINIT u --password-file pw -> 1 =refused TooLate"
+    trial.with_server(f"--first --greatest-life {MOST} --greatest-renewable {MOST}", longest)
+    trial.with_server("--first --greatest-life 0", "KINIT u --password-file pw -> 1 =refused 11")
+    trial.with_server("", f"{right}KVNO h -> 1 =refused 37")
+
+
+def seconds_of(text):
+    return time.mktime(time.strptime(text, "%Y-%m-%dT%H:%M:%SZ"))
+
+
+def try_kclient(trial):
+    """Each option of `kclient` with good values, and the faults that a user meets."""
+    trial.realm("kclient")
+    for name in ("u", f"krbtgt/{REALM}"):
+        trial.run(f"kadm policy --db database --name {name} --field postdate --value true")
+    trial.run("kadm keytab --db database --name u --out u.keytab")
+    trial.run("kadm keytab --db database --name host/n --out host.keytab")
+    served = trial.serve()
+    trial.configure(served.udp)
+    trial.cases("""
+        KINIT u --password-file pw --tcp -> 0 =ok
+        KINIT u --keytab u.keytab -> 0 =ok
+        KINIT u --password-file pw --seed seed -> 0 =ok
+        KINIT u --password-file pw --service h -> 0 =ok
+        KINIT u <<< a password -> 0 =ok
+        KINIT u --password-file pw --life 600 --renewable --forwardable --proxiable -> 0 =ok
+        kclient klist --cache cc -> 0 principal u@A.B; flags F; renew 2
+        kclient kinit --renew --kdc KDC --cache cc -> 0 =ok
+        kclient kinit --kdc 127.0.0.1:9 --kdc KDC --realm A.B --name u --keytab u.keytab --cache cc -> 0 =ok
+        KINIT u --password-file pw --start 3 -> 0 =ok
+        kclient kinit --validate --kdc KDC --cache cc -> 1 =refused 33
+    """)
+    mode = (trial.folder / "cc").stat().st_mode & 0o777
+    trial.note("a cache is its owner's alone", "" if mode == 0o600 else oct(mode))
+    trial.cases("""
+        kclient kinit --name u --password-file pw -> 0 =ok
+        kclient kvno --name h -> 0 =h kvno 1
+        kclient klist -> 0 principal u@A.B; h@A.B from
+    """, env={**trial.environment, "KRB5CCNAME": "FILE:named"})
+    trial.expect("kclient klist", 2, "KRB5CCNAME", env={**trial.environment, "KRB5CCNAME": "KEYRING:x"})
+    time.sleep(3)
+    trial.cases("""
+        kclient kinit --validate --kdc KDC --cache cc -> 0 =ok
+        KVNO h --name host/n -> 0 h kvno 1; host/n kvno 1
+        KVNO h --fresh --seed seed --tcp -> 0 =h kvno 1
+        KVNO h --keytab h.keytab -> 0 =h kvno 1, keytab entry valid
+        KVNO h --keytab host.keytab -> 1 =refused Absent; host.keytab: 
+        KVNO nothing -> 1 =refused 7
+        kclient klist --keytab h.keytab -> 0 h@A.B version 1 type 18; h@A.B version 1 type 19
+        KINIT nobody --password-file pw -> 1 =refused 6; not in the database
+        KINIT u --password-file other -> 1 =refused 24; the password
+        KINIT v --password-file other -> 1 =refused CannotOpen; the password
+        KINIT u --password-file none -> 3 =failed; none: No such file
+        KINIT u --password-file pw --keytab u.keytab -> 2 --keytab
+        KINIT u --keytab host.keytab -> 1 =refused Absent; host.keytab: 
+        KINIT u --keytab text -> 1 =refused BadMagic; text: 
+        KINIT u -> 3 =failed; standard input
+        kclient kinit --renew --validate --kdc KDC --cache cc -> 2 --renew
+        kclient kinit --renew --life 60 --kdc KDC --cache cc -> 2 --renew
+        kclient klist --cache cc --keytab h.keytab -> 2 --keytab
+        kclient klist --cache text -> 1 =refused BadMagic; text: 
+        kclient klist --cache none -> 3 =failed; none: No such file
+        kclient kinit --kdc KDC --realm A.B --name u --keytab u.keytab --cache no/cc -> 3 =failed; no/cc: 
+        kclient kinit --kdc 127.0.0.1:9 --realm A.B --name u --keytab u.keytab --cache cc -> 3 =failed; 127.0.0.1:9: 
+        kclient kinit --kdc KDC --realm X.Y --name u --keytab u.keytab --cache cc -> 1 =refused 6
+    """)
+    kinit = [*"kclient kinit --kdc 127.0.0.1:9 --realm A.B --keytab u.keytab --cache cc --name".split()]
+    trial.note(f"{len(NAMES)} names that are none", faults_of(trial, kinit, NAMES, 1, "=refused BadName"))
+    served.end()
+
+
+def try_pairs(trial):
+    """Two commands at once on one database."""
+    trial.realm("pairs")
+    done, refused, faults, random = set(), 0, [], "kadm random --db database --name".split()
+    for turn in range(100):
+        names = [f"{side}{turn}" for side in "ab"]
+        both = [trial.start([*random, name], stdout=subprocess.PIPE) for name in names]
+        said = [process.communicate(timeout=PATIENCE)[0] for process in both]
+        done.update(name for name, text in zip(names, said) if text == b"ok\n")
+        refused += said.count(b"refused Locked\n")
+        faults += [f"{names}: {said}"] if set(said) - {b"ok\n", b"refused Locked\n"} or b"ok\n" not in said else []
+    trial.note(f"a hundred pairs of kadm random: {len(done)} done, {refused} refused Locked", " | ".join(faults))
+    listed = {line.split()[0] for line in trial.run("kadm list --db database").out.splitlines()}
+    differ = done ^ (listed - {"u", "v", "h", "host/n", f"krbtgt/{REALM}"})
+    trial.note("the database has what was done, and nothing else", str(sorted(differ)) if differ else "")
+    left = [each.name for each in trial.folder.glob("database.*.new")]
+    trial.note("no file is left beside it", str(left) if left else "")
+    waits = trial.start("kadm add --db database --name w".split(), stdin=subprocess.PIPE, stdout=subprocess.PIPE)
+    is_held = any(is_locked(trial.folder / "database.lock") for _ in range(500))
+    trial.note("kadm add holds the lock while it waits for a password", "" if is_held else "nothing holds it")
+    trial.expect("kadm random --db database --name x", 1, "=refused Locked", seconds=10)
+    trial.expect("kadm list --db database", 0, "host/n", seconds=10)
+    said = waits.communicate(b"a password\n", PATIENCE)[0]
+    trial.note("it is done once the password is there", "" if said == b"ok\n" else repr(said))
+    waits = trial.start("kadm add --db database --name y".split(), stdin=subprocess.PIPE)
+    any(is_locked(trial.folder / "database.lock") for _ in range(500))
+    waits.kill()
+    waits.wait(PATIENCE)
+    trial.expect("kadm random --db database --name z", 0, "=ok", what="a command that is killed leaves no lock")
+
+
+def try_addresses(trial):
+    """Eight addresses, each of which answers."""
+    trial.realm("addresses")
+    interfaces = pathlib.Path("/proc/net/if_inet6")
+    six = "[::1]" if interfaces.exists() and " lo\n" in interfaces.read_text() else ""
+    if not six:
+        trial.leave("IPv6, which this machine has not")
+    hosts = ["127.0.0.1", "127.0.0.2", "127.0.0.3", six or "127.0.0.4"]
+    served = trial.serve("--first " + " ".join(f"--{kind} {host}:0" for kind in ("udp", "tcp") for host in hosts))
+    kinds = collections.Counter(kind for kind, _ in served.addresses)
+    trial.note("eight addresses are named", "" if kinds == {"udp": 4, "tcp": 4} else served.said())
+    for kind, address in served.addresses:
+        if kind == "udp":
+            with datagrams(address) as peer:
+                found = answer(ask_udp(peer, login("v")))
+        else:
+            found = answer(ask_tcp(address, login("v")))
+        trial.note(f"{kind} {address} answers", "" if found == "ticket" else found)
+        way = " --tcp" if kind == "tcp" else ""
+        trial.cases(f"kclient kinit --kdc {address}{way} --realm A.B --name u --password-file pw --cache cc -> 0 =ok")
+    again = " ".join(f"--{kind} {address}" for kind, address in served.addresses)
+    served.end()
+    served = trial.serve(again)
+    trial.note("the next run takes the same ports at once", "" if served.is_up else served.said())
+    served.end()
+
+
+def try_lock(trial):
+    """A lock, and its end."""
+    trial.realm("lock")
+    served = trial.serve("--first --lock-after 3 --lock-seconds 6")
+    wrong, right = "KINIT u --password-file other -> 1 =refused 24\n", "KINIT u --password-file pw -> 0 =ok\n"
+    trial.cases(2 * wrong + right + 3 * wrong)
+    last = time.time()
+    trial.cases("""
+        KINIT u --password-file pw -> 1 =refused 18; locked
+        KINIT u --password-file other -> 1 =refused 18
+        KINIT v --password-file pw -> 0 =ok
+    """)
+    time.sleep(max(0.0, last + 7.1 - time.time()))
+    trial.cases(right + 2 * wrong + right)
+    served.end()
+
+
+def try_change(trial):
+    """What `kadm` changes is served within two seconds."""
+    trial.realm("change")
+    served, fixed = trial.serve(), Server(trial, "--first --fixed")
+
+    def change(words, wanted, given=""):
+        fault, start = trial.run(words, given=given).fault(0), time.monotonic()
+        while (found := served.answer("w")) != wanted and time.monotonic() < start + 6:
+            time.sleep(0.02)
+        took = time.monotonic() - start
+        is_late = found != wanted or took > 2
+        trial.note(f"{words} is served", fault or (f"w gets {found} after {took:.1f} s" if is_late else ""))
+
+    change("kadm add --db database --name w", "25", given="a password\n")
+    change("kadm policy --db database --name w --field preauth --value false", "ticket")
+    change("kadm policy --db database --name w --field disabled --value true", "18")
+    change("kadm policy --db database --name w --field disabled --value false", "ticket")
+    change("kadm policy --db database --name w --field expires --value 2020-01-01", "1")
+    change("kadm remove --db database --name w", "6")
+    trial.cases("KINIT u --password-file pw -> 0 =ok\nKVNO h -> 0 =h kvno 1")
+    trial.run("kadm passwd --db database --name u --password-file other")
+    trial.run("kadm random --db database --name h")
+    time.sleep(2)
+    trial.cases("""
+        KVNO h -> 0 =h kvno 1
+        KVNO h --fresh -> 0 =h kvno 2
+        KINIT u --password-file other -> 0 =ok
+        KINIT u --password-file pw -> 1 =refused 24
+    """)
+    trial.run("kadm init --db foreign --realm R.S")
+    trial.run("cp database kept")
+    none = "No such file or directory (os error 2)"
+    for words, said in {"mv text": "NotJson", "mv foreign": "OtherRealm", "mv database": none}.items():
+        trial.run(f"{words} {'gone' if said == none else 'database'}")
+        line = f"kdcd: database: {said}; the rows before it stay\n"
+        trial.note(f"{words}: it says {said}", "" if served.wait(lambda: line in served.said(), 4) else served.said())
+    time.sleep(2)
+    trial.note("each is said once", "" if served.said().count("rows before it stay") == 3 else served.said())
+    trial.cases("KINIT u --password-file other -> 0 =ok")
+    trial.run("mv kept database")
+    change("kadm add --db database --name w --password-file pw", "25")
+    found = fixed.answer("w")
+    trial.note("--fixed: no change is served", "" if found == "6" else found)
+    served.end()
+    fixed.end()
+
+
+def odd_lines(text):
+    """The lines that are none of the log, but for what a server says at its start and its end."""
+    return [line for line in text.splitlines() if not line.startswith("kdcd: ") and not LINE.fullmatch(line)]
+
+
+def try_log(trial):
+    """Thousands of requests with a log to a file, and to places that take no lines."""
+    trial.realm("log")
+    for what in SINKS:
+        writer, reader = sink_of(trial, what)
+        served = trial.serve("--first --log", errors=writer)
+        os.close(writer)
+        count = flood(served.udp, trial.requests)
+        is_well = count == trial.requests
+        trial.note(f"log to {what}: {trial.requests} datagrams are answered", "" if is_well else f"{count} are")
+        over_tcp = sum(bool(ask_tcp(served.addresses[1][1], login("v"))) for _ in range(200 if is_well else 1))
+        trial.note(f"log to {what}: 200 connections are answered", "" if over_tcp == 200 else f"{over_tcp} are")
+        text = drained(reader) if reader else (trial.folder / "lines").read_text()
+        odd = odd_lines(text)
+        if what == "a file":
+            odd = odd or (text.count(" udp as ") < trial.requests) * [f"{text.count(' udp as ')} lines"]
+        if reader:
+            found, more = served.answer("v"), drained(reader)
+            is_well = found == "ticket" and " udp as v " in more
+            trial.note(f"log to {what}: it has lines again once it is read", "" if is_well else f"{found}, {more!r}")
+            os.close(reader)
+        trial.note(f"log to {what}: lines are whole", f"{odd[:3]}" if odd else "")
+        status = served.end()
+        trial.note(f"log to {what}: SIGTERM ends it", "" if status == -15 else f"status {status}")
+    try_lost_lines(trial)
+
+
+def try_lost_lines(trial):
+    """What is said of lost lines after the last round."""
+    reader, writer = os.pipe()
+    served = trial.serve("--first --log --rounds 8000", errors=writer)
+    os.close(writer)
+    answered, more, text = flood(served.udp, 2000), 500, drained(reader)
+    while answered >= 2000 and more == 500:
+        more = flood(served.udp, 500)
+        text += drained(reader)
+    served.wait(lambda: False, 5 if answered >= 2000 else 0)
+    status, events = served.end(), re.findall(r"served (\d+) 0 0", served.out.read_text())
+    text += drained(reader)
+    os.close(reader)
+    lost = sum(map(int, re.findall(r"kdcd: log: (\d+) lines? (?:are|is) lost", text)))
+    lines = len(LINE.findall(text))
+    is_well = status == 0 and events == [str(lines + lost)] and not odd_lines(text)
+    fault = "" if is_well else f"status {status}, {events} events, {lines} lines, {lost} lost: {text[-200:]!r}"
+    trial.note("the lines that are lost are counted after the last round", fault)
+
+
+def try_terminal(trial):
+    """Passwords at a terminal."""
+    trial.realm("terminal")
+    served = trial.serve()
+    for words, typed, status, out, asked in (
+        ("kadm add --db database --name t", "secret\nsecret\n", 0, "=ok", 2),
+        ("kadm add --db database --name o", "one\ntwo\n", 1, "=refused Mismatch", 2),
+        ("kadm add --db database --name o", "\x04", 3, "=failed", 1),
+        ("kadm passwd --db database --name t", "new\nnew\n", 0, "=ok", 2),
+        ("KINIT v", "a password\n", 0, "=ok", 1),
+        ("KINIT v", "another\n", 1, "=refused CannotOpen", 1),
+    ):
+        master, slave = pty.openpty()
+        os.write(master, typed.encode())
+        ran = trial.run(words, stdin=slave, seconds=10)
+        fault = ran.fault(status, out) or ("" if ran.err.count("Password for ") == asked else f"it asks {ran.err!r}")
+        trial.note(f"at a terminal: {words}, {typed!r}", fault)
+        os.close(slave)
+        os.close(master)
+    served.end()
+
+
+def try_stock(trial):
+    """MIT's and Heimdal's tools, where they are on the path."""
+    trial.realm("stock")
+    for name in ("u", f"krbtgt/{REALM}"):
+        trial.run(f"kadm policy --db database --name {name} --field postdate --value true")
+    trial.run("kadm add --db database --name off --password-file pw")
+    trial.run("kadm policy --db database --name off --field disabled --value true")
+    trial.run("kadm keytab --db database --name v --out v.keytab")
+    served = trial.serve()
+    trial.configure(served.udp)
+    trial.cases("KINIT u --password-file pw --renewable --forwardable -> 0 =ok\nKVNO h --name host/n -> 0 h kvno 1")
+    if shutil.which("kvno") and "Kerberos 5 version" in trial.run("klist -V").out:
+        try_mit(trial, served)
+    else:
+        trial.leave("MIT's klist, kinit and kvno, which are not on the path")
+    if shutil.which("kgetcred"):
+        kinit = "kinit.heimdal" if shutil.which("kinit.heimdal") else "kinit"
+        trial.cases(f"""
+            {kinit} --password-file=pw --cache=FILE:heimdal u@A.B -> 0
+            kgetcred --cache=FILE:heimdal h -> 0
+            kgetcred --cache=FILE:cc h -> 0
+            kclient kvno --cache heimdal --name h -> 0 =h kvno 1
+            {kinit} --password-file=other --cache=FILE:heimdal u@A.B -> 1 Password incorrect
+        """)
+    else:
+        trial.leave("Heimdal's kinit and kgetcred, which are not on the path")
+    served.end()
+
+
+def try_mit(trial, served):
+    stock = {**trial.environment, "KRB5CCNAME": "FILE:stock"}
+    trial.cases("""
+        klist -ke h.keytab -> 0 1 h@A.B (aes256-cts-hmac-sha1-96); (aes128-cts-hmac-sha1-96)
+        klist -ke h.keytab -> 0 1 h@A.B (aes256-cts-hmac-sha384-192); (aes128-cts-hmac-sha256-128)
+        klist -efc cc -> 0 u@A.B; krbtgt/A.B@A.B; h@A.B; host/n@A.B; Flags: FRIA
+        klist -sc cc -> 0
+        kvno -c cc host/n -> 0 host/n@A.B: kvno = 1
+    """)
+    for way in ("", "udp_preference_limit = 1"):
+        trial.configure(served.udp, way)
+        trial.cases("kinit u <<< a password -> 0\nkvno -k h.keytab h -> 0 kvno = 1, keytab entry valid", env=stock)
+    trial.cases("""
+        kclient kvno --name h --name host/n -> 0 h kvno 1; host/n kvno 1
+        kclient klist -> 0 principal u@A.B
+        kinit -k -t v.keytab v -> 0
+        kinit u <<< another password -> 1 Password incorrect
+        kinit nobody -> 1 Client 'nobody@A.B' not found in Kerberos database
+        kinit off <<< a password -> 1 Client's credentials have been revoked
+        kvno nothing -> 1 Server not found in Kerberos database
+        kinit -r 2d u <<< a password -> 0
+        kinit -R -> 0
+        kinit -s 3s u <<< a password -> 0
+        kinit -v -> 1 Ticket not yet valid
+    """, env=stock)
+    time.sleep(3)
+    trial.cases("kinit -v -> 0\nkvno h -> 0 kvno = 1", env=stock)
+
+
+PARTS = {
+    "words": try_words, "kadm": try_kadm, "limits": try_limits, "kclient": try_kclient, "pairs": try_pairs,
+    "addresses": try_addresses, "lock": try_lock, "change": try_change, "log": try_log, "terminal": try_terminal,
+    "stock": try_stock,
+}
+
+
+def main():
+    words = argparse.ArgumentParser(description=__doc__, formatter_class=argparse.RawDescriptionHelpFormatter)
+    words.add_argument("--programs", default=pathlib.Path(__file__).resolve().parent.parent / "crates")
+    words.add_argument("--only", nargs="+", choices=PARTS, default=list(PARTS), metavar="PART", help=", ".join(PARTS))
+    words.add_argument("--requests", type=int, default=3000, help="datagrams with each log")
+    words = words.parse_args()
+    with tempfile.TemporaryDirectory() as folder:
+        trial = Trial(programs_in(words.programs), pathlib.Path(folder))
+        trial.requests = words.requests
+        try:
+            for part in words.only:
+                print(f"{part}: {PARTS[part].__doc__}")
+                PARTS[part](trial)
+        finally:
+            end_all()
+    print(f"{trial.right} right, {trial.wrong} wrong, {trial.left} left out")
+    sys.exit(1 if trial.wrong else 0)
+
+
+if __name__ == "__main__":
+    main()
