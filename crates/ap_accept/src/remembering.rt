@@ -34,7 +34,8 @@ impl State {
         ctime: i64,
         cusec: u32,
     ) -> Result<(), AllocError>
-        requires timely { is_untimely (memory_of self.old service.now.components client.now.components).floor at.sec ctime
+        requires timely { is_untimely
+            (memory_of self.old service.now.components client.now.components).floor at.sec ctime
             ≡ false }
         requires new { map.get (memory_of self.old service.now.components client.now.components).pairs (ctime, cusec)
             ≡ None }

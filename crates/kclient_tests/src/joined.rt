@@ -43,8 +43,8 @@ pub struct JoinedExchange {
     /// The moment of the KDC.
     at: Moment,
     link: Link,
-    /// `u` for a datagram, `t` for a message by TCP, `=` for one by TCP with the octets of the message before it; `U`, `T` and
-    /// `#` for those to the second KDC.
+    /// `u` for a datagram, `t` for a message by TCP, `=` for one by TCP with the octets of the message before it; `U`,
+    /// `T` and `#` for those to the second KDC.
     ways: String,
     /// The last message.
     last: Vec<u8>,

@@ -33,7 +33,8 @@ pub fn end_to_end(
     accepting: &Sealing,
 ) -> Result<Accepted, JoinedFault>
     requires { IsShortChecksum client.now.wanted.checksum }
-    ensures value { IfSome (issued (view kdc.old request.now) issuing.now.at issuing.now.random (request_of request.now))
+    ensures value { IfSome
+        (issued (view kdc.old request.now) issuing.now.at issuing.now.random (request_of request.now))
         (λ issue. IsReader client.now.reader issue
         → MayBeAccepted issue acceptor.old accepting.now.at.sec client.now.presenting.at
         → IsJoined issue client.now.wanted client.now.presenting.at result) }

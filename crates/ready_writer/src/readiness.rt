@@ -26,7 +26,8 @@ pub struct Readiness {
 }
 
 impl Readiness {
-    /// None where the system can't wait for the stream. So it is with a file: it takes what is written at once, or fails.
+    /// None where the system can't wait for the stream. So it is with a file: it takes at once what is written, or
+    /// fails.
     pub fn of(alloc: Global, net: &impl Net, stream: &impl AsFd) -> io::Result<Option<Readiness>> {
         let descriptor = stream.as_fd().as_raw_fd();
         let is_terminal = stream.as_fd().is_terminal();
