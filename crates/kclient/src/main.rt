@@ -4,7 +4,7 @@
 use client_sockets::{SocketExchange, now};
 use file_store::FileStore;
 use kclient_run::{Defaults, FAILED, Variable, kclient_run};
-use std::alloc::{AllocError, AllocFailed};
+use std::alloc::AllocError;
 use std::env::VarError;
 use std::process::ExitCode;
 use std::{env, fmt, io};
@@ -29,8 +29,8 @@ impl fmt::Display for Fault {
     }
 }
 
-impl<T: Drop> From<AllocFailed<T>> for Fault {
-    fn from(_: AllocFailed<T>) -> Fault {
+impl From<AllocError> for Fault {
+    fn from(_: AllocError) -> Fault {
         Fault::Memory
     }
 }
