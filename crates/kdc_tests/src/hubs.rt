@@ -1,10 +1,12 @@
-//! Worked cases of a hub (`kdc_hub`) over a KDC of the realm `A.B` that has no clients: each request is answered by
-//! an error of code 6.
-use crate::kdcs::{BASIC, CLIENT_UNKNOWN, kdc};
-use crate::service_tickets;
+//! Worked cases of a hub (`kdc_hub`). Where its KDC, of the realm `A.B`, has no clients, each request is answered by an
+//! error of code 6.
+use crate::expect::same;
+use crate::given;
+use crate::given::{BASIC, CLIENT_UNKNOWN};
+use crate::realm::{Realm, kdc};
+use crate::service_tickets::REQUEST;
 use framing::frame;
-use kdc_core::Kdc;
-use kdc_hub::{Action, Did, Event, Hub, HubFault, MemoryWire, Wire, serve};
+use kdc_hub::{Action, Did, Event, Hub, HubFault, MemoryWire, Served, Wire, serve};
 use krb_elements::Octets;
 use krb_fields::Moment;
 use rand_chacha::ChaCha20Rng;
@@ -15,29 +17,25 @@ use std::net::{Ipv4Addr, SocketAddr};
 use std::test::Fail;
 
 /// The basic request for the service `krbtgu/A.B` instead, and its reply.
-const OTHER_REQUEST: &[u8] = b"\
+const OTHER_REQUEST: &str = "\
         6a693067a103020105a20302010aa45b3059a00703050000000000a10e300ca003020101a10530031b0175a2051b03412e42\
         a3183016a003020102a10f300d1b066b72627467751b03412e42a511180f31393730303130313030303030305aa703020101\
         a8053003020112";
 
-const OTHER_CLIENT_UNKNOWN: &[u8] = b"\
+const OTHER_CLIENT_UNKNOWN: &str = "\
         7e4a3048a003020105a10302011ea411180f32303234303130313030303030305aa503020100a603020106a9051b03412e42\
         aa183016a003020102a10f300d1b066b72627467751b03412e42";
 
 /// The error of the realm with code 61.
-const TOO_LONG: &[u8] = b"\
+const TOO_LONG: &str = "\
         7e4a3048a003020105a10302011ea411180f32303234303130313030303030305aa503020100a60302013da9051b03412e42\
         aa183016a003020102a10f300d1b066b72627467741b03412e42";
 
 type TestHub = Hub<ChaCha20Rng>;
 
-fn hub_of(alloc: Global, kdc: Kdc) -> TestHub {
-    Hub::new(alloc, kdc, ChaCha20Rng::from_seed([0; 32]))
-}
-
 /// What a test does with a hub, and whether what it saw is right. A hub is let go in `run` alone: proofs about it end
 /// take long for each place.
-#[derive(Clone, Copy, Debug)]
+#[derive(Clone, Copy)]
 enum Scenario {
     Alternating,
     CutAnywhere,
@@ -50,11 +48,32 @@ enum Scenario {
     FailedCall(u64),
     /// No call fails.
     NoFailedCall,
+    /// The KDC has clients.
+    Repeat,
+}
+
+impl Scenario {
+    fn realm(self) -> Realm {
+        match self {
+            Scenario::Repeat => Realm::Service,
+            _ => Realm::Granter,
+        }
+    }
 }
 
 fn run(alloc: Global, scenario: Scenario) -> Result<bool, Fail> {
-    let mut hub = hub_of(alloc, kdc(alloc)?);
+    let kdc = kdc(alloc, scenario.realm())?;
+    let mut hub = Hub::new(alloc, kdc, ChaCha20Rng::from_seed([0; 32]));
     play(alloc, &mut hub, scenario)
+}
+
+/// What the test saw is right.
+fn expect(alloc: Global, scenario: Scenario) -> Result<(), Fail> {
+    if run(alloc, scenario)? {
+        Ok(())
+    } else {
+        Err(Fail::from("what was seen"))
+    }
 }
 
 fn play(alloc: Global, hub: &mut TestHub, scenario: Scenario) -> Result<bool, Fail> {
@@ -68,6 +87,7 @@ fn play(alloc: Global, hub: &mut TestHub, scenario: Scenario) -> Result<bool, Fa
         Scenario::OwnReplies => each_gets_its_own(alloc, hub),
         Scenario::FailedCall(calls) => a_call_fails(alloc, hub, calls),
         Scenario::NoFailedCall => no_call_fails(alloc, hub),
+        Scenario::Repeat => a_stream_is_repeated(alloc, hub),
     }
 }
 
@@ -76,10 +96,19 @@ fn now() -> Result<Moment, Fail> {
     Ok(Moment::new(1_704_067_200, 0).ok_or("a moment")?)
 }
 
+fn take(
+    alloc: Global,
+    hub: &mut TestHub,
+    at: Moment,
+    event: Event,
+) -> Result<Vec<Action>, HubFault> {
+    hub.step(alloc, at, event)
+}
+
 fn step(alloc: Global, hub: &mut TestHub, event: Event) -> Result<Vec<Action>, Fail> {
-    match hub.step(alloc, now()?, event) {
+    match take(alloc, hub, now()?, event) {
         Ok(actions) => Ok(actions),
-        Err(_) => Err("memory")?,
+        Err(_) => Err(Fail::from("memory")),
     }
 }
 
@@ -88,12 +117,12 @@ fn bring(alloc: Global, hub: &mut TestHub, conn: u64, piece: &[u8]) -> Result<Ve
     step(alloc, hub, Event::Bytes { conn, piece })
 }
 
-fn octets(alloc: Global, digits: &[u8]) -> Result<Octets, Fail> {
-    Ok(Octets::new(hex::decode(alloc, digits)?))
+fn octets(alloc: Global, digits: &str) -> Result<Octets, Fail> {
+    Ok(Octets::new(given::octets(alloc, digits)?))
 }
 
 /// A request behind its length, which is given in hexadecimal digits.
-fn framed(alloc: Global, digits: &[u8]) -> Result<Vec<u8>, Fail> {
+fn framed(alloc: Global, digits: &str) -> Result<Vec<u8>, Fail> {
     let request = octets(alloc, digits)?;
     if request.as_slice().len() > 1_400 {
         Err("a request")?;
@@ -109,8 +138,8 @@ fn two_requests(alloc: Global) -> Result<Vec<u8>, Fail> {
 }
 
 /// Whether the action writes this message, which is given in hexadecimal digits.
-fn is_write(alloc: Global, action: &Action, to: u64, digits: &[u8]) -> Result<bool, Fail> {
-    let wanted = hex::decode(alloc, digits)?;
+fn is_write(alloc: Global, action: &Action, to: u64, digits: &str) -> Result<bool, Fail> {
+    let wanted = given::octets(alloc, digits)?;
     Ok(match action {
         Action::Write { conn, message } => *conn == to && message.as_slice() == wanted.as_slice(),
         _ => false,
@@ -134,7 +163,7 @@ fn brings(
     hub: &mut TestHub,
     conn: u64,
     octet: u8,
-    reply: Option<&[u8]>,
+    reply: Option<&str>,
 ) -> Result<bool, Fail> {
     let actions = bring(alloc, hub, conn, &[octet])?;
     match (actions.as_slice(), reply) {
@@ -178,8 +207,7 @@ fn octets_alternate(alloc: Global, hub: &mut TestHub) -> Result<bool, Fail> {
 
 #[test]
 fn connections_whose_octets_alternate_get_their_own_replies(rt: HostRuntime) -> Result<(), Fail> {
-    assert!(rt; run(rt.alloc(), Scenario::Alternating)?);
-    Ok(())
+    expect(rt.alloc(), Scenario::Alternating)
 }
 
 /// What two pieces bring on a new connection, which is then at its end.
@@ -223,8 +251,7 @@ fn requests_are_cut(alloc: Global, hub: &mut TestHub) -> Result<bool, Fail> {
 
 #[test]
 fn requests_that_are_cut_anywhere_get_the_same_replies(rt: HostRuntime) -> Result<(), Fail> {
-    assert!(rt; run(rt.alloc(), Scenario::CutAnywhere)?);
-    Ok(())
+    expect(rt.alloc(), Scenario::CutAnywhere)
 }
 
 /// Whether a step that wanted memory has the replies before it and has ended connection 7, its own.
@@ -241,7 +268,7 @@ fn is_ended(alloc: Global, hub: &mut TestHub, fault: &HubFault) -> Result<bool, 
 /// Whether both requests get their replies in one step, or it wants memory.
 fn is_stepped(alloc: Global, hub: &mut TestHub) -> Result<bool, Fail> {
     let piece = Octets::new(two_requests(alloc)?);
-    match hub.step(alloc, now()?, Event::Bytes { conn: 7, piece }) {
+    match take(alloc, hub, now()?, Event::Bytes { conn: 7, piece }) {
         Ok(actions) => are_both_replies(alloc, &actions, 7),
         Err(fault) => is_ended(alloc, hub, &fault),
     }
@@ -261,8 +288,7 @@ fn a_step_is_refused_memory(alloc: Global, hub: &mut TestHub) -> Result<bool, Fa
 // One allocation may be refused, by `rt try --test --fail-alloc N`.
 #[test]
 fn a_step_that_is_refused_memory_ends_its_connection_alone(rt: HostRuntime) -> Result<(), Fail> {
-    assert!(rt; run(rt.alloc(), Scenario::WantOfMemory)?);
-    Ok(())
+    expect(rt.alloc(), Scenario::WantOfMemory)
 }
 
 fn is_refused(alloc: Global, hub: &mut TestHub) -> Result<bool, Fail> {
@@ -283,8 +309,7 @@ fn a_length_is_at_fault(alloc: Global, hub: &mut TestHub) -> Result<bool, Fail> 
 
 #[test]
 fn a_length_at_fault_is_answered_and_ends_the_connection(rt: HostRuntime) -> Result<(), Fail> {
-    assert!(rt; run(rt.alloc(), Scenario::FaultyLength)?);
-    Ok(())
+    expect(rt.alloc(), Scenario::FaultyLength)
 }
 
 fn a_connection_ends(alloc: Global, hub: &mut TestHub) -> Result<bool, Fail> {
@@ -297,8 +322,7 @@ fn a_connection_ends(alloc: Global, hub: &mut TestHub) -> Result<bool, Fail> {
 
 #[test]
 fn the_end_of_a_connection_gives_no_action(rt: HostRuntime) -> Result<(), Fail> {
-    assert!(rt; run(rt.alloc(), Scenario::EndedConnection)?);
-    Ok(())
+    expect(rt.alloc(), Scenario::EndedConnection)
 }
 
 /// Whether connections 0 to 255 are opened, and 5 again.
@@ -327,49 +351,51 @@ fn a_table_is_full(alloc: Global, hub: &mut TestHub) -> Result<bool, Fail> {
 
 #[test]
 fn a_full_table_closes_what_comes_new(rt: HostRuntime) -> Result<(), Fail> {
-    assert!(rt; run(rt.alloc(), Scenario::FullTable)?);
-    Ok(())
+    expect(rt.alloc(), Scenario::FullTable)
 }
 
 fn peer(port: u16) -> SocketAddr {
     SocketAddr::from((Ipv4Addr::LOCALHOST, port))
 }
 
+/// What comes, and when.
+type Coming = VecDeque<(Moment, Event)>;
+
+fn push(coming: &mut Coming, event: Event) -> Result<(), Fail> {
+    Ok(coming.push_back((now()?, event))?)
+}
+
+fn push_datagram(alloc: Global, coming: &mut Coming, port: u16) -> Result<(), Fail> {
+    let request = octets(alloc, BASIC)?;
+    let peer = peer(port);
+    push(coming, Event::Datagram { peer, request })
+}
+
+fn push_piece(alloc: Global, coming: &mut Coming, conn: u64, piece: &[u8]) -> Result<(), Fail> {
+    let piece = Octets::from_slice(alloc, piece)?;
+    push(coming, Event::Bytes { conn, piece })
+}
+
 /// Requests of two peers and on two connections, one of them in two pieces.
-fn events(alloc: Global) -> Result<VecDeque<(Moment, Event)>, Fail> {
+fn push_requests(alloc: Global, coming: &mut Coming) -> Result<(), Fail> {
     let framed = framed(alloc, BASIC)?;
-    let head = Octets::from_slice(alloc, framed.get(..9).ok_or("a head")?)?;
-    let rest = Octets::from_slice(alloc, framed.get(9..).ok_or("a rest")?)?;
-    let whole = Octets::new(framed);
-    let mut events = VecDeque::new(alloc);
-    for event in [
-        Event::Datagram {
-            peer: peer(1001),
-            request: octets(alloc, BASIC)?,
-        },
-        Event::Opened { conn: 1 },
-        Event::Opened { conn: 2 },
-        Event::Bytes {
-            conn: 1,
-            piece: head,
-        },
-        Event::Bytes {
-            conn: 2,
-            piece: whole,
-        },
-        Event::Datagram {
-            peer: peer(1002),
-            request: octets(alloc, BASIC)?,
-        },
-        Event::Bytes {
-            conn: 1,
-            piece: rest,
-        },
-        Event::Closed { conn: 2 },
-    ] {
-        events.push_back((now()?, event))?;
+    let (head, rest) = framed.split_at_checked(9).ok_or("two pieces")?;
+    push_datagram(alloc, coming, 1001)?;
+    push(coming, Event::Opened { conn: 1 })?;
+    push(coming, Event::Opened { conn: 2 })?;
+    push_piece(alloc, coming, 1, head)?;
+    push_piece(alloc, coming, 2, &framed)?;
+    push_datagram(alloc, coming, 1002)?;
+    push_piece(alloc, coming, 1, rest)?;
+    push(coming, Event::Closed { conn: 2 })
+}
+
+fn coming(alloc: Global) -> Result<Coming, Fail> {
+    let mut coming = VecDeque::new(alloc);
+    match push_requests(alloc, &mut coming) {
+        Ok(()) => Ok(coming),
+        Err(fail) => Err(fail),
     }
-    Ok(events)
 }
 
 /// How many messages went to the peer of this port or to this connection.
@@ -391,39 +417,70 @@ fn replies(did: &[Did], port: u16, number: u64) -> u64 {
     replies
 }
 
-/// Whether each of the four got one reply, after 64 polls.
-fn are_served(did: &[Did]) -> bool {
-    did.len() == 68
-        && replies(did, 0, 1) == 1
-        && replies(did, 0, 2) == 1
-        && replies(did, 1001, 0) == 1
-        && replies(did, 1002, 0) == 1
+/// What is seen of a run over a wire.
+#[derive(Clone, Copy)]
+struct Seen {
+    served: Served,
+    /// The faults that the wire counted.
+    faults: u64,
+    /// How often the wire was called.
+    calls: usize,
+    /// How many messages each of the four was sent: the two connections and the two peers.
+    replies: [u64; 4],
 }
 
+fn look_at(served: Served, wire: &MemoryWire) -> Result<Seen, Fail> {
+    let did = wire.did().ok_or("memory")?;
+    Ok(Seen {
+        served,
+        faults: wire.faults(),
+        calls: did.len(),
+        replies: [
+            replies(did, 0, 1),
+            replies(did, 0, 2),
+            replies(did, 1001, 0),
+            replies(did, 1002, 0),
+        ],
+    })
+}
+
+/// Serves the requests for so many rounds. A call of the wire fails after so many others, or none does.
+fn serve_requests(
+    alloc: Global,
+    hub: &mut TestHub,
+    calls: Option<u64>,
+    rounds: u32,
+) -> Result<Seen, Fail> {
+    let coming = coming(alloc)?;
+    let mut wire = MemoryWire::new(alloc, coming, calls);
+    let served = serve(alloc, &mut wire, hub, rounds);
+    look_at(served, &wire)
+}
+
+/// There are 64 polls, and each of the four gets one reply.
 fn each_gets_its_own(alloc: Global, hub: &mut TestHub) -> Result<bool, Fail> {
-    let mut wire = MemoryWire::new(alloc, events(alloc)?, None);
-    let served = serve(alloc, &mut wire, hub, 64);
-    let is_whole = served.events == 8 && served.faults == 0 && served.refused == 0;
-    Ok(is_whole && are_served(wire.did().ok_or("memory")?))
+    let seen = serve_requests(alloc, hub, None, 64)?;
+    let is_whole = seen.served.events == 8 && seen.served.faults == 0 && seen.served.refused == 0;
+    Ok(is_whole && seen.calls == 68 && seen.replies == [1, 1, 1, 1])
 }
 
 #[test]
 fn each_gets_its_own_reply(rt: HostRuntime) -> Result<(), Fail> {
-    assert!(rt; run(rt.alloc(), Scenario::OwnReplies)?);
-    Ok(())
+    expect(rt.alloc(), Scenario::OwnReplies)
 }
 
-/// How many of the four get their reply, and how many faults are counted, in a run of 16 rounds, which polls 16 times
+/// How many messages the four are sent, and how many faults are counted, in a run of 16 rounds, which polls 16 times
 /// and acts four times.
 fn serve_with_fault(alloc: Global, hub: &mut TestHub, calls: u64) -> Result<(u64, u64), Fail> {
-    let mut wire = MemoryWire::new(alloc, events(alloc)?, Some(calls));
-    let served = serve(alloc, &mut wire, hub, 16);
-    if served.faults > wire.faults() {
+    let seen = serve_requests(alloc, hub, Some(calls), 16)?;
+    if seen.served.faults > seen.faults {
         Err("more faults than the wire counts")?;
     }
-    let did = wire.did().ok_or("memory")?;
-    let replies = replies(did, 1001, 1).saturating_add(replies(did, 1002, 2));
-    Ok((replies, served.faults))
+    let mut replies = 0u64;
+    for sent in seen.replies {
+        replies = replies.saturating_add(sent);
+    }
+    Ok((replies, seen.served.faults))
 }
 
 fn a_call_fails(alloc: Global, hub: &mut TestHub, calls: u64) -> Result<bool, Fail> {
@@ -438,13 +495,10 @@ fn no_call_fails(alloc: Global, hub: &mut TestHub) -> Result<bool, Fail> {
 #[test]
 fn a_failed_call_costs_one_reply_at_most(rt: HostRuntime) -> Result<(), Fail> {
     for calls in 0..20u64 {
-        assert!(rt;
-            run(rt.alloc(), Scenario::FailedCall(calls))?,
-            "after {calls} calls"
-        );
+        let is_right = run(rt.alloc(), Scenario::FailedCall(calls))?;
+        same(&rt, &calls, &is_right, &true);
     }
-    assert!(rt; run(rt.alloc(), Scenario::NoFailedCall)?);
-    Ok(())
+    expect(rt.alloc(), Scenario::NoFailedCall)
 }
 
 /// What is written to a new connection when it has brought these octets, if that is all that happens.
@@ -471,11 +525,12 @@ fn is_repeated(alloc: Global, hub: &mut TestHub, stream: &[u8]) -> Result<bool, 
     Ok(first.first() == Some(&0x6d) && first == second)
 }
 
+fn a_stream_is_repeated(alloc: Global, hub: &mut TestHub) -> Result<bool, Fail> {
+    let stream = framed(alloc, REQUEST)?;
+    is_repeated(alloc, hub, &stream)
+}
+
 #[test]
 fn a_repeat_over_another_connection_gets_the_same_reply(rt: HostRuntime) -> Result<(), Fail> {
-    let alloc = rt.alloc();
-    let stream = framed(alloc, service_tickets::REQUEST)?;
-    let mut hub = hub_of(alloc, service_tickets::kdc(alloc)?);
-    assert!(rt; is_repeated(alloc, &mut hub, &stream)?);
-    Ok(())
+    expect(rt.alloc(), Scenario::Repeat)
 }

@@ -3,6 +3,10 @@
 #![tactic(auto)]
 
 #[cfg(test)]
+mod expect;
+#[cfg(test)]
+mod given;
+#[cfg(test)]
 mod hubs;
 #[cfg(test)]
 mod kdcs;
@@ -10,6 +14,8 @@ mod kdcs;
 mod lives;
 #[cfg(test)]
 mod memories;
+#[cfg(test)]
+mod realm;
 #[cfg(test)]
 mod requests;
 #[cfg(test)]

@@ -1,10 +1,7 @@
 //! A realm's life from a login to a revoked ticket, each line with what it prints. The octets are those of a model of
 //! the exchanges in Python, which shares no code with this repository.
-use crate::kdcs::{Asked, gets_again, octets};
-use crate::scripts::expect_run;
-use crate::service_tickets::kdc;
-use kdc_script::DONE;
-use std::alloc::Global;
+use crate::realm::{Case, Exchange, NOTHING, Realm, expect};
+use crate::scripts::expect_lines;
 use std::test::Fail;
 
 /// A login with a timestamp, which is answered by a ticket.
@@ -251,46 +248,30 @@ const LIFE: &[(&str, &str)] = &[
 
 #[test]
 fn a_whole_life_is_answered_as_the_rules_say(rt: HostRuntime) {
-    let mut script = String::new(rt.alloc());
-    let mut printed = String::new(rt.alloc());
-    for (line, answer) in LIFE {
-        script.push_str(line).expect(&rt, "memory");
-        script.push('\n').expect(&rt, "memory");
-        printed.push_str(answer).expect(&rt, "memory");
-        printed.push('\n').expect(&rt, "memory");
-    }
-    expect_run(&rt, script.as_bytes(), &printed, DONE);
+    expect_lines(&rt, LIFE);
 }
 
-/// What the hexadecimal digits in a line's field spell, the first field being 0.
-fn field(alloc: Global, line: &str, place: usize) -> Result<Vec<u8>, Fail> {
-    let mut fields = line.split(' ');
-    for _ in 0..place {
-        let _ = fields.next();
-    }
-    let text = fields.next().ok_or("a field")?;
-    octets(alloc, text.as_bytes())
+/// A field of a line, the first being 0.
+fn field(line: &'static str, place: usize) -> Result<&'static str, Fail> {
+    Ok(line.split(' ').nth(place).ok_or("a field")?)
 }
 
-/// The random octets in a request's line.
-fn random(alloc: Global, line: &str) -> Result<[u8; 64], Fail> {
-    let mut random = [0; 64];
-    for (word, octet) in random.iter_mut().zip(&field(alloc, line, 3)?) {
-        *word = *octet;
-    }
-    Ok(random)
+/// What a line asks, and what is printed of it.
+fn exchange(line: &'static str, answer: &'static str) -> Result<Exchange, Fail> {
+    Ok(Exchange {
+        random: field(line, 3)?,
+        request: field(line, 5)?,
+        reply: Some(field(answer, 1)?),
+        ..NOTHING
+    })
 }
 
 #[test]
 fn a_login_without_memory_is_answered_when_it_comes_again(rt: HostRuntime) -> Result<(), Fail> {
-    let alloc = rt.alloc();
     let (line, answer) = LOGIN;
-    let request = field(alloc, line, 5)?;
-    let reply = field(alloc, answer, 1)?;
-    let asked = Asked {
-        random: random(alloc, line)?,
-        ..Asked::at_midnight(&request)?
-    };
-    assert!(rt; gets_again(alloc, kdc(alloc)?, asked, &reply)?);
-    Ok(())
+    expect(
+        rt.alloc(),
+        Realm::Service,
+        Case::Again(exchange(line, answer)?),
+    )
 }

@@ -1,5 +1,5 @@
 //! What a KDC (`kdc_core`) remembers of its clients' authenticators, over whole runs.
-use crate::steps::{Act, Asked, Changed, Step, replies, step_at};
+use crate::steps::{Act, Asked, Changed, Step, replies};
 use principal_rows::Limits;
 use std::alloc::Global;
 use std::test::Fail;
@@ -26,103 +26,141 @@ fn outcome_of(reply: &Option<Vec<u8>>) -> Outcome {
     }
 }
 
-/// A step of this client, whose row is changed.
-fn changes(client: u8, changed: Changed) -> Step {
-    step_at(0, client, Act::Change(changed), client)
+/// `u` comes to be.
+const ADD: Step = Step {
+    act: Act::Change(Changed::Add),
+    client: b'u',
+    at: 0,
+    stamp: 0,
+    cusec: 0,
+    octet: b'u',
+};
+
+/// `u` asks for a ticket.
+const ASK: Step = Step {
+    act: Act::Ask(Asked::Tgs),
+    ..ADD
+};
+
+/// The same of `w`.
+const ADD_OTHER: Step = Step {
+    client: b'w',
+    octet: b'w',
+    ..ADD
+};
+
+const ASK_OTHER: Step = Step {
+    client: b'w',
+    octet: b'w',
+    ..ASK
+};
+
+/// A step, and what comes of it.
+type Told = (Step, Outcome);
+
+/// The first step whose reply is another, or that has none.
+fn first_other_in(steps: &[Told], replies: &[Option<Vec<u8>>]) -> Option<usize> {
+    for (place, ((_, wanted), reply)) in steps.iter().zip(replies).enumerate() {
+        if outcome_of(reply) != *wanted {
+            return Some(place);
+        }
+    }
+    if replies.len() == steps.len() {
+        None
+    } else {
+        Some(replies.len())
+    }
 }
 
-/// A TGS-REQ of this client at a second, whose authenticator was made then.
-fn asks(at: u32, client: u8) -> Step {
-    step_at(at, client, Act::Ask(Asked::Tgs), client)
-}
-
-/// Whether each step brings what stands beside it, in a KDC that remembers so many authenticators of a client.
-fn bring(alloc: Global, remembered: u32, steps: &[(Step, Outcome)]) -> Result<bool, Fail> {
+/// The first step that does not bring what stands beside it, in a KDC that remembers so many authenticators of a
+/// client.
+fn first_other(alloc: Global, remembered: u32, steps: &[Told]) -> Result<Option<usize>, Fail> {
     let limits = Limits::new(remembered, 0, 0, 36000, 0).ok_or("limits")?;
     let mut run = Vec::new(alloc);
     for (step, _) in steps {
         run.push(*step)?;
     }
     let replies = replies(alloc, limits, &run, None)?;
-    let mut as_wanted = replies.len() == steps.len();
-    for ((_, wanted), reply) in steps.iter().zip(&replies) {
-        as_wanted = as_wanted && outcome_of(reply) == *wanted;
+    Ok(first_other_in(steps, &replies))
+}
+
+/// Each step brings what stands beside it.
+fn expect(alloc: Global, remembered: u32, steps: &[Told]) -> Result<(), Fail> {
+    match first_other(alloc, remembered, steps)? {
+        None => Ok(()),
+        Some(place) => Err(Fail::new(place)),
     }
-    Ok(as_wanted)
 }
 
 #[test]
 fn one_authenticator_too_many_is_refused_to_its_client_alone(rt: HostRuntime) -> Result<(), Fail> {
-    let second = Step {
-        cusec: 1,
-        ..asks(0, b'u')
-    };
-    let third = Step {
-        cusec: 2,
-        ..asks(0, b'u')
-    };
-    let steps = [
-        (changes(b'u', Changed::Add), Outcome::Nothing),
-        (changes(b'w', Changed::Add), Outcome::Nothing),
-        (asks(0, b'u'), Outcome::Ticket),
-        (second, Outcome::Ticket),
-        (third, Outcome::Refusal(29)),
-        (asks(0, b'w'), Outcome::Ticket),
+    const STEPS: &[Told] = &[
+        (ADD, Outcome::Nothing),
+        (ADD_OTHER, Outcome::Nothing),
+        (ASK, Outcome::Ticket),
+        (Step { cusec: 1, ..ASK }, Outcome::Ticket),
+        (Step { cusec: 2, ..ASK }, Outcome::Refusal(29)),
+        (ASK_OTHER, Outcome::Ticket),
     ];
-    assert!(rt; bring(rt.alloc(), 2, &steps)?);
-    Ok(())
+    expect(rt.alloc(), 2, STEPS)
 }
 
 #[test]
 fn after_a_restart_older_authenticators_are_refused(rt: HostRuntime) -> Result<(), Fail> {
-    let early = Step {
-        stamp: 300,
-        ..asks(0, b'u')
+    const RESTART: Step = Step {
+        act: Act::Restart,
+        client: b' ',
+        octet: 0,
+        ..ADD
     };
-    let late = Step {
+    const EARLY: Step = Step { stamp: 300, ..ASK };
+    const LATE: Step = Step {
+        at: 1,
         stamp: 301,
-        ..asks(1, b'u')
+        ..ASK
     };
-    let steps = [
-        (changes(b'u', Changed::Add), Outcome::Nothing),
-        (step_at(0, b' ', Act::Restart, 0), Outcome::Nothing),
-        (early, Outcome::Refusal(37)),
-        (late, Outcome::Ticket),
+    const STEPS: &[Told] = &[
+        (ADD, Outcome::Nothing),
+        (RESTART, Outcome::Nothing),
+        (EARLY, Outcome::Refusal(37)),
+        (LATE, Outcome::Ticket),
     ];
-    assert!(rt; bring(rt.alloc(), 64, &steps)?);
-    Ok(())
+    expect(rt.alloc(), 64, STEPS)
 }
 
 #[test]
 fn what_is_forgotten_is_too_old_where_the_clock_goes_back(rt: HostRuntime) -> Result<(), Fail> {
-    let steps = [
-        (changes(b'u', Changed::Add), Outcome::Nothing),
-        (asks(0, b'u'), Outcome::Ticket),
-        (asks(301, b'u'), Outcome::Ticket),
-        (asks(0, b'u'), Outcome::Refusal(37)),
+    const LATER: Step = Step {
+        at: 301,
+        stamp: 301,
+        ..ASK
+    };
+    const STEPS: &[Told] = &[
+        (ADD, Outcome::Nothing),
+        (ASK, Outcome::Ticket),
+        (LATER, Outcome::Ticket),
+        (ASK, Outcome::Refusal(37)),
     ];
-    assert!(rt; bring(rt.alloc(), 64, &steps)?);
-    Ok(())
+    expect(rt.alloc(), 64, STEPS)
 }
 
 #[test]
 fn a_client_that_is_removed_is_remembered(rt: HostRuntime) -> Result<(), Fail> {
-    let another = Step {
-        cusec: 1,
-        ..asks(0, b'u')
+    const REMOVE: Step = Step {
+        act: Act::Change(Changed::Remove),
+        ..ADD
     };
-    let altered = Step {
+    const ALTERED: Step = Step {
         act: Act::Ask(Asked::TgsAltered),
-        ..asks(0, b'u')
+        ..ASK
     };
-    let steps = [
-        (changes(b'u', Changed::Add), Outcome::Nothing),
-        (asks(0, b'u'), Outcome::Ticket),
-        (changes(b'u', Changed::Remove), Outcome::Nothing),
-        (another, Outcome::Refusal(6)),
-        (changes(b'u', Changed::Add), Outcome::Nothing),
-        (altered, Outcome::Refusal(34)),
+    const STEPS: &[Told] = &[
+        (ADD, Outcome::Nothing),
+        (ASK, Outcome::Ticket),
+        (REMOVE, Outcome::Nothing),
+        (Step { cusec: 1, ..ASK }, Outcome::Refusal(6)),
+        (ADD, Outcome::Nothing),
+        (ALTERED, Outcome::Refusal(34)),
     ];
-    assert!(rt; bring(rt.alloc(), 64, &steps)?);
-    Ok(())
+    expect(rt.alloc(), 64, STEPS)
 }

@@ -1,6 +1,7 @@
 //! Scripts (`kdc_script`).
+use crate::expect::{holds, same};
 use kdc_script::{DONE, FAILED, FAULT, run_script};
-use std::alloc::AllocError;
+use std::alloc::{AllocError, Global};
 use std::io;
 use std::io::{ErrorKind, Read, Write};
 use std::process::Abort;
@@ -29,17 +30,17 @@ const KRB_ERROR: &str = "\
         7e4a3048a003020105a10302011ea411180f32303234303130313030303030305aa503020100a603020106a9051b03412e42\
         aa183016a003020102a10f300d1b066b72627467741b03412e42";
 
+/// Runs a script, appends what it prints, and gives its status.
+fn run(alloc: Global, script: &[u8], written: &mut Vec<u8>) -> u8 {
+    run_script(alloc, script, written)
+}
+
 /// Runs a script, and checks what it prints and its status.
-pub fn expect_run(rt: &(impl AllocGlobal + Abort), script: &[u8], printed: &str, status: u8) {
+fn expect_run(rt: &(impl AllocGlobal + Abort), script: &[u8], printed: &str, status: u8) {
     let mut written = Vec::new(rt.alloc());
-    let ended = run_script(rt.alloc(), script, &mut written);
-    assert_eq!(rt;
-        str::from_utf8(&written).unwrap_or(""),
-        printed,
-        "{}",
-        script.escape_ascii()
-    );
-    assert_eq!(rt; ended, status, "{}", script.escape_ascii());
+    let ended = run(rt.alloc(), script, &mut written);
+    let found = (str::from_utf8(&written).unwrap_or(""), ended);
+    same(rt, &script.escape_ascii(), &found, &(printed, status));
 }
 
 /// Runs lines after an `open`, which prints `ok`.
@@ -47,6 +48,45 @@ fn expect_after_open(rt: &(impl AllocGlobal + Abort), lines: &str, printed: &str
     let script = format!(in rt.alloc(); "{OPEN}\n{lines}").expect(rt, "memory");
     let printed = format!(in rt.alloc(); "ok\n{printed}").expect(rt, "memory");
     expect_run(rt, script.as_bytes(), &printed, status);
+}
+
+/// A script, what it prints, and the status that it ends with.
+type Script = (&'static str, &'static str, u8);
+
+fn expect_each(rt: &(impl AllocGlobal + Abort), scripts: &[Script]) {
+    for (script, printed, status) in scripts {
+        expect_run(rt, script.as_bytes(), printed, *status);
+    }
+}
+
+fn expect_each_after_open(rt: &(impl AllocGlobal + Abort), scripts: &[Script]) {
+    for (lines, printed, status) in scripts {
+        expect_after_open(rt, lines, printed, *status);
+    }
+}
+
+/// Each of these lines is a fault, as the first line and behind an `open`.
+fn expect_faults(rt: &(impl AllocGlobal + Abort), lines: &[&str]) {
+    for line in lines {
+        expect_run(rt, line.as_bytes(), "fault 1\n", FAULT);
+        expect_after_open(rt, line, "fault 2\n", FAULT);
+    }
+}
+
+fn push_line(lines: &mut String, line: &str) -> Result<(), AllocError> {
+    lines.push_str(line)?;
+    lines.push('\n')
+}
+
+/// Runs a script of these lines, each of which prints what stands beside it.
+pub fn expect_lines(rt: &(impl AllocGlobal + Abort), lines: &[(&str, &str)]) {
+    let mut script = String::new(rt.alloc());
+    let mut printed = String::new(rt.alloc());
+    for (line, answer) in lines {
+        push_line(&mut script, line).expect(rt, "memory");
+        push_line(&mut printed, answer).expect(rt, "memory");
+    }
+    expect_run(rt, script.as_bytes(), &printed, DONE);
 }
 
 #[test]
@@ -155,130 +195,130 @@ const OTHER_FORMS: &[&str] = &[
 
 #[test]
 fn a_line_of_another_form_is_a_fault(rt: HostRuntime) {
-    for line in OTHER_FORMS {
-        expect_run(&rt, line.as_bytes(), "fault 1\n", FAULT);
-        expect_after_open(&rt, line, "fault 2\n", FAULT);
-    }
+    expect_faults(&rt, OTHER_FORMS);
 }
 
-#[test]
-fn a_kdc_is_opened_first(rt: HostRuntime) {
-    expect_run(
-        &rt,
-        b"add u 17:00000000000000000000000000000000\n",
+/// Scripts that begin without an `open`, with what they print and the status that they end with.
+const UNOPENED: &[Script] = &[
+    (
+        "add u 17:00000000000000000000000000000000\n",
         "fault 1\n",
         FAULT,
-    );
-    expect_run(
-        &rt,
-        b"add / 17:00000000000000000000000000000000\n",
+    ),
+    (
+        "add / 17:00000000000000000000000000000000\n",
         "fault 1\n",
         FAULT,
-    );
-    expect_run(
-        &rt,
-        b"\
+    ),
+    (
+        "\
             request 0 0 0000000000000000000000000000000000000000000000000000000000000000000000000000000000000000\
             0000000000000000000000000000000000000000 0 -\n",
         "fault 1\n",
         FAULT,
-    );
-    expect_run(&rt, b"", "", DONE);
+    ),
+    ("", "", DONE),
+];
+
+#[test]
+fn a_kdc_is_opened_first(rt: HostRuntime) {
+    expect_each(&rt, UNOPENED);
 }
+
+/// Lines after an `open`, with what they print and the status that they end with.
+const LINES: &[Script] = &[
+    ("add u 17:00000000000000000000000000000000", "ok\n", DONE),
+    (
+        "\
+            add u 19:00000000000000000000000000000000,017:0F000000000000000000000000000000\nadd u \
+            17:00000000000000000000000000000000\n",
+        "ok\nrefused Exists\n",
+        DONE,
+    ),
+    (
+        "add krbtgt/A.B 17:00000000000000000000000000000000\n",
+        "refused Exists\n",
+        DONE,
+    ),
+    (
+        "add a\\0d 17:00000000000000000000000000000000\nadd a\\0D 17:00000000000000000000000000000000\n",
+        "ok\nrefused BadName\n",
+        DONE,
+    ),
+    (
+        "add  17:00000000000000000000000000000000\nadd / 17:00000000000000000000000000000000\n",
+        "refused BadName\nrefused BadName\n",
+        DONE,
+    ),
+    (
+        "add 1/2/3/4/5/6/7/8/9/a/b/c/d/e/f/g/h 17:00000000000000000000000000000000\n",
+        "refused BadName\n",
+        DONE,
+    ),
+    (
+        "add u\r 17:00000000000000000000000000000000\n",
+        "refused BadName\n",
+        DONE,
+    ),
+    (
+        "\
+            request 253402300799 999999 000000000000000000000000000000000000000000000000000000000000000000000000\
+            00000000000000000000000000000000000000000000000000000000 4294967295 -\n",
+        "none\n",
+        DONE,
+    ),
+    (
+        "\
+            request 00 00 00000000000000000000000000000000000000000000000000000000000000000000000000000000000000\
+            000000000000000000000000000000000000000000 00 -",
+        "none\n",
+        DONE,
+    ),
+    (
+        "\
+            add u 17:00000000000000000000000000000000\nopen A.B 64 0 0 36000 0 \
+            17:00000000000000000000000000000000\nadd u 17:00000000000000000000000000000000\n",
+        "ok\nok\nok\n",
+        DONE,
+    ),
+    (
+        "\
+            add u 17:00000000000000000000000000000000\nkeys u \
+            18:0000000000000000000000000000000000000000000000000000000000000000\ndrop u 2\ndrop u 1\ndrop u \
+            1\nremove u\nremove u\n",
+        "ok\nok\nrefused CurrentKeys\nok\nrefused Absent\nok\nrefused Absent\n",
+        DONE,
+    ),
+    (
+        "\
+            remove krbtgt/A.B\nkeys u 17:00000000000000000000000000000000\ndrop / 1\nremove /\nkeys / \
+            17:00000000000000000000000000000000\n",
+        "refused Protected\nrefused Absent\nrefused BadName\nrefused BadName\nrefused BadName\n",
+        DONE,
+    ),
+    (
+        "\
+            policy krbtgt/A.B disabled=true\npolicy krbtgt/A.B expires=never\npolicy krbtgt/A.B \
+            revoked_before=0253402300799\npolicy u preauth=false\npolicy / greatest_renewable=0\n",
+        "ok\nok\nok\nrefused Absent\nrefused BadName\n",
+        DONE,
+    ),
+    ("restart 0\nrestart 0253402300799\n", "ok\nok\n", DONE),
+    (
+        "\n\nadd u 17:00000000000000000000000000000000\n\nadd\nadd v 17:00000000000000000000000000000000\n",
+        "ok\nfault 6\n",
+        FAULT,
+    ),
+    (
+        "\nadd u 17:00000000000000000000000000000000\r\n",
+        "fault 3\n",
+        FAULT,
+    ),
+];
 
 #[test]
 fn each_line_is_answered_in_turn(rt: HostRuntime) {
-    for (lines, printed, status) in [
-        ("add u 17:00000000000000000000000000000000", "ok\n", DONE),
-        (
-            "\
-                add u 19:00000000000000000000000000000000,017:0F000000000000000000000000000000\nadd u \
-                17:00000000000000000000000000000000\n",
-            "ok\nrefused Exists\n",
-            DONE,
-        ),
-        (
-            "add krbtgt/A.B 17:00000000000000000000000000000000\n",
-            "refused Exists\n",
-            DONE,
-        ),
-        (
-            "add a\\0d 17:00000000000000000000000000000000\nadd a\\0D 17:00000000000000000000000000000000\n",
-            "ok\nrefused BadName\n",
-            DONE,
-        ),
-        (
-            "add  17:00000000000000000000000000000000\nadd / 17:00000000000000000000000000000000\n",
-            "refused BadName\nrefused BadName\n",
-            DONE,
-        ),
-        (
-            "add 1/2/3/4/5/6/7/8/9/a/b/c/d/e/f/g/h 17:00000000000000000000000000000000\n",
-            "refused BadName\n",
-            DONE,
-        ),
-        (
-            "add u\r 17:00000000000000000000000000000000\n",
-            "refused BadName\n",
-            DONE,
-        ),
-        (
-            "\
-                request 253402300799 999999 000000000000000000000000000000000000000000000000000000000000000000000000\
-                00000000000000000000000000000000000000000000000000000000 4294967295 -\n",
-            "none\n",
-            DONE,
-        ),
-        (
-            "\
-                request 00 00 00000000000000000000000000000000000000000000000000000000000000000000000000000000000000\
-                000000000000000000000000000000000000000000 00 -",
-            "none\n",
-            DONE,
-        ),
-        (
-            "\
-                add u 17:00000000000000000000000000000000\nopen A.B 64 0 0 36000 0 \
-                17:00000000000000000000000000000000\nadd u 17:00000000000000000000000000000000\n",
-            "ok\nok\nok\n",
-            DONE,
-        ),
-        (
-            "\
-                add u 17:00000000000000000000000000000000\nkeys u \
-                18:0000000000000000000000000000000000000000000000000000000000000000\ndrop u 2\ndrop u 1\ndrop u \
-                1\nremove u\nremove u\n",
-            "ok\nok\nrefused CurrentKeys\nok\nrefused Absent\nok\nrefused Absent\n",
-            DONE,
-        ),
-        (
-            "\
-                remove krbtgt/A.B\nkeys u 17:00000000000000000000000000000000\ndrop / 1\nremove /\nkeys / \
-                17:00000000000000000000000000000000\n",
-            "refused Protected\nrefused Absent\nrefused BadName\nrefused BadName\nrefused BadName\n",
-            DONE,
-        ),
-        (
-            "\
-                policy krbtgt/A.B disabled=true\npolicy krbtgt/A.B expires=never\npolicy krbtgt/A.B \
-                revoked_before=0253402300799\npolicy u preauth=false\npolicy / greatest_renewable=0\n",
-            "ok\nok\nok\nrefused Absent\nrefused BadName\n",
-            DONE,
-        ),
-        ("restart 0\nrestart 0253402300799\n", "ok\nok\n", DONE),
-        (
-            "\n\nadd u 17:00000000000000000000000000000000\n\nadd\nadd v 17:00000000000000000000000000000000\n",
-            "ok\nfault 6\n",
-            FAULT,
-        ),
-        (
-            "\nadd u 17:00000000000000000000000000000000\r\n",
-            "fault 3\n",
-            FAULT,
-        ),
-    ] {
-        expect_after_open(&rt, lines, printed, status);
-    }
+    expect_each_after_open(&rt, LINES);
 }
 
 /// An `open` and a request with so many zeros in front of a number that its line has `len` octets.
@@ -311,8 +351,8 @@ fn an_input_has_its_greatest_length(rt: HostRuntime) {
     ] {
         let mut written = Vec::new(rt.alloc());
         let ended = run_script(rt.alloc(), io::repeat(b'\n').take(len), &mut written);
-        assert_eq!(rt; str::from_utf8(&written).unwrap_or(""), printed);
-        assert_eq!(rt; ended, status);
+        let found = (str::from_utf8(&written).unwrap_or(""), ended);
+        same(&rt, &len, &found, &(printed, status));
     }
 }
 
@@ -367,7 +407,7 @@ const MIXED: &[u8] = b"\
         open A.B 64 0 0 36000 0 17:00000000000000000000000000000000\nadd krbtgt/A.B \
         17:00000000000000000000000000000000\nadd\n";
 
-const MIXED_PRINTED: &[u8] = b"ok\nrefused Exists\nfault 3\n";
+const MIXED_PRINTED: &str = "ok\nrefused Exists\nfault 3\n";
 
 #[test]
 fn a_failed_read_ends_the_run(rt: HostRuntime) {
@@ -375,47 +415,54 @@ fn a_failed_read_ends_the_run(rt: HostRuntime) {
     for calls in 0..MIXED.len().div_ceil(7) {
         let mut written = Vec::new(rt.alloc());
         let reader = FailingReader { rest: MIXED, calls };
-        assert_eq!(rt;
-            run_script(rt.alloc(), reader, &mut written),
-            FAILED,
-            "{calls} calls"
-        );
-        assert!(rt; MIXED_PRINTED.starts_with(&written), "{calls} calls");
+        let status = run_script(rt.alloc(), reader, &mut written);
+        let found = (status, MIXED_PRINTED.as_bytes().starts_with(&written));
+        same(&rt, &calls, &found, &(FAILED, true));
     }
+}
+
+/// Whether a run fails whose writer does so after these calls. One that doesn't prints everything.
+fn is_failed_write(rt: &(impl AllocGlobal + Abort), calls: usize) -> bool {
+    let mut written = Vec::new(rt.alloc());
+    let mut writer = FailingWriter {
+        written: &mut written,
+        calls,
+    };
+    let status = run_script(rt.alloc(), MIXED, &mut writer);
+    let is_failed = status == FAILED;
+    let is_due = if is_failed {
+        MIXED_PRINTED.as_bytes().starts_with(&written)
+    } else {
+        status == FAULT && written.as_slice() == MIXED_PRINTED.as_bytes()
+    };
+    same(rt, &calls, &is_due, &true);
+    is_failed
 }
 
 #[test]
 fn a_failed_write_ends_the_run(rt: HostRuntime) {
     let mut failures = 0;
     for calls in 0..64 {
-        let mut written = Vec::new(rt.alloc());
-        let mut writer = FailingWriter {
-            written: &mut written,
-            calls,
-        };
-        let status = run_script(rt.alloc(), MIXED, &mut writer);
-        assert!(rt; MIXED_PRINTED.starts_with(&written), "{calls} calls");
-        if status == FAILED {
+        if is_failed_write(&rt, calls) {
             failures = calls + 1;
-        } else {
-            assert_eq!(rt; status, FAULT, "{calls} calls");
-            assert_eq!(rt; written.as_slice(), MIXED_PRINTED, "{calls} calls");
         }
     }
     // each line's write and the flush at the end
-    assert!(rt; (4..63).contains(&failures), "{failures} calls failed");
+    same(&rt, &failures, &(4..63).contains(&failures), &true);
 }
 
 // Passes whichever allocation is refused.
 #[test]
 fn a_run_without_memory_fails_and_another_does_not(rt: HostRuntime) {
     let mut written = Vec::new(rt.alloc());
-    let status = run_script(rt.alloc(), MIXED, &mut written);
-    assert!(rt; status == FAULT || status == FAILED);
-    assert!(rt; MIXED_PRINTED.starts_with(&written));
-    let mut again = Vec::new(rt.alloc());
+    let status = run(rt.alloc(), MIXED, &mut written);
+    holds(&rt, status == FAULT || status == FAILED, "its status");
+    holds(
+        &rt,
+        MIXED_PRINTED.as_bytes().starts_with(&written),
+        "what it prints",
+    );
     if status == FAILED {
-        assert_eq!(rt; run_script(rt.alloc(), MIXED, &mut again), FAULT);
-        assert_eq!(rt; again.as_slice(), MIXED_PRINTED);
+        expect_run(&rt, MIXED, MIXED_PRINTED, FAULT);
     }
 }

@@ -1,15 +1,10 @@
 //! Service tickets (`kdc_core`).
-use crate::kdcs::{Asked, first_answered, gets_again, kdc_of, name, octets};
-use enctypes::{Etype, Key};
-use kdc_core::Kdc;
-use principal_rows::KeyList;
-use principals::{Change, RowChange};
-use std::alloc::{AllocError, Global};
+use crate::realm::{Case, Exchange, NOTHING, Realm, UP_FROM_64, ZEROS, expect};
 use std::test::Fail;
 
 /// A TGS-REQ of `u` for `h` in `A.B`, of an independent model of the exchanges in Python: its ticket is sealed under
 /// the key of octets 128 to 159.
-pub const REQUEST: &[u8] = b"\
+pub const REQUEST: &str = "\
         6c8201f9308201f5a103020105a20302010ca38201a4308201a03082019ca103020101a28201930482018f6e82018b308201\
         87a003020105a10302010ea20703050000000000a381f76181f43081f1a003020105a1051b03412e42a2183016a003020102\
         a10f300d1b066b72627467741b03412e42a381c83081c5a003020112a103020101a281b80481b50c22a315b27e01abc7ce27\
@@ -23,7 +18,7 @@ pub const REQUEST: &[u8] = b"\
         0101a8053003020112";
 
 /// The TGS-REP to it, of the same model: the key of `h` is the octets 160 to 191, the random octets are 64 to 127.
-const REPLY: &[u8] = b"\
+const REPLY: &str = "\
         6d8201f1308201eda003020105a10302010da3051b03412e42a40e300ca003020101a10530031b0175a581ed6181ea3081e7\
         a003020105a1051b03412e42a20e300ca003020101a10530031b0168a381c83081c5a003020112a103020101a281b80481b5\
         666a5e762c38b2899c6bfab2d530b6ae2120eb07d169f4252e140d57b54be74953ad1171976f313ecadecb89da95aee7fa04\
@@ -36,84 +31,33 @@ const REPLY: &[u8] = b"\
         c3085cdc6962daed1666eea56b0d65ebf44471efa74a035e24420b3defb6e971391dd265f851990d8fee43fe39041a1ab2ef\
         56";
 
-/// A key of encryption type 18, whose octets count up from this one.
-fn key_from(first: u8) -> Key {
-    let mut octets = [first; 32];
-    for (place, octet) in (0..32).zip(&mut octets) {
-        *octet = octet.wrapping_add(place);
-    }
-    Key::from_random(Etype::Aes256CtsHmacSha1_96, &octets)
-}
-
-fn add(alloc: Global, kdc: &mut Kdc, component: &[u8], first: u8) -> Result<(), Fail> {
-    let change = Change {
-        name: name(alloc, &[component])?,
-        what: RowChange::Add(KeyList::new(alloc, &[key_from(first)])?),
-    };
-    Ok(kdc.apply(alloc, &change)?)
-}
-
-/// A KDC with `u` and `h`.
-pub fn kdc(alloc: Global) -> Result<Kdc, Fail> {
-    let mut kdc = kdc_of(alloc, key_from(128))?;
-    add(alloc, &mut kdc, b"u", 64)?;
-    add(alloc, &mut kdc, b"h", 160)?;
-    Ok(kdc)
-}
-
-/// Random octets that count up from this one.
-fn random_from(first: u8) -> [u8; 64] {
-    let mut random = [first; 64];
-    for (place, octet) in (0..64).zip(&mut random) {
-        *octet = octet.wrapping_add(place);
-    }
-    random
-}
+/// It is asked with the random octets 64 to 127.
+const ISSUED: Exchange = Exchange {
+    random: UP_FROM_64,
+    request: REQUEST,
+    reply: Some(REPLY),
+    ..NOTHING
+};
 
 #[test]
 fn a_service_ticket_without_memory_is_issued_when_asked_again(rt: HostRuntime) -> Result<(), Fail> {
-    let alloc = rt.alloc();
-    let request = octets(alloc, REQUEST)?;
-    let reply = octets(alloc, REPLY)?;
-    let asked = Asked {
-        random: random_from(64),
-        ..Asked::at_midnight(&request)?
-    };
-    assert!(rt; gets_again(alloc, kdc(alloc)?, asked, &reply)?);
-    Ok(())
-}
-
-/// Whether it gets this reply, and again with other random octets.
-fn is_kept(
-    alloc: Global,
-    mut kdc: Kdc,
-    asked: Asked<'_>,
-    reply: &[u8],
-) -> Result<bool, AllocError> {
-    let again = Asked {
-        random: [0; 64],
-        ..asked
-    };
-    Ok(asked.gets(alloc, &mut kdc, reply)? && again.gets(alloc, &mut kdc, reply)?)
+    expect(rt.alloc(), Realm::Service, Case::Again(ISSUED))
 }
 
 #[test]
 fn the_same_request_gets_the_reply_that_is_kept(rt: HostRuntime) -> Result<(), Fail> {
-    let alloc = rt.alloc();
-    let request = octets(alloc, REQUEST)?;
-    let reply = octets(alloc, REPLY)?;
-    let asked = Asked {
-        random: random_from(64),
-        ..Asked::at_midnight(&request)?
-    };
-    assert!(rt; is_kept(alloc, kdc(alloc)?, asked, &reply)?);
-    Ok(())
+    // The second time there are other random octets.
+    const EXCHANGES: &[Exchange] = &[
+        ISSUED,
+        Exchange {
+            random: ZEROS,
+            ..ISSUED
+        },
+    ];
+    expect(rt.alloc(), Realm::Service, Case::Exchanges(EXCHANGES))
 }
 
 #[test]
 fn gives_no_reply_to_part_of_a_tgs_req(rt: HostRuntime) -> Result<(), Fail> {
-    let alloc = rt.alloc();
-    let request = octets(alloc, REQUEST)?;
-    assert_eq!(rt; first_answered(alloc, kdc(alloc)?, &request)?, None);
-    Ok(())
+    expect(rt.alloc(), Realm::Service, Case::Beginnings(REQUEST))
 }

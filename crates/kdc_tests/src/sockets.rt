@@ -1,7 +1,7 @@
 //! Clients of the wire over sockets (`kdc_wire`) on the loopback, on ports that the system gives. The KDC has the realm
 //! `A.B` and no clients: each request is answered by an error of code 6. The octets are those of an encoder in Python.
-use crate::kdcs::kdc;
-use kdc_hub::{Hub, serve};
+use crate::realm::{Realm, kdc};
+use kdc_hub::{Hub, Served, serve};
 use kdc_wire::SocketWire;
 use rand_chacha::ChaCha20Rng;
 use rand_core::SeedableRng;
@@ -50,26 +50,52 @@ impl Clock for Stopped {
     }
 }
 
-/// A server, and the two addresses of each kind that it listens on.
-#[derive(Drop)]
-struct Server {
-    wire: SocketWire<Stopped>,
-    hub: Hub<ChaCha20Rng>,
-    udp: Vec<SocketAddr>,
-    tcp: Vec<SocketAddr>,
+type TestWire = SocketWire<Stopped>;
+
+/// The two addresses of each kind that a server listens on.
+#[derive(Clone, Copy)]
+struct Addresses {
+    udp: [SocketAddr; 2],
+    tcp: [SocketAddr; 2],
 }
 
-fn open(rt: &HostRuntime) -> Result<Server, Fail> {
-    let alloc = rt.alloc();
-    let hub = Hub::new(alloc, kdc(alloc)?, ChaCha20Rng::from_seed([0; 32]));
+/// A server, and its addresses.
+#[derive(Drop)]
+struct Server {
+    wire: TestWire,
+    hub: Hub<ChaCha20Rng>,
+    addresses: Addresses,
+}
+
+fn bind(rt: &HostRuntime) -> Result<TestWire, Fail> {
     let here = SocketAddr::from((Ipv4Addr::LOCALHOST, 0));
     let wait = Duration::from_millis(1);
-    let wire = SocketWire::bind(alloc, Stopped, rt, &[here, here], &[here, here], wait)?;
+    Ok(SocketWire::bind(rt.alloc(), Stopped, rt, &[here, here], &[here, here], wait)?)
+}
+
+fn two(addresses: &[SocketAddr]) -> Result<[SocketAddr; 2], Fail> {
+    match addresses {
+        [first, second] => Ok([*first, *second]),
+        _ => Err(Fail::from("two addresses")),
+    }
+}
+
+fn ask_addresses(rt: &HostRuntime, wire: &TestWire) -> Result<Addresses, Fail> {
+    Ok(Addresses {
+        udp: two(&wire.udp_addresses(rt.alloc())?)?,
+        tcp: two(&wire.tcp_addresses(rt.alloc())?)?,
+    })
+}
+
+/// The hub is made last, since proofs about its end take long for each place.
+fn open(rt: &HostRuntime) -> Result<Server, Fail> {
+    let wire = bind(rt)?;
+    let addresses = ask_addresses(rt, &wire)?;
+    let kdc = kdc(rt.alloc(), Realm::Granter)?;
     Ok(Server {
-        udp: wire.udp_addresses(alloc)?,
-        tcp: wire.tcp_addresses(alloc)?,
         wire,
-        hub,
+        hub: Hub::new(rt.alloc(), kdc, ChaCha20Rng::from_seed([0; 32])),
+        addresses,
     })
 }
 
@@ -80,7 +106,7 @@ fn address(addresses: &[SocketAddr], place: usize) -> Result<SocketAddr, Fail> {
 
 /// What a test does with a server, and whether what it saw is right. A server is let go in `run` alone: proofs about
 /// its end take minutes for each place.
-#[derive(Clone, Copy, Debug)]
+#[derive(Clone, Copy)]
 enum Scenario {
     OwnReplies,
     OneByOne,
@@ -110,9 +136,22 @@ fn play(rt: &HostRuntime, server: &mut Server, scenario: Scenario) -> Result<boo
     }
 }
 
+/// What the test saw is right.
+fn expect(rt: &HostRuntime, scenario: Scenario) -> Result<(), Fail> {
+    if run(rt, scenario)? {
+        Ok(())
+    } else {
+        Err(Fail::from("what was seen"))
+    }
+}
+
+fn serve_rounds(rt: &HostRuntime, server: &mut Server, rounds: u32) -> Served {
+    serve(rt.alloc(), &mut server.wire, &mut server.hub, rounds)
+}
+
 /// Serves for so many rounds, and gives how many events came. No call may fail.
 fn rounds(rt: &HostRuntime, server: &mut Server, rounds: u32) -> Result<u32, Fail> {
-    let served = serve(rt.alloc(), &mut server.wire, &mut server.hub, rounds);
+    let served = serve_rounds(rt, server, rounds);
     if served.faults != 0 || served.refused != 0 {
         Err("a fault")?;
     }
@@ -137,13 +176,13 @@ fn framed(rt: &HostRuntime, octets: &[u8]) -> Result<Vec<u8>, Fail> {
 /// A peer of the address of this place. It takes replies from there alone.
 fn peer(rt: &HostRuntime, server: &Server, place: usize) -> Result<UdpSocket, Fail> {
     let peer = UdpSocket::bind(rt, SocketAddr::from((Ipv4Addr::LOCALHOST, 0)))?;
-    peer.connect(address(&server.udp, place)?)?;
+    peer.connect(address(&server.addresses.udp, place)?)?;
     peer.set_nonblocking(true)?;
     Ok(peer)
 }
 
 fn connection(rt: &HostRuntime, server: &Server, place: usize) -> Result<TcpStream, Fail> {
-    let connection = TcpStream::connect(rt, address(&server.tcp, place)?)?;
+    let connection = TcpStream::connect(rt, address(&server.addresses.tcp, place)?)?;
     connection.set_nonblocking(true)?;
     Ok(connection)
 }
@@ -206,8 +245,7 @@ fn each_gets_its_own(rt: &HostRuntime, server: &mut Server) -> Result<bool, Fail
 
 #[test]
 fn each_peer_and_connection_gets_its_own_reply(rt: HostRuntime) -> Result<(), Fail> {
-    assert!(rt; run(&rt, Scenario::OwnReplies)?);
-    Ok(())
+    expect(&rt, Scenario::OwnReplies)
 }
 
 fn octets_come_one_by_one(rt: &HostRuntime, server: &mut Server) -> Result<bool, Fail> {
@@ -222,8 +260,7 @@ fn octets_come_one_by_one(rt: &HostRuntime, server: &mut Server) -> Result<bool,
 
 #[test]
 fn octets_that_come_one_by_one_are_one_request(rt: HostRuntime) -> Result<(), Fail> {
-    assert!(rt; run(&rt, Scenario::OneByOne)?);
-    Ok(())
+    expect(&rt, Scenario::OneByOne)
 }
 
 /// In each round a datagram has come.
@@ -240,8 +277,7 @@ fn datagrams_keep_coming(rt: &HostRuntime, server: &mut Server) -> Result<bool, 
 
 #[test]
 fn datagrams_that_keep_coming_hold_up_no_connection(rt: HostRuntime) -> Result<(), Fail> {
-    assert!(rt; run(&rt, Scenario::ManyDatagrams)?);
-    Ok(())
+    expect(&rt, Scenario::ManyDatagrams)
 }
 
 /// More comes than the server reads before it closes the connection.
@@ -256,8 +292,7 @@ fn a_length_is_at_fault(rt: &HostRuntime, server: &mut Server) -> Result<bool, F
 
 #[test]
 fn a_length_at_fault_is_answered_before_the_end(rt: HostRuntime) -> Result<(), Fail> {
-    assert!(rt; run(&rt, Scenario::FaultyLength)?);
-    Ok(())
+    expect(&rt, Scenario::FaultyLength)
 }
 
 /// The peer keeps its side open after the server closed its own. Rounds with nothing to do wait, each a millisecond.
@@ -272,8 +307,7 @@ fn a_closed_connection_is_kept_open(rt: &HostRuntime, server: &mut Server) -> Re
 
 #[test]
 fn a_closed_connection_keeps_nobody_busy(rt: HostRuntime) -> Result<(), Fail> {
-    assert!(rt; run(&rt, Scenario::KeptOpen)?);
-    Ok(())
+    expect(&rt, Scenario::KeptOpen)
 }
 
 /// A hub has place for 256 connections.
@@ -295,8 +329,7 @@ fn connection_is_answered(rt: &HostRuntime, server: &mut Server) -> Result<bool,
 
 #[test]
 fn connections_that_end_make_place(rt: HostRuntime) -> Result<(), Fail> {
-    assert!(rt; run(&rt, Scenario::ManyConnections)?);
-    Ok(())
+    expect(&rt, Scenario::ManyConnections)
 }
 
 fn peer_is_answered(rt: &HostRuntime, server: &mut Server) -> Result<bool, Fail> {
@@ -321,8 +354,7 @@ fn connections_are_idle(rt: &HostRuntime, server: &mut Server) -> Result<bool, F
 
 #[test]
 fn idle_connections_hold_up_nobody_but_the_next(rt: HostRuntime) -> Result<(), Fail> {
-    assert!(rt; run(&rt, Scenario::IdleConnections)?);
-    Ok(())
+    expect(&rt, Scenario::IdleConnections)
 }
 
 /// A request for a service whose name has 60,000 octets, behind its length. Its reply is as long.
@@ -354,13 +386,12 @@ fn replies_are_not_read(rt: &HostRuntime, server: &mut Server) -> Result<bool, F
             return peer_is_answered(rt, server);
         };
         place = next;
-        serve(rt.alloc(), &mut server.wire, &mut server.hub, 40);
+        serve_rounds(rt, server, 40);
     }
     Ok(false)
 }
 
 #[test]
 fn a_peer_that_does_not_read_is_let_go(rt: HostRuntime) -> Result<(), Fail> {
-    assert!(rt; run(&rt, Scenario::UnreadReplies)?);
-    Ok(())
+    expect(&rt, Scenario::UnreadReplies)
 }

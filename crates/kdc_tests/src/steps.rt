@@ -1,19 +1,18 @@
 //! Runs of a KDC (`kdc_core`) of the realm `A.B`, step by step.
-use crate::kdcs::{name, ran};
+use crate::given::name;
+use crate::realm;
+use crate::realm::HOST_OCTET;
 use crate::requests::{AS_HEAD, BAD_TIMESTAMP, TgsReq, as_req};
 use enctypes::{Etype, Key};
-use kdc_core::{Event, Kdc, Opening};
+use kdc_core::Event;
 use krb_elements::Octets;
 use krb_fields::{Moment, Second};
 use principal_rows::{KeyList, Limits, Policy};
-use principals::{Change, Database, RowChange};
+use principals::{Change, RowChange};
 use std::alloc::{AllocError, Global};
 use std::test::Fail;
 
 const MIDNIGHT: i64 = 1_704_067_200;
-
-/// The octet of which the first keys of `krbtgt/A.B` and `h` are made.
-const FIRST: u8 = 1;
 
 /// What happens in a step of a run.
 #[derive(Clone, Copy)]
@@ -98,19 +97,8 @@ fn client_keys(alloc: Global, octet: u8) -> Result<KeyList, Fail> {
     Ok(KeyList::new(alloc, &keys)?)
 }
 
-/// A KDC of `A.B` that has no clients, only the service `h`.
-fn opened(alloc: Global, limits: Limits) -> Result<Kdc, Fail> {
-    let mut database = Database::first(alloc, b"A.B", service_keys(alloc, FIRST)?)?;
-    let add = Change {
-        name: name(alloc, &[b"h"])?,
-        what: RowChange::Add(service_keys(alloc, FIRST)?),
-    };
-    database.apply(alloc, &add)?;
-    Ok(Kdc::open(alloc, database, limits, Opening::First)?)
-}
-
 fn request(alloc: Global, asked: Asked, step: Step) -> Result<Vec<u8>, AllocError> {
-    let key = key(Etype::Aes256CtsHmacSha1_96, FIRST);
+    let key = key(Etype::Aes256CtsHmacSha1_96, HOST_OCTET);
     let nonce = match asked {
         Asked::As => return as_req(alloc, AS_HEAD, step.client),
         Asked::AsBadTimestamp => return as_req(alloc, BAD_TIMESTAMP, step.client),
@@ -192,28 +180,31 @@ fn event(alloc: Global, step: Step) -> Result<Event, Fail> {
     }
 }
 
-/// The events of the steps that are left for this client, or of all.
-fn events(alloc: Global, steps: &[Step], client: Option<u8>) -> Result<Vec<Event>, Fail> {
-    let mut events = Vec::new(alloc);
+/// Appends the events of the steps that are left for this client, or of all.
+fn push_events(
+    alloc: Global,
+    events: &mut Vec<Event>,
+    steps: &[Step],
+    client: Option<u8>,
+) -> Result<(), Fail> {
     for step in steps {
         if client.is_none_or(|client| step.is_left(client)) {
             events.push(event(alloc, *step)?)?;
         }
     }
-    Ok(events)
+    Ok(())
 }
 
-/// The replies of a KDC that runs through them.
+/// The replies of a KDC that runs through them. It has no clients at first, only the service `h`.
 pub fn replies(
     alloc: Global,
     limits: Limits,
     steps: &[Step],
     client: Option<u8>,
 ) -> Result<Vec<Option<Vec<u8>>>, Fail> {
-    let events = events(alloc, steps, client)?;
-    let mut kdc = opened(alloc, limits)?;
-    let (_, replies) = ran(alloc, &mut kdc, &events);
-    Ok(replies)
+    let mut events = Vec::new(alloc);
+    push_events(alloc, &mut events, steps, client)?;
+    realm::replies(alloc, limits, &events)
 }
 
 /// A step whose authenticator, if it has one, is made when it happens.

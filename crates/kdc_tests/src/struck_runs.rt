@@ -1,5 +1,6 @@
 //! Struck runs (`kdc_core`): a client gets the same beside others as where their requests and the changes of their
 //! rows are struck out.
+use crate::expect::same;
 use crate::steps::{Act, Asked, Changed, Step, replies, step_at};
 use principal_rows::Limits;
 use std::alloc::{AllocError, Global};
@@ -52,10 +53,25 @@ fn struck_tickets(
     Ok(tickets(steps, whole, &struck, client))
 }
 
-/// `u` and `w` come, and the KDC starts again. 301 seconds later, when authenticators are accepted, `u` asks, and `w` ten
-/// times; `w` and `krbtgt/A.B` get new keys, and `u` asks once more. The first and the last request of `w` have the
+/// The same, for each of these clients in turn.
+fn tickets_of_each(
+    alloc: Global,
+    limits: Limits,
+    steps: &[Step],
+    clients: &[u8],
+) -> Result<Vec<Option<usize>>, Fail> {
+    let whole = replies(alloc, limits, steps, None)?;
+    let mut found = Vec::new(alloc);
+    for client in clients {
+        found.push(struck_tickets(alloc, limits, steps, &whole, *client)?)?;
+    }
+    Ok(found)
+}
+
+/// `u` and `w` come, and the KDC starts again. 301 seconds later, when authenticators are accepted, `u` asks, and `w`
+/// ten times; `w` and `krbtgt/A.B` get new keys, and `u` asks once more. The first and the last request of `w` have the
 /// same authenticators' times as those of `u`.
-const BESIDE_ANOTHER: [(u32, u8, Act); 18] = [
+const BESIDE_ANOTHER: &[(u32, u8, Act)] = &[
     (0, b'u', Act::Change(Changed::Add)),
     (0, b'u', Act::Change(Changed::Free)),
     (0, b'w', Act::Change(Changed::Add)),
@@ -76,19 +92,25 @@ const BESIDE_ANOTHER: [(u32, u8, Act); 18] = [
     (310, b'u', Act::Ask(Asked::Tgs)),
 ];
 
-#[test]
-fn a_client_gets_the_same_without_another(rt: HostRuntime) -> Result<(), Fail> {
-    let alloc = rt.alloc();
-    let limits = Limits::new(64, 0, 0, 36000, 0).ok_or("limits")?;
+fn beside_another(alloc: Global) -> Result<Vec<Step>, AllocError> {
     let mut steps = Vec::new(alloc);
     for (octet, (at, client, act)) in (2..20).zip(BESIDE_ANOTHER) {
-        steps.push(step_at(at, client, act, octet))?;
+        steps.push(step_at(*at, *client, *act, octet))?;
     }
-    let whole = replies(alloc, limits, &steps, None)?;
-    for (client, wanted) in [(b'u', 2), (b'w', 10)] {
-        let tickets = struck_tickets(alloc, limits, &steps, &whole, client)?;
-        assert_eq!(rt; tickets, Some(wanted));
-    }
+    Ok(steps)
+}
+
+#[test]
+fn a_client_gets_the_same_without_another(rt: HostRuntime) -> Result<(), Fail> {
+    let limits = Limits::new(64, 0, 0, 36000, 0).ok_or("limits")?;
+    let steps = beside_another(rt.alloc())?;
+    let found = tickets_of_each(rt.alloc(), limits, &steps, b"uw")?;
+    same(
+        &rt,
+        &"tickets",
+        &found.as_slice(),
+        &[Some(2), Some(10)].as_slice(),
+    );
     Ok(())
 }
 
@@ -169,16 +191,12 @@ fn drawn_steps(alloc: Global) -> Result<Vec<Step>, AllocError> {
 
 #[test]
 fn eight_clients_get_the_same_without_each_other(rt: HostRuntime) -> Result<(), Fail> {
-    let alloc = rt.alloc();
     let limits = Limits::new(4, 2, 300, 36000, 0).ok_or("limits")?;
-    let steps = drawn_steps(alloc)?;
-    let whole = replies(alloc, limits, &steps, None)?;
-    for client in b'p'..=b'w' {
-        let tickets = struck_tickets(alloc, limits, &steps, &whole, client)?;
-        assert!(rt;
-            tickets.is_some_and(|tickets| tickets >= 50),
-            "{client} {tickets:?}"
-        );
+    let steps = drawn_steps(rt.alloc())?;
+    let found = tickets_of_each(rt.alloc(), limits, &steps, b"pqrstuvw")?;
+    for (client, tickets) in b"pqrstuvw".iter().zip(&found) {
+        let are_many = tickets.is_some_and(|tickets| tickets >= 50);
+        same(&rt, &(*client, *tickets), &are_many, &true);
     }
     Ok(())
 }
