@@ -13,6 +13,7 @@ use std::test::Fail;
 
 /// A request of a ticket's way. The first one is an AS-REQ with a timestamp; each later one presents the ticket
 /// before it.
+#[derive(Clone, Copy)]
 pub struct Leg {
     /// When it is sent and answered, in seconds after midnight.
     pub at: u32,

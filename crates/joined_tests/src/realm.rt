@@ -1,15 +1,21 @@
 //! A realm with a client and a service.
+ghost use Rattle.client_core.specs.Presenting.{IsShortChecksum};
+
 use crate::given::{REALM, Service, key_from, moment, up, user};
-use ap_accept::Acceptor;
+use ap_accept::{Accepted, Acceptor};
 use cred_files::{Keytab, KeytabEntry};
 use enctypes::{Etype, Key};
 use kdc_core::{Kdc, Opening};
 use krb_elements::KerberosString;
 use krb_fields::Name;
+use krb_joined::{Client, Issuing, JoinedFault, Sealing, end_to_end};
 use principal_rows::{KeyList, Limits, Policy};
 use principals::{Change, Database, RowChange};
 use std::alloc::Global;
 use std::test::Fail;
+
+/// The first octet of the key of `h`.
+pub const HOST_FIRST: u8 = 160;
 
 /// The encryption types of a realm's keys: there is one of each principal.
 #[derive(Clone, Copy, Debug)]
@@ -30,7 +36,7 @@ impl Types {
     }
 
     pub fn service_key(self) -> Key {
-        key_from(self.service, 160)
+        key_from(self.service, HOST_FIRST)
     }
 }
 
@@ -94,21 +100,65 @@ fn kdc(alloc: Global, types: Types) -> Result<Kdc, Fail> {
     Ok(Kdc::open(alloc, database, limits()?, Opening::First)?)
 }
 
-fn acceptor(alloc: Global, types: Types) -> Result<Acceptor, Fail> {
+/// What the keytab of a service holds.
+#[derive(Clone, Copy)]
+pub struct Held {
+    pub service: Service,
+    pub version: u32,
+    pub etype: Etype,
+    /// The first octet of the key.
+    pub first: u8,
+}
+
+fn acceptor(alloc: Global, held: Held) -> Result<Acceptor, Fail> {
     let entry = KeytabEntry {
         realm: KerberosString::from_slice(alloc, REALM)?,
-        name: Service::Host.name(alloc)?,
-        version: 1,
-        key: types.service_key(),
+        name: held.service.name(alloc)?,
+        version: held.version,
+        key: key_from(held.etype, held.first),
     };
     let entries = vec![in alloc; entry]?;
     let keytab = Keytab::new(alloc, &entries)?;
     Ok(Acceptor::open(alloc, keytab, limits()?, ap_accept::Opening::First)?)
 }
 
-pub fn open(alloc: Global, types: Types) -> Result<Realm, Fail> {
+/// A realm whose service has this keytab.
+pub fn open_with(alloc: Global, types: Types, held: Held) -> Result<Realm, Fail> {
     Ok(Realm {
-        acceptor: acceptor(alloc, types)?,
+        acceptor: acceptor(alloc, held)?,
         kdc: kdc(alloc, types)?,
     })
+}
+
+/// A realm whose service has its own key.
+pub fn open(alloc: Global, types: Types) -> Result<Realm, Fail> {
+    let held = Held {
+        service: Service::Host,
+        version: 1,
+        etype: types.service,
+        first: HOST_FIRST,
+    };
+    open_with(alloc, types, held)
+}
+
+/// What is accepted of the ticket that comes of a request.
+pub fn arrive(
+    alloc: Global,
+    realm: &mut Realm,
+    issuing: &Issuing,
+    request: &[u8],
+    client: &Client,
+    accepting: &Sealing,
+) -> Result<Accepted, JoinedFault>
+    requires { IsShortChecksum client.now.wanted.checksum }
+{
+    end_to_end(
+        alloc,
+        &mut realm.kdc,
+        issuing,
+        request,
+        client,
+        &mut realm.acceptor,
+        accepting,
+    )
 }

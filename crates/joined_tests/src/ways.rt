@@ -7,7 +7,7 @@ use crate::given::{
     Service, VALIDATE, key_from, moment, second, up, user,
 };
 use crate::legs::{Leg, Sent};
-use crate::realm::{Realm, Types, open};
+use crate::realm::{Realm, Types, arrive, open};
 use ap_accept::Accepted;
 use client_core::ServiceAsked;
 use cred_files::Credential;
@@ -15,7 +15,7 @@ use enctypes::{Etype, Key};
 use kdc_core::Kdc;
 use krb_elements::Octets;
 use krb_fields::{Name, Typed};
-use krb_joined::{Client, Issuing, Sealing, end_to_end, obtain};
+use krb_joined::{Client, Issuing, Sealing, obtain};
 use std::alloc::Global;
 use std::test::Fail;
 use ticket_times::TicketTerms;
@@ -300,7 +300,7 @@ fn go_all(
 }
 
 /// What is accepted of the ticket that comes of the last leg.
-fn arrive(
+fn come(
     alloc: Global,
     realm: &mut Realm,
     issuing: &Issuing,
@@ -309,15 +309,7 @@ fn arrive(
 ) -> Result<Accepted, Fail>
     requires { IsShortChecksum client.now.wanted.checksum }
 {
-    match end_to_end(
-        alloc,
-        &mut realm.kdc,
-        issuing,
-        request,
-        client,
-        &mut realm.acceptor,
-        &client.presenting,
-    ) {
+    match arrive(alloc, realm, issuing, request, client, &client.presenting) {
         Ok(accepted) => Ok(accepted),
         Err(_) => Err(Fail::from("not accepted")),
     }
@@ -345,7 +337,7 @@ fn go_last(
         wanted,
         presenting,
     };
-    arrive(alloc, realm, &issuing, &sent.request, &client)
+    come(alloc, realm, &issuing, &sent.request, &client)
 }
 
 fn is_key(found: &Key, wanted: &Key) -> bool {
