@@ -141,7 +141,7 @@ fn say_start(rt: &HostRuntime, server: &Server<'_>, options: &ServeOptions<'_>) 
 
 /// Says how many lines of the log were lost, if any.
 fn say_lost(rt: &HostRuntime, wire: &ServerWire) {
-    let lost = wire.observer().map_or(0, |log| log.lost());
+    let lost = wire.observer().map_or(0, |log| log.untold());
     if lost > 0 {
         say(rt, &format_args!("kdcd: log: {lost} lines are lost\n"));
     }

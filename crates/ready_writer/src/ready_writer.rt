@@ -20,7 +20,8 @@ enum LineState {
 }
 
 /// A stream that is written to only where it takes octets at once. Else a write is the error `WouldBlock`, and the line
-/// is lost. Where the beginning of that line was written before, the next one starts on a line of its own.
+/// is lost, as after any other error of the stream. Where the beginning of that line was written before, the next one
+/// starts on a line of its own.
 #[derive(Drop)]
 pub struct ReadyWriter<W> {
     stream: W,
@@ -42,8 +43,21 @@ impl<W: Write + AsFd + Drop> ReadyWriter<W> {
 }
 
 impl<W: Write> ReadyWriter<W> {
-    /// Writes what the stream takes of these octets at once.
+    /// Writes what the stream takes of these octets at once. Where it fails, the rest of a line that has begun doesn't
+    /// come; but a write that a signal ended is made again.
     fn write_now(&mut self, octets: &[u8]) -> io::Result<usize>
+        ensures bound { WritesAtMost result octets.now }
+    {
+        let written = self.write_piece(octets);
+        if let Err(error) = &written {
+            if error.kind() != ErrorKind::Interrupted {
+                self.cut();
+            }
+        }
+        written
+    }
+
+    fn write_piece(&mut self, octets: &[u8]) -> io::Result<usize>
         ensures bound { WritesAtMost result octets.now }
     {
         let piece = self.piece_of(octets)?;
@@ -66,10 +80,13 @@ impl<W: Write> ReadyWriter<W> {
         if readiness.is_ready()? {
             return Ok(readiness.piece_of(octets));
         }
+        Err(io::Error::from(ErrorKind::WouldBlock))
+    }
+
+    fn cut(&mut self) {
         if self.line == LineState::Begun {
             self.line = LineState::Cut;
         }
-        Err(io::Error::from(ErrorKind::WouldBlock))
     }
 }
 

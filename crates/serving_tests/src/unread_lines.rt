@@ -1,12 +1,13 @@
 //! A log that nobody reads (`ready_writer`, `kdcd_start`): over a pipe, which is full at last, over one whose reader is
-//! gone, and over a file, which takes all.
+//! gone, over a file, which takes all, and over a file on a disk that is full for one write.
 use kdcd_start::RequestLines;
 use krb_fields::Moment;
 use ready_writer::ReadyWriter;
 use request_log::{Asker, Observer, Transport};
 use std::alloc::{AllocError, Global};
 use std::fs::File;
-use std::io::{ErrorKind, PipeReader, PipeWriter, Read, Write};
+use std::io::{Error, ErrorKind, PipeReader, PipeWriter, Read, Write};
+use std::os::fd::{AsFd, BorrowedFd};
 use std::test::Fail;
 use std::{fs, io};
 
@@ -19,17 +20,27 @@ const LINE: &str = "2024-01-01T00:00:00Z [2001:db8:1111:2222:3333:4444:5555:6666
 /// More of these lines than a pipe holds, which is 65,536 octets.
 const MANY: u64 = 1_000;
 
-/// Has a log tell of so many requests, and gives how many lines it lost.
-fn lost_of_many<W: Write + Drop>(alloc: Global, lines: W) -> Result<u64, Fail> {
+/// Has a log tell of so many requests.
+fn tell<W: Write + Drop>(
+    alloc: Global,
+    log: &mut RequestLines<W>,
+    requests: u64,
+) -> Result<(), Fail> {
     let asker = Asker {
         transport: Transport::Udp,
         peer: Some(PEER.parse()?),
     };
     let now = Moment::new(1_704_067_200, 0).ok_or("a moment")?;
-    let mut log = RequestLines::new(lines, 86_400);
-    for _ in 0..MANY {
+    for _ in 0..requests {
         log.answered(alloc, asker, now, &[], None);
     }
+    Ok(())
+}
+
+/// Has a log tell of many requests, and gives how many lines it lost.
+fn lost_of_many<W: Write + Drop>(alloc: Global, lines: W) -> Result<u64, Fail> {
+    let mut log = RequestLines::new(lines, 86_400);
+    tell(alloc, &mut log, MANY)?;
     Ok(log.lost())
 }
 
@@ -131,5 +142,61 @@ fn what_comes_behind_a_line_that_was_cut_has_a_line_of_its_own(
         }
     );
     assert!(rt; text.starts_with(&line.repeat(alloc, whole as usize)?));
+    Ok(())
+}
+
+/// A file on a disk that has room for so many octets, and, after one write that it has none for, for all.
+#[derive(Drop)]
+struct FullDisk {
+    file: File,
+    room: Option<usize>,
+}
+
+impl Write for FullDisk {
+    fn write(&mut self, octets: &[u8]) -> io::Result<usize> {
+        let Some(room) = self.room.take() else {
+            return self.file.write(octets);
+        };
+        if room == 0 {
+            return Err(Error::from(ErrorKind::StorageFull));
+        }
+        let written = self.file.write(octets.get(..room).unwrap_or(octets))?;
+        self.room = Some(room.saturating_sub(written));
+        Ok(written)
+    }
+
+    fn flush(&mut self) -> io::Result<()> {
+        self.file.flush()
+    }
+}
+
+impl AsFd for FullDisk {
+    fn as_fd(&self) -> BorrowedFd<'_> {
+        self.file.as_fd()
+    }
+}
+
+/// What three requests leave of lines in a file on such a disk.
+fn left_of_three(rt: &HostRuntime, path: &str, room: usize) -> Result<String, Fail> {
+    let alloc = rt.alloc();
+    let disk = FullDisk {
+        file: File::create(rt, path)?,
+        room: Some(room),
+    };
+    let mut log = RequestLines::new(ReadyWriter::new(alloc, rt, disk)?, 86_400);
+    tell(alloc, &mut log, 3)?;
+    let text = fs::read_to_string(rt, path)?;
+    fs::remove_file(rt, path)?;
+    Ok(text)
+}
+
+#[test]
+fn a_line_behind_lost_ones_tells_how_many_they_are(rt: HostRuntime) -> Result<(), Fail> {
+    let alloc = rt.alloc();
+    for (room, begun) in [(77, ""), (78, "2\n"), (153, LINE)] {
+        let text = left_of_three(&rt, "full_disk.log", room)?;
+        let wanted = format!(in alloc; "{LINE}{begun}kdcd: log: 1 lines are lost\n{LINE}")?;
+        assert_eq!(rt; text, wanted);
+    }
     Ok(())
 }
