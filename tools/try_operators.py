@@ -226,6 +226,7 @@ def try_limits(trial):
             kdcd serve --db . --udp 127.0.0.1:0 -> 3 =failed
             kdcd serve --db database --seed short --udp 127.0.0.1:0 -> 1 =refused ShortSeed; short: 
             kdcd serve --db database --seed none --udp 127.0.0.1:0 -> 3 =failed; none: No such file
+            kdcd serve --db database --seed /dev/zero --udp 127.0.0.1:0 -> 1 =refused LongFile; /dev/zero: it has more octets
         """)
     served = trial.serve("--first --remembered 1")
     trial.cases("KINIT u --password-file pw -> 0 =ok\nKVNO h -> 0 =h kvno 1\nKVNO host/n -> 1 =refused 29")

@@ -12,7 +12,7 @@ use std::{fmt, io, str};
 /// Why what stands in a file is not taken, or could not be read.
 #[derive(Debug, Drop)]
 pub enum FileFault {
-    /// The file has more octets than a database's text may have.
+    /// The file has more octets than are taken of it.
     LongFile,
     /// The file of the seed has fewer than 32 octets.
     ShortSeed,
@@ -39,7 +39,7 @@ impl FileFault {
 impl fmt::Display for FileFault {
     fn fmt<W: fmt::Write>(&self, f: &mut fmt::Formatter<W>) -> fmt::Result {
         match self {
-            FileFault::LongFile => f.write_str("it has more than 1073741824 octets"),
+            FileFault::LongFile => f.write_str("it has more octets than are taken"),
             FileFault::ShortSeed => f.write_str("it has fewer than 32 octets"),
             FileFault::Database(fault) => write!(f, "{fault}"),
             FileFault::Failed(error) => write!(f, "{error}"),

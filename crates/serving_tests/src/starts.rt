@@ -232,3 +232,12 @@ fn a_file_has_a_greatest_length(rt: HostRuntime) {
     assert_eq!(rt; refusal_of_length(rt.alloc(), 1_000), None);
     assert_eq!(rt; refusal_of_length(rt.alloc(), 1_001), Some("LongFile"));
 }
+
+/// A seed has another greatest length than a database, so no number is said.
+#[test]
+fn a_file_that_is_too_long_has_more_than_is_taken(rt: HostRuntime) -> Result<(), Fail> {
+    let fault = FileFault::LongFile;
+    let text = format!(in rt.alloc(); "{fault}")?;
+    assert_eq!(rt; text.as_str(), "it has more octets than are taken");
+    Ok(())
+}
