@@ -2,15 +2,19 @@
 #![tactic(auto)]
 
 use file_store::FileStore;
-use kadm_run::{FAILED, kadm_run};
+use kadm_run::{FAILED, USAGE, kadm_run};
 use std::process::ExitCode;
 use std::{env, io};
 
 fn main(rt: HostRuntime) -> ExitCode {
     match run(&rt) {
         Ok(status) => ExitCode::from(status),
+        // where these can't be written there is no one to tell
+        Err(error) if error.kind() == io::ErrorKind::InvalidData => {
+            let _ = println!(rt; "error: a word is not UTF-8");
+            ExitCode::from(USAGE)
+        }
         Err(error) => {
-            // where these can't be written there is no one to tell
             let _ = println!(rt; "failed");
             let _ = eprintln!(rt; "kadm: the words of the command line: {error}");
             ExitCode::from(FAILED)
@@ -18,7 +22,7 @@ fn main(rt: HostRuntime) -> ExitCode {
     }
 }
 
-/// The status of the program; an error is one of reading the words, as where one is not UTF-8.
+/// The status of the program; an error is one of reading the words, `InvalidData` where one is not UTF-8.
 fn run(rt: &HostRuntime) -> io::Result<u8> {
     let alloc = rt.alloc();
     let words: Vec<String> = env::args(rt)?.collect(alloc)?;

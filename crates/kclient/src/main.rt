@@ -3,7 +3,7 @@
 
 use client_sockets::{SocketExchange, now};
 use file_store::FileStore;
-use kclient_run::{Defaults, FAILED, Variable, kclient_run};
+use kclient_run::{Defaults, FAILED, USAGE, Variable, kclient_run};
 use std::alloc::AllocError;
 use std::env::VarError;
 use std::process::ExitCode;
@@ -14,7 +14,7 @@ use std::{env, fmt, io};
 enum Fault {
     /// The clock can't be read, or shows no moment of the years 1970 to 9999.
     Clock(io::Error),
-    /// The words of the command line can't be read, as where one is not UTF-8.
+    /// The words of the command line can't be read; `InvalidData` where one is not UTF-8.
     Words(io::Error),
     Memory,
 }
@@ -38,8 +38,12 @@ impl From<AllocError> for Fault {
 fn main(rt: HostRuntime) -> ExitCode {
     match run(&rt) {
         Ok(status) => ExitCode::from(status),
+        // where these can't be written there is no one to tell
+        Err(Fault::Words(error)) if error.kind() == io::ErrorKind::InvalidData => {
+            let _ = println!(rt; "error: a word is not UTF-8");
+            ExitCode::from(USAGE)
+        }
         Err(fault) => {
-            // where these can't be written there is no one to tell
             let _ = println!(rt; "failed");
             let _ = eprintln!(rt; "kclient: {fault}");
             ExitCode::from(FAILED)

@@ -30,7 +30,14 @@ fn main(rt: HostRuntime) -> ExitCode {
 /// The status of the program; an error is a failed write, or want of memory.
 fn run(rt: &HostRuntime) -> io::Result<u8> {
     let alloc = rt.alloc();
-    let words: Vec<String> = env::args(rt)?.collect(alloc)?;
+    let words: Vec<String> = match env::args(rt) {
+        Ok(words) => words.collect(alloc)?,
+        Err(error) if error.kind() == io::ErrorKind::InvalidData => {
+            println!(rt; "error: a word is not UTF-8")?;
+            return Ok(USAGE);
+        }
+        Err(error) => return Err(error),
+    };
     match read_words(alloc, &words) {
         Ok(matches) => run_subcommand(rt, &matches),
         Err(error) if error.kind() == ErrorKind::OutOfMemory => {
