@@ -1,5 +1,5 @@
 /*
- * The acceptor of AP-REQ messages (RFC 4120, section 3.2.3), for services in C.
+ * The acceptor of AP-REQ messages (RFC 4120, section 3.2.3), for services in C (C99 or later) and in C++.
  *
  * docs/SERVICES-C.md says how it is built and what a service has to keep, and tools/ap_service.c is a whole service.
  *
@@ -13,10 +13,13 @@
  *     ap_close(&acceptor);
  *
  * Each call returns a status: AP_DONE (0), a code of RFC 4120, section 7.5.9 (above 0), or one of the enum below (below 0).
- * A pointer that is null, a length of more than PTRDIFF_MAX and a number out of its range are AP_BAD_ARGUMENT: then the
- * call has done nothing. What no call can judge is the caller's part: that a pointer that is not null is one to as much
- * memory as is said, that no two arguments of a call overlap, that nobody writes into a struct ap_acceptor or copies it, and
- * that it stays on the thread that opened it.
+ * A pointer that is null, a length of more than PTRDIFF_MAX and a number out of its range are AP_BAD_ARGUMENT. Then the
+ * acceptor is as it was: what ap_octets gave before the call, it gives after it. And nothing is written, but that ap_accept sets
+ * all of *accepted to zero where the moment is out of its range, and ap_octets sets *length to 0 where there is no such part.
+ *
+ * What no call can judge is the caller's part: that a pointer that is not null is one to as much memory as is said, that no two
+ * arguments of a call overlap, that nobody writes into a struct ap_acceptor or copies it, and that it stays on the thread that
+ * opened it.
  */
 #ifndef AP_ACCEPT_H
 #define AP_ACCEPT_H
@@ -24,6 +27,10 @@
 #include <stdbool.h>
 #include <stddef.h>
 #include <stdint.h>
+
+#ifdef __cplusplus
+extern "C" {
+#endif
 
 /* How a call ended, where no code of RFC 4120 says it. */
 enum ap_status {
@@ -173,5 +180,9 @@ static inline size_t ap_text(int32_t status, char *to, size_t capacity)
 		capacity = 0;
 	return ap_accept_c_text(status, capacity == 0 ? &none : (uint8_t *)to, capacity);
 }
+
+#ifdef __cplusplus
+}
+#endif
 
 #endif

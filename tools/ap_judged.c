@@ -1,17 +1,20 @@
 /*
- * Tries what docs/ap_accept.h says of arguments that are amiss: prints each call that answers otherwise, and how many did.
+ * Tries what docs/ap_accept.h says of arguments that are amiss, and of what stays accepted: prints each call that answers otherwise,
+ * and how many did.
  *
  *     cc -g -fsanitize=address,undefined -I docs -o ap_judged tools/ap_judged.c crates/ap_accept_c/out/libap_accept_c.a KIT/c/liblibc_c.a
- *     ./ap_judged KEYTAB
+ *     ./ap_judged KEYTAB [AP-REQ]
  *
- * KEYTAB is a keytab's file. Nothing here is accepted: tools/ap_client.c tries that.
+ * KEYTAB is a keytab's file. AP-REQ is the hexadecimal digits of an AP-REQ for a service of that keytab, made within the last 300
+ * seconds, without a subkey, as tools/mk_req.c prints it. Without it nothing here is accepted: tools/ap_client.c tries that.
  */
 #include "ap_accept.h"
 
 #include <stdio.h>
 #include <string.h>
+#include <time.h>
 
-enum { LONGEST = 65536, NOW = 1800000000, TOO_LONG = 1 };
+enum { LONGEST = 65536, NOW = 1800000000, TOO_LONG = 1, LONGEST_KEY = 32, UNWRITTEN = 0xa5 };
 
 static int failures;
 
@@ -86,6 +89,64 @@ static void fetches(struct ap_acceptor *acceptor, int32_t at_best)
 	expect("nothing written", memcmp(to, "\1\2\3\4", 4), 0);
 }
 
+/* How many octets of the buffer are as they were, from this one on. */
+static size_t unwritten(const uint8_t *to, size_t from, size_t end)
+{
+	size_t count = 0;
+
+	for (size_t at = from; at < end; at++)
+		count += to[at] == UNWRITTEN;
+	return count;
+}
+
+/* An AP-REQ without a subkey is accepted, and its octets are got until the next one is. */
+static void keeps(const uint8_t *keytab, size_t keytab_length, const uint8_t *ap_req, size_t ap_req_length)
+{
+	static const uint8_t random[16];
+	struct ap_acceptor acceptor = { 0 };
+	struct ap_accepted accepted = { .subkey_type = 7 };
+	uint8_t key[LONGEST_KEY + 1], again[LONGEST_KEY + 1];
+	size_t needed = 0, length = 0;
+	int64_t now = (int64_t)time(NULL);
+
+	memset(key, UNWRITTEN, sizeof(key));
+	expect("open for an AP-REQ", ap_open(&acceptor, keytab, keytab_length, 1024, true, now, 0), AP_DONE);
+	expect("accepted", ap_accept(&acceptor, now, 0, random, ap_req, ap_req_length, &accepted), AP_DONE);
+	expect("no type of a subkey", accepted.subkey_type, 0);
+	expect("the key's length is asked for", ap_octets(&acceptor, AP_SESSION_KEY, NULL, 0, &needed), AP_TOO_SMALL);
+	expect("the key's length", needed == 16 || needed == 32, 1);
+	if (needed == 16 || needed == 32) {
+		expect("a buffer an octet too small", ap_octets(&acceptor, AP_SESSION_KEY, key, needed - 1, &length), AP_TOO_SMALL);
+		expect("the length is told again", (long)length, (long)needed);
+		expect("the buffer is as it was", (long)unwritten(key, 0, sizeof(key)), (long)sizeof(key));
+		expect("the right buffer", ap_octets(&acceptor, AP_SESSION_KEY, key, needed, &length), AP_DONE);
+		expect("no octet behind the key", (long)unwritten(key, needed, sizeof(key)), (long)(sizeof(key) - needed));
+	}
+	expect("no subkey", ap_octets(&acceptor, AP_SUBKEY, again, sizeof(again), &length), AP_ABSENT);
+	expect("no length of a subkey", (long)length, 0);
+	expect("a bad moment", ap_accept(&acceptor, -1, 0, random, ap_req, ap_req_length, &accepted), AP_BAD_ARGUMENT);
+	expect("no numbers after a bad moment", (long)accepted.endtime, 0);
+	length = 7;
+	expect("a bad part", ap_octets(&acceptor, (enum ap_part)7, again, sizeof(again), &length), AP_BAD_ARGUMENT);
+	expect("no length of a bad part", (long)length, 0);
+	expect("the key is still there", ap_octets(&acceptor, AP_SESSION_KEY, again, sizeof(again), &length), AP_DONE);
+	expect("it is the same", (long)length == (long)needed && memcmp(key, again, length) == 0, 1);
+	expect("a repeat", ap_accept(&acceptor, now, 0, random, ap_req, ap_req_length, &accepted), AP_REPEAT);
+	expect("nothing accepted last", ap_octets(&acceptor, AP_SESSION_KEY, again, sizeof(again), &length), AP_ABSENT);
+	expect("close after it", ap_close(&acceptor), AP_DONE);
+}
+
+/* The octets that hexadecimal digits spell, and how many they are. */
+static size_t octets_of(const char *digits, uint8_t *to)
+{
+	size_t count = 0;
+	unsigned int octet;
+
+	for (; count < LONGEST && sscanf(digits + 2 * count, "%2x", &octet) == 1; count++)
+		to[count] = (uint8_t)octet;
+	return count;
+}
+
 static void texts(void)
 {
 	char text[128], cut[5] = "....";
@@ -105,9 +166,9 @@ static void texts(void)
 
 int main(int count, char **words)
 {
-	static uint8_t keytab[LONGEST];
+	static uint8_t keytab[LONGEST], ap_req[LONGEST];
 	struct ap_acceptor acceptor = { 0 };
-	FILE *file = count == 2 ? fopen(words[1], "rb") : NULL;
+	FILE *file = count == 2 || count == 3 ? fopen(words[1], "rb") : NULL;
 	size_t length;
 
 	if (file == NULL)
@@ -121,6 +182,8 @@ int main(int count, char **words)
 	accepts(&acceptor, AP_NOT_AN_AP_REQ);
 	fetches(&acceptor, AP_ABSENT);
 	expect("close", ap_close(&acceptor), AP_DONE);
+	if (count == 3)
+		keeps(keytab, length, ap_req, octets_of(words[2], ap_req));
 	texts();
 	printf("%d failed\n", failures);
 	return failures != 0;

@@ -3,10 +3,12 @@
 the keytab, `kdcd serve` issues the tickets, MIT's `kinit` logs in, and `tools/ap_client.c` presents tickets by MIT's library.
 
     cc -g -fsanitize=address,undefined -I docs -o ap_service tools/ap_service.c crates/ap_accept_c/out/libap_accept_c.a KIT/c/liblibc_c.a
+    cc -g -fsanitize=address,undefined -I docs -o ap_judged tools/ap_judged.c crates/ap_accept_c/out/libap_accept_c.a KIT/c/liblibc_c.a
     cc -o ap_client tools/ap_client.c -lkrb5
-    python3 tools/services_in_c.py --ap-service ./ap_service --ap-client ./ap_client
+    cc -o mk_req tools/mk_req.c -lkrb5
+    python3 tools/services_in_c.py --ap-service ./ap_service --ap-client ./ap_client --ap-judged ./ap_judged --mk-req ./mk_req
 
-KIT is the toolchain's folder. `rt run -- --help` builds `kadm` and `kdcd`, each in its folder, and `rt lib` the library in that of
+`ap_judged` tries what the header says of bad calls and of what stays accepted, with an AP-REQ of `mk_req`. KIT is the toolchain's folder. `rt run -- --help` builds `kadm` and `kdcd`, each in its folder, and `rt lib` the library in that of
 `ap_accept_c`. It takes six minutes, since a ticket has to be past its end. It ends with status 1 at the first answer that is another,
 and where a sanitizer finds something."""
 
@@ -112,9 +114,22 @@ class Way:
                 if not re.fullmatch(pattern, found):
                     expect(f"type {self.etype}, the service with {words}", found, pattern)
 
+    def judge(self):
+        """What the header says of bad calls, and of an AP-REQ that is accepted. A line tells of each answer that is another."""
+        environment = {**self.environment("cache"), "KRB5_KTNAME": "FILE:" + self.place.path("keytab")}
+        mk_req = [self.place.programs["mk_req"], f"{SERVICE}@A.B"]
+        made = subprocess.run(mk_req, capture_output=True, text=True, env=environment)
+        digits = re.search(r"^ap-req ([0-9a-f]+)$", made.stdout, re.MULTILINE)
+        if not digits:
+            expect(f"type {self.etype}, what mk_req makes ({made.stderr})", made.stdout, "an AP-REQ")
+        ap_judged = [self.place.programs["ap_judged"], self.place.path("keytab"), digits[1]]
+        ran = subprocess.run(ap_judged, capture_output=True, text=True)
+        expect(f"type {self.etype}, ap_judged", (ran.returncode, ran.stdout, ran.stderr), (0, "0 failed\n", ""))
+
     def begin(self):
         self.log_in("cache")
         self.log_in("old", "-l", f"{SHORT_LIFE}s")
+        self.judge()
         self.start(connections(NEW, FOREIGN, OLD) + 1, "first")
         self.present("old", SERVICE, NEW[:1])
         self.ended = time.time() + SHORT_LIFE + LENIENCE
@@ -133,7 +148,7 @@ class Way:
 def main():
     words = argparse.ArgumentParser(description=__doc__, formatter_class=argparse.RawDescriptionHelpFormatter)
     add_programs(words, "kadm", "kdcd")
-    for program in ("kinit", "ap-service", "ap-client"):
+    for program in ("kinit", "ap-service", "ap-client", "ap-judged", "mk-req"):
         words.add_argument("--" + program, default="kinit" if program == "kinit" else "./" + program.replace("-", "_"))
     programs = vars(words.parse_args())
     with tempfile.TemporaryDirectory() as top:
