@@ -189,6 +189,12 @@ def try_kadm(trial):
         kadm keytab --db database --name a --out no/kt -> 3 =failed; no/kt
         kadm keytab --db database --name a --out /dev/full -> 3 =failed; /dev/full: 
         kadm keytab --db database --name a --out text --append -> 1 =refused BadMagic
+        kadm keytab --db database --name x --out text --append -> 1 =refused BadMagic
+        kadm keytab --db database --name a --out database -> 2 --out
+        kadm keytab --db database --name a --out ./database -> 1 =refused IsDatabase
+        kadm keytab --db ./database --name a --out database --append -> 1 =refused IsDatabase
+        kadm keytab --db database --name a --out folder/../database -> 1 =refused IsDatabase
+        kadm keytab --db database --name a --out new -> 1 =refused IsDatabase
     """)
     changed = (trial.folder / "database").read_bytes() != before
     trial.note("the database is as it was before these", "it is another" if changed else "")

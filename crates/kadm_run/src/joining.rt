@@ -1,15 +1,14 @@
 //! Two keytabs joined, octet by octet, so that entries of other key types and all times stay as they are.
 ghost use Rattle.std.specs.Prelude.{◌<◌, IfSome, length};
 
-use cred_files::{FileFault, Keytab};
+use cred_files::FileFault;
 use std::alloc::Global;
 
 /// How many octets stand before the first part of a keytab.
 const MAGIC_LEN: usize = 2;
 
-/// The keytab with the parts of the old one, and then those of the new one.
+/// The keytab with the parts of the old one, which was read as one, and then those of the new one.
 pub(crate) fn joined(alloc: Global, old: &[u8], new: &[u8]) -> Result<Vec<u8>, FileFault> {
-    let _read = Keytab::read(alloc, old)?;
     let (Some(parts), Some(added)) = (old.get(MAGIC_LEN..), new.get(MAGIC_LEN..)) else {
         return Err(FileFault::BadMagic);
     };

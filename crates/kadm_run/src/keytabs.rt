@@ -4,7 +4,7 @@ use crate::joining::joined;
 use crate::stop::Stop;
 use cred_files::{Keytab, KeytabEntry};
 use enctypes::Key;
-use file_store::{FileFault, Store, has_file, read_file, write_file};
+use file_store::{Amiss, FileFault, Store, has_file, read_file, write_file};
 use krb_elements::KerberosString;
 use krb_fields::Name;
 use principal_rows::Row;
@@ -33,10 +33,26 @@ fn write_keys<'p, T: Store>(
     path: &'p str,
     append: bool,
 ) -> Result<(), Stop<'p>> {
+    if has_lock(alloc, store, path)? {
+        return Err(Stop::Refused("IsDatabase"));
+    }
     let old = read_old(alloc, store, path, append)?;
     let octets = keytab_behind(alloc, database, name, old)?;
     write_file(alloc, store, path, &octets)?;
     Ok(())
+}
+
+/// Whether a lock stands beside a file, as it does beside each database that a command writes, and beside the one that
+/// this command locks, whatever its path is called.
+fn has_lock<'p, T: Store>(alloc: Global, store: &mut T, path: &'p str) -> Result<bool, Stop<'p>> {
+    let beside = format!(in alloc; "{path}.lock")?;
+    match store.exists(&beside) {
+        Ok(found) => Ok(found),
+        Err(error) => Err(Stop::from(FileFault {
+            path,
+            amiss: Amiss::Failed(error),
+        })),
+    }
 }
 
 /// What a keytab has that is added to.
@@ -45,15 +61,26 @@ fn read_old<'p, T: Store>(
     store: &mut T,
     path: &'p str,
     append: bool,
-) -> Result<Option<Vec<u8>>, FileFault<'p>> {
+) -> Result<Option<Vec<u8>>, Stop<'p>> {
     if append && has_file(store, path)? {
-        Ok(Some(read_file(alloc, store, path)?))
+        Ok(Some(read_judged(alloc, store, path)?))
     } else {
         Ok(None)
     }
 }
 
-/// A keytab of a principal's current keys, behind what an old one has.
+/// The octets of a file that is a keytab.
+fn read_judged<'p, T: Store>(
+    alloc: Global,
+    store: &mut T,
+    path: &'p str,
+) -> Result<Vec<u8>, Stop<'p>> {
+    let octets = read_file(alloc, store, path)?;
+    let _read = Keytab::read(alloc, &octets)?;
+    Ok(octets)
+}
+
+/// A keytab of a principal's current keys, behind what an old one has that was judged.
 fn keytab_behind(
     alloc: Global,
     database: &Database,

@@ -295,7 +295,7 @@ const VALUE: OptionWords = OptionWords {
 const OUT: OptionWords = OptionWords {
     name: "out",
     shape: "FILE",
-    help: "The keytab; a file that is there is replaced",
+    help: "The keytab; a file that is there is replaced, but no database beside which its lock stands",
     times: Times::Once,
 };
 

@@ -202,6 +202,11 @@ const NO_KEYTABS: &[Step] = &[
     ),
     Put("kt", b""),
     Run(APPEND, "refused BadMagic\n", REFUSED),
+    Run(
+        "kadm keytab --db db --name absent --out kt --append",
+        "refused BadMagic\n",
+        REFUSED,
+    ),
     Holds("kt", b""),
     Put("kt", b"\x05\x01"),
     Run(APPEND, "refused BadMagic\n", REFUSED),
@@ -210,6 +215,30 @@ const NO_KEYTABS: &[Step] = &[
     Run(APPEND, "refused Truncated\n", REFUSED),
     Holds("kt", b"\x05\x02\x00"),
 ];
+
+/// A lock stands beside what a command took for a database.
+const DATABASES: &[Step] = &[
+    Run(INIT, "ok\n", DONE),
+    Run("kadm random --db db --name u --seed seed", "ok\n", DONE),
+    Put("other", b"{}"),
+    Put("other.lock", b""),
+    Run(
+        "kadm keytab --db db --name u --out other",
+        "refused IsDatabase\n",
+        REFUSED,
+    ),
+    Run(
+        "kadm keytab --db db --name u --out other --append",
+        "refused IsDatabase\n",
+        REFUSED,
+    ),
+    Holds("other", b"{}"),
+];
+
+#[test]
+fn a_database_is_not_replaced_by_a_keytab(rt: HostRuntime) -> io::Result<()> {
+    run(&rt, rt.alloc(), DATABASES)
+}
 
 #[test]
 fn what_is_no_keytab_is_left(rt: HostRuntime) -> io::Result<()> {
