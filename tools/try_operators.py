@@ -28,6 +28,8 @@ from trial import (
 )
 
 MOST = 4294967295
+# For how many seconds a client is locked.
+LOCK_SECONDS = 60
 
 # Values that are none, by the options that take them.
 NUMBERS = ("", "-1", "+1", "1.5", "0x10", "ten", " 1", "1 ", "\u0661", str(MOST + 1), "18446744073709551617")
@@ -574,6 +576,28 @@ def try_mit(trial, served):
     """, env=stock)
     time.sleep(3)
     trial.cases("kinit -v -> 0\nkvno h -> 0 kvno = 1", env=stock)
+    try_mit_lock(trial, stock)
+    trial.configure(served.udp)
+
+
+def try_mit_lock(trial, stock):
+    """A client of MIT's with a wrong password three times, the right one while it is locked, and after the lock's end."""
+    served = trial.serve(f"--first --lock-after 3 --lock-seconds {LOCK_SECONDS}")
+    trial.configure(served.udp)
+    for turn in ("first", "second", "third"):
+        what = f"a lock after three failures: the {turn} wrong password of MIT's kinit"
+        trial.expect("kinit u", 1, "Password incorrect", given="another password\n", what=what, env=stock)
+    failed = time.monotonic()
+    what = "a lock after three failures: the right password is refused"
+    revoked = "Client's credentials have been revoked"
+    trial.expect("kinit u", 1, revoked, given="a password\n", what=what, env=stock)
+    trial.expect("kinit -k -t v.keytab v", 0, what="a lock after three failures: another client is not locked", env=stock)
+    time.sleep(max(0, failed + LOCK_SECONDS + 2 - time.monotonic()))
+    what = f"a lock of {LOCK_SECONDS} seconds: the right password is taken after it"
+    trial.expect("kinit u", 0, given="a password\n", what=what, env=stock)
+    trial.expect("kvno h", 0, "kvno = 1", what="a lock that has ended: a ticket of a service", env=stock)
+    status = served.end()
+    trial.note("a server with locks ends", "" if status == -15 else f"status {status}")
 
 
 PARTS = {
