@@ -20,18 +20,24 @@ use std::{env, fs, io};
 const USAGE: u8 = 2;
 
 fn main(rt: HostRuntime) -> io::Result<ExitCode> {
-    let words: Vec<String> = env::args(&rt)?.collect(rt.alloc())?;
+    let words: Vec<String> = match env::args(&rt) {
+        Ok(words) => words.collect(rt.alloc())?,
+        Err(error) if error.kind() == ErrorKind::InvalidData => return usage(&rt),
+        Err(error) => return Err(error),
+    };
     match words.as_slice() {
         // Unless the service never ran before, it opens as after a restart.
         [_, keytab] => serve(&rt, keytab.as_str(), Opening::Restart(now(&rt)?)),
         [_, keytab, word] if word.as_str() == "first" => {
             serve(&rt, keytab.as_str(), Opening::First)
         }
-        _ => {
-            println!(rt; "usage: ap_whois KEYTAB [first]")?;
-            Ok(ExitCode::from(USAGE))
-        }
+        _ => usage(&rt),
     }
+}
+
+fn usage(rt: &HostRuntime) -> io::Result<ExitCode> {
+    println!(rt; "usage: ap_whois KEYTAB [first]")?;
+    Ok(ExitCode::from(USAGE))
 }
 
 fn serve(rt: &HostRuntime, keytab: &str, opening: Opening) -> io::Result<ExitCode> {
