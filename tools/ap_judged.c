@@ -139,10 +139,10 @@ static void keeps(const uint8_t *keytab, size_t keytab_length, const uint8_t *ap
 /* The octets that hexadecimal digits spell, and how many they are. */
 static size_t octets_of(const char *digits, uint8_t *to)
 {
-	size_t count = 0;
+	size_t count = 0, end = strlen(digits) / 2;
 	unsigned int octet;
 
-	for (; count < LONGEST && sscanf(digits + 2 * count, "%2x", &octet) == 1; count++)
+	for (; count < LONGEST && count < end && sscanf(digits + 2 * count, "%2x", &octet) == 1; count++)
 		to[count] = (uint8_t)octet;
 	return count;
 }
