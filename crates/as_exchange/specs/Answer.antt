@@ -1,5 +1,5 @@
 -- What the AS exchange answers, and what becomes of the client's failures.
-use Rattle.std.specs.Prelude.{ℕ, ⊤, ◌⊎◌, nat_lt, if◌then◌else◌, List, length, Option, Some, None, Result, Ok, Err}
+use Rattle.std.specs.Prelude.{ℕ, ⊤, ◌⊎◌, nat_lt, if◌then◌else◌, List, length, Option, Some, None}
 use Rattle.enctypes.specs.KeyUsage.{usage_number}
 use Rattle.enctypes.specs.declared.key_usage.KeyUsage.TheVariants.{AsRepEncPart}
 use Rattle.krb_elements.specs.Codec.{written}
@@ -24,8 +24,11 @@ use Rattle.preauth.specs.declared.timestamp.Outcome.{Outcome}
 use Rattle.principal_rows.specs.declared.row.Row.{Row}
 use Rattle.replay.specs.declared.failures.Failures.{Failures}
 use Rattle.as_exchange.specs.View.{AsView}
-use Rattle.as_exchange.specs.Rules.{is_good, timestamp_of, admitted, code_of}
+use Rattle.as_exchange.specs.Rules.{is_good, code_of}
 use Rattle.as_exchange.specs.Issue.{as_rep, grant_by}
+use Rattle.as_exchange.specs.Decision.{decision}
+use Rattle.as_exchange.specs.declared.decision.Decision.{Decision}
+use Rattle.as_exchange.specs.declared.decision.Decision.TheVariants.{Refuses, Issues}
 use Rattle.as_exchange.specs.declared.refusal.AsRefusal.{AsRefusal}
 use Rattle.as_exchange.specs.declared.refusal.AsRefusal.TheVariants.{BadVersion, BadMessageType, ClientUnknown}
 use Rattle.as_exchange.specs.declared.refusal.AsRefusal.TheVariants.{ServiceUnknown}
@@ -106,35 +109,33 @@ within_room v incoming body octets failures =
     if nat_lt incoming.room (length octets) then refused_room v incoming.at body
     else record { reply = octets; failures = failures }
 
-abbrev pub refused : AsView → Moment → ReqBody → Outcome → AsRefusal → AsAnswer
-refused v at body timestamp refusal = record {
+abbrev pub refused : AsView → Moment → ReqBody → AsRefusal → Outcome → AsAnswer
+refused v at body refusal timestamp = record {
   reply = written krb_error (as_error v at body refusal);
   failures = after_sequel v.failures at timestamp (sequel_of refusal);
 }
 
-abbrev pub answer_by : AsView → Incoming → ReqBody → Outcome → Result Admission AsRefusal → AsAnswer
-answer_by v incoming body timestamp (Err refusal) = refused v incoming.at body timestamp refusal
-answer_by v incoming body timestamp (Ok admission) =
-    within_room v incoming body (written (kdc_rep 11) (as_rep v incoming.at incoming.random body timestamp admission))
-    (after_timestamp v.failures timestamp)
+abbrev pub answer_by : AsView → Incoming → ReqBody → Decision → AsAnswer
+answer_by v incoming body (Refuses refusal timestamp) = refused v incoming.at body refusal timestamp
+answer_by v incoming body (Issues admission) =
+    within_room v incoming body (written (kdc_rep 11) (as_rep v incoming.at incoming.random body admission))
+    (after_timestamp v.failures admission.timestamp)
 
 abbrev pub as_answer : AsView → Incoming → Received → AsAnswer
-as_answer v incoming message =
-    answer_by v incoming message.body.value (timestamp_of v.client incoming.at.sec message)
-    (admitted v incoming.at.sec message)
+as_answer v incoming message = answer_by v incoming message.body.value (decision v incoming.at.sec message)
 
 -- ---- what the octets spell
 
 -- an error where it was refused; else the AS-REP, or the error in its place
-abbrev pub SpelledBy : AsView → Moment → List ℕ → ReqBody → Outcome → Result Admission AsRefusal → List ℕ → Type 0
-SpelledBy v at random body timestamp (Err refusal) octets = krb_error.Spells (as_error v at body refusal) octets
-SpelledBy v at random body timestamp (Ok admission) octets =
-    (kdc_rep 11).Spells (as_rep v at random body timestamp admission) octets
-    ⊎ krb_error.Spells (too_big v.realm at body) octets
+abbrev pub SpelledBy : AsView → Moment → List ℕ → ReqBody → Decision → List ℕ → Type 0
+SpelledBy v at random body (Refuses refusal timestamp) octets = krb_error.Spells (as_error v at body refusal) octets
+SpelledBy v at random body (Issues admission) octets =
+    (kdc_rep 11).Spells (as_rep v at random body admission) octets ⊎ krb_error.Spells (too_big v.realm at body) octets
 
 abbrev pub Spelled : AsView → Moment → List ℕ → Received → List ℕ → Type 0
-Spelled v at random message octets =
-    SpelledBy v at random message.body.value (timestamp_of v.client at.sec message) (admitted v at.sec message) octets
+Spelled v at random message octets = SpelledBy v at random message.body.value (decision v at.sec message) octets
+
+-- ---- one ticket, two keys
 
 -- The client's key opens the AS-REP to what the service's key finds in the ticket, and both are those that the sealed
 -- parts name in the rows of the client and of the service.
@@ -146,16 +147,15 @@ OpensTo v admission reply part ticket =
     × NamesKey v.service reply.ticket.enc_part admission.terms.service.key.key
 
 -- they find what was granted
-abbrev pub OpensFor : AsView → Moment → List ℕ → ReqBody → Outcome → Admission → Type 0
-OpensFor v at random body timestamp admission =
-    OpensTo v admission (as_rep v at random body timestamp admission)
-    (reply_part (grant_by v at random body timestamp admission) body.nonce at.sec)
-    (ticket_part (grant_by v at random body timestamp admission))
+abbrev pub OpensFor : AsView → Moment → List ℕ → ReqBody → Admission → Type 0
+OpensFor v at random body admission =
+    OpensTo v admission (as_rep v at random body admission)
+    (reply_part (grant_by v at random body admission) body.nonce at.sec)
+    (ticket_part (grant_by v at random body admission))
 
-abbrev pub OpensBy : AsView → Moment → List ℕ → ReqBody → Outcome → Result Admission AsRefusal → Type 0
-OpensBy v at random body timestamp (Err refusal) = ⊤
-OpensBy v at random body timestamp (Ok admission) = OpensFor v at random body timestamp admission
+abbrev pub OpensBy : AsView → Moment → List ℕ → ReqBody → Decision → Type 0
+OpensBy v at random body (Refuses refusal timestamp) = ⊤
+OpensBy v at random body (Issues admission) = OpensFor v at random body admission
 
 abbrev pub Opens : AsView → Moment → List ℕ → Received → Type 0
-Opens v at random message =
-    OpensBy v at random message.body.value (timestamp_of v.client at.sec message) (admitted v at.sec message)
+Opens v at random message = OpensBy v at random message.body.value (decision v at.sec message)

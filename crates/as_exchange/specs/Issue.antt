@@ -12,20 +12,20 @@ use Rattle.krb_fields.specs.declared.moment.Moment.{Moment}
 use Rattle.krb_replies.specs.KdcRep.{KdcRep}
 use Rattle.krb_types.specs.ReqBody.{ReqBody}
 use Rattle.preauth.specs.MethodData.{etype_info2}
-use Rattle.preauth.specs.declared.timestamp.Outcome.{Outcome}
 use Rattle.ticket_times.specs.Flags.{as_flags}
 use Rattle.as_exchange.specs.View.{AsView}
 use Rattle.as_exchange.specs.Rules.{is_good}
 use Rattle.as_exchange.specs.declared.terms.Terms.{Terms}
 use Rattle.as_exchange.specs.declared.terms.Admission.{Admission}
 
-abbrev pub grant_by : AsView → Moment → List ℕ → ReqBody → Outcome → Admission → Grant
-grant_by v at random body timestamp admission = record {
+abbrev pub grant_by : AsView → Moment → List ℕ → ReqBody → Admission → Grant
+grant_by v at random body admission = record {
   realm = v.realm;
   client = admission.terms.client_name;
   service = admission.terms.service.name;
   session_key = session_key admission.terms.service.session_type random;
-  flags = as_flags body admission.terms.client admission.terms.service.policy (is_good timestamp) admission.times;
+  flags =
+      as_flags body admission.terms.client admission.terms.service.policy (is_good admission.timestamp) admission.times;
   authtime = at.sec;
   times = admission.times;
   authorization_data = None;
@@ -39,9 +39,8 @@ reply_key_of terms = record { key = terms.reply_key; usage = AsRepEncPart; kvno 
 abbrev pub reply_info : AsView → Terms → PaData
 reply_info v terms = etype_info2 (default_salt v.realm terms.client_name.components) (number terms.reply_key.etype ∷ [])
 
--- the AS-REP, by what became of the timestamp
-abbrev pub as_rep : AsView → Moment → List ℕ → ReqBody → Outcome → Admission → KdcRep 11
-as_rep v at random body timestamp admission =
-    reply_of 11 25 (grant_by v at random body timestamp admission) admission.terms.service.key
+abbrev pub as_rep : AsView → Moment → List ℕ → ReqBody → Admission → KdcRep 11
+as_rep v at random body admission =
+    reply_of 11 25 (grant_by v at random body admission) admission.terms.service.key
     (reply_key_of admission.terms) (Some (reply_info v admission.terms ∷ []))
     body.nonce at.sec random

@@ -3,7 +3,9 @@ pub mod Known
 pub mod Terms
 pub mod Rules
 pub mod Issue
+pub mod Decision
 pub mod Answer
 pub mod Issued
 -- what private clauses and proofs cite: no reader of a public contract needs it
 pub mod NamedLaws
+pub mod DecisionLaws

@@ -15,6 +15,7 @@ use Rattle.krb_fields.specs.PrincipalName.{Name}
 use Rattle.krb_types.specs.ReqBody.{ReqBody}
 use Rattle.preauth.specs.KeyLaws.{current_found, first_found}
 use Rattle.preauth.specs.Keys.{first_key, key_by, key_named}
+use Rattle.preauth.specs.declared.timestamp.Outcome.{Outcome}
 use Rattle.principal_rows.specs.Versions.{current}
 use Rattle.principal_rows.specs.declared.row.Row.{Row}
 use Rattle.refusals.specs.RefusalLaws.{decided_found}
@@ -34,15 +35,15 @@ pub record IsNamed (client_row service_row : Option Row) (t : Terms) : Type 0 wh
   pub service_key : key_named service_row (number t.service.key.key.etype)
       (Some (pos t.service.key.version)) ≡ Some t.service.key.key
 
-admitted_terms : (o : Option Terms) (times : Option Times) (a : Admission) → admission_of o times ≡ Some a
-    → o ≡ Some a.terms
-admitted_terms (Some t) (Some times) a e = ap (λ (o : Option Admission). again o) e
+admitted_terms : (timestamp : Outcome) (o : Option Terms) (times : Option Times) (a : Admission)
+    → admission_of timestamp o times ≡ Some a → o ≡ Some a.terms
+admitted_terms timestamp (Some t) (Some times) a e = ap (λ (o : Option Admission). again o) e
   where
     again : Option Admission → Option Terms
     again (Some b) = Some b.terms
     again None = Some t
-admitted_terms (Some t) None a e = absurd cc
-admitted_terms None times a e = absurd cc
+admitted_terms timestamp (Some t) None a e = absurd cc
+admitted_terms timestamp None times a e = absurd cc
 
 -- what the terms are made of
 found_by : (cname : Name) (client : Row) (reply : Option Key) (service : Option ServiceTerms) (t : Terms)
@@ -84,22 +85,23 @@ named_if types (Some cname) None client service t c s e = absurd cc
 named_if types None sname client service t c s e = absurd cc
 
 -- the terms of what is admitted
-pub decided_named : {R : Type 0} (rules : List (Rule R)) (v : AsView) (body : ReqBody) (found : Option Terms)
-    (times : Option Times) (otherwise : R) (a : Admission)
-    → IsKnown v body → found ≡ terms v body → decided rules (admission_of found times) otherwise ≡ Ok a
+pub decided_named : {R : Type 0} (rules : List (Rule R)) (v : AsView) (body : ReqBody) (timestamp : Outcome)
+    (found : Option Terms) (times : Option Times) (otherwise : R) (a : Admission)
+    → IsKnown v body → found ≡ terms v body → decided rules (admission_of timestamp found times) otherwise ≡ Ok a
     → IsNamed v.client v.service a.terms
-decided_named rules v body found times otherwise a known is e =
+decided_named rules v body timestamp found times otherwise a known is e =
     named_if body.etype body.cname body.sname v.client v.service a.terms known.client known.service
     (subst (λ (o : Option Terms). o ≡ Some a.terms) is
-    (admitted_terms found times a (decided_found rules (admission_of found times) otherwise a e)))
+    (admitted_terms timestamp found times a
+    (decided_found rules (admission_of timestamp found times) otherwise a e)))
 
-pub admitted_named : {R : Type 0} (rules : List (Rule R)) (v : AsView) (body : ReqBody) (found : Option Terms)
-    (times : Option Times) (otherwise : R) (r : Result Admission R)
-    → IsKnown v body → found ≡ terms v body → r ≡ decided rules (admission_of found times) otherwise
+pub admitted_named : {R : Type 0} (rules : List (Rule R)) (v : AsView) (body : ReqBody) (timestamp : Outcome)
+    (found : Option Terms) (times : Option Times) (otherwise : R) (r : Result Admission R)
+    → IsKnown v body → found ≡ terms v body → r ≡ decided rules (admission_of timestamp found times) otherwise
     → IfOk r (λ a. IsNamed v.client v.service a.terms)
-admitted_named rules v body found times otherwise (Ok a) known is e =
-    decided_named rules v body found times otherwise a known is (sym e)
-admitted_named rules v body found times otherwise (Err refusal) known is e = tt
+admitted_named rules v body timestamp found times otherwise (Ok a) known is e =
+    decided_named rules v body timestamp found times otherwise a known is (sym e)
+admitted_named rules v body timestamp found times otherwise (Err refusal) known is e = tt
 
 -- ---- one PA-ETYPE-INFO2 is short
 pub data_short : (info : PaData) (list : List PaData) → length info.padata_value ≤ 32926 → list ≡ info ∷ []

@@ -126,14 +126,14 @@ rules_by v now message timestamp found times =
 -- what is admitted, or the first rule by which nothing is
 abbrev pub admitted_on : AsView → ℤ → Received → Outcome → Option Terms → Option Times → Result Admission AsRefusal
 admitted_on v now message timestamp found times =
-    decided (rules_by v now message timestamp found times) (admission_of found times) NeverValid
+    decided (rules_by v now message timestamp found times) (admission_of timestamp found times) NeverValid
 
 abbrev pub admitted_by : AsView → ℤ → Received → Outcome → Option Terms → Result Admission AsRefusal
 admitted_by v now message timestamp found =
     admitted_on v now message timestamp found (times_of v.limits now message.body.value found)
 
-abbrev pub admitted : AsView → ℤ → Received → Result Admission AsRefusal
-admitted v now message = admitted_by v now message (timestamp_of v.client now message) (terms v message.body.value)
+abbrev pub admitted : AsView → ℤ → Received → Outcome → Result Admission AsRefusal
+admitted v now message timestamp = admitted_by v now message timestamp (terms v message.body.value)
 
 abbrev pub code_of : AsRefusal → Code
 code_of BadVersion = codes.TheVariants.KdcErrBadPvno

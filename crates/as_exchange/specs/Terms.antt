@@ -6,6 +6,7 @@ use Rattle.kdc_replies.specs.declared.services.ServiceTerms.{ServiceTerms}
 use Rattle.krb_fields.specs.PrincipalName.{Name}
 use Rattle.krb_types.specs.ReqBody.{ReqBody}
 use Rattle.preauth.specs.Keys.{first_key}
+use Rattle.preauth.specs.declared.timestamp.Outcome.{Outcome}
 use Rattle.principal_rows.specs.Versions.{current}
 use Rattle.principal_rows.specs.declared.limits.Limits.{Limits}
 use Rattle.principal_rows.specs.declared.row.Row.{Row}
@@ -47,7 +48,7 @@ abbrev pub times_of : Limits → ℤ → ReqBody → Option Terms → Option Tim
 times_of limits now body (Some t) = as_times now t.client t.service.policy limits body
 times_of limits now body None = None
 
-abbrev pub admission_of : Option Terms → Option Times → Option Admission
-admission_of (Some t) (Some times) = Some (record { terms = t; times = times })
-admission_of (Some t) None = None
-admission_of None times = None
+abbrev pub admission_of : Outcome → Option Terms → Option Times → Option Admission
+admission_of timestamp (Some t) (Some times) = Some (record { terms = t; times = times; timestamp = timestamp })
+admission_of timestamp (Some t) None = None
+admission_of timestamp None times = None

@@ -5,14 +5,16 @@ ghost use Rattle.krb_types.specs.KrbError.{krb_error};
 ghost use Rattle.as_exchange.specs.Answer.{after_timestamp, after_sequel, answer_by, as_answer, as_error, refused};
 ghost use Rattle.as_exchange.specs.Answer.{within_room};
 ghost use Rattle.as_exchange.specs.Answer.{Opens, OpensBy, Spelled, SpelledBy};
+ghost use Rattle.as_exchange.specs.Decision.{IfIssued};
 ghost use Rattle.as_exchange.specs.Known.{IsKnown};
 ghost use Rattle.as_exchange.specs.NamedLaws.{IsNamed};
 
+use crate::deciding::decision;
+use crate::decision::Decision;
 use crate::errors::as_error;
 use crate::issuing::as_rep;
 use crate::refusal::{AsRefusal, Sequel};
-use crate::rules::{admitted, is_good, timestamp_of};
-use crate::terms::{Admission, terms_for};
+use crate::rules::is_good;
 use crate::view::AsView;
 use kdc_replies::{Incoming, too_big};
 use krb_fields::Moment;
@@ -45,38 +47,37 @@ pub fn as_answer(
     // Where they spell an AS-REP, the client's key and the service's find the same inside.
     ensures same { IfOk result (λ answer. Opens view.now incoming.now.at incoming.now.random message.now) }
 {
-    let body = &message.body.value;
-    let timestamp = timestamp_of(alloc, view.client, incoming.at, message)?;
-    let terms = terms_for(alloc, view, body)?;
-    let admitted = admitted(view, incoming.at, message, timestamp, terms);
-    answer_by(alloc, view, incoming, body, timestamp, &admitted)
+    let decision = decision(alloc, view, incoming.at, message)?;
+    answer_by(alloc, view, incoming, &message.body.value, &decision)
 }
 
-/// The answer by what is admitted, or by the rule that refuses.
+/// The answer by what is decided.
 fn answer_by(
     alloc: Global,
     view: &AsView<'_>,
     incoming: &Incoming<'_>,
     body: &ReqBodyRef<'_>,
-    timestamp: Outcome,
-    admitted: &Result<Admission, AsRefusal>,
+    decision: &Decision,
 ) -> Result<AsAnswer, AllocError>
     requires known { IsKnown view.now body.now }
-    requires named { IfOk admitted.now (λ admission. IsNamed view.now.client view.now.service admission.terms) }
+    requires named { IfIssued decision.now (λ admission.
+        IsNamed view.now.client view.now.service admission.terms) }
     ensures reply { IfOk result (λ answer.
-        answer.reply.items ≡ (answer_by view.now incoming.now body.now timestamp admitted.now).reply) }
+        answer.reply.items ≡ (answer_by view.now incoming.now body.now decision.now).reply) }
     ensures failures { IfOk result (λ answer.
-        answer.failures ≡ (answer_by view.now incoming.now body.now timestamp admitted.now).failures) }
+        answer.failures ≡ (answer_by view.now incoming.now body.now decision.now).failures) }
     ensures spelled { IfOk result (λ answer.
-        SpelledBy view.now incoming.now.at incoming.now.random body.now timestamp admitted.now answer.reply.items) }
+        SpelledBy view.now incoming.now.at incoming.now.random body.now decision.now answer.reply.items) }
     ensures same { IfOk result (λ answer.
-        OpensBy view.now incoming.now.at incoming.now.random body.now timestamp admitted.now) }
+        OpensBy view.now incoming.now.at incoming.now.random body.now decision.now) }
 {
-    match admitted {
-        Err(refusal) => refused(alloc, view, incoming.at, body, timestamp, *refusal),
-        Ok(admission) => {
-            let reply = as_rep(alloc, view, incoming, body, timestamp, admission)?;
-            let failures = after_timestamp(view.failures, timestamp);
+    match decision {
+        Decision::Refuses(refusal, timestamp) => {
+            refused(alloc, view, incoming.at, body, *refusal, *timestamp)
+        }
+        Decision::Issues(admission) => {
+            let reply = as_rep(alloc, view, incoming, body, admission)?;
+            let failures = after_timestamp(view.failures, admission.timestamp);
             within_room(alloc, view, incoming, body, reply, failures)
         }
     }
@@ -88,14 +89,14 @@ fn refused(
     view: &AsView<'_>,
     at: Moment,
     body: &ReqBodyRef<'_>,
-    timestamp: Outcome,
     refusal: AsRefusal,
+    timestamp: Outcome,
 ) -> Result<AsAnswer, AllocError>
     requires { IsKnown view.now body.now }
     ensures reply { IfOk result (λ answer.
-        answer.reply.items ≡ (refused view.now at body.now timestamp refusal).reply) }
+        answer.reply.items ≡ (refused view.now at body.now refusal timestamp).reply) }
     ensures failures { IfOk result (λ answer.
-        answer.failures ≡ (refused view.now at body.now timestamp refusal).failures) }
+        answer.failures ≡ (refused view.now at body.now refusal timestamp).failures) }
     ensures spelled { IfOk result (λ answer.
         krb_error.Spells (as_error view.now at body.now refusal) answer.reply.items) }
 {

@@ -19,7 +19,7 @@ use kdc_replies::{
 use krb_elements::{KerberosStringRef, Lent, Seq};
 use krb_fields::PaData;
 use krb_types::ReqBodyRef;
-use preauth::{Outcome, etype_info2};
+use preauth::etype_info2;
 use std::alloc::{AllocError, Global};
 use ticket_times::as_flags;
 
@@ -30,20 +30,19 @@ pub fn as_rep(
     view: &AsView<'_>,
     incoming: &Incoming<'_>,
     body: &ReqBodyRef<'_>,
-    timestamp: Outcome,
     admission: &Admission,
 ) -> Result<Vec<u8>, AllocError>
     requires realm { length view.now.realm ≤ 255 }
     requires named { IsNamed view.now.client view.now.service admission.now.terms }
     ensures written { IfOk result (λ octets.
         octets.items ≡ written (kdc_rep 11)
-        (as_rep view.now incoming.now.at incoming.now.random body.now timestamp admission.now)) }
+        (as_rep view.now incoming.now.at incoming.now.random body.now admission.now)) }
     ensures spelled { IfOk result (λ octets.
-        (kdc_rep 11).Spells (as_rep view.now incoming.now.at incoming.now.random body.now timestamp
-        admission.now) octets.items) }
+        (kdc_rep 11).Spells
+        (as_rep view.now incoming.now.at incoming.now.random body.now admission.now) octets.items) }
     // The client and the service find the same inside, by the keys that are named there.
     ensures same { IfOk result (λ octets.
-        OpensFor view.now incoming.now.at incoming.now.random body.now timestamp admission.now) }
+        OpensFor view.now incoming.now.at incoming.now.random body.now admission.now) }
 {
     let padata = reply_data(alloc, view, &admission.terms)?;
     let reply_key = reply_key_of(&admission.terms);
@@ -53,7 +52,7 @@ pub fn as_rep(
         random: incoming.random,
         ready: incoming.ready,
     };
-    let grant = grant_of(view, incoming, body, timestamp, admission);
+    let grant = grant_of(view, incoming, body, admission);
     ticket_reply::<11, 25>(
         alloc,
         &grant,
@@ -68,20 +67,23 @@ fn grant_of<'g>(
     view: &AsView<'g>,
     incoming: &Incoming<'_>,
     body: &ReqBodyRef<'_>,
-    timestamp: Outcome,
     admission: &'g Admission,
 ) -> Grant<'g>
     requires realm { length view.now.realm ≤ 255 }
     requires named { IsNamed view.now.client view.now.service admission.now.terms }
-    ensures value { result ≡ grant_by view.now incoming.now.at incoming.now.random body.now timestamp admission.now }
+    ensures value { result ≡ grant_by view.now incoming.now.at incoming.now.random body.now admission.now }
     ensures short { IsShort result }
 {
-    let Admission { terms, times } = admission;
+    let Admission {
+        terms,
+        times,
+        timestamp,
+    } = admission;
     let flags = as_flags(
         body,
         &terms.client,
         &terms.service.policy,
-        is_good(timestamp),
+        is_good(*timestamp),
         times,
     );
     Grant {

@@ -3,6 +3,8 @@
 #![tactic(auto)]
 
 mod answering;
+mod deciding;
+mod decision;
 mod errors;
 mod issuing;
 mod refusal;

@@ -31,7 +31,7 @@ pub fn admitted(
 {
     let times = times_of(view.limits, at, &message.body.value, &terms);
     let rules = rules_by(view, at, message, timestamp, &terms, &times);
-    let admission = admission_of(terms, times);
+    let admission = admission_of(timestamp, terms, times);
     decide(&rules, admission, AsRefusal::NeverValid)
 }
 

@@ -8,7 +8,7 @@ use kdc_replies::{ServiceTerms, service_terms};
 use krb_elements::SeqRef;
 use krb_fields::{Moment, Name, NameRef};
 use krb_types::ReqBodyRef;
-use preauth::first_key;
+use preauth::{Outcome, first_key};
 use principal_rows::{Limits, Policy, Row};
 use std::alloc::{AllocError, Global};
 use ticket_times::{Times, as_times};
@@ -30,6 +30,8 @@ pub struct Terms {
 pub struct Admission {
     pub terms: Terms,
     pub times: Times,
+    /// What became of the client's timestamp.
+    pub timestamp: Outcome,
 }
 
 /// The terms of a request; `None` where a name or a row is absent, or there is no common type.
@@ -60,21 +62,21 @@ fn terms_of(
     types: &SeqRef<'_, i32>,
     cname: &NameRef<'_>,
     sname: &NameRef<'_>,
-    client: &Row,
-    service: &Row,
+    client_row: &Row,
+    service_row: &Row,
 ) -> Result<Option<Terms>, AllocError>
-    ensures { IfOk result (λ found. found ≡ terms_of types.now cname.now sname.now client.now service.now) }
+    ensures { IfOk result (λ found. found ≡ terms_of types.now cname.now sname.now client_row.now service_row.now) }
 {
-    let version = client.versions.current();
+    let version = client_row.versions.current();
     let Some(reply_key) = first_key(&version.keys, types) else {
         return Ok(None);
     };
-    let Some(service) = service_terms(alloc, types, sname, service)? else {
+    let Some(service) = service_terms(alloc, types, sname, service_row)? else {
         return Ok(None);
     };
     Ok(Some(Terms {
         client_name: cname.to_name(alloc)?,
-        client: client.policy,
+        client: client_row.policy,
         reply_key: *reply_key,
         reply_version: version.number,
         service,
@@ -96,9 +98,13 @@ pub fn times_of(
     }
 }
 
-/// What a ticket is issued by, where both are there.
-pub fn admission_of(terms: Option<Terms>, times: Option<Times>) -> Option<Admission>
-    ensures { result ≡ admission_of terms times }
+/// What a ticket is issued by, where terms and times are there.
+pub fn admission_of(
+    timestamp: Outcome,
+    terms: Option<Terms>,
+    times: Option<Times>,
+) -> Option<Admission>
+    ensures { result ≡ admission_of timestamp terms times }
 {
     let Some(terms) = terms else {
         return None;
@@ -106,5 +112,9 @@ pub fn admission_of(terms: Option<Terms>, times: Option<Times>) -> Option<Admiss
     let Some(times) = times else {
         return None;
     };
-    Some(Admission { terms, times })
+    Some(Admission {
+        terms,
+        times,
+        timestamp,
+    })
 }

@@ -1,0 +1,39 @@
+//! What is decided of an AS-REQ: once, before anything is written.
+ghost use Rattle.std.specs.Prelude.{◌≡◌, IfOk};
+ghost use Rattle.as_exchange.specs.Decision.{by_admission, decision};
+
+use crate::decision::Decision;
+use crate::refusal::AsRefusal;
+use crate::rules::{admitted, timestamp_of};
+use crate::terms::{Admission, terms_for};
+use crate::view::AsView;
+use krb_fields::Moment;
+use krb_types::KdcReqRef;
+use preauth::Outcome;
+use std::alloc::{AllocError, Global};
+
+/// Decides by the rules, in the order of their list.
+pub fn decision(
+    alloc: Global,
+    view: &AsView<'_>,
+    at: Moment,
+    message: &KdcReqRef<'_>,
+) -> Result<Decision, AllocError>
+    ensures { IfOk result (λ decided. decided ≡ decision view.now at.sec message.now) }
+{
+    let timestamp = timestamp_of(alloc, view.client, at, message)?;
+    let terms = terms_for(alloc, view, &message.body.value)?;
+    let admitted = admitted(view, at, message, timestamp, terms);
+    Ok(by_admission(timestamp, admitted))
+}
+
+/// What is decided by what is admitted. A refusal keeps what became of the timestamp, on which the client's failures
+/// may depend.
+fn by_admission(timestamp: Outcome, admitted: Result<Admission, AsRefusal>) -> Decision
+    ensures { result ≡ by_admission timestamp admitted }
+{
+    match admitted {
+        Ok(admission) => Decision::Issues(admission),
+        Err(refusal) => Decision::Refuses(refusal, timestamp),
+    }
+}
