@@ -68,7 +68,7 @@ is_same a b = eq_by_cmp name_cmp a.components b.components
 
 -- the ticket-granting service (section 3.3.2)
 abbrev pub is_for_granter : List ℕ → Name → Bool
-is_for_granter realm service = eq_by_cmp name_cmp service.components (ticket_granter realm)
+is_for_granter realm ticket_service = eq_by_cmp name_cmp ticket_service.components (ticket_granter realm)
 
 abbrev pub is_named : Option Name → Name → Bool
 is_named (Some name) service = is_same name service
@@ -76,12 +76,12 @@ is_named None service = false
 
 -- the service that is asked for, which counts where the ticket is to be renewed or validated (section 3.3.2)
 abbrev pub is_for_asked : ReqBody → Name → Bool
-is_for_asked body service = keeps_ticket body && is_named body.sname service
+is_for_asked body ticket_service = keeps_ticket body && is_named body.sname ticket_service
 
 abbrev pub addressee : List ℕ → ReqBody → Name → Addressee
-addressee realm body service =
-    if is_for_granter realm service then Granter
-    else if is_for_asked body service then AskedFor
+addressee realm body ticket_service =
+    if is_for_granter realm ticket_service then Granter
+    else if is_for_asked body ticket_service then AskedFor
     else Other
 
 -- the row whose keys the ticket may be sealed under

@@ -132,24 +132,32 @@ fn addressee_of(
     alloc: Global,
     realm: &[u8],
     body: &ReqBodyRef<'_>,
-    service: &NameRef<'_>,
+    ticket_service: &NameRef<'_>,
 ) -> Result<Addressee, AllocError>
-    ensures { IfOk result (λ found. found ≡ addressee realm.now body.now service.now) }
+    ensures { IfOk result (λ found. found ≡ addressee realm.now body.now ticket_service.now) }
 {
-    if names_granter(service, realm) {
+    if names_granter(ticket_service, realm) {
         return Ok(Addressee::Granter);
     }
-    if is_for_asked(body, &service.to_name(alloc)?) {
+    if is_for_asked(alloc, body, ticket_service)? {
         return Ok(Addressee::AskedFor);
     }
     Ok(Addressee::Other)
 }
 
 /// Whether it is the service that is asked for, where a ticket of it is to be renewed or validated.
-fn is_for_asked(body: &ReqBodyRef<'_>, service: &Name) -> bool
-    ensures { result ≡ is_for_asked body.now service.now }
+fn is_for_asked(
+    alloc: Global,
+    body: &ReqBodyRef<'_>,
+    ticket_service: &NameRef<'_>,
+) -> Result<bool, AllocError>
+    ensures { IfOk result (λ found. found ≡ is_for_asked body.now ticket_service.now) }
 {
-    keeps_ticket(body) && is_named(body.sname.as_ref(), service)
+    if !keeps_ticket(body) {
+        return Ok(false);
+    }
+    let ticket_service = ticket_service.to_name(alloc)?;
+    Ok(is_named(body.sname.as_ref(), &ticket_service))
 }
 
 /// Whether the name is that of this service, by its components.
