@@ -25,8 +25,8 @@ use Rattle.replay.specs.declared.memory.Memory.{Memory}
 use Rattle.replay.specs.declared.verdict.Verdict.{Verdict}
 use Rattle.replay.specs.declared.verdict.Verdict.TheVariants.{Fresh, Skew, Repeat, Full as NoPlace}
 use Rattle.tgs_exchange.specs.Answer.{TgsAnswer, answer_by, is_ticket, kept_reply, refused, remembering, tgs_answer, tgs_error, within_room}
-use Rattle.tgs_exchange.specs.Decision.{HasSaid, decision, stamp_of, verdict_on}
-use Rattle.tgs_exchange.specs.DecisionLaws.{has_said}
+use Rattle.tgs_exchange.specs.Decision.{decision, stamp_of, verdict_on}
+use Rattle.tgs_exchange.specs.DecisionLaws.{HasSaid, has_said}
 use Rattle.tgs_exchange.specs.View.{TgsView}
 use Rattle.tgs_exchange.specs.declared.decision.Decision.{Decision}
 use Rattle.tgs_exchange.specs.declared.decision.Decision.TheVariants.{Refuses, Remembers, Repeats, Issues}

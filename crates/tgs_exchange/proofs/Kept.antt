@@ -15,8 +15,8 @@ use Rattle.tgs_opening.specs.declared.presented.Presented.{Presented}
 use Rattle.tgs_exchange.specs.View.{TgsView}
 use Rattle.tgs_exchange.specs.Issue.{tgs_rep}
 use Rattle.tgs_exchange.specs.Answer.{TgsAnswer, answer_by, is_ticket, tgs_answer}
-use Rattle.tgs_exchange.specs.Decision.{HasSaid, decision, stamp_of, verdict_on}
-use Rattle.tgs_exchange.specs.DecisionLaws.{has_said}
+use Rattle.tgs_exchange.specs.Decision.{decision, stamp_of, verdict_on}
+use Rattle.tgs_exchange.specs.DecisionLaws.{HasSaid, has_said}
 use Rattle.tgs_exchange.specs.declared.decision.Decision.{Decision}
 use Rattle.tgs_exchange.specs.declared.decision.Decision.TheVariants.{Refuses, Remembers, Repeats, Issues}
 

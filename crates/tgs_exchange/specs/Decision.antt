@@ -1,7 +1,7 @@
 -- What is decided of a TGS-REQ whose ticket and authenticator were opened. Its reply, what that spells, what is kept,
 -- and the ticket that is issued are read from it.
 use Rattle.std.specs.Borrow.{Bor}
-use Rattle.std.specs.Prelude.{◌≡◌, ℤ, ⊤, Option, Some, None, Result, Ok, Err}
+use Rattle.std.specs.Prelude.{ℤ, ⊤, Option, Some, None, Result, Ok, Err}
 use Rattle.refusals.specs.Refusals.{first_holding}
 use Rattle.krb_types.specs.ReqBody.{ReqBody}
 use Rattle.replay.specs.Memory.{verdict}
@@ -60,11 +60,3 @@ IfIssued (Refuses refusal) P = ⊤
 IfIssued (Remembers refusal) P = ⊤
 IfIssued (Repeats kept) P = ⊤
 IfIssued (Issues admission) P = P admission
-
--- ---- what the memory said of the authenticator where that is decided
-
-abbrev pub HasSaid : TgsView → ℤ → Presented → Decision Kept → Type 0
-HasSaid v now p (Refuses refusal) = ⊤
-HasSaid v now p (Remembers refusal) = verdict_on v now p ≡ Fresh
-HasSaid v now p (Repeats kept) = verdict_on v now p ≡ Repeat kept
-HasSaid v now p (Issues admission) = verdict_on v now p ≡ Fresh

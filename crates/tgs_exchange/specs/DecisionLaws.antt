@@ -2,6 +2,7 @@
 -- rows.
 use Rattle.std.proofs.Common.{◌≡◌, ℤ, Option, Some, None, Result, Ok, Err, IfOk, refl, sym, subst}
 use Rattle.std.specs.Borrow.{Bor}
+use Rattle.std.specs.Prelude.{⊤}
 use Rattle.refusals.specs.Refusals.{first_holding}
 use Rattle.krb_types.specs.ReqBody.{ReqBody}
 use Rattle.replay.specs.declared.keep.Kept.{Kept}
@@ -15,11 +16,18 @@ use Rattle.tgs_exchange.specs.Known.{IsKnown}
 use Rattle.tgs_exchange.specs.Terms.{terms, ticket_terms, times_of}
 use Rattle.tgs_exchange.specs.Rules.{admitted, client_rules, rules_by}
 use Rattle.tgs_exchange.specs.NamedLaws.{IsNamed, admitted_named}
-use Rattle.tgs_exchange.specs.Decision.{HasSaid, IfIssued, by_admission, by_client, by_verdict, decision}
-use Rattle.tgs_exchange.specs.Decision.{decision_copied, verdict_on}
+use Rattle.tgs_exchange.specs.Decision.{IfIssued, by_admission, by_client, by_verdict, decision, decision_copied}
+use Rattle.tgs_exchange.specs.Decision.{verdict_on}
 use Rattle.tgs_exchange.specs.declared.decision.Decision.{Decision}
 use Rattle.tgs_exchange.specs.declared.decision.Decision.TheVariants.{Refuses, Remembers, Repeats, Issues}
 use Rattle.tgs_exchange.specs.declared.terms.Admission.{Admission}
+
+-- what the memory said of the authenticator where that is decided
+abbrev pub HasSaid : TgsView → ℤ → Presented → Decision Kept → Type 0
+HasSaid v now p (Refuses refusal) = ⊤
+HasSaid v now p (Remembers refusal) = verdict_on v now p ≡ Fresh
+HasSaid v now p (Repeats kept) = verdict_on v now p ≡ Repeat kept
+HasSaid v now p (Issues admission) = verdict_on v now p ≡ Fresh
 
 module _ (v : TgsView) (now : ℤ) (body : ReqBody) (p : Presented) where
   said_by_admission : verdict_on v now p ≡ Fresh → (r : Result Admission TgsRefusal) → HasSaid v now p (by_admission r)

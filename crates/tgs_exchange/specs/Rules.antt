@@ -75,7 +75,7 @@ is_service_unknown v body = not (pointwise nat_eq body.realm v.realm) || is_none
 
 -- it is to be renewed or validated for another service than its own
 abbrev pub is_for_other_service : ReqBody → Name → Bool
-is_for_other_service body service = keeps_ticket body && not (is_named body.sname service)
+is_for_other_service body ticket_service = keeps_ticket body && not (is_named body.sname ticket_service)
 
 -- ---- options
 

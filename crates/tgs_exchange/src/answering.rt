@@ -13,7 +13,8 @@ ghost use Rattle.tgs_exchange.specs.Decision.{decision_copied, stamp_of, IfIssue
 ghost use Rattle.tgs_exchange.specs.Known.{IsKnown};
 ghost use Rattle.tgs_exchange.specs.NamedLaws.{IsNamed};
 
-use crate::decision::{Decision, decide};
+use crate::deciding::decision;
+use crate::decision::Decision;
 use crate::errors::tgs_error;
 use crate::issuing::tgs_rep;
 use crate::view::TgsView;
@@ -57,7 +58,7 @@ pub fn tgs_answer(
     ensures new { IfOk result (λ answer.
         IfSome answer.kept (λ kept. map.get view.now.memory.pairs (stamp_of presented.now) ≡ None)) }
 {
-    let decision = decide(alloc, view, incoming.at, body, presented)?;
+    let decision = decision(alloc, view, incoming.at, body, presented)?;
     answer_by(alloc, view, incoming, body, presented, &decision)
 }
 
@@ -157,16 +158,16 @@ fn kept_reply(
         ⊎ krb_error.Spells (too_big view.now.realm incoming.now.at body.now) reply.items) }
 {
     let octets = kept.reply.as_slice();
-    if bears_ticket(kept) && octets.len() > incoming.room as usize {
+    if is_ticket(kept.bears) && octets.len() > incoming.room as usize {
         return too_big(alloc, view.realm, incoming.at, body);
     }
     Vec::from_slice(alloc, octets)
 }
 
-fn bears_ticket(kept: &Kept) -> bool
-    ensures { result ≡ is_ticket kept.now.bears }
+fn is_ticket(bears: Bears) -> bool
+    ensures { result ≡ is_ticket bears }
 {
-    matches!(kept.bears, Bears::Ticket)
+    matches!(bears, Bears::Ticket)
 }
 
 /// The reply with a ticket, or an error in its place where it is longer than the room.

@@ -1,22 +1,8 @@
-//! What is decided of a TGS-REQ whose ticket and authenticator were opened: once, before anything is written.
-ghost use Rattle.std.specs.Prelude.{◌≡◌, IfOk};
-ghost use Rattle.refusals.specs.Refusals.{first_holding};
-ghost use Rattle.replay.specs.Memory.{verdict_copied};
-ghost use Rattle.tgs_exchange.specs.Decision.{by_admission, by_client, by_verdict, decision, decision_copied};
-ghost use Rattle.tgs_exchange.specs.Decision.{verdict_on};
-ghost use Rattle.tgs_exchange.specs.Rules.{admitted, client_rules};
+//! What becomes of a TGS-REQ whose ticket and authenticator were opened.
+use crate::terms::Admission;
+use tgs_opening::TgsRefusal;
 
-use crate::rules::{admitted, client_rules};
-use crate::terms::{Admission, terms_for};
-use crate::view::TgsView;
-use krb_fields::Moment;
-use krb_types::ReqBodyRef;
-use refusals::first_holding;
-use replay::{Kept, Verdict};
-use std::alloc::{AllocError, Global};
-use tgs_opening::{Presented, TgsRefusal};
-
-/// What becomes of a request. `K` is what is kept for an authenticator.
+/// What is decided of a request. `K` is what is kept for an authenticator.
 #[derive(Debug, Drop)]
 pub enum Decision<K> {
     /// It is refused, and nothing is remembered.
@@ -27,102 +13,4 @@ pub enum Decision<K> {
     Repeats(K),
     /// It is issued a ticket.
     Issues(Admission),
-}
-
-/// Decides in this order: the client's rules, its memory of authenticators, the rules of the ticket and of what is
-/// asked.
-pub fn decide<'v>(
-    alloc: Global,
-    view: &TgsView<'v>,
-    at: Moment,
-    body: &ReqBodyRef<'_>,
-    presented: &Presented,
-) -> Result<Decision<&'v Kept>, AllocError>
-    ensures { IfOk result (λ decided. decision_copied decided ≡ decision view.now at.sec body.now presented.now) }
-{
-    let refusal = client_refusal(view, at, presented);
-    by_client(alloc, view, at, body, presented, refusal)
-}
-
-/// The first rule of the client that holds.
-fn client_refusal(view: &TgsView<'_>, at: Moment, presented: &Presented) -> Option<TgsRefusal>
-    ensures { result ≡ first_holding (client_rules view.now at.sec presented.now.ticket.authtime) }
-{
-    let authtime = presented.ticket.authtime.seconds();
-    first_holding(&client_rules(view, at, authtime))
-}
-
-/// What is decided by what the rules of the client say.
-fn by_client<'v>(
-    alloc: Global,
-    view: &TgsView<'v>,
-    at: Moment,
-    body: &ReqBodyRef<'_>,
-    presented: &Presented,
-    refusal: Option<TgsRefusal>,
-) -> Result<Decision<&'v Kept>, AllocError>
-    ensures { IfOk result (λ decided.
-        decision_copied decided ≡ by_client view.now at.sec body.now presented.now refusal) }
-{
-    match refusal {
-        Some(refusal) => Ok(Decision::Refuses(refusal)),
-        None => {
-            let verdict = verdict_on(view, at, presented);
-            by_verdict(alloc, view, at, body, presented, verdict)
-        }
-    }
-}
-
-/// What the client's memory says of the authenticator.
-fn verdict_on<'v>(view: &TgsView<'v>, at: Moment, presented: &Presented) -> Verdict<&'v Kept>
-    ensures { verdict_copied result ≡ verdict_on view.now at.sec presented.now }
-{
-    let ctime = presented.authenticator.ctime.seconds();
-    let cusec = presented.authenticator.cusec.get();
-    view.memory.check(at, ctime, cusec, view.limits.remembered)
-}
-
-/// What is decided by what the client's memory says.
-fn by_verdict<'v>(
-    alloc: Global,
-    view: &TgsView<'_>,
-    at: Moment,
-    body: &ReqBodyRef<'_>,
-    presented: &Presented,
-    verdict: Verdict<&'v Kept>,
-) -> Result<Decision<&'v Kept>, AllocError>
-    ensures { IfOk result (λ decided.
-        decision_copied decided ≡ by_verdict view.now at.sec body.now presented.now (verdict_copied verdict.entry)) }
-{
-    match verdict {
-        Verdict::Skew => Ok(Decision::Refuses(TgsRefusal::Skewed)),
-        Verdict::Repeat(kept) => Ok(Decision::Repeats(kept)),
-        Verdict::Full => Ok(Decision::Refuses(TgsRefusal::Full)),
-        Verdict::Fresh => fresh(alloc, view, at, body, presented),
-    }
-}
-
-/// What is decided of a request whose authenticator is new, by the rules of the ticket and of what is asked.
-fn fresh<'v>(
-    alloc: Global,
-    view: &TgsView<'_>,
-    at: Moment,
-    body: &ReqBodyRef<'_>,
-    presented: &Presented,
-) -> Result<Decision<&'v Kept>, AllocError>
-    ensures { IfOk result (λ decided.
-        decision_copied decided ≡ by_admission (admitted view.now at.sec body.now presented.now)) }
-{
-    let terms = terms_for(alloc, view, body)?;
-    Ok(by_admission(admitted(view, at, body, presented, terms)))
-}
-
-/// What is decided by what is admitted.
-fn by_admission<'v>(admission: Result<Admission, TgsRefusal>) -> Decision<&'v Kept>
-    ensures { decision_copied result ≡ by_admission admission }
-{
-    match admission {
-        Ok(admission) => Decision::Issues(admission),
-        Err(refusal) => Decision::Remembers(refusal),
-    }
 }

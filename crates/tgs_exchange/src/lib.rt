@@ -3,6 +3,7 @@
 #![tactic(auto)]
 
 mod answering;
+mod deciding;
 mod decision;
 mod errors;
 mod issuing;

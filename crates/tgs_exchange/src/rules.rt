@@ -138,10 +138,10 @@ fn is_service_unknown(view: &TgsView<'_>, body: &ReqBodyRef<'_>) -> bool
 }
 
 /// It is to be renewed or validated for another service than its own.
-fn is_for_other_service(body: &ReqBodyRef<'_>, service: &Name) -> bool
-    ensures { result ≡ is_for_other_service body.now service.now }
+fn is_for_other_service(body: &ReqBodyRef<'_>, ticket_service: &Name) -> bool
+    ensures { result ≡ is_for_other_service body.now ticket_service.now }
 {
-    keeps_ticket(body) && !is_named(body.sname.as_ref(), service)
+    keeps_ticket(body) && !is_named(body.sname.as_ref(), ticket_service)
 }
 
 /// ENC-TKT-IN-SKEY; RENEW with VALIDATE; or an option whose flag the ticket lacks.

@@ -49,17 +49,17 @@ pub fn terms_for(
     let Some(sname) = &body.sname else {
         return Ok(None);
     };
-    let Some(client) = view.client else {
+    let Some(client_row) = view.client else {
         return Ok(None);
     };
-    let Some(service) = view.service else {
+    let Some(service_row) = view.service else {
         return Ok(None);
     };
-    let Some(service) = service_terms(alloc, &body.etype, sname, service)? else {
+    let Some(service) = service_terms(alloc, &body.etype, sname, service_row)? else {
         return Ok(None);
     };
     Ok(Some(Terms {
-        client: client.policy,
+        client: client_row.policy,
         service,
     }))
 }

@@ -1,7 +1,7 @@
 use Rattle.std.proofs.Common.{◌≡◌, Option, IfOk, subst}
 use Rattle.tgs_exchange.specs.Decision.{by_client, decision_copied}
 use Rattle.tgs_opening.specs.declared.refusal.TgsRefusal.{TgsRefusal}
-use Rattle.tgs_exchange.proofs.decision.decide.Goals as goal
+use Rattle.tgs_exchange.proofs.deciding.decision.Goals as goal
 
 pub returns : goal.returns
 returns c =

@@ -1,7 +1,7 @@
 use Rattle.std.proofs.Common.{rules, ◌≡◌, ◌∙◌, ap}
 use Rattle.refusals.specs.Refusals.{first_holding}
 use Rattle.tgs_exchange.specs.Rules.{client_rules}
-use Rattle.tgs_exchange.proofs.decision.client_refusal.Goals as goal
+use Rattle.tgs_exchange.proofs.deciding.client_refusal.Goals as goal
 
 pub returns : goal.returns
 returns c =
