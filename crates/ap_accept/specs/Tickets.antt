@@ -1,5 +1,5 @@
 -- The ticket of an AP-REQ (RFC 4120, section 3.2.3).
-use Rattle.std.specs.Prelude.{ℕ, ℤ, pos, negsuc, Bool, not, ◌&&◌, ◌||◌, nat_eq, is_some, is_none, List, [], ◌∷◌}
+use Rattle.std.specs.Prelude.{ℕ, pos, Bool, not, ◌&&◌, ◌||◌, nat_eq, is_some, is_none, List, [], ◌∷◌}
 use Rattle.std.specs.Prelude.{Option, Some, None, Result, option_map}
 use Rattle.std.specs.Ordering.{int_eq}
 use Rattle.std.specs.Cmp.Lexicographic.{pointwise}
@@ -13,12 +13,11 @@ use Rattle.krb_ap.specs.ApReq.{ApReq}
 use Rattle.krb_parts.specs.EncTicketPart.{EncTicketPart, enc_ticket_part}
 use Rattle.krb_types.specs.Ticket.{Ticket}
 use Rattle.enctypes.specs.KeyUsage.{usage_number}
-use Rattle.enctypes.specs.declared.etype.Etype.{Etype}
 use Rattle.enctypes.specs.declared.key.Key.{Key}
 use Rattle.enctypes.specs.declared.key_usage.KeyUsage.TheVariants.{Ticket as TicketUsage}
 use Rattle.sealed_parts.specs.Keys.{key_of, type_numbered}
 use Rattle.sealed_parts.specs.Parts.{opened_as}
-use Rattle.cred_files.specs.Keytab.{newest, passes}
+use Rattle.cred_files.specs.Keytab.{entry_for, newest, passes}
 use Rattle.cred_files.specs.declared.keytab_entry.KeytabEntry.{KeytabEntry}
 use Rattle.ap_accept.specs.declared.refusal.ApRefusal.{ApRefusal}
 use Rattle.ap_accept.specs.declared.refusal.ApRefusal.TheVariants.{BadVersion, BadMessageType, SessionKeyAsked}
@@ -31,14 +30,7 @@ use Rattle.ap_accept.specs.declared.refusal.ApRefusal.TheVariants.{ForeignClient
 abbrev pub service_of : Ticket → Components
 service_of ticket = ticket.realm ∷ ticket.sname.components
 
--- the service's entry of this encryption type and version: without a version the one of the greatest, and of several
--- the last. No entry has a version below zero
-abbrev pub entry_for : List KeytabEntry → Components → Option Etype → Option ℤ → Option KeytabEntry
-entry_for keytab service (Some etype) (Some (pos version)) = newest (passes service (Some etype) (Some version)) keytab
-entry_for keytab service (Some etype) (Some (negsuc n)) = None
-entry_for keytab service (Some etype) None = newest (passes service (Some etype) None) keytab
-entry_for keytab service None kvno = None
-
+-- the key that the ticket names by its encryption type and version
 abbrev pub ticket_key : List KeytabEntry → Ticket → Option Key
 ticket_key keytab ticket =
     option_map (λ e. e.key)

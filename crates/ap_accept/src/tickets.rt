@@ -1,17 +1,16 @@
 //! The ticket of an AP-REQ (RFC 4120, section 3.2.3).
-ghost use Rattle.std.specs.Prelude.{◌≡◌, ◌∷◌, ◌&&◌, Some, IfOk, is_none, is_some, option_copied, option_map};
+ghost use Rattle.std.specs.Prelude.{◌≡◌, ◌&&◌, IfOk, is_none, is_some, option_copied};
 ghost use Rattle.enctypes.specs.KeyUsage.{usage_number};
 ghost use Rattle.krb_parts.specs.EncTicketPart.{enc_ticket_part};
 ghost use Rattle.ap_accept.specs.Fault.{Gives};
-ghost use Rattle.ap_accept.specs.Tickets.{entry_for, is_other_version, lacks_service, lacks_type, opened_with};
+ghost use Rattle.ap_accept.specs.Tickets.{is_other_version, lacks_service, lacks_type, opened_with};
 ghost use Rattle.ap_accept.specs.Tickets.{part_rules, session_key_of, ticket_key, shown_ticket, ticket_rules};
 
 use crate::fault::ApFault;
 use crate::refusal::ApRefusal;
 use cred_files::Keytab;
-use enctypes::{Etype, Key, KeyUsage};
+use enctypes::{Key, KeyUsage};
 use krb_ap::{AP_REQ, ApReqRef};
-use krb_elements::UInt32;
 use krb_fields::{ApOption, EncryptedDataRef, Name};
 use krb_parts::EncTicketPart;
 use krb_types::{PVNO, TicketRef};
@@ -110,27 +109,12 @@ fn ticket_key<'k>(keytab: &'k Keytab, ticket: &TicketRef<'_>, service: &Name) ->
     ensures { option_copied result ≡ ticket_key keytab.now ticket.now }
 {
     let etype = type_numbered(ticket.enc_part.etype)?;
-    let realm = ticket.realm.as_slice();
-    match ticket.enc_part.kvno {
-        Some(kvno) => numbered_key(keytab, realm, service, etype, kvno),
-        None => keytab.find(realm, service, etype, None).ok(),
-    }
-}
-
-/// The service's key of this type in the version of this number.
-fn numbered_key<'k>(
-    keytab: &'k Keytab,
-    realm: &[u8],
-    service: &Name,
-    etype: Etype,
-    kvno: UInt32,
-) -> Option<&'k Key>
-    ensures { option_copied result
-        ≡ option_map (λ e. e.key)
-        (entry_for keytab.now (realm.now ∷ service.now.components) (Some etype) (Some kvno)) }
-{
-    let version = u32::try_from(kvno.get()).ok()?;
-    keytab.find(realm, service, etype, Some(version)).ok()
+    keytab.key_for(
+        ticket.realm.as_slice(),
+        service,
+        etype,
+        ticket.enc_part.kvno,
+    )
 }
 
 /// What the key opens, if there is one.

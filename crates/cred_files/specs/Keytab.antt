@@ -1,5 +1,5 @@
 -- A keytab.
-use Rattle.std.specs.Prelude.{◌≡◌, ◌⊎◌, ℕ, ◌-◌, ◌^◌, ◌%◌, ◌<◌, ◌≤◌, ◌==◌, ◌&&◌, Bool, true, nat_lt, unsigned_abs, All}
+use Rattle.std.specs.Prelude.{◌≡◌, ◌⊎◌, ℕ, ℤ, pos, negsuc, ◌-◌, ◌^◌, ◌%◌, ◌<◌, ◌≤◌, ◌==◌, ◌&&◌, Bool, true, nat_lt, unsigned_abs, All}
 use Rattle.std.specs.Prelude.{List, [], ◌∷◌, ◌++◌, length, take, flat_map, option_to_list, if◌then◌else◌, Option, Some}
 use Rattle.std.specs.Prelude.{None, Result, Ok, Err, refl}
 use Rattle.std.specs.Ordering.{eq_by_cmp}
@@ -183,6 +183,15 @@ newer e (Some later) = if nat_lt later.version e.version then e else later
 unfoldable pub newest : (KeytabEntry → Bool) → List KeytabEntry → Option KeytabEntry
 newest test [] = None
 newest test (e ∷ es) = if test e then Some (newer e (newest test es)) else newest test es
+
+-- The entry that an encryption type and a version number name, as a sealed part says them: without a version the one of
+-- the greatest, and of several the last. No entry has a version below zero.
+abbrev pub entry_for : List KeytabEntry → Components → Option Etype → Option ℤ → Option KeytabEntry
+entry_for entries service (Some etype) (Some (pos version)) =
+    newest (passes service (Some etype) (Some version)) entries
+entry_for entries service (Some etype) (Some (negsuc n)) = None
+entry_for entries service (Some etype) None = newest (passes service (Some etype) None) entries
+entry_for entries service None kvno = None
 
 -- what lacks, where there is no such entry: the first of service, encryption type and version
 abbrev pub miss_of : Option KeytabEntry → Option KeytabEntry → Miss

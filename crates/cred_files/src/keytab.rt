@@ -1,7 +1,8 @@
 //! Keytabs: the keys of services.
 ghost use Rattle.std.specs.Prelude.{◌≡◌, ◌++◌, ◌∷◌, List, All, IfOk, IfErr, IfSome, IfNone, OnOk, Some, None, flat_map};
-ghost use Rattle.std.specs.Prelude.{is_some, length, option_map};
+ghost use Rattle.std.specs.Prelude.{is_some, length, option_copied, option_map};
 ghost use Rattle.cred_files.specs.Keytab.{HasRoom, IsKeytab, IsNotWritten, IsPart, keytab_text, missing, newer, newest};
+ghost use Rattle.cred_files.specs.Keytab.{entry_for};
 ghost use Rattle.cred_files.specs.Keytab.{part_text, passes};
 ghost use Rattle.cred_files.specs.KeytabReading.{Gives, GivesBy, GivesNext, entries_at, keytab_at, next_at};
 ghost use Rattle.cred_files.specs.Reading.{IsReadUnlessMemory};
@@ -13,6 +14,7 @@ use crate::magic::{FIRST, KEYTAB, after_magic};
 use crate::reader::Reader;
 use crate::writer::put_u32;
 use enctypes::{Etype, Key};
+use krb_elements::UInt32;
 use krb_fields::Name;
 use std::alloc::Global;
 use std::error::Error;
@@ -239,6 +241,34 @@ impl Keytab {
             Some(entry) => Ok(&entry.key),
             None => Err(self.miss(realm, name, etype)),
         }
+    }
+
+    /// The key of a service that a sealed part names by its encryption type and version number (RFC 4120, section 5.2.9),
+    /// which may be below zero; without a version the one of the greatest.
+    pub fn key_for(
+        &self,
+        realm: &[u8],
+        name: &Name,
+        etype: Etype,
+        kvno: Option<UInt32>,
+    ) -> Option<&Key>
+        ensures { option_copied result
+            ≡ option_map (λ e. e.key) (entry_for self.now (realm.now ∷ name.now.components) (Some etype) kvno) }
+    {
+        match kvno {
+            Some(kvno) => self.numbered_key(realm, name, etype, kvno),
+            None => self.find(realm, name, etype, None).ok(),
+        }
+    }
+
+    /// The service's key of this type in the version of this number.
+    fn numbered_key(&self, realm: &[u8], name: &Name, etype: Etype, kvno: UInt32) -> Option<&Key>
+        ensures { option_copied result
+            ≡ option_map (λ e. e.key)
+            (entry_for self.now (realm.now ∷ name.now.components) (Some etype) (Some kvno)) }
+    {
+        let version = u32::try_from(kvno.get()).ok()?;
+        self.find(realm, name, etype, Some(version)).ok()
     }
 
     /// Whether it has a key of the service, and of the encryption type, where one is asked for.

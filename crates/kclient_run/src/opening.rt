@@ -1,11 +1,11 @@
 //! Whether a service's keytab opens a ticket (RFC 4120, section 5.3).
-ghost use Rattle.std.specs.Prelude.{◌≡◌, ◌∷◌, IfOk, option_copied, option_map};
-ghost use Rattle.kclient_run.specs.Opening.{IsOpened, entry_for, part_under, ticket_key};
+ghost use Rattle.std.specs.Prelude.{◌≡◌, IfOk, option_copied};
+ghost use Rattle.kclient_run.specs.Opening.{IsOpened, part_under, ticket_key};
 
 use crate::faults::{Place, Reason, Stop};
 use cred_files::Keytab;
-use enctypes::{Etype, Key, KeyUsage};
-use krb_elements::{UInt32, read};
+use enctypes::{Key, KeyUsage};
+use krb_elements::read;
 use krb_fields::Name;
 use krb_parts::EncTicketPart;
 use krb_types::TicketRef;
@@ -52,24 +52,10 @@ fn ticket_key<'k>(keytab: &'k Keytab, ticket: &TicketRef<'_>, service: &Name) ->
     ensures { option_copied result ≡ ticket_key keytab.now ticket.now }
 {
     let etype = type_numbered(ticket.enc_part.etype)?;
-    let realm = ticket.realm.as_slice();
-    match ticket.enc_part.kvno {
-        Some(kvno) => numbered_key(keytab, realm, service, etype, kvno),
-        None => keytab.find(realm, service, etype, None).ok(),
-    }
-}
-
-/// The service's key of this type in the version of this number.
-fn numbered_key<'k>(
-    keytab: &'k Keytab,
-    realm: &[u8],
-    service: &Name,
-    etype: Etype,
-    kvno: UInt32,
-) -> Option<&'k Key>
-    ensures { option_copied result
-        ≡ option_map (λ e. e.key) (entry_for keytab.now (realm.now ∷ service.now.components) (Some etype) (Some kvno)) }
-{
-    let version = u32::try_from(kvno.get()).ok()?;
-    keytab.find(realm, service, etype, Some(version)).ok()
+    keytab.key_for(
+        ticket.realm.as_slice(),
+        service,
+        etype,
+        ticket.enc_part.kvno,
+    )
 }

@@ -5,7 +5,7 @@ use Rattle.std.specs.Ordering.{eq_by_cmp, int_eq}
 use Rattle.std.specs.Cmp.Lexicographic.{bytes_decides, pointwise}
 use Rattle.std.proofs.lemmas.Bool.Decides.{Decides-int_eq}
 use Rattle.std.proofs.lemmas.Int.{ints}
-use Rattle.cred_files.specs.Keytab.{is_numbered, is_of, is_typed, newer, newest, passes}
+use Rattle.cred_files.specs.Keytab.{entry_for, is_numbered, is_of, is_typed, newer, newest, passes}
 use Rattle.cred_files.specs.declared.keytab_entry.KeytabEntry.{KeytabEntry}
 use Rattle.enctypes.specs.Etype.{key_len, number}
 use Rattle.enctypes.specs.Key.{IsKey}
@@ -39,7 +39,7 @@ use Rattle.ap_accept.specs.Authenticators.{authenticator_of, subkey_in, subkey_o
 use Rattle.ap_accept.specs.Presented.{presented, presented_as}
 use Rattle.ap_accept.specs.PresentedLaws.{all_found}
 use Rattle.ap_accept.specs.Reply.{asks_reply}
-use Rattle.ap_accept.specs.Tickets.{entry_for, opened_with, session_key_of, service_of, ticket_key, shown_ticket}
+use Rattle.ap_accept.specs.Tickets.{opened_with, session_key_of, service_of, ticket_key, shown_ticket}
 use Rattle.ap_accept.specs.Validity.{terms_of, validity_rules}
 use Rattle.ap_accept.specs.declared.presented.Presented.{Presented}
 use Rattle.ap_accept.specs.declared.refusal.ApRefusal.{ApRefusal}
