@@ -24,24 +24,30 @@ pub(crate) fn ask<X: Exchange>(
     kdc: KdcPlace<'_>,
     request: &[u8],
 ) -> Result<Vec<u8>, Stop> {
-    let last = exchange.answered();
-    if let Some(address) = last
-        && let Ok(reply) = ask_at(alloc, exchange, address, kdc.tcp_only, request)
-    {
-        return Ok(reply);
+    match exchange.answered() {
+        Some(address) => match ask_at(alloc, exchange, address, kdc.tcp_only, request) {
+            Ok(reply) => Ok(reply),
+            Err(stop) => ask_others(alloc, exchange, kdc, Some(address), stop, request),
+        },
+        None => ask_others(alloc, exchange, kdc, None, silence(), request),
     }
-    ask_others(alloc, exchange, kdc, last, request)
 }
 
-/// The reply of the first KDC that gives one, but for the one that was asked before; else why the last one gave none.
+/// That nothing came in time.
+fn silence() -> Stop {
+    Stop::Failed(Error::from(ErrorKind::TimedOut), Place::Kdc)
+}
+
+/// The reply of the first KDC that gives one, but for the one that was asked before; else why the last one gave none,
+/// which is `stop` where there is no other.
 fn ask_others<X: Exchange>(
     alloc: Global,
     exchange: &mut X,
     kdc: KdcPlace<'_>,
     asked: Option<SocketAddr>,
+    mut stop: Stop,
     request: &[u8],
 ) -> Result<Vec<u8>, Stop> {
-    let mut stop = Stop::Failed(Error::from(ErrorKind::TimedOut), Place::Kdc);
     for address in kdc.addresses {
         if asked == Some(*address) {
             continue;
