@@ -3,8 +3,9 @@ use Rattle.std.specs.Prelude.{◌≡◌, ℕ, List, ◌∷◌, Option, Some, Non
 use Rattle.cred_files.specs.Keytab.{entry_for}
 use Rattle.cred_files.specs.declared.keytab_entry.KeytabEntry.{KeytabEntry}
 use Rattle.enctypes.specs.KeyUsage.{usage_number}
+use Rattle.enctypes.specs.declared.etype.Etype.{Etype}
 use Rattle.enctypes.specs.declared.key.Key.{Key}
-use Rattle.enctypes.specs.declared.key_usage.KeyUsage.TheVariants.{Ticket as TicketUsage}
+use Rattle.enctypes.specs.declared.key_usage.KeyUsage.TheVariants as usages
 use Rattle.krb_fields.specs.Name.{Components}
 use Rattle.krb_parts.specs.EncTicketPart.{EncTicketPart, enc_ticket_part}
 use Rattle.krb_types.specs.Ticket.{Ticket}
@@ -23,9 +24,10 @@ ticket_key keytab ticket =
     (λ e. e.key)
     (entry_for keytab (service_of ticket) (type_numbered ticket.enc_part.etype) ticket.enc_part.kvno)
 
--- what a key opens a ticket to
+-- what a key opens a ticket to, by the usage of tickets
 abbrev pub part_under : Key → Ticket → Option EncTicketPart
-part_under key ticket = opened_as enc_ticket_part key.etype key.bytes (usage_number TicketUsage) ticket.enc_part.cipher
+part_under key ticket =
+    opened_as enc_ticket_part key.etype key.bytes (usage_number usages.Ticket) ticket.enc_part.cipher
 
 -- the octets are a ticket that the keytab's key for it opens
 pub record IsOpened (keytab : List KeytabEntry) (octets : List ℕ) : Type 0 where
