@@ -5,9 +5,9 @@ use principals::Database;
 use std::alloc::Global;
 use std::test::Fail;
 
-/// `u`, who has to preauthenticate, `v`, who has not, the service `h`, and the ticket-granting service. The keys of `u`,
-/// `v` and `h` are those of "password" with the default salts, by Python's `hashlib.pbkdf2_hmac` and OpenSSL's AES-256
-/// (RFC 3962, section 4: 4,096 iterations).
+/// `u`, who has to preauthenticate, `v`, who has not, the service `h`, and the ticket-granting service. The keys of
+/// `u`, `v` and `h` are those of "password" with the default salts, by Python's `hashlib.pbkdf2_hmac` and OpenSSL's
+/// AES-256 (RFC 3962, section 4: 4,096 iterations).
 const DATABASE: &str =
     r#"{"principals":{"h":{"disabled":false,"expires":null,"forwardable":true,"greatest_life":4294967295,
         "greatest_renewable":4294967295,"keys":[{"keys":[{"etype":18,
