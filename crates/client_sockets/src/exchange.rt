@@ -1,5 +1,5 @@
 //! Messages over sockets (RFC 4120, section 7.2).
-ghost use Rattle.std.specs.Prelude.{◌≡◌};
+ghost use Rattle.std.specs.Prelude.{◌≡◌, ◌≤◌, IfOk, vec_len};
 
 use crate::deadline::{Deadline, no_reply};
 use crate::stream::TimedStream;
@@ -103,7 +103,9 @@ fn by_datagrams<R: Net + Clock>(
     end: Deadline,
     to: SocketAddr,
     message: &[u8],
-) -> io::Result<Vec<u8>> {
+) -> io::Result<Vec<u8>>
+    ensures { IfOk result (λ reply. vec_len reply ≤ 65535) }
+{
     let socket = UdpSocket::bind(system, any_address(to))?;
     socket.connect(to)?;
     let mut datagram = Vec::from_elem(alloc, 0, LONGEST_DATAGRAM)?;
@@ -112,15 +114,20 @@ fn by_datagrams<R: Net + Clock>(
         socket.send(message)?;
         socket.set_read_timeout(Some(deadline.left(system)?))?;
         match socket.recv(&mut datagram) {
-            Ok(len) => {
-                datagram.truncate(len);
-                return Ok(datagram);
-            }
+            Ok(len) => return Ok(received(datagram, len)),
             Err(error) if is_silence(error.kind()) => {}
             Err(error) => return Err(error),
         }
     }
     Err(no_reply())
+}
+
+/// The octets that were received.
+fn received(mut datagram: Vec<u8>, len: usize) -> Vec<u8>
+    ensures { vec_len result ≤ 65535 }
+{
+    datagram.truncate(len.min(LONGEST_DATAGRAM));
+    datagram
 }
 
 /// Any address of this computer of the same kind.
@@ -142,7 +149,9 @@ fn by_connection<R: Net + Clock>(
     end: Deadline,
     to: SocketAddr,
     message: &[u8],
-) -> io::Result<Vec<u8>> {
+) -> io::Result<Vec<u8>>
+    ensures { IfOk result (λ reply. vec_len reply ≤ 1048576) }
+{
     let deadline = end.sooner(system, TCP_WAIT)?;
     let stream = TcpStream::connect_timeout(system, &to, deadline.left(system)?)?;
     let mut stream = TimedStream::new(stream, system, deadline);
@@ -161,7 +170,9 @@ fn send_framed<W: Write>(alloc: Global, stream: &mut W, message: &[u8]) -> io::R
 }
 
 /// Takes the message that stands behind its length.
-fn receive<S: Read>(alloc: Global, stream: &mut S) -> io::Result<Vec<u8>> {
+fn receive<S: Read>(alloc: Global, stream: &mut S) -> io::Result<Vec<u8>>
+    ensures { IfOk result (λ reply. vec_len reply ≤ 1048576) }
+{
     let mut prefix = [0; 4];
     stream.read_exact(&mut prefix)?;
     let len = u32::from_be_bytes(prefix) as usize;
@@ -170,7 +181,7 @@ fn receive<S: Read>(alloc: Global, stream: &mut S) -> io::Result<Vec<u8>> {
     }
     let mut reply = Vec::new(alloc);
     stream.take(len as u64).read_to_end(&mut reply)?;
-    if reply.len() < len {
+    if reply.len() != len {
         return Err(Error::from(ErrorKind::UnexpectedEof));
     }
     Ok(reply)
