@@ -86,6 +86,22 @@ fn read_names(alloc: Global, places: &Places, words: &FirstWords<'_>) -> Result<
     Ok(Names { client, service })
 }
 
+/// Whether the words are names: the realm, where a word names it, the client and the service.
+pub(crate) fn check_names(
+    alloc: Global,
+    realm: Option<&str>,
+    words: &FirstWords<'_>,
+) -> Result<(), Stop> {
+    if let Some(realm) = realm {
+        read_realm(alloc, realm)?;
+    }
+    read_name(alloc, words.name, Place::Name)?;
+    if let Some(service) = words.service {
+        read_name(alloc, service, Place::Service)?;
+    }
+    Ok(())
+}
+
 fn read_client(alloc: Global, places: &Places, words: &FirstWords<'_>) -> Result<Principal, Stop> {
     let realm = read_realm(alloc, places.realm.as_str())?;
     let name = read_name(alloc, words.name, Place::Name)?;

@@ -106,7 +106,7 @@ fn get_and_write<T: Store, X: Exchange>(
     Ok(versions)
 }
 
-fn read_services(alloc: Global, names: &[&str]) -> Result<Vec<Name>, KvnoStop> {
+pub(crate) fn read_services(alloc: Global, names: &[&str]) -> Result<Vec<Name>, KvnoStop> {
     let mut services = Vec::new(alloc);
     for (index, name) in names.iter().enumerate() {
         at_name(add_service(alloc, &mut services, name), index)?;

@@ -3,7 +3,9 @@ use crate::caches::read_cache;
 use crate::environment::Defaults;
 use crate::faults::{Place, Reason, Stop, of_name};
 use crate::files::of;
-use crate::words::Task;
+use crate::kinit::check_names;
+use crate::kvno::{KvnoStop, read_services};
+use crate::words::{FirstWords, Task};
 use clap::ArgMatches;
 use file_store::{Store, read_file};
 use krb_fields::{component_from_text, component_to_text, is_component};
@@ -20,18 +22,25 @@ pub(crate) enum Unplaced {
     BadKdc(String),
     /// A `kdc` of the `krb5.conf` is no address. This is its text, as that of a name's component.
     BadKdcLine(String),
-    Stopped(Stop),
+    /// At the name of this place, where it is at one of several.
+    Stopped(Stop, Option<usize>),
 }
 
 impl From<Stop> for Unplaced {
     fn from(stop: Stop) -> Unplaced {
-        Unplaced::Stopped(stop)
+        Unplaced::Stopped(stop, None)
+    }
+}
+
+impl From<KvnoStop> for Unplaced {
+    fn from(ended: KvnoStop) -> Unplaced {
+        Unplaced::Stopped(ended.stop, ended.index)
     }
 }
 
 impl From<AllocError> for Unplaced {
     fn from(error: AllocError) -> Unplaced {
-        Unplaced::Stopped(Stop::from(error))
+        Unplaced::from(Stop::from(error))
     }
 }
 
@@ -78,7 +87,7 @@ pub(crate) fn find_places<T: Store>(
     store: &mut T,
 ) -> Result<Places, Unplaced> {
     match task {
-        Task::First(_) => first_places(alloc, words, defaults, store),
+        Task::First(first) => first_places(alloc, first, words, defaults, store),
         // the realm is the cache's
         Task::Again(_) | Task::Kvno(_) => kvno_places(alloc, words, defaults, store),
         Task::Klist(_) => klist_places(alloc, words, defaults),
@@ -87,12 +96,13 @@ pub(crate) fn find_places<T: Store>(
 
 fn first_places<T: Store>(
     alloc: Global,
+    first: &FirstWords<'_>,
     words: &ArgMatches<'_>,
     defaults: &Defaults<'_>,
     store: &mut T,
 ) -> Result<Places, Unplaced> {
     let cache = cache_path(alloc, words, defaults)?;
-    let Realm { text, kdcs } = find_realm(alloc, words, defaults, store)?;
+    let Realm { text, kdcs } = find_realm(alloc, first, words, defaults, store)?;
     Ok(Places {
         cache,
         realm: text,
@@ -157,21 +167,23 @@ fn cache_path(
     }
 }
 
-/// The realm and the KDCs of `kinit`.
+/// The realm and the KDCs of `kinit`. Its names are looked at before a file is read.
 fn find_realm<T: Store>(
     alloc: Global,
+    first: &FirstWords<'_>,
     words: &ArgMatches<'_>,
     defaults: &Defaults<'_>,
     store: &mut T,
 ) -> Result<Realm, Unplaced> {
     let realm = words.get_str("realm");
     let given = given_kdcs(alloc, words)?;
+    check_names(alloc, realm, first)?;
     let is_needed = realm.is_none() || given.is_none();
     let config = config_if(alloc, defaults, store, is_needed)?;
     configured(alloc, &config, realm, given)
 }
 
-/// The KDCs of the realm of a cache.
+/// The KDCs of the realm of a cache. The names of services are looked at before a file is read.
 fn find_kdcs<T: Store>(
     alloc: Global,
     words: &ArgMatches<'_>,
@@ -182,9 +194,17 @@ fn find_kdcs<T: Store>(
     if let Some(kdcs) = given_kdcs(alloc, words)? {
         return Ok(kdcs);
     }
+    check_services(alloc, words)?;
     let cache = read_cache(alloc, store, path)?;
     let realm = cache.principal().realm.as_slice();
     kdcs_in_config(alloc, defaults, store, realm)
+}
+
+fn check_services(alloc: Global, words: &ArgMatches<'_>) -> Result<(), KvnoStop> {
+    if let Some(names) = words.get_strs("name") {
+        read_services(alloc, names)?;
+    }
+    Ok(())
 }
 
 fn kdcs_in_config<T: Store>(

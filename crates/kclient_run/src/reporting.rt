@@ -4,7 +4,7 @@ ghost use Rattle.std.specs.Prelude.{◌≤◌, IfOk};
 use crate::codes::code_text;
 use crate::environment::Defaults;
 use crate::exchange::Exchange;
-use crate::fault_words::{MEMORY, Subject};
+use crate::fault_words::{MEMORY, Subject, word_of};
 use crate::faults::{Place, Reason, Stop};
 use crate::places::Unplaced;
 use crate::run::{DONE, FAILED, REFUSED, USAGE};
@@ -137,7 +137,8 @@ pub(crate) fn report_unplaced<W: Write, E: Write>(
             let subject = Subject::KdcLine { path, value };
             print_refusal(out, errors, subject, Reason::NotAnAddress)
         }
-        Unplaced::Stopped(stop) => report_stopped(out, errors, *stop, options, defaults),
+        Unplaced::Stopped(stop, None) => report_stopped(out, errors, *stop, options, defaults),
+        Unplaced::Stopped(stop, Some(index)) => report_at_name(out, errors, *stop, options, *index),
     }
 }
 
@@ -154,13 +155,63 @@ fn report_stopped<W: Write, E: Write>(
     match stop.place() {
         Place::Config => report(out, errors, Subject::Thing(config_word(defaults)), 0, stop),
         Place::Cache => report_cache(out, errors, stop, options, defaults),
-        Place::Realm => {
-            let option = "--realm";
-            let word = options.get_str("realm");
-            report(out, errors, Subject::Word { option, word }, 0, stop)
-        }
+        Place::Realm => report_word(out, errors, stop, "--realm", options.get_str("realm")),
+        Place::Name => report_word(out, errors, stop, "--name", options.get_str("name")),
+        Place::Service => report_word(out, errors, stop, "--service", options.get_str("service")),
         _ => report(out, errors, MEMORY, 0, stop),
     }
+}
+
+/// Prints what is wrong with the word of an option.
+fn report_word<W: Write, E: Write>(
+    out: &mut W,
+    errors: &mut E,
+    stop: Stop,
+    option: &'static str,
+    word: Option<&str>,
+) -> io::Result<u8>
+    ensures { IfOk result (λ status. status ≤ 3) }
+{
+    report(out, errors, Subject::Word { option, word }, 0, stop)
+}
+
+/// Prints what is wrong with the name of this place; of several names also with which.
+fn report_at_name<W: Write, E: Write>(
+    out: &mut W,
+    errors: &mut E,
+    stop: Stop,
+    options: &ArgMatches<'_>,
+    index: usize,
+) -> io::Result<u8>
+    ensures { IfOk result (λ status. status ≤ 3) }
+{
+    let names = options.get_strs("name").unwrap_or(&[]);
+    let name = name_at(names, Some(index));
+    tell_name(errors, names.len(), name)?;
+    match stop.place() {
+        Place::Name => report_word(out, errors, stop, "--name", name),
+        _ => report(out, errors, MEMORY, 0, stop),
+    }
+}
+
+/// Says which of several names ended a command.
+pub(crate) fn tell_name<E: Write>(
+    errors: &mut E,
+    count: usize,
+    name: Option<&str>,
+) -> io::Result<()> {
+    if count > 1
+        && let Some(name) = name
+    {
+        let word = word_of("--name", name);
+        writeln!(errors, "kclient: {word}: this name ended the command")?;
+    }
+    Ok(())
+}
+
+/// The name that ended a command.
+pub(crate) fn name_at<'a>(names: &[&'a str], index: Option<usize>) -> Option<&'a str> {
+    Some(*names.get(index?)?)
 }
 
 /// Prints why the cache can't be read, which the words or the environment name.

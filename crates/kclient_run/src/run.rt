@@ -4,14 +4,16 @@ ghost use Rattle.std.specs.Prelude.{◌≤◌, IfOk};
 use crate::asking::KdcPlace;
 use crate::environment::Defaults;
 use crate::exchange::Exchange;
-use crate::fault_words::{common_subject, first_subject, kvno_subject, word_of};
+use crate::fault_words::{common_subject, first_subject, kvno_subject};
 use crate::kinit::log_in;
 use crate::klist::run_klist;
 use crate::kvno::{KvnoStop, get_tickets};
 use crate::options::read_words;
 use crate::places::{Places, find_places};
 use crate::renewing::get_again;
-use crate::reporting::{print_fault, report_asked, report_unplaced, report_words, tell_unwritten};
+use crate::reporting::{
+    name_at, print_fault, report_asked, report_unplaced, report_words, tell_name, tell_unwritten,
+};
 use crate::words::{AgainWords, FirstWords, KvnoWords, Task, task_of};
 use clap::ArgMatches;
 use file_store::Store;
@@ -34,8 +36,8 @@ pub const USAGE: u8 = 2;
 pub const FAILED: u8 = 3;
 
 /// Does what a command line says, the program's name in front, at this moment. What came of it goes to `writer`, and
-/// why it was not done, in words, to `errors`. The status is `DONE`, `REFUSED`, `USAGE` or `FAILED`; but for `DONE` the
-/// cache is as it was.
+/// why it was not done, in words, to `errors`. The status is `DONE`, `REFUSED`, `USAGE` or `FAILED`. But for `DONE` the
+/// cache is as it was, unless the printing alone failed: then it is `FAILED`, and the cache is written.
 pub fn kclient_run<S: AsStr, T: Store, X: Exchange, W: Write + Drop, E: Write + Drop>(
     alloc: Global,
     words: &[S],
@@ -297,17 +299,7 @@ fn report_kvno<X: Exchange, W: Write, E: Write>(
 {
     let KvnoStop { stop, index } = stop;
     let name = name_at(names, index);
-    if names.len() > 1
-        && let Some(name) = name
-    {
-        let word = word_of("--name", name);
-        writeln!(errors, "kclient: {word}: this name ended the command")?;
-    }
+    tell_name(errors, names.len(), name)?;
     let subject = kvno_subject(places, words, name, stop.place());
     report_asked(out, errors, subject, exchange, stop)
-}
-
-/// The name that ended a command.
-fn name_at<'a>(names: &[&'a str], index: Option<usize>) -> Option<&'a str> {
-    Some(*names.get(index?)?)
 }
