@@ -66,11 +66,42 @@ const CODES: &[(i32, &str)] = &[
     (42, "the messages are out of order"),
     (44, "the KDC does not have the key of this version"),
     (45, "the KDC's key is not there"),
+    (46, "the service does not show that it is itself"),
+    (47, "the message goes the other way"),
+    (48, "another way to show who asks is wanted"),
+    (49, "the message has another sequence number"),
     (50, "the type of the checksum is not one that is taken"),
+    (51, "the policy refuses the path of realms"),
     (52, "the reply is too big for its way"),
     (60, "an error without a code of its own"),
     (61, "a field is too long"),
+    (62, "the client is not trusted"),
+    (63, "the KDC is not trusted"),
+    (64, "the signature is not valid"),
+    (
+        65,
+        "the key, or a parameter of the key exchange, is too weak",
+    ),
+    (66, "the certificate does not match"),
+    (
+        67,
+        "no ticket for tickets is there, as from user to user it has to be",
+    ),
     (68, "the client is one of another realm"),
+    (69, "the ticket has to be from user to user"),
+    (70, "the certificate can't be verified"),
+    (71, "the certificate is not valid"),
+    (72, "the certificate has been revoked"),
+    (
+        73,
+        "it is not known whether the certificate has been revoked",
+    ),
+    (
+        74,
+        "it can't be found out whether the certificate has been revoked",
+    ),
+    (75, "the certificate is of another client"),
+    (76, "the certificate is of another KDC"),
 ];
 
 /// What a KDC says by a code.

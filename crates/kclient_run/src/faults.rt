@@ -1,5 +1,5 @@
 //! Why a command ends before it is done.
-use client_core::ClientFault;
+use client_core::{ClientFault, Mismatch};
 use cred_files::FileFault;
 use krb_fields::NameFault;
 use std::alloc::{AllocError, AllocFailed};
@@ -35,8 +35,14 @@ pub(crate) enum Reason {
     TooLate,
     Absent,
     NotAReply,
-    Mismatch,
+    /// In what the reply differs from the request.
+    Mismatch(Mismatch),
+    /// The client's key doesn't open the reply.
     CannotOpen,
+    /// The session key of the cache's ticket doesn't open the reply.
+    SessionCannotOpen,
+    /// The KDC names no key of the client of one of the four types.
+    NoKnownType,
     CountTooLarge,
     /// A `krb5.conf` names no default realm.
     NoRealm,
@@ -102,8 +108,10 @@ impl Reason {
             Reason::TooLate => "TooLate",
             Reason::Absent => "Absent",
             Reason::NotAReply => "NotAReply",
-            Reason::Mismatch => "Mismatch",
+            Reason::Mismatch(_) => "Mismatch",
             Reason::CannotOpen => "CannotOpen",
+            Reason::SessionCannotOpen => "CannotOpen",
+            Reason::NoKnownType => "CannotOpen",
             Reason::CountTooLarge => "CountTooLarge",
             Reason::NoKeytab => "BadMagic",
             Reason::BadKey => "BadEntry",
@@ -130,10 +138,13 @@ impl Reason {
             Reason::TooLate => "a cache has no room for a time after the year 2106",
             Reason::Absent => "no usable ticket for tickets of the realm is there; kinit gets one",
             Reason::NotAReply => "what came back is no reply of a KDC",
-            Reason::Mismatch =>
-                "the reply has another client, nonce, service or time than was asked",
+            Reason::Mismatch(what) => mismatch_text(what),
             Reason::CannotOpen =>
-                "the key does not open the reply: the password is another, or the KDC",
+                "the client's key does not open the reply: the password, or the keytab, is another, or the KDC",
+            Reason::SessionCannotOpen =>
+                "the session key of the cache's ticket does not open the reply: the KDC is another",
+            Reason::NoKnownType =>
+                "the KDC names no key of the client of the encryption types 17 to 20",
             Reason::CountTooLarge =>
                 "the KDC asks for more iterations of string-to-key than 1048576, or none",
             Reason::NoKeytab => "the file is no keytab of version 2",
@@ -149,6 +160,17 @@ impl Reason {
             Reason::NotAnAddress =>
                 "it is no address, and no name is looked up; --kdc takes its address",
         }
+    }
+}
+
+/// In what a reply differs from the request, for standard error.
+fn mismatch_text(what: Mismatch) -> &'static str {
+    match what {
+        Mismatch::Client => "the reply is for another client than the one that asked",
+        Mismatch::Nonce => "the reply has another nonce than the request",
+        Mismatch::Service => "the reply has a ticket for another service than was asked",
+        Mismatch::Times =>
+            "the ticket ends later than was asked, or starts at another time: the clocks may differ",
     }
 }
 
@@ -186,7 +208,7 @@ impl From<ClientFault> for Stop {
         match fault {
             ClientFault::NotAReply => Stop::Refused(Reason::NotAReply, Place::Kdc),
             ClientFault::Refused(refusal) => Stop::Error(refusal.code),
-            ClientFault::Mismatch(_) => Stop::Refused(Reason::Mismatch, Place::Kdc),
+            ClientFault::Mismatch(what) => Stop::Refused(Reason::Mismatch(what), Place::Kdc),
             ClientFault::CannotOpen => Stop::Refused(Reason::CannotOpen, Place::Kdc),
             ClientFault::CountTooLarge => Stop::Refused(Reason::CountTooLarge, Place::Kdc),
             ClientFault::Memory => out_of_memory(),

@@ -9,7 +9,7 @@ use crate::exchange::Exchange;
 use crate::faults::{Place, Reason, Stop};
 use crate::kinit::granter;
 use crate::wishes::{Again, again_options, further_asked};
-use client_core::{Asked, is_presentable, read_tgs_reply, session_key, tgs_request};
+use client_core::{Asked, ClientFault, is_presentable, read_tgs_reply, session_key, tgs_request};
 use cred_files::{Cache, Credential, Principal};
 use enctypes::Key;
 use krb_fields::{Flags, Moment, Name};
@@ -18,6 +18,8 @@ use std::alloc::Global;
 
 /// There is no ticket to ask with.
 const NO_TICKET: Stop = Stop::Refused(Reason::Absent, Place::Cache);
+
+const UNOPENED: Stop = Stop::Refused(Reason::SessionCannotOpen, Place::Kdc);
 
 /// Asks for a service's ticket with the cache's ticket for tickets.
 pub(crate) fn service_ticket<X: Exchange>(
@@ -114,6 +116,7 @@ fn take(
 {
     match read_tgs_reply(alloc, asked, key, false, at, reply) {
         Ok(credential) => Ok(credential),
+        Err(ClientFault::CannotOpen) => Err(UNOPENED),
         Err(fault) => Err(Stop::from(fault)),
     }
 }

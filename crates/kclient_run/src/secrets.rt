@@ -6,7 +6,7 @@ ghost use Rattle.kclient_run.specs.Keys.{key_named, key_numbered, key_typed, typ
 
 use crate::faults::{Place, Reason, Stop};
 use crate::infos::{AS_REP, info_of_reply};
-use client_core::{Asked, EtypeInfo2, password_key};
+use client_core::{Asked, ClientFault, EtypeInfo2, password_key};
 use cred_files::Keytab;
 use enctypes::{Etype, Key};
 use krb_fields::Name;
@@ -81,6 +81,9 @@ fn password_for_reply(
     Ok(Some(key_of_password(alloc, pass, asked, &info)?))
 }
 
+/// No entry is of one of the four types.
+const NO_KNOWN_TYPE: Stop = Stop::Refused(Reason::NoKnownType, Place::Kdc);
+
 fn key_of_password(
     alloc: Global,
     pass: &[u8],
@@ -91,6 +94,7 @@ fn key_of_password(
 {
     match password_key(alloc, pass, asked.realm.as_slice(), &asked.client, info) {
         Ok(key) => Ok(key),
+        Err(ClientFault::CannotOpen) => Err(NO_KNOWN_TYPE),
         Err(fault) => Err(Stop::from(fault)),
     }
 }
