@@ -1,6 +1,7 @@
 //! Command lines: what comes of each, its messages, and its refusals.
 use crate::joined::Link;
-use crate::runs::{KINIT, KINIT_V, KVNO, Run, expect_runs};
+use crate::runs::{KINIT, KINIT_V, KVNO, Run, expect_runs, expect_unwritten};
+use crate::sent::AS_REP;
 use kclient_run::{FAILED, REFUSED, USAGE};
 use std::test::Fail;
 
@@ -27,19 +28,8 @@ const GOT: &[Run] = &[
         ways: "t",
         ..KVNO
     },
-    // AS-REP without padata, and without a start, as a model in Python seals it (RFC 3962) under the key of
-    // "password" with the default salt; its nonce is of ChaCha20 under octets 7
     Run {
-        link: Link::Forged(
-            "\
-                6b82013d30820139a003020105a10302010ba3051b03412e42a40e300ca003020101a10530031b0176a540613e303ca00302\
-                0105a1051b03412e42a2183016a003020102a10f300d1b066b72627467741b03412e42a3143012a003020112a103020101a2\
-                06040400000000a681d33081d0a003020112a281c80481c57ace0f667146bac017940823e444022392560693b16706e204e7\
-                5c0a27aa0df7adb9a07afd2a0535e14d13d30dc27a7e95a4543f157c64bd4245263df520b17e5f3fca41444cef7bcfb745e1\
-                3fe33fc8c5ba6d3f8f7ca376f3ce6363adcf133fb397e9b24f65f863ffe68afe0e61709e32a31295f029a48d3002208bf5e4\
-                573e6e8a3dcc056e617399375336f5ecdadbb9e70d369b504b054619f09e07c4144d21720fabbdf42e3b6e2f9a178738423f\
-                3847476bfd985c8aa380adc67457db6dd7153e50df",
-        ),
+        link: Link::Forged(AS_REP),
         held: "krbtgt/A.B 0 - 36000 - 00400000 18\n",
         ..KINIT_V
     },
@@ -84,7 +74,9 @@ const REFUSED_BY_A_REPLY: &[Run] = &[
         line: "kclient kinit --kdc 192.0.2.1:88 --realm A.B --name v --password-file wrong --cache cc --seed seed",
         status: REFUSED,
         out: "refused CannotOpen\n",
-        errors: "kclient: 192.0.2.1:88: the key does not open the reply: the password is another, or the KDC\n",
+        errors: "\
+            kclient: 192.0.2.1:88: the client's key does not open the reply: the password, or the keytab, is \
+            another, or the KDC\n",
         ..KINIT_V
     },
     // the reply to the line before has another nonce
@@ -93,8 +85,30 @@ const REFUSED_BY_A_REPLY: &[Run] = &[
         link: Link::Stale,
         status: REFUSED,
         out: "refused Mismatch\n",
-        errors: "kclient: 192.0.2.1:88: the reply has another client, nonce, service or time than was asked\n",
+        errors: "kclient: 192.0.2.1:88: the reply has another nonce than the request\n",
         ..KINIT_V
+    },
+    // it is one for another client, for another service, and one that ends later
+    Run {
+        errors: "kclient: 192.0.2.1:88: the reply is for another client than the one that asked\n",
+        line: "kclient kinit --kdc 192.0.2.1:88 --realm A.B --name u --password-file pass --cache cc --seed seed",
+        ..STALE
+    },
+    Run {
+        errors: "kclient: 192.0.2.1:88: the reply has a ticket for another service than was asked\n",
+        line: "\
+            kclient kinit --kdc 192.0.2.1:88 --realm A.B --name v --password-file pass --cache cc --seed seed \
+            --service h",
+        ..STALE
+    },
+    Run {
+        errors: "\
+            kclient: 192.0.2.1:88: the ticket ends later than was asked, or starts at another time: the clocks may \
+            differ\n",
+        line: "\
+            kclient kinit --kdc 192.0.2.1:88 --realm A.B --name v --password-file pass --cache cc --seed seed \
+            --life 60",
+        ..STALE
     },
     // the same reply is one of another exchange
     Run {
@@ -133,7 +147,102 @@ const REFUSED_BY_A_REPLY: &[Run] = &[
         ways: "u=",
         ..KINIT
     },
+    // the KDC answers the first request alone
+    Run {
+        link: Link::Once,
+        status: FAILED,
+        out: "failed\n",
+        errors: "kclient: 192.0.2.1:88: connection refused (messages without a reply: 2)\n",
+        ways: "uu=",
+        ..KINIT
+    },
+    // KRB-ERROR with code 25 also to the request with a timestamp
+    Run {
+        link: Link::Forged(WANTED),
+        status: REFUSED,
+        out: "refused 25\n",
+        errors: "kclient: 192.0.2.1:88: error 25: the KDC wants preauthentication\n",
+        ..KINIT
+    },
+    // and without e-data; with a PA-ETYPE-INFO2 that is "hello"; and with one of type 23 alone
+    Run {
+        link: Link::Error(25),
+        ..NO_TYPE
+    },
+    NO_TYPE,
+    Run {
+        link: Link::Forged(WANTED_BY_23),
+        ..NO_TYPE
+    },
+    Run {
+        link: Link::Error(99),
+        status: REFUSED,
+        out: "refused 99\n",
+        errors: "kclient: 192.0.2.1:88: error 99: an error code that has no words here\n",
+        ..KINIT_V
+    },
+    Run {
+        link: Link::Forged(TGS_REP),
+        status: REFUSED,
+        out: "refused CannotOpen\n",
+        errors: "\
+            kclient: 192.0.2.1:88: the session key of the cache's ticket does not open the reply: the KDC is \
+            another\n",
+        ..KVNO
+    },
+    KVNO,
+    Run {
+        line: "kclient kvno --kdc 192.0.2.1:88 --cache cc --name h --seed seed2 --fresh",
+        link: Link::Stale,
+        status: REFUSED,
+        out: "refused Mismatch\n",
+        errors: "kclient: 192.0.2.1:88: the reply has another nonce than the request\n",
+        ..KVNO
+    },
 ];
+
+/// The reply to another request.
+const STALE: Run = Run {
+    link: Link::Stale,
+    status: REFUSED,
+    out: "refused Mismatch\n",
+    ..KINIT_V
+};
+
+const NO_TYPE: Run = Run {
+    link: Link::Forged(UNREADABLE),
+    status: REFUSED,
+    out: "refused CannotOpen\n",
+    errors: "kclient: 192.0.2.1:88: the KDC names no key of the client of the encryption types 17 to 20\n",
+    ..KINIT_V
+};
+
+/// KRB-ERROR with code 25, whose PA-ETYPE-INFO2 names type 18 and the default salt of `u`.
+const WANTED: &str = "\
+        7e6c306aa003020105a10302011ea411180f32303234303130313030303030305aa503020100a603020119a9051b03412e42\
+        aa183016a003020102a10f300d1b066b72627467741b03412e42ac20041e301c301aa103020113a2130411300f300da00302\
+        0112a1061b04412e4275";
+
+/// The same with type 23.
+const WANTED_BY_23: &str = "\
+        7e6c306aa003020105a10302011ea411180f32303234303130313030303030305aa503020100a603020119a9051b03412e42\
+        aa183016a003020102a10f300d1b066b72627467741b03412e42ac20041e301c301aa103020113a2130411300f300da00302\
+        0117a1061b04412e4275";
+
+/// The same with a PA-ETYPE-INFO2 that is "hello".
+const UNREADABLE: &str = "\
+        7e60305ea003020105a10302011ea411180f32303234303130313030303030305aa503020100a603020119a9051b03412e42\
+        aa183016a003020102a10f300d1b066b72627467741b03412e42ac1404123010300ea103020113a207040568656c6c6f";
+
+/// TGS-REP for `u`, sealed by a model in Python (RFC 3962) under a key of 32 octets 6E.
+const TGS_REP: &str = "\
+        6d82012930820125a003020105a10302010da3051b03412e42a40e300ca003020101a10530031b0175a53661343032a00302\
+        0105a1051b03412e42a20e300ca003020101a10530031b0168a3143012a003020112a103020101a206040400000000a681c9\
+        3081c6a003020112a281be0481bbbbb26e34078d80c70f89fe4abe41f532b1439ba3cdd7e99bb9de1b1055aa9a9e0bc75694\
+        8e55ad47a652b6890d4515ce1412a607a3c405a14f5afa70427d4cb16e23ba9339e56aa4a526160b5710fe6cc811ff8d6857\
+        49f3a59119864bb21ff225b1f49ae5ca410ff20e2d7ec0229706c7739b689eeeb08c147af7cf0d0929f21ec28beb548b1454\
+        cb37badd16c90cb6cd2a83c58d152082e688bd2299224649d65764f1635ddae4b6f06c5604f7cbe3b5ec6f854661b57dd46a\
+        31";
 
 const REFUSED_BY_A_WORD: &[Run] = &[
     KINIT,
@@ -215,6 +324,31 @@ const REFUSED_BY_A_WORD: &[Run] = &[
     },
     Run {
         line: "kclient kinit --kdc 192.0.2.1:88 --realm A.B --name u --password-file nowhere --cache cc --seed seed",
+        status: FAILED,
+        out: "failed\n",
+        errors: "kclient: nowhere: entity not found\n",
+        ..BAD_NAME
+    },
+    // the cache's ticket can't be presented: its key is of another type; it is none
+    Run {
+        line: "kclient kvno --kdc 192.0.2.1:88 --cache oddkey --name h --seed seed",
+        out: "refused Absent\n",
+        errors: "kclient: oddkey: no usable ticket for tickets of the realm is there; kinit gets one\n",
+        ..BAD_NAME
+    },
+    Run {
+        line: "kclient kvno --kdc 192.0.2.1:88 --cache noticket --name h --seed seed",
+        out: "refused Absent\n",
+        errors: "kclient: noticket: no usable ticket for tickets of the realm is there; kinit gets one\n",
+        ..BAD_NAME
+    },
+    // of two faults the first is told
+    Run {
+        line: "kclient kinit --kdc 192.0.2.1:88 --realm A.B --name u//v --password-file nowhere --cache cc --seed seed",
+        ..BAD_NAME
+    },
+    Run {
+        line: "kclient kinit --kdc 192.0.2.1:88 --realm A.B --name u --password-file nowhere --cache cc --seed short",
         status: FAILED,
         out: "failed\n",
         errors: "kclient: nowhere: entity not found\n",
@@ -349,12 +483,14 @@ const FAULTS: &[Run] = &[
         line: "\
             kclient kinit --kdc 192.0.2.1:88 --realm A.B --name u --password-file pass --cache cc --seed seed \
             --life +1",
+        out: "--life",
         ..FAULT
     },
     Run {
         line: "\
             kclient kinit --kdc 192.0.2.1:88 --realm A.B --name u --password-file pass --cache cc --seed seed \
             --life 4294967296",
+        out: "--life",
         ..FAULT
     },
     Run {
@@ -460,6 +596,18 @@ const FAULTS: &[Run] = &[
 fn tickets_are_got(rt: HostRuntime) -> Result<(), Fail> {
     expect_runs(&rt, rt.alloc(), GOT)
 }
+
+#[test]
+fn a_cache_is_written_also_where_standard_output_has_no_room(rt: HostRuntime) -> Result<(), Fail> {
+    expect_unwritten(&rt, rt.alloc(), UNWRITTEN)
+}
+
+const UNWRITTEN: &Run = &Run {
+    status: FAILED,
+    errors: "kclient: standard output: failed to write the buffered data\n",
+    held: "krbtgt/A.B 0 0 36000 - 00600000 18\n",
+    ..KINIT
+};
 
 #[test]
 fn a_reply_that_is_refused_leaves_the_cache(rt: HostRuntime) -> Result<(), Fail> {

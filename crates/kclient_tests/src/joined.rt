@@ -24,6 +24,10 @@ pub enum Link {
     TooBig,
     /// Each message gets what the KDC answered last.
     Stale,
+    /// The KDC answers the first message, and refuses connections from then on.
+    Once,
+    /// Each message gets a KRB-ERROR with this code.
+    Error(u8),
     /// Each message gets these octets, in hexadecimal digits.
     Forged(&'static str),
 }
@@ -32,6 +36,9 @@ pub enum Link {
 const TOO_BIG: &str = "\
         7e4a3048a003020105a10302011ea411180f32303234303130313030303030305aa503020100a603020134a9051b03412e42\
         aa183016a003020102a10f300d1b066b72627467741b03412e42";
+
+/// Where the code stands in it.
+const CODE: usize = 42;
 
 /// The port of the second KDC.
 const SECOND_PORT: u16 = 89;
@@ -48,6 +55,8 @@ pub struct JoinedExchange {
     ways: String,
     /// The last message.
     last: Vec<u8>,
+    /// All messages of the command, one behind the other.
+    sent: Vec<u8>,
     /// What the KDC answered last.
     answered: Vec<u8>,
     /// The address that gave the last reply.
@@ -63,6 +72,7 @@ impl JoinedExchange {
             link: Link::Good,
             ways: String::new(alloc),
             last: Vec::new(alloc),
+            sent: Vec::new(alloc),
             answered: Vec::new(alloc),
             from: None,
             failures: 0,
@@ -74,6 +84,7 @@ impl JoinedExchange {
         self.at = at;
         self.link = link;
         self.ways = String::new(alloc);
+        self.sent = Vec::new(alloc);
         self.from = None;
         self.failures = 0;
     }
@@ -82,6 +93,11 @@ impl JoinedExchange {
     /// message before it; `U`, `T` and `#` for those to the second KDC.
     pub fn ways(&self) -> &str {
         self.ways.as_str()
+    }
+
+    /// The octets of all messages of the command, one behind the other.
+    pub fn sent(&self) -> &[u8] {
+        &self.sent
     }
 
     /// What comes back.
@@ -97,11 +113,14 @@ impl JoinedExchange {
         let is_second = to.port() == SECOND_PORT;
         let way = way_of(by, is_second, &self.last, message);
         note(alloc, &mut self.ways, &mut self.last, way, message)?;
+        self.sent.extend_from_slice(message)?;
         match self.link {
             Link::Silent => Err(silence()),
             Link::FirstSilent if !is_second => Err(silence()),
             Link::NoDatagrams if by == Transport::Udp => Err(silence()),
             Link::TooBig if by == Transport::Udp => octets(alloc, TOO_BIG),
+            Link::Once if self.ways.len() > 1 => Err(Error::from(ErrorKind::ConnectionRefused)),
+            Link::Error(code) => error_of(alloc, code),
             Link::Forged(digits) => octets(alloc, digits),
             Link::Stale => Ok(Vec::from_slice(alloc, &self.answered)?),
             _ => ask(alloc, &mut self.kdc, self.at, message, &mut self.answered),
@@ -171,6 +190,15 @@ fn octets(alloc: Global, digits: &str) -> io::Result<Vec<u8>> {
         Ok(octets) => Ok(octets),
         Err(_) => Err(Error::from(ErrorKind::InvalidData)),
     }
+}
+
+/// A KRB-ERROR with this code.
+fn error_of(alloc: Global, code: u8) -> io::Result<Vec<u8>> {
+    let mut error = octets(alloc, TOO_BIG)?;
+    if let Some(place) = error.get_mut(CODE) {
+        *place = code;
+    }
+    Ok(error)
 }
 
 /// Asks the KDC, whose random octets are all 7.

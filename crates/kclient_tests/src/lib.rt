@@ -3,6 +3,8 @@
 #![tactic(auto)]
 
 #[cfg(test)]
+mod codes;
+#[cfg(test)]
 mod commands;
 #[cfg(test)]
 mod conf;
@@ -18,6 +20,8 @@ mod places;
 mod realm;
 #[cfg(test)]
 mod runs;
+#[cfg(test)]
+mod sent;
 #[cfg(test)]
 mod services;
 #[cfg(test)]

@@ -37,7 +37,9 @@ const FIRST: &[Run] = &[
         line: "kclient kinit --kdc 192.0.2.1:88 --realm A.B --name v --keytab old --cache cc --seed seed",
         status: REFUSED,
         out: "refused CannotOpen\n",
-        errors: "kclient: 192.0.2.1:88: the key does not open the reply: the password is another, or the KDC\n",
+        errors: "\
+            kclient: 192.0.2.1:88: the client's key does not open the reply: the password, or the keytab, is \
+            another, or the KDC\n",
         ..KINIT_V
     },
     Run {

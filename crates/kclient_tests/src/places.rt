@@ -110,6 +110,18 @@ const FAULT: Run = Run {
     ..KVNO
 };
 
+const BAD_NAME: Run = Run {
+    defaults: Defaults {
+        cache: Variable::Text("cc"),
+        config: Variable::Text("nowhere"),
+    },
+    status: REFUSED,
+    out: "refused BadName\n",
+    errors: "kclient: --name u//v: no name is written so\n",
+    ways: "",
+    ..CONFIGURED
+};
+
 const BY_DEFAULTS: &[Run] = &[
     CONFIGURED,
     CONFIGURED_KVNO,
@@ -187,6 +199,39 @@ const BY_DEFAULTS: &[Run] = &[
         errors: "kclient: nowhere: entity not found\n",
         ways: "",
         ..CONFIGURED
+    },
+    // names are looked at before a file is read
+    Run {
+        line: "kclient kinit --name u//v --password-file pass --seed seed",
+        ..BAD_NAME
+    },
+    Run {
+        line: "kclient kinit --realm A/B --name u --password-file pass --seed seed",
+        errors: "kclient: --realm A/B: no name is written so\n",
+        ..BAD_NAME
+    },
+    Run {
+        line: "kclient kinit --name u --password-file pass --seed seed --service h/",
+        errors: "kclient: --service h/: no name is written so\n",
+        ..BAD_NAME
+    },
+    Run {
+        line: "kclient kvno --cache nowhere --name h --name h/ --seed seed",
+        errors: "kclient: h/: this name ended the command\nkclient: --name h/: no name is written so\n",
+        ..BAD_NAME
+    },
+    Run {
+        line: "kclient kvno --cache nowhere --name h/ --seed seed",
+        errors: "kclient: --name h/: no name is written so\n",
+        ..BAD_NAME
+    },
+    // the command line comes before names
+    Run {
+        line: "kclient kinit --kdc kdc:89 --name u//v --password-file pass --seed seed",
+        status: USAGE,
+        out: "error: --kdc kdc:89: it takes",
+        errors: "",
+        ..BAD_NAME
     },
     // the cache's path, and not all of the variable
     Run {

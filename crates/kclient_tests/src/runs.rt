@@ -7,7 +7,8 @@ use kclient_run::{DONE, Defaults, USAGE, Variable, kclient_run};
 use krb_der::KTime;
 use krb_fields::{Moment, Name};
 use std::alloc::{AllocError, Global};
-use std::fmt::Write;
+use std::fmt::Write as _;
+use std::io::Write;
 use std::process::Abort;
 use std::test::Fail;
 
@@ -38,6 +39,8 @@ pub struct Run {
     pub asked: &'static str,
     /// The messages, as `JoinedExchange` notes them.
     pub ways: &'static str,
+    /// The octets of all messages, one behind the other, in hexadecimal digits; empty where they are not compared.
+    pub sent: &'static str,
     /// What the cache then holds, as `held_text` tells it; empty where that is not compared.
     pub held: &'static str,
     /// Which call of the store fails, where the first one has the number 1; with 0 none does.
@@ -59,6 +62,7 @@ pub const KINIT: Run = Run {
     errors: "",
     asked: "",
     ways: "uu",
+    sent: "",
     held: "",
     failing: 0,
 };
@@ -141,15 +145,31 @@ const ODD: &[u8] = b"\
     }
 ";
 
-/// Two seeds and a short one; a password, another and one that is too long; a file that is too long; a cache without
-/// credentials and one that is cut; a `krb5.conf`, also as the system's, one that names nothing, and an odd one;
-/// keytabs. The system's random octets are all 9.
+/// A cache of `u` with a credential of `krbtgt/A.B` whose key is of type 23, as a model in Python writes it.
+const ODD_KEY: &str = "\
+        05040000000000010000000100000003412e420000000175000000010000000100000003412e420000000175000000020000\
+        000200000003412e42000000066b726274677400000003412e420017000000106b6b6b6b6b6b6b6b6b6b6b6b6b6b6b6b6592\
+        00806592008065928d20000000000000400000000000000000000000000040613e303ca003020105a1051b03412e42a21830\
+        16a003020102a10f300d1b066b72627467741b03412e42a3143012a003020112a103020101a20604040000000000000000";
+
+/// The same with a key of type 18, and with octets that are no ticket.
+const NO_TICKET: &str = "\
+        05040000000000010000000100000003412e420000000175000000010000000100000003412e420000000175000000020000\
+        000200000003412e42000000066b726274677400000003412e420012000000206b6b6b6b6b6b6b6b6b6b6b6b6b6b6b6b6b6b\
+        6b6b6b6b6b6b6b6b6b6b6b6b6b6b659200806592008065928d2000000000000040000000000000000000000000000568656c\
+        6c6f00000000";
+
+/// Two seeds and a short one; a password, another and one that is too long; a file that is too long; caches without
+/// credentials, one that is cut, and two whose ticket can't be presented; a `krb5.conf`, also as the system's, one that
+/// names nothing, and an odd one; keytabs. The system's random octets are all 9.
 fn store(alloc: Global) -> Result<MemoryStore, Fail> {
     let mut store = MemoryStore::new(alloc);
     fill(alloc, &mut store)?;
     set_hex(alloc, &mut store, "keys", KEYS)?;
     set_hex(alloc, &mut store, "old", OLD)?;
     set_hex(alloc, &mut store, "other", OTHER)?;
+    set_hex(alloc, &mut store, "oddkey", ODD_KEY)?;
+    set_hex(alloc, &mut store, "noticket", NO_TICKET)?;
     Ok(store)
 }
 
@@ -188,6 +208,29 @@ struct Ended {
     errors: Vec<u8>,
 }
 
+/// What a command line prints goes to `out` and `errors`.
+fn run_to<W: Write + Drop>(
+    alloc: Global,
+    store: &mut MemoryStore,
+    exchange: &mut JoinedExchange,
+    at: Moment,
+    run: &Run,
+    out: W,
+    errors: &mut Vec<u8>,
+) -> Result<u8, AllocError> {
+    let words: Vec<&str> = run.line.split(' ').collect(alloc)?;
+    Ok(kclient_run(
+        alloc,
+        words.as_slice(),
+        &run.defaults,
+        store,
+        exchange,
+        at,
+        out,
+        errors,
+    ))
+}
+
 fn run_line(
     alloc: Global,
     store: &mut MemoryStore,
@@ -195,19 +238,9 @@ fn run_line(
     at: Moment,
     run: &Run,
 ) -> Result<Ended, AllocError> {
-    let words: Vec<&str> = run.line.split(' ').collect(alloc)?;
     let mut out = Vec::new(alloc);
     let mut errors = Vec::new(alloc);
-    let status = kclient_run(
-        alloc,
-        words.as_slice(),
-        &run.defaults,
-        store,
-        exchange,
-        at,
-        &mut out,
-        &mut errors,
-    );
+    let status = run_to(alloc, store, exchange, at, run, &mut out, &mut errors)?;
     Ok(Ended {
         status,
         out,
@@ -294,9 +327,22 @@ fn expect_cache(
 ) -> Result<(), Fail> {
     let after = store.get("cc").unwrap_or(&[]);
     assert!(rt; run.status == DONE || before == after, "{}", run.line);
+    expect_held(rt, alloc, store, run)
+}
+
+fn expect_held(rt: &impl Abort, alloc: Global, store: &MemoryStore, run: &Run) -> Result<(), Fail> {
     if !run.held.is_empty() {
-        let held = held_text(alloc, after)?;
+        let held = held_text(alloc, store.get("cc").unwrap_or(&[]))?;
         assert_eq!(rt; held.as_str(), run.held, "{}", run.line);
+    }
+    Ok(())
+}
+
+/// Checks the octets of the messages.
+fn expect_sent(rt: &impl Abort, alloc: Global, run: &Run, sent: &[u8]) -> Result<(), Fail> {
+    if !run.sent.is_empty() {
+        let sent = hex::encode(alloc, sent)?;
+        assert_eq!(rt; sent.as_str(), run.sent, "{}", run.line);
     }
     Ok(())
 }
@@ -315,6 +361,7 @@ fn expect_run(
     store.fail_at(run.failing);
     let ended = run_line(alloc, store, exchange, at, run)?;
     expect_ended(rt, run, &ended, exchange.ways(), store.asked());
+    expect_sent(rt, alloc, run, exchange.sent())?;
     expect_cache(rt, alloc, store, run, &before)
 }
 
@@ -340,4 +387,56 @@ pub fn expect_runs(rt: &impl Abort, alloc: Global, runs: &[Run]) -> Result<(), F
     let mut store = store(alloc)?;
     let mut exchange = joined(alloc)?;
     expect_each(rt, alloc, &mut store, &mut exchange, runs)
+}
+
+/// Runs a command line whose standard output has no room, in a new realm.
+pub fn expect_unwritten(rt: &impl Abort, alloc: Global, run: &Run) -> Result<(), Fail> {
+    let mut store = store(alloc)?;
+    let mut exchange = joined(alloc)?;
+    let mut room = [0; 1];
+    let mut errors = Vec::new(alloc);
+    let at = moment(0)?;
+    let status = run_to(
+        alloc,
+        &mut store,
+        &mut exchange,
+        at,
+        run,
+        room.as_mut_slice(),
+        &mut errors,
+    )?;
+    assert_eq!(rt; text(&errors), run.errors, "{}", run.line);
+    assert_eq!(rt; status, run.status, "{}", run.line);
+    expect_held(rt, alloc, &store, run)
+}
+
+/// The command line whose messages get a KRB-ERROR.
+const CODED: &Run = &KINIT_V;
+
+/// Checks what standard error has of a KRB-ERROR with each of these codes: words among others.
+pub fn expect_codes(rt: &impl Abort, alloc: Global, codes: &[(u8, &str)]) -> Result<(), Fail> {
+    let mut store = store(alloc)?;
+    let mut exchange = joined(alloc)?;
+    for (code, words) in codes {
+        expect_code(rt, alloc, &mut store, &mut exchange, *code, words)?;
+    }
+    Ok(())
+}
+
+fn expect_code(
+    rt: &impl Abort,
+    alloc: Global,
+    store: &mut MemoryStore,
+    exchange: &mut JoinedExchange,
+    code: u8,
+    words: &str,
+) -> Result<(), Fail> {
+    exchange.begin(alloc, moment(0)?, Link::Error(code));
+    let ended = run_line(alloc, store, exchange, moment(0)?, CODED)?;
+    let out = format!(in alloc; "refused {code}\n")?;
+    assert_eq!(rt; text(&ended.out), out.as_str());
+    let front = format!(in alloc; "kclient: 192.0.2.1:88: error {code}: ")?;
+    assert!(rt; text(&ended.errors).starts_with(front.as_str()), "{code}");
+    assert!(rt; text(&ended.errors).contains(words), "{code}");
+    Ok(())
 }

@@ -1,0 +1,69 @@
+//! The octets that are sent, as a model in Python writes and seals them (RFC 3961, RFC 3962 and RFC 4120). The nonces
+//! and the confounders are those that ChaCha20 gives under octets 7: a nonce four octets without the highest bit, and
+//! then a confounder 16.
+use crate::joined::Link;
+use crate::runs::{KINIT, KINIT_V, KVNO, Run, expect_runs};
+use kclient_run::REFUSED;
+use std::test::Fail;
+
+/// AS-REP for `v` without padata, and without a start, as a model in Python seals it (RFC 3962) under the key of
+/// "password" with the default salt; its nonce is of ChaCha20 under octets 7.
+pub const AS_REP: &str = "\
+        6b82013d30820139a003020105a10302010ba3051b03412e42a40e300ca003020101a10530031b0176a540613e303ca00302\
+        0105a1051b03412e42a2183016a003020102a10f300d1b066b72627467741b03412e42a3143012a003020112a103020101a2\
+        06040400000000a681d33081d0a003020112a281c80481c57ace0f667146bac017940823e444022392560693b16706e204e7\
+        5c0a27aa0df7adb9a07afd2a0535e14d13d30dc27a7e95a4543f157c64bd4245263df520b17e5f3fca41444cef7bcfb745e1\
+        3fe33fc8c5ba6d3f8f7ca376f3ce6363adcf133fb397e9b24f65f863ffe68afe0e61709e32a31295f029a48d3002208bf5e4\
+        573e6e8a3dcc056e617399375336f5ecdadbb9e70d369b504b054619f09e07c4144d21720fabbdf42e3b6e2f9a178738423f\
+        3847476bfd985c8aa380adc67457db6dd7153e50df";
+
+/// AS-REQ of `u`, and the same with a timestamp of midnight under the key of "password".
+const AS_REQS: &str = "\
+        6a753073a103020105a20302010aa4673065a00703050000000000a10e300ca003020101a10530031b0175a2051b03412e42\
+        a3183016a003020102a10f300d1b066b72627467741b03412e42a511180f31393730303130313030303030305aa706020474\
+        009278a80e300c0201120201110201140201136a81c63081c3a103020105a20302010aa34e304c304aa103020102a2430441\
+        303fa003020112a238043620d117076188987400c98cbc80249138aae7a937034d4fdc744bc30ba1461ee13156e549d427c9\
+        8b37d71b3219e7b2024109906f5b48a4673065a00703050000000000a10e300ca003020101a10530031b0175a2051b03412e\
+        42a3183016a003020102a10f300d1b066b72627467741b03412e42a511180f31393730303130313030303030305aa7060204\
+        74009278a80e300c020112020111020114020113";
+
+/// AS-REQ of `v`.
+const AS_REQ: &str = "\
+        6a753073a103020105a20302010aa4673065a00703050000000000a10e300ca003020101a10530031b0176a2051b03412e42\
+        a3183016a003020102a10f300d1b066b72627467741b03412e42a511180f31393730303130313030303030305aa706020474\
+        009278a80e300c020112020111020114020113";
+
+/// TGS-REQ for `h`, 20 seconds past midnight, with the ticket of `AS_REP` and an authenticator under its session key.
+const TGS_REQ: &str = "\
+        6c82014630820142a103020105a20302010ca381e63081e33081e0a103020101a281d80481d56e81d23081cfa003020105a1\
+        0302010ea20703050000000000a340613e303ca003020105a1051b03412e42a2183016a003020102a10f300d1b066b726274\
+        67741b03412e42a3143012a003020112a103020101a206040400000000a4783076a003020112a26f046daa2d0e0a95fffc3f\
+        2e96506cd0548d101bc2710a46d26c0673d72c32e9e65acb28efd7a354648e8f69c53bd9b6906f5462c6f2557fa53525a134\
+        00d3751d4960a922427d0f432cbe92d8405e10a34519a727ecf2d663c7aae4c8437da331afb3e5e7e15e0bfd72db59b3b69e\
+        d9a44d304ba00703050000000000a2051b03412e42a30e300ca003020101a10530031b0168a511180f313937303031303130\
+        30303030305aa706020474009278a80e300c020112020111020114020113";
+
+const SENT: &[Run] = &[
+    Run {
+        sent: AS_REQS,
+        ..KINIT
+    },
+    Run {
+        link: Link::Forged(AS_REP),
+        sent: AS_REQ,
+        ..KINIT_V
+    },
+    Run {
+        link: Link::Error(7),
+        status: REFUSED,
+        out: "refused 7\n",
+        errors: "kclient: 192.0.2.1:88: error 7: the service is not in the database\n",
+        sent: TGS_REQ,
+        ..KVNO
+    },
+];
+
+#[test]
+fn the_octets_that_are_sent_are_those_of_the_model(rt: HostRuntime) -> Result<(), Fail> {
+    expect_runs(&rt, rt.alloc(), SENT)
+}
