@@ -3,9 +3,9 @@ use client_core::{Asked, ClientFault, Mismatch, read_as_reply, read_tgs_reply};
 use cred_files::Credential;
 use enctypes::{Etype, Key};
 use krb_der::KTime;
-use krb_elements::{KerberosString, Seq};
+use krb_elements::{KerberosString, Octets, Seq};
 use krb_fields::{Flags, Moment, Name};
-use std::alloc::Global;
+use std::alloc::{AllocError, Global};
 use std::test::Fail;
 
 /// 2024-01-01 00:00:00.
@@ -154,18 +154,33 @@ pub fn asked(alloc: Global, kind: Kind) -> Result<Asked, Fail> {
 pub enum Outcome {
     Taken,
     NotAReply,
-    /// With this code.
-    Refused(i32),
+    /// With this code, and e-data of three octets.
+    Refused(i32, Option<[u8; 3]>),
     Differs(Mismatch),
     CannotOpen,
     CountTooLarge,
     Memory,
 }
 
+/// The e-data, where it has three octets, else three zeros.
+fn e_data(found: &Option<Octets>) -> Option<[u8; 3]> {
+    match found {
+        Some(octets) => Some(three(octets.as_slice())),
+        None => None,
+    }
+}
+
+fn three(octets: &[u8]) -> [u8; 3] {
+    match octets {
+        [first, second, third] => [*first, *second, *third],
+        _ => [0; 3],
+    }
+}
+
 pub fn outcome_by(fault: &ClientFault) -> Outcome {
     match fault {
         ClientFault::NotAReply => Outcome::NotAReply,
-        ClientFault::Refused(refusal) => Outcome::Refused(refusal.code),
+        ClientFault::Refused(refusal) => Outcome::Refused(refusal.code, e_data(&refusal.e_data)),
         ClientFault::Mismatch(what) => Outcome::Differs(*what),
         ClientFault::CannotOpen => Outcome::CannotOpen,
         ClientFault::CountTooLarge => Outcome::CountTooLarge,
@@ -180,6 +195,34 @@ pub struct Seen {
     pub outcome: Outcome,
     /// Whether the credential has the session key of the reply, of type 18, and the times of a ticket of ten hours.
     pub is_whole: bool,
+}
+
+impl Seen {
+    /// Whether it is whole, or none where memory ran out.
+    pub fn is_due(self) -> Option<bool> {
+        match self.outcome {
+            Outcome::Memory => None,
+            _ => Some(self.is_whole),
+        }
+    }
+}
+
+/// Whether these octets are written, or none where memory ran out.
+pub fn has_octets(found: Result<Vec<u8>, AllocError>, wanted: &[u8]) -> Option<bool> {
+    match found {
+        Ok(found) => Some(found.as_slice() == wanted),
+        Err(AllocError) => None,
+    }
+}
+
+/// Whether two calls answer as is due, of which one may have had no memory. A test of this passes whichever allocation
+/// of its calls is refused, by `rt try --test --fail-alloc N`.
+pub fn are_due(first: Option<bool>, second: Option<bool>) -> bool {
+    match (first, second) {
+        (Some(first), Some(second)) => first && second,
+        (Some(found), None) | (None, Some(found)) => found,
+        (None, None) => false,
+    }
 }
 
 fn is_whole(credential: &Credential, key: &Key) -> bool {

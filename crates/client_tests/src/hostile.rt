@@ -259,9 +259,14 @@ fn a_reply_to_another_request(rt: HostRuntime) -> Result<(), Fail> {
 }
 
 /// KRB-ERROR of code 6, without e-data.
-const CLIENT_UNKNOWN: &str = "\
+pub const CLIENT_UNKNOWN: &str = "\
         7e4a3048a003020105a10302011ea411180f32303234303130313030303030305aa503020100a603020106a9051b03412e42\
         aa183016a003020102a10f300d1b066b72627467741b03412e42";
+
+/// KRB-ERROR of code 25, with the e-data `abc`.
+const PREAUTH_REQUIRED: &str = "\
+        7e51304fa003020105a10302011ea411180f32303234303130313030303030305aa503020100a603020119a9051b03412e42\
+        aa183016a003020102a10f300d1b066b72627467741b03412e42ac050403616263";
 
 /// `TGS_REP`, its sealed part saying `x` in place of `h`.
 const OTHER_NAME: &str = "\
@@ -292,8 +297,9 @@ const OTHER_REALM: &str = "\
         c0";
 
 const REPLIES: &[(Kind, &str, Outcome)] = &[
-    (Kind::As, CLIENT_UNKNOWN, Refused(6)),
-    (Kind::Tgs, CLIENT_UNKNOWN, Refused(6)),
+    (Kind::As, CLIENT_UNKNOWN, Refused(6, None)),
+    (Kind::Tgs, CLIENT_UNKNOWN, Refused(6, None)),
+    (Kind::As, PREAUTH_REQUIRED, Refused(25, Some(*b"abc"))),
     (Kind::As, TGS_REP, NotAReply),
     (Kind::Tgs, AS_REP, NotAReply),
     (Kind::Tgs, OTHER_NAME, SERVICE),

@@ -1,21 +1,26 @@
 //! What a client reads from a KDC's reply.
-use crate::given::{Kind, Outcome, asked, key_from, midnight, octets, see, see_tgs};
+use crate::given::{Kind, Outcome, are_due, asked, key_from, midnight, octets, see, see_tgs};
 use std::alloc::Global;
 use std::test::Fail;
 
 #[test]
-fn replies_give_credentials(rt: HostRuntime) -> Result<(), Fail> {
+fn replies_give_credentials_or_want_memory(rt: HostRuntime) -> Result<(), Fail> {
     for kind in [Kind::As, Kind::Tgs] {
         assert!(rt; gives_credential(rt.alloc(), kind)?, "{kind:?}");
     }
     Ok(())
 }
 
+/// Where one allocation may be refused.
 fn gives_credential(alloc: Global, kind: Kind) -> Result<bool, Fail> {
     let reply = octets(alloc, kind.reply())?;
     let at = midnight(0)?;
     let asked = asked(alloc, kind)?;
-    Ok(see(alloc, kind, &asked, &kind.key(), at, &reply).is_whole)
+    let key = kind.key();
+    Ok(are_due(
+        see(alloc, kind, &asked, &key, at, &reply).is_due(),
+        see(alloc, kind, &asked, &key, at, &reply).is_due(),
+    ))
 }
 
 /// The reply is sealed under the session key, and is not opened as one under a subkey.

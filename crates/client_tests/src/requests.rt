@@ -1,8 +1,11 @@
 //! What a client writes to a KDC.
-use crate::given::{Kind, TGS_REQ, asked, confounder, credential, key_from, midnight, octets};
+use crate::given::{
+    Kind, TGS_REQ, are_due, asked, confounder, credential, has_octets, key_from, midnight, octets,
+};
 use client_core::{Asked, as_request, is_presentable, tgs_request, with_timestamp};
 use cred_files::Credential;
-use std::alloc::Global;
+use krb_fields::Moment;
+use std::alloc::{AllocError, Global};
 use std::test::Fail;
 
 /// An AS-REQ of `u` in `A.B` for `krbtgt/A.B`, till zero, nonce 1, encryption type 18.
@@ -18,56 +21,92 @@ const STAMPED: &str = "\
         a00703050000000000a10e300ca003020101a10530031b0175a2051b03412e42a3183016a003020102a10f300d1b066b7262\
         7467741b03412e42a511180f31393730303130313030303030305aa703020101a8053003020112";
 
-/// An AS-REQ, with a timestamp or without.
-fn as_req_of(alloc: Global, asked: &Asked, stamped: bool) -> Result<Vec<u8>, Fail> {
+/// An AS-REQ, with a timestamp or without; no octets where it can't be asked.
+fn as_req(alloc: Global, asked: &Asked, at: Moment, stamped: bool) -> Result<Vec<u8>, AllocError> {
     if !asked.is_askable() {
-        return Err(Fail::from("it can't be asked"));
+        return Ok(Vec::new(alloc));
     }
     if stamped {
-        return Ok(with_timestamp(alloc, asked, &key_from(64), midnight(7)?, &confounder())?);
+        return with_timestamp(alloc, asked, &key_from(64), at, &confounder());
     }
-    Ok(as_request(alloc, asked)?)
+    as_request(alloc, asked)
 }
 
-fn as_req(alloc: Global, stamped: bool) -> Result<Vec<u8>, Fail> {
+/// Whether it has these octets, where one allocation may be refused.
+fn is_as_req(alloc: Global, asked: &Asked, at: Moment, stamped: bool, wanted: &[u8]) -> bool {
+    are_due(
+        has_octets(as_req(alloc, asked, at, stamped), wanted),
+        has_octets(as_req(alloc, asked, at, stamped), wanted),
+    )
+}
+
+fn is_due_as_req(alloc: Global, stamped: bool, digits: &str) -> Result<bool, Fail> {
+    let wanted = octets(alloc, digits)?;
+    let at = midnight(7)?;
     let asked = asked(alloc, Kind::As)?;
-    as_req_of(alloc, &asked, stamped)
+    Ok(is_as_req(alloc, &asked, at, stamped, &wanted))
 }
 
 #[test]
-fn as_requests(rt: HostRuntime) -> Result<(), Fail> {
-    for (stamped, wanted) in [(false, PLAIN), (true, STAMPED)] {
-        assert!(rt; as_req(rt.alloc(), stamped)? == octets(rt.alloc(), wanted)?);
+fn as_requests_are_written_or_want_memory(rt: HostRuntime) -> Result<(), Fail> {
+    for (stamped, digits) in [(false, PLAIN), (true, STAMPED)] {
+        assert!(rt; is_due_as_req(rt.alloc(), stamped, digits)?);
     }
     Ok(())
 }
 
-fn tgs_req_of(alloc: Global, asked: &Asked, granting: &Credential) -> Result<Vec<u8>, Fail> {
+/// The TGS-REQ for `h` with this credential; no octets where it can't be asked.
+fn tgs_req(
+    alloc: Global,
+    asked: &Asked,
+    granting: &Credential,
+    at: Moment,
+) -> Result<Vec<u8>, AllocError> {
     if !asked.is_askable() || !is_presentable(granting) {
-        return Err(Fail::from("it can't be asked"));
+        return Ok(Vec::new(alloc));
     }
-    Ok(tgs_request(alloc, asked, granting, None, midnight(0)?, &confounder())?)
+    tgs_request(alloc, asked, granting, None, at, &confounder())
 }
 
-/// The TGS-REQ for `h` with that credential.
-fn next_req(alloc: Global, granting: &Credential) -> Result<Vec<u8>, Fail> {
+/// Whether it has these octets, where one allocation may be refused.
+fn is_tgs_req(
+    alloc: Global,
+    asked: &Asked,
+    granting: &Credential,
+    at: Moment,
+    wanted: &[u8],
+) -> bool {
+    are_due(
+        has_octets(tgs_req(alloc, asked, granting, at), wanted),
+        has_octets(tgs_req(alloc, asked, granting, at), wanted),
+    )
+}
+
+fn is_next_req(
+    alloc: Global,
+    granting: &Credential,
+    at: Moment,
+    wanted: &[u8],
+) -> Result<bool, Fail> {
     let asked = asked(alloc, Kind::Tgs)?;
-    tgs_req_of(alloc, &asked, granting)
+    Ok(is_tgs_req(alloc, &asked, granting, at, wanted))
 }
 
-/// The TGS-REQ for `h` with the credential of `AS_REP`, the answer to this.
-fn req_after(alloc: Global, asked: &Asked) -> Result<Vec<u8>, Fail> {
+/// The same with the credential of `AS_REP`, the answer to this.
+fn is_req_after(alloc: Global, asked: &Asked) -> Result<bool, Fail> {
+    let wanted = octets(alloc, TGS_REQ)?;
+    let at = midnight(0)?;
     let granting = credential(alloc, Kind::As, asked)?;
-    next_req(alloc, &granting)
+    is_next_req(alloc, &granting, at, &wanted)
 }
 
-fn tgs_req(alloc: Global) -> Result<Vec<u8>, Fail> {
+fn is_due_tgs_req(alloc: Global) -> Result<bool, Fail> {
     let asked = asked(alloc, Kind::As)?;
-    req_after(alloc, &asked)
+    is_req_after(alloc, &asked)
 }
 
 #[test]
-fn a_tgs_request(rt: HostRuntime) -> Result<(), Fail> {
-    assert!(rt; tgs_req(rt.alloc())? == octets(rt.alloc(), TGS_REQ)?);
+fn a_tgs_request_is_written_or_wants_memory(rt: HostRuntime) -> Result<(), Fail> {
+    assert!(rt; is_due_tgs_req(rt.alloc())?);
     Ok(())
 }

@@ -2,15 +2,16 @@
 ghost use Rattle.std.specs.Prelude.{IfOk};
 ghost use Rattle.client_core.specs.Presenting.{IsShortChecksum};
 
-use crate::given::Outcome::{CannotOpen, Differs, NotAReply, Taken};
+use crate::given::Outcome::{CannotOpen, Differs, Memory, NotAReply, Refused, Taken};
 use crate::given::{
-    Kind, Outcome, asked, confounder, credential, key_from, midnight, octets, outcome_by,
+    Kind, Outcome, are_due, asked, confounder, credential, has_octets, key_from, midnight, moment,
+    octets, outcome_by,
 };
 use client_core::{Asked, Mismatch, ServiceAsked, ap_request, is_presentable, read_ap_reply};
 use cred_files::Credential;
 use krb_elements::Octets;
 use krb_fields::{Moment, Typed};
-use std::alloc::Global;
+use std::alloc::{AllocError, Global};
 use std::test::Fail;
 
 /// An AP-REQ with the ticket of `h`: mutual-required, a checksum of type 32771, 7 microseconds, a subkey of the
@@ -45,53 +46,96 @@ fn service_asked(alloc: Global) -> Result<ServiceAsked, Fail>
     })
 }
 
-fn ap_req_of(alloc: Global, credential: &Credential) -> Result<Vec<u8>, Fail> {
+/// The AP-REQ with this credential; no octets where it can't be presented.
+fn ap_req(
+    alloc: Global,
+    credential: &Credential,
+    at: Moment,
+    wanted: &ServiceAsked,
+) -> Result<Vec<u8>, AllocError>
+    requires { IsShortChecksum wanted.now.checksum }
+{
     if !is_presentable(credential) {
-        return Err(Fail::from("it can't be presented"));
+        return Ok(Vec::new(alloc));
     }
+    ap_request(alloc, credential, at, wanted, &confounder())
+}
+
+/// Whether it has the octets of `AP_REQ`, where one allocation may be refused.
+fn is_ap_req(alloc: Global, credential: &Credential, at: Moment) -> Result<bool, Fail> {
+    let due = octets(alloc, AP_REQ)?;
     let wanted = service_asked(alloc)?;
-    Ok(ap_request(alloc, credential, midnight(7)?, &wanted, &confounder())?)
+    Ok(are_due(
+        has_octets(ap_req(alloc, credential, at, &wanted), &due),
+        has_octets(ap_req(alloc, credential, at, &wanted), &due),
+    ))
 }
 
-/// The AP-REQ with the credential of `TGS_REP`, the answer to this.
-fn req_after(alloc: Global, asked: &Asked) -> Result<Vec<u8>, Fail> {
+/// The same with the credential of `TGS_REP`, the answer to this.
+fn is_req_after(alloc: Global, asked: &Asked) -> Result<bool, Fail> {
+    let at = midnight(7)?;
     let credential = credential(alloc, Kind::Tgs, asked)?;
-    ap_req_of(alloc, &credential)
+    is_ap_req(alloc, &credential, at)
 }
 
-fn ap_req(alloc: Global) -> Result<Vec<u8>, Fail> {
+fn is_due_ap_req(alloc: Global) -> Result<bool, Fail> {
     let asked = asked(alloc, Kind::Tgs)?;
-    req_after(alloc, &asked)
+    is_req_after(alloc, &asked)
 }
 
 #[test]
-fn an_ap_request(rt: HostRuntime) -> Result<(), Fail> {
-    assert!(rt; ap_req(rt.alloc())? == octets(rt.alloc(), AP_REQ)?);
+fn an_ap_request_is_written_or_wants_memory(rt: HostRuntime) -> Result<(), Fail> {
+    assert!(rt; is_due_ap_req(rt.alloc())?);
     Ok(())
 }
 
-/// The first octet of a key, the microseconds of the AP-REQ, and what comes of the AP-REP.
-const AP_REPLIES: &[(u8, u32, &str, Outcome)] = &[
-    (64, 7, AP_REP, Taken),
-    (64, 8, AP_REP, Differs(Mismatch::Times)),
-    (0, 7, AP_REP, CannotOpen),
-    (64, 7, AP_REQ, NotAReply),
+/// KRB-ERROR of code 34, without e-data.
+const REPEATED: &str = "\
+        7e4a3048a003020105a10302011ea411180f32303234303130313030303030305aa503020100a603020122a9051b03412e42\
+        aa183016a003020102a10f300d1b066b72627467741b03412e42";
+
+/// What comes of an AP-REP, and the second and the microseconds that it repeats, or zeros.
+type Heard = (Outcome, i64, u32);
+
+/// The first octet of a key, the second and the microseconds of the AP-REQ, and what comes of the AP-REP.
+const AP_REPLIES: &[(u8, i32, u32, &str, Heard)] = &[
+    (64, 0, 7, AP_REP, (Taken, 1_704_067_200, 7)),
+    (64, 0, 8, AP_REP, (Differs(Mismatch::Times), 0, 0)),
+    (64, 1, 7, AP_REP, (Differs(Mismatch::Times), 0, 0)),
+    (64, -1, 7, AP_REP, (Differs(Mismatch::Times), 0, 0)),
+    (0, 0, 7, AP_REP, (CannotOpen, 0, 0)),
+    (64, 0, 7, AP_REQ, (NotAReply, 0, 0)),
+    (64, 0, 7, REPEATED, (Refused(34, None), 0, 0)),
 ];
 
 /// What comes of these octets as the AP-REP, by the key that counts up from this octet.
-fn come_of_ap(alloc: Global, first: u8, at: Moment, reply: &[u8]) -> Outcome {
+fn hear(alloc: Global, first: u8, at: Moment, reply: &[u8]) -> Heard {
     match read_ap_reply(alloc, &key_from(first), at, reply) {
-        Ok(_) => Taken,
-        Err(fault) => outcome_by(&fault),
+        Ok(part) => (Taken, part.ctime.seconds(), part.cusec.get()),
+        Err(fault) => (outcome_by(&fault), 0, 0),
+    }
+}
+
+/// Whether this comes of it, or none where memory ran out.
+fn is_heard(found: Heard, due: Heard) -> Option<bool> {
+    match found.0 {
+        Memory => None,
+        _ => Some(found == due),
     }
 }
 
 #[test]
-fn an_ap_reply_repeats_the_moment(rt: HostRuntime) -> Result<(), Fail> {
-    for (first, usec, digits, due) in AP_REPLIES {
-        let at = midnight(*usec)?;
-        let reply = octets(rt.alloc(), digits)?;
-        assert_eq!(rt; come_of_ap(rt.alloc(), *first, at, &reply), *due);
+fn an_ap_reply_repeats_the_moment_or_wants_memory(rt: HostRuntime) -> Result<(), Fail> {
+    let alloc = rt.alloc();
+    for (first, after, usec, digits, due) in AP_REPLIES {
+        let at = moment(*after, *usec)?;
+        let reply = octets(alloc, digits)?;
+        let found = hear(alloc, *first, at, &reply);
+        let again = hear(alloc, *first, at, &reply);
+        assert!(rt;
+            are_due(is_heard(found, *due), is_heard(again, *due)),
+            "{found:?} {again:?}"
+        );
     }
     Ok(())
 }
