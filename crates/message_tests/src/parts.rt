@@ -1,11 +1,16 @@
 //! What stands inside the OCTET STRINGs of messages (`krb_parts`).
+ghost use Rattle.std.specs.Prelude.{◌<◌, ◌*◌, length, IfOk};
+ghost use Rattle.krb_parts.specs.Authenticator.{authenticator};
+ghost use Rattle.krb_parts.specs.EncApRepPart.{enc_ap_rep_part};
+ghost use Rattle.krb_parts.specs.EncTicketPart.{enc_ticket_part};
+
 use crate::expect::{same, written};
 use krb_der::{DerFault, KTime};
 use krb_elements::{Fault, read};
 use krb_parts::{
     Authenticator, EncApRepPart, EncKdcRepPartRef, EncTicketPart, EtypeInfo2EntryRef, PaEncTsEnc,
     decode_authenticator, decode_enc_ap_rep_part, decode_enc_ticket_part, decode_pa_enc_ts_enc,
-    encode_pa_enc_ts_enc,
+    encode_authenticator, encode_enc_ap_rep_part, encode_enc_ticket_part, encode_pa_enc_ts_enc,
 };
 use std::alloc::{AllocError, Global};
 
@@ -107,6 +112,30 @@ fn parts_of_tickets_are_read(rt: HostRuntime) {
     );
 }
 
+/// The ticket's part that the octets spell, of which what is written has less than three times their number.
+fn short_ticket_part(alloc: Global, octets: &[u8]) -> Result<EncTicketPart, Fault>
+    ensures { IfOk result (λ x. length (enc_ticket_part.text x) < 3 * length octets.now) }
+{
+    decode_enc_ticket_part(alloc, octets)
+}
+
+/// What is written of the ticket's part that the octets spell, which are fewer than a thousand.
+fn ticket_part_again(alloc: Global, octets: &[u8]) -> Result<Vec<u8>, Fault> {
+    if octets.len() >= 1000 {
+        return Ok(Vec::new(alloc));
+    }
+    let part = short_ticket_part(alloc, octets)?;
+    Ok(encode_enc_ticket_part(alloc, &part)?)
+}
+
+#[test]
+fn parts_of_tickets_are_written(rt: HostRuntime) {
+    for digits in [TICKET, LEAST_TICKET] {
+        let octets = octets(rt.alloc(), digits);
+        written(&rt, ticket_part_again(rt.alloc(), &octets), &octets);
+    }
+}
+
 fn has_numbers(part: &EncTicketPart) -> bool {
     part.flags.bits() == 0x40c1_0000
         && part.key.number == 18
@@ -174,6 +203,28 @@ fn authenticators_have_version_5(rt: HostRuntime) {
     );
 }
 
+/// The authenticator that the octets spell, of which what is written has less than three times their number.
+fn short_authenticator(alloc: Global, octets: &[u8]) -> Result<Authenticator, Fault>
+    ensures { IfOk result (λ x. length (authenticator.text x) < 3 * length octets.now) }
+{
+    decode_authenticator(alloc, octets)
+}
+
+/// What is written of the authenticator that the octets spell, which are fewer than a thousand.
+fn authenticator_again(alloc: Global, octets: &[u8]) -> Result<Vec<u8>, Fault> {
+    if octets.len() >= 1000 {
+        return Ok(Vec::new(alloc));
+    }
+    let found = short_authenticator(alloc, octets)?;
+    Ok(encode_authenticator(alloc, &found)?)
+}
+
+#[test]
+fn authenticators_are_written(rt: HostRuntime) {
+    let octets = octets(rt.alloc(), AUTHENTICATOR);
+    written(&rt, authenticator_again(rt.alloc(), &octets), &octets);
+}
+
 /// Whether the octets are those of `REPLY`.
 fn is_reply(octets: &[u8]) -> Result<bool, DerFault> {
     let part: EncKdcRepPartRef<'_> = read(octets)?;
@@ -228,6 +279,28 @@ fn is_service_answer(part: &EncApRepPart) -> bool {
         && part.cusec.get() == 7
         && has_key
         && part.seq_number.is_some_and(|n| n.get() == 1)
+}
+
+/// The service's answer that the octets spell, of which what is written has less than three times their number.
+fn short_service_answer(alloc: Global, octets: &[u8]) -> Result<EncApRepPart, Fault>
+    ensures { IfOk result (λ x. length (enc_ap_rep_part.text x) < 3 * length octets.now) }
+{
+    decode_enc_ap_rep_part(alloc, octets)
+}
+
+/// What is written of the service's answer that the octets spell, which are fewer than a thousand.
+fn service_answer_again(alloc: Global, octets: &[u8]) -> Result<Vec<u8>, Fault> {
+    if octets.len() >= 1000 {
+        return Ok(Vec::new(alloc));
+    }
+    let part = short_service_answer(alloc, octets)?;
+    Ok(encode_enc_ap_rep_part(alloc, &part)?)
+}
+
+#[test]
+fn a_service_s_answer_is_written(rt: HostRuntime) {
+    let octets = octets(rt.alloc(), AP_REPLY);
+    written(&rt, service_answer_again(rt.alloc(), &octets), &octets);
 }
 
 /// Whether the octets are those of `ETYPE_INFO2_ENTRY`.
