@@ -121,9 +121,9 @@ keep_agrees state other bytes (Some c) (Some m) a =
 keep_agrees state other bytes (Some c) None a = a
 keep_agrees state other bytes None m a = a
 
-pub next_agrees : (state other : State) (incoming : Incoming) → Agrees state other incoming.octets
+pub after_agrees : (state other : State) (incoming : Incoming) → Agrees state other incoming.octets
     → Agrees (after_incoming state incoming) (after_incoming other incoming) incoming.octets
-next_agrees state other incoming a =
+after_agrees state other incoming a =
     let bytes = incoming.octets in
     subst (λ (s : State). Agrees (after_incoming state incoming) s bytes)
     (λ i. keep other (sym (names_agree state other bytes a) i).client

@@ -69,8 +69,8 @@ fn contents_in<'a>(
     match exchange {
         Exchange::As => Ok(Contents::AsReq(message)),
         Exchange::Tgs => {
-            let opened = open_presented(state, alloc, ready, &message);
-            tgs_contents(message, opened)
+            let presented = open_presented(state, alloc, ready, &message);
+            tgs_contents(message, presented)
         }
     }
 }
@@ -78,16 +78,16 @@ fn contents_in<'a>(
 /// What a TGS-REQ holds, by what became of its ticket and its authenticator.
 fn tgs_contents(
     message: KdcReqRef<'_>,
-    opened: Result<Presented, TgsFault>,
+    presented: Result<Presented, TgsFault>,
 ) -> Result<Contents<'_>, AllocError>
     requires sname { IfSome message.body.value.sname (λ n. length (name.text n) < 2147483648) }
-    requires authorization { IfOk opened (λ presented.
-        IfSome presented.ticket.authorization_data (λ list. length ((list_of typed).text list) < 2147483648)) }
-    ensures value { (wanted : Result Presented TgsRefusal) → Gives opened wanted
+    requires authorization { IfOk presented (λ p.
+        IfSome p.ticket.authorization_data (λ list. length ((list_of typed).text list) < 2147483648)) }
+    ensures value { (wanted : Result Presented TgsRefusal) → Gives presented wanted
         → IfOk result (λ held. held ≡ tgs_contents message.entry wanted) }
     ensures short { IfOk result AreShort }
 {
-    match opened {
+    match presented {
         Ok(presented) => Ok(Contents::TgsReq(message, presented)),
         Err(TgsFault::Refused(refusal)) => Ok(Contents::RefusedTgsReq(message, refusal)),
         Err(TgsFault::Memory) => Err(AllocError),

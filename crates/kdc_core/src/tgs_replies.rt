@@ -47,8 +47,8 @@ pub fn tgs_reply(
         (TgsReq message.now presented.now)) }
     ensures stays { IfOk result (λ reply. IfSome reply.mark (MayStay state.now)) }
 {
-    let opened = Memory::opened(alloc, state.opening);
-    let view = tgs_view(state, message, presented, &opened);
+    let unstored = Memory::opened(alloc, state.opening);
+    let view = tgs_view(state, message, presented, &unstored);
     let body = &message.body.value;
     let TgsAnswer { reply, kept } = tgs_answer(alloc, &view, incoming, body, presented)?;
     let mark = stamped_of(alloc, incoming.at, presented, kept)?;
@@ -58,14 +58,14 @@ pub fn tgs_reply(
     })
 }
 
-/// What a TGS-REQ is answered from. `opened` is the memory of a client that has none.
+/// What a TGS-REQ is answered from. `unstored` is the memory of a client that has none stored.
 fn tgs_view<'s>(
     state: &'s State,
     message: &KdcReqRef<'_>,
     presented: &Presented,
-    opened: &'s Memory<Kept>,
+    unstored: &'s Memory<Kept>,
 ) -> TgsView<'s>
-    requires opened { opened.now ≡ opened_memory state.now.opening }
+    requires unstored { unstored.now ≡ opened_memory state.now.opening }
     requires sname { IsShortName message.now }
     requires authorization { IsShortData presented.now }
     ensures view { result ≡ tgs_view (presented_view state.now message.now presented.now) }
@@ -77,18 +77,18 @@ fn tgs_view<'s>(
         limits: &state.limits,
         client: state.database.get(&presented.ticket.cname),
         service: row_of(state, message.body.value.sname.as_ref()),
-        memory: memory_of(state, &presented.ticket.cname, opened),
+        memory: memory_of(state, &presented.ticket.cname, unstored),
     }
 }
 
 /// What is remembered of a client.
-fn memory_of<'s>(state: &'s State, client: &Name, opened: &'s Memory<Kept>) -> &'s Memory<Kept>
-    requires { opened.now ≡ opened_memory state.now.opening }
+fn memory_of<'s>(state: &'s State, client: &Name, unstored: &'s Memory<Kept>) -> &'s Memory<Kept>
+    requires { unstored.now ≡ opened_memory state.now.opening }
     ensures { result.now ≡ memory_of state.now client.now.components }
 {
     match state.memories.get(client) {
         Some(memory) => memory,
-        None => opened,
+        None => unstored,
     }
 }
 

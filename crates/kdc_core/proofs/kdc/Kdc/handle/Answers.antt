@@ -2,7 +2,7 @@ use Rattle.std.proofs.Common.{rules, ◌≡◌, ◌≢◌, ◌≤◌, length, So
 use Rattle.kdc_state.specs.declared.state.State.{State}
 use Rattle.kdc_state.specs.State.{memory_of}
 use Rattle.kdc_core.proofs.Frame.{database_kept, limits_kept, other_kept, of_either}
-use Rattle.kdc_core.specs.AgreementLaws.{names_agree, next_agrees, view_agrees}
+use Rattle.kdc_core.specs.AgreementLaws.{after_agrees, names_agree, view_agrees}
 use Rattle.kdc_core.specs.Answer.{answer, after_request}
 use Rattle.kdc_core.specs.Issued.{IsReplyOf, issued, replies_issued}
 use Rattle.kdc_core.specs.Request.{request_of}
@@ -58,4 +58,4 @@ returns-clause-same_names c other agrees = names_agree c.args.self.now other c.a
 
 pub returns-clause-afterwards : goal.returns-clause-afterwards
 returns-clause-afterwards c other agrees =
-    next_agrees c.args.self.now other (record { at = c.args.at; random = c.args.random.now; room = c.args.room; octets = c.args.request.now }) agrees
+    after_agrees c.args.self.now other (record { at = c.args.at; random = c.args.random.now; room = c.args.room; octets = c.args.request.now }) agrees
