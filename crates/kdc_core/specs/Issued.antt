@@ -1,11 +1,9 @@
--- The ticket that a request is issued, if it is issued one, and what its reply is to a client and to a service.
-use Rattle.std.proofs.Common.{◌≡◌, ◌≤◌, ℕ, List, length, Option, Some, None, Result, Ok, Err, IfOk, IfSome, refl, sym}
-use Rattle.std.proofs.Common.{subst}
+-- The ticket that a request is issued, if it is issued one, and which replies are those of a ticket.
+use Rattle.std.specs.Prelude.{ℕ, List, Option, Some, None}
 use Rattle.as_exchange.specs.Issued as as_exchange
 use Rattle.tgs_exchange.specs.Issued as tgs_exchange
 use Rattle.kdc_replies.specs.Issue.{Issue, IsIssuedOrError}
 use Rattle.krb_fields.specs.declared.moment.Moment.{Moment}
-use Rattle.kdc_core.specs.Answer.{IsReply, IsReplyTo, OneTicketTwoKeys, OpensOf, SpelledOf}
 use Rattle.kdc_core.specs.Contents.{contents}
 use Rattle.kdc_core.specs.Request.{Request}
 use Rattle.kdc_core.specs.View.{View, as_view, tgs_view}
@@ -26,39 +24,3 @@ issued v at random request = issued_of v at random (contents v request)
 abbrev pub IsReplyOf : Issue → Option (List ℕ) → Type 0
 IsReplyOf issue (Some octets) = IsIssuedOrError issue octets
 IsReplyOf issue None = ⊥
-
--- ---- the law
-
-module _ (v : View) (at : Moment) (random octets : List ℕ) (long : 32 ≤ length random) (issue : Issue) where
-  issued_so : (held : Contents) → SpelledOf v at random held octets → OpensOf v at random held
-      → issued_of v at random held ≡ Some issue → IsIssuedOrError issue octets
-  issued_so NoRequest spelled opens e = absurd spelled
-  issued_so (AsReq message) spelled opens e =
-      as_exchange.reply_is_issued (as_view v) at random octets long message issue spelled opens e
-  issued_so (RefusedTgsReq message refusal) spelled opens e = absurd cc
-  issued_so (TgsReq message p) spelled opens e =
-      tgs_exchange.reply_is_issued (tgs_view v) at random octets long message.body.value p issue spelled opens e
-
-  -- The reply to a request that is issued a ticket is that ticket's, or an error where it has no room.
-  pub reply_is_issued : (request : Option Request) → IsReply v at random request (Some octets)
-      → OneTicketTwoKeys v at random request
-      → issued v at random request ≡ Some issue → IsIssuedOrError issue octets
-  reply_is_issued request spelled opens e = issued_so (contents v request) spelled opens e
-
-module _ (v : View) (at : Moment) (random : List ℕ) (long : 32 ≤ length random) where
-  replied : (held : Contents) (reply : Option (List ℕ)) → IsReplyTo v at random reply held → OpensOf v at random held
-      → IfSome (issued_of v at random held) (λ issue. IsReplyOf issue reply)
-  replied held (Some octets) spelled opens = by_issue (issued_of v at random held) refl
-    where
-      by_issue : (o : Option Issue) → issued_of v at random held ≡ o → IfSome o (λ issue. IsIssuedOrError issue octets)
-      by_issue (Some issue) e = issued_so v at random octets long issue held spelled opens e
-      by_issue None e = tt
-  replied held None nothing opens =
-      subst (λ (h : Contents). IfSome (issued_of v at random h) (λ issue. ⊥)) (sym nothing) tt
-
-  -- the same of a call that may fail
-  pub replies_issued : {A E : Type 0} (octets_of : A → Option (List ℕ)) (request : Option Request) (r : Result A E)
-      → IfOk r (λ a. IsReply v at random request (octets_of a)) → IfOk r (λ a. OneTicketTwoKeys v at random request)
-      → IfOk r (λ a. IfSome (issued v at random request) (λ issue. IsReplyOf issue (octets_of a)))
-  replies_issued octets_of request (Ok a) spelled opens = replied (contents v request) (octets_of a) spelled opens
-  replies_issued octets_of request (Err e) spelled opens = tt

@@ -13,3 +13,4 @@ pub mod After
 pub mod ContentsLaws
 pub mod AgreementLaws
 pub mod RequestLaws
+pub mod IssuedLaws

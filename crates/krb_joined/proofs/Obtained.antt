@@ -6,7 +6,8 @@ use Rattle.krb_der.specs.Spelling.{IsBytes}
 use Rattle.krb_fields.specs.declared.moment.Moment.{Moment}
 use Rattle.kdc_core.specs.Answer.{IsReply, OneTicketTwoKeys, answer_of}
 use Rattle.kdc_core.specs.Contents.{contents}
-use Rattle.kdc_core.specs.Issued.{issued, issued_of, reply_is_issued}
+use Rattle.kdc_core.specs.Issued.{issued, issued_of}
+use Rattle.kdc_core.specs.IssuedLaws.{reply_is_issued}
 use Rattle.kdc_core.specs.Request.{Request}
 use Rattle.kdc_core.specs.View.{View}
 use Rattle.kdc_core.specs.declared.contents.Contents.{Contents}

@@ -4,7 +4,8 @@ use Rattle.kdc_state.specs.State.{memory_of}
 use Rattle.kdc_core.proofs.Frame.{database_kept, limits_kept, other_kept, of_either}
 use Rattle.kdc_core.specs.AgreementLaws.{after_agrees, names_agree, view_agrees}
 use Rattle.kdc_core.specs.Answer.{answer, after_request}
-use Rattle.kdc_core.specs.Issued.{IsReplyOf, issued, replies_issued}
+use Rattle.kdc_core.specs.Issued.{IsReplyOf, issued}
+use Rattle.kdc_core.specs.IssuedLaws.{replies_issued}
 use Rattle.kdc_core.specs.Request.{request_of}
 use Rattle.kdc_core.specs.RequestLaws.{request_is}
 use Rattle.kdc_core.specs.View.{named, view}
