@@ -1,6 +1,12 @@
 -- What holds of a ticket that may have been issued, from one call to the next.
-use Rattle.std.proofs.Common.{◌≡◌, ℕ, ℤ, List, Option, Some, None, Result, Ok, Err, subst, sym}
+use Rattle.std.proofs.Common.{◌≡◌, inl, inr, ℕ, ℤ, List, Option, Some, None, Result, Ok, Err, refl, subst, sym, ap, ◌∙◌}
 use Rattle.std.specs.Prelude.{IfErr, IfOk, IfSome}
+use Rattle.std.specs.Result.{result_ok}
+use Rattle.kdc_state.specs.declared.state.State as kdc_states
+use Rattle.ap_accept.specs.Accepts.{Answer}
+use Rattle.enctypes.specs.declared.key.Key.{Key}
+use Rattle.krb_joined.specs.Joined.{IsKept, IsKeptOn, IsRuled, IsServed, key_of, ruled, taken_of}
+use Rattle.krb_joined.specs.declared.presenting.Sealing.{Sealing}
 use Rattle.cred_files.specs.declared.credential.Credential.{Credential}
 use Rattle.krb_fields.specs.declared.moment.Moment.{Moment}
 use Rattle.kdc_replies.specs.Issue.{Issue}
@@ -69,3 +75,64 @@ module _ (own : Reader) (state : State) (now : ℤ) (wanted : ServiceAsked) (sen
   later_ended asked reply (Err (NotAccepted fault)) is = tt
   later_ended asked reply (Err (NotAnswered fault)) is = tt
   later_ended asked reply (Err Memory) is = tt
+
+  -- ---- a reply that was kept
+
+  pub stopped_again : (issue : Issue) (octets : List ℕ) (asked : Asked) (reply : Option (List ℕ)) (fault : JoinedFault) → reply ≡ Some octets → IsBefore fault → IsEnded reply asked own fault → IsJoined issue wanted sent (Err fault)
+  stopped_again issue octets asked reply fault again is e = ended issue asked reply fault (λ none. absurd (let k : None ≡ Some octets = sym none ∙ again in cc)) is e
+
+-- ---- what the service does
+
+-- the credential that was read is the one that the reply gives
+taken_is : (own : Reader) (asked : Asked) (reply : Option (List ℕ)) (credential : Credential) → IsRead reply asked own credential → taken_of reply asked own ≡ Some credential
+taken_is own asked (Some octets) credential read = ap result_ok read
+taken_is own asked None credential read = absurd read
+
+module _ (own : Reader) (asked : Asked) (reply : Option (List ℕ)) (state : State) (wanted : ServiceAsked) (presenting accepting : Sealing) where
+  abbrev ruling : Option Answer
+  ruling = ruled state wanted presenting accepting (taken_of reply asked own)
+
+  module _ (credential : Credential) (read : IsRead reply asked own credential) (result : Result Accepted JoinedFault) where
+    pub ruled_so : IsRuled (key_of (Some credential)) presenting.at (ruled state wanted presenting accepting (Some credential)) result → IsRuled (key_of (taken_of reply asked own)) presenting.at ruling result
+    ruled_so is = subst (λ (o : Option Credential). IsRuled (key_of o) presenting.at (ruled state wanted presenting accepting o) result) (sym (taken_is own asked reply credential read)) is
+
+    pub served_so : (after : State) → IsServed state after (ruled state wanted presenting accepting (Some credential)) result → IsServed state after ruling result
+    served_so after is = subst (λ (o : Option Credential). IsServed state after (ruled state wanted presenting accepting o) result) (sym (taken_is own asked reply credential read)) is
+
+-- where none was obtained, the service is not asked
+module _ (key : Option Key) (sent : Moment) (state : State) (ruling : Option Answer) where
+  pub not_ruled : (fault : JoinedFault) → IsBefore fault → IsRuled key sent ruling (Err fault)
+  not_ruled NoReply is = tt
+  not_ruled (NotTaken fault) is = tt
+  not_ruled NotPresentable is = tt
+  not_ruled (NotAccepted fault) is = absurd is
+  not_ruled (NotAnswered fault) is = absurd is
+  not_ruled Memory is = tt
+
+  pub not_served : (fault : JoinedFault) → IsBefore fault → IsServed state state ruling (Err fault)
+  not_served NoReply is = refl
+  not_served (NotTaken fault) is = refl
+  not_served NotPresentable is = refl
+  not_served (NotAccepted fault) is = absurd is
+  not_served (NotAnswered fault) is = absurd is
+  not_served Memory is = refl
+
+-- ---- what the KDC keeps
+
+module _ (old new ruling : kdc_states.State) where
+  pub kept_on : (credential : Credential) (result : Result Accepted JoinedFault) → IsKept old new ruling (Ok credential) → IsKeptOn old new ruling result
+  kept_on credential (Ok accepted) is = is
+  kept_on credential (Err NoReply) is = is
+  kept_on credential (Err (NotTaken fault)) is = is
+  kept_on credential (Err NotPresentable) is = is
+  kept_on credential (Err (NotAccepted fault)) is = is
+  kept_on credential (Err (NotAnswered fault)) is = is
+  kept_on credential (Err Memory) is = inr is
+
+  pub kept_before : (fault : JoinedFault) → IsKept old new ruling (Err fault) → IsKeptOn old new ruling (Err fault)
+  kept_before NoReply is = is
+  kept_before (NotTaken fault) is = is
+  kept_before NotPresentable is = is
+  kept_before (NotAccepted fault) is = is
+  kept_before (NotAnswered fault) is = is
+  kept_before Memory is = inl is

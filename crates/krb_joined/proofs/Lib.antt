@@ -4,4 +4,5 @@ pub mod Obtained
 pub mod Accepted
 pub mod Answered
 pub mod Serving
+pub mod Ruled
 pub mod Carrying

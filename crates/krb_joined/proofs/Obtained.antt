@@ -1,5 +1,5 @@
 -- What a client takes from the reply to its request is the credential of the ticket that was issued.
-use Rattle.std.proofs.Common.{◌≡◌, ◌≤◌, ℕ, List, length, Option, Some, None, Result, Ok, Err, refl, subst}
+use Rattle.std.proofs.Common.{◌≡◌, ◌≤◌, ℕ, List, length, Option, Some, None, Result, Ok, Err, refl, subst, ◌∙◌}
 use Rattle.std.specs.Prelude.{IfSome}
 use Rattle.cred_files.specs.declared.credential.Credential.{Credential}
 use Rattle.krb_der.specs.Spelling.{IsBytes}
@@ -50,3 +50,6 @@ module _ (v : View) (at : Moment) (random : List ℕ) where
 -- what the client takes is the reply
 pub taken_reply : (own : Reader) (asked : Asked) (octets : List ℕ) (reply : Option (List ℕ)) (c : Credential) → Some octets ≡ reply → reads_reply own asked octets ≡ Ok c → IsRead reply asked own c
 taken_reply own asked octets reply c same read = subst (λ (o : Option (List ℕ)). IsRead o asked own c) same read
+
+pub same_octets : (octets items : List ℕ) (reply : Option (List ℕ)) → reply ≡ Some octets → Some items ≡ reply → octets ≡ items
+same_octets octets items reply sent given = let k : Some items ≡ Some octets = given ∙ sent in cc

@@ -1,5 +1,6 @@
 -- The credential of a ticket that was issued gives that ticket and its session key.
-use Rattle.std.proofs.Common.{◌≡◌, ℕ, ℤ, pos, List, length, Some, refl, ap, ◌∙◌}
+use Rattle.std.proofs.Common.{◌≡◌, inl, ℕ, ℤ, pos, List, length, Some, Result, Ok, Err, refl, ap, ◌∙◌}
+use Rattle.std.specs.Prelude.{IfOk}
 use Rattle.cred_files.specs.declared.credential.Credential.{Credential}
 use Rattle.enctypes.specs.Etype.{key_len, number}
 use Rattle.enctypes.specs.declared.etype.Etype.{Etype}
@@ -14,7 +15,12 @@ use Rattle.sealed_parts.specs.Parts.{ok_of}
 use Rattle.kdc_replies.specs.Issue.{Issue, IsIssued, issued_reply, reply_type}
 use Rattle.client_core.specs.Credentials.{in_16_bits}
 use Rattle.client_core.specs.Sessions.{session, session_key, session_by}
+use Rattle.client_core.specs.declared.asked.Asked.{Asked}
+use Rattle.client_core.specs.declared.fault.ClientFault.{ClientFault}
 use Rattle.krb_joined.specs.Credential.{IsCredentialOf, issued_credential}
+use Rattle.krb_joined.specs.Reading.{IsReader, IsTakenBy}
+use Rattle.krb_joined.specs.declared.reading.Reader.{Reader}
+use Rattle.krb_joined.proofs.Taken.{credential_taken}
 
 -- the number of a type has 16 bits
 same_number : (etype : Etype) → pos (in_16_bits (number etype)) ≡ number etype
@@ -37,3 +43,8 @@ credential_is issue octets credential fits is same =
       size = is.session_key;
       service_reads = is.service_reads;
     }
+
+-- what a client that has the key takes of a reply that was issued, whenever that was
+pub credential_if_issued : (issue : Issue) (octets : List ℕ) → IsBytes octets → IsIssued issue octets → (own : Reader) (asked : Asked) → IsReader own issue → (r : Result Credential ClientFault) → IfOk r (IsTakenBy own asked octets) → IfOk r (IsCredentialOf issue)
+credential_if_issued issue octets fits is own asked reader (Ok c) taken = credential_is issue octets c fits is (credential_taken issue octets fits own asked c reader (inl is) taken).1
+credential_if_issued issue octets fits is own asked reader (Err fault) taken = tt

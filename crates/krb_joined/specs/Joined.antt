@@ -1,24 +1,31 @@
 -- What comes of a ticket that was issued: the service that it is for accepts the client.
-use Rattle.std.specs.Prelude.{◌≡◌, ⊤, false, ℕ, ℤ, pos, ◌+ℤ◌, ◌-ℤ◌, ◌≤ℤ◌, List, Option, Some, None, is_some, Result}
-use Rattle.std.specs.Prelude.{Ok, Err, IfSome, IsOk}
+use Rattle.std.specs.Prelude.{◌≡◌, ◌⊎◌, ⊤, false, ℕ, ℤ, pos, ◌+ℤ◌, ◌-ℤ◌, ◌≤ℤ◌, List, Option, Some, None, is_some}
+use Rattle.std.specs.Prelude.{Result, Ok, Err, IfSome, IsOk, option_map}
+use Rattle.std.specs.Result.{result_ok}
 use Rattle.krb_fields.specs.Flags.{has_bit}
 use Rattle.krb_fields.specs.Skew.{skew}
 use Rattle.krb_fields.specs.TicketFlag.{ticket_flag_number}
 use Rattle.krb_fields.specs.declared.moment.Moment.{Moment}
 use Rattle.krb_fields.specs.declared.ticket_flag.TicketFlag.TheVariants.{Invalid}
+use Rattle.krb_ap.specs.ApReq.{ap_req}
+use Rattle.krb_elements.specs.Codec.{written}
 use Rattle.kdc_replies.specs.Issue.{Issue, issued_ticket, issued_ticket_part}
+use Rattle.kdc_state.specs.declared.state.State as kdc_states
 use Rattle.replay.specs.Memory.{verdict}
 use Rattle.replay.specs.declared.verdict.Verdict.TheVariants.{Fresh}
+use Rattle.ap_accept.specs.Accepts.{Answer, IsAfter, IsAnswer, accepts}
 use Rattle.ap_accept.specs.State.{memory_of}
 use Rattle.ap_accept.specs.Tickets.{service_of, ticket_key}
 use Rattle.ap_accept.specs.Validity.{terms_of}
 use Rattle.ap_accept.specs.declared.accepted.Accepted.{Accepted}
 use Rattle.ap_accept.specs.declared.state.State.{State}
+use Rattle.ap_accept.specs.declared.fault.ApFault.{ApFault}
 use Rattle.ap_accept.specs.declared.fault.ApFault.TheVariants as ap_faults
 use Rattle.client_core.specs.Faults.{Fails}
 use Rattle.client_core.specs.Presenting.{number_part}
 use Rattle.client_core.specs.ServiceReplies.{reads_ap}
-use Rattle.client_core.specs.Sessions.{is_presentable, session_key}
+use Rattle.client_core.specs.ServiceRequests.{asks_ap}
+use Rattle.client_core.specs.Sessions.{is_presentable, session, session_key}
 use Rattle.client_core.specs.declared.asked.Asked.{Asked}
 use Rattle.client_core.specs.declared.fault.ClientFault.{ClientFault}
 use Rattle.client_core.specs.declared.fault.ClientFault.TheVariants as client_faults
@@ -29,6 +36,7 @@ use Rattle.krb_parts.specs.EncApRepPart.{EncApRepPart}
 use Rattle.krb_joined.specs.Credential.{issued_credential}
 use Rattle.krb_joined.specs.Reading.{reads_reply}
 use Rattle.krb_joined.specs.declared.fault.JoinedFault.{JoinedFault}
+use Rattle.krb_joined.specs.declared.presenting.Sealing.{Sealing}
 use Rattle.krb_joined.specs.declared.reading.Reader.{Reader}
 use Rattle.krb_joined.specs.declared.fault.JoinedFault.TheVariants.{NoReply, NotTaken, NotPresentable, NotAccepted}
 use Rattle.krb_joined.specs.declared.fault.JoinedFault.TheVariants.{NotAnswered, Memory}
@@ -134,3 +142,78 @@ abbrev pub IsHeard : Key → Moment → Accepted → Result Accepted JoinedFault
 IsHeard key sent accepted (Ok heard) = (heard ≡ accepted) × IsAnswered key sent accepted.ap_rep
 IsHeard key sent accepted (Err (NotAnswered fault)) = IsUnheard key sent accepted.ap_rep fault
 IsHeard key sent accepted (Err fault) = ⊥
+
+-- ---- what the service does
+
+-- the credential that the reply gives by the client's rules, if it gives one
+abbrev pub taken_of : Option (List ℕ) → Asked → Reader → Option Credential
+taken_of (Some octets) asked reader = result_ok (reads_reply reader asked octets)
+taken_of None asked reader = None
+
+abbrev pub key_of : Option Credential → Option Key
+key_of (Some credential) = session_key credential
+key_of None = None
+
+-- What the service rules of the AP-REQ that the client makes of its credential, with its own confounder, where there is
+-- a credential that gives a session.
+abbrev pub ruled : State → ServiceAsked → Sealing → Sealing → Option Credential → Option Answer
+ruled state wanted presenting accepting (Some credential) = option_map (λ s.
+    accepts state accepting.at accepting.confounder
+    (written ap_req (asks_ap credential.client s presenting.at wanted presenting.confounder))) (session credential)
+ruled state wanted presenting accepting None = None
+
+abbrev pub IsRefused : ApFault → Option Answer → Type 0
+IsRefused fault (Some ruling) = IsAnswer (Err fault) ruling.answer
+IsRefused fault None = ⊥
+
+-- it was accepted, and the client does not take the AP-REP for this fault
+abbrev pub IsUnheardBy : Option Key → Moment → ClientFault → Option (Result Accepted ApFault) → Type 0
+IsUnheardBy (Some key) sent fault (Some (Ok accepted)) = IsUnheard key sent accepted.ap_rep fault
+IsUnheardBy _ _ _ _ = ⊥
+
+-- What is accepted, or refused, is what the service rules. The key is the session key that the client holds.
+abbrev pub IsRuled : Option Key → Moment → Option Answer → Result Accepted JoinedFault → Type 0
+IsRuled key sent ruling (Ok accepted) = option_map (λ r. r.answer) ruling ≡ Some (Ok accepted)
+IsRuled key sent ruling (Err (NotAccepted fault)) = IsRefused fault ruling
+IsRuled key sent ruling (Err (NotAnswered fault)) = IsUnheardBy key sent fault (option_map (λ r. r.answer) ruling)
+IsRuled key sent ruling (Err NoReply) = ⊤
+IsRuled key sent ruling (Err (NotTaken fault)) = ⊤
+IsRuled key sent ruling (Err NotPresentable) = ⊤
+IsRuled key sent ruling (Err Memory) = ⊤
+
+abbrev pub IsRefusedAfter : ApFault → State → State → Option Answer → Type 0
+IsRefusedAfter fault old new (Some ruling) = IsAfter (Err fault) old new ruling.state
+IsRefusedAfter fault old new None = ⊥
+
+-- The service's state afterwards: the one that it rules where it was asked, else the one before. What it accepted it
+-- remembers also where the client does not take its answer.
+abbrev pub IsServed : State → State → Option Answer → Result Accepted JoinedFault → Type 0
+IsServed old new ruling (Ok accepted) = option_map (λ r. r.state) ruling ≡ Some new
+IsServed old new ruling (Err (NotAccepted fault)) = IsRefusedAfter fault old new ruling
+IsServed old new ruling (Err (NotAnswered fault)) = option_map (λ r. r.state) ruling ≡ Some new
+IsServed old new ruling (Err NoReply) = new ≡ old
+IsServed old new ruling (Err (NotTaken fault)) = new ≡ old
+IsServed old new ruling (Err NotPresentable) = new ≡ old
+IsServed old new ruling (Err Memory) = new ≡ old
+
+-- ---- what the KDC keeps
+
+-- it is what its rules say, or where it had no memory what it was
+abbrev pub IsKept : kdc_states.State → kdc_states.State → kdc_states.State → Result Credential JoinedFault → Type 0
+IsKept old new ruling (Ok credential) = new ≡ ruling
+IsKept old new ruling (Err NoReply) = new ≡ ruling
+IsKept old new ruling (Err (NotTaken fault)) = new ≡ ruling
+IsKept old new ruling (Err NotPresentable) = new ≡ ruling
+IsKept old new ruling (Err (NotAccepted fault)) = new ≡ ruling
+IsKept old new ruling (Err (NotAnswered fault)) = new ≡ ruling
+IsKept old new ruling (Err Memory) = new ≡ old
+
+-- the same of a whole way, on which the client may have had no memory
+abbrev pub IsKeptOn : kdc_states.State → kdc_states.State → kdc_states.State → Result Accepted JoinedFault → Type 0
+IsKeptOn old new ruling (Ok accepted) = new ≡ ruling
+IsKeptOn old new ruling (Err NoReply) = new ≡ ruling
+IsKeptOn old new ruling (Err (NotTaken fault)) = new ≡ ruling
+IsKeptOn old new ruling (Err NotPresentable) = new ≡ ruling
+IsKeptOn old new ruling (Err (NotAccepted fault)) = new ≡ ruling
+IsKeptOn old new ruling (Err (NotAnswered fault)) = new ≡ ruling
+IsKeptOn old new ruling (Err Memory) = (new ≡ old) ⊎ (new ≡ ruling)

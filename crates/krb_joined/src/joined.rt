@@ -1,11 +1,13 @@
 //! A ticket's whole way.
-ghost use Rattle.std.specs.Prelude.{IfErr, IfOk, IfSome};
+ghost use Rattle.std.specs.Prelude.{◌≡◌, ℕ, List, Some, IfErr, IfOk, IfSome};
 ghost use Rattle.client_core.specs.Presenting.{IsShortChecksum};
-ghost use Rattle.kdc_core.specs.Answer.{answer};
+ghost use Rattle.kdc_core.specs.Answer.{after_request, answer};
 ghost use Rattle.kdc_core.specs.Issued.{issued};
 ghost use Rattle.kdc_core.specs.Request.{request_of};
 ghost use Rattle.kdc_core.specs.View.{view};
-ghost use Rattle.krb_joined.specs.Joined.{IsEnded, IsJoined, IsPresented, MayBeAccepted};
+ghost use Rattle.kdc_replies.specs.Issue.{Issue, IsIssued};
+ghost use Rattle.krb_joined.specs.Joined.{IsEnded, IsJoined, IsKeptOn, IsPresented, IsRuled, IsServed, MayBeAccepted};
+ghost use Rattle.krb_joined.specs.Joined.{key_of, ruled, taken_of};
 ghost use Rattle.krb_joined.specs.Reading.{IsReader, reads_reply};
 
 use crate::client::Client;
@@ -20,7 +22,7 @@ use std::alloc::Global;
 /// asked for.
 ///
 /// What the service accepts is what the KDC granted and what the client sent: where the KDC issues a ticket, and the
-/// client reads the reply by its reply key, neither the service nor the client refuses anything behind that, as long as
+/// client takes the reply by its reply key, neither the service nor the client refuses anything behind that, as long as
 /// the service's keytab holds the key that sealed the ticket, the ticket is valid there by its INVALID flag and its
 /// times, and the authenticator's time is fresh.
 pub fn end_to_end(
@@ -38,6 +40,13 @@ pub fn end_to_end(
         (λ issue. IsReader client.now.reader issue
         → MayBeAccepted issue acceptor.old accepting.now.at.sec client.now.presenting.at
         → IsJoined issue client.now.wanted client.now.presenting.at result) }
+    // So it does where the KDC sends a reply again that was kept, for the ticket that was issued then.
+    ensures repeated { (issue : Issue) (octets : List ℕ)
+        → (answer (view kdc.old request.now) issuing.now.at issuing.now.random issuing.now.room request.now).reply
+        ≡ Some octets
+        → IsIssued issue octets → IsReader client.now.reader issue
+        → MayBeAccepted issue acceptor.old accepting.now.at.sec client.now.presenting.at
+        → IsJoined issue client.now.wanted client.now.presenting.at result }
     // Whatever reply the client takes, it can't be presented, or the client takes the AP-REP too before anything is
     // accepted.
     ensures presented { IfSome
@@ -48,6 +57,23 @@ pub fn end_to_end(
     ensures ended { IfErr result (IsEnded
         (answer (view kdc.old request.now) issuing.now.at issuing.now.random issuing.now.room request.now).reply
         client.now.asked client.now.reader) }
+    // Whatever was issued, the service accepts or refuses what it rules of the AP-REQ that comes of the reply, and
+    // keeps that.
+    ensures ruled { IsRuled
+        (key_of (taken_of
+        (answer (view kdc.old request.now) issuing.now.at issuing.now.random issuing.now.room request.now).reply
+        client.now.asked client.now.reader))
+        client.now.presenting.at
+        (ruled acceptor.old client.now.wanted client.now.presenting accepting.now (taken_of
+        (answer (view kdc.old request.now) issuing.now.at issuing.now.random issuing.now.room request.now).reply
+        client.now.asked client.now.reader)) result }
+    ensures served { IsServed acceptor.old acceptor.new
+        (ruled acceptor.old client.now.wanted client.now.presenting accepting.now (taken_of
+        (answer (view kdc.old request.now) issuing.now.at issuing.now.random issuing.now.room request.now).reply
+        client.now.asked client.now.reader)) result }
+    // The KDC is the one that this request leaves, or as it was where it had no memory.
+    ensures kept { IsKeptOn kdc.old kdc.new
+        (after_request kdc.old issuing.now.at issuing.now.random issuing.now.room request.now) result }
 {
     match obtain(alloc, kdc, issuing, request, &client.asked, &client.reader) {
         Ok(credential) => present(

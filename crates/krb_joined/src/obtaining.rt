@@ -1,12 +1,13 @@
 //! From a request to the credential that its client takes from the reply.
-ghost use Rattle.std.specs.Prelude.{◌≤◌, length, IfOk, IfErr, IfSome};
-ghost use Rattle.kdc_core.specs.Answer.{answer};
+ghost use Rattle.std.specs.Prelude.{◌≡◌, ◌≤◌, ℕ, List, length, Some, IfOk, IfErr, IfSome};
+ghost use Rattle.kdc_core.specs.Answer.{after_request, answer};
 ghost use Rattle.kdc_core.specs.Issued.{issued};
 ghost use Rattle.kdc_core.specs.Request.{request_of};
 ghost use Rattle.kdc_core.specs.View.{view};
+ghost use Rattle.kdc_replies.specs.Issue.{Issue, IsIssued};
 ghost use Rattle.krb_joined.specs.Credential.{IsCredentialOf};
 ghost use Rattle.krb_der.specs.Spelling.{IsBytes};
-ghost use Rattle.krb_joined.specs.Joined.{IsBefore, IsEnded, IsRead};
+ghost use Rattle.krb_joined.specs.Joined.{IsBefore, IsEnded, IsKept, IsRead};
 ghost use Rattle.krb_joined.specs.Reading.{IsReader};
 
 use crate::fault::JoinedFault;
@@ -39,6 +40,11 @@ pub fn obtain(
     ensures obtained { IfOk result (λ credential.
         IfSome (issued (view kdc.old request.now) issuing.now.at issuing.now.random (request_of request.now)) (λ issue.
         IsReader reader.now issue → IsCredentialOf issue credential)) }
+    // So it does of a reply that was kept, for the ticket that was issued then.
+    ensures repeated { (issue : Issue) (octets : List ℕ)
+        → (answer (view kdc.old request.now) issuing.now.at issuing.now.random issuing.now.room request.now).reply
+        ≡ Some octets
+        → IsIssued issue octets → IsReader reader.now issue → IfOk result (IsCredentialOf issue) }
     ensures read { IfOk result (IsRead
         (answer (view kdc.old request.now) issuing.now.at issuing.now.random issuing.now.room request.now).reply
         asked.now reader.now) }
@@ -47,6 +53,9 @@ pub fn obtain(
     ensures ended { IfErr result (IsEnded
         (answer (view kdc.old request.now) issuing.now.at issuing.now.random issuing.now.room request.now).reply
         asked.now reader.now) }
+    // The KDC is the one that this request leaves, or as it was where it had no memory.
+    ensures kept { IsKept kdc.old kdc.new
+        (after_request kdc.old issuing.now.at issuing.now.random issuing.now.room request.now) result }
 {
     let reply = kdc.handle(alloc, issuing.at, &issuing.random, issuing.room, request)?;
     let Some(octets) = reply else {

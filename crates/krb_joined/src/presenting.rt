@@ -1,10 +1,12 @@
 //! From a client's credential to the service that accepts the client.
-ghost use Rattle.std.specs.Prelude.{IfErr, IfSome};
+ghost use Rattle.std.specs.Prelude.{IfErr, IfSome, Some};
 ghost use Rattle.client_core.specs.Presenting.{IsShortChecksum};
 ghost use Rattle.enctypes.specs.Key.{IsKey};
 ghost use Rattle.kdc_replies.specs.Issue.{Issue};
 ghost use Rattle.krb_joined.specs.Credential.{IsCredentialOf};
-ghost use Rattle.krb_joined.specs.Joined.{IsHeard, IsJoined, IsLater, IsPresented, MayBeAccepted};
+ghost use Rattle.client_core.specs.Sessions as definitions;
+ghost use Rattle.krb_joined.specs.Joined.{IsHeard, IsJoined, IsLater, IsPresented, IsRuled, IsServed, MayBeAccepted};
+ghost use Rattle.krb_joined.specs.Joined.{ruled};
 
 use crate::fault::JoinedFault;
 use ap_accept::{Accepted, Acceptor};
@@ -37,6 +39,11 @@ pub fn present(
         → MayBeAccepted issue acceptor.old accepting.now.at.sec presenting.now.at
         → IsJoined issue asked.now presenting.now.at result }
     ensures presented { IsPresented credential.now presenting.now.at result }
+    // Whatever credential it is, the service accepts or refuses what it rules of the client's AP-REQ, and keeps that.
+    ensures ruled { IsRuled (definitions.session_key credential.now) presenting.now.at
+        (ruled acceptor.old asked.now presenting.now accepting.now (Some credential.now)) result }
+    ensures served { IsServed acceptor.old acceptor.new
+        (ruled acceptor.old asked.now presenting.now accepting.now (Some credential.now)) result }
     ensures later { IfErr result IsLater }
 {
     look(asked.subkey);

@@ -1,7 +1,9 @@
 //! How a client reads the reply to its request.
 ghost use Rattle.std.specs.Prelude.{IfOk};
 ghost use Rattle.client_core.specs.Faults.{Gives};
-ghost use Rattle.krb_joined.specs.Reading.{IsTakenBy, reads_reply};
+ghost use Rattle.kdc_replies.specs.Issue.{Issue, IsIssued};
+ghost use Rattle.krb_joined.specs.Credential.{IsCredentialOf};
+ghost use Rattle.krb_joined.specs.Reading.{IsReader, IsTakenBy, reads_reply};
 
 use client_core::{Asked, ClientFault, KeyRole, read_as_reply, read_tgs_reply};
 use cred_files::Credential;
@@ -20,6 +22,23 @@ pub struct Reader {
 
 /// The credential that a reply gives, or the first fault.
 pub fn read_reply(
+    alloc: Global,
+    asked: &Asked,
+    reader: &Reader,
+    octets: &[u8],
+) -> Result<Credential, ClientFault>
+    ensures value { Gives result (reads_reply reader.now asked.now octets.now) }
+    ensures taken { IfOk result (IsTakenBy reader.now asked.now octets.now) }
+    // Of a reply that bears a ticket, whenever that was issued, a client that has its key takes that ticket's
+    // credential.
+    ensures credential { (issue : Issue) → IsIssued issue octets.now → IsReader reader.now issue
+        → IfOk result (IsCredentialOf issue) }
+{
+    read_by_role(alloc, asked, reader, octets)
+}
+
+/// The same, as each role reads.
+fn read_by_role(
     alloc: Global,
     asked: &Asked,
     reader: &Reader,

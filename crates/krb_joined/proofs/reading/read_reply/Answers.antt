@@ -1,11 +1,6 @@
-use Rattle.krb_joined.proofs.Taken.{read_so}
+use Rattle.std.proofs.Common.{arith}
+use Rattle.krb_joined.proofs.Sessions.{credential_if_issued}
 use Rattle.krb_joined.proofs.reading.read_reply.Goals as goal
 
-pub returns-in-Client-clause-value : goal.returns-in-Client-clause-value
-returns-in-Client-clause-value c = read_so c.args.reader.now c.args.asked.now c.args.octets.now c.read_as_reply.result c.in-Client.is c.read_as_reply.ensures.value
-
-pub returns-in-Subkey-clause-value : goal.returns-in-Subkey-clause-value
-returns-in-Subkey-clause-value c = read_so c.args.reader.now c.args.asked.now c.args.octets.now c.read_tgs_reply.result c.in-Subkey.is c.read_tgs_reply.ensures.value
-
-pub returns-in-Session-clause-value : goal.returns-in-Session-clause-value
-returns-in-Session-clause-value c = read_so c.args.reader.now c.args.asked.now c.args.octets.now c.read_tgs_reply-in-Session.result c.in-Session.is c.read_tgs_reply-in-Session.ensures.value
+pub returns-clause-credential : goal.returns-clause-credential
+returns-clause-credential c issue is reader = credential_if_issued issue c.args.octets.now (λ i. omega (arith, c.type_inv.octets i)) is c.args.reader.now c.args.asked.now reader c.read_by_role.result c.read_by_role.ensures.taken
