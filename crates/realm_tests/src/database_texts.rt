@@ -61,6 +61,16 @@ fn is_copied(alloc: Global, database: &Database) -> Result<bool, AllocError> {
     is_that_of_version_2(alloc, &database.copy(alloc)?)
 }
 
+// Passes whichever allocation is refused.
+#[test]
+fn a_text_without_memory_is_read_and_written_when_it_comes_again(rt: HostRuntime) {
+    let mut found = read_as(rt.alloc(), VERSION_2);
+    if found == Err(ReadFault::Memory) {
+        found = read_as(rt.alloc(), VERSION_2);
+    }
+    same(&rt, &"the next call", &found, &Ok((true, true)));
+}
+
 /// The text is refused for this fault.
 fn refused(rt: &impl Abort, alloc: Global, text: &str, fault: ReadFault) {
     same(rt, &text, &read_as(alloc, text), &Err(fault));
