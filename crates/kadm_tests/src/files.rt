@@ -211,11 +211,11 @@ fn tells_entries_that_are_amiss(rt: HostRuntime) -> Result<(), Fail> {
 fn tells_where_a_keytab_ends(rt: HostRuntime) {
     for len in 0..49usize {
         let wanted = match len {
-            0 | 1 => Some(FileFault::BadMagic),
-            2 => None,
-            _ => Some(FileFault::Truncated),
+            0 | 1 => Err(FileFault::BadMagic),
+            2 => Ok(0),
+            _ => Err(FileFault::Truncated),
         };
-        assert_eq!(rt; count(rt.alloc(), &KEYTAB[..len]).err(), wanted);
+        assert_eq!(rt; count(rt.alloc(), &KEYTAB[..len]), wanted);
     }
     assert_eq!(rt;
         count(rt.alloc(), &[5, 1, 0, 0]).err(),
@@ -319,6 +319,14 @@ fn written_empty(alloc: Global) -> Result<Vec<u8>, Fail> {
     Ok(cache.write(alloc)?)
 }
 
+/// The same, with a fault of its own.
+#[tactic(auto, unfolding(cred_files::specs::Principal::principal))]
+fn written_new(alloc: Global) -> Result<Vec<u8>, FileFault> {
+    let u = Name::new(alloc, 1, &[b"u"])?;
+    let cache = Cache::new(alloc, b"A.B", &u)?;
+    Ok(cache.write(alloc)?)
+}
+
 /// What comes of putting a credential with this end.
 fn put(alloc: Global, cache: &mut Cache, end: i64) -> Result<Option<FileFault>, Fail> {
     let times = times(end)?;
@@ -388,4 +396,47 @@ fn a_file_without_memory_is_read_and_written_when_it_comes_again(rt: HostRuntime
         written_again(alloc, &STOCK_CACHE),
     ];
     assert!(rt; wants_memory_once(&caches, &STOCK_CACHE));
+    let empty = [written_new(alloc), written_new(alloc)];
+    assert!(rt; wants_memory_once(&empty, &CACHE));
+}
+
+// Passes whichever allocation of the calls is refused.
+#[test]
+fn a_keytab_without_memory_is_made_when_asked_again(rt: HostRuntime) -> Result<(), Fail> {
+    let alloc = rt.alloc();
+    let entries = vec![in alloc; entry(alloc, Vec::from_slice(alloc, b"A.B")?, 1)?]?;
+    let keytabs = [written_of(alloc, &entries), written_of(alloc, &entries)];
+    assert!(rt; wants_memory_once(&keytabs, &KEYTAB));
+    Ok(())
+}
+
+/// Whether a credential is put by each of two calls, but for one that may want memory.
+fn is_put_once(alloc: Global, cache: &mut Cache, credential: &Credential) -> bool
+    requires { FitsButForTimes credential.now }
+{
+    let first = cache.put(alloc, credential);
+    let second = cache.put(alloc, credential);
+    match (first, second) {
+        (Ok(()), Ok(())) => true,
+        (Ok(()), Err(fault)) | (Err(fault), Ok(())) => fault == FileFault::Memory,
+        _ => false,
+    }
+}
+
+/// The same of a credential of `h`, and whether it is found then.
+fn is_put(alloc: Global, cache: &mut Cache) -> Result<bool, Fail> {
+    let h = Name::new(alloc, 2, &[b"h"])?;
+    let times = times(1_704_103_200)?;
+    let credential = credential(alloc, times)?;
+    let is_put = is_put_once(alloc, cache, &credential);
+    Ok(is_put && end_of(cache, &h) == Ok(1_704_103_200))
+}
+
+// As above.
+#[test]
+fn a_credential_without_memory_is_put_when_it_comes_again(rt: HostRuntime) -> Result<(), Fail> {
+    let alloc = rt.alloc();
+    let mut cache = cache(alloc)?;
+    assert!(rt; is_put(alloc, &mut cache)?);
+    Ok(())
 }
