@@ -20,12 +20,12 @@ use std::{env, fs, io};
 const USAGE: u8 = 2;
 
 fn main(rt: HostRuntime) -> io::Result<ExitCode> {
-    let words: Vec<String> = match env::args(&rt) {
-        Ok(words) => words.collect(rt.alloc())?,
+    let args: Vec<String> = match env::args(&rt) {
+        Ok(args) => args.collect(rt.alloc())?,
         Err(error) if error.kind() == ErrorKind::InvalidData => return usage(&rt),
         Err(error) => return Err(error),
     };
-    match words.as_slice() {
+    match args.as_slice() {
         // Unless the service never ran before, it opens as after a restart.
         [_, keytab] => serve(&rt, keytab.as_str(), Opening::Restart(now(&rt)?)),
         [_, keytab, word] if word.as_str() == "first" => {

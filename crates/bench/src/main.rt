@@ -128,8 +128,8 @@ pub(crate) fn last_of(octets: &[u8]) -> u8 {
 }
 
 fn main(rt: HostRuntime) -> io::Result<ExitCode> {
-    let words: Vec<String> = env::args(&rt)?.collect(rt.alloc())?;
-    let word = match words.as_slice() {
+    let args: Vec<String> = env::args(&rt)?.collect(rt.alloc())?;
+    let word = match args.as_slice() {
         [_, word] => word.as_str(),
         _ => "",
     };
@@ -147,7 +147,7 @@ fn main(rt: HostRuntime) -> io::Result<ExitCode> {
     }
     let Some(work) = Work::named(word) else {
         println!(rt; "{USAGE}")?;
-        return Ok(if words.len() < 2 {
+        return Ok(if args.len() < 2 {
             ExitCode::SUCCESS
         } else {
             ExitCode::from(FAULT)

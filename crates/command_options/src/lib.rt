@@ -34,7 +34,7 @@ impl Times {
 
 /// The words of an option with a value.
 #[derive(Clone, Copy, Debug)]
-pub struct OptionWords {
+pub struct OptionRow {
     /// What stands behind `--`, and the name by which its value is found.
     pub name: &'static str,
     /// What stands for its value in the help. A file's path has the shape `FILE`.
@@ -46,47 +46,47 @@ pub struct OptionWords {
 
 /// The words of an option without a value, which is there or not.
 #[derive(Clone, Copy, Debug)]
-pub struct FlagWords {
+pub struct FlagRow {
     pub name: &'static str,
     pub help: &'static str,
 }
 
 /// The words of a subcommand.
 #[derive(Clone, Copy, Debug)]
-pub struct SubcommandWords {
+pub struct SubcommandRow {
     pub name: &'static str,
     /// What it does.
     pub about: &'static str,
-    pub options: &'static [OptionWords],
-    pub flags: &'static [FlagWords],
+    pub options: &'static [OptionRow],
+    pub flags: &'static [FlagRow],
 }
 
 /// The command, with these subcommands, of which one has to be there.
 pub fn with_subcommands<'a>(
     alloc: Global,
     command: Command<'a>,
-    table: &[SubcommandWords],
+    table: &[SubcommandRow],
 ) -> Result<Command<'a>, AllocError> {
     let mut command = command.subcommand_required(true);
-    for words in table {
-        command = command.subcommand(subcommand(alloc, words)?)?;
+    for row in table {
+        command = command.subcommand(subcommand(alloc, row)?)?;
     }
     Ok(command)
 }
 
-pub fn subcommand<'a>(alloc: Global, words: &SubcommandWords) -> Result<Command<'a>, AllocError> {
-    let command = Command::new(alloc, words.name).about(words.about);
-    let command = with_options(alloc, command, words.options)?;
-    with_flags(alloc, command, words.flags)
+pub fn subcommand<'a>(alloc: Global, row: &SubcommandRow) -> Result<Command<'a>, AllocError> {
+    let command = Command::new(alloc, row.name).about(row.about);
+    let command = with_options(alloc, command, row.options)?;
+    with_flags(alloc, command, row.flags)
 }
 
 fn with_options<'a>(
     alloc: Global,
     mut command: Command<'a>,
-    options: &[OptionWords],
+    options: &[OptionRow],
 ) -> Result<Command<'a>, AllocError> {
-    for words in options {
-        command = command.arg(option(alloc, words))?;
+    for row in options {
+        command = command.arg(option(alloc, row))?;
     }
     Ok(command)
 }
@@ -94,33 +94,33 @@ fn with_options<'a>(
 fn with_flags<'a>(
     alloc: Global,
     mut command: Command<'a>,
-    flags: &[FlagWords],
+    flags: &[FlagRow],
 ) -> Result<Command<'a>, AllocError> {
-    for words in flags {
-        command = command.arg(flag(alloc, words))?;
+    for row in flags {
+        command = command.arg(flag(alloc, row))?;
     }
     Ok(command)
 }
 
-fn option<'a>(alloc: Global, words: &OptionWords) -> Arg<'a> {
-    let option = Arg::new(alloc, words.name)
-        .long(words.name)
-        .value_name(words.shape)
-        .action(words.times.action())
-        .required(words.times.is_needed())
+fn option<'a>(alloc: Global, row: &OptionRow) -> Arg<'a> {
+    let option = Arg::new(alloc, row.name)
+        .long(row.name)
+        .value_name(row.shape)
+        .action(row.times.action())
+        .required(row.times.is_needed())
         // So that what reads the value names the option where it is none.
         .allow_negative_numbers(true)
-        .help(words.help);
-    if words.shape == FILE {
+        .help(row.help);
+    if row.shape == FILE {
         option.value_parser(ValueParser::NonEmptyString)
     } else {
         option
     }
 }
 
-fn flag<'a>(alloc: Global, words: &FlagWords) -> Arg<'a> {
-    Arg::new(alloc, words.name)
-        .long(words.name)
+fn flag<'a>(alloc: Global, row: &FlagRow) -> Arg<'a> {
+    Arg::new(alloc, row.name)
+        .long(row.name)
         .action(ArgAction::SetTrue)
-        .help(words.help)
+        .help(row.help)
 }

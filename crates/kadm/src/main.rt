@@ -25,13 +25,7 @@ fn main(rt: HostRuntime) -> ExitCode {
 /// The status of the program; an error is one of reading the words, `InvalidData` where one is not UTF-8.
 fn run(rt: &HostRuntime) -> io::Result<u8> {
     let alloc = rt.alloc();
-    let words: Vec<String> = env::args(rt)?.collect(alloc)?;
+    let args: Vec<String> = env::args(rt)?.collect(alloc)?;
     let mut store = FileStore::new(rt);
-    Ok(kadm_run(
-        alloc,
-        words.as_slice(),
-        &mut store,
-        rt.stdout(),
-        rt.stderr(),
-    ))
+    Ok(kadm_run(alloc, args.as_slice(), &mut store, rt.stdout(), rt.stderr()))
 }

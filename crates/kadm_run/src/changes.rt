@@ -1,6 +1,6 @@
 //! The commands that change a database.
 use crate::databases::{lock_database, make_change, open_database, write_database};
-use crate::order::{ChangeWords, setting_of};
+use crate::order::{ChangeArgs, setting_of};
 use crate::passwords::new_password;
 use crate::stop::Stop;
 use enctypes::Etype;
@@ -48,7 +48,7 @@ pub(crate) fn change<'p, T: Store>(
     store: &mut T,
     db: &'p str,
     name: &'p str,
-    how: ChangeWords<'p>,
+    how: ChangeArgs<'p>,
     etypes: &[Etype],
 ) -> Result<(), Stop<'p>> {
     let who = Name::from_text(alloc, name)?;
@@ -64,20 +64,20 @@ fn change_in<'p, T: Store>(
     database: &mut Database,
     name: &str,
     who: Name,
-    how: ChangeWords<'p>,
+    how: ChangeArgs<'p>,
     etypes: &[Etype],
 ) -> Result<(), Stop<'p>> {
     match how {
-        ChangeWords::Add { password } => {
+        ChangeArgs::Add { password } => {
             add(alloc, store, db, database, name, who, password, etypes)
         }
-        ChangeWords::Passwd { password } => {
+        ChangeArgs::Passwd { password } => {
             set_password(alloc, store, db, database, name, who, password, etypes)
         }
-        ChangeWords::Random { seed } => {
+        ChangeArgs::Random { seed } => {
             give_random_keys(alloc, store, db, database, who, seed, etypes)
         }
-        ChangeWords::Drop { version } => {
+        ChangeArgs::Drop { version } => {
             make_change(
                 alloc,
                 store,
@@ -87,10 +87,10 @@ fn change_in<'p, T: Store>(
                 RowChange::DropKeys(version),
             )
         }
-        ChangeWords::Policy { field, value } => {
+        ChangeArgs::Policy { field, value } => {
             set_policy(alloc, store, db, database, who, field, value)
         }
-        ChangeWords::Remove => make_change(alloc, store, db, database, who, RowChange::Remove),
+        ChangeArgs::Remove => make_change(alloc, store, db, database, who, RowChange::Remove),
     }
 }
 

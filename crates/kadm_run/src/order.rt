@@ -1,7 +1,7 @@
 //! The words of a command line, and what they order.
 use clap::error::Error;
 use clap::{ArgMatches, Command};
-use command_options::{FlagWords, OptionWords, SubcommandWords, Times, with_subcommands};
+use command_options::{FlagRow, OptionRow, SubcommandRow, Times, with_subcommands};
 use enctypes::Etype;
 use principal_keys::{EtypesFault, offered, read_etypes};
 use std::alloc::Global;
@@ -36,7 +36,7 @@ pub(crate) enum Task<'a> {
     /// A principal is changed.
     Change {
         name: &'a str,
-        how: ChangeWords<'a>,
+        how: ChangeArgs<'a>,
     },
     List,
     Show {
@@ -52,7 +52,7 @@ pub(crate) enum Task<'a> {
 
 /// How a principal is changed. A field and its value are a setting. A password that is in no file is asked for.
 #[derive(Clone, Copy)]
-pub(crate) enum ChangeWords<'a> {
+pub(crate) enum ChangeArgs<'a> {
     Add { password: Option<&'a str> },
     Passwd { password: Option<&'a str> },
     Random { seed: Option<&'a str> },
@@ -97,14 +97,14 @@ const NO_TYPES: &str = "\
 const NO_COMMAND: &str = "no command of 'kadm --help'";
 
 /// Reads the words, the program's name in front.
-pub(crate) fn read_words<'a, S: AsStr>(
+pub(crate) fn read_args<'a, S: AsStr>(
     alloc: Global,
-    words: &'a [S],
+    args: &'a [S],
 ) -> Result<ArgMatches<'a>, Error> {
     let kadm = Command::new(alloc, "kadm")
         .about("Makes, changes and lists the database of a Kerberos realm")
         .after_help(EXAMPLE);
-    with_subcommands(alloc, kadm, SUBCOMMANDS)?.try_get_matches_from(words)
+    with_subcommands(alloc, kadm, SUBCOMMANDS)?.try_get_matches_from(args)
 }
 
 /// What the words order.
@@ -112,15 +112,15 @@ pub(crate) fn read_order<'a>(
     alloc: Global,
     matches: &ArgMatches<'a>,
 ) -> Result<Order<'a>, OrderFault> {
-    let Some((sub, words)) = matches.subcommand() else {
+    let Some((sub, args)) = matches.subcommand() else {
         return Err(OrderFault::BadValue(NO_COMMAND));
     };
-    let etypes = match read_key_types(alloc, words) {
+    let etypes = match read_key_types(alloc, args) {
         Ok(etypes) => etypes,
         Err(EtypesFault::Form) => return Err(OrderFault::BadValue(NO_TYPES)),
         Err(EtypesFault::Memory) => return Err(OrderFault::Memory),
     };
-    match task_of(sub, words) {
+    match task_of(sub, args) {
         Some((db, task)) => Ok(Order { db, task, etypes }),
         None => Err(OrderFault::BadValue(bad_value(sub))),
     }
@@ -137,74 +137,74 @@ fn bad_value(sub: &str) -> &'static str {
 }
 
 /// The types of the keys that are made: all four, where none are named.
-fn read_key_types(alloc: Global, words: &ArgMatches<'_>) -> Result<Vec<Etype>, EtypesFault> {
-    match words.get_str("types") {
+fn read_key_types(alloc: Global, args: &ArgMatches<'_>) -> Result<Vec<Etype>, EtypesFault> {
+    match args.get_str("types") {
         Some(text) => read_etypes(alloc, text),
         None => Ok(offered(alloc)?),
     }
 }
 
 /// The path of the database and what is to be done; `None` where a number, a setting, or the path of a keytab, is none.
-fn task_of<'a>(sub: &str, words: &ArgMatches<'a>) -> Option<(&'a str, Task<'a>)> {
-    let db = words.get_str("db")?;
-    let task = match words.get_str("name") {
-        Some(name) => task_on(sub, name, words)?,
-        None => task_on_all(sub, words)?,
+fn task_of<'a>(sub: &str, args: &ArgMatches<'a>) -> Option<(&'a str, Task<'a>)> {
+    let db = args.get_str("db")?;
+    let task = match args.get_str("name") {
+        Some(name) => task_on(sub, name, args)?,
+        None => task_on_all(sub, args)?,
     };
     Some((db, task))
 }
 
 /// What is to be done to a principal, or with it.
-fn task_on<'a>(sub: &str, name: &'a str, words: &ArgMatches<'a>) -> Option<Task<'a>> {
+fn task_on<'a>(sub: &str, name: &'a str, args: &ArgMatches<'a>) -> Option<Task<'a>> {
     Some(match sub {
         "show" => Task::Show { name },
         "keytab" => Task::Keytab {
             name,
-            out: keytab_path(words)?,
-            append: words.get_flag(APPEND),
+            out: keytab_path(args)?,
+            append: args.get_flag(APPEND),
         },
         _ => Task::Change {
             name,
-            how: change_words(sub, words)?,
+            how: change_args(sub, args)?,
         },
     })
 }
 
 /// The path of a keytab; `None` where it is that of the database, which it would replace.
-fn keytab_path<'a>(words: &ArgMatches<'a>) -> Option<&'a str> {
-    let out = words.get_str("out")?;
-    if out == words.get_str("db")? {
+fn keytab_path<'a>(args: &ArgMatches<'a>) -> Option<&'a str> {
+    let out = args.get_str("out")?;
+    if out == args.get_str("db")? {
         return None;
     }
     Some(out)
 }
 
-fn change_words<'a>(sub: &str, words: &ArgMatches<'a>) -> Option<ChangeWords<'a>> {
+fn change_args<'a>(sub: &str, args: &ArgMatches<'a>) -> Option<ChangeArgs<'a>> {
     Some(match sub {
-        "add" => ChangeWords::Add {
-            password: words.get_str("password-file"),
+        "add" => ChangeArgs::Add {
+            password: args.get_str("password-file"),
         },
-        "passwd" => ChangeWords::Passwd {
-            password: words.get_str("password-file"),
+        "passwd" => ChangeArgs::Passwd {
+            password: args.get_str("password-file"),
         },
-        "random" => ChangeWords::Random {
-            seed: words.get_str("seed"),
+        "random" => ChangeArgs::Random {
+            seed: args.get_str("seed"),
         },
-        "drop" => ChangeWords::Drop {
-            version: number_u32(words.get_str("version")?)?,
+        "drop" => ChangeArgs::Drop {
+            version: number_u32(args.get_str("version")?)?,
         },
-        "policy" => policy_words(words)?,
-        "remove" => ChangeWords::Remove,
+        "policy" => policy_args(args)?,
+        "remove" => ChangeArgs::Remove,
         _ => return None,
     })
 }
 
 /// What is to be done to a whole database.
-fn task_on_all<'a>(sub: &str, words: &ArgMatches<'a>) -> Option<Task<'a>> {
+fn task_on_all<'a>(sub: &str, args: &ArgMatches<'a>) -> Option<Task<'a>> {
     Some(match sub {
         "init" => Task::Init {
-            realm: words.get_str("realm")?,
-            seed: words.get_str("seed"),
+            realm: args.get_str("realm")?,
+            seed: args.get_str("seed"),
         },
         "list" => Task::List,
         "migrate" => Task::Migrate,
@@ -212,13 +212,13 @@ fn task_on_all<'a>(sub: &str, words: &ArgMatches<'a>) -> Option<Task<'a>> {
     })
 }
 
-fn policy_words<'a>(words: &ArgMatches<'a>) -> Option<ChangeWords<'a>> {
-    let field = words.get_str("field")?;
-    let value = words.get_str("value")?;
+fn policy_args<'a>(args: &ArgMatches<'a>) -> Option<ChangeArgs<'a>> {
+    let field = args.get_str("field")?;
+    let value = args.get_str("value")?;
     if setting_of(field, value).is_none() {
         return None;
     }
-    Some(ChangeWords::Policy { field, value })
+    Some(ChangeArgs::Policy { field, value })
 }
 
 /// A field with its value, of which a time may be a date too.
@@ -229,77 +229,77 @@ pub(crate) fn setting_of(field: &str, value: &str) -> Option<Setting> {
     }
 }
 
-const DB: OptionWords = OptionWords {
+const DB: OptionRow = OptionRow {
     name: "db",
     shape: "FILE",
     help: "The database of the realm",
     times: Times::Once,
 };
 
-const REALM: OptionWords = OptionWords {
+const REALM: OptionRow = OptionRow {
     name: "realm",
     shape: "REALM",
     help: "The realm's name",
     times: Times::Once,
 };
 
-const REALM_SEED: OptionWords = OptionWords {
+const REALM_SEED: OptionRow = OptionRow {
     name: "seed",
     shape: "FILE",
     help: "32 random octets, for the keys of krbtgt/REALM alone; else they are the system's",
     times: Times::AtMostOnce,
 };
 
-const NAME: OptionWords = OptionWords {
+const NAME: OptionRow = OptionRow {
     name: "name",
     shape: "NAME",
     help: "The principal's name, without its realm",
     times: Times::Once,
 };
 
-const PASSWORD: OptionWords = OptionWords {
+const PASSWORD: OptionRow = OptionRow {
     name: "password-file",
     shape: "FILE",
     help: "The password is the first line, without its line feed, of at most 1,024 octets; else standard input's",
     times: Times::AtMostOnce,
 };
 
-const SEED: OptionWords = OptionWords {
+const SEED: OptionRow = OptionRow {
     name: "seed",
     shape: "FILE",
     help: "32 random octets, for these keys alone; else they are the system's",
     times: Times::AtMostOnce,
 };
 
-const VERSION: OptionWords = OptionWords {
+const VERSION: OptionRow = OptionRow {
     name: "version",
     shape: "N",
     help: "The version's number",
     times: Times::Once,
 };
 
-const FIELD: OptionWords = OptionWords {
+const FIELD: OptionRow = OptionRow {
     name: "field",
     shape: "FIELD",
     help: FIELDS,
     times: Times::Once,
 };
 
-const VALUE: OptionWords = OptionWords {
+const VALUE: OptionRow = OptionRow {
     name: "value",
     shape: "VALUE",
     help: VALUES,
     times: Times::Once,
 };
 
-const OUT: OptionWords = OptionWords {
+const OUT: OptionRow = OptionRow {
     name: "out",
     shape: "FILE",
     help: "The keytab; a file that is there is replaced, but no database beside which its lock stands",
     times: Times::Once,
 };
 
-const TYPES: OptionWords = OptionWords {
+const TYPES: OptionRow = OptionRow {
     name: "types",
     shape: "TYPES",
     help: "The keys' encryption types in the order of preference, as 18,20; else 18,17,20,19",
@@ -308,73 +308,73 @@ const TYPES: OptionWords = OptionWords {
 
 const APPEND: &str = "append";
 
-const APPENDS: FlagWords = FlagWords {
+const APPENDS: FlagRow = FlagRow {
     name: APPEND,
     help: "Keeps the entries that the keytab has, and adds the keys",
 };
 
-const SUBCOMMANDS: &[SubcommandWords] = &[
-    SubcommandWords {
+const SUBCOMMANDS: &[SubcommandRow] = &[
+    SubcommandRow {
         name: "init",
         about: "Makes the database of a new realm, where there is no file yet",
         options: &[DB, REALM, REALM_SEED],
         flags: &[],
     },
-    SubcommandWords {
+    SubcommandRow {
         name: "add",
         about: "Adds a principal, whose keys are made of a password",
         options: &[DB, NAME, PASSWORD, TYPES],
         flags: &[],
     },
-    SubcommandWords {
+    SubcommandRow {
         name: "passwd",
         about: "Gives a principal new keys, which are made of a password",
         options: &[DB, NAME, PASSWORD, TYPES],
         flags: &[],
     },
-    SubcommandWords {
+    SubcommandRow {
         name: "random",
         about: "Gives a principal random keys; adds it where it is not there",
         options: &[DB, NAME, SEED, TYPES],
         flags: &[],
     },
-    SubcommandWords {
+    SubcommandRow {
         name: "drop",
         about: "Drops the keys of an old version",
         options: &[DB, NAME, VERSION],
         flags: &[],
     },
-    SubcommandWords {
+    SubcommandRow {
         name: "policy",
         about: "Sets a field of a principal's policy",
         options: &[DB, NAME, FIELD, VALUE],
         flags: &[],
     },
-    SubcommandWords {
+    SubcommandRow {
         name: "remove",
         about: "Removes a principal",
         options: &[DB, NAME],
         flags: &[],
     },
-    SubcommandWords {
+    SubcommandRow {
         name: "list",
         about: "Prints a line for each principal: its name, its current version, and the types of its keys",
         options: &[DB],
         flags: &[],
     },
-    SubcommandWords {
+    SubcommandRow {
         name: "show",
         about: "Prints a principal's policy, and the versions of its keys with their types",
         options: &[DB, NAME],
         flags: &[],
     },
-    SubcommandWords {
+    SubcommandRow {
         name: "migrate",
         about: "Writes a database of version 1 or 2 as version 2",
         options: &[DB],
         flags: &[],
     },
-    SubcommandWords {
+    SubcommandRow {
         name: "keytab",
         about: "Writes a keytab of a principal's current keys",
         options: &[DB, NAME, OUT],

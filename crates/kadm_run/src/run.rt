@@ -4,7 +4,7 @@ ghost use Rattle.std.specs.Prelude.{◌≤◌, IfOk};
 use crate::changes::{change, make_realm, migrate};
 use crate::keytabs::write_keytab;
 use crate::listing::{print_list, print_row};
-use crate::order::{Order, OrderFault, Task, read_order, read_words};
+use crate::order::{Order, OrderFault, Task, read_args, read_order};
 use crate::stop::{Stop, report};
 use clap::ArgMatches;
 use clap::error::{Error, ErrorKind};
@@ -32,7 +32,7 @@ pub const FAILED: u8 = 3;
 /// were.
 pub fn kadm_run<S: AsStr, T: Store, W: Write + Drop, E: Write + Drop>(
     alloc: Global,
-    words: &[S],
+    args: &[S],
     store: &mut T,
     writer: W,
     errors: E,
@@ -45,20 +45,20 @@ pub fn kadm_run<S: AsStr, T: Store, W: Write + Drop, E: Write + Drop>(
     let Ok(mut errors) = BufWriter::new(alloc, errors) else {
         return FAILED;
     };
-    run_and_report(alloc, words, store, &mut out, &mut errors).unwrap_or(FAILED)
+    run_and_report(alloc, args, store, &mut out, &mut errors).unwrap_or(FAILED)
 }
 
 /// The status; an error is a failed write.
 fn run_and_report<S: AsStr, T: Store, W: Write, E: Write>(
     alloc: Global,
-    words: &[S],
+    args: &[S],
     store: &mut T,
     out: &mut W,
     errors: &mut E,
 ) -> io::Result<u8>
     ensures { IfOk result (λ status. status ≤ 3) }
 {
-    let status = match run_to_end(alloc, words, store, out) {
+    let status = match run_to_end(alloc, args, store, out) {
         Ok(()) => DONE,
         Err(stop) => report(out, errors, stop)?,
     };
@@ -71,28 +71,28 @@ fn run_and_report<S: AsStr, T: Store, W: Write, E: Write>(
 /// Does what the words say, up to where all that it prints is taken.
 fn run_to_end<'a, S: AsStr, T: Store, W: Write>(
     alloc: Global,
-    words: &'a [S],
+    args: &'a [S],
     store: &mut T,
     out: &mut W,
 ) -> Result<(), Stop<'a>> {
-    run_words(alloc, words, store, out)?;
+    run_args(alloc, args, store, out)?;
     Ok(out.flush()?)
 }
 
-fn run_words<'a, S: AsStr, T: Store, W: Write>(
+fn run_args<'a, S: AsStr, T: Store, W: Write>(
     alloc: Global,
-    words: &'a [S],
+    args: &'a [S],
     store: &mut T,
     out: &mut W,
 ) -> Result<(), Stop<'a>> {
-    match read_words(alloc, words) {
+    match read_args(alloc, args) {
         Ok(matches) => run_matches(alloc, &matches, store, out),
-        Err(error) => print_words_fault(out, &error),
+        Err(error) => print_args_fault(out, &error),
     }
 }
 
 /// Prints what is wrong with the words, or the help that they ask for.
-fn print_words_fault<'a, W: Write>(out: &mut W, error: &Error) -> Result<(), Stop<'a>> {
+fn print_args_fault<'a, W: Write>(out: &mut W, error: &Error) -> Result<(), Stop<'a>> {
     if error.kind() == ErrorKind::OutOfMemory {
         return Err(Stop::from(AllocError));
     }

@@ -77,10 +77,10 @@ fn letters(alloc: Global, len: usize) -> Result<Vec<u8>, AllocError> {
 }
 
 fn run_line(alloc: Global, store: &mut MemoryStore, line: &str) -> io::Result<Ended> {
-    let words: Vec<&str> = line.split(' ').collect(alloc)?;
+    let args: Vec<&str> = line.split(' ').collect(alloc)?;
     let mut written = Vec::new(alloc);
     let mut errors = Vec::new(alloc);
-    let status = kadm_run(alloc, words.as_slice(), store, &mut written, &mut errors);
+    let status = kadm_run(alloc, args.as_slice(), store, &mut written, &mut errors);
     Ok(Ended {
         written,
         errors,

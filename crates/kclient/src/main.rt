@@ -15,7 +15,7 @@ enum Fault {
     /// The clock can't be read, or shows no moment of the years 1970 to 9999.
     Clock(io::Error),
     /// The words of the command line can't be read; `InvalidData` where one is not UTF-8.
-    Words(io::Error),
+    Args(io::Error),
     Memory,
 }
 
@@ -23,7 +23,7 @@ impl fmt::Display for Fault {
     fn fmt<W: fmt::Write>(&self, f: &mut fmt::Formatter<W>) -> fmt::Result {
         match self {
             Fault::Clock(error) => write!(f, "the clock: {error}"),
-            Fault::Words(error) => write!(f, "the words of the command line: {error}"),
+            Fault::Args(error) => write!(f, "the words of the command line: {error}"),
             Fault::Memory => f.write_str("out of memory"),
         }
     }
@@ -39,7 +39,7 @@ fn main(rt: HostRuntime) -> ExitCode {
     match run(&rt) {
         Ok(status) => ExitCode::from(status),
         // where these can't be written there is no one to tell
-        Err(Fault::Words(error)) if error.kind() == io::ErrorKind::InvalidData => {
+        Err(Fault::Args(error)) if error.kind() == io::ErrorKind::InvalidData => {
             let _ = println!(rt; "error: a word is not UTF-8");
             ExitCode::from(USAGE)
         }
@@ -55,7 +55,7 @@ fn main(rt: HostRuntime) -> ExitCode {
 fn run(rt: &HostRuntime) -> Result<u8, Fault> {
     let at = now(rt).map_err(Fault::Clock)?;
     let alloc = rt.alloc();
-    let words: Vec<String> = env::args(rt).map_err(Fault::Words)?.collect(alloc)?;
+    let args: Vec<String> = env::args(rt).map_err(Fault::Args)?.collect(alloc)?;
     let cache = env::var(rt, "KRB5CCNAME");
     let config = env::var(rt, "KRB5_CONFIG");
     let defaults = Defaults {
@@ -66,7 +66,7 @@ fn run(rt: &HostRuntime) -> Result<u8, Fault> {
     let mut exchange = SocketExchange::new(rt);
     Ok(kclient_run(
         alloc,
-        words.as_slice(),
+        args.as_slice(),
         &defaults,
         &mut store,
         &mut exchange,

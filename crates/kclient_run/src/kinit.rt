@@ -4,6 +4,7 @@ ghost use Rattle.client_core.specs.Asked.{IsAskable};
 ghost use Rattle.client_core.specs.Taken.{IsTaken};
 ghost use Rattle.client_core.specs.declared.key_role.KeyRole.TheVariants as roles;
 
+use crate::args::{FirstArgs, SecretArgs};
 use crate::asking::{KdcPlace, ask};
 use crate::caches::write_new_cache;
 use crate::draws::{draw_confounder, draw_nonce};
@@ -14,7 +15,6 @@ use crate::infos::info_of_refusal;
 use crate::places::Places;
 use crate::secrets::{Secret, key_of_next_reply, key_of_reply, key_wanted};
 use crate::wishes::first_asked;
-use crate::words::{FirstWords, SecretWords};
 use client_core::{
     Asked, ClientFault, EtypeInfo2, Refusal, as_request, read_as_reply, refusal_in, with_timestamp,
 };
@@ -41,32 +41,32 @@ struct Names {
 pub(crate) fn log_in<T: Store, X: Exchange>(
     alloc: Global,
     places: &Places,
-    words: &FirstWords<'_>,
+    args: &FirstArgs<'_>,
     kdc: KdcPlace<'_>,
     store: &mut T,
     exchange: &mut X,
     at: Moment,
 ) -> Result<(), Stop> {
-    let names = read_names(alloc, places, words)?;
-    let credential = ticket_of(alloc, places, words, &names, kdc, store, exchange, at)?;
+    let names = read_names(alloc, places, args)?;
+    let credential = ticket_of(alloc, places, args, &names, kdc, store, exchange, at)?;
     write_new_cache(alloc, store, places.cache.as_str(), &credential)
 }
 
 fn ticket_of<T: Store, X: Exchange>(
     alloc: Global,
     places: &Places,
-    words: &FirstWords<'_>,
+    args: &FirstArgs<'_>,
     names: &Names,
     kdc: KdcPlace<'_>,
     store: &mut T,
     exchange: &mut X,
     at: Moment,
 ) -> Result<Credential, Stop> {
-    let secret = read_secret(alloc, store, places, words)?;
-    let mut rng = generator(alloc, store, words.seed)?;
+    let secret = read_secret(alloc, store, places, args)?;
+    let mut rng = generator(alloc, store, args.seed)?;
     let nonce = draw_nonce(&mut rng);
     let Names { client, service } = names;
-    let asked = first_asked(alloc, &words.wishes, client, service, at, nonce)?;
+    let asked = first_asked(alloc, &args.wishes, client, service, at, nonce)?;
     first_ticket(alloc, exchange, kdc, &asked, &secret, &mut rng, at)
 }
 
@@ -80,9 +80,9 @@ pub(crate) fn generator<T: Store>(
     Ok(ChaCha20Rng::from_seed(seed))
 }
 
-fn read_names(alloc: Global, places: &Places, words: &FirstWords<'_>) -> Result<Names, Stop> {
-    let client = read_client(alloc, places, words)?;
-    let service = read_service(alloc, words.service, &client.realm)?;
+fn read_names(alloc: Global, places: &Places, args: &FirstArgs<'_>) -> Result<Names, Stop> {
+    let client = read_client(alloc, places, args)?;
+    let service = read_service(alloc, args.service, &client.realm)?;
     Ok(Names { client, service })
 }
 
@@ -90,21 +90,21 @@ fn read_names(alloc: Global, places: &Places, words: &FirstWords<'_>) -> Result<
 pub(crate) fn check_names(
     alloc: Global,
     realm: Option<&str>,
-    words: &FirstWords<'_>,
+    args: &FirstArgs<'_>,
 ) -> Result<(), Stop> {
     if let Some(realm) = realm {
         read_realm(alloc, realm)?;
     }
-    read_name(alloc, words.name, Place::Name)?;
-    if let Some(service) = words.service {
+    read_name(alloc, args.name, Place::Name)?;
+    if let Some(service) = args.service {
         read_name(alloc, service, Place::Service)?;
     }
     Ok(())
 }
 
-fn read_client(alloc: Global, places: &Places, words: &FirstWords<'_>) -> Result<Principal, Stop> {
+fn read_client(alloc: Global, places: &Places, args: &FirstArgs<'_>) -> Result<Principal, Stop> {
     let realm = read_realm(alloc, places.realm.as_str())?;
-    let name = read_name(alloc, words.name, Place::Name)?;
+    let name = read_name(alloc, args.name, Place::Name)?;
     Ok(Principal { realm, name })
 }
 
@@ -140,16 +140,16 @@ fn read_secret<T: Store>(
     alloc: Global,
     store: &mut T,
     places: &Places,
-    words: &FirstWords<'_>,
+    args: &FirstArgs<'_>,
 ) -> Result<Secret, Stop> {
-    match words.secret {
-        SecretWords::PasswordFile(path) => {
+    match args.secret {
+        SecretArgs::PasswordFile(path) => {
             let pass = of(read_password(alloc, store, path), Place::Password)?;
             Ok(Secret::Password(pass))
         }
-        SecretWords::Keytab(path) => Ok(Secret::Keytab(read_keytab(alloc, store, path)?)),
-        SecretWords::Asked => {
-            let pass = ask_password(alloc, store, words.name, places.realm.as_str());
+        SecretArgs::Keytab(path) => Ok(Secret::Keytab(read_keytab(alloc, store, path)?)),
+        SecretArgs::Asked => {
+            let pass = ask_password(alloc, store, args.name, places.realm.as_str());
             Ok(Secret::Password(of(pass, Place::Password)?))
         }
     }

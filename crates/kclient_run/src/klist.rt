@@ -1,15 +1,15 @@
 //! `klist`: what a credential cache or a keytab holds.
 ghost use Rattle.std.specs.Prelude.{◌≤◌, IfOk};
 
+use crate::args::KlistArgs;
 use crate::caches::read_cache;
-use crate::fault_words::{MEMORY, Subject};
+use crate::fault_args::{MEMORY, Subject};
 use crate::faults::{Place, Stop};
 use crate::files::read_keytab;
 use crate::listing::{lines_of_cache, lines_of_keytab};
 use crate::places::Places;
 use crate::reporting::report;
 use crate::run::DONE;
-use crate::words::KlistWords;
 use file_store::Store;
 use std::alloc::Global;
 use std::io;
@@ -19,14 +19,14 @@ use std::io::Write;
 pub(crate) fn run_klist<T: Store, W: Write, E: Write>(
     alloc: Global,
     places: &Places,
-    words: &KlistWords<'_>,
+    args: &KlistArgs<'_>,
     store: &mut T,
     out: &mut W,
     errors: &mut E,
 ) -> io::Result<u8>
     ensures { IfOk result (λ status. status ≤ 3) }
 {
-    if let Some(path) = words.keytab {
+    if let Some(path) = args.keytab {
         return print(out, errors, path, list_keytab(alloc, store, path));
     }
     let path = places.cache.as_str();

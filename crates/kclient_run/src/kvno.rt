@@ -1,4 +1,5 @@
 //! `kvno`: tickets for services, one after the other.
+use crate::args::KvnoArgs;
 use crate::asking::KdcPlace;
 use crate::caches::{put, read_cache, write_cache};
 use crate::exchange::Exchange;
@@ -10,7 +11,6 @@ use crate::kinit::{generator, read_name};
 use crate::moments::next_moment;
 use crate::opening::check_ticket;
 use crate::places::Places;
-use crate::words::KvnoWords;
 use cred_files::{Cache, Credential, Keytab};
 use file_store::Store;
 use krb_elements::read;
@@ -67,7 +67,7 @@ struct Desk {
 pub(crate) fn get_tickets<T: Store, X: Exchange>(
     alloc: Global,
     places: &Places,
-    words: &KvnoWords<'_>,
+    args: &KvnoArgs<'_>,
     names: &[&str],
     kdc: KdcPlace<'_>,
     store: &mut T,
@@ -76,16 +76,9 @@ pub(crate) fn get_tickets<T: Store, X: Exchange>(
 ) -> Result<Vec<i64>, KvnoStop> {
     let services = read_services(alloc, names)?;
     let path = places.cache.as_str();
-    let mut desk = read_desk(alloc, path, words, store, at)?;
+    let mut desk = read_desk(alloc, path, args, store, at)?;
     get_and_write(
-        alloc,
-        path,
-        words.fresh,
-        kdc,
-        &mut desk,
-        &services,
-        store,
-        exchange,
+        alloc, path, args.fresh, kdc, &mut desk, &services, store, exchange,
     )
 }
 
@@ -122,13 +115,13 @@ fn add_service(alloc: Global, services: &mut Vec<Name>, name: &str) -> Result<()
 fn read_desk<T: Store>(
     alloc: Global,
     path: &str,
-    words: &KvnoWords<'_>,
+    args: &KvnoArgs<'_>,
     store: &mut T,
     at: Moment,
 ) -> Result<Desk, Stop> {
     let cache = read_cache(alloc, store, path)?;
-    let keytab = read_checking_keytab(alloc, store, words.keytab)?;
-    let rng = generator(alloc, store, words.seed)?;
+    let keytab = read_checking_keytab(alloc, store, args.keytab)?;
+    let rng = generator(alloc, store, args.seed)?;
     Ok(Desk {
         cache,
         keytab,

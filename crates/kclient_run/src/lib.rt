@@ -5,13 +5,14 @@
 //! `Exchange` of messages.
 #![tactic(auto)]
 
+mod args;
 mod asking;
 mod caches;
 mod codes;
 mod draws;
 mod environment;
 mod exchange;
-mod fault_words;
+mod fault_args;
 mod faults;
 mod files;
 mod granting;
@@ -30,7 +31,6 @@ mod reporting;
 mod run;
 mod secrets;
 mod wishes;
-mod words;
 
 pub use draws::{draw_confounder, draw_nonce};
 pub use environment::{Defaults, Variable};

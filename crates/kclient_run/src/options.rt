@@ -1,7 +1,7 @@
 //! The subcommands of the command line with their options, and what `--help` says of them.
 use clap::error::Error;
 use clap::{ArgMatches, Command};
-use command_options::{FlagWords, OptionWords, SubcommandWords, Times, with_subcommands};
+use command_options::{FlagRow, OptionRow, SubcommandRow, Times, with_subcommands};
 use std::alloc::Global;
 use std::convert::AsStr;
 
@@ -22,104 +22,104 @@ the clock or memory failed. A faulty command line has status 2. Standard error s
 Names are components joined by `/`. Octets but 21 to 7e, and `/`, `\\` and `@` inside a component, are written `\\` and
 two lower case hexadecimal digits.";
 
-const KDC: OptionWords = OptionWords {
+const KDC: OptionRow = OptionRow {
     name: "kdc",
     shape: "ADDRESS:PORT",
     help: "Where a KDC is, as 127.0.0.1:88 or [::1]:88; of several the next is asked where one gives nothing",
     times: Times::Any,
 };
 
-const CACHE: OptionWords = OptionWords {
+const CACHE: OptionRow = OptionRow {
     name: "cache",
     shape: "FILE",
     help: "The credential cache, as MIT's and Heimdal's tools read it",
     times: Times::AtMostOnce,
 };
 
-const SEED: OptionWords = OptionWords {
+const SEED: OptionRow = OptionRow {
     name: "seed",
     shape: "FILE",
     help: "32 random octets, others for each command; else they are the system's",
     times: Times::AtMostOnce,
 };
 
-const REALM: OptionWords = OptionWords {
+const REALM: OptionRow = OptionRow {
     name: "realm",
     shape: "REALM",
     help: "The realm's name",
     times: Times::AtMostOnce,
 };
 
-const CLIENT: OptionWords = OptionWords {
+const CLIENT: OptionRow = OptionRow {
     name: "name",
     shape: "NAME",
     help: "The client's name, without its realm",
     times: Times::AtMostOnce,
 };
 
-const PASSWORD: OptionWords = OptionWords {
+const PASSWORD: OptionRow = OptionRow {
     name: "password-file",
     shape: "FILE",
     help: "The password is the first line, without its line feed, of at most 1,024 octets; else standard input's",
     times: Times::AtMostOnce,
 };
 
-const CLIENT_KEYTAB: OptionWords = OptionWords {
+const CLIENT_KEYTAB: OptionRow = OptionRow {
     name: "keytab",
     shape: "FILE",
     help: "The client's keys, in place of a password",
     times: Times::AtMostOnce,
 };
 
-const SERVICE: OptionWords = OptionWords {
+const SERVICE: OptionRow = OptionRow {
     name: "service",
     shape: "NAME",
     help: "The service that the ticket is for; else krbtgt/REALM",
     times: Times::AtMostOnce,
 };
 
-const LIFE: OptionWords = OptionWords {
+const LIFE: OptionRow = OptionRow {
     name: "life",
     shape: "SECONDS",
     help: "For how long the ticket is asked; else for as long as the KDC gives",
     times: Times::AtMostOnce,
 };
 
-const START: OptionWords = OptionWords {
+const START: OptionRow = OptionRow {
     name: "start",
     shape: "SECONDS",
     help: "Asks for a postdated ticket, which starts so many seconds from now and has to be validated then",
     times: Times::AtMostOnce,
 };
 
-const SERVICES: OptionWords = OptionWords {
+const SERVICES: OptionRow = OptionRow {
     name: "name",
     shape: "NAME",
     help: "A service's name, without its realm; it may stand more than once",
     times: Times::AtLeastOnce,
 };
 
-const SERVICE_KEYTAB: OptionWords = OptionWords {
+const SERVICE_KEYTAB: OptionRow = OptionRow {
     name: "keytab",
     shape: "FILE",
     help: "The keys of the services, which have to open their tickets",
     times: Times::AtMostOnce,
 };
 
-const LISTED_KEYTAB: OptionWords = OptionWords {
+const LISTED_KEYTAB: OptionRow = OptionRow {
     name: "keytab",
     shape: "FILE",
     help: "The keytab, in place of a cache",
     times: Times::AtMostOnce,
 };
 
-const TCP: FlagWords = FlagWords {
+const TCP: FlagRow = FlagRow {
     name: "tcp",
     help: "Asks by TCP alone; else by UDP first",
 };
 
-const SUBCOMMANDS: &[SubcommandWords] = &[
-    SubcommandWords {
+const SUBCOMMANDS: &[SubcommandRow] = &[
+    SubcommandRow {
         name: "kinit",
         about: "Gets a ticket for tickets by a password or a keytab, and makes a credential cache of it",
         options: &[
@@ -135,42 +135,42 @@ const SUBCOMMANDS: &[SubcommandWords] = &[
             CACHE,
         ],
         flags: &[
-            FlagWords {
+            FlagRow {
                 name: "renewable",
                 help: "Asks for a renewable ticket",
             },
-            FlagWords {
+            FlagRow {
                 name: "forwardable",
                 help: "Asks for a forwardable ticket",
             },
-            FlagWords {
+            FlagRow {
                 name: "proxiable",
                 help: "Asks for a proxiable ticket",
             },
-            FlagWords {
+            FlagRow {
                 name: "renew",
                 help: "Renews the cache's ticket for tickets",
             },
-            FlagWords {
+            FlagRow {
                 name: "validate",
                 help: "Validates the cache's ticket for tickets, which was postdated",
             },
             TCP,
         ],
     },
-    SubcommandWords {
+    SubcommandRow {
         name: "kvno",
         about: "Gets tickets for services, puts them into the cache, and prints the versions of the services' keys",
         options: &[SERVICES, SERVICE_KEYTAB, SEED, KDC, CACHE],
         flags: &[
-            FlagWords {
+            FlagRow {
                 name: "fresh",
                 help: "Asks also for a ticket that the cache has",
             },
             TCP,
         ],
     },
-    SubcommandWords {
+    SubcommandRow {
         name: "klist",
         about: "Prints what a credential cache or a keytab holds, but no key",
         options: &[CACHE, LISTED_KEYTAB],
@@ -179,12 +179,12 @@ const SUBCOMMANDS: &[SubcommandWords] = &[
 ];
 
 /// Reads the words, the program's name in front.
-pub(crate) fn read_words<'a, S: AsStr>(
+pub(crate) fn read_args<'a, S: AsStr>(
     alloc: Global,
-    words: &'a [S],
+    args: &'a [S],
 ) -> Result<ArgMatches<'a>, Error> {
     let kclient = Command::new(alloc, "kclient")
         .about(ABOUT)
         .after_help(AFTER_HELP);
-    with_subcommands(alloc, kclient, SUBCOMMANDS)?.try_get_matches_from(words)
+    with_subcommands(alloc, kclient, SUBCOMMANDS)?.try_get_matches_from(args)
 }

@@ -1,11 +1,11 @@
 //! Where a command works: its cache, its realm and its KDCs, as its words say, or else what stands for them.
+use crate::args::{FirstArgs, Task};
 use crate::caches::read_cache;
 use crate::environment::Defaults;
 use crate::faults::{Place, Reason, Stop, of_name};
 use crate::files::of;
 use crate::kinit::check_names;
 use crate::kvno::{KvnoStop, read_services};
-use crate::words::{FirstWords, Task};
 use clap::ArgMatches;
 use file_store::{Store, read_file};
 use krb_fields::{component_from_text, component_to_text, is_component};
@@ -82,27 +82,27 @@ const TWO_FILES: &str = "--cache and --keytab don't go together";
 pub(crate) fn find_places<T: Store>(
     alloc: Global,
     task: &Task<'_>,
-    words: &ArgMatches<'_>,
+    args: &ArgMatches<'_>,
     defaults: &Defaults<'_>,
     store: &mut T,
 ) -> Result<Places, Unplaced> {
     match task {
-        Task::First(first) => first_places(alloc, first, words, defaults, store),
+        Task::First(first) => first_places(alloc, first, args, defaults, store),
         // the realm is the cache's
-        Task::Again(_) | Task::Kvno(_) => kvno_places(alloc, words, defaults, store),
-        Task::Klist(_) => klist_places(alloc, words, defaults),
+        Task::Again(_) | Task::Kvno(_) => kvno_places(alloc, args, defaults, store),
+        Task::Klist(_) => klist_places(alloc, args, defaults),
     }
 }
 
 fn first_places<T: Store>(
     alloc: Global,
-    first: &FirstWords<'_>,
-    words: &ArgMatches<'_>,
+    first: &FirstArgs<'_>,
+    args: &ArgMatches<'_>,
     defaults: &Defaults<'_>,
     store: &mut T,
 ) -> Result<Places, Unplaced> {
-    let cache = cache_path(alloc, words, defaults)?;
-    let Realm { text, kdcs } = find_realm(alloc, first, words, defaults, store)?;
+    let cache = cache_path(alloc, args, defaults)?;
+    let Realm { text, kdcs } = find_realm(alloc, first, args, defaults, store)?;
     Ok(Places {
         cache,
         realm: text,
@@ -112,12 +112,12 @@ fn first_places<T: Store>(
 
 fn kvno_places<T: Store>(
     alloc: Global,
-    words: &ArgMatches<'_>,
+    args: &ArgMatches<'_>,
     defaults: &Defaults<'_>,
     store: &mut T,
 ) -> Result<Places, Unplaced> {
-    let cache = cache_path(alloc, words, defaults)?;
-    let kdcs = find_kdcs(alloc, words, defaults, store, cache.as_str())?;
+    let cache = cache_path(alloc, args, defaults)?;
+    let kdcs = find_kdcs(alloc, args, defaults, store, cache.as_str())?;
     Ok(Places {
         cache,
         realm: String::new(alloc),
@@ -127,11 +127,11 @@ fn kvno_places<T: Store>(
 
 fn klist_places(
     alloc: Global,
-    words: &ArgMatches<'_>,
+    args: &ArgMatches<'_>,
     defaults: &Defaults<'_>,
 ) -> Result<Places, Unplaced> {
     Ok(Places {
-        cache: listed_path(alloc, words, defaults)?,
+        cache: listed_path(alloc, args, defaults)?,
         realm: String::new(alloc),
         kdcs: no_kdcs(alloc),
     })
@@ -140,13 +140,13 @@ fn klist_places(
 /// The path of the cache that is listed; empty where it is a keytab.
 fn listed_path(
     alloc: Global,
-    words: &ArgMatches<'_>,
+    args: &ArgMatches<'_>,
     defaults: &Defaults<'_>,
 ) -> Result<String, Unplaced> {
-    if words.get_str("keytab").is_none() {
-        return cache_path(alloc, words, defaults);
+    if args.get_str("keytab").is_none() {
+        return cache_path(alloc, args, defaults);
     }
-    if words.get_str("cache").is_some() {
+    if args.get_str("cache").is_some() {
         return Err(Unplaced::Usage(TWO_FILES));
     }
     Ok(String::new(alloc))
@@ -155,10 +155,10 @@ fn listed_path(
 /// The path of the cache.
 fn cache_path(
     alloc: Global,
-    words: &ArgMatches<'_>,
+    args: &ArgMatches<'_>,
     defaults: &Defaults<'_>,
 ) -> Result<String, Unplaced> {
-    if let Some(path) = words.get_str("cache") {
+    if let Some(path) = args.get_str("cache") {
         return Ok(String::from_str(alloc, path)?);
     }
     match defaults.cache_path() {
@@ -170,13 +170,13 @@ fn cache_path(
 /// The realm and the KDCs of `kinit`. Its names are looked at before a file is read.
 fn find_realm<T: Store>(
     alloc: Global,
-    first: &FirstWords<'_>,
-    words: &ArgMatches<'_>,
+    first: &FirstArgs<'_>,
+    args: &ArgMatches<'_>,
     defaults: &Defaults<'_>,
     store: &mut T,
 ) -> Result<Realm, Unplaced> {
-    let realm = words.get_str("realm");
-    let given = given_kdcs(alloc, words)?;
+    let realm = args.get_str("realm");
+    let given = given_kdcs(alloc, args)?;
     check_names(alloc, realm, first)?;
     let is_needed = realm.is_none() || given.is_none();
     let config = config_if(alloc, defaults, store, is_needed)?;
@@ -186,22 +186,22 @@ fn find_realm<T: Store>(
 /// The KDCs of the realm of a cache. The names of services are looked at before a file is read.
 fn find_kdcs<T: Store>(
     alloc: Global,
-    words: &ArgMatches<'_>,
+    args: &ArgMatches<'_>,
     defaults: &Defaults<'_>,
     store: &mut T,
     path: &str,
 ) -> Result<Kdcs, Unplaced> {
-    if let Some(kdcs) = given_kdcs(alloc, words)? {
+    if let Some(kdcs) = given_kdcs(alloc, args)? {
         return Ok(kdcs);
     }
-    check_services(alloc, words)?;
+    check_services(alloc, args)?;
     let cache = read_cache(alloc, store, path)?;
     let realm = cache.principal().realm.as_slice();
     kdcs_in_config(alloc, defaults, store, realm)
 }
 
-fn check_services(alloc: Global, words: &ArgMatches<'_>) -> Result<(), KvnoStop> {
-    if let Some(names) = words.get_strs("name") {
+fn check_services(alloc: Global, args: &ArgMatches<'_>) -> Result<(), KvnoStop> {
+    if let Some(names) = args.get_strs("name") {
         read_services(alloc, names)?;
     }
     Ok(())
@@ -218,8 +218,8 @@ fn kdcs_in_config<T: Store>(
 }
 
 /// The KDCs of the words; `None` where no word names one.
-fn given_kdcs(alloc: Global, words: &ArgMatches<'_>) -> Result<Option<Kdcs>, Unplaced> {
-    let Some(texts) = words.get_strs("kdc") else {
+fn given_kdcs(alloc: Global, args: &ArgMatches<'_>) -> Result<Option<Kdcs>, Unplaced> {
+    let Some(texts) = args.get_strs("kdc") else {
         return Ok(None);
     };
     let mut kdcs = no_kdcs(alloc);

@@ -1,4 +1,5 @@
 //! `kinit --renew` and `kinit --validate`: the ticket for tickets, once more (RFC 4120, sections 2.3 and 2.4).
+use crate::args::AgainArgs;
 use crate::asking::KdcPlace;
 use crate::caches::{read_cache, write_new_cache};
 use crate::exchange::Exchange;
@@ -6,7 +7,6 @@ use crate::faults::Stop;
 use crate::granting::ticket_again;
 use crate::kinit::generator;
 use crate::places::Places;
-use crate::words::AgainWords;
 use cred_files::Credential;
 use file_store::Store;
 use krb_fields::Moment;
@@ -16,27 +16,27 @@ use std::alloc::Global;
 pub(crate) fn get_again<T: Store, X: Exchange>(
     alloc: Global,
     places: &Places,
-    words: &AgainWords<'_>,
+    args: &AgainArgs<'_>,
     kdc: KdcPlace<'_>,
     store: &mut T,
     exchange: &mut X,
     at: Moment,
 ) -> Result<(), Stop> {
     let path = places.cache.as_str();
-    let credential = ticket_of(alloc, path, words, kdc, store, exchange, at)?;
+    let credential = ticket_of(alloc, path, args, kdc, store, exchange, at)?;
     write_new_cache(alloc, store, path, &credential)
 }
 
 fn ticket_of<T: Store, X: Exchange>(
     alloc: Global,
     path: &str,
-    words: &AgainWords<'_>,
+    args: &AgainArgs<'_>,
     kdc: KdcPlace<'_>,
     store: &mut T,
     exchange: &mut X,
     at: Moment,
 ) -> Result<Credential, Stop> {
     let cache = read_cache(alloc, store, path)?;
-    let mut rng = generator(alloc, store, words.seed)?;
-    ticket_again(alloc, exchange, kdc, &cache, words.again, &mut rng, at)
+    let mut rng = generator(alloc, store, args.seed)?;
+    ticket_again(alloc, exchange, kdc, &cache, args.again, &mut rng, at)
 }

@@ -4,7 +4,7 @@ ghost use Rattle.std.specs.Prelude.{◌≤◌, IfOk};
 use crate::codes::code_text;
 use crate::environment::Defaults;
 use crate::exchange::Exchange;
-use crate::fault_words::{MEMORY, Subject, word_of};
+use crate::fault_args::{MEMORY, Subject, word_of};
 use crate::faults::{Place, Reason, Stop};
 use crate::places::Unplaced;
 use crate::run::{DONE, FAILED, REFUSED, USAGE};
@@ -247,7 +247,7 @@ fn cache_word<'a>(defaults: &Defaults<'a>) -> &'a str {
 }
 
 /// Prints what is wrong with the words, or the help that they ask for.
-pub(crate) fn report_words<W: Write, E: Write>(
+pub(crate) fn report_args<W: Write, E: Write>(
     out: &mut W,
     errors: &mut E,
     error: &Error,

@@ -1,20 +1,20 @@
 //! One command line: from its words to the files.
 ghost use Rattle.std.specs.Prelude.{◌≤◌, IfOk};
 
+use crate::args::{AgainArgs, FirstArgs, KvnoArgs, Task, task_of};
 use crate::asking::KdcPlace;
 use crate::environment::Defaults;
 use crate::exchange::Exchange;
-use crate::fault_words::{common_subject, first_subject, kvno_subject};
+use crate::fault_args::{common_subject, first_subject, kvno_subject};
 use crate::kinit::log_in;
 use crate::klist::run_klist;
 use crate::kvno::{KvnoStop, get_tickets};
-use crate::options::read_words;
+use crate::options::read_args;
 use crate::places::{Places, find_places};
 use crate::renewing::get_again;
 use crate::reporting::{
-    name_at, print_fault, report_asked, report_unplaced, report_words, tell_name, tell_unwritten,
+    name_at, print_fault, report_args, report_asked, report_unplaced, tell_name, tell_unwritten,
 };
-use crate::words::{AgainWords, FirstWords, KvnoWords, Task, task_of};
 use clap::ArgMatches;
 use file_store::Store;
 use krb_fields::Moment;
@@ -40,7 +40,7 @@ pub const FAILED: u8 = 3;
 /// cache is as it was, unless the printing alone failed: then it is `FAILED`, and the cache is written.
 pub fn kclient_run<S: AsStr, T: Store, X: Exchange, W: Write + Drop, E: Write + Drop>(
     alloc: Global,
-    words: &[S],
+    args: &[S],
     defaults: &Defaults<'_>,
     store: &mut T,
     exchange: &mut X,
@@ -62,7 +62,7 @@ pub fn kclient_run<S: AsStr, T: Store, X: Exchange, W: Write + Drop, E: Write + 
     };
     let done = run_to_end(
         alloc,
-        words,
+        args,
         defaults,
         store,
         exchange,
@@ -82,7 +82,7 @@ pub fn kclient_run<S: AsStr, T: Store, X: Exchange, W: Write + Drop, E: Write + 
 /// The status; an error is a failed write.
 fn run_to_end<S: AsStr, T: Store, X: Exchange, W: Write, E: Write>(
     alloc: Global,
-    words: &[S],
+    args: &[S],
     defaults: &Defaults<'_>,
     store: &mut T,
     exchange: &mut X,
@@ -92,15 +92,15 @@ fn run_to_end<S: AsStr, T: Store, X: Exchange, W: Write, E: Write>(
 ) -> io::Result<u8>
     ensures { IfOk result (λ status. status ≤ 3) }
 {
-    let status = run_words(alloc, words, defaults, store, exchange, at, out, errors)?;
+    let status = run_args(alloc, args, defaults, store, exchange, at, out, errors)?;
     out.flush()?;
     errors.flush()?;
     Ok(status)
 }
 
-fn run_words<S: AsStr, T: Store, X: Exchange, W: Write, E: Write>(
+fn run_args<S: AsStr, T: Store, X: Exchange, W: Write, E: Write>(
     alloc: Global,
-    words: &[S],
+    args: &[S],
     defaults: &Defaults<'_>,
     store: &mut T,
     exchange: &mut X,
@@ -110,9 +110,9 @@ fn run_words<S: AsStr, T: Store, X: Exchange, W: Write, E: Write>(
 ) -> io::Result<u8>
     ensures { IfOk result (λ status. status ≤ 3) }
 {
-    match read_words(alloc, words) {
+    match read_args(alloc, args) {
         Ok(matches) => run_subcommand(alloc, &matches, defaults, store, exchange, at, out, errors),
-        Err(error) => report_words(out, errors, &error),
+        Err(error) => report_args(out, errors, &error),
     }
 }
 
@@ -179,26 +179,22 @@ fn run_task<T: Store, X: Exchange, W: Write, E: Write>(
         tcp_only: options.get_flag("tcp"),
     };
     match task {
-        Task::First(words) => run_first(
-            alloc, places, words, kdc, store, exchange, at, out, errors,
-        ),
-        Task::Again(words) => run_again(
-            alloc, places, words, kdc, store, exchange, at, out, errors,
-        ),
-        Task::Kvno(words) => match options.get_strs("name") {
+        Task::First(args) => run_first(alloc, places, args, kdc, store, exchange, at, out, errors),
+        Task::Again(args) => run_again(alloc, places, args, kdc, store, exchange, at, out, errors),
+        Task::Kvno(args) => match options.get_strs("name") {
             Some(names) => run_kvno(
-                alloc, places, words, names, kdc, store, exchange, at, out, errors,
+                alloc, places, args, names, kdc, store, exchange, at, out, errors,
             ),
             None => Ok(USAGE),
         },
-        Task::Klist(words) => run_klist(alloc, places, words, store, out, errors),
+        Task::Klist(args) => run_klist(alloc, places, args, store, out, errors),
     }
 }
 
 fn run_first<T: Store, X: Exchange, W: Write, E: Write>(
     alloc: Global,
     places: &Places,
-    words: &FirstWords<'_>,
+    args: &FirstArgs<'_>,
     kdc: KdcPlace<'_>,
     store: &mut T,
     exchange: &mut X,
@@ -208,10 +204,10 @@ fn run_first<T: Store, X: Exchange, W: Write, E: Write>(
 ) -> io::Result<u8>
     ensures { IfOk result (λ status. status ≤ 3) }
 {
-    match log_in(alloc, places, words, kdc, store, exchange, at) {
+    match log_in(alloc, places, args, kdc, store, exchange, at) {
         Ok(()) => print_done(out),
         Err(stop) => {
-            let subject = first_subject(places, words, stop.place());
+            let subject = first_subject(places, args, stop.place());
             report_asked(out, errors, subject, exchange, stop)
         }
     }
@@ -220,7 +216,7 @@ fn run_first<T: Store, X: Exchange, W: Write, E: Write>(
 fn run_again<T: Store, X: Exchange, W: Write, E: Write>(
     alloc: Global,
     places: &Places,
-    words: &AgainWords<'_>,
+    args: &AgainArgs<'_>,
     kdc: KdcPlace<'_>,
     store: &mut T,
     exchange: &mut X,
@@ -230,10 +226,10 @@ fn run_again<T: Store, X: Exchange, W: Write, E: Write>(
 ) -> io::Result<u8>
     ensures { IfOk result (λ status. status ≤ 3) }
 {
-    match get_again(alloc, places, words, kdc, store, exchange, at) {
+    match get_again(alloc, places, args, kdc, store, exchange, at) {
         Ok(()) => print_done(out),
         Err(stop) => {
-            let subject = common_subject(places, words.seed, stop.place());
+            let subject = common_subject(places, args.seed, stop.place());
             report_asked(out, errors, subject, exchange, stop)
         }
     }
@@ -249,7 +245,7 @@ fn print_done<W: Write>(out: &mut W) -> io::Result<u8>
 fn run_kvno<T: Store, X: Exchange, W: Write, E: Write>(
     alloc: Global,
     places: &Places,
-    words: &KvnoWords<'_>,
+    args: &KvnoArgs<'_>,
     names: &[&str],
     kdc: KdcPlace<'_>,
     store: &mut T,
@@ -260,9 +256,9 @@ fn run_kvno<T: Store, X: Exchange, W: Write, E: Write>(
 ) -> io::Result<u8>
     ensures { IfOk result (λ status. status ≤ 3) }
 {
-    match get_tickets(alloc, places, words, names, kdc, store, exchange, at) {
-        Ok(versions) => print_versions(out, names, &versions, words.keytab.is_some()),
-        Err(stop) => report_kvno(out, errors, places, words, names, exchange, stop),
+    match get_tickets(alloc, places, args, names, kdc, store, exchange, at) {
+        Ok(versions) => print_versions(out, names, &versions, args.keytab.is_some()),
+        Err(stop) => report_kvno(out, errors, places, args, names, exchange, stop),
     }
 }
 
@@ -290,7 +286,7 @@ fn report_kvno<X: Exchange, W: Write, E: Write>(
     out: &mut W,
     errors: &mut E,
     places: &Places,
-    words: &KvnoWords<'_>,
+    args: &KvnoArgs<'_>,
     names: &[&str],
     exchange: &X,
     stop: KvnoStop,
@@ -300,6 +296,6 @@ fn report_kvno<X: Exchange, W: Write, E: Write>(
     let KvnoStop { stop, index } = stop;
     let name = name_at(names, index);
     tell_name(errors, names.len(), name)?;
-    let subject = kvno_subject(places, words, name, stop.place());
+    let subject = kvno_subject(places, args, name, stop.place());
     report_asked(out, errors, subject, exchange, stop)
 }

@@ -139,7 +139,7 @@ fn run_line<W: Write + Drop>(
     out: W,
     errors: &mut Vec<u8>,
 ) -> Result<u8, AllocError> {
-    let words: Vec<&str> = line.split(' ').collect(alloc)?;
+    let args: Vec<&str> = line.split(' ').collect(alloc)?;
     let defaults = Defaults {
         cache: Variable::Absent,
         config: Variable::Absent,
@@ -147,7 +147,7 @@ fn run_line<W: Write + Drop>(
     let mut silence = Silence::new();
     Ok(kclient_run(
         alloc,
-        words.as_slice(),
+        args.as_slice(),
         &defaults,
         store,
         &mut silence,

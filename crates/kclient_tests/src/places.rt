@@ -354,6 +354,6 @@ fn the_next_kdc_is_asked_where_one_gives_nothing(rt: HostRuntime) -> Result<(), 
 }
 
 #[test]
-fn what_stands_for_words_that_lack(rt: HostRuntime) -> Result<(), Fail> {
+fn what_stands_for_args_that_lack(rt: HostRuntime) -> Result<(), Fail> {
     expect_runs(&rt, rt.alloc(), BY_DEFAULTS)
 }

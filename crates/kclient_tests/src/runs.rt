@@ -218,10 +218,10 @@ fn run_to<W: Write + Drop>(
     out: W,
     errors: &mut Vec<u8>,
 ) -> Result<u8, AllocError> {
-    let words: Vec<&str> = run.line.split(' ').collect(alloc)?;
+    let args: Vec<&str> = run.line.split(' ').collect(alloc)?;
     Ok(kclient_run(
         alloc,
-        words.as_slice(),
+        args.as_slice(),
         &run.defaults,
         store,
         exchange,
@@ -417,8 +417,8 @@ const CODED: &Run = &KINIT_V;
 pub fn expect_codes(rt: &impl Abort, alloc: Global, codes: &[(u8, &str)]) -> Result<(), Fail> {
     let mut store = store(alloc)?;
     let mut exchange = joined(alloc)?;
-    for (code, words) in codes {
-        expect_code(rt, alloc, &mut store, &mut exchange, *code, words)?;
+    for (code, args) in codes {
+        expect_code(rt, alloc, &mut store, &mut exchange, *code, args)?;
     }
     Ok(())
 }
@@ -429,7 +429,7 @@ fn expect_code(
     store: &mut MemoryStore,
     exchange: &mut JoinedExchange,
     code: u8,
-    words: &str,
+    args: &str,
 ) -> Result<(), Fail> {
     exchange.begin(alloc, moment(0)?, Link::Error(code));
     let ended = run_line(alloc, store, exchange, moment(0)?, CODED)?;
@@ -437,6 +437,6 @@ fn expect_code(
     assert_eq!(rt; text(&ended.out), out.as_str());
     let front = format!(in alloc; "kclient: 192.0.2.1:88: error {code}: ")?;
     assert!(rt; text(&ended.errors).starts_with(front.as_str()), "{code}");
-    assert!(rt; text(&ended.errors).contains(words), "{code}");
+    assert!(rt; text(&ended.errors).contains(args), "{code}");
     Ok(())
 }

@@ -8,7 +8,7 @@ use crate::serving::serve_realm;
 use clap::ArgMatches;
 use clap::error::ErrorKind;
 use kdc_script::{FAILED, run_script};
-use kdcd_start::{WordsFault, read_words, serve_options};
+use kdcd_start::{ArgsFault, read_args, serve_options};
 use std::process::ExitCode;
 use std::{env, io};
 
@@ -30,15 +30,15 @@ fn main(rt: HostRuntime) -> ExitCode {
 /// The status of the program; an error is a failed write, or want of memory.
 fn run(rt: &HostRuntime) -> io::Result<u8> {
     let alloc = rt.alloc();
-    let words: Vec<String> = match env::args(rt) {
-        Ok(words) => words.collect(alloc)?,
+    let args: Vec<String> = match env::args(rt) {
+        Ok(args) => args.collect(alloc)?,
         Err(error) if error.kind() == io::ErrorKind::InvalidData => {
             println!(rt; "error: a word is not UTF-8")?;
             return Ok(USAGE);
         }
         Err(error) => return Err(error),
     };
-    match read_words(alloc, &words) {
+    match read_args(alloc, &args) {
         Ok(matches) => run_subcommand(rt, &matches),
         Err(error) if error.kind() == ErrorKind::OutOfMemory => {
             Err(io::Error::from(io::ErrorKind::OutOfMemory))
@@ -53,13 +53,13 @@ fn run(rt: &HostRuntime) -> io::Result<u8> {
 fn run_subcommand(rt: &HostRuntime, matches: &ArgMatches<'_>) -> io::Result<u8> {
     match matches.subcommand() {
         Some(("script", _)) => Ok(run_script(rt.alloc(), rt.stdin(), &mut rt.stdout())),
-        Some(("serve", words)) => match serve_options(rt.alloc(), words) {
+        Some(("serve", args)) => match serve_options(rt.alloc(), args) {
             Ok(options) => serve_realm(rt, &options),
-            Err(WordsFault::Amiss(fault)) => {
+            Err(ArgsFault::Amiss(fault)) => {
                 println!(rt; "error: {fault}")?;
                 Ok(USAGE)
             }
-            Err(WordsFault::Memory) => Err(io::Error::from(io::ErrorKind::OutOfMemory)),
+            Err(ArgsFault::Memory) => Err(io::Error::from(io::ErrorKind::OutOfMemory)),
         },
         _ => Ok(USAGE),
     }

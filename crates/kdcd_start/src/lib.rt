@@ -1,14 +1,14 @@
 //! What `kdcd` is started with: its words, and the files of a server.
 #![tactic(auto)]
 
+mod args;
 mod files;
 mod request_lines;
 mod rows_file;
 mod started;
-mod words;
 
+pub use crate::args::{ArgsFault, ServeOptions, read_args, serve_options};
 pub use crate::files::{FileFault, database_of, read_at_most, read_whole, seed_of};
 pub use crate::request_lines::RequestLines;
 pub use crate::rows_file::RowsFile;
 pub use crate::started::Started;
-pub use crate::words::{ServeOptions, WordsFault, read_words, serve_options};

@@ -1,7 +1,7 @@
 //! What the words of `kdcd serve` stand for, and which files are taken (`kdcd_start`).
 use clap::ArgMatches;
 use kdcd_start::{
-    FileFault, Started, WordsFault, database_of, read_at_most, read_words, seed_of, serve_options,
+    ArgsFault, FileFault, Started, database_of, read_args, read_at_most, seed_of, serve_options,
 };
 use principal_rows::Limits;
 use std::alloc::{AllocError, Global};
@@ -79,30 +79,30 @@ const LINES: &[(&str, Option<&str>)] = &[
     ("--udp 127.0.0.1:88 --log yes", Some("?")),
 ];
 
-fn words_of(alloc: Global, line: &str) -> Result<Vec<String>, AllocError> {
-    let mut words = Vec::new(alloc);
+fn args_of(alloc: Global, line: &str) -> Result<Vec<String>, AllocError> {
+    let mut args = Vec::new(alloc);
     for word in line.split(' ') {
-        words.push(String::from_str(alloc, word)?)?;
+        args.push(String::from_str(alloc, word)?)?;
     }
-    Ok(words)
+    Ok(args)
 }
 
 /// What is wrong with the words.
-fn fault(alloc: Global, words: &[String]) -> Option<&'static str> {
-    match read_words(alloc, words) {
+fn fault(alloc: Global, args: &[String]) -> Option<&'static str> {
+    match read_args(alloc, args) {
         Ok(matches) => match matches.subcommand() {
-            Some((_, words)) => options_fault(alloc, words),
+            Some((_, args)) => options_fault(alloc, args),
             None => Some("?"),
         },
         Err(_) => Some("?"),
     }
 }
 
-fn options_fault(alloc: Global, words: &ArgMatches<'_>) -> Option<&'static str> {
-    match serve_options(alloc, words) {
+fn options_fault(alloc: Global, args: &ArgMatches<'_>) -> Option<&'static str> {
+    match serve_options(alloc, args) {
         Ok(_) => None,
-        Err(WordsFault::Amiss(fault)) => Some(fault),
-        Err(WordsFault::Memory) => Some("memory"),
+        Err(ArgsFault::Amiss(fault)) => Some(fault),
+        Err(ArgsFault::Memory) => Some("memory"),
     }
 }
 
@@ -116,34 +116,34 @@ fn is_wanted(fault: Option<&str>, wanted: Option<&str>) -> bool {
 }
 
 #[test]
-fn words_that_are_read(rt: HostRuntime) -> Result<(), Fail> {
+fn args_that_are_read(rt: HostRuntime) -> Result<(), Fail> {
     let alloc = rt.alloc();
     for (line, wanted) in LINES {
         let line = format!(in alloc; "kdcd serve --db d {line}")?;
-        let words = words_of(alloc, &line)?;
-        assert!(rt; is_wanted(fault(alloc, &words), *wanted), "{line}");
+        let args = args_of(alloc, &line)?;
+        assert!(rt; is_wanted(fault(alloc, &args), *wanted), "{line}");
     }
-    let words = words_of(alloc, "kdcd serve --udp 127.0.0.1:88")?;
-    assert_eq!(rt; fault(alloc, &words), Some("?"));
+    let args = args_of(alloc, "kdcd serve --udp 127.0.0.1:88")?;
+    assert_eq!(rt; fault(alloc, &args), Some("?"));
     Ok(())
 }
 
 /// The limits that these words give.
 fn limits_of(alloc: Global, line: &str) -> Result<Limits, Fail> {
-    let words = words_of(alloc, line)?;
-    let matches = match read_words(alloc, &words) {
+    let args = args_of(alloc, line)?;
+    let matches = match read_args(alloc, &args) {
         Ok(matches) => matches,
         Err(_) => Err("words")?,
     };
-    let (_, words) = matches.subcommand().ok_or("serve")?;
-    match serve_options(alloc, words) {
+    let (_, args) = matches.subcommand().ok_or("serve")?;
+    match serve_options(alloc, args) {
         Ok(options) => Ok(options.limits),
         Err(_) => Err("options")?,
     }
 }
 
 #[test]
-fn limits_are_those_of_the_words(rt: HostRuntime) -> Result<(), Fail> {
+fn limits_are_those_of_the_args(rt: HostRuntime) -> Result<(), Fail> {
     let limits = limits_of(rt.alloc(), "kdcd serve --db d --udp [::]:88")?;
     assert_eq!(rt; Some(limits), Limits::new(1_024, 0, 0, 36_000, 604_800));
     let limits = limits_of(

@@ -7,18 +7,18 @@ use text_fields::number_u32;
 #[derive(Clone, Copy)]
 pub(crate) enum Task<'a> {
     /// A first ticket, by `kinit`.
-    First(FirstWords<'a>),
+    First(FirstArgs<'a>),
     /// A ticket that the client has, once more, by `kinit`.
-    Again(AgainWords<'a>),
-    Kvno(KvnoWords<'a>),
-    Klist(KlistWords<'a>),
+    Again(AgainArgs<'a>),
+    Kvno(KvnoArgs<'a>),
+    Klist(KlistArgs<'a>),
 }
 
 /// The words of a first ticket, but for the realm.
 #[derive(Clone, Copy)]
-pub(crate) struct FirstWords<'a> {
+pub(crate) struct FirstArgs<'a> {
     pub name: &'a str,
-    pub secret: SecretWords<'a>,
+    pub secret: SecretArgs<'a>,
     /// The name of the service; absent: the ticket-granting one.
     pub service: Option<&'a str>,
     /// The path of the seed's file; absent: the seed is the system's.
@@ -27,7 +27,7 @@ pub(crate) struct FirstWords<'a> {
 }
 
 #[derive(Clone, Copy)]
-pub(crate) struct AgainWords<'a> {
+pub(crate) struct AgainArgs<'a> {
     pub again: Again,
     /// The path of the seed's file; absent: the seed is the system's.
     pub seed: Option<&'a str>,
@@ -35,7 +35,7 @@ pub(crate) struct AgainWords<'a> {
 
 /// Where the client's key is, or the password that it is made of.
 #[derive(Clone, Copy)]
-pub(crate) enum SecretWords<'a> {
+pub(crate) enum SecretArgs<'a> {
     /// The path of the password's file.
     PasswordFile(&'a str),
     /// The path of the keytab.
@@ -46,7 +46,7 @@ pub(crate) enum SecretWords<'a> {
 
 /// The words of `kvno`, but for its names.
 #[derive(Clone, Copy)]
-pub(crate) struct KvnoWords<'a> {
+pub(crate) struct KvnoArgs<'a> {
     /// The path of the keytab that has to open each ticket.
     pub keytab: Option<&'a str>,
     /// The path of the seed's file; absent: the seed is the system's.
@@ -56,7 +56,7 @@ pub(crate) struct KvnoWords<'a> {
 }
 
 #[derive(Clone, Copy)]
-pub(crate) struct KlistWords<'a> {
+pub(crate) struct KlistArgs<'a> {
     /// The path of the keytab; absent: a cache is listed.
     pub keytab: Option<&'a str>,
 }
@@ -90,91 +90,91 @@ const AGAIN: &str = "\
 --renew and --validate take the ticket of the cache: no option of a first ticket goes with them";
 
 /// What the words behind a command's name order; else what is wrong with them.
-pub(crate) fn task_of<'a>(command: &str, words: &ArgMatches<'a>) -> Result<Task<'a>, &'static str> {
+pub(crate) fn task_of<'a>(command: &str, args: &ArgMatches<'a>) -> Result<Task<'a>, &'static str> {
     match command {
-        "kinit" => kinit_task(words),
-        "kvno" => Ok(Task::Kvno(KvnoWords {
-            keytab: words.get_str("keytab"),
-            seed: words.get_str("seed"),
-            fresh: words.get_flag("fresh"),
+        "kinit" => kinit_task(args),
+        "kvno" => Ok(Task::Kvno(KvnoArgs {
+            keytab: args.get_str("keytab"),
+            seed: args.get_str("seed"),
+            fresh: args.get_flag("fresh"),
         })),
-        _ => Ok(Task::Klist(KlistWords {
-            keytab: words.get_str("keytab"),
+        _ => Ok(Task::Klist(KlistArgs {
+            keytab: args.get_str("keytab"),
         })),
     }
 }
 
-fn kinit_task<'a>(words: &ArgMatches<'a>) -> Result<Task<'a>, &'static str> {
-    match again(words)? {
-        Some(again) => Ok(Task::Again(AgainWords {
+fn kinit_task<'a>(args: &ArgMatches<'a>) -> Result<Task<'a>, &'static str> {
+    match again(args)? {
+        Some(again) => Ok(Task::Again(AgainArgs {
             again,
-            seed: words.get_str("seed"),
+            seed: args.get_str("seed"),
         })),
-        None => Ok(Task::First(first_words(words)?)),
+        None => Ok(Task::First(first_args(args)?)),
     }
 }
 
 /// What is to be done with a ticket that the client has; `None` where a first ticket is asked. Else what is wrong.
-fn again(words: &ArgMatches<'_>) -> Result<Option<Again>, &'static str> {
-    let again = match (words.get_flag("renew"), words.get_flag("validate")) {
+fn again(args: &ArgMatches<'_>) -> Result<Option<Again>, &'static str> {
+    let again = match (args.get_flag("renew"), args.get_flag("validate")) {
         (true, true) => return Err(TWO_WAYS),
         (true, false) => Again::Renew,
         (false, true) => Again::Validate,
         (false, false) => return Ok(None),
     };
-    if asks_for_first(words) {
+    if asks_for_first(args) {
         return Err(AGAIN);
     }
     Ok(Some(again))
 }
 
 /// Whether an option stands there that says what a first ticket is to be.
-fn asks_for_first(words: &ArgMatches<'_>) -> bool {
+fn asks_for_first(args: &ArgMatches<'_>) -> bool {
     for name in FIRST_ALONE {
-        if words.get_str(name).is_some() {
+        if args.get_str(name).is_some() {
             return true;
         }
     }
     for name in FIRST_FLAGS {
-        if words.get_flag(name) {
+        if args.get_flag(name) {
             return true;
         }
     }
     false
 }
 
-fn first_words<'a>(words: &ArgMatches<'a>) -> Result<FirstWords<'a>, &'static str> {
-    Ok(FirstWords {
-        name: words.get_str("name").ok_or(NO_NAME)?,
-        secret: secret_words(words)?,
-        service: words.get_str("service"),
-        seed: words.get_str("seed"),
-        wishes: wishes(words)?,
+fn first_args<'a>(args: &ArgMatches<'a>) -> Result<FirstArgs<'a>, &'static str> {
+    Ok(FirstArgs {
+        name: args.get_str("name").ok_or(NO_NAME)?,
+        secret: secret_args(args)?,
+        service: args.get_str("service"),
+        seed: args.get_str("seed"),
+        wishes: wishes(args)?,
     })
 }
 
-fn secret_words<'a>(words: &ArgMatches<'a>) -> Result<SecretWords<'a>, &'static str> {
-    match (words.get_str("password-file"), words.get_str("keytab")) {
+fn secret_args<'a>(args: &ArgMatches<'a>) -> Result<SecretArgs<'a>, &'static str> {
+    match (args.get_str("password-file"), args.get_str("keytab")) {
         (Some(_), Some(_)) => Err(TWO_SECRETS),
-        (Some(path), None) => Ok(SecretWords::PasswordFile(path)),
-        (None, Some(path)) => Ok(SecretWords::Keytab(path)),
-        (None, None) => Ok(SecretWords::Asked),
+        (Some(path), None) => Ok(SecretArgs::PasswordFile(path)),
+        (None, Some(path)) => Ok(SecretArgs::Keytab(path)),
+        (None, None) => Ok(SecretArgs::Asked),
     }
 }
 
-fn wishes(words: &ArgMatches<'_>) -> Result<Wishes, &'static str> {
+fn wishes(args: &ArgMatches<'_>) -> Result<Wishes, &'static str> {
     Ok(Wishes {
-        life: seconds(words, "life").ok_or(NO_LIFE)?,
-        start: seconds(words, "start").ok_or(NO_START)?,
-        renewable: words.get_flag("renewable"),
-        forwardable: words.get_flag("forwardable"),
-        proxiable: words.get_flag("proxiable"),
+        life: seconds(args, "life").ok_or(NO_LIFE)?,
+        start: seconds(args, "start").ok_or(NO_START)?,
+        renewable: args.get_flag("renewable"),
+        forwardable: args.get_flag("forwardable"),
+        proxiable: args.get_flag("proxiable"),
     })
 }
 
 /// A number of seconds, which may be absent; `None` where the word is no number.
-fn seconds(words: &ArgMatches<'_>, name: &str) -> Option<Option<u32>> {
-    match words.get_str(name) {
+fn seconds(args: &ArgMatches<'_>, name: &str) -> Option<Option<u32>> {
+    match args.get_str(name) {
         Some(text) => Some(Some(number_u32(text)?)),
         None => Some(None),
     }

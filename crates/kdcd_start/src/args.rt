@@ -1,9 +1,7 @@
 //! The words of a command line.
 use clap::error::Error;
 use clap::{ArgMatches, Command};
-use command_options::{
-    FlagWords, OptionWords, SubcommandWords, Times, subcommand, with_subcommands,
-};
+use command_options::{FlagRow, OptionRow, SubcommandRow, Times, subcommand, with_subcommands};
 use principal_rows::Limits;
 use std::alloc::{AllocError, AllocFailed, Global};
 use std::net::SocketAddr;
@@ -33,21 +31,21 @@ pub struct ServeOptions<'a> {
 
 /// Why the words behind `serve` are not taken.
 #[derive(Clone, Copy, Debug)]
-pub enum WordsFault {
+pub enum ArgsFault {
     /// What is wrong with them.
     Amiss(&'static str),
     Memory,
 }
 
-impl From<AllocError> for WordsFault {
-    fn from(_: AllocError) -> WordsFault {
-        WordsFault::Memory
+impl From<AllocError> for ArgsFault {
+    fn from(_: AllocError) -> ArgsFault {
+        ArgsFault::Memory
     }
 }
 
-impl<T: Drop> From<AllocFailed<T>> for WordsFault {
-    fn from(_: AllocFailed<T>) -> WordsFault {
-        WordsFault::Memory
+impl<T: Drop> From<AllocFailed<T>> for ArgsFault {
+    fn from(_: AllocFailed<T>) -> ArgsFault {
+        ArgsFault::Memory
     }
 }
 
@@ -72,65 +70,65 @@ Status: 0 after the last round; 1 where a file is refused (`refused NAME`: NotJs
 NoTicketGranter, ShortSeed, LongFile); 2 for these words; 3 where a file, a socket, the clock or memory failed
 (`failed`). Why it could not start stands on standard error.";
 
-const SERVE: SubcommandWords = SubcommandWords {
+const SERVE: SubcommandRow = SubcommandRow {
     name: "serve",
     about: "Serves a realm over UDP and TCP",
     options: &[
-        OptionWords {
+        OptionRow {
             name: "db",
             shape: "FILE",
             help: "The database, as `kadm` writes it",
             times: Times::Once,
         },
-        OptionWords {
+        OptionRow {
             name: "udp",
             shape: "ADDRESS:PORT",
             help: "Where datagrams are taken, as 127.0.0.1:88 or [::1]:88. It and --tcp may stand 8 times in all",
             times: Times::Any,
         },
-        OptionWords {
+        OptionRow {
             name: "tcp",
             shape: "ADDRESS:PORT",
             help: "Where connections are taken",
             times: Times::Any,
         },
-        OptionWords {
+        OptionRow {
             name: "rounds",
             shape: "N",
             help: "How many rounds it serves, 0 to 4294967295",
             times: Times::AtMostOnce,
         },
-        OptionWords {
+        OptionRow {
             name: "seed",
             shape: "FILE",
             help: "32 random octets, others at each start, of which all keys of tickets are made; else the system's",
             times: Times::AtMostOnce,
         },
-        OptionWords {
+        OptionRow {
             name: "remembered",
             shape: "N",
             help: "How many authenticators are remembered of each client, 1 to 65536; else 1024",
             times: Times::AtMostOnce,
         },
-        OptionWords {
+        OptionRow {
             name: "lock-after",
             shape: "N",
             help: "After how many failed logins a client is locked; else, and with 0, never",
             times: Times::AtMostOnce,
         },
-        OptionWords {
+        OptionRow {
             name: "lock-seconds",
             shape: "N",
             help: "For how many seconds after the last failure; else 0",
             times: Times::AtMostOnce,
         },
-        OptionWords {
+        OptionRow {
             name: "greatest-life",
             shape: "N",
             help: "How many seconds a ticket lives at most; else 36000",
             times: Times::AtMostOnce,
         },
-        OptionWords {
+        OptionRow {
             name: "greatest-renewable",
             shape: "N",
             help: "For how many seconds a ticket is renewed at most; else 604800",
@@ -138,23 +136,23 @@ const SERVE: SubcommandWords = SubcommandWords {
         },
     ],
     flags: &[
-        FlagWords {
+        FlagRow {
             name: "first",
             help: "\
                 No request was ever answered with this database; else TGS-REQs are refused as skewed for 301 seconds",
         },
-        FlagWords {
+        FlagRow {
             name: "fixed",
             help: "The database is read once, and its file never looked at again",
         },
-        FlagWords {
+        FlagRow {
             name: "log",
             help: "Each request is a line on standard error",
         },
     ],
 };
 
-const SCRIPT: SubcommandWords = SubcommandWords {
+const SCRIPT: SubcommandRow = SubcommandRow {
     name: "script",
     about: "Runs a script from standard input",
     options: &[],
@@ -162,75 +160,75 @@ const SCRIPT: SubcommandWords = SubcommandWords {
 };
 
 /// Reads the words, the program's name in front.
-pub fn read_words<'a>(alloc: Global, words: &'a [String]) -> Result<ArgMatches<'a>, Error> {
+pub fn read_args<'a>(alloc: Global, args: &'a [String]) -> Result<ArgMatches<'a>, Error> {
     let kdcd = Command::new(alloc, "kdcd").about("A Kerberos KDC");
     with_subcommands(alloc, kdcd, &[SCRIPT])?
         .subcommand(subcommand(alloc, &SERVE)?.after_help(AFTER_HELP))?
-        .try_get_matches_from(words)
+        .try_get_matches_from(args)
 }
 
 /// The options that the words behind `serve` stand for.
 pub fn serve_options<'a>(
     alloc: Global,
-    words: &ArgMatches<'a>,
-) -> Result<ServeOptions<'a>, WordsFault> {
+    args: &ArgMatches<'a>,
+) -> Result<ServeOptions<'a>, ArgsFault> {
     let udp = addresses(
         alloc,
-        words,
+        args,
         "udp",
         "--udp takes an address and a port, as 127.0.0.1:88",
     )?;
     let tcp = addresses(
         alloc,
-        words,
+        args,
         "tcp",
         "--tcp takes an address and a port, as 127.0.0.1:88",
     )?;
     if let Some(fault) = count_fault(udp.len(), tcp.len()) {
-        return Err(WordsFault::Amiss(fault));
+        return Err(ArgsFault::Amiss(fault));
     }
-    with_addresses(words, udp, tcp)
+    with_addresses(args, udp, tcp)
 }
 
 /// The same, where the addresses are known.
 fn with_addresses<'a>(
-    words: &ArgMatches<'a>,
+    args: &ArgMatches<'a>,
     udp: Vec<SocketAddr>,
     tcp: Vec<SocketAddr>,
-) -> Result<ServeOptions<'a>, WordsFault> {
-    let db = words
+) -> Result<ServeOptions<'a>, ArgsFault> {
+    let db = args
         .get_str("db")
-        .ok_or(WordsFault::Amiss("--db is missing"))?;
-    let rounds = rounds(words)?;
-    let limits = limits(words)?;
+        .ok_or(ArgsFault::Amiss("--db is missing"))?;
+    let rounds = rounds(args)?;
+    let limits = limits(args)?;
     Ok(ServeOptions {
         db,
         udp,
         tcp,
         rounds,
-        seed: words.get_str("seed"),
+        seed: args.get_str("seed"),
         limits,
-        is_first: words.get_flag("first"),
-        is_fixed: words.get_flag("fixed"),
-        logs: words.get_flag("log"),
+        is_first: args.get_flag("first"),
+        is_fixed: args.get_flag("fixed"),
+        logs: args.get_flag("log"),
     })
 }
 
 /// The addresses that stand behind an option, each time that it stands there.
 fn addresses(
     alloc: Global,
-    words: &ArgMatches<'_>,
+    args: &ArgMatches<'_>,
     name: &str,
     fault: &'static str,
-) -> Result<Vec<SocketAddr>, WordsFault> {
+) -> Result<Vec<SocketAddr>, ArgsFault> {
     let mut addresses = Vec::new(alloc);
-    let Some(texts) = words.get_strs(name) else {
+    let Some(texts) = args.get_strs(name) else {
         return Ok(addresses);
     };
     for text in texts {
         match text.parse() {
             Ok(address) => addresses.push(address)?,
-            Err(_) => return Err(WordsFault::Amiss(fault)),
+            Err(_) => return Err(ArgsFault::Amiss(fault)),
         }
     }
     Ok(addresses)
@@ -247,58 +245,58 @@ fn count_fault(udp: usize, tcp: usize) -> Option<&'static str> {
     None
 }
 
-fn rounds(words: &ArgMatches<'_>) -> Result<Option<u32>, WordsFault> {
-    let Some(word) = words.get_str("rounds") else {
+fn rounds(args: &ArgMatches<'_>) -> Result<Option<u32>, ArgsFault> {
+    let Some(word) = args.get_str("rounds") else {
         return Ok(None);
     };
     match number_u32(word) {
         Some(rounds) => Ok(Some(rounds)),
-        None => Err(WordsFault::Amiss("--rounds takes a number from 0 to 4294967295")),
+        None => Err(ArgsFault::Amiss("--rounds takes a number from 0 to 4294967295")),
     }
 }
 
 const REMEMBERED_FAULT: &str = "--remembered takes a number from 1 to 65536";
 
-fn limits(words: &ArgMatches<'_>) -> Result<Limits, WordsFault> {
+fn limits(args: &ArgMatches<'_>) -> Result<Limits, ArgsFault> {
     let limits = Limits::new(
-        limit(words, "remembered", 1_024, REMEMBERED_FAULT)?,
+        limit(args, "remembered", 1_024, REMEMBERED_FAULT)?,
         limit(
-            words,
+            args,
             "lock-after",
             0,
             "--lock-after takes a number from 0 to 4294967295",
         )?,
         limit(
-            words,
+            args,
             "lock-seconds",
             0,
             "--lock-seconds takes a number from 0 to 4294967295",
         )?,
         limit(
-            words,
+            args,
             "greatest-life",
             36_000,
             "--greatest-life takes a number from 0 to 4294967295",
         )?,
         limit(
-            words,
+            args,
             "greatest-renewable",
             604_800,
             "--greatest-renewable takes a number from 0 to 4294967295",
         )?,
     );
-    limits.ok_or(WordsFault::Amiss(REMEMBERED_FAULT))
+    limits.ok_or(ArgsFault::Amiss(REMEMBERED_FAULT))
 }
 
 /// The number behind an option, or another where the option is left away.
 fn limit(
-    words: &ArgMatches<'_>,
+    args: &ArgMatches<'_>,
     name: &str,
     otherwise: u32,
     fault: &'static str,
-) -> Result<u32, WordsFault> {
-    match words.get_str(name) {
-        Some(word) => number_u32(word).ok_or(WordsFault::Amiss(fault)),
+) -> Result<u32, ArgsFault> {
+    match args.get_str(name) {
+        Some(word) => number_u32(word).ok_or(ArgsFault::Amiss(fault)),
         None => Ok(otherwise),
     }
 }

@@ -1,9 +1,9 @@
 //! What a fault is of, in the words of the command line.
 ghost use Rattle.std.specs.Prelude.{◌≡◌, ◌<◌, [], length};
 
+use crate::args::{FirstArgs, KvnoArgs, SecretArgs};
 use crate::faults::Place;
 use crate::places::Places;
-use crate::words::{FirstWords, KvnoWords, SecretWords};
 use std::fmt;
 use std::net::SocketAddr;
 
@@ -61,7 +61,7 @@ pub(crate) fn word_of<'a>(option: &'static str, word: &'a str) -> &'a str
 /// What a fault of a first ticket is of.
 pub(crate) fn first_subject<'a>(
     places: &'a Places,
-    words: &'a FirstWords<'_>,
+    args: &'a FirstArgs<'_>,
     place: Place,
 ) -> Subject<'a> {
     match place {
@@ -71,28 +71,28 @@ pub(crate) fn first_subject<'a>(
         },
         Place::Name => Subject::Word {
             option: "--name",
-            word: Some(words.name),
+            word: Some(args.name),
         },
         Place::Service => Subject::Word {
             option: "--service",
-            word: words.service,
+            word: args.service,
         },
-        Place::Password | Place::Keytab => Subject::Thing(secret_word(words.secret)),
-        _ => common_subject(places, words.seed, place),
+        Place::Password | Place::Keytab => Subject::Thing(secret_word(args.secret)),
+        _ => common_subject(places, args.seed, place),
     }
 }
 
-fn secret_word<'a>(secret: SecretWords<'a>) -> &'a str {
+fn secret_word<'a>(secret: SecretArgs<'a>) -> &'a str {
     match secret {
-        SecretWords::PasswordFile(path) | SecretWords::Keytab(path) => path,
-        SecretWords::Asked => STANDARD_INPUT,
+        SecretArgs::PasswordFile(path) | SecretArgs::Keytab(path) => path,
+        SecretArgs::Asked => STANDARD_INPUT,
     }
 }
 
 /// What a fault of tickets of services is of, at this name where it is of one.
 pub(crate) fn kvno_subject<'a>(
     places: &'a Places,
-    words: &'a KvnoWords<'_>,
+    args: &'a KvnoArgs<'_>,
     name: Option<&'a str>,
     place: Place,
 ) -> Subject<'a> {
@@ -101,8 +101,8 @@ pub(crate) fn kvno_subject<'a>(
             option: "--name",
             word: name,
         },
-        Place::Keytab => Subject::Thing(keytab_word(words.keytab)),
-        _ => common_subject(places, words.seed, place),
+        Place::Keytab => Subject::Thing(keytab_word(args.keytab)),
+        _ => common_subject(places, args.seed, place),
     }
 }
 
