@@ -3,7 +3,7 @@ use enctypes::{Etype, Key, KeyUsage, seal};
 use krb_der::KTime;
 use krb_elements::Microseconds;
 use krb_parts::PaEncTsEnc;
-use sealed_parts::{open_part, seal_part};
+use sealed_parts::{ReadyKeys, open_part, seal_part};
 use std::alloc::{AllocError, Global};
 use std::test::Fail;
 
@@ -61,6 +61,39 @@ fn opens_no_other_text(rt: HostRuntime) -> Result<(), Fail> {
         let key = Key::from_random(etype, &[7; 32]);
         let cipher = seal(rt.alloc(), &key, USAGE, &[9; 16], b"no timestamp")?;
         assert!(rt; opened(rt.alloc(), &key, USAGE, &cipher)?.is_none());
+    }
+    Ok(())
+}
+
+/// The seconds of the timestamp that is opened.
+fn opened_ready(
+    alloc: Global,
+    ready: &ReadyKeys,
+    key: &Key,
+    cipher: &[u8],
+) -> Result<Option<i64>, AllocError> {
+    let found: Option<PaEncTsEnc> = ready.open_part(alloc, key, USAGE, cipher)?;
+    Ok(match found {
+        Some(part) => Some(part.patimestamp.seconds()),
+        None => None,
+    })
+}
+
+// Both keys begin with the same octet, and so have one place.
+#[test]
+fn keys_of_one_place_take_turns(rt: HostRuntime) -> Result<(), Fail> {
+    let ready = ReadyKeys::new(rt.alloc())?;
+    for &etype in ETYPES {
+        let first = Key::from_random(etype, &[7; 32]);
+        let mut octets = [7; 32];
+        octets[1] = 8;
+        let second = Key::from_random(etype, &octets);
+        for key in [&first, &first, &second, &first] {
+            let cipher = sealed(rt.alloc(), key)?;
+            assert!(rt; opened_ready(rt.alloc(), &ready, key, &cipher)? == Some(1_704_067_200));
+        }
+        let cipher = sealed(rt.alloc(), &first)?;
+        assert!(rt; opened_ready(rt.alloc(), &ready, &second, &cipher)?.is_none());
     }
     Ok(())
 }

@@ -10,11 +10,11 @@ ghost use Rattle.kdc_core.specs.Contents.{contents, contents_in, tgs_contents, A
 ghost use Rattle.kdc_core.specs.Request.{request_of};
 ghost use Rattle.kdc_core.specs.View.{components_of, row_of, ticket_view, view, view_in};
 
-use enctypes::ReadyKey;
 use kdc_state::State;
 use krb_fields::NameRef;
 use krb_types::{Exchange, KdcReqRef, read_kdc_req};
 use principal_rows::Row;
+use sealed_parts::ReadyKeys;
 use std::alloc::{AllocError, Global};
 use tgs_opening::{Presented, TgsFault, TgsRefusal, TicketView, tgs_open};
 
@@ -33,11 +33,11 @@ pub enum Contents<'a> {
     TgsReq(KdcReqRef<'a>, Presented),
 }
 
-/// Reads the octets of a request, and opens what a TGS-REQ presents, faster by a key that is ready.
+/// Reads the octets of a request, and opens what a TGS-REQ presents, faster by keys that are ready.
 pub fn contents_of<'a>(
     state: &State,
     alloc: Global,
-    ready: &Option<ReadyKey>,
+    ready: &ReadyKeys,
     octets: &'a [u8],
 ) -> Result<Contents<'a>, AllocError>
     ensures value { IfOk result (λ held. held ≡ contents (view state.now octets.now) (request_of octets.now)) }
@@ -56,7 +56,7 @@ pub fn contents_of<'a>(
 fn contents_in<'a>(
     state: &State,
     alloc: Global,
-    ready: &Option<ReadyKey>,
+    ready: &ReadyKeys,
     exchange: Exchange,
     message: KdcReqRef<'a>,
 ) -> Result<Contents<'a>, AllocError>
@@ -98,7 +98,7 @@ fn tgs_contents(
 fn open_presented(
     state: &State,
     alloc: Global,
-    ready: &Option<ReadyKey>,
+    ready: &ReadyKeys,
     message: &KdcReqRef<'_>,
 ) -> Result<Presented, TgsFault>
     requires { IfSome (tgs_data message.now) (λ value. length value < 2147483648) }

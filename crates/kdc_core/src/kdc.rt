@@ -18,12 +18,12 @@ ghost use Rattle.kdc_state.specs.declared.state.State as states;
 ghost use Rattle.principals.specs.Change.{refusal, changed};
 
 use crate::answering::handle;
-use enctypes::{KeyUsage, ReadyKey};
 use kdc_replies::{Incoming, error_reply};
 use kdc_state::{Opening, State};
 use krb_fields::{Code, Moment, Name};
 use principal_rows::{Limits, Row};
 use principals::{Change, ChangeFault, Database};
+use sealed_parts::ReadyKeys;
 use std::alloc::{AllocError, Global};
 use std::error::Error;
 use std::fmt;
@@ -45,9 +45,8 @@ impl Error for OtherRealm {}
 #[derive(Debug, Drop)]
 pub struct Kdc {
     state: State,
-    // The key that the tickets of the ticket-granting service are sealed under. Whether it is that one is looked at
-    // where it is used, so that it saves time and no answer hangs on it.
-    ready: Option<ReadyKey>,
+    // The keys that were used last. They save time, and no answer hangs on them.
+    ready: ReadyKeys,
 }
 
 impl Model for Kdc {
@@ -62,7 +61,7 @@ impl Model for Kdc {
 }
 
 impl Kdc {
-    /// Opens with a database. It takes no memory; want of memory is the only fault that its type knows.
+    /// Opens with a database. Want of memory is the only fault.
     pub fn open(
         alloc: Global,
         database: Database,
@@ -74,7 +73,7 @@ impl Kdc {
         ensures reopened { (state : states.State) (at : moments.Moment) → opening ≡ Restart at
             → IfOk result (λ kdc. kdc ≡ after_event state (Reopen database limits at)) }
     {
-        let ready = ready_key(&database);
+        let ready = ReadyKeys::new(alloc)?;
         Ok(Kdc {
             state: State::open(alloc, database, limits, opening),
             ready,
@@ -151,9 +150,7 @@ impl Kdc {
         ensures otherwise { IfNone (refusal self.old.database change.now) (IsOkUnless result ChangeFault.Memory) }
         ensures err { OnErr result (self.new ≡ self.old) }
     {
-        let done = self.state.database.apply(alloc, change);
-        self.ready = ready_key(&self.state.database);
-        done
+        self.state.database.apply(alloc, change)
     }
 
     /// Puts another database of the same realm in the place of this one; all else stays. One of another realm changes
@@ -168,7 +165,6 @@ impl Kdc {
             return Err(OtherRealm);
         }
         self.state.database = database;
-        self.ready = ready_key(&self.state.database);
         Ok(())
     }
 
@@ -205,11 +201,4 @@ impl Kdc {
     {
         self.state.database.realm()
     }
-}
-
-/// The first current key of the ticket-granting service, made ready for its tickets.
-fn ready_key(database: &Database) -> Option<ReadyKey> {
-    let row = database.granter()?;
-    let key = row.versions.current().keys.keys().first()?;
-    Some(ReadyKey::new(key, KeyUsage::Ticket))
 }

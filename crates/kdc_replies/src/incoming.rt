@@ -1,6 +1,6 @@
 //! A request as it comes to a key distribution centre.
-use enctypes::ReadyKey;
 use krb_fields::Moment;
+use sealed_parts::ReadyKeys;
 use std::marker::Model;
 
 /// A request as it comes in, and what its answer takes beside what is known.
@@ -14,9 +14,8 @@ pub struct Incoming<'a> {
     pub room: u32,
     /// The request's own octets.
     pub octets: &'a [u8],
-    /// A key of a service that is kept ready for its tickets. It saves time, and no answer hangs on it: contracts don't
-    /// see it.
-    pub ready: &'a Option<ReadyKey>,
+    /// The keys that are kept ready. They save time, and no answer hangs on them: contracts don't see them.
+    pub ready: &'a ReadyKeys,
 }
 
 impl<'a> Model for Incoming<'a> {

@@ -12,12 +12,12 @@ ghost use Rattle.kdc_replies.specs.Reply.{OpensAlike, sealed_part, reply_of};
 
 use crate::grant::{Grant, LentName, LentRealm};
 use crate::tickets::{LentTicket, ServiceKey, confounder, ticket};
-use enctypes::{Key, KeyUsage, ReadyKey};
+use enctypes::{Key, KeyUsage};
 use krb_der::KTime;
 use krb_elements::{Lent, Seq, UInt32, write};
 use krb_fields::{EncryptedData, PaData};
 use krb_replies::{KdcRep, Under};
-use sealed_parts::encrypted;
+use sealed_parts::ReadyKeys;
 use std::alloc::{AllocError, Global};
 
 /// The key under which the client reads its part of a reply, what that use of it is, and its version where the reply
@@ -29,14 +29,13 @@ pub struct ReplyKey {
     pub kvno: Option<UInt32>,
 }
 
-/// What a reply repeats of its request, when it is made, by which random octets, and which key of a service is ready
-/// for its tickets.
+/// What a reply repeats of its request, when it is made, by which random octets, and which keys are ready.
 #[derive(Debug, Clone, Copy)]
 pub struct ReplyInputs<'r> {
     pub nonce: UInt32,
     pub time: KTime,
     pub random: &'r [u8; 64],
-    pub ready: &'r Option<ReadyKey>,
+    pub ready: &'r ReadyKeys,
 }
 
 /// A reply with the realm and the names that its grant lends.
@@ -124,7 +123,7 @@ fn sealed<const TAG: u8>(
     let part: Under<TAG, _> = Under {
         value: grant.reply_part(alloc, inputs.nonce, inputs.time)?,
     };
-    encrypted(
+    inputs.ready.encrypted(
         alloc,
         &key.key,
         key.usage,

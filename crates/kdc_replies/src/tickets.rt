@@ -8,11 +8,11 @@ ghost use Rattle.kdc_replies.specs.Grant.{IsShort, ticket_part};
 ghost use Rattle.kdc_replies.specs.Reply.{ticket_confounder, granted_ticket};
 
 use crate::grant::{Grant, LentName, LentRealm};
-use enctypes::{Key, KeyUsage, ReadyKey};
+use enctypes::{Key, KeyUsage};
 use krb_elements::{Lent, UInt32};
 use krb_fields::EncryptedData;
 use krb_types::{PVNO, Ticket};
-use sealed_parts::{encrypted, encrypted_by};
+use sealed_parts::ReadyKeys;
 use std::alloc::{AllocError, Global};
 
 /// A key of a service, under which its tickets are sealed, and the number of its version.
@@ -25,13 +25,12 @@ pub struct ServiceKey {
 /// A ticket with the realm and the name that its grant lends.
 pub type LentTicket<'g, 'a> = Ticket<LentRealm<'g, 'a>, LentName<'g, 'a>>;
 
-/// The ticket of a grant. Octets 32 to 48 of the random ones are its confounder. A key that is ready saves time where
-/// it is the service's.
+/// The ticket of a grant. Octets 32 to 48 of the random ones are its confounder. Keys that are ready save time.
 pub fn ticket<'g, 'a>(
     alloc: Global,
     grant: &'g Grant<'a>,
     service: &ServiceKey,
-    ready: &Option<ReadyKey>,
+    ready: &ReadyKeys,
     random: &[u8; 64],
 ) -> Result<LentTicket<'g, 'a>, AllocError>
     requires { IsShort grant.now }
@@ -49,12 +48,12 @@ pub fn ticket<'g, 'a>(
     })
 }
 
-/// What the ticket holds, sealed under the service's key: by the one that is ready, where that is it.
+/// What the ticket holds, sealed under the service's key.
 fn sealed(
     alloc: Global,
     grant: &Grant<'_>,
     service: &ServiceKey,
-    ready: &Option<ReadyKey>,
+    ready: &ReadyKeys,
     random: &[u8; 64],
 ) -> Result<EncryptedData, AllocError>
     requires { IsShort grant.now }
@@ -66,19 +65,14 @@ fn sealed(
     let part = grant.ticket_part(alloc)?;
     let kvno = Some(version_number(service.version));
     let confounder = confounder(random, 32);
-    match ready {
-        Some(ready) if ready.is_for(&service.key, KeyUsage::Ticket) => {
-            encrypted_by(alloc, ready, kvno, &confounder, &part)
-        }
-        _ => encrypted(
-            alloc,
-            &service.key,
-            KeyUsage::Ticket,
-            kvno,
-            &confounder,
-            &part,
-        ),
-    }
+    ready.encrypted(
+        alloc,
+        &service.key,
+        KeyUsage::Ticket,
+        kvno,
+        &confounder,
+        &part,
+    )
 }
 
 /// The number of a key's version, as a message has it.

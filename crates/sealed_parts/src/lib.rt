@@ -3,6 +3,7 @@
 
 mod encrypting;
 mod keys;
+mod ready_keys;
 
 ghost use Rattle.std.specs.Prelude.{◌≡◌, ◌<◌, ◌≤◌, ◌+◌, ◌^◌, length, Some, IfOk, IfSome};
 ghost use Rattle.krb_elements.specs.Codec.{written};
@@ -14,6 +15,7 @@ pub use encrypting::{encrypted, encrypted_by};
 use enctypes::{Key, KeyUsage, ReadyKey};
 pub use keys::{key_of, key_part, type_numbered};
 use krb_elements::{Encode, Fault, ReadOwned, read_owned, write};
+pub use ready_keys::ReadyKeys;
 use std::alloc::{AllocError, Global};
 
 /// Seals the encoding of a value. `confounder` is 16 random octets.

@@ -16,7 +16,7 @@ use enctypes::{Key, KeyUsage, verify};
 use krb_fields::{EncryptedDataRef, Typed};
 use krb_parts::{Authenticator, EncTicketPart};
 use refusals::decide;
-use sealed_parts::{key_of, open_part};
+use sealed_parts::{ReadyKeys, key_of};
 use std::alloc::{AllocError, Global};
 use std::cmp::Ordering;
 
@@ -44,17 +44,19 @@ fn part_rules(view: &TicketView<'_>, part: &EncTicketPart) -> [(bool, TgsRefusal
 /// The authenticator that the session key opens.
 pub fn authenticator_of(
     alloc: Global,
+    ready: &ReadyKeys,
     key: &Key,
     sealed: &EncryptedDataRef<'_>,
 ) -> Result<Authenticator, TgsFault>
     ensures { Gives result (authenticator_of key.now sealed.now) }
 {
-    let found = authenticator_in(alloc, key, sealed)?;
+    let found = authenticator_in(alloc, ready, key, sealed)?;
     Ok(found.ok_or(TgsRefusal::AuthenticatorNotOpened)?)
 }
 
 fn authenticator_in(
     alloc: Global,
+    ready: &ReadyKeys,
     key: &Key,
     sealed: &EncryptedDataRef<'_>,
 ) -> Result<Option<Authenticator>, AllocError>
@@ -64,7 +66,7 @@ fn authenticator_in(
         return Ok(None);
     }
     let usage = KeyUsage::TgsReqAuthenticator;
-    open_part(alloc, key, usage, sealed.cipher.as_slice())
+    ready.open_part(alloc, key, usage, sealed.cipher.as_slice())
 }
 
 /// The subkey of an authenticator that fits the ticket and the octets of the request's body.

@@ -31,7 +31,7 @@ pub fn tgs_open(
     let ap = ap_req_of(request)?;
     let ticket = shown_ticket(alloc, view, &request.body.value, &ap)?;
     let session_key = session_key_of(view, &ticket)?;
-    let authenticator = authenticator_of(alloc, &session_key, &ap.authenticator)?;
+    let authenticator = authenticator_of(alloc, view.ready, &session_key, &ap.authenticator)?;
     let body = body_octets(request);
     let subkey = subkey_of(&ticket, &session_key, body, &authenticator)?;
     Ok(Presented {

@@ -5,7 +5,7 @@ ghost use Rattle.std.specs.Prelude.{option_copied};
 ghost use Rattle.std.specs.Cmp.Lexicographic.{pointwise};
 ghost use Rattle.enctypes.specs.KeyUsage.{usage_number};
 ghost use Rattle.krb_parts.specs.EncTicketPart.{enc_ticket_part};
-ghost use Rattle.sealed_parts.specs.Parts.{IsSpelledWithin, opened_as};
+ghost use Rattle.sealed_parts.specs.Parts.{IsSpelledWithin};
 ghost use Rattle.tgs_opening.specs.Fault.{Gives};
 ghost use Rattle.tgs_opening.specs.Tickets.{addressee, ap_req_in, ap_req_of, holder, holds_type, is_for_asked};
 ghost use Rattle.tgs_opening.specs.Tickets.{is_named, is_other};
@@ -15,7 +15,7 @@ ghost use Rattle.tgs_opening.specs.Tickets.{shown_ticket, ticket_rules};
 use crate::fault::TgsFault;
 use crate::refusal::TgsRefusal;
 use crate::view::TicketView;
-use enctypes::{Key, KeyUsage, ReadyKey};
+use enctypes::{Key, KeyUsage};
 use krb_ap::{AP_REQ, ApReqRef, read_ap_req};
 use krb_elements::OctetsRef;
 use krb_fields::{ApOption, EncryptedDataRef, Name, NameRef, PA_TGS_REQ};
@@ -25,7 +25,7 @@ use preauth::{first_of, key_by, key_numbered};
 use principal_rows::{Row, Versions};
 use principals::names_granter;
 use refusals::decide;
-use sealed_parts::{open_part, open_part_by};
+use sealed_parts::ReadyKeys;
 use std::alloc::{AllocError, Global};
 use std::cmp::Ordering;
 use ticket_times::keeps_ticket;
@@ -228,7 +228,7 @@ fn ticket_key<'r>(row: Option<&'r Row>, sealed: &EncryptedDataRef<'_>) -> Option
 /// What the key opens, if there is one.
 fn part_of(
     alloc: Global,
-    ready: &Option<ReadyKey>,
+    ready: &ReadyKeys,
     key: Option<&Key>,
     sealed: &EncryptedDataRef<'_>,
 ) -> Result<Option<EncTicketPart>, AllocError>
@@ -239,25 +239,7 @@ fn part_of(
         IfSome found (λ part. IsSpelledWithin enc_ticket_part part sealed.now.cipher)) }
 {
     match key {
-        Some(key) => opened_by(alloc, ready, key, sealed.cipher.as_slice()),
+        Some(key) => ready.open_part(alloc, key, KeyUsage::Ticket, sealed.cipher.as_slice()),
         None => Ok(None),
-    }
-}
-
-/// What the key opens: by the one that is ready, where that is it.
-fn opened_by(
-    alloc: Global,
-    ready: &Option<ReadyKey>,
-    key: &Key,
-    cipher: &[u8],
-) -> Result<Option<EncTicketPart>, AllocError>
-    ensures value { IfOk result (λ found.
-        found
-        ≡ opened_as enc_ticket_part key.now.etype key.now.bytes (usage_number KeyUsage.Ticket) cipher.now) }
-    ensures within { IfOk result (λ found. IfSome found (λ part. IsSpelledWithin enc_ticket_part part cipher.now)) }
-{
-    match ready {
-        Some(ready) if ready.is_for(key, KeyUsage::Ticket) => open_part_by(alloc, ready, cipher),
-        _ => open_part(alloc, key, KeyUsage::Ticket, cipher),
     }
 }

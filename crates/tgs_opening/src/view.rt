@@ -1,6 +1,6 @@
 //! What a ticket is opened from, beside the request.
-use enctypes::ReadyKey;
 use principal_rows::Row;
+use sealed_parts::ReadyKeys;
 use std::marker::Model;
 
 /// The rows whose keys may have sealed the ticket that a TGS-REQ presents.
@@ -12,8 +12,8 @@ pub struct TicketView<'a> {
     pub granter: Option<&'a Row>,
     /// The row of the service that is asked for, where it has one.
     pub service: Option<&'a Row>,
-    /// A key that is kept ready for the tickets of its service. It saves time alone: contracts don't see it.
-    pub ready: &'a Option<ReadyKey>,
+    /// The keys that are kept ready. They save time alone: contracts don't see them.
+    pub ready: &'a ReadyKeys,
 }
 
 impl<'a> Model for TicketView<'a> {
