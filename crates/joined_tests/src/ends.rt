@@ -23,6 +23,8 @@ enum End {
     NotPresentable,
     NotAccepted(ApFault),
     NotAnswered,
+    /// The service has accepted, and the client has no memory for its answer.
+    Unheard,
     Memory,
 }
 
@@ -42,7 +44,9 @@ fn end_of(found: &Result<Accepted, JoinedFault>) -> End {
         Err(JoinedFault::NoReply) => End::NoReply,
         Err(JoinedFault::NotTaken(fault)) => end_of_client(fault),
         Err(JoinedFault::NotPresentable) => End::NotPresentable,
+        Err(JoinedFault::NotAccepted(ApFault::Memory)) => End::Memory,
         Err(JoinedFault::NotAccepted(fault)) => End::NotAccepted(*fault),
+        Err(JoinedFault::NotAnswered(ClientFault::Memory)) => End::Unheard,
         Err(JoinedFault::NotAnswered(_)) => End::NotAnswered,
         Err(JoinedFault::Memory) => End::Memory,
     }
@@ -260,12 +264,21 @@ impl Short {
         Ok(end_of(&found))
     }
 
+    /// How it ends where it is gone again after want of memory. What the service has accepted it has, heard or not.
+    fn last_end(&self, alloc: Global, realm: &mut Realm) -> Result<End, Fail> {
+        match self.end(alloc, realm)? {
+            End::Memory => self.end(alloc, realm),
+            End::Unheard => Ok(End::Accepted),
+            end => Ok(end),
+        }
+    }
+
     /// Whether it ends so.
     fn is_ended(&self, alloc: Global, realm: &mut Realm) -> Result<bool, Fail> {
-        if self.is_second && self.end(alloc, realm)? != End::Accepted {
+        if self.is_second && self.last_end(alloc, realm)? != End::Accepted {
             return Ok(false);
         }
-        Ok(self.end(alloc, realm)? == self.end)
+        Ok(self.last_end(alloc, realm)? == self.end)
     }
 
     /// The same, in a new realm.
@@ -292,6 +305,7 @@ fn first_other(alloc: Global, ways: &[Short]) -> Result<Option<usize>, Fail> {
     Ok(None)
 }
 
+// Passes whichever allocation of `end_to_end` is refused.
 #[test]
 fn a_way_ends_where_its_first_fault_is(rt: HostRuntime) -> Result<(), Fail> {
     match first_other(rt.alloc(), WAYS)? {
