@@ -13,7 +13,7 @@ A line for each test tells how many allocations it makes, and of how many childr
 
     passed   the test passes though this allocation is refused
     memory   it fails, and the end of what it prints names memory: a call gave a fault of memory, where the test wants something else
-    other    it fails otherwise: by an assertion, a signal, or after 20 seconds
+    other    it fails otherwise: by an assertion, a signal, or after 20 seconds of a processor
 
 Then the same for each call that a function of the tests makes into a library, of whose allocations one is refused. `passed` has to be
 looked at where the test does not call again, and `other` everywhere: does the test throw the fault away, or does the call answer
@@ -41,6 +41,7 @@ LINES = r"""
 #include <stdio.h>
 #include <stdlib.h>
 #include <string.h>
+#include <sys/resource.h>
 #include <sys/wait.h>
 #include <unistd.h>
 /* What the compiler of `rt try` has beside the program. */
@@ -51,6 +52,8 @@ void *__real_malloc(size_t);
 void *__real_realloc(void *, size_t);
 void *__real_aligned_alloc(size_t, size_t);
 
+/* The processor time that a child may take, so that a busy machine changes nothing. */
+static const struct rlimit seconds = {20, 20};
 static long most = -1, calls;
 static int is_child, told;
 
@@ -88,7 +91,8 @@ static int is_refused(void)
         dup2(fileno(said), 1);
         dup2(fileno(said), 2);
         close(told);
-        alarm(20);
+        setrlimit(RLIMIT_CPU, &seconds);
+        alarm(600);
         return 1;
     }
     int status = 0;
