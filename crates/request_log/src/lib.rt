@@ -9,6 +9,7 @@ mod line;
 mod lines;
 mod names;
 mod observer;
+mod replies;
 
 pub use crate::code_words::code_word;
 pub use crate::lines::request_line;

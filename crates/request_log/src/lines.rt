@@ -3,18 +3,14 @@ ghost use Rattle.std.specs.Prelude.{IfOk};
 ghost use Rattle.request_log.specs.Line.{IsLine};
 
 use crate::code_words::code_word;
-use crate::life::{asked_life, life_text};
+use crate::life::{add_life, asked_life};
 use crate::line::Line;
 use crate::names::add_name;
 use crate::observer::{Asker, Transport};
-use krb_elements::read;
+use crate::replies::{refusal_code, replied_client};
 use krb_fields::Moment;
-use krb_replies::{KdcRepRef, read_kdc_rep};
-use krb_types::{Exchange, KdcReqRef, KrbErrorRef, read_kdc_req};
+use krb_types::{Exchange, KdcReqRef, read_kdc_req};
 use std::alloc::{AllocError, Global};
-
-/// The message type of a reply of the Ticket-Granting Service exchange (RFC 4120, section 5.4.2).
-const TGS_REP: u8 = 13;
 
 /// The line of a request and its reply, with the line feed at its end: the moment in UTC, the peer, the transport, the
 /// exchange, the client, the service, and what came of it. A ticket has the life that was asked for, at most the
@@ -32,11 +28,11 @@ pub fn request_line(
 {
     let mut line = Line::new(alloc)?;
     add_moment(&mut line, at)?;
-    add_asker(alloc, &mut line, asker)?;
+    add_asker(&mut line, asker)?;
     match read_kdc_req(request) {
         Ok((exchange, request)) => {
             add_names(alloc, &mut line, exchange, &request, reply)?;
-            add_outcome(alloc, &mut line, at, greatest_life, &request, reply)?;
+            add_outcome(&mut line, at, greatest_life, &request, reply)?;
         }
         Err(_) => line.field("none")?,
     }
@@ -51,9 +47,9 @@ fn add_moment(line: &mut Line, at: Moment) -> Result<(), AllocError> {
     line.add(&[h, i, b':', j, k, b':', s, t, zone])
 }
 
-fn add_asker(alloc: Global, line: &mut Line, asker: Asker) -> Result<(), AllocError> {
+fn add_asker(line: &mut Line, asker: Asker) -> Result<(), AllocError> {
     match asker.peer {
-        Some(peer) => line.field(&format!(in alloc; "{peer}")?)?,
+        Some(peer) => line.shown_field(&peer)?,
         None => line.field("-")?,
     }
     line.field(match asker.transport {
@@ -92,15 +88,11 @@ fn add_replied_client(
     let Some(octets) = reply else {
         return add_name(alloc, line, None);
     };
-    match read_kdc_rep::<TGS_REP>(octets) {
-        Ok(reply) => add_name(alloc, line, Some(&reply.cname)),
-        Err(_) => add_name(alloc, line, None),
-    }
+    add_name(alloc, line, replied_client(octets).as_ref())
 }
 
 /// Adds what came of a request: a ticket, a refusal, or no reply.
 fn add_outcome(
-    alloc: Global,
     line: &mut Line,
     at: Moment,
     greatest_life: u32,
@@ -110,19 +102,16 @@ fn add_outcome(
     let Some(octets) = reply else {
         return line.field("unanswered");
     };
-    match read::<KrbErrorRef<'_>>(octets) {
-        Ok(error) => add_refusal(alloc, line, error.error_code),
-        Err(_) => {
-            let body = &request.body.value;
-            let life = asked_life(at, body.from, body.till, greatest_life);
-            line.field("ticket")?;
-            line.field(&life_text(alloc, life)?)
-        }
+    if let Some(code) = refusal_code(octets) {
+        return add_refusal(line, code);
     }
+    let body = &request.body.value;
+    line.field("ticket")?;
+    add_life(line, asked_life(at, body.from, body.till, greatest_life))
 }
 
-fn add_refusal(alloc: Global, line: &mut Line, code: i32) -> Result<(), AllocError> {
+fn add_refusal(line: &mut Line, code: i32) -> Result<(), AllocError> {
     line.field("refused")?;
-    line.field(&format!(in alloc; "{code}")?)?;
+    line.shown_field(&code)?;
     line.field(code_word(code))
 }

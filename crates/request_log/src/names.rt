@@ -10,7 +10,7 @@ const MOST_OF_NAME: usize = 200;
 const CUT: &[u8] = b"...";
 
 /// What stands for a name that is not there.
-const ABSENT: &str = "-";
+const ABSENT: &[u8] = b"-";
 
 /// Adds a name as a field: its text, in which no space and no line feed stands, cut to 200 characters.
 pub fn add_name(
@@ -18,42 +18,46 @@ pub fn add_name(
     line: &mut Line,
     name: Option<&NameRef<'_>>,
 ) -> Result<(), AllocError> {
-    let text = match name {
-        Some(name) => beginning(alloc, name)?,
-        None => Vec::new(alloc),
-    };
-    if text.is_empty() {
-        return line.field(ABSENT);
-    }
     line.begin_field()?;
-    match text.get(..MOST_OF_NAME - CUT.len()) {
-        Some(first) if text.len() > MOST_OF_NAME => {
-            line.add(first)?;
-            line.add(CUT)
-        }
-        _ => line.add(&text),
+    if let Some(name) = name {
+        add_beginning(alloc, line, name)?;
     }
+    if line.field_len() > MOST_OF_NAME {
+        line.cut_field(MOST_OF_NAME - CUT.len());
+        return line.add(CUT);
+    }
+    if line.field_len() == 0 {
+        return line.add(ABSENT);
+    }
+    Ok(())
 }
 
-/// The text of a name, or of its first components, if these have more than 200 characters.
-fn beginning(alloc: Global, name: &NameRef<'_>) -> Result<Vec<u8>, AllocError> {
-    let mut text = Vec::new(alloc);
+/// Adds the text of a name, or of its first components, if these have more than 200 characters.
+fn add_beginning(alloc: Global, line: &mut Line, name: &NameRef<'_>) -> Result<(), AllocError> {
     let mut separator: &[u8] = b"";
     for component in name.components.iter() {
-        if text.len() > MOST_OF_NAME {
+        if line.field_len() > MOST_OF_NAME {
             break;
         }
-        text.extend_from_slice(separator)?;
-        text.extend_from_slice(component_beginning(alloc, component.as_slice())?.as_bytes())?;
+        line.add(separator)?;
+        add_component(alloc, line, component.as_slice())?;
         separator = b"/";
     }
-    Ok(text)
+    Ok(())
 }
 
-/// The text of a component, or of its first 201 octets, each of which has a character or three.
-fn component_beginning(alloc: Global, component: &[u8]) -> Result<String, AllocError> {
-    match component.get(..=MOST_OF_NAME) {
-        Some(first) => component_to_text(alloc, first),
-        None => component_to_text(alloc, component),
+/// Adds the text of a component, or of its first 201 octets, each of which has a character or three.
+fn add_component(alloc: Global, line: &mut Line, component: &[u8]) -> Result<(), AllocError> {
+    let first = component.get(..=MOST_OF_NAME).unwrap_or(component);
+    if is_its_text(first) {
+        return line.add(first);
     }
+    line.add(component_to_text(alloc, first)?.as_bytes())
+}
+
+/// Whether a component has octets alone that are written as they are. So it is with most names, and no text of them
+/// has to be made then.
+fn is_its_text(component: &[u8]) -> bool {
+    component.iter().all(|octet| octet.is_ascii_alphanumeric()
+        || matches!(octet, b'.' | b'-' | b'_'))
 }
