@@ -4,12 +4,13 @@
 #![tactic(auto)]
 
 mod code_words;
+mod fields;
 mod life;
 mod line;
 mod lines;
+mod messages;
 mod names;
 mod observer;
-mod replies;
 
 pub use crate::code_words::code_word;
 pub use crate::lines::request_line;

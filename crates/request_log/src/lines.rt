@@ -5,16 +5,16 @@ ghost use Rattle.request_log.specs.Line.{IsLine};
 use crate::code_words::code_word;
 use crate::life::{add_life, asked_life};
 use crate::line::Line;
+use crate::messages::{Asked, asked_of, refusal_code, replied_client};
 use crate::names::add_name;
 use crate::observer::{Asker, Transport};
-use crate::replies::{refusal_code, replied_client};
 use krb_fields::Moment;
-use krb_types::{Exchange, KdcReqRef, read_kdc_req};
+use krb_types::{Exchange, read_kdc_req};
 use std::alloc::{AllocError, Global};
 
 /// The line of a request and its reply, with the line feed at its end: the moment in UTC, the peer, the transport, the
 /// exchange, the client, the service, and what came of it. A ticket has the life that was asked for, at most the
-/// realm's `greatest_life` in seconds.
+/// realm's `greatest_life` in seconds. A reply is one that a KDC gives, so what got one is a request.
 pub fn request_line(
     alloc: Global,
     asker: Asker,
@@ -29,14 +29,22 @@ pub fn request_line(
     let mut line = Line::new(alloc)?;
     add_moment(&mut line, at)?;
     add_asker(&mut line, asker)?;
-    match read_kdc_req(request) {
-        Ok((exchange, request)) => {
-            add_names(alloc, &mut line, exchange, &request, reply)?;
-            add_outcome(&mut line, at, greatest_life, &request, reply)?;
+    match asked(request, reply) {
+        Some(asked) => {
+            add_names(alloc, &mut line, &asked, reply)?;
+            add_outcome(&mut line, at, greatest_life, &asked, reply)?;
         }
-        Err(_) => line.field("none")?,
+        None => line.field("none")?,
     }
     line.finish()
+}
+
+/// What was asked. Octets without a reply may be no request, so all of them are read.
+fn asked<'a>(request: &'a [u8], reply: Option<&[u8]>) -> Option<Asked<'a>> {
+    if reply.is_none() && read_kdc_req(request).is_err() {
+        return None;
+    }
+    asked_of(request)
 }
 
 /// Adds a moment, as `2026-11-23T22:46:18Z`.
@@ -62,21 +70,20 @@ fn add_asker(line: &mut Line, asker: Asker) -> Result<(), AllocError> {
 fn add_names(
     alloc: Global,
     line: &mut Line,
-    exchange: Exchange,
-    request: &KdcReqRef<'_>,
+    asked: &Asked<'_>,
     reply: Option<&[u8]>,
 ) -> Result<(), AllocError> {
-    match exchange {
+    match asked.exchange {
         Exchange::As => {
             line.field("as")?;
-            add_name(alloc, line, request.body.value.cname.as_ref())?;
+            add_name(alloc, line, asked.client.as_ref())?;
         }
         Exchange::Tgs => {
             line.field("tgs")?;
             add_replied_client(alloc, line, reply)?;
         }
     }
-    add_name(alloc, line, request.body.value.sname.as_ref())
+    add_name(alloc, line, asked.service.as_ref())
 }
 
 /// Adds the client that a TGS-REP names.
@@ -96,7 +103,7 @@ fn add_outcome(
     line: &mut Line,
     at: Moment,
     greatest_life: u32,
-    request: &KdcReqRef<'_>,
+    asked: &Asked<'_>,
     reply: Option<&[u8]>,
 ) -> Result<(), AllocError> {
     let Some(octets) = reply else {
@@ -105,9 +112,8 @@ fn add_outcome(
     if let Some(code) = refusal_code(octets) {
         return add_refusal(line, code);
     }
-    let body = &request.body.value;
     line.field("ticket")?;
-    add_life(line, asked_life(at, body.from, body.till, greatest_life))
+    add_life(line, asked_life(at, asked.from, asked.till, greatest_life))
 }
 
 fn add_refusal(line: &mut Line, code: i32) -> Result<(), AllocError> {
