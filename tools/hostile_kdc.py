@@ -1,30 +1,42 @@
 #!/usr/bin/env python3
-"""Tries `kclient kinit` against programs in a KDC's place that answer too much, too slowly, nothing, or from elsewhere. Each time it
-compares the status, what is printed, how long it took, how many messages came, and the cache with what it was before. Linux and
-Python 3 alone are needed.
+"""Tries `kclient` against programs in a KDC's place that answer too much, too slowly, nothing, or from elsewhere; and behind a
+proxy that changes the good replies of `kdcd serve`: each octet of an AS-REP (`kinit`) and of a TGS-REP (`kvno`) XORed with 01,
+and each of their proper prefixes. Each time it compares the status, what is printed, how long it took, and the cache with
+what it was before; where a changed reply is taken, with the cache that this script writes of it. No command has more memory
+than 16 MiB. Linux and Python 3 alone are needed.
 
-    (cd crates/kclient && rt run -- --help)
-    python3 tools/hostile_kdc.py [--kclient FILE]
+    for program in kadm kdcd kclient; do (cd crates/$program && rt run -- --help); done
+    python3 tools/hostile_kdc.py [--programs FOLDER] [--only PART ..]
 
-The first line proves and builds the program. The second takes about two minutes; it prints a line for each thing that it tried, with
-`ok` or what was wrong, and ends with status 1 if anything was."""
+The first line proves and builds the programs. The folder is that of the three, or that of the crates. The second takes about
+two minutes for the part `answers`, and as long for `octets`; it prints a line for each thing that it tried, with `ok` or what
+was wrong, and ends with status 1 if anything was."""
 
 import argparse
-import os
+import calendar
 import pathlib
 import socket
-import subprocess
 import sys
 import tempfile
 import threading
 import time
 
-from kerberos import field, general_string, integer, name, octet_string, sequence, time_of, tlv
+import trial
+from kerberos import (
+    elements, field, fields, general_string, integer, key_of, name, octet_string, opened, sequence, time_of, tlv,
+)
+from trial import ask_udp, datagrams, end_all, programs_in
 
 REALM = b"A.B"
 CACHE = b"what the cache was before\n"
 # By how many seconds a command may be slower than it has to be, beside other work on the machine.
 SLACK = 3
+# The address space of a command, in KiB: what needs more memory fails.
+ROOM = 16384
+# How many authenticators of a client the server remembers: more than are sent.
+REMEMBERED = 65536
+# The first octets of the replies that have a ticket, an AS-REP and a TGS-REP.
+WITH_TICKET = (b"\x6b", b"\x6d")
 
 
 def error(code, e_data=None):
@@ -36,9 +48,9 @@ def error(code, e_data=None):
     ))
 
 
-def wanted():
+def wanted(*more):
     """Error 25, with a PA-ETYPE-INFO2 of type 18 with the default salt."""
-    entry = sequence(field(0, integer(18)), field(1, general_string(REALM + b"u")))
+    entry = sequence(field(0, integer(18)), field(1, general_string(REALM + b"u")), *more)
     return error(25, sequence(sequence(field(1, integer(19)), field(2, octet_string(sequence(entry))))))
 
 
@@ -132,102 +144,306 @@ def late(kdc, message, sender):
     kdc.udp.sendto(error(24), sender)
 
 
-class Trial:
-    def __init__(self, kclient, folder):
-        self.kclient, self.folder, self.wrong = kclient, folder, 0
-        (folder / "pw").write_text("a password\n")
+class Proxy(Kdc):
+    """Hands datagrams on to a KDC, and its replies back. A reply with a ticket is changed on the way."""
 
-    def note(self, what, faults):
-        self.wrong += bool(faults)
-        print(f"{'WRONG' if faults else 'ok   '} {what}{': ' * bool(faults)}{'; '.join(faults)}", flush=True)
+    def __init__(self, behind):
+        super().__init__(hand_on, no_connection)
+        self.behind = behind
+        self.begin(None)
 
-    def expect(self, what, kdcs, options, status, out, said, least, most, counts=None):
-        """A `kinit` that asks these addresses. It has to end with this status after `least` to `most` seconds, print `out`,
-        and say `said` on standard error; and the first KDC has to get so many datagrams and connections."""
-        cache = self.folder / "cc"
-        cache.write_bytes(CACHE)
-        addresses = [word for each in kdcs for word in ("--kdc", getattr(each, "address", each))]
-        words = [self.kclient, "kinit", *addresses, "--realm", "A.B", "--name", "u", "--password-file", "pw", "--cache", "cc"]
+    def begin(self, change):
+        """Begins a command, in whose replies so much is changed."""
+        self.change, self.replies, self.changed = change, {}, None
+
+
+def hand_on(proxy, message, sender):
+    if message not in proxy.replies:
+        with datagrams(proxy.behind) as peer:
+            proxy.replies[message] = ask_udp(peer, message)
+    reply = proxy.replies[message]
+    if proxy.change and reply[:1] in WITH_TICKET:
+        reply = proxy.changed = proxy.change(reply)
+    proxy.udp.sendto(reply, sender)
+
+
+# What is changed of a reply.
+
+
+def as_it_is(reply):
+    return reply
+
+
+def flipped(place):
+    return lambda reply: reply[:place] + bytes([reply[place] ^ 1]) + reply[place + 1:]
+
+
+def cut(end):
+    return lambda reply: reply[:end]
+
+
+# What comes of a reply: what is printed, and words of standard error. A reply that is taken is said nothing of.
+TAKEN = None
+NOT_A_REPLY = "refused NotAReply", "what came back is no reply of a KDC"
+CLIENT = "refused Mismatch", "the reply is for another client"
+SERVICE = "refused Mismatch", "the reply has a ticket for another service"
+UNOPENED = "refused CannotOpen", "does not open the reply"
+# What comes of it where one octet of a value is changed, by the fields in which the value stands (RFC 4120, section 5.4.2; of
+# the ticket 5.3). What decides nothing is padata, the types of names, the versions of keys, and of the ticket what its
+# service alone can read, with its encryption type. All else is tags, lengths and numbers that stand fast.
+PADATA_TYPE, PADATA_VALUE, CREALM, CNAME_TYPE, CNAME = (2, 1), (2, 2), (3,), (4, 0), (4, 1)
+TICKET_REALM, SNAME_TYPE, SNAME = (5, 1), (5, 2, 0), (5, 2, 1)
+TICKET_ETYPE, TICKET_KVNO, TICKET_CIPHER = (5, 3, 0), (5, 3, 1), (5, 3, 2)
+ETYPE, KVNO, CIPHER = (6, 0), (6, 1), (6, 2)
+DUE = {
+    **dict.fromkeys((PADATA_TYPE, PADATA_VALUE, CNAME_TYPE, KVNO), TAKEN),
+    **dict.fromkeys((SNAME_TYPE, TICKET_ETYPE, TICKET_KVNO, TICKET_CIPHER), TAKEN),
+    **dict.fromkeys((CREALM, CNAME), CLIENT),
+    **dict.fromkeys((TICKET_REALM, SNAME), SERVICE),
+    **dict.fromkeys((ETYPE, CIPHER), UNOPENED),
+}
+
+
+def places(octets, start=0, end=None, path=()):
+    """The places of all octets of values, each with the fields in which it stands."""
+    end = len(octets) if end is None else end
+    while start < end:
+        tag, length, start = octets[start], octets[start + 1], start + 2
+        if length & 0x80:
+            start, length = start + (length & 0x7F), int.from_bytes(octets[start:start + (length & 0x7F)], "big")
+        inside = (*path, tag - 0xA0) if tag >= 0xA0 else path
+        if tag & 0x20:
+            yield from places(octets, start, start + length, inside)
+        else:
+            yield from ((place, path) for place in range(start, start + length))
+        start += length
+
+
+# A credential cache, version 4 (docs/FORMATS.md).
+
+
+def number(value):
+    return value.to_bytes(4, "big")
+
+
+def counted(octets):
+    return number(len(octets)) + octets
+
+
+def principal(realm, octets):
+    """A principal, of the octets of a PrincipalName."""
+    parts = fields(octets)
+    strings = [contents for _, contents in elements(elements(parts[1])[0][1])]
+    kind = int.from_bytes(elements(parts[0])[0][1], "big")
+    return number(kind) + number(len(strings)) + counted(realm) + b"".join(map(counted, strings))
+
+
+def seconds(text):
+    """A KerberosTime; an absent one is zero."""
+    return number(calendar.timegm(time.strptime(elements(text)[0][1].decode(), "%Y%m%d%H%M%SZ")) if text else 0)
+
+
+def cache_head(reply):
+    return b"\5\4\0\0" + client_of(fields(elements(reply)[0][1]))
+
+
+def client_of(parts):
+    return principal(elements(parts[3])[0][1], parts[4])
+
+
+def credential(reply, key, usage):
+    """What a client keeps of a reply, whose sealed part this key opens: the credential, and its session key."""
+    parts = fields(elements(reply)[0][1])
+    part = fields(elements(opened(key, usage, elements(fields(parts[6])[2])[0][1]))[0][1])
+    kind, session_key = [elements(value)[0][1] for value in fields(part[0]).values()]
+    service = principal(elements(part[9])[0][1], part[10])
+    times = b"".join(seconds(part.get(each)) for each in (5, 6, 7, 8))
+    flags = elements(part[4])[0][1][1:]
+    front = client_of(parts) + service + kind.rjust(2, b"\0") + counted(session_key)
+    return front + times + b"\0" + flags + number(0) + number(0) + counted(parts[5]) + number(0), session_key
+
+
+def ticket_version(reply):
+    """The version of the key under which the ticket is sealed."""
+    ticket = fields(fields(elements(reply)[0][1])[5])
+    return int.from_bytes(elements(fields(ticket[3])[1])[0][1], "big")
+
+
+class Hostile(trial.Trial):
+    """`kclient` in a folder, and what is wrong with what comes of it."""
+
+    def begin(self, words, cache):
+        """What comes of a command that begins with this cache, and how many seconds it took."""
+        (self.folder / "cc").write_bytes(cache)
+        bounded = ["sh", "-c", f'ulimit -v {ROOM} && exec "$@"', "sh", self.programs["kclient"]]
         begun = time.monotonic()
-        try:
-            ran = subprocess.run([*words, *options], cwd=self.folder, capture_output=True, text=True, timeout=90)
-        except subprocess.TimeoutExpired:
-            self.note(what, ["it does not end"])
-            return
-        took = time.monotonic() - begun
+        return self.run([*bounded, *words]), time.monotonic() - begun
+
+    def faults(self, ran, took, status, out, said, cache, least=0, most=0):
+        """What is wrong with it. It has to end with this status after `least` to `most` seconds, print `out`, say these
+        texts on standard error, and leave this cache."""
         faults = []
-        if ran.returncode != status:
-            faults.append(f"status {ran.returncode}, and not {status}")
-        if ran.stdout != out + "\n":
-            faults.append(f"prints {ran.stdout!r}, and not {out!r}")
-        if said not in ran.stderr:
-            faults.append(f"says {ran.stderr!r}, and not {said!r}")
+        if ran.status != status:
+            faults.append("it does not end" if ran.status is None else f"status {ran.status}, and not {status}")
+        if ran.out != out + "\n":
+            faults.append(f"prints {ran.out!r}, and not {out!r}")
+        if any(each not in ran.err for each in said) or bool(said) != bool(ran.err):
+            faults.append(f"says {ran.err!r}, and not {said}")
         if not least <= took <= most + SLACK:
             faults.append(f"takes {took:.1f} seconds, and not {least} to {most + SLACK}")
+        if (self.folder / "cc").read_bytes() != cache:
+            faults.append("the cache is not what it has to be")
+        return faults
+
+    def expect_kinit(self, what, kdcs, options, status, out, said, least, most, counts=None):
+        """A `kinit` that asks these addresses, and changes no file. The first KDC has to get so many datagrams and
+        connections."""
+        before = sorted(self.folder.iterdir())
+        addresses = [word for each in kdcs for word in ("--kdc", getattr(each, "address", each))]
+        words = ["kinit", *addresses, "--realm", "A.B", "--name", "u", "--password-file", "pw", "--cache", "cc", *options]
+        ran, took = self.begin(words, CACHE)
+        faults = self.faults(ran, took, status, out, (said,), CACHE, least, most)
         if counts and (kdcs[0].datagrams, kdcs[0].connections) != counts:
             faults.append(f"sends {kdcs[0].datagrams} datagrams and {kdcs[0].connections} connections, and not {counts}")
-        if not cache.exists() or cache.read_bytes() != CACHE:
-            faults.append("the cache is not what it was")
-        left = sorted(each.name for each in self.folder.iterdir() if each.name not in ("cc", "pw"))
-        if left:
-            faults.append(f"leaves files: {left}")
-        self.note(f"{what} ({took:.1f} s)", faults)
+        if sorted(self.folder.iterdir()) != before:
+            faults.append("leaves files")
+        self.note(f"{what} ({took:.1f} s)", "; ".join(faults))
 
-    def go(self):
-        hello, tcp = b"hello", ("--tcp",)
-        not_a_reply = (1, "refused NotAReply", "what came back is no reply of a KDC")
-        silence = (3, "failed", "no reply in time")
-        with socket.create_server(("127.0.0.1", 0)) as closed:
-            nowhere = f"127.0.0.1:{closed.getsockname()[1]}"
-        self.expect("nobody listens", [nowhere], tcp, 3, "failed", "efused", 0, 0)
-        kdc = Kdc(no_datagram, connection(framed(bytes(1 << 24))))
-        self.expect("a reply of 16 MiB over TCP", [kdc], tcp, 3, "failed", kdc.address, 0, 0, (0, 1))
-        kdc = Kdc(no_datagram, connection(framed(bytes((1 << 20) + 1))))
-        self.expect("a reply of an octet more than the longest", [kdc], tcp, 3, "failed", kdc.address, 0, 0, (0, 1))
-        kdc = Kdc(no_datagram, connection(framed(bytes(1 << 20))))
-        self.expect("the longest reply, of zeros", [kdc], tcp, *not_a_reply, 0, 0, (0, 1))
-        kdc = Kdc(no_datagram, connection(framed(error(6))[:-1]))
-        self.expect("a reply that ends an octet early", [kdc], tcp, 3, "failed", kdc.address, 0, 0, (0, 1))
-        kdc = Kdc(no_datagram, connection(b""))
-        self.expect("a connection that is closed", [kdc], tcp, 3, "failed", kdc.address, 0, 0, (0, 1))
-        kdc = Kdc(no_datagram, drip)
-        self.expect("an octet every half second", [kdc], tcp, *silence, 7.9, 8, (0, 1))
-        kdc = Kdc(datagram(hello), no_connection)
-        self.expect("hello by UDP", [kdc], (), *not_a_reply, 0, 0, (1, 0))
-        kdc = Kdc(no_datagram, connection(framed(hello)))
-        self.expect("hello by TCP", [kdc], tcp, *not_a_reply, 0, 0, (0, 1))
-        kdc = Kdc(no_datagram, connection(framed(hello)))
-        self.expect("no datagram is answered, then hello by TCP", [kdc], (), *not_a_reply, 6.9, 7, (3, 1))
-        kdc = Kdc(datagram(error(6), 1.5), no_connection)
-        self.expect("a reply after a second and a half", [kdc], (), 1, "refused 6", kdc.address, 1.4, 2)
-        kdc = Kdc(datagram(error(52)), connection(framed(hello)))
-        self.expect("error 52 by UDP, then hello by TCP", [kdc], (), *not_a_reply, 0, 0, (1, 1))
-        kdc = Kdc(datagram(error(52)), connection(framed(error(52))))
-        self.expect("error 52 also by TCP", [kdc], (), 1, "refused 52", kdc.address, 0, 0, (1, 1))
-        kdc = Kdc(from_elsewhere, connection(framed(hello)))
-        self.expect("a datagram from another port", [kdc], (), *not_a_reply, 6.9, 7, (3, 1))
-        kdc = Kdc(late, connection(framed(wanted())))
-        self.expect("a late reply to the request before", [kdc], (), 1, "refused 24", "error 24", 6.9, 7, (4, 1))
-        kdc = Kdc(no_datagram, no_connection)
-        self.expect("silence", [kdc], (), *silence, 14.9, 15, (3, 1))
-        kdcs = [Kdc(no_datagram, no_connection), Kdc(datagram(hello), no_connection)]
-        said = f"{kdcs[1].address}: what came back"
-        self.expect("silence, and hello of the next KDC", kdcs, (), 1, "refused NotAReply", said, 14.9, 15, (3, 1))
-        kdcs = [Kdc(no_datagram, no_connection) for _ in range(4)]
-        self.expect("silence of four KDCs", kdcs, (), *silence, 29.9, 30, (3, 1))
+
+def try_answers(hostile):
+    """Programs in a KDC's place."""
+    hostile.folder = hostile.folder.parent / "answers"
+    hostile.folder.mkdir()
+    hostile.write("pw", "a password\n")
+    hostile.write("cc", CACHE)
+    hello, tcp = b"hello", ("--tcp",)
+    not_a_reply = (1, "refused NotAReply", "what came back is no reply of a KDC")
+    silence = (3, "failed", "no reply in time")
+    with socket.create_server(("127.0.0.1", 0)) as closed:
+        nowhere = f"127.0.0.1:{closed.getsockname()[1]}"
+    hostile.expect_kinit("nobody listens", [nowhere], tcp, 3, "failed", "efused", 0, 0)
+    kdc = Kdc(no_datagram, connection(framed(bytes(1 << 24))))
+    hostile.expect_kinit("a reply of 16 MiB over TCP", [kdc], tcp, 3, "failed", kdc.address, 0, 0, (0, 1))
+    kdc = Kdc(no_datagram, connection(framed(bytes((1 << 20) + 1))))
+    hostile.expect_kinit("a reply of an octet more than the longest", [kdc], tcp, 3, "failed", kdc.address, 0, 0, (0, 1))
+    kdc = Kdc(no_datagram, connection(framed(bytes(1 << 20))))
+    hostile.expect_kinit("the longest reply, of zeros", [kdc], tcp, *not_a_reply, 0, 0, (0, 1))
+    kdc = Kdc(no_datagram, connection(framed(error(6))[:-1]))
+    hostile.expect_kinit("a reply that ends an octet early", [kdc], tcp, 3, "failed", kdc.address, 0, 0, (0, 1))
+    kdc = Kdc(no_datagram, connection(b""))
+    hostile.expect_kinit("a connection that is closed", [kdc], tcp, 3, "failed", kdc.address, 0, 0, (0, 1))
+    kdc = Kdc(no_datagram, drip)
+    hostile.expect_kinit("an octet every half second", [kdc], tcp, *silence, 7.9, 8, (0, 1))
+    kdc = Kdc(datagram(hello), no_connection)
+    hostile.expect_kinit("hello by UDP", [kdc], (), *not_a_reply, 0, 0, (1, 0))
+    kdc = Kdc(no_datagram, connection(framed(hello)))
+    hostile.expect_kinit("hello by TCP", [kdc], tcp, *not_a_reply, 0, 0, (0, 1))
+    kdc = Kdc(no_datagram, connection(framed(hello)))
+    hostile.expect_kinit("no datagram is answered, then hello by TCP", [kdc], (), *not_a_reply, 6.9, 7, (3, 1))
+    kdc = Kdc(datagram(wanted(field(2, octet_string(b"\xff" * 4)))), no_connection)
+    said = "the KDC asks for more iterations"
+    hostile.expect_kinit("a count of 2^32 - 1 in s2kparams", [kdc], (), 1, "refused CountTooLarge", said, 0, 0, (1, 0))
+    kdc = Kdc(datagram(error(6), 1.5), no_connection)
+    hostile.expect_kinit("a reply after a second and a half", [kdc], (), 1, "refused 6", kdc.address, 1.4, 2)
+    kdc = Kdc(datagram(error(52)), connection(framed(hello)))
+    hostile.expect_kinit("error 52 by UDP, then hello by TCP", [kdc], (), *not_a_reply, 0, 0, (1, 1))
+    kdc = Kdc(datagram(error(52)), connection(framed(error(52))))
+    hostile.expect_kinit("error 52 also by TCP", [kdc], (), 1, "refused 52", kdc.address, 0, 0, (1, 1))
+    kdc = Kdc(from_elsewhere, connection(framed(hello)))
+    hostile.expect_kinit("a datagram from another port", [kdc], (), *not_a_reply, 6.9, 7, (3, 1))
+    kdc = Kdc(late, connection(framed(wanted())))
+    hostile.expect_kinit("a late reply to the request before", [kdc], (), 1, "refused 24", "error 24", 6.9, 7, (4, 1))
+    kdc = Kdc(no_datagram, no_connection)
+    hostile.expect_kinit("silence", [kdc], (), *silence, 14.9, 15, (3, 1))
+    kdcs = [Kdc(no_datagram, no_connection), Kdc(datagram(hello), no_connection)]
+    said = f"{kdcs[1].address}: what came back"
+    hostile.expect_kinit("silence, and hello of the next KDC", kdcs, (), 1, "refused NotAReply", said, 14.9, 15, (3, 1))
+    kdcs = [Kdc(no_datagram, no_connection) for _ in range(4)]
+    hostile.expect_kinit("silence of four KDCs", kdcs, (), *silence, 29.9, 30, (3, 1))
+
+
+class Sweep:
+    """A command through a proxy, again and again, each time with another change of the reply that has a ticket."""
+
+    def __init__(self, hostile, proxy, words, before, taken):
+        """The cache is `before` each command. Of a reply that is taken `taken` gives what has to be printed, and the
+        cache."""
+        self.hostile, self.proxy, self.words, self.before, self.taken = hostile, proxy, words, before, taken
+
+    def come_of(self, change, due):
+        """How long the command takes, and what is wrong with what comes of it."""
+        self.proxy.begin(change)
+        ran, took = self.hostile.begin(self.words, self.before)
+        if self.proxy.changed is None:
+            return took, ["no reply with a ticket came"]
+        if due is TAKEN:
+            out, cache = self.taken(self.proxy.changed)
+            return took, self.hostile.faults(ran, took, 0, out, (), cache)
+        out, said = due
+        return took, self.hostile.faults(ran, took, 1, out, (f"kclient: {self.proxy.address}: ", said), self.before)
+
+    def expect(self, what, changes):
+        """Each of these changes has to lead to what is due."""
+        before, longest, faults = sorted(self.hostile.folder.iterdir()), 0, []
+        for place, (change, due) in enumerate(changes):
+            took, found = self.come_of(change, due)
+            longest = max(longest, took)
+            faults += [f"{place}: {each}" for each in found]
+        if sorted(self.hostile.folder.iterdir()) != before:
+            faults.append("leaves files")
+        taken = sum(due is TAKEN for _, due in changes)
+        shown = f"{what}: {len(changes)}, of which {taken} are taken, each in at most {longest:.2f} s"
+        self.hostile.note(shown, "; ".join(faults[:3]) + f" and {len(faults) - 3} more" * (len(faults) > 3))
+
+    def go(self, what):
+        """The reply as it is, each octet of it XORed with 01, and each proper prefix."""
+        self.expect(f"{what} as it is", [(as_it_is, TAKEN)])
+        reply = self.proxy.changed or b""
+        found = dict(places(reply))
+        octets = [(flipped(place), DUE.get(found.get(place), NOT_A_REPLY)) for place in range(len(reply))]
+        self.expect(f"{what} with an octet changed", octets)
+        self.expect(f"{what}, cut", [(cut(end), NOT_A_REPLY) for end in range(len(reply))])
+
+
+def try_octets(hostile):
+    """A proxy that changes the good replies of `kdcd serve`."""
+    hostile.realm("octets")
+    hostile.write("cc", CACHE)
+    hostile.expect("kadm keytab --db database --name u --out u.keytab", 0, "=ok")
+    server = hostile.serve(f"--first --remembered {REMEMBERED}")
+    proxy = Proxy(server.udp)
+    # the same nonce each time, so that all replies have the same length
+    known = ["--kdc", proxy.address, "--seed", "seed", "--cache", "cc"]
+    key = key_of(b"a password", REALM + b"u")
+    words = ["kinit", *known, "--realm", "A.B", "--name", "u", "--keytab", "u.keytab"]
+    login = Sweep(hostile, proxy, words, CACHE, lambda reply: ("ok", cache_head(reply) + credential(reply, key, 3)[0]))
+    login.go("an AS-REP")
+    login.expect("an AS-REP as it is, once more", [(as_it_is, TAKEN)])
+    _, session_key = credential(proxy.changed, key, 3)
+    before = (hostile.folder / "cc").read_bytes()
+    taken = lambda reply: (f"h kvno {ticket_version(reply)}", before + credential(reply, session_key, 8)[0])
+    Sweep(hostile, proxy, ["kvno", *known, "--name", "h"], before, taken).go("a TGS-REP")
+    server.end()
+
+
+PARTS = {"answers": try_answers, "octets": try_octets}
 
 
 def main():
     words = argparse.ArgumentParser(description=__doc__, formatter_class=argparse.RawDescriptionHelpFormatter)
-    words.add_argument("--kclient", default="crates/kclient/out/kclient", help="the built program")
+    words.add_argument("--programs", default=pathlib.Path(__file__).resolve().parent.parent / "crates")
+    words.add_argument("--only", nargs="+", choices=PARTS, default=list(PARTS), metavar="PART", help=", ".join(PARTS))
     words = words.parse_args()
-    if not os.access(words.kclient, os.X_OK):
-        sys.exit(f"{words.kclient}: there is no such program")
     with tempfile.TemporaryDirectory() as folder:
-        trial = Trial(os.path.abspath(words.kclient), pathlib.Path(folder))
-        trial.go()
-    print(f"{trial.wrong} things went wrong")
-    sys.exit(1 if trial.wrong else 0)
+        hostile = Hostile(programs_in(words.programs), pathlib.Path(folder))
+        try:
+            for part in words.only:
+                print(f"{part}: {PARTS[part].__doc__}", flush=True)
+                PARTS[part](hostile)
+        finally:
+            end_all()
+    print(f"{hostile.right} right, {hostile.wrong} wrong")
+    sys.exit(1 if hostile.wrong else 0)
 
 
 if __name__ == "__main__":
