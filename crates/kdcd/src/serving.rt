@@ -7,7 +7,7 @@ use kdcd_start::{FileFault, RequestLines, RowsFile, ServeOptions, Started, read_
 use observed_wire::Observed;
 use rand_chacha::ChaCha20Rng;
 use rand_core::SeedableRng;
-use ready_writer::ReadyWriter;
+use ready_writer::{ReadyWriter, SharedWriter};
 use std::alloc::AllocError;
 use std::fs::File;
 use std::io::{Stderr, Write};
@@ -76,8 +76,8 @@ impl StartFault<'_> {
     }
 }
 
-/// Standard error, whose reader may stop reading while the server goes on.
-type Errors = ReadyWriter<Stderr>;
+/// Standard error, whose reader may stop reading while the server goes on. All that write to it hold the same one.
+type Errors = SharedWriter<Stderr>;
 
 /// The sockets, and the log of what comes and goes through them.
 type ServerWire = Observed<SocketWire<HostRuntime>, RequestLines<Errors>>;
@@ -91,6 +91,7 @@ struct Server<'a> {
     row_count: usize,
     /// Where its rows come from, unless they are fixed.
     rows: Option<RowsFile<'a, HostRuntime, Errors>>,
+    errors: Errors,
 }
 
 /// Serves as the options say, and gives the status. An error is a failed write.
@@ -112,6 +113,7 @@ fn serve_rounds(
         hub,
         wire,
         rows,
+        errors,
         ..
     } = server;
     let totals = serve_life(rt.alloc(), wire, rows, hub, rounds);
@@ -119,12 +121,16 @@ fn serve_rounds(
         "served {} {} {}",
         totals.events, totals.faults, totals.refused
     )?;
-    say_lost(rt, &server.wire);
+    say_lost(errors, wire);
     Ok(DONE)
 }
 
 /// Says where it listens, and what it serves. Only an address that isn't known is an error.
-fn say_start(rt: &HostRuntime, server: &Server<'_>, options: &ServeOptions<'_>) -> io::Result<()> {
+fn say_start(
+    rt: &HostRuntime,
+    server: &mut Server<'_>,
+    options: &ServeOptions<'_>,
+) -> io::Result<()> {
     let sockets = server.wire.wire();
     let udp = sockets.udp_addresses(rt.alloc())?;
     let tcp = sockets.tcp_addresses(rt.alloc())?;
@@ -135,23 +141,21 @@ fn say_start(rt: &HostRuntime, server: &Server<'_>, options: &ServeOptions<'_>) 
         rows: server.row_count,
         limits: options.limits,
     };
-    say(rt, &started);
+    say(&mut server.errors, &started);
     Ok(())
 }
 
 /// Says how many lines of the log were lost, if any.
-fn say_lost(rt: &HostRuntime, wire: &ServerWire) {
+fn say_lost(errors: &mut Errors, wire: &ServerWire) {
     let lost = wire.observer().map_or(0, |log| log.untold());
     if lost > 0 {
-        say(rt, &format_args!("kdcd: log: {lost} lines are lost\n"));
+        say(errors, &format_args!("kdcd: log: {lost} lines are lost\n"));
     }
 }
 
 /// Writes a text to standard error. If that fails, there is nobody to be told.
-fn say(rt: &HostRuntime, text: &impl fmt::Display) {
-    if let Ok(mut errors) = errors_of(rt) {
-        let _ = write!(errors, "{text}");
-    }
+fn say(errors: &mut Errors, text: &impl fmt::Display) {
+    let _ = write!(errors, "{text}");
 }
 
 /// Says why a server did not start.
@@ -174,8 +178,9 @@ fn start<'a>(
     rt: &'a HostRuntime,
     options: &ServeOptions<'a>,
 ) -> Result<Server<'a>, StartFault<'a>> {
-    let rows = RowsFile::new(rt, options.db, errors_of(rt)?);
-    let log = open_log(rt, options)?;
+    let errors = errors_of(rt)?;
+    let rows = RowsFile::new(rt, options.db, errors.share()?);
+    let log = open_log(options, &errors)?;
     let (hub, row_count) = open_hub(rt, options, &rows)?;
     match open_wire(rt, options, log) {
         Ok(wire) => Ok(Server {
@@ -183,6 +188,7 @@ fn start<'a>(
             wire,
             row_count,
             rows: (!options.is_fixed).then_some(rows),
+            errors,
         }),
         Err(fault) => Err(StartFault::Sockets(fault)),
     }
@@ -190,20 +196,20 @@ fn start<'a>(
 
 fn errors_of<'a>(rt: &HostRuntime) -> Result<Errors, StartFault<'a>> {
     match ReadyWriter::new(rt.alloc(), rt, rt.stderr()) {
-        Ok(errors) => Ok(errors),
+        Ok(errors) => Ok(SharedWriter::new(rt.alloc(), errors)?),
         Err(error) => Err(StartFault::Errors(error)),
     }
 }
 
 /// The log of requests, if the options ask for one.
 fn open_log<'a>(
-    rt: &HostRuntime,
     options: &ServeOptions<'_>,
+    errors: &Errors,
 ) -> Result<Option<RequestLines<Errors>>, StartFault<'a>> {
     if !options.logs {
         return Ok(None);
     }
-    let lines = RequestLines::new(errors_of(rt)?, options.limits.greatest_life);
+    let lines = RequestLines::new(errors.share()?, options.limits.greatest_life);
     Ok(Some(lines))
 }
 

@@ -7,5 +7,7 @@
 
 mod readiness;
 mod ready_writer;
+mod shared_writer;
 
 pub use crate::ready_writer::ReadyWriter;
+pub use crate::shared_writer::SharedWriter;

@@ -2,7 +2,7 @@
 //! gone, over a file, which takes all, and over a file on a disk that is full for one write.
 use kdcd_start::RequestLines;
 use krb_fields::Moment;
-use ready_writer::ReadyWriter;
+use ready_writer::{ReadyWriter, SharedWriter};
 use request_log::{Asker, Observer, Transport};
 use std::alloc::{AllocError, Global};
 use std::fs::File;
@@ -142,6 +142,28 @@ fn what_comes_behind_a_line_that_was_cut_has_a_line_of_its_own(
         }
     );
     assert!(rt; text.starts_with(&line.repeat(alloc, whole as usize)?));
+    Ok(())
+}
+
+#[test]
+fn what_another_says_behind_a_line_that_was_cut_has_a_line_of_its_own(
+    rt: HostRuntime,
+) -> Result<(), Fail> {
+    let alloc = rt.alloc();
+    let path = "shared_writer.log";
+    let disk = FullDisk {
+        file: File::create(&rt, path)?,
+        room: Some(9),
+    };
+    let mut ours = SharedWriter::new(alloc, ReadyWriter::new(alloc, &rt, disk)?)?;
+    let mut theirs = ours.share()?;
+    ours.write_all(b"first\n")?;
+    assert!(rt; ours.write_all(b"second\n").is_err());
+    theirs.write_all(b"third\n")?;
+    ours.write_all(b"fourth\n")?;
+    let text = fs::read_to_string(&rt, path)?;
+    fs::remove_file(&rt, path)?;
+    assert_eq!(rt; text.as_str(), "first\nsec\nthird\nfourth\n");
     Ok(())
 }
 

@@ -1,0 +1,46 @@
+//! One stream of lines for several that write to it.
+use crate::ready_writer::ReadyWriter;
+use std::alloc::{AllocError, Global};
+use std::cell::RefCell;
+use std::io;
+use std::io::{ErrorKind, Write};
+use std::rc::Rc;
+
+/// A [`ReadyWriter`] that several hold. What one of them writes behind a line of another that was cut starts on a line
+/// of its own.
+#[derive(Drop)]
+pub struct SharedWriter<W> {
+    writer: Rc<RefCell<ReadyWriter<W>>>,
+}
+
+impl<W: Drop> SharedWriter<W> {
+    pub fn new(alloc: Global, writer: ReadyWriter<W>) -> Result<SharedWriter<W>, AllocError> {
+        Ok(SharedWriter {
+            writer: Rc::new(alloc, RefCell::new(writer))?,
+        })
+    }
+
+    /// The same, for another to hold.
+    pub fn share(&self) -> Result<SharedWriter<W>, AllocError> {
+        Ok(SharedWriter {
+            writer: self.writer.clone()?,
+        })
+    }
+}
+
+impl<W: Write> Write for SharedWriter<W> {
+    fn write(&mut self, octets: &[u8]) -> io::Result<usize> {
+        match self.writer.try_borrow_mut() {
+            Ok(mut writer) => writer.write(octets),
+            // Nobody writes while another does.
+            Err(_) => Err(io::Error::from(ErrorKind::WouldBlock)),
+        }
+    }
+
+    fn flush(&mut self) -> io::Result<()> {
+        match self.writer.try_borrow_mut() {
+            Ok(mut writer) => writer.flush(),
+            Err(_) => Err(io::Error::from(ErrorKind::WouldBlock)),
+        }
+    }
+}
