@@ -5,7 +5,7 @@ ghost use Rattle.request_log.specs.Line.{IsLine};
 use crate::code_words::code_word;
 use crate::life::{add_life, asked_life};
 use crate::line::Line;
-use crate::messages::{Asked, asked_of, refusal_code, replied_client};
+use crate::messages::{RequestFields, refusal_code, replied_client, request_fields};
 use crate::names::add_name;
 use crate::observer::{Asker, Transport};
 use krb_fields::Moment;
@@ -29,22 +29,22 @@ pub fn request_line(
     let mut line = Line::new(alloc)?;
     add_moment(&mut line, at)?;
     add_asker(&mut line, asker)?;
-    match asked(request, reply) {
-        Some(asked) => {
-            add_names(alloc, &mut line, &asked, reply)?;
-            add_outcome(&mut line, at, greatest_life, &asked, reply)?;
+    match fields_shown(request, reply) {
+        Some(fields) => {
+            add_names(alloc, &mut line, &fields, reply)?;
+            add_outcome(&mut line, at, greatest_life, &fields, reply)?;
         }
         None => line.field("none")?,
     }
     line.finish()
 }
 
-/// What was asked. Octets without a reply may be no request, so all of them are read.
-fn asked<'a>(request: &'a [u8], reply: Option<&[u8]>) -> Option<Asked<'a>> {
+/// What the line shows of a request. Octets without a reply may be no request, so all of them are read.
+fn fields_shown<'a>(request: &'a [u8], reply: Option<&[u8]>) -> Option<RequestFields<'a>> {
     if reply.is_none() && read_kdc_req(request).is_err() {
         return None;
     }
-    asked_of(request)
+    request_fields(request)
 }
 
 /// Adds a moment, as `2026-11-23T22:46:18Z`.
@@ -70,20 +70,20 @@ fn add_asker(line: &mut Line, asker: Asker) -> Result<(), AllocError> {
 fn add_names(
     alloc: Global,
     line: &mut Line,
-    asked: &Asked<'_>,
+    fields: &RequestFields<'_>,
     reply: Option<&[u8]>,
 ) -> Result<(), AllocError> {
-    match asked.exchange {
+    match fields.exchange {
         Exchange::As => {
             line.field("as")?;
-            add_name(alloc, line, asked.client.as_ref())?;
+            add_name(alloc, line, fields.client.as_ref())?;
         }
         Exchange::Tgs => {
             line.field("tgs")?;
             add_replied_client(alloc, line, reply)?;
         }
     }
-    add_name(alloc, line, asked.service.as_ref())
+    add_name(alloc, line, fields.service.as_ref())
 }
 
 /// Adds the client that a TGS-REP names.
@@ -103,7 +103,7 @@ fn add_outcome(
     line: &mut Line,
     at: Moment,
     greatest_life: u32,
-    asked: &Asked<'_>,
+    fields: &RequestFields<'_>,
     reply: Option<&[u8]>,
 ) -> Result<(), AllocError> {
     let Some(octets) = reply else {
@@ -113,7 +113,10 @@ fn add_outcome(
         return add_refusal(line, code);
     }
     line.field("ticket")?;
-    add_life(line, asked_life(at, asked.from, asked.till, greatest_life))
+    add_life(
+        line,
+        asked_life(at, fields.from, fields.till, greatest_life),
+    )
 }
 
 fn add_refusal(line: &mut Line, code: i32) -> Result<(), AllocError> {

@@ -9,7 +9,7 @@ const TGS_REP: u8 = 13;
 
 /// What a line shows of a request (RFC 4120, section 5.4.1).
 #[derive(Drop)]
-pub struct Asked<'a> {
+pub struct RequestFields<'a> {
     pub exchange: Exchange,
     pub client: Option<NameRef<'a>>,
     pub service: Option<NameRef<'a>>,
@@ -17,8 +17,8 @@ pub struct Asked<'a> {
     pub till: KTime,
 }
 
-/// What a request asks for. None of other octets.
-pub fn asked_of(request: &[u8]) -> Option<Asked<'_>> {
+/// What a line shows of a request. None of other octets.
+pub fn request_fields(request: &[u8]) -> Option<RequestFields<'_>> {
     let (exchange, mut fields) = match fields_of(request, AS_REQ) {
         Some(fields) => (Exchange::As, fields),
         None => (Exchange::Tgs, fields_of(request, TGS_REQ)?),
@@ -28,7 +28,7 @@ pub fn asked_of(request: &[u8]) -> Option<Asked<'_>> {
     let service = value(&mut body, 3);
     let from = value(&mut body, 4);
     let till = value(&mut body, 5)?;
-    Some(Asked {
+    Some(RequestFields {
         exchange,
         client,
         service,
