@@ -1,19 +1,23 @@
 //! Replies that refuse: KRB-ERROR (RFC 4120, section 5.9.1).
-ghost use Rattle.std.specs.Prelude.{◌≡◌, ◌<◌, ◌≤◌, length, IfOk, IfSome};
+ghost use Rattle.std.specs.Prelude.{◌≡◌, ◌<◌, ◌≤◌, length, None, IfOk, IfSome};
 ghost use Rattle.std.specs.Option.{option_copied};
 ghost use Rattle.krb_elements.specs.Codec.{written};
+ghost use Rattle.krb_fields.specs.Code.{number_of};
 ghost use Rattle.krb_fields.specs.PrincipalName.{name};
 ghost use Rattle.krb_types.specs.KrbError.{krb_error};
 ghost use Rattle.kdc_replies.specs.ErrorReply.{error_reply, too_big};
 
-use krb_elements::{KerberosString, Octets};
+use crate::sent_names::sent_name;
+use krb_elements::{Coded, KerberosStringRef, Octets, write};
 use krb_fields::{Code, Moment, NameRef};
-use krb_types::{KrbError, ReqBodyRef, encode_krb_error};
+use krb_types::{KrbError, ReqBodyRef};
 use principals::granter_name;
 use std::alloc::{AllocError, Global};
 
+/// An error of a realm that is lent.
+type LentError<'r, N> = KrbError<KerberosStringRef<'r>, N, Octets>;
+
 /// The octets of the error with this code, and what goes with it, for who asked for this service.
-#[tactic(auto, using(crate::specs::LengthLaws::error_short))]
 pub fn error_reply(
     alloc: Global,
     realm: &[u8],
@@ -30,8 +34,13 @@ pub fn error_reply(
     ensures spelled { IfOk result (λ octets.
         krb_error.Spells (error_reply realm.now at code (option_copied sname.entry) e_data) octets.items) }
 {
-    let error = error_of(alloc, realm, at, code, sname, e_data)?;
-    encode_krb_error(alloc, &error)
+    match sname {
+        Some(name) => write(alloc, &error_of(realm, at, code, sent_name(name), e_data)),
+        None => {
+            let granter = granter_name(alloc, realm)?;
+            write(alloc, &error_of(realm, at, code, granter, e_data))
+        }
+    }
 }
 
 /// The octets of the error in place of a reply that is too long for its room.
@@ -56,21 +65,29 @@ pub fn too_big(
     )
 }
 
-fn error_of(
-    alloc: Global,
-    realm: &[u8],
+/// The error, whose realm and name are lent.
+fn error_of<'r, N: Coded>(
+    realm: &'r [u8],
     at: Moment,
     code: Code,
-    sname: Option<&NameRef<'_>>,
+    sname: N,
     e_data: Option<Octets>,
-) -> Result<KrbError, AllocError>
-    ensures { IfOk result (λ error. error ≡ error_reply realm.now at code (option_copied sname.entry) e_data) }
+) -> LentError<'r, N>
+    ensures { result ≡ record {
+      ctime = None;
+      cusec = None;
+      stime = at.sec;
+      susec = at.usec;
+      error_code = number_of code;
+      crealm = None;
+      cname = None;
+      realm = realm.now;
+      sname = sname;
+      e_text = None;
+      e_data = e_data;
+    } }
 {
-    let sname = match sname {
-        Some(name) => name.to_name(alloc)?,
-        None => granter_name(alloc, realm)?,
-    };
-    Ok(KrbError {
+    KrbError {
         ctime: None,
         cusec: None,
         stime: at.time(),
@@ -78,9 +95,9 @@ fn error_of(
         error_code: code.number(),
         crealm: None,
         cname: None,
-        realm: KerberosString::from_slice(alloc, realm)?,
+        realm: KerberosStringRef::new(realm),
         sname,
         e_text: None,
         e_data,
-    })
+    }
 }

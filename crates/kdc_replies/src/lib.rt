@@ -5,6 +5,7 @@ mod errors;
 mod grant;
 mod incoming;
 mod replies;
+mod sent_names;
 mod services;
 mod session_keys;
 mod standing;
