@@ -5,7 +5,7 @@ use Rattle.std.specs.Result.{result_ok}
 use Rattle.kdc_state.specs.declared.state.State as kdc_states
 use Rattle.ap_accept.specs.Accepts.{Answer}
 use Rattle.enctypes.specs.declared.key.Key.{Key}
-use Rattle.krb_joined.specs.Joined.{IsKept, IsKeptOn, IsRuled, IsServed, key_of, ruled, taken_of}
+use Rattle.krb_joined.specs.Joined.{IsKept, IsKeptOn, IsRuled, IsServed, IsUnpresentable, key_of, ruled, taken_of}
 use Rattle.krb_joined.specs.declared.presenting.Sealing.{Sealing}
 use Rattle.cred_files.specs.declared.credential.Credential.{Credential}
 use Rattle.krb_fields.specs.declared.moment.Moment.{Moment}
@@ -21,6 +21,11 @@ use Rattle.krb_joined.specs.Reading.{IsReader, reads_reply}
 use Rattle.krb_joined.specs.declared.fault.JoinedFault.{JoinedFault}
 use Rattle.krb_joined.specs.declared.fault.JoinedFault.TheVariants.{NoReply, NotTaken, NotPresentable, NotAccepted, NotAnswered, Memory}
 use Rattle.krb_joined.specs.declared.reading.Reader.{Reader}
+
+-- the credential that was read is the one that the reply gives
+taken_is : (own : Reader) (asked : Asked) (reply : Option (List ℕ)) (credential : Credential) → IsRead reply asked own credential → taken_of reply asked own ≡ Some credential
+taken_is own asked (Some octets) credential read = ap result_ok read
+taken_is own asked None credential read = absurd read
 
 module _ (own : Reader) (state : State) (now : ℤ) (wanted : ServiceAsked) (sent : Moment) where
   -- the credential that was obtained is accepted
@@ -66,15 +71,16 @@ module _ (own : Reader) (state : State) (now : ℤ) (wanted : ServiceAsked) (sen
       by (Err e) = tt
   not_presented asked None fault is = tt
 
-  -- a later fault is none of the KDC's
-  pub later_ended : (asked : Asked) (reply : Option (List ℕ)) (result : Result Accepted JoinedFault) → IfErr result IsLater → IfErr result (IsEnded reply asked own)
-  later_ended asked reply (Ok accepted) is = tt
-  later_ended asked reply (Err NoReply) is = absurd is
-  later_ended asked reply (Err (NotTaken fault)) is = absurd is
-  later_ended asked reply (Err NotPresentable) is = tt
-  later_ended asked reply (Err (NotAccepted fault)) is = tt
-  later_ended asked reply (Err (NotAnswered fault)) is = tt
-  later_ended asked reply (Err Memory) is = tt
+  -- a later fault is none of the KDC's, or of the credential that was read of its reply
+  pub later_ended : (asked : Asked) (reply : Option (List ℕ)) (credential : Credential) → IsRead reply asked own credential → (result : Result Accepted JoinedFault) → IsPresented credential sent result → IfErr result IsLater
+      → IfErr result (IsEnded reply asked own)
+  later_ended asked reply credential read (Ok accepted) presented is = tt
+  later_ended asked reply credential read (Err NoReply) presented is = absurd is
+  later_ended asked reply credential read (Err (NotTaken fault)) presented is = absurd is
+  later_ended asked reply credential read (Err NotPresentable) presented is = subst (λ (o : Option Credential). IsUnpresentable o) (sym (taken_is own asked reply credential read)) presented
+  later_ended asked reply credential read (Err (NotAccepted fault)) presented is = tt
+  later_ended asked reply credential read (Err (NotAnswered fault)) presented is = tt
+  later_ended asked reply credential read (Err Memory) presented is = tt
 
   -- ---- a reply that was kept
 
@@ -82,11 +88,6 @@ module _ (own : Reader) (state : State) (now : ℤ) (wanted : ServiceAsked) (sen
   stopped_again issue octets asked reply fault again is e = ended issue asked reply fault (λ none. absurd (let k : None ≡ Some octets = sym none ∙ again in cc)) is e
 
 -- ---- what the service does
-
--- the credential that was read is the one that the reply gives
-taken_is : (own : Reader) (asked : Asked) (reply : Option (List ℕ)) (credential : Credential) → IsRead reply asked own credential → taken_of reply asked own ≡ Some credential
-taken_is own asked (Some octets) credential read = ap result_ok read
-taken_is own asked None credential read = absurd read
 
 module _ (own : Reader) (asked : Asked) (reply : Option (List ℕ)) (state : State) (wanted : ServiceAsked) (presenting accepting : Sealing) where
   abbrev ruling : Option Answer

@@ -85,11 +85,22 @@ abbrev pub IsUntaken : Option (List ℕ) → Asked → Reader → ClientFault �
 IsUntaken (Some octets) asked reader fault = Fails fault (reads_reply reader asked octets)
 IsUntaken None asked reader fault = ⊥
 
--- where it ends with the KDC, this is its reply: none, or one that the client doesn't take
+-- the credential that the reply gives by the client's rules, if it gives one
+abbrev pub taken_of : Option (List ℕ) → Asked → Reader → Option Credential
+taken_of (Some octets) asked reader = result_ok (reads_reply reader asked octets)
+taken_of None asked reader = None
+
+-- the client took a credential that it can't present
+abbrev pub IsUnpresentable : Option Credential → Type 0
+IsUnpresentable (Some credential) = is_presentable credential ≡ false
+IsUnpresentable None = ⊥
+
+-- Where it ends before a service is asked, this is the KDC's reply: none, or one that the client doesn't take, or one
+-- whose credential it can't present.
 abbrev pub IsEnded : Option (List ℕ) → Asked → Reader → JoinedFault → Type 0
 IsEnded reply asked reader NoReply = reply ≡ None
 IsEnded reply asked reader (NotTaken fault) = IsUntaken reply asked reader fault
-IsEnded reply asked reader NotPresentable = ⊤
+IsEnded reply asked reader NotPresentable = IsUnpresentable (taken_of reply asked reader)
 IsEnded reply asked reader (NotAccepted fault) = ⊤
 IsEnded reply asked reader (NotAnswered fault) = ⊤
 IsEnded reply asked reader Memory = ⊤
@@ -144,11 +155,6 @@ IsHeard key sent accepted (Err (NotAnswered fault)) = IsUnheard key sent accepte
 IsHeard key sent accepted (Err fault) = ⊥
 
 -- ---- what the service does
-
--- the credential that the reply gives by the client's rules, if it gives one
-abbrev pub taken_of : Option (List ℕ) → Asked → Reader → Option Credential
-taken_of (Some octets) asked reader = result_ok (reads_reply reader asked octets)
-taken_of None asked reader = None
 
 abbrev pub key_of : Option Credential → Option Key
 key_of (Some credential) = session_key credential

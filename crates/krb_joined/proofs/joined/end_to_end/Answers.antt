@@ -43,8 +43,8 @@ pub returns-in-Ok-clause-ended : goal.returns-in-Ok-clause-ended
 returns-in-Ok-clause-ended c =
     let client = c.args.client.now in
     let request = c.args.request.now in
-    later_ended client.reader c.args.acceptor.now c.args.accepting.now.at.sec client.wanted client.presenting.at client.asked (answer (view c.args.kdc.now request) c.args.issuing.now.at c.args.issuing.now.random c.args.issuing.now.room request).reply c.present.result
-    c.present.ensures.later
+    later_ended client.reader c.args.acceptor.now c.args.accepting.now.at.sec client.wanted client.presenting.at client.asked (answer (view c.args.kdc.now request) c.args.issuing.now.at c.args.issuing.now.random c.args.issuing.now.room request).reply c.in-Ok.credential
+    c.in-Ok.ensures.read c.present.result c.present.ensures.presented c.present.ensures.later
 
 pub returns-in-Ok-clause-repeated : goal.returns-in-Ok-clause-repeated
 returns-in-Ok-clause-repeated c issue octets again is reader may = c.present.ensures.value issue (c.in-Ok.ensures.repeated issue octets again is reader) may
