@@ -14,6 +14,8 @@ mod observed;
 #[cfg(test)]
 mod octets;
 #[cfg(test)]
+mod rows;
+#[cfg(test)]
 mod rows_files;
 #[cfg(test)]
 mod starts;

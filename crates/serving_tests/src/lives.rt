@@ -2,10 +2,12 @@
 ghost use Rattle.std.specs.Prelude.{None};
 
 use crate::octets::{
-    BAD_KEY_VERSION, CLIENT_REVOKED, CLIENT_UNKNOWN, DISABLED_USER, FOR_SERVICE, GRANTER,
-    LAST_AUTHENTICATOR, LAST_GRANTER, LOGIN, NEW_USER, NEWER_GRANTER, NEWER_SERVICE,
-    NEWER_SERVICE_TICKET, NEXT_AUTHENTICATOR, OTHER_GRANTER, REPEAT, SAME_AUTHENTICATOR, SERVICE,
-    SERVICE_TICKET, TICKET, USER,
+    BAD_KEY_VERSION, CLIENT_REVOKED, CLIENT_UNKNOWN, FOR_SERVICE, LAST_AUTHENTICATOR, LOGIN,
+    NEWER_SERVICE_TICKET, NEXT_AUTHENTICATOR, REPEAT, SAME_AUTHENTICATOR, SERVICE_TICKET, TICKET,
+};
+use crate::rows::{
+    DISABLED_USER, GRANTER, LAST_GRANTER, NEW_USER, NEWER_GRANTER, NEWER_SERVICE, OTHER_GRANTER,
+    RowOf, SERVICE, USER, database,
 };
 use kdc_core::{Kdc, Opening};
 use kdc_hub::{Action, Did, Event, Hub, MemoryWire};
@@ -13,10 +15,9 @@ use kdc_serving::{Look, OtherRealm, RowSource, Totals, serve_life};
 use krb_elements::Octets;
 use krb_fields::Moment;
 use principal_rows::Limits;
-use principals::Database;
 use rand_chacha::ChaCha20Rng;
 use rand_core::SeedableRng;
-use std::alloc::{AllocError, Global};
+use std::alloc::Global;
 use std::collections::VecDeque;
 use std::net::{Ipv4Addr, SocketAddr};
 use std::test::Fail;
@@ -48,7 +49,7 @@ impl RowSource for ListedLooks {
 #[derive(Clone, Copy, Debug)]
 enum Found {
     Same,
-    Rows(&'static [&'static str]),
+    Rows(&'static [RowOf]),
     OtherRealm,
     Fault,
 }
@@ -56,7 +57,7 @@ enum Found {
 /// What a look finds, the request that comes next, and what its reply begins with.
 type Period = (Found, &'static [u8], &'static [u8]);
 
-const FIRST_ROWS: &[&str] = &[SERVICE, GRANTER, USER];
+const FIRST_ROWS: &[RowOf] = &[SERVICE, GRANTER, USER];
 
 const LIFE: &[Period] = &[
     (Found::Same, LOGIN, CLIENT_UNKNOWN),
@@ -93,18 +94,6 @@ const LIFE: &[Period] = &[
     // A principal that is removed.
     (Found::Same, LOGIN, CLIENT_UNKNOWN),
 ];
-
-/// A database with these rows.
-pub fn database(alloc: Global, realm: &str, rows: &[&str]) -> Result<Database, Fail> {
-    let text = text_of(alloc, realm, rows)?;
-    Ok(Database::read(alloc, &text)?)
-}
-
-/// The text of such a database.
-pub fn text_of(alloc: Global, realm: &str, rows: &[&str]) -> Result<String, AllocError> {
-    let rows = rows.join(alloc, ",")?;
-    format!(in alloc; "{{\"principals\":{{{rows}}},\"realm\":\"{realm}\",\"version\":2}}")
-}
 
 fn look_of(alloc: Global, found: Found) -> Result<Look, Fail> {
     Ok(match found {

@@ -1,6 +1,5 @@
-//! The octets of a life: requests and errors of an encoder in Python, beginnings of replies of a model of the
-//! exchanges in Python, and rows as the format of a database spells them. The realm is `A.B`; all comes in the first
-//! second of 2024.
+//! The octets of a life: requests and errors of an encoder in Python, and beginnings of replies of a model of the
+//! exchanges in Python. The realm is `A.B`; all comes in the first second of 2024. The keys are those of `rows`.
 
 /// An AS-REQ of `w` for `krbtgt/A.B`.
 pub const LOGIN: &[u8] = b"\
@@ -94,77 +93,3 @@ pub const SERVICE_TICKET: &[u8] = b"\
 pub const NEWER_SERVICE_TICKET: &[u8] = b"\
         6d8201f1308201eda003020105a10302010da3051b03412e42a40e300ca003020101a10530031b0175a581ed6181ea3081e7\
         a003020105a1051b03412e42a20e300ca003020101a10530031b0168a381c83081c5a003020112a103020102";
-
-/// The row of `krbtgt/A.B`.
-pub const GRANTER: &str =
-    r#""krbtgt/A.B":{"disabled":false,"expires":null,"forwardable":true,"greatest_life":4294967295,
-        "greatest_renewable":4294967295,"keys":[{"keys":[{"etype":18,
-        "key":"808182838485868788898a8b8c8d8e8f909192939495969798999a9b9c9d9e9f"}],"version":1}],
-        "ok_as_delegate":false,"password_expires":null,"postdate":false,"preauth":true,"proxiable":true,
-        "revoked_before":null}"#;
-
-/// The row of `krbtgt/C.D`.
-pub const OTHER_GRANTER: &str =
-    r#""krbtgt/C.D":{"disabled":false,"expires":null,"forwardable":true,"greatest_life":4294967295,
-        "greatest_renewable":4294967295,"keys":[{"keys":[{"etype":18,
-        "key":"808182838485868788898a8b8c8d8e8f909192939495969798999a9b9c9d9e9f"}],"version":1}],
-        "ok_as_delegate":false,"password_expires":null,"postdate":false,"preauth":true,"proxiable":true,
-        "revoked_before":null}"#;
-
-/// The same with new keys.
-pub const NEWER_GRANTER: &str =
-    r#""krbtgt/A.B":{"disabled":false,"expires":null,"forwardable":true,"greatest_life":4294967295,
-        "greatest_renewable":4294967295,"keys":[{"keys":[{"etype":18,
-        "key":"000102030405060708090a0b0c0d0e0f101112131415161718191a1b1c1d1e1f"}],"version":2},{"keys":[{"etype":18,
-        "key":"808182838485868788898a8b8c8d8e8f909192939495969798999a9b9c9d9e9f"}],"version":1}],
-        "ok_as_delegate":false,"password_expires":null,"postdate":false,"preauth":true,"proxiable":true,
-        "revoked_before":null}"#;
-
-/// The same without its first keys.
-pub const LAST_GRANTER: &str =
-    r#""krbtgt/A.B":{"disabled":false,"expires":null,"forwardable":true,"greatest_life":4294967295,
-        "greatest_renewable":4294967295,"keys":[{"keys":[{"etype":18,
-        "key":"000102030405060708090a0b0c0d0e0f101112131415161718191a1b1c1d1e1f"}],"version":2}],
-        "ok_as_delegate":false,"password_expires":null,"postdate":false,"preauth":true,"proxiable":true,
-        "revoked_before":null}"#;
-
-/// The row of `u`.
-pub const USER: &str =
-    r#""u":{"disabled":false,"expires":null,"forwardable":true,"greatest_life":4294967295,
-        "greatest_renewable":4294967295,"keys":[{"keys":[{"etype":18,
-        "key":"404142434445464748494a4b4c4d4e4f505152535455565758595a5b5c5d5e5f"}],"version":1}],
-        "ok_as_delegate":false,"password_expires":null,"postdate":false,"preauth":true,"proxiable":true,
-        "revoked_before":null}"#;
-
-/// The row of `w`, which needs no preauthentication.
-pub const NEW_USER: &str =
-    r#""w":{"disabled":false,"expires":null,"forwardable":true,"greatest_life":4294967295,
-        "greatest_renewable":4294967295,"keys":[{"keys":[{"etype":18,
-        "key":"606162636465666768696a6b6c6d6e6f707172737475767778797a7b7c7d7e7f"}],"version":1}],
-        "ok_as_delegate":false,"password_expires":null,"postdate":false,"preauth":false,"proxiable":true,
-        "revoked_before":null}"#;
-
-/// The same, disabled.
-pub const DISABLED_USER: &str =
-    r#""w":{"disabled":true,"expires":null,"forwardable":true,"greatest_life":4294967295,
-        "greatest_renewable":4294967295,"keys":[{"keys":[{"etype":18,
-        "key":"606162636465666768696a6b6c6d6e6f707172737475767778797a7b7c7d7e7f"}],"version":1}],
-        "ok_as_delegate":false,"password_expires":null,"postdate":false,"preauth":false,"proxiable":true,
-        "revoked_before":null}"#;
-
-/// The row of `h`.
-pub const SERVICE: &str =
-    r#""h":{"disabled":false,"expires":null,"forwardable":true,"greatest_life":4294967295,
-        "greatest_renewable":4294967295,"keys":[{"keys":[{"etype":18,
-        "key":"a0a1a2a3a4a5a6a7a8a9aaabacadaeafb0b1b2b3b4b5b6b7b8b9babbbcbdbebf"}],"version":1}],
-        "ok_as_delegate":false,"password_expires":null,"postdate":false,"preauth":true,"proxiable":true,
-        "revoked_before":null}"#;
-
-/// The same with new keys.
-pub const NEWER_SERVICE: &str =
-    r#""h":{"disabled":false,"expires":null,"forwardable":true,"greatest_life":4294967295,
-        "greatest_renewable":4294967295,"keys":[{"keys":[{"etype":18,
-        "key":"c0c1c2c3c4c5c6c7c8c9cacbcccdcecfd0d1d2d3d4d5d6d7d8d9dadbdcdddedf"}],"version":2},{"keys":[{"etype":18,
-        "key":"a0a1a2a3a4a5a6a7a8a9aaabacadaeafb0b1b2b3b4b5b6b7b8b9babbbcbdbebf"}],"version":1}],
-        "ok_as_delegate":false,"password_expires":null,"postdate":false,"preauth":true,"proxiable":true,
-        "revoked_before":null}"#;

@@ -1,6 +1,5 @@
 //! A file of rows (`kdcd_start`) that is replaced, broken, taken away and put back.
-use crate::lives::text_of;
-use crate::octets::{GRANTER, NEW_USER, SERVICE, USER};
+use crate::rows::{GRANTER, NEW_USER, RowOf, SERVICE, USER, text_of};
 use kdc_serving::{Look, OtherRealm, RowSource};
 use kdcd_start::RowsFile;
 use std::alloc::Global;
@@ -12,15 +11,15 @@ const PATH: &str = "tested.database";
 /// The file that is renamed to that path.
 const BESIDE: &str = "tested.database.new";
 
-const ROWS: &[&str] = &[SERVICE, GRANTER, USER];
+const ROWS: &[RowOf] = &[SERVICE, GRANTER, USER];
 
-const MORE_ROWS: &[&str] = &[SERVICE, GRANTER, USER, NEW_USER];
+const MORE_ROWS: &[RowOf] = &[SERVICE, GRANTER, USER, NEW_USER];
 
 /// What is done at the path.
 #[derive(Clone, Copy, Debug)]
 enum Deed {
     /// A file with these rows is put in the place of what is there.
-    Replace(&'static [&'static str]),
+    Replace(&'static [RowOf]),
     Write(&'static [u8]),
     Remove,
     MakeFolder,
@@ -63,7 +62,7 @@ kdcd: database: No such file or directory (os error 2); the rows before it stay
 kdcd: database: OtherRealm; the rows before it stay
 ";
 
-fn replace(rt: &HostRuntime, rows: &[&str]) -> Result<(), Fail> {
+fn replace(rt: &HostRuntime, rows: &[RowOf]) -> Result<(), Fail> {
     let text = text_of(rt.alloc(), "A.B", rows)?;
     fs::write(rt, BESIDE, text.as_str())?;
     Ok(fs::rename(rt, BESIDE, PATH)?)

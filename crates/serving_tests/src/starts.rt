@@ -1,4 +1,5 @@
 //! What the words of `kdcd serve` stand for, and which files are taken (`kdcd_start`).
+use crate::rows::{GRANTER, text_of};
 use clap::ArgMatches;
 use kdcd_start::{
     ArgsFault, FileFault, Started, database_of, read_args, read_at_most, seed_of, serve_options,
@@ -177,13 +178,6 @@ fn a_server_says_what_it_serves(rt: HostRuntime) -> Result<(), Fail> {
     Ok(())
 }
 
-/// A row of version 2 with a key of type 17.
-const DATABASE: &str =
-    r#"{"principals":{"krbtgt/A.B":{"disabled":false,"expires":null,"forwardable":true,"greatest_life":4294967295,
-        "greatest_renewable":4294967295,"keys":[{"keys":[{"etype":17,"key":"000102030405060708090a0b0c0d0e0f"}],
-        "version":1}],"ok_as_delegate":false,"password_expires":null,"postdate":false,"preauth":true,"proxiable":true,
-        "revoked_before":null}},"realm":"A.B","version":2}"#;
-
 /// The word for what stands in a file of a database, if it is refused.
 fn refusal_of(alloc: Global, octets: &[u8]) -> Option<&'static str> {
     match database_of(alloc, octets) {
@@ -195,7 +189,8 @@ fn refusal_of(alloc: Global, octets: &[u8]) -> Option<&'static str> {
 #[test]
 fn a_database_is_taken_or_refused_by_name(rt: HostRuntime) -> Result<(), Fail> {
     let alloc = rt.alloc();
-    assert_eq!(rt; refusal_of(alloc, DATABASE.as_bytes()), None);
+    let database = text_of(alloc, "A.B", &[GRANTER])?;
+    assert_eq!(rt; refusal_of(alloc, database.as_bytes()), None);
     for (octets, refusal) in [
         (b"{\"realm\":\"\xff\"}".as_slice(), "NotJson"),
         (b"[]".as_slice(), "NotJson"),
