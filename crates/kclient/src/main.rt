@@ -3,7 +3,7 @@
 
 use client_sockets::{SocketExchange, now};
 use file_store::FileStore;
-use kclient_run::{Defaults, FAILED, USAGE, Variable, kclient_run};
+use kclient_run::{Context, Defaults, FAILED, USAGE, Variable, kclient_run};
 use std::alloc::AllocError;
 use std::env::VarError;
 use std::process::ExitCode;
@@ -62,15 +62,16 @@ fn run(rt: &HostRuntime) -> Result<u8, Fault> {
         cache: variable(&cache)?,
         config: variable(&config)?,
     };
-    let mut store = FileStore::new(rt);
-    let mut exchange = SocketExchange::new(rt);
-    Ok(kclient_run(
+    let mut context = Context {
         alloc,
+        store: FileStore::new(rt),
+        exchange: SocketExchange::new(rt),
+        at,
+    };
+    Ok(kclient_run(
+        &mut context,
         args.as_slice(),
         &defaults,
-        &mut store,
-        &mut exchange,
-        at,
         rt.stdout(),
         rt.stderr(),
     ))

@@ -4,13 +4,14 @@ ghost use Rattle.client_core.specs.Taken.{IsTaken};
 ghost use Rattle.client_core.specs.declared.key_role.KeyRole.TheVariants as roles;
 
 use crate::asking::{KdcPlace, ask};
+use crate::context::Context;
 use crate::draws::{draw_confounder, draw_nonce};
 use crate::exchange::Exchange;
 use crate::faults::{Place, Reason, Stop};
 use crate::kinit::granter;
 use crate::wishes::{Again, again_options, further_asked};
 use client_core::{Asked, ClientFault, is_presentable, read_tgs_reply, session_key, tgs_request};
-use cred_files::{Cache, Credential, Principal};
+use cred_files::{Cache, Credential};
 use enctypes::Key;
 use krb_fields::{Flags, Moment, Name};
 use rand_chacha::ChaCha20Rng;
@@ -22,58 +23,37 @@ const NO_TICKET: Stop = Stop::Refused(Reason::Absent, Place::Cache);
 const UNOPENED: Stop = Stop::Refused(Reason::SessionCannotOpen, Place::Kdc);
 
 /// Asks for a service's ticket with the cache's ticket for tickets.
-pub(crate) fn service_ticket<X: Exchange>(
-    alloc: Global,
-    exchange: &mut X,
+pub(crate) fn service_ticket<T, X: Exchange>(
+    context: &mut Context<T, X>,
     kdc: KdcPlace<'_>,
     cache: &Cache,
     service: &Name,
     rng: &mut ChaCha20Rng,
-    at: Moment,
 ) -> Result<Credential, Stop> {
-    let granter = granter(alloc, &cache.principal().realm)?;
-    let granting = granting_ticket(cache, &granter)?;
     let client = cache.principal();
+    let granter = granter(context.alloc, &client.realm)?;
+    let granting = granting_ticket(cache, &granter)?;
     let options = Flags::from_bits(0);
-    ask_for(
-        alloc, exchange, kdc, granting, client, service, options, rng, at,
-    )
+    let nonce = draw_nonce(rng);
+    let asked = further_asked(context.alloc, options, client, service, nonce)?;
+    ask_with_ticket(context, kdc, granting, &asked, rng)
 }
 
 /// Asks for the cache's ticket for tickets anew, with itself.
-pub(crate) fn ticket_again<X: Exchange>(
-    alloc: Global,
-    exchange: &mut X,
+pub(crate) fn ticket_again<T, X: Exchange>(
+    context: &mut Context<T, X>,
     kdc: KdcPlace<'_>,
     cache: &Cache,
     again: Again,
     rng: &mut ChaCha20Rng,
-    at: Moment,
 ) -> Result<Credential, Stop> {
-    let granter = granter(alloc, &cache.principal().realm)?;
-    let granting = granting_ticket(cache, &granter)?;
     let client = cache.principal();
+    let granter = granter(context.alloc, &client.realm)?;
+    let granting = granting_ticket(cache, &granter)?;
     let options = again_options(again, granting.flags);
-    ask_for(
-        alloc, exchange, kdc, granting, client, &granter, options, rng, at,
-    )
-}
-
-/// Asks for a ticket of this service, with these options.
-fn ask_for<X: Exchange>(
-    alloc: Global,
-    exchange: &mut X,
-    kdc: KdcPlace<'_>,
-    granting: &Credential,
-    client: &Principal,
-    service: &Name,
-    options: Flags,
-    rng: &mut ChaCha20Rng,
-    at: Moment,
-) -> Result<Credential, Stop> {
     let nonce = draw_nonce(rng);
-    let asked = further_asked(alloc, options, client, service, nonce)?;
-    ask_with_ticket(alloc, exchange, kdc, granting, &asked, rng, at)
+    let asked = further_asked(context.alloc, options, client, &granter, nonce)?;
+    ask_with_ticket(context, kdc, granting, &asked, rng)
 }
 
 /// The cache's credential of the ticket-granting service.
@@ -84,14 +64,12 @@ fn granting_ticket<'c>(cache: &'c Cache, granter: &Name) -> Result<&'c Credentia
     }
 }
 
-fn ask_with_ticket<X: Exchange>(
-    alloc: Global,
-    exchange: &mut X,
+fn ask_with_ticket<T, X: Exchange>(
+    context: &mut Context<T, X>,
     kdc: KdcPlace<'_>,
     granting: &Credential,
     asked: &Asked,
     rng: &mut ChaCha20Rng,
-    at: Moment,
 ) -> Result<Credential, Stop> {
     if !is_presentable(granting) || !asked.is_askable() {
         return Err(NO_TICKET);
@@ -99,10 +77,11 @@ fn ask_with_ticket<X: Exchange>(
     let Some(key) = session_key(granting) else {
         return Err(NO_TICKET);
     };
+    let at = context.at;
     let confounder = draw_confounder(rng);
-    let request = tgs_request(alloc, asked, granting, None, at, &confounder)?;
-    let reply = ask(alloc, exchange, kdc, &request)?;
-    take(alloc, asked, &key, at, &reply)
+    let request = tgs_request(context.alloc, asked, granting, None, at, &confounder)?;
+    let reply = ask(context.alloc, &mut context.exchange, kdc, &request)?;
+    take(context.alloc, asked, &key, at, &reply)
 }
 
 fn take(

@@ -7,6 +7,7 @@ ghost use Rattle.client_core.specs.declared.key_role.KeyRole.TheVariants as role
 use crate::args::{FirstArgs, SecretArgs};
 use crate::asking::{KdcPlace, ask};
 use crate::caches::write_new_cache;
+use crate::context::Context;
 use crate::draws::{draw_confounder, draw_nonce};
 use crate::exchange::Exchange;
 use crate::faults::{Place, Reason, Stop, of_name};
@@ -39,35 +40,39 @@ struct Names {
 
 /// Gets a first ticket, and writes a cache of it.
 pub(crate) fn log_in<T: Store, X: Exchange>(
-    alloc: Global,
+    context: &mut Context<T, X>,
     places: &Places,
     args: &FirstArgs<'_>,
-    kdc: KdcPlace<'_>,
-    store: &mut T,
-    exchange: &mut X,
-    at: Moment,
 ) -> Result<(), Stop> {
-    let names = read_names(alloc, places, args)?;
-    let credential = ticket_of(alloc, places, args, &names, kdc, store, exchange, at)?;
-    write_new_cache(alloc, store, places.cache.as_str(), &credential)
+    let names = read_names(context.alloc, places, args)?;
+    let credential = ticket_of(context, places, args, &names)?;
+    write_new_cache(
+        context.alloc,
+        &mut context.store,
+        places.cache.as_str(),
+        &credential,
+    )
 }
 
 fn ticket_of<T: Store, X: Exchange>(
-    alloc: Global,
+    context: &mut Context<T, X>,
     places: &Places,
     args: &FirstArgs<'_>,
     names: &Names,
-    kdc: KdcPlace<'_>,
-    store: &mut T,
-    exchange: &mut X,
-    at: Moment,
 ) -> Result<Credential, Stop> {
-    let secret = read_secret(alloc, store, places, args)?;
-    let mut rng = generator(alloc, store, args.seed)?;
+    let secret = read_secret(context.alloc, &mut context.store, places, args)?;
+    let mut rng = generator(context.alloc, &mut context.store, args.seed)?;
     let nonce = draw_nonce(&mut rng);
     let Names { client, service } = names;
-    let asked = first_asked(alloc, &args.wishes, client, service, at, nonce)?;
-    first_ticket(alloc, exchange, kdc, &asked, &secret, &mut rng, at)
+    let asked = first_asked(
+        context.alloc,
+        &args.wishes,
+        client,
+        service,
+        context.at,
+        nonce,
+    )?;
+    first_ticket(context, places.kdc(), &asked, &secret, &mut rng)
 }
 
 /// The generator of what a command draws: ChaCha20 under the seed of a file, or under the system's random octets.
@@ -156,26 +161,24 @@ fn read_secret<T: Store>(
 }
 
 /// Asks without a timestamp, and once more with one where the KDC wants it.
-fn first_ticket<X: Exchange>(
-    alloc: Global,
-    exchange: &mut X,
+fn first_ticket<T, X: Exchange>(
+    context: &mut Context<T, X>,
     kdc: KdcPlace<'_>,
     asked: &Asked,
     secret: &Secret,
     rng: &mut ChaCha20Rng,
-    at: Moment,
 ) -> Result<Credential, Stop> {
     if !asked.is_askable() {
         return Err(Stop::Refused(Reason::BadName, Place::Name));
     }
-    let request = as_request(alloc, asked)?;
-    let reply = ask(alloc, exchange, kdc, &request)?;
-    match key_of_reply(alloc, secret, asked, &reply)? {
-        Some(key) => take(alloc, asked, &key, at, &reply),
+    let request = as_request(context.alloc, asked)?;
+    let reply = ask(context.alloc, &mut context.exchange, kdc, &request)?;
+    match key_of_reply(context.alloc, secret, asked, &reply)? {
+        Some(key) => take(context.alloc, asked, &key, context.at, &reply),
         None => {
-            let key = key_for_timestamp(alloc, secret, asked, &reply)?;
+            let key = key_for_timestamp(context.alloc, secret, asked, &reply)?;
             let confounder = draw_confounder(rng);
-            ask_with_timestamp(alloc, exchange, kdc, asked, secret, &key, &confounder, at)
+            ask_with_timestamp(context, kdc, asked, secret, &key, &confounder)
         }
     }
 }
@@ -192,22 +195,21 @@ fn key_for_timestamp(
 }
 
 /// Asks with a timestamp under the client's key.
-fn ask_with_timestamp<X: Exchange>(
-    alloc: Global,
-    exchange: &mut X,
+fn ask_with_timestamp<T, X: Exchange>(
+    context: &mut Context<T, X>,
     kdc: KdcPlace<'_>,
     asked: &Asked,
     secret: &Secret,
     key: &Key,
     confounder: &[u8; 16],
-    at: Moment,
 ) -> Result<Credential, Stop>
     requires { IsAskable asked.now }
 {
-    let request = with_timestamp(alloc, asked, key, at, confounder)?;
-    let reply = ask(alloc, exchange, kdc, &request)?;
+    let at = context.at;
+    let request = with_timestamp(context.alloc, asked, key, at, confounder)?;
+    let reply = ask(context.alloc, &mut context.exchange, kdc, &request)?;
     let key = key_of_next_reply(secret, asked, key, &reply)?;
-    take(alloc, asked, &key, at, &reply)
+    take(context.alloc, asked, &key, at, &reply)
 }
 
 /// What the KDC says of the client's keys where it wants preauthentication; else why it gives no ticket.

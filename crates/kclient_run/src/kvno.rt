@@ -2,6 +2,7 @@
 use crate::args::KvnoArgs;
 use crate::asking::KdcPlace;
 use crate::caches::{put, read_cache, write_cache};
+use crate::context::Context;
 use crate::exchange::Exchange;
 use crate::faults::{Place, Stop};
 use crate::files::read_keytab;
@@ -50,14 +51,12 @@ fn at_name<T: Drop>(done: Result<T, Stop>, index: usize) -> Result<T, KvnoStop> 
     }
 }
 
-/// What the command works with.
+/// The cache, and what tickets are got and looked at with.
 #[derive(Drop)]
-struct Desk {
+struct Wallet {
     cache: Cache,
     keytab: Option<Keytab>,
     rng: ChaCha20Rng,
-    /// The moment of the next request.
-    at: Moment,
     /// Whether the cache has more than its file.
     is_changed: bool,
 }
@@ -65,36 +64,31 @@ struct Desk {
 /// Gets a ticket for each service, unless the cache has a good one, and puts it into the cache. It gives the versions
 /// of the keys that the tickets are sealed under, in the order of the names.
 pub(crate) fn get_tickets<T: Store, X: Exchange>(
-    alloc: Global,
+    context: &mut Context<T, X>,
     places: &Places,
     args: &KvnoArgs<'_>,
     names: &[&str],
-    kdc: KdcPlace<'_>,
-    store: &mut T,
-    exchange: &mut X,
-    at: Moment,
 ) -> Result<Vec<i64>, KvnoStop> {
-    let services = read_services(alloc, names)?;
-    let path = places.cache.as_str();
-    let mut desk = read_desk(alloc, path, args, store, at)?;
-    get_and_write(
-        alloc, path, args.fresh, kdc, &mut desk, &services, store, exchange,
-    )
+    let services = read_services(context.alloc, names)?;
+    let mut wallet = read_wallet(context.alloc, &mut context.store, places, args)?;
+    get_and_write(context, places, args.fresh, &mut wallet, &services)
 }
 
 fn get_and_write<T: Store, X: Exchange>(
-    alloc: Global,
-    path: &str,
+    context: &mut Context<T, X>,
+    places: &Places,
     fresh: bool,
-    kdc: KdcPlace<'_>,
-    desk: &mut Desk,
+    wallet: &mut Wallet,
     services: &[Name],
-    store: &mut T,
-    exchange: &mut X,
 ) -> Result<Vec<i64>, KvnoStop> {
-    let versions = get_each(alloc, fresh, kdc, desk, exchange, services)?;
-    if desk.is_changed {
-        write_cache(alloc, store, path, &desk.cache)?;
+    let versions = get_each(context, places.kdc(), fresh, wallet, services)?;
+    if wallet.is_changed {
+        write_cache(
+            context.alloc,
+            &mut context.store,
+            places.cache.as_str(),
+            &wallet.cache,
+        )?;
     }
     Ok(versions)
 }
@@ -112,21 +106,19 @@ fn add_service(alloc: Global, services: &mut Vec<Name>, name: &str) -> Result<()
     Ok(services.push(service)?)
 }
 
-fn read_desk<T: Store>(
+fn read_wallet<T: Store>(
     alloc: Global,
-    path: &str,
-    args: &KvnoArgs<'_>,
     store: &mut T,
-    at: Moment,
-) -> Result<Desk, Stop> {
-    let cache = read_cache(alloc, store, path)?;
+    places: &Places,
+    args: &KvnoArgs<'_>,
+) -> Result<Wallet, Stop> {
+    let cache = read_cache(alloc, store, places.cache.as_str())?;
     let keytab = read_checking_keytab(alloc, store, args.keytab)?;
     let rng = generator(alloc, store, args.seed)?;
-    Ok(Desk {
+    Ok(Wallet {
         cache,
         keytab,
         rng,
-        at,
         is_changed: false,
     })
 }
@@ -142,34 +134,32 @@ fn read_checking_keytab<T: Store>(
     }
 }
 
-fn get_each<X: Exchange>(
-    alloc: Global,
-    fresh: bool,
+fn get_each<T, X: Exchange>(
+    context: &mut Context<T, X>,
     kdc: KdcPlace<'_>,
-    desk: &mut Desk,
-    exchange: &mut X,
+    fresh: bool,
+    wallet: &mut Wallet,
     services: &[Name],
 ) -> Result<Vec<i64>, KvnoStop> {
-    let mut versions = Vec::new(alloc);
+    let mut versions = Vec::new(context.alloc);
     for (index, service) in services.iter().enumerate() {
-        let got = get_ticket(alloc, fresh, kdc, desk, exchange, service);
+        let got = get_ticket(context, kdc, fresh, wallet, service);
         versions.push(at_name(got, index)?)?;
     }
     Ok(versions)
 }
 
 /// The version of the key that the service's ticket is sealed under.
-fn get_ticket<X: Exchange>(
-    alloc: Global,
-    fresh: bool,
+fn get_ticket<T, X: Exchange>(
+    context: &mut Context<T, X>,
     kdc: KdcPlace<'_>,
-    desk: &mut Desk,
-    exchange: &mut X,
+    fresh: bool,
+    wallet: &mut Wallet,
     service: &Name,
 ) -> Result<i64, Stop> {
-    match held_version(alloc, fresh, desk, service)? {
+    match held_version(context.alloc, fresh, wallet, service, context.at)? {
         Some(version) => Ok(version),
-        None => new_version(alloc, kdc, desk, exchange, service),
+        None => new_version(context, kdc, wallet, service),
     }
 }
 
@@ -177,45 +167,36 @@ fn get_ticket<X: Exchange>(
 fn held_version(
     alloc: Global,
     fresh: bool,
-    desk: &Desk,
+    wallet: &Wallet,
     service: &Name,
+    at: Moment,
 ) -> Result<Option<i64>, Stop> {
     if fresh {
         return Ok(None);
     }
-    match good_credential(&desk.cache, service, desk.at) {
-        Some(credential) => Ok(Some(checked_version(alloc, &desk.keytab, credential)?)),
+    match good_credential(&wallet.cache, service, at) {
+        Some(credential) => Ok(Some(checked_version(alloc, &wallet.keytab, credential)?)),
         None => Ok(None),
     }
 }
 
 /// Asks for a ticket, puts it into the cache, and gives the version of its key.
-fn new_version<X: Exchange>(
-    alloc: Global,
+fn new_version<T, X: Exchange>(
+    context: &mut Context<T, X>,
     kdc: KdcPlace<'_>,
-    desk: &mut Desk,
-    exchange: &mut X,
+    wallet: &mut Wallet,
     service: &Name,
 ) -> Result<i64, Stop> {
-    let at = desk.at;
-    desk.at = next_moment(at);
-    let credential = service_ticket(
-        alloc,
-        exchange,
-        kdc,
-        &desk.cache,
-        service,
-        &mut desk.rng,
-        at,
-    )?;
-    keep(alloc, desk, &credential)
+    let credential = service_ticket(context, kdc, &wallet.cache, service, &mut wallet.rng)?;
+    context.at = next_moment(context.at);
+    keep(context.alloc, wallet, &credential)
 }
 
 /// Puts a credential into the cache, and gives the version of its key.
-fn keep(alloc: Global, desk: &mut Desk, credential: &Credential) -> Result<i64, Stop> {
-    let version = checked_version(alloc, &desk.keytab, credential)?;
-    put(alloc, &mut desk.cache, credential)?;
-    desk.is_changed = true;
+fn keep(alloc: Global, wallet: &mut Wallet, credential: &Credential) -> Result<i64, Stop> {
+    let version = checked_version(alloc, &wallet.keytab, credential)?;
+    put(alloc, &mut wallet.cache, credential)?;
+    wallet.is_changed = true;
     Ok(version)
 }
 

@@ -1,14 +1,15 @@
 //! The client's tool: `kinit` gets a ticket for tickets, by a password or a keytab, and makes a credential cache of it;
 //! `kvno` gets tickets for services and puts them into the cache; `klist` prints what a cache or a keytab holds.
 //!
-//! `kclient_run` takes the words of one command line and does what they say with the files of a `Store`, over an
-//! `Exchange` of messages.
+//! `kclient_run` takes the words of one command line and does what they say at a `Context`: with the files of a `Store`, over
+//! an `Exchange` of messages.
 #![tactic(auto)]
 
 mod args;
 mod asking;
 mod caches;
 mod codes;
+mod context;
 mod draws;
 mod environment;
 mod exchange;
@@ -32,6 +33,7 @@ mod run;
 mod secrets;
 mod wishes;
 
+pub use context::Context;
 pub use draws::{draw_confounder, draw_nonce};
 pub use environment::{Defaults, Variable};
 pub use exchange::{Exchange, Transport};

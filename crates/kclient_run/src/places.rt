@@ -1,5 +1,6 @@
 //! Where a command works: its cache, its realm and its KDCs, as its words say, or else what stands for them.
 use crate::args::{FirstArgs, Task};
+use crate::asking::KdcPlace;
 use crate::caches::read_cache;
 use crate::environment::Defaults;
 use crate::faults::{Place, Reason, Stop, of_name};
@@ -74,6 +75,17 @@ pub(crate) struct Places {
     /// The text of the realm's name.
     pub realm: String,
     pub kdcs: Kdcs,
+    /// Whether the KDCs are asked by TCP alone.
+    pub tcp_only: bool,
+}
+
+impl Places {
+    pub(crate) fn kdc(&self) -> KdcPlace<'_> {
+        KdcPlace {
+            addresses: &self.kdcs.addresses,
+            tcp_only: self.tcp_only,
+        }
+    }
 }
 
 const TWO_FILES: &str = "--cache and --keytab don't go together";
@@ -107,6 +119,7 @@ fn first_places<T: Store>(
         cache,
         realm: text,
         kdcs,
+        tcp_only: args.get_flag("tcp"),
     })
 }
 
@@ -122,6 +135,7 @@ fn kvno_places<T: Store>(
         cache,
         realm: String::new(alloc),
         kdcs,
+        tcp_only: args.get_flag("tcp"),
     })
 }
 
@@ -134,6 +148,7 @@ fn klist_places(
         cache: listed_path(alloc, args, defaults)?,
         realm: String::new(alloc),
         kdcs: no_kdcs(alloc),
+        tcp_only: false,
     })
 }
 

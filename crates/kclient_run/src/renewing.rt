@@ -1,7 +1,7 @@
 //! `kinit --renew` and `kinit --validate`: the ticket for tickets, once more (RFC 4120, sections 2.3 and 2.4).
 use crate::args::AgainArgs;
-use crate::asking::KdcPlace;
 use crate::caches::{read_cache, write_new_cache};
+use crate::context::Context;
 use crate::exchange::Exchange;
 use crate::faults::Stop;
 use crate::granting::ticket_again;
@@ -9,34 +9,28 @@ use crate::kinit::generator;
 use crate::places::Places;
 use cred_files::Credential;
 use file_store::Store;
-use krb_fields::Moment;
-use std::alloc::Global;
 
 /// Gets the cache's ticket for tickets again, and writes a new cache of it.
 pub(crate) fn get_again<T: Store, X: Exchange>(
-    alloc: Global,
+    context: &mut Context<T, X>,
     places: &Places,
     args: &AgainArgs<'_>,
-    kdc: KdcPlace<'_>,
-    store: &mut T,
-    exchange: &mut X,
-    at: Moment,
 ) -> Result<(), Stop> {
-    let path = places.cache.as_str();
-    let credential = ticket_of(alloc, path, args, kdc, store, exchange, at)?;
-    write_new_cache(alloc, store, path, &credential)
+    let credential = ticket_of(context, places, args)?;
+    write_new_cache(
+        context.alloc,
+        &mut context.store,
+        places.cache.as_str(),
+        &credential,
+    )
 }
 
 fn ticket_of<T: Store, X: Exchange>(
-    alloc: Global,
-    path: &str,
+    context: &mut Context<T, X>,
+    places: &Places,
     args: &AgainArgs<'_>,
-    kdc: KdcPlace<'_>,
-    store: &mut T,
-    exchange: &mut X,
-    at: Moment,
 ) -> Result<Credential, Stop> {
-    let cache = read_cache(alloc, store, path)?;
-    let mut rng = generator(alloc, store, args.seed)?;
-    ticket_again(alloc, exchange, kdc, &cache, args.again, &mut rng, at)
+    let cache = read_cache(context.alloc, &mut context.store, places.cache.as_str())?;
+    let mut rng = generator(context.alloc, &mut context.store, args.seed)?;
+    ticket_again(context, places.kdc(), &cache, args.again, &mut rng)
 }

@@ -2,7 +2,7 @@
 ghost use Rattle.std.specs.Prelude.{◌≤◌, IfOk};
 
 use crate::args::{AgainArgs, FirstArgs, KvnoArgs, Task, task_of};
-use crate::asking::KdcPlace;
+use crate::context::Context;
 use crate::environment::Defaults;
 use crate::exchange::Exchange;
 use crate::fault_args::{common_subject, first_subject, kvno_subject};
@@ -17,8 +17,6 @@ use crate::reporting::{
 };
 use clap::ArgMatches;
 use file_store::Store;
-use krb_fields::Moment;
-use std::alloc::Global;
 use std::convert::AsStr;
 use std::io;
 use std::io::{BufWriter, Write};
@@ -35,42 +33,29 @@ pub const USAGE: u8 = 2;
 /// The status of a command that a file, the KDC's silence, or want of memory, failed.
 pub const FAILED: u8 = 3;
 
-/// Does what a command line says, the program's name in front, at this moment. What came of it goes to `writer`, and
-/// why it was not done, in words, to `errors`. The status is `DONE`, `REFUSED`, `USAGE` or `FAILED`. But for `DONE` the
-/// cache is as it was, unless the printing alone failed: then it is `FAILED`, and the cache is written.
+/// Does what a command line says, the program's name in front, at the context's moment. What came of it goes to `writer`,
+/// and why it was not done, in words, to `errors`. The status is `DONE`, `REFUSED`, `USAGE` or `FAILED`. But for `DONE`
+/// the cache is as it was, unless the printing alone failed: then it is `FAILED`, and the cache is written.
 pub fn kclient_run<S: AsStr, T: Store, X: Exchange, W: Write + Drop, E: Write + Drop>(
-    alloc: Global,
+    context: &mut Context<T, X>,
     args: &[S],
     defaults: &Defaults<'_>,
-    store: &mut T,
-    exchange: &mut X,
-    at: Moment,
     writer: W,
     errors: E,
 ) -> u8
     ensures { result ≤ 3 }
 {
-    let Ok(mut errors) = BufWriter::new(alloc, errors) else {
+    let Ok(mut errors) = BufWriter::new(context.alloc, errors) else {
         return FAILED;
     };
-    let mut out = match BufWriter::new(alloc, writer) {
+    let mut out = match BufWriter::new(context.alloc, writer) {
         Ok(out) => out,
         Err(error) => {
             tell_unwritten(&mut errors, error);
             return FAILED;
         }
     };
-    let done = run_to_end(
-        alloc,
-        args,
-        defaults,
-        store,
-        exchange,
-        at,
-        &mut out,
-        &mut errors,
-    );
-    match done {
+    match run_to_end(context, args, defaults, &mut out, &mut errors) {
         Ok(status) => status,
         Err(error) => {
             tell_unwritten(&mut errors, error);
@@ -81,48 +66,39 @@ pub fn kclient_run<S: AsStr, T: Store, X: Exchange, W: Write + Drop, E: Write + 
 
 /// The status; an error is a failed write.
 fn run_to_end<S: AsStr, T: Store, X: Exchange, W: Write, E: Write>(
-    alloc: Global,
+    context: &mut Context<T, X>,
     args: &[S],
     defaults: &Defaults<'_>,
-    store: &mut T,
-    exchange: &mut X,
-    at: Moment,
     out: &mut W,
     errors: &mut E,
 ) -> io::Result<u8>
     ensures { IfOk result (λ status. status ≤ 3) }
 {
-    let status = run_args(alloc, args, defaults, store, exchange, at, out, errors)?;
+    let status = run_args(context, args, defaults, out, errors)?;
     out.flush()?;
     errors.flush()?;
     Ok(status)
 }
 
 fn run_args<S: AsStr, T: Store, X: Exchange, W: Write, E: Write>(
-    alloc: Global,
+    context: &mut Context<T, X>,
     args: &[S],
     defaults: &Defaults<'_>,
-    store: &mut T,
-    exchange: &mut X,
-    at: Moment,
     out: &mut W,
     errors: &mut E,
 ) -> io::Result<u8>
     ensures { IfOk result (λ status. status ≤ 3) }
 {
-    match read_args(alloc, args) {
-        Ok(matches) => run_subcommand(alloc, &matches, defaults, store, exchange, at, out, errors),
+    match read_args(context.alloc, args) {
+        Ok(matches) => run_subcommand(context, &matches, defaults, out, errors),
         Err(error) => report_args(out, errors, &error),
     }
 }
 
 fn run_subcommand<T: Store, X: Exchange, W: Write, E: Write>(
-    alloc: Global,
+    context: &mut Context<T, X>,
     matches: &ArgMatches<'_>,
     defaults: &Defaults<'_>,
-    store: &mut T,
-    exchange: &mut X,
-    at: Moment,
     out: &mut W,
     errors: &mut E,
 ) -> io::Result<u8>
@@ -132,105 +108,88 @@ fn run_subcommand<T: Store, X: Exchange, W: Write, E: Write>(
         return Ok(USAGE);
     };
     match task_of(command, options) {
-        Ok(task) => run_placed(
-            alloc, &task, options, defaults, store, exchange, at, out, errors,
-        ),
+        Ok(task) => run_placed(context, &task, options, defaults, out, errors),
         Err(fault) => print_fault(out, fault),
     }
 }
 
 /// Finds where the command works, and does it there.
 fn run_placed<T: Store, X: Exchange, W: Write, E: Write>(
-    alloc: Global,
+    context: &mut Context<T, X>,
     task: &Task<'_>,
     options: &ArgMatches<'_>,
     defaults: &Defaults<'_>,
-    store: &mut T,
-    exchange: &mut X,
-    at: Moment,
     out: &mut W,
     errors: &mut E,
 ) -> io::Result<u8>
     ensures { IfOk result (λ status. status ≤ 3) }
 {
-    match find_places(alloc, task, options, defaults, store) {
-        Ok(places) => run_task(
-            alloc, task, options, &places, store, exchange, at, out, errors,
-        ),
+    match find_places(context.alloc, task, options, defaults, &mut context.store) {
+        Ok(places) => run_task(context, task, options, &places, out, errors),
         Err(unplaced) => report_unplaced(out, errors, &unplaced, options, defaults),
     }
 }
 
 fn run_task<T: Store, X: Exchange, W: Write, E: Write>(
-    alloc: Global,
+    context: &mut Context<T, X>,
     task: &Task<'_>,
     options: &ArgMatches<'_>,
     places: &Places,
-    store: &mut T,
-    exchange: &mut X,
-    at: Moment,
     out: &mut W,
     errors: &mut E,
 ) -> io::Result<u8>
     ensures { IfOk result (λ status. status ≤ 3) }
 {
-    let kdc = KdcPlace {
-        addresses: &places.kdcs.addresses,
-        tcp_only: options.get_flag("tcp"),
-    };
     match task {
-        Task::First(args) => run_first(alloc, places, args, kdc, store, exchange, at, out, errors),
-        Task::Again(args) => run_again(alloc, places, args, kdc, store, exchange, at, out, errors),
+        Task::First(args) => run_first(context, places, args, out, errors),
+        Task::Again(args) => run_again(context, places, args, out, errors),
         Task::Kvno(args) => match options.get_strs("name") {
-            Some(names) => run_kvno(
-                alloc, places, args, names, kdc, store, exchange, at, out, errors,
-            ),
+            Some(names) => run_kvno(context, places, args, names, out, errors),
             None => Ok(USAGE),
         },
-        Task::Klist(args) => run_klist(alloc, places, args, store, out, errors),
+        Task::Klist(args) => run_klist(
+            context.alloc,
+            places,
+            args,
+            &mut context.store,
+            out,
+            errors,
+        ),
     }
 }
 
 fn run_first<T: Store, X: Exchange, W: Write, E: Write>(
-    alloc: Global,
+    context: &mut Context<T, X>,
     places: &Places,
     args: &FirstArgs<'_>,
-    kdc: KdcPlace<'_>,
-    store: &mut T,
-    exchange: &mut X,
-    at: Moment,
     out: &mut W,
     errors: &mut E,
 ) -> io::Result<u8>
     ensures { IfOk result (λ status. status ≤ 3) }
 {
-    match log_in(alloc, places, args, kdc, store, exchange, at) {
+    match log_in(context, places, args) {
         Ok(()) => print_done(out),
         Err(stop) => {
             let subject = first_subject(places, args, stop.place());
-            report_asked(out, errors, subject, exchange, stop)
+            report_asked(out, errors, subject, &context.exchange, stop)
         }
     }
 }
 
 fn run_again<T: Store, X: Exchange, W: Write, E: Write>(
-    alloc: Global,
+    context: &mut Context<T, X>,
     places: &Places,
     args: &AgainArgs<'_>,
-    kdc: KdcPlace<'_>,
-    store: &mut T,
-    exchange: &mut X,
-    at: Moment,
     out: &mut W,
     errors: &mut E,
 ) -> io::Result<u8>
     ensures { IfOk result (λ status. status ≤ 3) }
 {
-    match get_again(alloc, places, args, kdc, store, exchange, at) {
+    match get_again(context, places, args) {
         Ok(()) => print_done(out),
         Err(stop) => {
             let subject = common_subject(places, args.seed, stop.place());
-            report_asked(out, errors, subject, exchange, stop)
+            report_asked(out, errors, subject, &context.exchange, stop)
         }
     }
 }
@@ -242,23 +201,25 @@ fn print_done<W: Write>(out: &mut W) -> io::Result<u8>
     Ok(DONE)
 }
 
+/// Where `kvno` ends early at one of several names, that is said too.
 fn run_kvno<T: Store, X: Exchange, W: Write, E: Write>(
-    alloc: Global,
+    context: &mut Context<T, X>,
     places: &Places,
     args: &KvnoArgs<'_>,
     names: &[&str],
-    kdc: KdcPlace<'_>,
-    store: &mut T,
-    exchange: &mut X,
-    at: Moment,
     out: &mut W,
     errors: &mut E,
 ) -> io::Result<u8>
     ensures { IfOk result (λ status. status ≤ 3) }
 {
-    match get_tickets(alloc, places, args, names, kdc, store, exchange, at) {
+    match get_tickets(context, places, args, names) {
         Ok(versions) => print_versions(out, names, &versions, args.keytab.is_some()),
-        Err(stop) => report_kvno(out, errors, places, args, names, exchange, stop),
+        Err(KvnoStop { stop, index }) => {
+            let name = name_at(names, index);
+            tell_name(errors, names.len(), name)?;
+            let subject = kvno_subject(places, args, name, stop.place());
+            report_asked(out, errors, subject, &context.exchange, stop)
+        }
     }
 }
 
@@ -280,22 +241,3 @@ fn print_versions<W: Write>(
 
 /// What stands behind a version where the keytab has opened the ticket.
 const OPENED: &str = ", keytab entry valid";
-
-/// Prints why `kvno` ended early; of several names also at which.
-fn report_kvno<X: Exchange, W: Write, E: Write>(
-    out: &mut W,
-    errors: &mut E,
-    places: &Places,
-    args: &KvnoArgs<'_>,
-    names: &[&str],
-    exchange: &X,
-    stop: KvnoStop,
-) -> io::Result<u8>
-    ensures { IfOk result (λ status. status ≤ 3) }
-{
-    let KvnoStop { stop, index } = stop;
-    let name = name_at(names, index);
-    tell_name(errors, names.len(), name)?;
-    let subject = kvno_subject(places, args, name, stop.place());
-    report_asked(out, errors, subject, exchange, stop)
-}

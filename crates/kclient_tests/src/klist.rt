@@ -1,10 +1,8 @@
 //! What `klist` prints.
-use crate::silent::Silence;
+use crate::runs::{Memory, NO_DEFAULTS, context, run_to, text};
 use file_store::MemoryStore;
-use kclient_run::{DONE, Defaults, FAILED, REFUSED, USAGE, Variable, kclient_run};
-use krb_fields::Moment;
+use kclient_run::{DONE, FAILED, REFUSED, USAGE};
 use std::alloc::{AllocError, Global};
-use std::io::Write;
 use std::process::Abort;
 use std::test::Fail;
 
@@ -114,12 +112,6 @@ const RUNS: &[Run] = &[
 const AMISS: &[u8] =
     b"\x05\x02\x00\x00\x00\x18\x00\x01\x00\x03A.B\x00\x01h\x00\x00\x00\x01\x00\x00\x00\x00\x01\x00\x11\x00\x01k";
 
-fn store(alloc: Global) -> Result<MemoryStore, Fail> {
-    let mut store = MemoryStore::new(alloc);
-    fill(alloc, &mut store)?;
-    Ok(store)
-}
-
 fn fill(alloc: Global, store: &mut MemoryStore) -> Result<(), Fail> {
     let cache = hex::decode(alloc, CACHE)?;
     let keytab = hex::decode(alloc, KEYTAB)?;
@@ -130,50 +122,21 @@ fn fill(alloc: Global, store: &mut MemoryStore) -> Result<(), Fail> {
     Ok(())
 }
 
-/// What a command line prints goes to `out` and `errors`.
-fn run_line<W: Write + Drop>(
-    alloc: Global,
-    store: &mut MemoryStore,
-    at: Moment,
-    line: &str,
-    out: W,
-    errors: &mut Vec<u8>,
-) -> Result<u8, AllocError> {
-    let args: Vec<&str> = line.split(' ').collect(alloc)?;
-    let defaults = Defaults {
-        cache: Variable::Absent,
-        config: Variable::Absent,
-    };
-    let mut silence = Silence::new();
-    Ok(kclient_run(
-        alloc,
-        args.as_slice(),
-        &defaults,
-        store,
-        &mut silence,
-        at,
-        out,
-        errors,
-    ))
-}
-
-fn text(octets: &[u8]) -> &str {
-    str::from_utf8(octets).unwrap_or("")
-}
-
-fn expect_run(
-    rt: &impl Abort,
-    alloc: Global,
-    store: &mut MemoryStore,
-    at: Moment,
-    run: &Run,
-) -> Result<(), AllocError> {
-    let mut out = Vec::new(alloc);
-    let mut errors = Vec::new(alloc);
-    let status = run_line(alloc, store, at, run.line, &mut out, &mut errors)?;
+fn expect_run(rt: &impl Abort, context: &mut Memory, run: &Run) -> Result<(), AllocError> {
+    let mut out = Vec::new(context.alloc);
+    let mut errors = Vec::new(context.alloc);
+    let status = run_to(context, run.line, &NO_DEFAULTS, &mut out, &mut errors)?;
     assert_eq!(rt; text(&errors), run.errors, "{}", run.line);
     assert_eq!(rt; text(&out), run.out, "{}", run.line);
     assert_eq!(rt; status, run.status, "{}", run.line);
+    Ok(())
+}
+
+fn expect_runs(rt: &impl Abort, context: &mut Memory) -> Result<(), Fail> {
+    fill(context.alloc, &mut context.store)?;
+    for run in RUNS {
+        expect_run(rt, context, run)?;
+    }
     Ok(())
 }
 
@@ -196,36 +159,40 @@ const UNWRITTEN: &[(&str, &str)] = &[
 /// Standard output has room for four octets.
 fn expect_unwritten(
     rt: &impl Abort,
-    alloc: Global,
-    store: &mut MemoryStore,
-    at: Moment,
+    context: &mut Memory,
     line: &str,
     wanted: &str,
 ) -> Result<(), AllocError> {
     let mut room = [0; 4];
-    let mut errors = Vec::new(alloc);
-    let status = run_line(alloc, store, at, line, room.as_mut_slice(), &mut errors)?;
+    let mut errors = Vec::new(context.alloc);
+    let status = run_to(
+        context,
+        line,
+        &NO_DEFAULTS,
+        room.as_mut_slice(),
+        &mut errors,
+    )?;
     assert_eq!(rt; text(&errors), wanted, "{line}");
     assert_eq!(rt; status, FAILED, "{line}");
     Ok(())
 }
 
-#[test]
-fn standard_error_says_that_standard_output_has_no_room(rt: HostRuntime) -> Result<(), Fail> {
-    let at = Moment::new(0, 0).ok_or("a moment")?;
-    let mut store = store(rt.alloc())?;
+fn expect_each_unwritten(rt: &impl Abort, context: &mut Memory) -> Result<(), Fail> {
+    fill(context.alloc, &mut context.store)?;
     for (line, wanted) in UNWRITTEN {
-        expect_unwritten(&rt, rt.alloc(), &mut store, at, line, wanted)?;
+        expect_unwritten(rt, context, line, wanted)?;
     }
     Ok(())
 }
 
 #[test]
+fn standard_error_says_that_standard_output_has_no_room(rt: HostRuntime) -> Result<(), Fail> {
+    let mut context = context(rt.alloc())?;
+    expect_each_unwritten(&rt, &mut context)
+}
+
+#[test]
 fn klist_prints_a_line_for_each_credential_and_key(rt: HostRuntime) -> Result<(), Fail> {
-    let at = Moment::new(0, 0).ok_or("a moment")?;
-    let mut store = store(rt.alloc())?;
-    for run in RUNS {
-        expect_run(&rt, rt.alloc(), &mut store, at, run)?;
-    }
-    Ok(())
+    let mut context = context(rt.alloc())?;
+    expect_runs(&rt, &mut context)
 }

@@ -24,5 +24,3 @@ mod runs;
 mod sent;
 #[cfg(test)]
 mod services;
-#[cfg(test)]
-mod silent;

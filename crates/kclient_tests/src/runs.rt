@@ -3,7 +3,7 @@ use crate::joined::{JoinedExchange, Link};
 use crate::realm::open;
 use cred_files::{Cache, Credential};
 use file_store::{LONGEST_FILE, MemoryStore};
-use kclient_run::{DONE, Defaults, USAGE, Variable, kclient_run};
+use kclient_run::{Context, DONE, Defaults, USAGE, Variable, kclient_run};
 use krb_der::KTime;
 use krb_fields::{Moment, Name};
 use std::alloc::{AllocError, Global};
@@ -50,10 +50,7 @@ pub struct Run {
 /// A first ticket of a client that has to preauthenticate.
 pub const KINIT: Run = Run {
     line: "kclient kinit --kdc 192.0.2.1:88 --realm A.B --name u --password-file pass --cache cc --seed seed",
-    defaults: Defaults {
-        cache: Variable::Absent,
-        config: Variable::Absent,
-    },
+    defaults: NO_DEFAULTS,
     link: Link::Good,
     input: "",
     terminal: false,
@@ -208,39 +205,31 @@ struct Ended {
     errors: Vec<u8>,
 }
 
+/// What a command line works with in the tests.
+pub type Memory = Context<MemoryStore, JoinedExchange>;
+
+/// Nothing stands for words that a command line lacks.
+pub const NO_DEFAULTS: Defaults<'static> = Defaults {
+    cache: Variable::Absent,
+    config: Variable::Absent,
+};
+
 /// What a command line prints goes to `out` and `errors`.
-fn run_to<W: Write + Drop>(
-    alloc: Global,
-    store: &mut MemoryStore,
-    exchange: &mut JoinedExchange,
-    at: Moment,
-    run: &Run,
+pub fn run_to<W: Write + Drop>(
+    context: &mut Memory,
+    line: &str,
+    defaults: &Defaults<'_>,
     out: W,
     errors: &mut Vec<u8>,
 ) -> Result<u8, AllocError> {
-    let args: Vec<&str> = run.line.split(' ').collect(alloc)?;
-    Ok(kclient_run(
-        alloc,
-        args.as_slice(),
-        &run.defaults,
-        store,
-        exchange,
-        at,
-        out,
-        errors,
-    ))
+    let args: Vec<&str> = line.split(' ').collect(context.alloc)?;
+    Ok(kclient_run(context, args.as_slice(), defaults, out, errors))
 }
 
-fn run_line(
-    alloc: Global,
-    store: &mut MemoryStore,
-    exchange: &mut JoinedExchange,
-    at: Moment,
-    run: &Run,
-) -> Result<Ended, AllocError> {
-    let mut out = Vec::new(alloc);
-    let mut errors = Vec::new(alloc);
-    let status = run_to(alloc, store, exchange, at, run, &mut out, &mut errors)?;
+fn run_line(context: &mut Memory, run: &Run) -> Result<Ended, AllocError> {
+    let mut out = Vec::new(context.alloc);
+    let mut errors = Vec::new(context.alloc);
+    let status = run_to(context, run.line, &run.defaults, &mut out, &mut errors)?;
     Ok(Ended {
         status,
         out,
@@ -248,7 +237,7 @@ fn run_line(
     })
 }
 
-fn text(octets: &[u8]) -> &str {
+pub fn text(octets: &[u8]) -> &str {
     str::from_utf8(octets).unwrap_or("")
 }
 
@@ -347,67 +336,71 @@ fn expect_sent(rt: &impl Abort, alloc: Global, run: &Run, sent: &[u8]) -> Result
     Ok(())
 }
 
-fn expect_run(
-    rt: &impl Abort,
-    alloc: Global,
-    store: &mut MemoryStore,
-    exchange: &mut JoinedExchange,
-    run: &Run,
-    at: Moment,
-) -> Result<(), Fail> {
-    let before = cache_file(alloc, store)?;
-    exchange.begin(alloc, at, run.link);
-    store.set_input(alloc, run.input.as_bytes(), run.terminal)?;
-    store.fail_at(run.failing);
-    let ended = run_line(alloc, store, exchange, at, run)?;
-    expect_ended(rt, run, &ended, exchange.ways(), store.asked());
-    expect_sent(rt, alloc, run, exchange.sent())?;
-    expect_cache(rt, alloc, store, run, &before)
+fn expect_run(rt: &impl Abort, context: &mut Memory, run: &Run, at: Moment) -> Result<(), Fail> {
+    let alloc = context.alloc;
+    let before = cache_file(alloc, &context.store)?;
+    context.at = at;
+    context.exchange.begin(alloc, at, run.link);
+    context
+        .store
+        .set_input(alloc, run.input.as_bytes(), run.terminal)?;
+    context.store.fail_at(run.failing);
+    let ended = run_line(context, run)?;
+    expect_ended(
+        rt,
+        run,
+        &ended,
+        context.exchange.ways(),
+        context.store.asked(),
+    );
+    expect_sent(rt, alloc, run, context.exchange.sent())?;
+    expect_cache(rt, alloc, &context.store, run, &before)
 }
 
-fn expect_each(
-    rt: &impl Abort,
-    alloc: Global,
-    store: &mut MemoryStore,
-    exchange: &mut JoinedExchange,
-    runs: &[Run],
-) -> Result<(), Fail> {
+fn expect_each(rt: &impl Abort, context: &mut Memory, runs: &[Run]) -> Result<(), Fail> {
     for (place, run) in runs.iter().enumerate() {
-        expect_run(rt, alloc, store, exchange, run, moment(place)?)?;
+        expect_run(rt, context, run, moment(place)?)?;
     }
     Ok(())
 }
 
-fn joined(alloc: Global) -> Result<JoinedExchange, Fail> {
-    Ok(JoinedExchange::new(alloc, open(alloc)?, moment(0)?))
+/// A new realm, and files beside it.
+pub fn context(alloc: Global) -> Result<Memory, Fail> {
+    let at = moment(0)?;
+    let store = store(alloc)?;
+    Ok(Context {
+        alloc,
+        store,
+        exchange: JoinedExchange::new(alloc, open(alloc)?, at),
+        at,
+    })
 }
 
 /// Runs the command lines of a table, each after the one before it, in a new realm.
 pub fn expect_runs(rt: &impl Abort, alloc: Global, runs: &[Run]) -> Result<(), Fail> {
-    let mut store = store(alloc)?;
-    let mut exchange = joined(alloc)?;
-    expect_each(rt, alloc, &mut store, &mut exchange, runs)
+    let mut context = context(alloc)?;
+    expect_each(rt, &mut context, runs)
 }
 
 /// Runs a command line whose standard output has no room, in a new realm.
 pub fn expect_unwritten(rt: &impl Abort, alloc: Global, run: &Run) -> Result<(), Fail> {
-    let mut store = store(alloc)?;
-    let mut exchange = joined(alloc)?;
+    let mut context = context(alloc)?;
+    expect_no_room(rt, &mut context, run)
+}
+
+fn expect_no_room(rt: &impl Abort, context: &mut Memory, run: &Run) -> Result<(), Fail> {
     let mut room = [0; 1];
-    let mut errors = Vec::new(alloc);
-    let at = moment(0)?;
+    let mut errors = Vec::new(context.alloc);
     let status = run_to(
-        alloc,
-        &mut store,
-        &mut exchange,
-        at,
-        run,
+        context,
+        run.line,
+        &run.defaults,
         room.as_mut_slice(),
         &mut errors,
     )?;
     assert_eq!(rt; text(&errors), run.errors, "{}", run.line);
     assert_eq!(rt; status, run.status, "{}", run.line);
-    expect_held(rt, alloc, &store, run)
+    expect_held(rt, context.alloc, &context.store, run)
 }
 
 /// The command line whose messages get a KRB-ERROR.
@@ -415,27 +408,30 @@ const CODED: &Run = &KINIT_V;
 
 /// Checks what standard error has of a KRB-ERROR with each of these codes: words among others.
 pub fn expect_codes(rt: &impl Abort, alloc: Global, codes: &[(u8, &str)]) -> Result<(), Fail> {
-    let mut store = store(alloc)?;
-    let mut exchange = joined(alloc)?;
+    let mut context = context(alloc)?;
+    expect_each_code(rt, &mut context, codes)
+}
+
+fn expect_each_code(
+    rt: &impl Abort,
+    context: &mut Memory,
+    codes: &[(u8, &str)],
+) -> Result<(), Fail> {
     for (code, args) in codes {
-        expect_code(rt, alloc, &mut store, &mut exchange, *code, args)?;
+        expect_code(rt, context, *code, args)?;
     }
     Ok(())
 }
 
-fn expect_code(
-    rt: &impl Abort,
-    alloc: Global,
-    store: &mut MemoryStore,
-    exchange: &mut JoinedExchange,
-    code: u8,
-    args: &str,
-) -> Result<(), Fail> {
-    exchange.begin(alloc, moment(0)?, Link::Error(code));
-    let ended = run_line(alloc, store, exchange, moment(0)?, CODED)?;
-    let out = format!(in alloc; "refused {code}\n")?;
+fn expect_code(rt: &impl Abort, context: &mut Memory, code: u8, args: &str) -> Result<(), Fail> {
+    context.at = moment(0)?;
+    context
+        .exchange
+        .begin(context.alloc, context.at, Link::Error(code));
+    let ended = run_line(context, CODED)?;
+    let out = format!(in context.alloc; "refused {code}\n")?;
     assert_eq!(rt; text(&ended.out), out.as_str());
-    let front = format!(in alloc; "kclient: 192.0.2.1:88: error {code}: ")?;
+    let front = format!(in context.alloc; "kclient: 192.0.2.1:88: error {code}: ")?;
     assert!(rt; text(&ended.errors).starts_with(front.as_str()), "{code}");
     assert!(rt; text(&ended.errors).contains(args), "{code}");
     Ok(())
