@@ -243,8 +243,8 @@ impl Keytab {
         }
     }
 
-    /// The key of a service that a sealed part names by its encryption type and version number (RFC 4120, section 5.2.9),
-    /// which may be below zero; without a version the one of the greatest.
+    /// The key of a service that a sealed part names by its encryption type and version number (RFC 4120, section
+    /// 5.2.9), which may be below zero; without a version the one of the greatest.
     pub fn key_for(
         &self,
         realm: &[u8],

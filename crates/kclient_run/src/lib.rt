@@ -1,8 +1,8 @@
 //! The client's tool: `kinit` gets a ticket for tickets, by a password or a keytab, and makes a credential cache of it;
 //! `kvno` gets tickets for services and puts them into the cache; `klist` prints what a cache or a keytab holds.
 //!
-//! `kclient_run` takes the words of one command line and does what they say at a `Context`: with the files of a `Store`, over
-//! an `Exchange` of messages.
+//! `kclient_run` takes the words of one command line and does what they say in a `Context`: with the files of a
+//! `Store`, over an `Exchange` of messages.
 #![tactic(auto)]
 
 mod args;

@@ -53,8 +53,8 @@ pub fn end_to_end(
         (answer (view kdc.old request.now) issuing.now.at issuing.now.random issuing.now.room request.now).reply
         (λ octets. IfOk (reads_reply client.now.reader client.now.asked octets) (λ credential.
         IsPresented credential client.now.presenting.at result)) }
-    // Before the service is asked it ends where the KDC gives no reply, or one that the client's rules don't take, or one
-    // whose credential can't be presented.
+    // Before the service is asked it ends where the KDC gives no reply, or one that the client's rules don't take, or
+    // one whose credential can't be presented.
     ensures ended { IfErr result (IsEnded
         (answer (view kdc.old request.now) issuing.now.at issuing.now.random issuing.now.room request.now).reply
         client.now.asked client.now.reader) }

@@ -83,7 +83,8 @@ impl ReadyKeys {
         encrypted(alloc, key, usage, kvno, confounder, part)
     }
 
-    /// The place of a key for a usage. None while it is in use, and of a subkey, which a client chooses for one request.
+    /// The place of a key for a usage. None while it is in use, and of a subkey, which a client chooses for one
+    /// request.
     fn place_of(&self, key: &Key, usage: KeyUsage) -> Option<RefMut<'_, Place>> {
         if usage == KeyUsage::TgsRepEncPartSubkey {
             return None;
