@@ -13,7 +13,7 @@ import tempfile
 
 from kerberos import as_req
 from measure_server import Peer
-from stock_kdcs import Principal, kdcd
+from stock_kdcs import Principal, kdcd, keep_to_one_processor
 
 REALM = "EXAMPLE.COM"
 PRINCIPALS = [Principal("bob", "a password", preauth=False)]
@@ -52,6 +52,7 @@ def main():
     words.add_argument("--requests", type=int, default=200, help="in a stretch")
     words.add_argument("--port", type=int, default=20388)
     words = words.parse_args()
+    keep_to_one_processor()
     with tempfile.TemporaryDirectory() as folder:
         folders = [pathlib.Path(folder, name) for name in ("plain", "logged")]
         for each in folders:

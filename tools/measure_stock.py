@@ -4,7 +4,7 @@
     python3 tools/measure_stock.py [--mit FOLDER] [--heimdal FOLDER] [--programs FOLDER] [--tickets N]
 
 The folders are those of `stock_kdcs.py`, which starts the servers. Each has the same realm, with keys of type 18 alone, on a port
-of its own. Each request has a nonce of its own, so that none is answered from a cache. It prints what a request costs each server in
+of its own, and with the client one processor. Each request has a nonce of its own, so that none is answered from a cache. It prints what a request costs each server in
 processor time, system calls included, and ends with status 1 where a request was answered by another message than it should be."""
 
 import argparse
@@ -15,7 +15,7 @@ import time
 
 from kerberos import as_req, key_of, tgs_req, ticket_in, timestamp
 from measure_server import Peer, measure_datagrams
-from stock_kdcs import Principal, heimdal, kdcd, mit
+from stock_kdcs import Principal, heimdal, kdcd, keep_to_one_processor, mit
 
 REALM = b"EXAMPLE.COM"
 SERVICE = (b"host", b"n1")
@@ -67,6 +67,7 @@ def main():
     words.add_argument("--port", type=int, default=20188)
     words.add_argument("--tickets", type=int, default=5000, help="requests of each kind, at most 5,120")
     words = words.parse_args()
+    keep_to_one_processor()
     realm, odd = REALM.decode(), 0
     with tempfile.TemporaryDirectory() as folder:
         folders = [pathlib.Path(folder, name) for name in ("plain", "logged", "mit", "heimdal")]

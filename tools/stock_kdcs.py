@@ -64,6 +64,12 @@ class Running:
         self.process.wait()
 
 
+def keep_to_one_processor():
+    """For this process, which is the client, and for the servers that it starts. Else one processor wakes another for each message,
+    or doesn't, as the system likes, which costs up to half of a login and is no work of a server."""
+    os.sched_setaffinity(0, {max(os.sched_getaffinity(0))})
+
+
 def run(words, **how):
     ran = subprocess.run(words, stdin=subprocess.DEVNULL, stdout=subprocess.PIPE, stderr=subprocess.STDOUT, text=True, **how)
     if ran.returncode:
