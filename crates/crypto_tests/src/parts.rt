@@ -65,16 +65,19 @@ fn opens_no_other_text(rt: HostRuntime) -> Result<(), Fail> {
     Ok(())
 }
 
-/// The seconds of the timestamp that is opened.
+/// As `opened`, for `USAGE`, by keys that are ready.
 fn opened_ready(
     alloc: Global,
     ready: &ReadyKeys,
     key: &Key,
     cipher: &[u8],
-) -> Result<Option<i64>, AllocError> {
+) -> Result<Option<(i64, Option<u32>)>, AllocError> {
     let found: Option<PaEncTsEnc> = ready.open_part(alloc, key, USAGE, cipher)?;
     Ok(match found {
-        Some(part) => Some(part.patimestamp.seconds()),
+        Some(part) => {
+            let usec = part.pausec.map(|usec: Microseconds| usec.get());
+            Some((part.patimestamp.seconds(), usec))
+        }
         None => None,
     })
 }
@@ -83,6 +86,7 @@ fn opened_ready(
 #[test]
 fn keys_of_one_place_take_turns(rt: HostRuntime) -> Result<(), Fail> {
     let ready = ReadyKeys::new(rt.alloc())?;
+    let timestamp = Some((1_704_067_200, Some(999_999)));
     for &etype in ETYPES {
         let first = Key::from_random(etype, &[7; 32]);
         let mut octets = [7; 32];
@@ -90,7 +94,7 @@ fn keys_of_one_place_take_turns(rt: HostRuntime) -> Result<(), Fail> {
         let second = Key::from_random(etype, &octets);
         for key in [&first, &first, &second, &first] {
             let cipher = sealed(rt.alloc(), key)?;
-            assert!(rt; opened_ready(rt.alloc(), &ready, key, &cipher)? == Some(1_704_067_200));
+            assert!(rt; opened_ready(rt.alloc(), &ready, key, &cipher)? == timestamp);
         }
         let cipher = sealed(rt.alloc(), &first)?;
         assert!(rt; opened_ready(rt.alloc(), &ready, &second, &cipher)?.is_none());
