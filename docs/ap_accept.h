@@ -12,10 +12,10 @@
  *     ..
  *     ap_close(&acceptor);
  *
- * Each call returns a status: AP_DONE (0), a code of RFC 4120, section 7.5.9 (above 0), or one of the enum below (below 0).
- * A pointer that is null, a length of more than PTRDIFF_MAX and a number out of its range are AP_BAD_ARGUMENT. Then the
- * acceptor is as it was: what ap_octets gave before the call, it gives after it. And nothing is written, but that ap_accept sets
- * all of *accepted to zero where the moment is out of its range, and ap_octets sets *length to 0 where there is no such part.
+ * Each call but ap_text returns a status: AP_DONE (0), a code of RFC 4120, section 7.5.9 (above 0), or one of the enum below
+ * (below 0). A pointer that is null, a length of more than PTRDIFF_MAX and a number out of its range are AP_BAD_ARGUMENT. Then
+ * the acceptor is as it was: what ap_octets gave before the call, it gives after it. And nothing is written, but that ap_accept
+ * sets all of *accepted to zero where the moment is out of its range, and ap_octets sets *length to 0 where there is no such part.
  *
  * What no call can judge is the caller's part: that a pointer that is not null is one to as much memory as is said, that no two
  * arguments of a call overlap, that nobody writes into a struct ap_acceptor or copies it, and that it stays on the thread that
@@ -91,7 +91,7 @@ struct ap_accepted {
 /* What of an AP-REQ that was accepted is octets. */
 enum ap_part {
 	AP_CLIENT_REALM = 1,
-	AP_CLIENT_NAME = 2, /* as text: '/' between components, and '\' with two digits for '/', '\', '@' and what is not printable */
+	AP_CLIENT_NAME = 2, /* as text: '/' between components, and '\' with two digits for '/', '\', '@', a space and what is not printable */
 	AP_SESSION_KEY = 3, /* 16 or 32 */
 	AP_SUBKEY = 4,      /* 16 or 32: the key that the client chose for what follows */
 	AP_CHECKSUM = 5,    /* the authenticator's checksum, which the service judges */
