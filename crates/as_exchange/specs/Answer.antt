@@ -159,3 +159,13 @@ OpensBy v at random body (Issues admission) = OpensFor v at random body admissio
 
 abbrev pub Opens : AsView → Moment → List ℕ → Received → Type 0
 Opens v at random message = OpensBy v at random message.body.value (decision v at.sec message)
+
+-- where a ticket is issued, the octets that are sent spell its reply, which is opened so, or the error in its place
+abbrev pub SentBy : AsView → Moment → List ℕ → ReqBody → Decision → List ℕ → Type 0
+SentBy v at random body (Refuses refusal timestamp) octets = ⊤
+SentBy v at random body (Issues admission) octets =
+    ((kdc_rep 11).Spells (as_rep v at random body admission) octets × OpensFor v at random body admission)
+    ⊎ krb_error.Spells (too_big v.realm at body) octets
+
+abbrev pub Sent : AsView → Moment → List ℕ → Received → List ℕ → Type 0
+Sent v at random message octets = SentBy v at random message.body.value (decision v at.sec message) octets

@@ -123,7 +123,8 @@ rules_by v now message timestamp found times =
     ∷ (is_none times, NeverValid)  -- 3.1.3
     ∷ []
 
--- what is admitted, or the first rule by which nothing is
+-- What is admitted, or the first rule by which nothing is. Where no rule holds, terms and times are there, so that the
+-- reason behind the rules is never given by itself.
 abbrev pub admitted_on : AsView → ℤ → Received → Outcome → Option Terms → Option Times → Result Admission AsRefusal
 admitted_on v now message timestamp found times =
     decided (rules_by v now message timestamp found times) (admission_of timestamp found times) NeverValid

@@ -20,7 +20,7 @@ use Rattle.as_exchange.specs.declared.terms.Admission.{Admission}
 abbrev pub terms_by : Name → Row → Option Key → Option ServiceTerms → Option Terms
 terms_by cname client (Some reply) (Some service) = Some (record {
   client_name = cname;
-  client = client.policy;
+  client_policy = client.policy;
   reply_key = reply;
   reply_version = (current client.versions).number;
   service = service;
@@ -45,7 +45,7 @@ terms v body = terms_if body.etype body.cname body.sname v.client v.service
 
 -- the times of a ticket by these terms; none where it would end no later than it starts
 abbrev pub times_of : Limits → ℤ → ReqBody → Option Terms → Option Times
-times_of limits now body (Some t) = as_times now t.client t.service.policy limits body
+times_of limits now body (Some t) = as_times now t.client_policy t.service.policy limits body
 times_of limits now body None = None
 
 abbrev pub admission_of : Outcome → Option Terms → Option Times → Option Admission

@@ -81,7 +81,7 @@ fn grant_of<'g>(
     } = admission;
     let flags = as_flags(
         body,
-        &terms.client,
+        &terms.client_policy,
         &terms.service.policy,
         is_good(*timestamp),
         times,

@@ -32,6 +32,7 @@ pub fn admitted(
     let times = times_of(view.limits, at, &message.body.value, &terms);
     let rules = rules_by(view, at, message, timestamp, &terms, &times);
     let admission = admission_of(timestamp, terms, times);
+    // Where no rule holds, terms and times are there, so that the last reason is never given by itself.
     decide(&rules, admission, AsRefusal::NeverValid)
 }
 

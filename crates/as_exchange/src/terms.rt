@@ -17,7 +17,7 @@ use ticket_times::{Times, as_times};
 #[derive(Debug, Drop)]
 pub struct Terms {
     pub client_name: Name,
-    pub client: Policy,
+    pub client_policy: Policy,
     /// The client's current key of the first type asked for that it has.
     pub reply_key: Key,
     /// The number of its version.
@@ -76,7 +76,7 @@ fn terms_of(
     };
     Ok(Some(Terms {
         client_name: cname.to_name(alloc)?,
-        client: client_row.policy,
+        client_policy: client_row.policy,
         reply_key: *reply_key,
         reply_version: version.number,
         service,
@@ -93,7 +93,13 @@ pub fn times_of(
     ensures { result ≡ times_of limits.now at.sec body.now terms.now }
 {
     match terms {
-        Some(terms) => as_times(at, &terms.client, &terms.service.policy, limits, body),
+        Some(terms) => as_times(
+            at,
+            &terms.client_policy,
+            &terms.service.policy,
+            limits,
+            body,
+        ),
         None => None,
     }
 }

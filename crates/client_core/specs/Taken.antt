@@ -1,5 +1,5 @@
--- What a credential that was taken from a reply says, in its own words: the octets are a reply to this request, by
--- somebody who had the key.
+-- What a credential that was taken from a reply says, in its own words: the octets are a reply to this request, and the
+-- key opens its part.
 use Rattle.std.specs.Prelude.{◌≡◌, ℕ, ℤ, pos, false, List, Some, Ok}
 use Rattle.cred_files.specs.declared.credential.Credential.{Credential}
 use Rattle.enctypes.specs.declared.key.Key.{Key}

@@ -19,7 +19,7 @@ pub const MAX_COUNT: u32 = 1_048_576;
 pub type EtypeInfo2 = Seq<EtypeInfo2Entry>;
 
 /// The key of a password for the first entry of one of the four types. The salt is the default one, of the realm and
-/// the name, where the entry has none. It takes one count of HMACs for each of the entry's iterations.
+/// the name, where the entry has none. It takes an HMAC for each of the entry's iterations, and two for type 18.
 pub fn password_key(
     alloc: Global,
     pass: &[u8],

@@ -41,8 +41,8 @@ use Rattle.principals.specs.Database.{Principals}
 use Rattle.principals.specs.declared.change.Change.{Change as PrincipalChange}
 use Rattle.principals.specs.declared.change.ChangeFault.{ChangeFault}
 use Rattle.kdc_core.specs.Answer.{answer_of, counted, keep, after_incoming, stamped}
-use Rattle.kdc_core.specs.Contents.{contents, presented_in}
-use Rattle.kdc_core.specs.ContentsLaws.{Tells, names_in, nothing_kept, tells}
+use Rattle.kdc_core.specs.Contents.{contents, names_answered, presented_in}
+use Rattle.kdc_core.specs.ContentsLaws.{Tells, nothing_kept, tells}
 use Rattle.kdc_core.specs.Request.{request_of}
 use Rattle.kdc_core.specs.Run.{after_event, unless_faulty}
 use Rattle.kdc_core.specs.Struck.{is_client}
@@ -250,8 +250,8 @@ module _ (c : Components) where
   moves_of state incoming names NoRequest told = ap (λ s. memory_of s c) (nothing_kept state names.client)
   moves_of state incoming names (AsReq message) told =
       subst (λ (n : Named). Moves state incoming n (AsReq message)) (sym told)
-      (as_moves state (components_of message.body.value.cname) (view_of state (names_in (AsReq message))).memory (named_memory state (names_in (AsReq message)))
-      (as_answer (as_view (view_of state (names_in (AsReq message)))) incoming message).failures)
+      (as_moves state (components_of message.body.value.cname) (view_of state (names_answered (AsReq message))).memory (named_memory state (names_answered (AsReq message)))
+      (as_answer (as_view (view_of state (names_answered (AsReq message)))) incoming message).failures)
   moves_of state incoming names (RefusedTgsReq message refusal) told = ap (λ s. memory_of s c) (nothing_kept state names.client)
   moves_of state incoming names (TgsReq message p) told =
       let v = tgs_view (presented_view state message p) in

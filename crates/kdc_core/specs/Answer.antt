@@ -1,9 +1,9 @@
 -- What a key distribution centre answers, made from its view of the state alone.
 use Rattle.std.specs.Prelude.{◌≡◌, ℕ, ℤ, List, ⊤, Option, Some, None, option_map}
 use Rattle.std.specs.FinMap as map
-use Rattle.as_exchange.specs.Answer.{AsAnswer, as_answer, Spelled as AsSpelled, Opens as AsOpens}
+use Rattle.as_exchange.specs.Answer.{AsAnswer, as_answer, Spelled as AsSpelled, Opens as AsOpens, Sent as AsSent}
 use Rattle.tgs_exchange.specs.Answer.{TgsAnswer, tgs_answer, tgs_error, Spelled as TgsSpelled}
-use Rattle.tgs_exchange.specs.Answer.{Opens as TgsOpens}
+use Rattle.tgs_exchange.specs.Answer.{Opens as TgsOpens, Sent as TgsSent}
 use Rattle.tgs_exchange.specs.Decision.{stamp_of}
 use Rattle.tgs_opening.specs.declared.presented.Presented.{Presented}
 use Rattle.tgs_opening.specs.declared.refusal.TgsRefusal.{TgsRefusal}
@@ -80,10 +80,21 @@ OpensOf v at random (AsReq message) = AsOpens (as_view v) at random message
 OpensOf v at random (RefusedTgsReq message refusal) = ⊤
 OpensOf v at random (TgsReq message p) = TgsOpens (tgs_view v) at random message.body.value p
 
+-- where a ticket is issued, these octets spell its reply, which is opened so, or an error in its place
+abbrev pub SentOf : View → Moment → List ℕ → Contents → List ℕ → Type 0
+SentOf v at random NoRequest octets = ⊤
+SentOf v at random (AsReq message) octets = AsSent (as_view v) at random message octets
+SentOf v at random (RefusedTgsReq message refusal) octets = ⊤
+SentOf v at random (TgsReq message p) octets = TgsSent (tgs_view v) at random message.body.value p octets
+
 -- there is no reply where there is no request, and only there
 abbrev pub IsReplyTo : View → Moment → List ℕ → Option (List ℕ) → Contents → Type 0
 IsReplyTo v at random (Some octets) held = SpelledOf v at random held octets
 IsReplyTo v at random None held = held ≡ NoRequest
+
+abbrev pub IsSentTo : View → Moment → List ℕ → Option (List ℕ) → Contents → Type 0
+IsSentTo v at random (Some octets) held = SentOf v at random held octets
+IsSentTo v at random None held = held ≡ NoRequest
 
 -- ---- to a request
 
@@ -97,8 +108,13 @@ answer v at random room octets = answer_to v (record { at = at; random = random;
 abbrev pub IsReply : View → Moment → List ℕ → Option Request → Option (List ℕ) → Type 0
 IsReply v at random request reply = IsReplyTo v at random reply (contents v request)
 
-abbrev pub OneTicketTwoKeys : View → Moment → List ℕ → Option Request → Type 0
-OneTicketTwoKeys v at random request = OpensOf v at random (contents v request)
+abbrev pub ReplyOpens : View → Moment → List ℕ → Option Request → Type 0
+ReplyOpens v at random request = OpensOf v at random (contents v request)
+
+-- Where a ticket is issued, what is sent is its reply, and the reply key opens that to the session key, flags and times
+-- that the service's key finds in the ticket; or what is sent is an error in its place.
+abbrev pub OneTicketTwoKeys : View → Moment → List ℕ → Option Request → Option (List ℕ) → Type 0
+OneTicketTwoKeys v at random request reply = IsSentTo v at random reply (contents v request)
 
 -- ---- the state afterwards
 

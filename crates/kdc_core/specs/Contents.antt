@@ -11,7 +11,7 @@ use Rattle.tgs_opening.specs.Opening.{presented}
 use Rattle.tgs_opening.specs.declared.presented.Presented.{Presented}
 use Rattle.tgs_opening.specs.declared.refusal.TgsRefusal.{TgsRefusal}
 use Rattle.kdc_core.specs.Request.{Request}
-use Rattle.kdc_core.specs.View.{View, opening_view}
+use Rattle.kdc_core.specs.View.{Named, View, components_of, names_presented, opening_view}
 use Rattle.kdc_core.specs.declared.contents.Contents.{Contents}
 use Rattle.kdc_core.specs.declared.contents.Contents.TheVariants.{NoRequest, AsReq, RefusedTgsReq, TgsReq}
 
@@ -33,6 +33,17 @@ presented_in NoRequest = None
 presented_in (AsReq message) = None
 presented_in (RefusedTgsReq message refusal) = None
 presented_in (TgsReq message p) = Some p
+
+-- The names by which it is answered. A TGS-REQ that is refused may name a client and a service (`named` says whom), but
+-- is answered by none: whatever is named gets the same answer.
+abbrev pub names_answered : Contents → Named
+names_answered NoRequest = record { client = None; service = None }
+names_answered (AsReq message) = record {
+  client = components_of message.body.value.cname;
+  service = components_of message.body.value.sname;
+}
+names_answered (RefusedTgsReq message refusal) = record { client = None; service = None }
+names_answered (TgsReq message p) = names_presented message p
 
 -- ---- the texts in them are short, as those of a request are
 

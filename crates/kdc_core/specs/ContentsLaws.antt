@@ -18,11 +18,11 @@ use Rattle.kdc_state.specs.State.{memory_of}
 use Rattle.kdc_state.specs.declared.state.State.{State}
 use Rattle.kdc_core.specs.After.{after, after_reply, stamped_of}
 use Rattle.kdc_core.specs.Answer.{answer_of, answer_to, keep, after_incoming, stamped}
-use Rattle.kdc_core.specs.Answer.{IsReply, IsReplyTo, OneTicketTwoKeys}
+use Rattle.kdc_core.specs.Answer.{IsReply, IsReplyTo, ReplyOpens}
 use Rattle.kdc_core.specs.Answer.{OpensOf}
-use Rattle.kdc_core.specs.Contents.{contents, contents_in, tgs_contents}
+use Rattle.kdc_core.specs.Contents.{contents, contents_in, names_answered, tgs_contents}
 use Rattle.kdc_core.specs.Request.{Request, request_of}
-use Rattle.kdc_core.specs.View.{Named, client_of, components_of, named, named_by, named_in, names_presented}
+use Rattle.kdc_core.specs.View.{Named, client_of, components_of, named, named_by, named_in}
 use Rattle.kdc_core.specs.View.{ticket_view, view, view_of}
 use Rattle.kdc_core.specs.declared.contents.Contents.{Contents}
 use Rattle.kdc_core.specs.declared.contents.Contents.TheVariants.{NoRequest, AsReq, RefusedTgsReq, TgsReq}
@@ -38,21 +38,11 @@ presented_client v message p e =
 
 -- ---- so what the octets hold tells what the request names
 
--- the names by which it is answered; where a TGS-REQ is refused, whatever is named gets the same answer
-abbrev pub names_in : Contents → Named
-names_in NoRequest = record { client = None; service = None }
-names_in (AsReq message) = record {
-  client = components_of message.body.value.cname;
-  service = components_of message.body.value.sname;
-}
-names_in (RefusedTgsReq message refusal) = record { client = None; service = None }
-names_in (TgsReq message p) = names_presented message p
-
 abbrev pub Tells : Named → Contents → Type 0
 Tells names NoRequest = ⊤
-Tells names (AsReq message) = names ≡ names_in (AsReq message)
+Tells names (AsReq message) = names ≡ names_answered (AsReq message)
 Tells names (RefusedTgsReq message refusal) = ⊤
-Tells names (TgsReq message p) = names ≡ names_in (TgsReq message p)
+Tells names (TgsReq message p) = names ≡ names_answered (TgsReq message p)
 
 module _ (state : State) where
   tgs_tells : (message : Received) (r : Result Presented TgsRefusal) → presented (ticket_view state message) message ≡ r
@@ -86,7 +76,7 @@ module _ {A E : Type 0} (state : State) (incoming : Incoming) (r : Result A E) w
   Answers octets names held = IfOk r (λ a. octets a ≡ (answer_of (view_of state names) incoming held).reply)
 
   pub reply_so : (octets : A → Option (List ℕ)) (names : Named) (held : Contents) → Tells names held
-      → Answers octets (names_in held) held → Answers octets names held
+      → Answers octets (names_answered held) held → Answers octets names held
   reply_so octets names NoRequest told h = h
   reply_so octets names (AsReq message) told h = subst (λ (n : Named). Answers octets n (AsReq message)) (sym told) h
   reply_so octets names (RefusedTgsReq message refusal) told h = h
@@ -104,7 +94,7 @@ module _ {A E : Type 0} (state : State) (incoming : Incoming) (r : Result A E) w
       subst (λ (s : State). IfOk r (λ a. after_reply state (mark a) ≡ s)) (sym (nothing_kept state names.client)) h
 
   pub after_so : (mark : A → Option (Option Mark)) (names : Named) (held : Contents) → Tells names held
-      → Leaves mark (names_in held) held → Leaves mark names held
+      → Leaves mark (names_answered held) held → Leaves mark names held
   after_so mark names NoRequest told h = nothing_left mark names h
   after_so mark names (AsReq message) told h = subst (λ (n : Named). Leaves mark n (AsReq message)) (sym told) h
   after_so mark names (RefusedTgsReq message refusal) told h = nothing_left mark names h
@@ -132,21 +122,21 @@ if_ok (Err e) P Q f h = tt
 
 module _ {A E : Type 0} (state : State) (incoming : Incoming) (r : Result A E) where
   pub spelled_so : (octets : A → Option (List ℕ)) (names : Named) (held : Contents) → Tells names held
-      → Spells state incoming r octets (names_in held) held → Spells state incoming r octets names held
+      → Spells state incoming r octets (names_answered held) held → Spells state incoming r octets names held
   spelled_so octets names NoRequest told h =
-      if_ok r _ _ (λ a. unnamed_so state incoming r (octets a) (names_in NoRequest) names) h
+      if_ok r _ _ (λ a. unnamed_so state incoming r (octets a) (names_answered NoRequest) names) h
   spelled_so octets names (AsReq message) told h =
       subst (λ (n : Named). Spells state incoming r octets n (AsReq message)) (sym told) h
   spelled_so octets names (RefusedTgsReq message refusal) told h =
       if_ok r _ _ (λ a. refused_so state incoming r (octets a)
-      (names_in (RefusedTgsReq message refusal)) names message refusal) h
+      (names_answered (RefusedTgsReq message refusal)) names message refusal) h
   spelled_so octets names (TgsReq message p) told h =
       subst (λ (n : Named). Spells state incoming r octets n (TgsReq message p)) (sym told) h
 
   abbrev Opens : Named → Contents → Type 0
   Opens names held = IfOk r (λ a. OpensOf (view_of state names) incoming.at incoming.random held)
 
-  pub opens_so : (names : Named) (held : Contents) → Tells names held → Opens (names_in held) held → Opens names held
+  pub opens_so : (names : Named) (held : Contents) → Tells names held → Opens (names_answered held) held → Opens names held
   opens_so names NoRequest told h = h
   opens_so names (AsReq message) told h = subst (λ (n : Named). Opens n (AsReq message)) (sym told) h
   opens_so names (RefusedTgsReq message refusal) told h = h
@@ -162,29 +152,29 @@ module _ {A E : Type 0} (state : State) (incoming : Incoming) (r : Result A E) (
   told : Tells names held
   told = subst (λ (h : Contents). Tells names h) (sym is) (tells state (request_of incoming.octets))
 
-  pub replies_so : (octets : A → Option (List ℕ)) → Answers state incoming r octets (names_in held) held
+  pub replies_so : (octets : A → Option (List ℕ)) → Answers state incoming r octets (names_answered held) held
       → IfOk r (λ a. octets a ≡ (answer_to (view state incoming.octets) incoming).reply)
   replies_so octets h =
       subst (λ (h : Contents). Answers state incoming r octets names h) is
       (reply_so state incoming r octets names held told h)
 
-  pub leaves_so : (mark : A → Option (Option Mark)) → Leaves state incoming r mark (names_in held) held
+  pub leaves_so : (mark : A → Option (Option Mark)) → Leaves state incoming r mark (names_answered held) held
       → IfOk r (λ a. after_reply state (mark a) ≡ after_incoming state incoming)
   leaves_so mark h =
       subst (λ (h : Contents). Leaves state incoming r mark names h) is
       (after_so state incoming r mark names held told h)
 
-  pub spells_so : (octets : A → Option (List ℕ)) → Spells state incoming r octets (names_in held) held
+  pub spells_so : (octets : A → Option (List ℕ)) → Spells state incoming r octets (names_answered held) held
       → IfOk r (λ a. IsReply (view state incoming.octets) incoming.at incoming.random (request_of incoming.octets)
       (octets a))
   spells_so octets h =
       subst (λ (h : Contents). Spells state incoming r octets names h) is
       (spelled_so state incoming r octets names held told h)
 
-  pub keys_so : Opens state incoming r (names_in held) held
-      → IfOk r (λ a. OneTicketTwoKeys (view state incoming.octets) incoming.at incoming.random
+  pub opens_held : Opens state incoming r (names_answered held) held
+      → IfOk r (λ a. ReplyOpens (view state incoming.octets) incoming.at incoming.random
       (request_of incoming.octets))
-  keys_so h = subst (λ (h : Contents). Opens state incoming r names h) is (opens_so state incoming r names held told h)
+  opens_held h = subst (λ (h : Contents). Opens state incoming r names h) is (opens_so state incoming r names held told h)
 
 -- ---- what is kept of an authenticator
 

@@ -1,11 +1,11 @@
 -- The reply to a request that is issued a ticket is that ticket's.
 use Rattle.std.proofs.Common.{◌≡◌, ◌≤◌, ℕ, List, length, Option, Some, None, Result, Ok, Err, IfOk, IfSome, refl, sym}
 use Rattle.std.proofs.Common.{subst}
-use Rattle.as_exchange.specs.Issued as as_exchange
-use Rattle.tgs_exchange.specs.Issued as tgs_exchange
+use Rattle.as_exchange.specs.IssuedLaws as as_exchange
+use Rattle.tgs_exchange.specs.IssuedLaws as tgs_exchange
 use Rattle.kdc_replies.specs.Issue.{Issue, IsIssuedOrError}
 use Rattle.krb_fields.specs.declared.moment.Moment.{Moment}
-use Rattle.kdc_core.specs.Answer.{IsReply, IsReplyTo, OneTicketTwoKeys, OpensOf, SpelledOf}
+use Rattle.kdc_core.specs.Answer.{IsReply, IsReplyTo, IsSentTo, OneTicketTwoKeys, OpensOf, ReplyOpens, SentOf, SpelledOf}
 use Rattle.kdc_core.specs.Contents.{contents}
 use Rattle.kdc_core.specs.Issued.{IsReplyOf, issued, issued_of}
 use Rattle.kdc_core.specs.Request.{Request}
@@ -13,36 +13,59 @@ use Rattle.kdc_core.specs.View.{View, as_view, tgs_view}
 use Rattle.kdc_core.specs.declared.contents.Contents.{Contents}
 use Rattle.kdc_core.specs.declared.contents.Contents.TheVariants.{NoRequest, AsReq, RefusedTgsReq, TgsReq}
 
-module _ (v : View) (at : Moment) (random octets : List ℕ) (long : 32 ≤ length random) (issue : Issue) where
-  issued_so : (held : Contents) → SpelledOf v at random held octets → OpensOf v at random held
-      → issued_of v at random held ≡ Some issue → IsIssuedOrError issue octets
-  issued_so NoRequest spelled opens e = absurd spelled
-  issued_so (AsReq message) spelled opens e =
-      as_exchange.reply_is_issued (as_view v) at random octets long message issue spelled opens e
-  issued_so (RefusedTgsReq message refusal) spelled opens e = absurd cc
-  issued_so (TgsReq message p) spelled opens e =
-      tgs_exchange.reply_is_issued (tgs_view v) at random octets long message.body.value p issue spelled opens e
+module _ (v : View) (at : Moment) (random octets : List ℕ) where
+  sent_so : (held : Contents) → SpelledOf v at random held octets → OpensOf v at random held
+      → SentOf v at random held octets
+  sent_so NoRequest spelled opens = tt
+  sent_so (AsReq message) spelled opens =
+      as_exchange.reply_is_sent (as_view v) at random octets message spelled opens
+  sent_so (RefusedTgsReq message refusal) spelled opens = tt
+  sent_so (TgsReq message p) spelled opens =
+      tgs_exchange.reply_is_sent (tgs_view v) at random octets message.body.value p spelled opens
 
-  -- The reply to a request that is issued a ticket is that ticket's, or an error where it has no room.
-  pub reply_is_issued : (request : Option Request) → IsReply v at random request (Some octets)
-      → OneTicketTwoKeys v at random request
-      → issued v at random request ≡ Some issue → IsIssuedOrError issue octets
-  reply_is_issued request spelled opens e = issued_so (contents v request) spelled opens e
+  module _ (long : 32 ≤ length random) (issue : Issue) where
+    issued_so : (held : Contents) → SentOf v at random held octets
+        → issued_of v at random held ≡ Some issue → IsIssuedOrError issue octets
+    issued_so NoRequest sent e = absurd cc
+    issued_so (AsReq message) sent e =
+        as_exchange.reply_is_issued (as_view v) at random octets long issue message sent e
+    issued_so (RefusedTgsReq message refusal) sent e = absurd cc
+    issued_so (TgsReq message p) sent e =
+        tgs_exchange.reply_is_issued (tgs_view v) at random octets message.body.value p long issue sent e
 
-module _ (v : View) (at : Moment) (random : List ℕ) (long : 32 ≤ length random) where
-  replied : (held : Contents) (reply : Option (List ℕ)) → IsReplyTo v at random reply held → OpensOf v at random held
-      → IfSome (issued_of v at random held) (λ issue. IsReplyOf issue reply)
-  replied held (Some octets) spelled opens = by_issue (issued_of v at random held) refl
-    where
-      by_issue : (o : Option Issue) → issued_of v at random held ≡ o → IfSome o (λ issue. IsIssuedOrError issue octets)
-      by_issue (Some issue) e = issued_so v at random octets long issue held spelled opens e
-      by_issue None e = tt
-  replied held None nothing opens =
-      subst (λ (h : Contents). IfSome (issued_of v at random h) (λ issue. ⊥)) (sym nothing) tt
+    -- The reply to a request that is issued a ticket is that ticket's, or an error where it has no room.
+    pub reply_is_issued : (request : Option Request) → OneTicketTwoKeys v at random request (Some octets)
+        → issued v at random request ≡ Some issue → IsIssuedOrError issue octets
+    reply_is_issued request sent e = issued_so (contents v request) sent e
 
-  -- the same of a call that may fail
-  pub replies_issued : {A E : Type 0} (octets_of : A → Option (List ℕ)) (request : Option Request) (r : Result A E)
-      → IfOk r (λ a. IsReply v at random request (octets_of a)) → IfOk r (λ a. OneTicketTwoKeys v at random request)
-      → IfOk r (λ a. IfSome (issued v at random request) (λ issue. IsReplyOf issue (octets_of a)))
-  replies_issued octets_of request (Ok a) spelled opens = replied (contents v request) (octets_of a) spelled opens
-  replies_issued octets_of request (Err e) spelled opens = tt
+module _ (v : View) (at : Moment) (random : List ℕ) where
+  sent_to : (held : Contents) (reply : Option (List ℕ)) → IsReplyTo v at random reply held
+      → OpensOf v at random held → IsSentTo v at random reply held
+  sent_to held (Some octets) spelled opens = sent_so v at random octets held spelled opens
+  sent_to held None nothing opens = nothing
+
+  -- What a call sends spells what answers, and is opened as that is.
+  pub replies_sent : {A E : Type 0} (octets_of : A → Option (List ℕ)) (request : Option Request) (r : Result A E)
+      → IfOk r (λ a. IsReply v at random request (octets_of a)) → IfOk r (λ a. ReplyOpens v at random request)
+      → IfOk r (λ a. OneTicketTwoKeys v at random request (octets_of a))
+  replies_sent octets_of request (Ok a) spelled opens = sent_to (contents v request) (octets_of a) spelled opens
+  replies_sent octets_of request (Err e) spelled opens = tt
+
+  module _ (long : 32 ≤ length random) where
+    replied : (held : Contents) (reply : Option (List ℕ)) → IsSentTo v at random reply held
+        → IfSome (issued_of v at random held) (λ issue. IsReplyOf issue reply)
+    replied held (Some octets) sent = by_issue (issued_of v at random held) refl
+      where
+        by_issue : (o : Option Issue) → issued_of v at random held ≡ o
+            → IfSome o (λ issue. IsIssuedOrError issue octets)
+        by_issue (Some issue) e = issued_so v at random octets long issue held sent e
+        by_issue None e = tt
+    replied held None nothing =
+        subst (λ (h : Contents). IfSome (issued_of v at random h) (λ issue. ⊥)) (sym nothing) tt
+
+    -- What a call sends to a request that is issued a ticket is that ticket's reply, or an error in its place.
+    pub replies_issued : {A E : Type 0} (octets_of : A → Option (List ℕ)) (request : Option Request) (r : Result A E)
+        → IfOk r (λ a. OneTicketTwoKeys v at random request (octets_of a))
+        → IfOk r (λ a. IfSome (issued v at random request) (λ issue. IsReplyOf issue (octets_of a)))
+    replies_issued octets_of request (Ok a) sent = replied (contents v request) (octets_of a) sent
+    replies_issued octets_of request (Err e) sent = tt

@@ -5,9 +5,8 @@ ghost use Rattle.tgs_exchange.specs.Answer.{tgs_error};
 ghost use Rattle.krb_elements.specs.Codec.{written};
 ghost use Rattle.kdc_core.specs.After.{after_reply, MayStay};
 ghost use Rattle.kdc_core.specs.Answer.{answer_of, answer_to, keep, after_incoming};
-ghost use Rattle.kdc_core.specs.Answer.{IsReply, IsReplyTo, OneTicketTwoKeys, OpensOf};
-ghost use Rattle.kdc_core.specs.Contents.{AreShort, IsShortName};
-ghost use Rattle.kdc_core.specs.ContentsLaws.{names_in};
+ghost use Rattle.kdc_core.specs.Answer.{IsReply, IsReplyTo, OpensOf, ReplyOpens};
+ghost use Rattle.kdc_core.specs.Contents.{AreShort, IsShortName, names_answered};
 ghost use Rattle.kdc_core.specs.Request.{request_of};
 ghost use Rattle.kdc_core.specs.View.{view, view_of};
 
@@ -41,8 +40,8 @@ pub fn handle(
     ensures spelled { IfOk result (λ reply.
         IsReply (view state.old incoming.now.octets) incoming.now.at incoming.now.random
         (request_of incoming.now.octets) (option_map (λ octets. octets.items) reply)) }
-    ensures keys { IfOk result (λ reply.
-        OneTicketTwoKeys (view state.old incoming.now.octets) incoming.now.at incoming.now.random
+    ensures same { IfOk result (λ reply.
+        ReplyOpens (view state.old incoming.now.octets) incoming.now.at incoming.now.random
         (request_of incoming.now.octets)) }
     ensures state { OnOk result (state.new ≡ after_incoming state.old incoming.now) }
     ensures err { OnErr result (state.new ≡ state.old) }
@@ -69,8 +68,8 @@ fn reply(
     ensures spelled { IfOk result (λ reply.
         IsReply (view state.now incoming.now.octets) incoming.now.at incoming.now.random
         (request_of incoming.now.octets) (option_map (λ r. r.octets.items) reply)) }
-    ensures keys { IfOk result (λ reply.
-        OneTicketTwoKeys (view state.now incoming.now.octets) incoming.now.at incoming.now.random
+    ensures same { IfOk result (λ reply.
+        ReplyOpens (view state.now incoming.now.octets) incoming.now.at incoming.now.random
         (request_of incoming.now.octets)) }
     ensures stays { IfOk result (λ reply. IfSome reply (λ r. IfSome r.mark (MayStay state.now))) }
 {
@@ -88,16 +87,16 @@ fn reply_to(
     requires { AreShort held.now }
     ensures reply { IfOk result (λ reply.
         option_map (λ r. r.octets.items) reply
-        ≡ (answer_of (view_of state.now (names_in held.now)) incoming.now held.now).reply) }
+        ≡ (answer_of (view_of state.now (names_answered held.now)) incoming.now held.now).reply) }
     ensures after { IfOk result (λ reply.
         after_reply state.now (option_map (λ r. r.mark) reply)
-        ≡ keep state.now (names_in held.now).client
-        (answer_of (view_of state.now (names_in held.now)) incoming.now held.now).kept) }
+        ≡ keep state.now (names_answered held.now).client
+        (answer_of (view_of state.now (names_answered held.now)) incoming.now held.now).kept) }
     ensures spelled { IfOk result (λ reply.
-        IsReplyTo (view_of state.now (names_in held.now)) incoming.now.at incoming.now.random
+        IsReplyTo (view_of state.now (names_answered held.now)) incoming.now.at incoming.now.random
         (option_map (λ r. r.octets.items) reply) held.now) }
-    ensures keys { IfOk result (λ reply.
-        OpensOf (view_of state.now (names_in held.now)) incoming.now.at incoming.now.random held.now) }
+    ensures same { IfOk result (λ reply.
+        OpensOf (view_of state.now (names_answered held.now)) incoming.now.at incoming.now.random held.now) }
     ensures stays { IfOk result (λ reply. IfSome reply (λ r. IfSome r.mark (MayStay state.now))) }
 {
     match held {

@@ -38,7 +38,7 @@ pub fn as_reply(
     ensures spelled { IfOk result (λ reply.
         SpelledOf (view_in state.now As message.now) incoming.now.at incoming.now.random
         (AsReq message.now) reply.octets.items) }
-    ensures keys { IfOk result (λ reply.
+    ensures same { IfOk result (λ reply.
         OpensOf (view_in state.now As message.now) incoming.now.at incoming.now.random (AsReq message.now)) }
     ensures stays { IfOk result (λ reply. IfSome reply.mark (MayStay state.now)) }
 {

@@ -104,13 +104,13 @@ impl Kdc {
         ensures spelled { IfOk result (λ reply.
             IsReply (view self.old request.now) at random.now (request_of request.now)
             (option_map (λ octets. octets.items) reply)) }
-        // Where a ticket is issued, the reply key opens the reply to the session key, flags and times that the
-        // service's key finds in the ticket.
+        // Where a ticket is issued, the octets that are sent spell its reply, which the reply key opens to the session
+        // key, flags and times that the service's key finds in the ticket; or they spell an error in its place. Which
+        // of the two the clause `reply` says: an error where the room is too small.
         ensures keys { IfOk result (λ reply.
-            OneTicketTwoKeys (view self.old request.now) at random.now (request_of request.now)) }
-        // Where a request is issued a ticket now, the octets that are sent are that ticket's reply, which client and
-        // service open to the same, or an error in its place. Which of the two the clause `reply` says: an error where
-        // the room is too small.
+            OneTicketTwoKeys (view self.old request.now) at random.now (request_of request.now)
+            (option_map (λ octets. octets.items) reply)) }
+        // The same, said of the ticket that is issued: what client and service open is what was granted.
         ensures issued { IfOk result (λ reply.
             IfSome (issued (view self.old request.now) at random.now (request_of request.now))
             (λ issue. IsReplyOf issue (option_map (λ octets. octets.items) reply))) }

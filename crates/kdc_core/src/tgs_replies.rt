@@ -42,7 +42,7 @@ pub fn tgs_reply(
     ensures spelled { IfOk result (λ reply.
         SpelledOf (presented_view state.now message.now presented.now) incoming.now.at incoming.now.random
         (TgsReq message.now presented.now) reply.octets.items) }
-    ensures keys { IfOk result (λ reply.
+    ensures same { IfOk result (λ reply.
         OpensOf (presented_view state.now message.now presented.now) incoming.now.at incoming.now.random
         (TgsReq message.now presented.now)) }
     ensures stays { IfOk result (λ reply. IfSome reply.mark (MayStay state.now)) }

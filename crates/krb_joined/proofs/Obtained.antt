@@ -1,10 +1,10 @@
 -- What a client takes from the reply to its request is the credential of the ticket that was issued.
-use Rattle.std.proofs.Common.{◌≡◌, ◌≤◌, ℕ, List, length, Option, Some, None, Result, Ok, Err, refl, subst, ◌∙◌}
+use Rattle.std.proofs.Common.{◌≡◌, ◌≤◌, ℕ, List, length, Option, Some, None, Ok, refl, subst, ◌∙◌}
 use Rattle.std.specs.Prelude.{IfSome}
 use Rattle.cred_files.specs.declared.credential.Credential.{Credential}
 use Rattle.krb_der.specs.Spelling.{IsBytes}
 use Rattle.krb_fields.specs.declared.moment.Moment.{Moment}
-use Rattle.kdc_core.specs.Answer.{IsReply, OneTicketTwoKeys, answer_of}
+use Rattle.kdc_core.specs.Answer.{OneTicketTwoKeys, answer_of}
 use Rattle.kdc_core.specs.Contents.{contents}
 use Rattle.kdc_core.specs.Issued.{issued, issued_of}
 use Rattle.kdc_core.specs.IssuedLaws.{reply_is_issued}
@@ -37,13 +37,13 @@ module _ (v : View) (at : Moment) (random : List ℕ) where
 
   -- ---- a reply
 
-  module _ (octets : List ℕ) (request : Option Request) (long : 32 ≤ length random) (fits : IsBytes octets) (spelled : IsReply v at random request (Some octets)) (keys : OneTicketTwoKeys v at random request) where
+  module _ (octets : List ℕ) (request : Option Request) (long : 32 ≤ length random) (fits : IsBytes octets) (keys : OneTicketTwoKeys v at random request (Some octets)) where
     pub obtained : (own : Reader) (asked : Asked) (c : Credential) → IsTakenBy own asked octets c → IfSome (issued v at random request) (λ issue. IsReader own issue → IsCredentialOf issue c)
     obtained own asked c taken = by_issue (issued v at random request) refl
       where
         by_issue : (o : Option Issue) → issued v at random request ≡ o → IfSome o (λ issue. IsReader own issue → IsCredentialOf issue c)
         by_issue (Some issue) e = λ reader.
-            let t = credential_taken issue octets fits own asked c reader (reply_is_issued v at random octets long issue request spelled keys e) taken in
+            let t = credential_taken issue octets fits own asked c reader (reply_is_issued v at random octets long issue request keys e) taken in
             credential_is issue octets c fits t.0 t.1
         by_issue None e = tt
 

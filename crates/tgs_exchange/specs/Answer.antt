@@ -137,3 +137,15 @@ OpensBy v at random body p (Issues admission) = OpensFor v at random body p admi
 
 abbrev pub Opens : TgsView → Moment → List ℕ → ReqBody → Presented → Type 0
 Opens v at random body p = OpensBy v at random body p (decision v at.sec body p)
+
+-- where a ticket is issued, the octets that are sent spell its reply, which is opened so, or the error in its place
+abbrev pub SentBy : TgsView → Moment → List ℕ → ReqBody → Presented → Decision Kept → List ℕ → Type 0
+SentBy v at random body p (Refuses refusal) octets = ⊤
+SentBy v at random body p (Remembers refusal) octets = ⊤
+SentBy v at random body p (Repeats kept) octets = ⊤
+SentBy v at random body p (Issues admission) octets =
+    ((kdc_rep 13).Spells (tgs_rep v at random body p admission) octets × OpensFor v at random body p admission)
+    ⊎ krb_error.Spells (too_big v.realm at body) octets
+
+abbrev pub Sent : TgsView → Moment → List ℕ → ReqBody → Presented → List ℕ → Type 0
+Sent v at random body p octets = SentBy v at random body p (decision v at.sec body p) octets

@@ -9,3 +9,4 @@ pub mod Issued
 -- what private clauses and proofs cite: no reader of a public contract needs it
 pub mod NamedLaws
 pub mod DecisionLaws
+pub mod IssuedLaws

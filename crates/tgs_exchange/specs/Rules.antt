@@ -135,7 +135,8 @@ rules_by v now body p found times =
     ∷ (is_none times, NeverValid)  -- 3.3.3, 3.1.3
     ∷ []
 
--- what is admitted, or the first rule by which nothing is
+-- What is admitted, or the first rule by which nothing is. Where no rule holds, terms and times are there, so that the
+-- reason behind the rules is never given by itself.
 abbrev pub admitted_on : TgsView → ℤ → ReqBody → Presented → Option Terms → Option Times → Result Admission TgsRefusal
 admitted_on v now body p found times = decided (rules_by v now body p found times) (admission_of found times) NeverValid
 

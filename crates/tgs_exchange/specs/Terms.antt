@@ -25,7 +25,7 @@ ticket_terms part = record {
 }
 
 abbrev pub terms_by : Row → Option ServiceTerms → Option Terms
-terms_by client (Some service) = Some (record { client = client.policy; service = service })
+terms_by client (Some service) = Some (record { client_policy = client.policy; service = service })
 terms_by client None = None
 
 abbrev pub terms_if : List ℤ → Option Name → Option Row → Option Row → Option Terms
@@ -40,7 +40,7 @@ terms v body = terms_if body.etype body.sname v.client v.service
 
 -- the times of a ticket by these terms; none where it would end no later than it starts
 abbrev pub times_of : Limits → ℤ → TicketTerms → ReqBody → Option Terms → Option Times
-times_of limits now ticket body (Some t) = tgs_times now ticket t.client t.service.policy limits body
+times_of limits now ticket body (Some t) = tgs_times now ticket t.client_policy t.service.policy limits body
 times_of limits now ticket body None = None
 
 abbrev pub admission_of : Option Terms → Option Times → Option Admission

@@ -48,6 +48,7 @@ pub fn admitted(
     let times = times_of(view.limits, at, &ticket, body, &terms);
     let rules = rules_by(view, at, body, presented, &terms, &times);
     let admission = admission_of(terms, times);
+    // Where no rule holds, terms and times are there, so that the last reason is never given by itself.
     decide(&rules, admission, TgsRefusal::NeverValid)
 }
 

@@ -14,7 +14,7 @@ use ticket_times::{TicketTerms, Times, tgs_times};
 /// A client that has a row, and a service that has a key of a type asked for.
 #[derive(Debug, Drop)]
 pub struct Terms {
-    pub client: Policy,
+    pub client_policy: Policy,
     pub service: ServiceTerms,
 }
 
@@ -59,7 +59,7 @@ pub fn terms_for(
         return Ok(None);
     };
     Ok(Some(Terms {
-        client: client_row.policy,
+        client_policy: client_row.policy,
         service,
     }))
 }
@@ -78,7 +78,7 @@ pub fn times_of(
         Some(terms) => tgs_times(
             at,
             ticket,
-            &terms.client,
+            &terms.client_policy,
             &terms.service.policy,
             limits,
             body,

@@ -14,7 +14,7 @@ use Rattle.tgs_opening.specs.declared.refusal.TgsRefusal.{TgsRefusal}
 
 -- an AP-REQ, and what its ticket holds
 pub record OpenedTicket : Type 0 where
-  pub request : ApReq
+  pub ap : ApReq
   pub part : EncTicketPart
 
 -- the ticket that is presented, opened
@@ -22,11 +22,11 @@ abbrev pub opened_ticket : TicketView → Received → Result OpenedTicket TgsRe
 opened_ticket v message = do
   ap ← ap_req_of message
   part ← shown_ticket v message.body.value ap
-  Ok (record { request = ap; part = part })
+  Ok (record { ap = ap; part = part })
 
 abbrev pub presented_as : OpenedTicket → Key → Authenticator → Option Key → Presented
 presented_as o key auth subkey = record {
-  ticket_service = o.request.ticket.sname;
+  ticket_service = o.ap.ticket.sname;
   ticket = o.part;
   session_key = key;
   authenticator = auth;
@@ -38,6 +38,6 @@ abbrev pub presented : TicketView → Received → Result Presented TgsRefusal
 presented v message = do
   o ← opened_ticket v message
   key ← session_key_of v o.part
-  auth ← authenticator_of key o.request.authenticator
+  auth ← authenticator_of key o.ap.authenticator
   subkey ← subkey_of o.part key message.body.octets auth
   Ok (presented_as o key auth subkey)

@@ -21,7 +21,7 @@ module _ (v : TicketView) (message : Received) where
       subkey_of o.part key message.body.octets auth >>= λ subkey. by_subkey o key auth subkey
 
   abbrev by_session_key : OpenedTicket → Key → Result Presented TgsRefusal
-  by_session_key o key = authenticator_of key o.request.authenticator >>= λ auth. by_authenticator o key auth
+  by_session_key o key = authenticator_of key o.ap.authenticator >>= λ auth. by_authenticator o key auth
 
   abbrev by_ticket : OpenedTicket → Result Presented TgsRefusal
   by_ticket o = session_key_of v o.part >>= λ key. by_session_key o key
@@ -32,6 +32,6 @@ module _ (v : TicketView) (message : Received) where
       let (o, opens, keyed) = stage_ok (opened_ticket v message) by_ticket p e in
       let (key, keys, shown) = stage_ok (session_key_of v o.part) (by_session_key o) p keyed in
       let (auth, shows, chosen) =
-      stage_ok (authenticator_of key o.request.authenticator) (by_authenticator o key) p shown in
+      stage_ok (authenticator_of key o.ap.authenticator) (by_authenticator o key) p shown in
       let last = stage_ok (subkey_of o.part key message.body.octets auth) (by_subkey o key auth) p chosen in
       (o, opens, λ i. (ok_is {R = TgsRefusal} (presented_as o key auth last.0) p last.2 i).ticket)

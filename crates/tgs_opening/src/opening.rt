@@ -20,19 +20,19 @@ use std::alloc::Global;
 pub fn tgs_open(
     alloc: Global,
     view: &TicketView<'_>,
-    request: &KdcReqRef<'_>,
+    message: &KdcReqRef<'_>,
 ) -> Result<Presented, TgsFault>
-    requires { IfSome (tgs_data request.now) (λ value. length value < 2147483648) }
-    ensures value { Gives result (presented view.now request.now) }
+    requires { IfSome (tgs_data message.now) (λ value. length value < 2147483648) }
+    ensures value { Gives result (presented view.now message.now) }
     // The authorization data are short enough for another ticket.
     ensures authorization { IfOk result (λ presented.
         IfSome presented.ticket.authorization_data (λ list. length ((list_of typed).text list) < 2147483648)) }
 {
-    let ap = ap_req_of(request)?;
-    let ticket = shown_ticket(alloc, view, &request.body.value, &ap)?;
+    let ap = ap_req_of(message)?;
+    let ticket = shown_ticket(alloc, view, &message.body.value, &ap)?;
     let session_key = session_key_of(view, &ticket)?;
     let authenticator = authenticator_of(alloc, view.ready, &session_key, &ap.authenticator)?;
-    let body = body_octets(request);
+    let body = body_octets(message);
     let subkey = subkey_of(&ticket, &session_key, body, &authenticator)?;
     Ok(Presented {
         ticket_service: ap.ticket.sname.to_name(alloc)?,
@@ -44,8 +44,8 @@ pub fn tgs_open(
 }
 
 /// The octets of the request's body, as they were sent.
-fn body_octets<'a>(request: &KdcReqRef<'a>) -> &'a [u8]
-    ensures { result.now ≡ request.now.body.octets }
+fn body_octets<'a>(message: &KdcReqRef<'a>) -> &'a [u8]
+    ensures { result.now ≡ message.now.body.octets }
 {
-    request.body.octets
+    message.body.octets
 }

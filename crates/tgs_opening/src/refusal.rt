@@ -9,7 +9,7 @@ use krb_fields::Code;
 /// that is generated (section 3.3.3).
 #[derive(Debug, Clone, Copy, PartialEq, Eq)]
 pub enum TgsRefusal {
-    // what the request presents (sections 3.2.3 and 3.3.2)
+    // what the request presents (sections 3.2.3 and 3.3.2; a foreign client, 3.3.3.2)
     BadVersion,
     BadMessageType,
     NoApReq,
@@ -38,7 +38,8 @@ pub enum TgsRefusal {
     Skewed,
     Repeated,
     Full,
-    // what it is presented for (section 3.3.3): from here on the authenticator is remembered
+    // what it is presented for (the ticket's times, section 3.2.3; another service, 3.3.2; else 3.3.3): from here on
+    // the authenticator is remembered
     NotYetValid,
     TicketExpired,
     ServiceUnknown,

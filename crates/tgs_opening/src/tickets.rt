@@ -41,24 +41,24 @@ pub enum Addressee {
 }
 
 /// The AP-REQ that comes with the request.
-pub fn ap_req_of<'a>(request: &KdcReqRef<'a>) -> Result<ApReqRef<'a>, TgsRefusal>
-    ensures value { result ≡ ap_req_of request.now }
+pub fn ap_req_of<'a>(message: &KdcReqRef<'a>) -> Result<ApReqRef<'a>, TgsRefusal>
+    ensures value { result ≡ ap_req_of message.now }
     ensures short { IfOk result (λ ap.
-        IfSome (tgs_data request.now) (λ value. length ap.ticket.enc_part.cipher < length value)) }
+        IfSome (tgs_data message.now) (λ value. length ap.ticket.enc_part.cipher < length value)) }
 {
-    let value = first_of(PA_TGS_REQ, request.padata.as_ref());
-    let rules = request_rules(request, value.is_none());
+    let value = first_of(PA_TGS_REQ, message.padata.as_ref());
+    let rules = request_rules(message, value.is_none());
     decide(&rules, ap_req_in(value), TgsRefusal::MalformedApReq)
 }
 
-fn request_rules(request: &KdcReqRef<'_>, lacks_value: bool) -> [(bool, TgsRefusal); 3]
-    requires { lacks_value ≡ is_none (tgs_data request.now) }
-    ensures { result ≡ request_rules request.now }
+fn request_rules(message: &KdcReqRef<'_>, lacks_value: bool) -> [(bool, TgsRefusal); 3]
+    requires { lacks_value ≡ is_none (tgs_data message.now) }
+    ensures { result ≡ request_rules message.now }
 {
     [
-        (request.pvno != PVNO, TgsRefusal::BadVersion),
+        (message.pvno != PVNO, TgsRefusal::BadVersion),
         (
-            request.msg_type != i32::from(TGS_REQ),
+            message.msg_type != i32::from(TGS_REQ),
             TgsRefusal::BadMessageType,
         ),
         (lacks_value, TgsRefusal::NoApReq),

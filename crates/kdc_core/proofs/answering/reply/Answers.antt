@@ -1,6 +1,6 @@
 use Rattle.std.proofs.Common.{rules, ◌≡◌, option_map}
 use Rattle.kdc_core.specs.Contents.{contents}
-use Rattle.kdc_core.specs.ContentsLaws.{keys_so, leaves_so, replies_so, spells_so}
+use Rattle.kdc_core.specs.ContentsLaws.{opens_held, leaves_so, replies_so, spells_so}
 use Rattle.kdc_core.specs.Request.{request_of}
 use Rattle.kdc_core.specs.View.{view}
 use Rattle.kdc_core.proofs.answering.reply.Goals as goal
@@ -23,8 +23,8 @@ returns-clause-spelled c =
     let is : c.in_ok-held.held ≡ contents (view c.args.state.now octets) (request_of octets) = search rules in
     spells_so c.args.state.now c.args.incoming.now c.reply_to.result c.in_ok-held.held is (λ reply. option_map (λ r. r.octets.items) reply) c.reply_to.ensures.spelled
 
-pub returns-clause-keys : goal.returns-clause-keys
-returns-clause-keys c =
+pub returns-clause-same : goal.returns-clause-same
+returns-clause-same c =
     let octets = c.args.incoming.now.octets in
     let is : c.in_ok-held.held ≡ contents (view c.args.state.now octets) (request_of octets) = search rules in
-    keys_so c.args.state.now c.args.incoming.now c.reply_to.result c.in_ok-held.held is c.reply_to.ensures.keys
+    opens_held c.args.state.now c.args.incoming.now c.reply_to.result c.in_ok-held.held is c.reply_to.ensures.same

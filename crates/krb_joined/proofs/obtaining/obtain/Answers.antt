@@ -1,6 +1,6 @@
 use Rattle.std.proofs.Common.{◌≡◌, ◌∙◌, Some, Ok, subst, sym, List, ℕ}
 use Rattle.krb_der.specs.Spelling.{IsBytes}
-use Rattle.kdc_core.specs.Answer.{IsReply, answer}
+use Rattle.kdc_core.specs.Answer.{OneTicketTwoKeys, answer}
 use Rattle.kdc_core.specs.Request.{request_of}
 use Rattle.kdc_core.specs.View.{view}
 use Rattle.krb_joined.specs.Reading.{IsTakenBy, reads_reply}
@@ -15,11 +15,11 @@ returns-in-Ok-clause-obtained c =
     let octets = c.in-Some.octets.items in
     let at = c.args.issuing.now.at in
     let random = c.args.issuing.now.random in
-    let spelled : IsReply v at random request (Some octets) = rw c.in-Some.is at c.in_ok-reply.ensures.spelled in
+    let keys : OneTicketTwoKeys v at random request (Some octets) = rw c.in-Some.is at c.in_ok-reply.ensures.keys in
     let fits : IsBytes octets = subst IsBytes c.deref.ensures.value c.look.ensures.octets in
     let reader = c.args.reader.now in
     let taken : IsTakenBy c.args.reader.now c.args.asked.now octets c.in-Ok.credential = subst (λ (l : List ℕ). IsTakenBy c.args.reader.now c.args.asked.now l c.in-Ok.credential) c.deref-2.ensures.value c.in-Ok.ensures.taken in
-    obtained v at random octets request c.look.ensures.random fits spelled c.in_ok-reply.ensures.keys c.args.reader.now c.args.asked.now c.in-Ok.credential taken
+    obtained v at random octets request c.look.ensures.random fits keys c.args.reader.now c.args.asked.now c.in-Ok.credential taken
 
 pub returns-in-Ok-clause-read : goal.returns-in-Ok-clause-read
 returns-in-Ok-clause-read c =

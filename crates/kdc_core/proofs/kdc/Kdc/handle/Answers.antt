@@ -3,9 +3,9 @@ use Rattle.kdc_state.specs.declared.state.State.{State}
 use Rattle.kdc_state.specs.State.{memory_of}
 use Rattle.kdc_core.proofs.Frame.{database_kept, limits_kept, other_kept, of_either}
 use Rattle.kdc_core.specs.AgreementLaws.{after_agrees, names_agree, view_agrees}
-use Rattle.kdc_core.specs.Answer.{answer, after_request}
+use Rattle.kdc_core.specs.Answer.{OneTicketTwoKeys, answer, after_request}
 use Rattle.kdc_core.specs.Issued.{IsReplyOf, issued}
-use Rattle.kdc_core.specs.IssuedLaws.{replies_issued}
+use Rattle.kdc_core.specs.IssuedLaws.{replies_issued, replies_sent}
 use Rattle.kdc_core.specs.Request.{request_of}
 use Rattle.kdc_core.specs.RequestLaws.{request_is}
 use Rattle.kdc_core.specs.View.{named, view}
@@ -14,6 +14,14 @@ use Rattle.kdc_core.proofs.kdc.Kdc.handle.Goals as goal
 pub returns-clause-request : goal.returns-clause-request
 returns-clause-request c r = request_is c.args.request.now r (λ i. omega (arith, c.type_inv.request i))
 
+pub returns-clause-keys : goal.returns-clause-keys
+returns-clause-keys c =
+    let state = c.self.inside.state in
+    let bytes = c.args.request.now in
+    let is : state ≡ c.args.self.now = search rules in
+    subst (λ (s : State). IfOk c.handle.result (λ reply. OneTicketTwoKeys (view s bytes) c.args.at c.args.random.now (request_of bytes) (option_map (λ octets. octets.items) reply))) is
+    (replies_sent (view state bytes) c.args.at c.args.random.now (λ reply. option_map (λ octets. octets.items) reply) (request_of bytes) c.handle.result c.handle.ensures.spelled c.handle.ensures.same)
+
 pub returns-clause-issued : goal.returns-clause-issued
 returns-clause-issued c =
     let state = c.self.inside.state in
@@ -21,7 +29,8 @@ returns-clause-issued c =
     let long : 32 ≤ length c.args.random.now = search rules in
     let is : state ≡ c.args.self.now = search rules in
     subst (λ (s : State). IfOk c.handle.result (λ reply. IfSome (issued (view s bytes) c.args.at c.args.random.now (request_of bytes)) (λ issue. IsReplyOf issue (option_map (λ octets. octets.items) reply)))) is
-    (replies_issued (view state bytes) c.args.at c.args.random.now long (λ reply. option_map (λ octets. octets.items) reply) (request_of bytes) c.handle.result c.handle.ensures.spelled c.handle.ensures.keys)
+    (replies_issued (view state bytes) c.args.at c.args.random.now long (λ reply. option_map (λ octets. octets.items) reply) (request_of bytes) c.handle.result
+    (replies_sent (view state bytes) c.args.at c.args.random.now (λ reply. option_map (λ octets. octets.items) reply) (request_of bytes) c.handle.result c.handle.ensures.spelled c.handle.ensures.same))
 
 pub returns-clause-database : goal.returns-clause-database
 returns-clause-database c =
