@@ -1,14 +1,21 @@
 #!/usr/bin/env python3
-"""Measures what a line of the log costs `kdcd serve`: two servers of one realm, one with `--log` into a file, are asked by turns, in
-short stretches. Linux and Python 3 alone are needed.
+"""Measures what a line of the log costs `kdcd serve`: two servers of one realm, one with `--log`, are asked by turns, in short
+stretches. Linux and Python 3 alone are needed.
 
-    python3 tools/measure_log.py [--programs FOLDER] [--turns N] [--requests N]
+    python3 tools/measure_log.py [--programs FOLDER] [--sink file|pipe|socket] [--turns N] [--requests N]
 
-The folder is that of `kadm` and `kdcd`, or that of the crates. It prints the quartiles of the processor time of a request, system calls
-included, over the stretches of each server, for logins that get a ticket and for logins that are refused."""
+The folder is that of `kadm` and `kdcd`, or that of the crates. The log goes into a file, or through a pipe or a stream socket, as that of
+a service to systemd's journal. What comes through these `cat` reads on another processor and writes into the file: its time is not
+counted, but what it costs the server to wake it is. It prints the quartiles of the processor time of a request, system calls included,
+over the stretches of each server, for logins that get a ticket and for logins that are refused. It ends with status 1 where a line
+was lost, since such a line costs less."""
 
 import argparse
+import os
 import pathlib
+import socket
+import subprocess
+import sys
 import tempfile
 
 from kerberos import as_req
@@ -17,6 +24,32 @@ from stock_kdcs import Principal, kdcd, keep_to_one_processor
 
 REALM = "EXAMPLE.COM"
 PRINCIPALS = [Principal("bob", "a password", preauth=False)]
+
+
+class Log:
+    """The log of a server: a file, and where standard error of the server goes, so that its lines come into the file. A pipe or a
+    socket is read on one of these processors."""
+
+    def __init__(self, path, sink, processors):
+        self.path, self.reader, self.errors = path, None, os.open(path, os.O_WRONLY | os.O_CREAT)
+        if sink != "file":
+            file, (end, self.errors) = self.errors, ends_of(sink)
+            self.reader = subprocess.Popen(["cat"], stdin=end, stdout=file)
+            os.sched_setaffinity(self.reader.pid, processors)
+            os.close(end)
+            os.close(file)
+
+    def count(self):
+        """How many requests it has, once the server has ended."""
+        os.close(self.errors)
+        if self.reader:
+            self.reader.wait()
+        return self.path.read_text().count(" udp as ")
+
+
+def ends_of(sink):
+    """Where a pipe or a socket is read, and where it is written."""
+    return os.pipe() if sink == "pipe" else [end.detach() for end in socket.socketpair()]
 
 
 def stretch(peer, server, request, count):
@@ -48,20 +81,31 @@ def measure(what, servers, request, turns, count):
 def main():
     words = argparse.ArgumentParser(description=__doc__, formatter_class=argparse.RawDescriptionHelpFormatter)
     words.add_argument("--programs", default="crates")
+    words.add_argument("--sink", choices=("file", "pipe", "socket"), default="file", help="where the log goes")
     words.add_argument("--turns", type=int, default=200)
     words.add_argument("--requests", type=int, default=200, help="in a stretch")
     words.add_argument("--port", type=int, default=20388)
     words = words.parse_args()
-    keep_to_one_processor()
+    others = keep_to_one_processor()
+    if words.sink != "file" and not others:
+        sys.exit("there is no other processor, which the reader of the log needs")
+    logins = {"a ticket": b"bob", "a client that is unknown": b"nobody"}
     with tempfile.TemporaryDirectory() as folder:
-        folders = [pathlib.Path(folder, name) for name in ("plain", "logged")]
-        for each in folders:
+        plain, logged = [pathlib.Path(folder, name) for name in ("plain", "logged")]
+        for each in (plain, logged):
             each.mkdir()
-        servers = [kdcd(words.programs, folders[log], REALM, PRINCIPALS, words.port + log, bool(log)) for log in (0, 1)]
-        for what, client in (("a ticket", b"bob"), ("a client that is unknown", b"nobody")):
+        log = Log(logged / "log", words.sink, others)
+        servers = [
+            kdcd(words.programs, plain, REALM, PRINCIPALS, words.port),
+            kdcd(words.programs, logged, REALM, PRINCIPALS, words.port + 1, True, log.errors),
+        ]
+        for what, client in logins.items():
             measure(what, servers, as_req(REALM.encode(), client), words.turns, words.requests)
         for server in servers:
             server.end()
+        lost = len(logins) * words.turns * words.requests - log.count()
+    if lost > 0:
+        sys.exit(f"{lost} lines of the log were lost, or more")
 
 
 if __name__ == "__main__":

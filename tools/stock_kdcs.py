@@ -66,8 +66,11 @@ class Running:
 
 def keep_to_one_processor():
     """For this process, which is the client, and for the servers that it starts. Else one processor wakes another for each message,
-    or doesn't, as the system likes, which costs up to half of a login and is no work of a server."""
-    os.sched_setaffinity(0, {max(os.sched_getaffinity(0))})
+    or doesn't, as the system likes, which costs up to half of a login and is no work of a server. It gives the other processors."""
+    processors = os.sched_getaffinity(0)
+    one = max(processors)
+    os.sched_setaffinity(0, {one})
+    return processors - {one}
 
 
 def run(words, **how):
@@ -76,8 +79,9 @@ def run(words, **how):
         sys.exit(f"{' '.join(map(str, words))}: {ran.stdout}")
 
 
-def kdcd(programs, folder, realm, principals, port, log=False):
-    """`programs` is a folder with `kadm` and `kdcd`, or that of the crates, which have each at NAME/out/NAME."""
+def kdcd(programs, folder, realm, principals, port, log=False, errors=None):
+    """`programs` is a folder with `kadm` and `kdcd`, or that of the crates, which have each at NAME/out/NAME. Standard error goes to a
+    file in `folder`, or to `errors`."""
     found = {name: next(p for p in (f"{programs}/{name}", f"{programs}/{name}/out/{name}") if os.path.isfile(p)) for name in ("kadm", "kdcd")}
     kadm = lambda sub, *words: run([found["kadm"], sub, "--db", folder / "database", *words])
     kadm("init", "--realm", realm)
@@ -92,7 +96,8 @@ def kdcd(programs, folder, realm, principals, port, log=False):
             kadm("policy", "--name", each.name, "--field", "preauth", "--value", "false")
     address = f"127.0.0.1:{port}"
     words = [found["kdcd"], "serve", "--db", folder / "database", "--udp", address, "--tcp", address, "--first", *["--log"] * log]
-    return Running(words, realm, port, stdout=subprocess.DEVNULL, stderr=open(folder / "log", "w"))
+    errors = open(folder / "log", "w") if errors is None else errors
+    return Running(words, realm, port, stdout=subprocess.DEVNULL, stderr=errors)
 
 
 def unpacked(root):

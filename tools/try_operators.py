@@ -383,18 +383,17 @@ def try_addresses(trial):
 
 
 def try_lock(trial):
-    """A lock, and its end."""
+    """A lock, its end, and one more that a single failure brings, since a good login alone begins the count anew."""
     trial.realm("lock")
     served = trial.serve("--first --lock-after 3 --lock-seconds 6")
     wrong, right = "KINIT u --password-file other -> 1 =refused 24\n", "KINIT u --password-file pw -> 0 =ok\n"
-    trial.cases(2 * wrong + right + 3 * wrong)
-    last = time.time()
-    trial.cases("""
-        KINIT u --password-file pw -> 1 =refused 18; locked
-        KINIT u --password-file other -> 1 =refused 18
-        KINIT v --password-file pw -> 0 =ok
-    """)
-    time.sleep(max(0.0, last + 7.1 - time.time()))
+    locked = "KINIT u --password-file pw -> 1 =refused 18; locked\n"
+    others = "KINIT u --password-file other -> 1 =refused 18\nKINIT v --password-file pw -> 0 =ok\n"
+    for failures, while_locked in ((2 * wrong + right + 3 * wrong, locked + others), (wrong, locked)):
+        trial.cases(failures)
+        last = time.time()
+        trial.cases(while_locked)
+        time.sleep(max(0.0, last + 7.1 - time.time()))
     trial.cases(right + 2 * wrong + right)
     served.end()
 

@@ -9,75 +9,151 @@ use std::alloc::{AllocError, Global};
 use std::io::Read;
 use std::test::Fail;
 
-/// What stands behind `kdcd serve --db d`, and what is wrong with it: none, the option that is named, or what the
-/// reader of words says (`?`).
-const LINES: &[(&str, Option<&str>)] = &[
+/// How options begin, as `derive(Debug)` writes them.
+const TAKEN: &str = "ServeOptions {";
+
+/// What stands behind `kdcd serve`, and how that begins which is made of it: options, or what is said of a fault. An
+/// empty word has a space on each side.
+const LINES: &[(&str, &str)] = &[
     (
-        "--udp 127.0.0.1:88 --tcp [::1]:88 --rounds 007 --seed s",
-        None,
+        "--db d --udp 127.0.0.1:88 --tcp [::1]:88 --rounds 007 --seed s",
+        TAKEN,
     ),
     (
-        "--udp 127.0.0.1:88 --tcp [::1]:88 --rounds 4294967295 --seed s --first",
-        None,
+        "--db d --udp 127.0.0.1:88 --tcp [::1]:88 --rounds 4294967295 --seed s --first",
+        TAKEN,
     ),
-    ("--udp 127.0.0.1:88 --rounds 4294967296", Some("--rounds")),
-    ("--udp 127.0.0.1:88 --rounds +7", Some("--rounds")),
-    ("--udp 127.0.0.1:88 --rounds -7", Some("--rounds")),
-    ("--udp 127.0.0.1:88 --rounds many", Some("--rounds")),
-    ("--tcp [::1]:88 --seed s --fixed --log", None),
-    ("--udp 127.0.0.1 --tcp [::1]:88", Some("--udp")),
-    ("--udp 127.0.0.1:88 --tcp localhost:88", Some("--tcp")),
-    ("--udp 127.0.0.1:88 --udp 127.0.0.2", Some("--udp")),
-    ("--seed s", Some("--udp")),
+    ("--db d --udp 127.0.0.1:88 --rounds 4294967296", "--rounds"),
+    ("--db d --udp 127.0.0.1:88 --rounds +7", "--rounds"),
+    ("--db d --udp 127.0.0.1:88 --rounds -7", "--rounds"),
+    ("--db d --udp 127.0.0.1:88 --rounds many", "--rounds"),
+    ("--db d --tcp [::1]:88 --seed s --fixed --log", TAKEN),
+    ("--db d --udp 127.0.0.1 --tcp [::1]:88", "--udp"),
+    ("--db d --udp 127.0.0.1:88 --tcp localhost:88", "--tcp"),
+    ("--db d --udp 127.0.0.1:88 --udp 127.0.0.2", "--udp"),
+    ("--db d --seed s", "--udp"),
     (
         "\
-            --udp 127.0.0.1:1 --udp 127.0.0.1:2 --udp 127.0.0.1:3 --udp 127.0.0.1:4 --tcp [::1]:1 --tcp [::1]:2 \
-            --tcp [::1]:3 --tcp [::1]:4",
-        None,
-    ),
-    (
-        "\
-            --udp 127.0.0.1:1 --udp 127.0.0.1:2 --udp 127.0.0.1:3 --udp 127.0.0.1:4 --tcp [::1]:1 --tcp [::1]:2 \
-            --tcp [::1]:3 --tcp [::1]:4 --tcp [::1]:5",
-        Some("--udp"),
-    ),
-    ("--udp 127.0.0.1:88 --remembered 1", None),
-    ("--udp 127.0.0.1:88 --remembered 65536", None),
-    ("--udp 127.0.0.1:88 --remembered 0", Some("--remembered")),
-    (
-        "--udp 127.0.0.1:88 --remembered 65537",
-        Some("--remembered"),
-    ),
-    ("--udp 127.0.0.1:88 --remembered x", Some("--remembered")),
-    ("--udp 127.0.0.1:88 --remembered -1", Some("--remembered")),
-    (
-        "--udp 127.0.0.1:88 --lock-after 0 --lock-seconds 0 --greatest-life 0 --greatest-renewable 0",
-        None,
+            --db d --udp 127.0.0.1:1 --udp 127.0.0.1:2 --udp 127.0.0.1:3 --udp 127.0.0.1:4 --tcp [::1]:1 \
+            --tcp [::1]:2 --tcp [::1]:3 --tcp [::1]:4",
+        TAKEN,
     ),
     (
         "\
-            --udp 127.0.0.1:88 --lock-after 4294967295 --lock-seconds 4294967295 --greatest-life 4294967295 \
+            --db d --udp 127.0.0.1:1 --udp 127.0.0.1:2 --udp 127.0.0.1:3 --udp 127.0.0.1:4 --tcp [::1]:1 \
+            --tcp [::1]:2 --tcp [::1]:3 --tcp [::1]:4 --tcp [::1]:5",
+        "--udp",
+    ),
+    ("--db d --udp 127.0.0.1:88 --remembered 1", TAKEN),
+    ("--db d --udp 127.0.0.1:88 --remembered 65536", TAKEN),
+    ("--db d --udp 127.0.0.1:88 --remembered 0", "--remembered"),
+    (
+        "--db d --udp 127.0.0.1:88 --remembered 65537",
+        "--remembered",
+    ),
+    ("--db d --udp 127.0.0.1:88 --remembered x", "--remembered"),
+    ("--db d --udp 127.0.0.1:88 --remembered -1", "--remembered"),
+    (
+        "--db d --udp 127.0.0.1:88 --lock-after 0 --lock-seconds 0 --greatest-life 0 --greatest-renewable 0",
+        TAKEN,
+    ),
+    (
+        "\
+            --db d --udp 127.0.0.1:88 --lock-after 4294967295 --lock-seconds 4294967295 --greatest-life 4294967295 \
             --greatest-renewable 4294967295",
-        None,
+        TAKEN,
     ),
     (
-        "--udp 127.0.0.1:88 --lock-after 4294967296",
-        Some("--lock-after"),
+        "--db d --udp 127.0.0.1:88 --lock-after 4294967296",
+        "--lock-after",
     ),
     (
-        "--udp 127.0.0.1:88 --lock-seconds 4294967296",
-        Some("--lock-seconds"),
+        "--db d --udp 127.0.0.1:88 --lock-seconds 4294967296",
+        "--lock-seconds",
     ),
     (
-        "--udp 127.0.0.1:88 --greatest-life 10h",
-        Some("--greatest-life"),
+        "--db d --udp 127.0.0.1:88 --greatest-life 10h",
+        "--greatest-life",
     ),
     (
-        "--udp 127.0.0.1:88 --greatest-renewable 1.5",
-        Some("--greatest-renewable"),
+        "--db d --udp 127.0.0.1:88 --greatest-renewable 1.5",
+        "--greatest-renewable",
     ),
-    ("--udp 127.0.0.1:88 --seed s --seed s", Some("?")),
-    ("--udp 127.0.0.1:88 --log yes", Some("?")),
+    (
+        "--udp 127.0.0.1:88",
+        "error: the following required arguments were not provided:\n  --db <FILE>\n",
+    ),
+    (
+        "--db d --udp 127.0.0.1:88 --db d",
+        "error: the argument '--db <FILE>' cannot be used multiple times\n",
+    ),
+    (
+        "--db  --udp 127.0.0.1:88",
+        "error: a value is required for '--db <FILE>' but none was supplied\n",
+    ),
+    (
+        "--db d --udp 127.0.0.1:88 --seed s --seed s",
+        "error: the argument '--seed <FILE>' cannot be used multiple times\n",
+    ),
+    (
+        "--db d --seed  --udp 127.0.0.1:88",
+        "error: a value is required for '--seed <FILE>' but none was supplied\n",
+    ),
+    (
+        "--db d --udp 127.0.0.1:88 --log yes",
+        "error: unexpected argument 'yes' found\n",
+    ),
+    (
+        "--db d --udp 127.0.0.1:88 --first=1",
+        "error: unexpected value '1' for '--first' found; no more were expected\n",
+    ),
+    (
+        "--db d --udp 127.0.0.1:88 --fixed=1",
+        "error: unexpected value '1' for '--fixed' found; no more were expected\n",
+    ),
+];
+
+/// What stands behind `kdcd serve`, and its options, as `derive(Debug)` writes them. Each flag stands alone once.
+const OPTIONS: &[(&str, &str)] = &[
+    (
+        "\
+            --db d --udp 127.0.0.1:88 --udp [::1]:89 --tcp [2001:db8::1]:90 --tcp 192.0.2.1:91 --tcp [::]:92 \
+            --rounds 7 --seed s --first --fixed --log --greatest-renewable 5 --greatest-life 4 --lock-seconds 3 \
+            --lock-after 2 --remembered 1",
+        "\
+            ServeOptions { db: \"d\", udp: [127.0.0.1:88, [::1]:89], \
+            tcp: [[2001:db8::1]:90, 192.0.2.1:91, [::]:92], rounds: Some(7), seed: Some(\"s\"), \
+            limits: Limits { remembered: 1, lock_after: 2, lock_seconds: 3, greatest_life: 4, \
+            greatest_renewable: 5 }, is_first: true, is_fixed: true, logs: true }",
+    ),
+    (
+        "--db d --udp [::]:88",
+        "\
+            ServeOptions { db: \"d\", udp: [[::]:88], tcp: [], rounds: None, seed: None, \
+            limits: Limits { remembered: 1024, lock_after: 0, lock_seconds: 0, greatest_life: 36000, \
+            greatest_renewable: 604800 }, is_first: false, is_fixed: false, logs: false }",
+    ),
+    (
+        "--db d --tcp [::]:88 --first",
+        "\
+            ServeOptions { db: \"d\", udp: [], tcp: [[::]:88], rounds: None, seed: None, \
+            limits: Limits { remembered: 1024, lock_after: 0, lock_seconds: 0, greatest_life: 36000, \
+            greatest_renewable: 604800 }, is_first: true, is_fixed: false, logs: false }",
+    ),
+    (
+        "--db d --tcp [::]:88 --fixed",
+        "\
+            ServeOptions { db: \"d\", udp: [], tcp: [[::]:88], rounds: None, seed: None, \
+            limits: Limits { remembered: 1024, lock_after: 0, lock_seconds: 0, greatest_life: 36000, \
+            greatest_renewable: 604800 }, is_first: false, is_fixed: true, logs: false }",
+    ),
+    (
+        "--db d --tcp [::]:88 --log",
+        "\
+            ServeOptions { db: \"d\", udp: [], tcp: [[::]:88], rounds: None, seed: None, \
+            limits: Limits { remembered: 1024, lock_after: 0, lock_seconds: 0, greatest_life: 36000, \
+            greatest_renewable: 604800 }, is_first: false, is_fixed: false, logs: true }",
+    ),
 ];
 
 fn args_of(alloc: Global, line: &str) -> Result<Vec<String>, AllocError> {
@@ -88,72 +164,41 @@ fn args_of(alloc: Global, line: &str) -> Result<Vec<String>, AllocError> {
     Ok(args)
 }
 
-/// What is wrong with the words.
-fn fault(alloc: Global, args: &[String]) -> Option<&'static str> {
-    match read_args(alloc, args) {
-        Ok(matches) => match matches.subcommand() {
-            Some((_, args)) => options_fault(alloc, args),
-            None => Some("?"),
-        },
-        Err(_) => Some("?"),
+/// What is made of these words behind `kdcd serve`: its options, as `derive(Debug)` writes them, or what is said of a
+/// fault.
+fn read_text(alloc: Global, words: &str) -> Result<String, Fail> {
+    let line = format!(in alloc; "kdcd serve {words}")?;
+    let args = args_of(alloc, &line)?;
+    match read_args(alloc, &args) {
+        Ok(matches) => options_text(alloc, &matches),
+        Err(error) => Ok(format!(in alloc; "{error}")?),
     }
 }
 
-fn options_fault(alloc: Global, args: &ArgMatches<'_>) -> Option<&'static str> {
+fn options_text(alloc: Global, matches: &ArgMatches<'_>) -> Result<String, Fail> {
+    let (_, args) = matches.subcommand().ok_or("serve")?;
     match serve_options(alloc, args) {
-        Ok(_) => None,
-        Err(ArgsFault::Amiss(fault)) => Some(fault),
-        Err(ArgsFault::Memory) => Some("memory"),
-    }
-}
-
-/// Whether a fault begins with what is wanted, or both are none.
-fn is_wanted(fault: Option<&str>, wanted: Option<&str>) -> bool {
-    match (fault, wanted) {
-        (None, None) => true,
-        (Some(fault), Some(wanted)) => fault.starts_with(wanted),
-        _ => false,
+        Ok(options) => Ok(format!(in alloc; "{options:?}")?),
+        Err(ArgsFault::Amiss(fault)) => Ok(String::from_str(alloc, fault)?),
+        Err(ArgsFault::Memory) => Err("memory")?,
     }
 }
 
 #[test]
 fn args_that_are_read(rt: HostRuntime) -> Result<(), Fail> {
-    let alloc = rt.alloc();
     for (line, wanted) in LINES {
-        let line = format!(in alloc; "kdcd serve --db d {line}")?;
-        let args = args_of(alloc, &line)?;
-        assert!(rt; is_wanted(fault(alloc, &args), *wanted), "{line}");
+        let text = read_text(rt.alloc(), line)?;
+        assert!(rt; text.starts_with(wanted), "{line}: {text}");
     }
-    let args = args_of(alloc, "kdcd serve --udp 127.0.0.1:88")?;
-    assert_eq!(rt; fault(alloc, &args), Some("?"));
     Ok(())
 }
 
-/// The limits that these words give.
-fn limits_of(alloc: Global, line: &str) -> Result<Limits, Fail> {
-    let args = args_of(alloc, line)?;
-    let matches = match read_args(alloc, &args) {
-        Ok(matches) => matches,
-        Err(_) => Err("words")?,
-    };
-    let (_, args) = matches.subcommand().ok_or("serve")?;
-    match serve_options(alloc, args) {
-        Ok(options) => Ok(options.limits),
-        Err(_) => Err("options")?,
-    }
-}
-
 #[test]
-fn limits_are_those_of_the_args(rt: HostRuntime) -> Result<(), Fail> {
-    let limits = limits_of(rt.alloc(), "kdcd serve --db d --udp [::]:88")?;
-    assert_eq!(rt; Some(limits), Limits::new(1_024, 0, 0, 36_000, 604_800));
-    let limits = limits_of(
-        rt.alloc(),
-        "\
-            kdcd serve --db d --udp [::]:88 --greatest-renewable 5 --greatest-life 4 --lock-seconds 3 \
-            --lock-after 2 --remembered 1",
-    )?;
-    assert_eq!(rt; Some(limits), Limits::new(1, 2, 3, 4, 5));
+fn options_are_those_of_the_args(rt: HostRuntime) -> Result<(), Fail> {
+    for (line, wanted) in OPTIONS {
+        let text = read_text(rt.alloc(), line)?;
+        assert_eq!(rt; text.as_str(), *wanted, "{line}");
+    }
     Ok(())
 }
 
