@@ -633,42 +633,42 @@ const FAULTS: &[Run] = &[
     // an empty path, and a value behind a flag
     Run {
         line: "kclient kinit --kdc 192.0.2.1:88 --realm A.B --name u --password-file pass --cache cc --seed ",
-        out: "--seed",
+        out: "a value is required for '--seed <FILE>'",
         ..FAULT
     },
     Run {
         line: "kclient kinit --kdc 192.0.2.1:88 --realm A.B --name u --password-file  --cache cc --seed seed",
-        out: "--password-file",
+        out: "a value is required for '--password-file <FILE>'",
         ..FAULT
     },
     Run {
         line: "kclient kinit --kdc 192.0.2.1:88 --realm A.B --name u --keytab  --cache cc --seed seed",
-        out: "--keytab",
+        out: "a value is required for '--keytab <FILE>'",
         ..FAULT
     },
     Run {
         line: "kclient kvno --kdc 192.0.2.1:88 --cache cc --name h --keytab ",
-        out: "--keytab",
+        out: "a value is required for '--keytab <FILE>'",
         ..FAULT
     },
     Run {
         line: "kclient klist --keytab ",
-        out: "--keytab",
+        out: "a value is required for '--keytab <FILE>'",
         ..FAULT
     },
     Run {
         line: "kclient kinit --kdc 192.0.2.1:88 --cache cc --renew=1",
-        out: "--renew",
+        out: "unexpected value '1' for '--renew",
         ..FAULT
     },
     Run {
         line: "kclient kvno --kdc 192.0.2.1:88 --cache cc --name h --fresh=1",
-        out: "--fresh",
+        out: "unexpected value '1' for '--fresh",
         ..FAULT
     },
     Run {
         line: "kclient kvno --kdc 192.0.2.1:88 --cache cc --name h --tcp=1",
-        out: "--tcp",
+        out: "unexpected value '1' for '--tcp",
         ..FAULT
     },
     // files of another type, and an empty path behind FILE:
