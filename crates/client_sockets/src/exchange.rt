@@ -4,6 +4,7 @@ ghost use Rattle.std.specs.Prelude.{◌≡◌, ◌≤◌, IfOk, vec_len};
 use crate::deadline::{Deadline, no_reply};
 use crate::stream::TimedStream;
 use file_store::counted;
+use framing::frame;
 use kclient_run::{Exchange, Transport};
 use std::alloc::Global;
 use std::io;
@@ -13,6 +14,9 @@ use std::rt::Clock;
 
 /// The most octets of a reply over TCP. A longer one is an error, which is found before it is read.
 pub const LONGEST_REPLY: usize = 1_048_576;
+
+/// The most octets of a request over TCP, since the first bit of a length is reserved.
+const LONGEST_REQUEST: usize = 0x7fff_ffff;
 
 /// For how many seconds a reply to each datagram is waited for.
 const UDP_WAITS: [u64; 3] = [1, 2, 4];
@@ -159,13 +163,12 @@ fn by_connection<R: Net + Clock>(
     receive(alloc, &mut stream)
 }
 
-/// Sends a message behind its length, four octets (RFC 4120, section 7.2.2).
+/// Sends a message behind its length (RFC 4120, section 7.2.2).
 fn send_framed<W: Write>(alloc: Global, stream: &mut W, message: &[u8]) -> io::Result<()> {
-    let Ok(len) = u32::try_from(message.len()) else {
+    if message.len() > LONGEST_REQUEST {
         return Err(Error::from(ErrorKind::InvalidInput));
-    };
-    let mut framed = Vec::from_slice(alloc, &len.to_be_bytes())?;
-    framed.extend_from_slice(message)?;
+    }
+    let framed = frame(alloc, message)?;
     stream.write_all(&framed)
 }
 

@@ -8,6 +8,8 @@ use Rattle.krb_elements.specs.Format.{whole}
 use Rattle.krb_fields.specs.Name.{Components}
 use Rattle.krb_parts.specs.EtypeInfo2Entry.{EtypeInfo2Entry}
 use Rattle.krb_replies.specs.KdcRep.{KdcRep, kdc_rep}
+use Rattle.kclient_run.specs.declared.secrets.Secret.{Secret}
+use Rattle.kclient_run.specs.declared.secrets.Secret.TheVariants.{Keytab, Password}
 use Rattle.sealed_parts.specs.Keys.{type_numbered}
 use Rattle.sealed_parts.specs.Parts.{ok_of}
 
@@ -32,3 +34,15 @@ key_named keytab who (entry ∷ entries) = or_later (key_numbered keytab who ent
 -- the type by whose key an AS-REP is sealed, where the octets are one
 abbrev pub type_of_reply : List ℕ → Option ℤ
 type_of_reply octets = option_map (λ (reply : KdcRep 11). reply.enc_part.etype) (ok_of (whole (kdc_rep 11).at octets))
+
+-- ---- the key by which the reply to a request with a timestamp is opened
+
+-- of a keytab that of the type by which the reply is sealed; where the octets are no reply, the timestamp's
+abbrev pub keytab_key : List KeytabEntry → Components → Key → Option ℤ → Option Key
+keytab_key keytab who key (Some number) = key_numbered keytab who number
+keytab_key keytab who key None = Some key
+
+-- of a password the timestamp's
+abbrev pub next_key : Secret → Components → Key → List ℕ → Option Key
+next_key (Password pass) who key reply = Some key
+next_key (Keytab keytab) who key reply = keytab_key keytab who key (type_of_reply reply)

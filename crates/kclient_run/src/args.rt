@@ -1,4 +1,5 @@
 //! What the words of a command line say.
+use crate::file_names::{NameOf, path_in};
 use crate::wishes::{Again, Wishes};
 use clap::ArgMatches;
 use text_fields::number_u32;
@@ -94,13 +95,21 @@ pub(crate) fn task_of<'a>(command: &str, args: &ArgMatches<'a>) -> Result<Task<'
     match command {
         "kinit" => kinit_task(args),
         "kvno" => Ok(Task::Kvno(KvnoArgs {
-            keytab: args.get_str("keytab"),
+            keytab: keytab_path(args)?,
             seed: args.get_str("seed"),
             fresh: args.get_flag("fresh"),
         })),
         _ => Ok(Task::Klist(KlistArgs {
-            keytab: args.get_str("keytab"),
+            keytab: keytab_path(args)?,
         })),
+    }
+}
+
+/// The path of a keytab, which may be absent; else what is wrong with its name.
+fn keytab_path<'a>(args: &ArgMatches<'a>) -> Result<Option<&'a str>, &'static str> {
+    match args.get_str("keytab") {
+        Some(name) => Ok(Some(path_in(name, NameOf::Keytab)?)),
+        None => Ok(None),
     }
 }
 
@@ -154,7 +163,7 @@ fn first_args<'a>(args: &ArgMatches<'a>) -> Result<FirstArgs<'a>, &'static str> 
 }
 
 fn secret_args<'a>(args: &ArgMatches<'a>) -> Result<SecretArgs<'a>, &'static str> {
-    match (args.get_str("password-file"), args.get_str("keytab")) {
+    match (args.get_str("password-file"), keytab_path(args)?) {
         (Some(_), Some(_)) => Err(TWO_SECRETS),
         (Some(path), None) => Ok(SecretArgs::PasswordFile(path)),
         (None, Some(path)) => Ok(SecretArgs::Keytab(path)),

@@ -1,4 +1,5 @@
 //! What the environment says of words that a command line lacks.
+use crate::file_names::{NameOf, path_in};
 
 /// What stands for words that a command line lacks.
 #[derive(Clone, Copy, Debug)]
@@ -22,13 +23,7 @@ pub enum Variable<'a> {
 /// The file that is read where `KRB5_CONFIG` names none.
 const CONFIG: &str = "/etc/krb5.conf";
 
-// What stands behind `error:` where the environment names no file.
-
-const NO_CACHE: &str =
-    "--cache has to stand there, or the environment variable KRB5CCNAME name a file";
-
-const OTHER_CACHE: &str =
-    "KRB5CCNAME names a cache of another type than FILE, which kclient has not: --cache takes a file";
+// What stands behind `error:` where a variable is not UTF-8.
 
 const CACHE_NOT_UTF8: &str = "KRB5CCNAME is not UTF-8: --cache takes a file";
 
@@ -38,9 +33,9 @@ impl<'a> Defaults<'a> {
     /// The path of the cache; else what is wrong with its name.
     pub(crate) fn cache_path(&self) -> Result<&'a str, &'static str> {
         match self.cache {
-            Variable::Absent => Err(NO_CACHE),
+            Variable::Absent => Err(NameOf::CacheVariable.no_path()),
             Variable::NotUtf8 => Err(CACHE_NOT_UTF8),
-            Variable::Text(name) => path_in(name),
+            Variable::Text(name) => path_in(name, NameOf::CacheVariable),
         }
     }
 
@@ -52,20 +47,4 @@ impl<'a> Defaults<'a> {
             Variable::Text(path) => Ok(path),
         }
     }
-}
-
-/// The path in a cache's name: a path, or `FILE:` and one.
-fn path_in(name: &str) -> Result<&str, &'static str> {
-    match name.split_once(':') {
-        Some(("FILE", path)) => path_there(path),
-        Some((front, _)) if !front.contains('/') => Err(OTHER_CACHE),
-        _ => path_there(name),
-    }
-}
-
-fn path_there(path: &str) -> Result<&str, &'static str> {
-    if path.is_empty() {
-        return Err(NO_CACHE);
-    }
-    Ok(path)
 }

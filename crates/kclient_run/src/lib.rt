@@ -15,6 +15,7 @@ mod environment;
 mod exchange;
 mod fault_args;
 mod faults;
+mod file_names;
 mod files;
 mod granting;
 mod holding;

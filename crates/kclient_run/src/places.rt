@@ -4,6 +4,7 @@ use crate::asking::KdcPlace;
 use crate::caches::read_cache;
 use crate::environment::Defaults;
 use crate::faults::{Place, Reason, Stop, of_name};
+use crate::file_names::{NameOf, path_in};
 use crate::files::of;
 use crate::kinit::check_names;
 use crate::kvno::{KvnoStop, read_services};
@@ -173,10 +174,15 @@ fn cache_path(
     args: &ArgMatches<'_>,
     defaults: &Defaults<'_>,
 ) -> Result<String, Unplaced> {
-    if let Some(path) = args.get_str("cache") {
-        return Ok(String::from_str(alloc, path)?);
+    if let Some(name) = args.get_str("cache") {
+        return copied(alloc, path_in(name, NameOf::Cache));
     }
-    match defaults.cache_path() {
+    copied(alloc, defaults.cache_path())
+}
+
+/// A path of a command's own; else the fault of the command line.
+fn copied(alloc: Global, path: Result<&str, &'static str>) -> Result<String, Unplaced> {
+    match path {
         Ok(path) => Ok(String::from_str(alloc, path)?),
         Err(fault) => Err(Unplaced::Usage(fault)),
     }

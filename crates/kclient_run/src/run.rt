@@ -34,8 +34,8 @@ pub const USAGE: u8 = 2;
 pub const FAILED: u8 = 3;
 
 /// Does what a command line says, the program's name in front, at the context's moment. What came of it goes to
-/// `writer`, and why it was not done, in words, to `errors`. The status is `DONE`, `REFUSED`, `USAGE` or `FAILED`. But for `DONE`
-/// the cache is as it was, unless the printing alone failed: then it is `FAILED`, and the cache is written.
+/// `writer`, and why it was not done, in words, to `errors`. The status is `DONE`, `REFUSED`, `USAGE` or `FAILED`. But
+/// for `DONE` the cache is as it was, unless the printing alone failed: then it is `FAILED`, and the cache is written.
 pub fn kclient_run<S: AsStr, T: Store, X: Exchange, W: Write + Drop, E: Write + Drop>(
     context: &mut Context<T, X>,
     args: &[S],

@@ -1,8 +1,8 @@
 //! By what a client shows that it is itself: a password, or a keytab (RFC 4120, section 5.2.7.5).
-ghost use Rattle.std.specs.Prelude.{◌≡◌, ◌∷◌, option_copied, option_map, Ok, IfOk};
+ghost use Rattle.std.specs.Prelude.{◌≡◌, ◌∷◌, Some, option_copied, option_map, Ok, IfOk};
 ghost use Rattle.client_core.specs.Passwords.{password_key};
 ghost use Rattle.kclient_run.specs.Infos.{info_of_reply};
-ghost use Rattle.kclient_run.specs.Keys.{key_named, key_numbered, key_typed, type_of_reply};
+ghost use Rattle.kclient_run.specs.Keys.{key_named, key_numbered, key_typed, keytab_key, next_key, type_of_reply};
 
 use crate::faults::{Place, Reason, Stop};
 use crate::infos::{AS_REP, info_of_reply};
@@ -55,14 +55,37 @@ pub(crate) fn key_of_next_reply(
     asked: &Asked,
     key: &Key,
     reply: &[u8],
-) -> Result<Key, Stop> {
+) -> Result<Key, Stop>
+    // Of a keytab it is that of the type by which the reply is sealed.
+    ensures { IfOk result (λ found. Some found
+        ≡ next_key secret.now (asked.now.realm ∷ asked.now.client.components) key.now reply.now) }
+{
     match secret {
         Secret::Password(_) => Ok(*key),
-        Secret::Keytab(keytab) => match keytab_for_reply(keytab, asked, reply)? {
-            Some(found) => Ok(found),
-            None => Ok(*key),
-        },
+        Secret::Keytab(keytab) => keytab_key(keytab, asked, key, reply),
     }
+}
+
+/// The key of the reply's type; the timestamp's where the octets are no reply.
+fn keytab_key(keytab: &Keytab, asked: &Asked, key: &Key, reply: &[u8]) -> Result<Key, Stop>
+    ensures { IfOk result (λ found. Some found ≡ keytab_key
+        keytab.now
+        (asked.now.realm ∷ asked.now.client.components)
+        key.now
+        (type_of_reply reply.now)) }
+{
+    let Some(number) = type_of_reply(reply) else {
+        return Ok(*key);
+    };
+    numbered_key(keytab, asked, number)
+}
+
+/// The client's key of a type.
+fn numbered_key(keytab: &Keytab, asked: &Asked, number: i32) -> Result<Key, Stop>
+    ensures { IfOk result (λ key. Some key
+        ≡ key_numbered keytab.now (asked.now.realm ∷ asked.now.client.components) number) }
+{
+    given(key_numbered(keytab, asked.realm.as_slice(), &asked.client, number))
 }
 
 fn password_for_reply(
@@ -103,8 +126,7 @@ fn keytab_for_reply(keytab: &Keytab, asked: &Asked, reply: &[u8]) -> Result<Opti
     let Some(number) = type_of_reply(reply) else {
         return Ok(None);
     };
-    let found = key_numbered(keytab, asked.realm.as_slice(), &asked.client, number);
-    Ok(Some(given(found)?))
+    Ok(Some(numbered_key(keytab, asked, number)?))
 }
 
 fn named_key<'k>(keytab: &'k Keytab, asked: &Asked, info: &EtypeInfo2) -> Option<&'k Key>
@@ -118,7 +140,9 @@ fn named_key<'k>(keytab: &'k Keytab, asked: &Asked, info: &EtypeInfo2) -> Option
     )
 }
 
-fn given(found: Option<&Key>) -> Result<Key, Stop> {
+fn given(found: Option<&Key>) -> Result<Key, Stop>
+    ensures { IfOk result (λ key. Some key ≡ option_copied found.entry) }
+{
     match found {
         Some(key) => Ok(*key),
         None => Err(Stop::Refused(Reason::NoKey, Place::Keytab)),

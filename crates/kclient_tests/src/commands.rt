@@ -29,6 +29,12 @@ const GOT: &[Run] = &[
         ..KVNO
     },
     Run {
+        line: "\
+            kclient kinit --tcp --kdc 192.0.2.1:88 --realm A.B --name u --password-file pass --cache cc --seed seed",
+        ways: "tt",
+        ..KINIT
+    },
+    Run {
         link: Link::Forged(AS_REP),
         held: "krbtgt/A.B 0 - 36000 - 00400000 18\n",
         ..KINIT_V
@@ -109,6 +115,12 @@ const REFUSED_BY_A_REPLY: &[Run] = &[
             kclient kinit --kdc 192.0.2.1:88 --realm A.B --name v --password-file pass --cache cc --seed seed \
             --life 60",
         ..STALE
+    },
+    OTHER_KDC,
+    Run {
+        link: Link::Forged(OTHER_SERVICE_REALM),
+        errors: "kclient: 192.0.2.1:88: the reply has a ticket for another service than was asked\n",
+        ..OTHER_KDC
     },
     // the same reply is one of another exchange
     Run {
@@ -209,6 +221,14 @@ const STALE: Run = Run {
     ..KINIT_V
 };
 
+/// The reply of another realm's KDC, to a client with the same key.
+const OTHER_KDC: Run = Run {
+    line: "kclient kinit --kdc 192.0.2.1:88 --realm A.B --name v --keytab keys --cache cc --seed seed",
+    link: Link::Forged(OTHER_REALM),
+    errors: "kclient: 192.0.2.1:88: the reply is for another client than the one that asked\n",
+    ..STALE
+};
+
 const NO_TYPE: Run = Run {
     link: Link::Forged(UNREADABLE),
     status: REFUSED,
@@ -243,6 +263,26 @@ const TGS_REP: &str = "\
         49f3a59119864bb21ff225b1f49ae5ca410ff20e2d7ec0229706c7739b689eeeb08c147af7cf0d0929f21ec28beb548b1454\
         cb37badd16c90cb6cd2a83c58d152082e688bd2299224649d65764f1635ddae4b6f06c5604f7cbe3b5ec6f854661b57dd46a\
         31";
+
+/// AS-REP for `v` of the realm `C.D`, as a model in Python seals it under the key of "password" of `v` in `A.B`.
+const OTHER_REALM: &str = "\
+        6b82013d30820139a003020105a10302010ba3051b03432e44a40e300ca003020101a10530031b0176a540613e303ca00302\
+        0105a1051b03432e44a2183016a003020102a10f300d1b066b72627467741b03432e44a3143012a003020112a103020101a2\
+        06040400000000a681d33081d0a003020112a281c80481c57ace0f667146bac017940823e444022392560693b16706e204e7\
+        5c0a27aa0df7adb9a07afd2a0535e14d13d30dc27a7e95a4543f157c64bd4245263df520b17e5f3fca41444cef7bcfb745e1\
+        3fe33fc8c5ba6d3f8f7ca376f3ce6363adcf133fb397e9b24f65f863ffe68afe0e61709e32a31295f029a48d3002208bf5e4\
+        573e6e8a3dcc056e617399375336f5ecdadb08fd39f94765e9890d84491de6bd773c76fbe03675c1e0b51eb86190797f9ab0\
+        0cb9a96733518cef66b9b817bd98851ef4816c35e4";
+
+/// The same for `v` of `A.B`, whose ticket is one of `krbtgt/A.B` in `C.D`.
+const OTHER_SERVICE_REALM: &str = "\
+        6b82013d30820139a003020105a10302010ba3051b03412e42a40e300ca003020101a10530031b0176a540613e303ca00302\
+        0105a1051b03432e44a2183016a003020102a10f300d1b066b72627467741b03412e42a3143012a003020112a103020101a2\
+        06040400000000a681d33081d0a003020112a281c80481c57ace0f667146bac017940823e444022392560693b16706e204e7\
+        5c0a27aa0df7adb9a07afd2a0535e14d13d30dc27a7e95a4543f157c64bd4245263df520b17e5f3fca41444cef7bcfb745e1\
+        3fe33fc8c5ba6d3f8f7ca376f3ce6363adcf133fb397e9b24f65f863ffe68afe0e61709e32a31295f029a48d3002208bf5e4\
+        573e6e8a3dcc056e617399375336f5ecdadb08fd39f94765e9890d84491de6bd773cec6eebf8d4706fb489fff692d707776e\
+        0cb9a96733518cef6619afc6e634269ad07110d532";
 
 const REFUSED_BY_A_WORD: &[Run] = &[
     KINIT,
@@ -588,6 +628,78 @@ const FAULTS: &[Run] = &[
     Run {
         line: "kclient kinit --kdc 192.0.2.1:88 --cache cc --validate --name u",
         out: "--validate",
+        ..FAULT
+    },
+    // an empty path, and a value behind a flag
+    Run {
+        line: "kclient kinit --kdc 192.0.2.1:88 --realm A.B --name u --password-file pass --cache cc --seed ",
+        out: "a value is required for '--seed <FILE>'",
+        ..FAULT
+    },
+    Run {
+        line: "kclient kinit --kdc 192.0.2.1:88 --realm A.B --name u --password-file  --cache cc --seed seed",
+        out: "a value is required for '--password-file <FILE>'",
+        ..FAULT
+    },
+    Run {
+        line: "kclient kinit --kdc 192.0.2.1:88 --realm A.B --name u --keytab  --cache cc --seed seed",
+        out: "a value is required for '--keytab <FILE>'",
+        ..FAULT
+    },
+    Run {
+        line: "kclient kvno --kdc 192.0.2.1:88 --cache cc --name h --keytab ",
+        out: "a value is required for '--keytab <FILE>'",
+        ..FAULT
+    },
+    Run {
+        line: "kclient klist --keytab ",
+        out: "a value is required for '--keytab <FILE>'",
+        ..FAULT
+    },
+    Run {
+        line: "kclient kinit --kdc 192.0.2.1:88 --cache cc --renew=1",
+        out: "unexpected value '1' for '--renew",
+        ..FAULT
+    },
+    Run {
+        line: "kclient kvno --kdc 192.0.2.1:88 --cache cc --name h --fresh=1",
+        out: "unexpected value '1' for '--fresh",
+        ..FAULT
+    },
+    Run {
+        line: "kclient kvno --kdc 192.0.2.1:88 --cache cc --name h --tcp=1",
+        out: "unexpected value '1' for '--tcp",
+        ..FAULT
+    },
+    // files of another type, and an empty path behind FILE:
+    Run {
+        line: "kclient kinit --kdc 192.0.2.1:88 --realm A.B --name u --password-file pass --cache KEYRING:cc",
+        out: "error: --cache names a cache of another type than FILE",
+        ..FAULT
+    },
+    Run {
+        line: "kclient kvno --kdc 192.0.2.1:88 --cache KCM: --name h",
+        out: "error: --cache names a cache of another type than FILE",
+        ..FAULT
+    },
+    Run {
+        line: "kclient klist --cache MEMORY:cc",
+        out: "error: --cache names a cache of another type than FILE",
+        ..FAULT
+    },
+    Run {
+        line: "kclient klist --cache FILE:",
+        out: "error: --cache takes a file",
+        ..FAULT
+    },
+    Run {
+        line: "kclient kinit --kdc 192.0.2.1:88 --realm A.B --name u --keytab MEMORY:keys --cache cc --seed seed",
+        out: "error: --keytab names a keytab of another type than FILE",
+        ..FAULT
+    },
+    Run {
+        line: "kclient kvno --kdc 192.0.2.1:88 --cache cc --name h --keytab FILE:",
+        out: "error: --keytab takes a file",
         ..FAULT
     },
 ];

@@ -26,10 +26,14 @@ pub enum Link {
     Stale,
     /// The KDC answers the first message, and refuses connections from then on.
     Once,
+    /// So does the first KDC, and the second one answers.
+    FirstOnce,
     /// Each message gets a KRB-ERROR with this code.
     Error(u8),
     /// Each message gets these octets, in hexadecimal digits.
     Forged(&'static str),
+    /// The first message gets them, and the KDC answers the others.
+    ForgedOnce(&'static str),
 }
 
 /// KRB-ERROR with code 52.
@@ -114,14 +118,17 @@ impl JoinedExchange {
         let way = way_of(by, is_second, &self.last, message);
         note(alloc, &mut self.ways, &mut self.last, way, message)?;
         self.sent.extend_from_slice(message)?;
+        let is_later = self.ways.len() > 1;
         match self.link {
             Link::Silent => Err(silence()),
             Link::FirstSilent if !is_second => Err(silence()),
             Link::NoDatagrams if by == Transport::Udp => Err(silence()),
             Link::TooBig if by == Transport::Udp => octets(alloc, TOO_BIG),
-            Link::Once if self.ways.len() > 1 => Err(Error::from(ErrorKind::ConnectionRefused)),
+            Link::Once if is_later => Err(refusal()),
+            Link::FirstOnce if is_later && !is_second => Err(refusal()),
             Link::Error(code) => error_of(alloc, code),
             Link::Forged(digits) => octets(alloc, digits),
+            Link::ForgedOnce(digits) if !is_later => octets(alloc, digits),
             Link::Stale => Ok(Vec::from_slice(alloc, &self.answered)?),
             _ => ask(alloc, &mut self.kdc, self.at, message, &mut self.answered),
         }
@@ -160,6 +167,10 @@ impl Exchange for JoinedExchange {
 
 fn silence() -> Error {
     Error::from(ErrorKind::TimedOut)
+}
+
+fn refusal() -> Error {
+    Error::from(ErrorKind::ConnectionRefused)
 }
 
 fn way_of(by: Transport, is_second: bool, last: &[u8], message: &[u8]) -> char {

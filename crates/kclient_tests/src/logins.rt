@@ -1,4 +1,5 @@
 //! First tickets, by passwords and keytabs, and those that are renewed and validated.
+use crate::joined::Link;
 use crate::runs::{KINIT, KINIT_V, KVNO, Run, expect_runs};
 use kclient_run::{FAILED, REFUSED};
 use std::test::Fail;
@@ -104,15 +105,28 @@ const FIRST: &[Run] = &[
             clocks differ\n",
         ..KINIT
     },
+    // a timestamp under the key of type 17, and a reply under that of type 18
+    Run {
+        line: "kclient kinit --kdc 192.0.2.1:88 --realm A.B --name w --keytab FILE:twotypes --cache FILE:cc",
+        link: Link::ForgedOnce(WANTED_BY_17),
+        held: "krbtgt/A.B 150 150 36150 - 00600000 18\n",
+        ..KINIT
+    },
     Run {
         line: "kclient kinit --kdc 192.0.2.1:88 --realm A.B --name u --cache cc --seed seed",
         input: "password",
         terminal: true,
         asked: "Password for u@A.B: ",
-        held: "krbtgt/A.B 150 150 36150 - 00600000 18\n",
+        held: "krbtgt/A.B 160 160 36160 - 00600000 18\n",
         ..KINIT
     },
 ];
+
+/// KRB-ERROR with code 25, whose PA-ETYPE-INFO2 names type 17 alone.
+const WANTED_BY_17: &str = "\
+        7e6c306aa003020105a10302011ea411180f32303234303130313030303030305aa503020100a603020119a9051b03412e42\
+        aa183016a003020102a10f300d1b066b72627467741b03412e42ac20041e301c301aa103020113a2130411300f300da00302\
+        0111a1061b04412e4277";
 
 const NO_KEY: Run = Run {
     status: REFUSED,

@@ -35,6 +35,12 @@ const SEVERAL: &[Run] = &[
         ways: "t#",
         ..TWO_KDCS_KVNO
     },
+    // the one that answered is asked first, and then the other
+    Run {
+        link: Link::FirstOnce,
+        ways: "uu=U",
+        ..TWO_KDCS
+    },
     // an error ends it
     Run {
         line: "kclient kvno --kdc 192.0.2.1:88 --kdc 192.0.2.2:89 --cache cc --name x --seed seed",
@@ -317,7 +323,7 @@ const BY_BAD_DEFAULTS: &[Run] = &[
         ..KVNO
     },
     Run {
-        line: "kclient klist --keytab other",
+        line: "kclient klist --keytab FILE:other",
         defaults: NOT_UTF8,
         out: "u@A.B version 1 type 17\nh@A.B version 2 type 18\n",
         ways: "",

@@ -111,6 +111,12 @@ const OTHER: &str = "\
         00003b00010003412e4200016800000001000000000200120020ae4d2884ce10d529a2cf467039c35399e53428d7ee6a607b\
         e2668a0a1825eb5900000002";
 
+/// The keys of `w`, of the types 18 and 17.
+const TWO_TYPES: &str = "\
+        05020000003b00010003412e4200017700000001000000000100120020404142434445464748494a4b4c4d4e4f5051525354\
+        55565758595a5b5c5d5e5f000000010000002b00010003412e42000177000000010000000001001100106061626364656667\
+        68696a6b6c6d6e6f00000001";
+
 /// A `krb5.conf` of `A.B`, and of a realm `N` whose KDC is named.
 const CONF: &[u8] = b"\
 # the realm of the tests
@@ -165,6 +171,7 @@ fn store(alloc: Global) -> Result<MemoryStore, Fail> {
     set_hex(alloc, &mut store, "keys", KEYS)?;
     set_hex(alloc, &mut store, "old", OLD)?;
     set_hex(alloc, &mut store, "other", OTHER)?;
+    set_hex(alloc, &mut store, "twotypes", TWO_TYPES)?;
     set_hex(alloc, &mut store, "oddkey", ODD_KEY)?;
     set_hex(alloc, &mut store, "noticket", NO_TICKET)?;
     Ok(store)

@@ -75,7 +75,7 @@ const OPENED: &[Run] = &[
         ..KVNO
     },
     Run {
-        line: "kclient kvno --kdc 192.0.2.1:88 --cache cc --seed seed --keytab keys --name h",
+        line: "kclient kvno --kdc 192.0.2.1:88 --cache FILE:cc --seed seed --keytab FILE:keys --name h",
         out: "h kvno 1, keytab entry valid\n",
         ways: "",
         ..KVNO
