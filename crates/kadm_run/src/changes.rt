@@ -2,7 +2,8 @@
 use crate::databases::{lock_database, make_change, open_database, write_database};
 use crate::order::{ChangeArgs, setting_of};
 use crate::passwords::new_password;
-use crate::stop::Stop;
+use crate::reason::Reason;
+use crate::stop::{Stop, of_realm};
 use enctypes::Etype;
 use file_store::{Store, has_file, read_or_draw_seed};
 use krb_elements::KerberosString;
@@ -21,8 +22,10 @@ pub(crate) fn make_realm<'p, T: Store>(
     seed: Option<&'p str>,
     etypes: &[Etype],
 ) -> Result<(), Stop<'p>> {
-    let realm = component_from_text(alloc, realm)?;
-    make_new_realm(alloc, store, db, &realm, seed, etypes)
+    match component_from_text(alloc, realm) {
+        Ok(realm) => make_new_realm(alloc, store, db, &realm, seed, etypes),
+        Err(fault) => Err(of_realm(fault)),
+    }
 }
 
 fn make_new_realm<'p, T: Store>(
@@ -35,7 +38,7 @@ fn make_new_realm<'p, T: Store>(
 ) -> Result<(), Stop<'p>> {
     lock_database(alloc, store, db)?;
     if has_file(store, db)? {
-        return Err(Stop::Refused("Exists"));
+        return Err(Stop::Refused(Reason::FileExists));
     }
     let keys = random_keys(alloc, etypes, read_or_draw_seed(alloc, store, seed)?)?;
     let database = Database::first(alloc, realm.as_slice(), keys)?;
@@ -77,16 +80,7 @@ fn change_in<'p, T: Store>(
         ChangeArgs::Random { seed } => {
             give_random_keys(alloc, store, db, database, who, seed, etypes)
         }
-        ChangeArgs::Drop { version } => {
-            make_change(
-                alloc,
-                store,
-                db,
-                database,
-                who,
-                RowChange::DropKeys(version),
-            )
-        }
+        ChangeArgs::Drop { version } => drop_keys(alloc, store, db, database, who, version),
         ChangeArgs::Policy { field, value } => {
             set_policy(alloc, store, db, database, who, field, value)
         }
@@ -157,6 +151,36 @@ fn give_random_keys<'p, T: Store>(
         RowChange::Add(keys)
     };
     make_change(alloc, store, db, database, who, what)
+}
+
+/// Drops the keys of an old version.
+fn drop_keys<'p, T: Store>(
+    alloc: Global,
+    store: &mut T,
+    db: &'p str,
+    database: &mut Database,
+    who: Name,
+    version: u32,
+) -> Result<(), Stop<'p>> {
+    if lacks_version(database, &who, version) {
+        return Err(Stop::Refused(Reason::NoVersion));
+    }
+    make_change(
+        alloc,
+        store,
+        db,
+        database,
+        who,
+        RowChange::DropKeys(version),
+    )
+}
+
+/// Whether a principal is there, but no such version of it.
+fn lacks_version(database: &Database, who: &Name, version: u32) -> bool {
+    match database.get(who) {
+        Some(row) => row.versions.find(version).is_none(),
+        None => false,
+    }
 }
 
 fn set_policy<'p, T: Store>(

@@ -1,4 +1,5 @@
 //! The database in its file.
+use crate::reason::Reason;
 use crate::stop::Stop;
 use file_store::{Store, lock_file, read_at_most, write_file};
 use krb_fields::Name;
@@ -15,7 +16,7 @@ pub(crate) fn lock_database<'p, T: Store>(
     if lock_file(alloc, store, db)? {
         Ok(())
     } else {
-        Err(Stop::Refused("Locked"))
+        Err(Stop::Refused(Reason::Locked))
     }
 }
 
@@ -36,7 +37,7 @@ pub(crate) fn read_database<'p, T: Store>(
 ) -> Result<Database, Stop<'p>> {
     let octets = read_at_most(alloc, store, db, LONGEST_TEXT)?;
     let Ok(text) = str::from_utf8(&octets) else {
-        return Err(Stop::Refused("NotJson"));
+        return Err(Stop::Refused(Reason::NotJson));
     };
     Ok(Database::read(alloc, text)?)
 }

@@ -1,6 +1,7 @@
 //! The command that writes a keytab.
 use crate::databases::open_database;
 use crate::joining::joined;
+use crate::reason::Reason;
 use crate::stop::Stop;
 use cred_files::{Keytab, KeytabEntry};
 use enctypes::Key;
@@ -34,7 +35,7 @@ fn write_keys<'p, T: Store>(
     append: bool,
 ) -> Result<(), Stop<'p>> {
     if has_lock(alloc, store, path)? {
-        return Err(Stop::Refused("IsDatabase"));
+        return Err(Stop::Refused(Reason::IsDatabase));
     }
     let old = read_old(alloc, store, path, append)?;
     let octets = keytab_behind(alloc, database, name, old)?;

@@ -10,6 +10,7 @@ mod keytabs;
 mod listing;
 mod order;
 mod passwords;
+mod reason;
 mod run;
 mod stop;
 

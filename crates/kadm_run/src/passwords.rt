@@ -1,4 +1,5 @@
 //! Passwords that are set.
+use crate::reason::Reason;
 use crate::stop::Stop;
 use file_store::{Store, ask_password, read_password};
 use krb_fields::component_to_text;
@@ -23,7 +24,7 @@ pub(crate) fn new_password<'p, T: Store>(
     }
     let again = ask_password(alloc, store, name, &realm)?;
     if again != pass {
-        return Err(Stop::Refused("Mismatch"));
+        return Err(Stop::Refused(Reason::Mismatch));
     }
     Ok(pass)
 }

@@ -27,8 +27,8 @@ pub const USAGE: u8 = 2;
 /// The status of a command that a file, or want of memory, failed.
 pub const FAILED: u8 = 3;
 
-/// Does what a command line says, the program's name in front. What came of it goes to `writer`; which file failed it,
-/// and why, to `errors`. The status is `DONE`, `REFUSED`, `USAGE` or `FAILED`; but for `DONE` the files are as they
+/// Does what a command line says, the program's name in front. What came of it goes to `writer`; what refused or failed
+/// it, and why, to `errors`. The status is `DONE`, `REFUSED`, `USAGE` or `FAILED`; but for `DONE` the files are as they
 /// were.
 pub fn kadm_run<S: AsStr, T: Store, W: Write + Drop, E: Write + Drop>(
     alloc: Global,
@@ -45,50 +45,42 @@ pub fn kadm_run<S: AsStr, T: Store, W: Write + Drop, E: Write + Drop>(
     let Ok(mut errors) = BufWriter::new(alloc, errors) else {
         return FAILED;
     };
-    run_and_report(alloc, args, store, &mut out, &mut errors).unwrap_or(FAILED)
+    let matches = read_args(alloc, args);
+    run_and_report(alloc, &matches, store, &mut out, &mut errors).unwrap_or(FAILED)
 }
 
-/// The status; an error is a failed write.
-fn run_and_report<S: AsStr, T: Store, W: Write, E: Write>(
+/// The status; an error is a failed write of what is printed.
+fn run_and_report<T: Store, W: Write, E: Write>(
     alloc: Global,
-    args: &[S],
+    matches: &Result<ArgMatches<'_>, Error>,
     store: &mut T,
     out: &mut W,
     errors: &mut E,
 ) -> io::Result<u8>
     ensures { IfOk result (λ status. status ≤ 3) }
 {
-    let status = match run_to_end(alloc, args, store, out) {
+    let status = match run_to_end(alloc, matches, store, out) {
         Ok(()) => DONE,
-        Err(stop) => report(out, errors, stop)?,
+        Err(stop) => report(out, errors, matches, stop)?,
     };
     // the errors first: they tell of an output that is not taken
-    errors.flush()?;
+    let _ = errors.flush();
     out.flush()?;
     Ok(status)
 }
 
 /// Does what the words say, up to where all that it prints is taken.
-fn run_to_end<'a, S: AsStr, T: Store, W: Write>(
+fn run_to_end<'a, T: Store, W: Write>(
     alloc: Global,
-    args: &'a [S],
+    matches: &Result<ArgMatches<'a>, Error>,
     store: &mut T,
     out: &mut W,
 ) -> Result<(), Stop<'a>> {
-    run_args(alloc, args, store, out)?;
-    Ok(out.flush()?)
-}
-
-fn run_args<'a, S: AsStr, T: Store, W: Write>(
-    alloc: Global,
-    args: &'a [S],
-    store: &mut T,
-    out: &mut W,
-) -> Result<(), Stop<'a>> {
-    match read_args(alloc, args) {
-        Ok(matches) => run_matches(alloc, &matches, store, out),
-        Err(error) => print_args_fault(out, &error),
+    match matches {
+        Ok(matches) => run_matches(alloc, matches, store, out)?,
+        Err(error) => print_args_fault(out, error)?,
     }
+    Ok(out.flush()?)
 }
 
 /// Prints what is wrong with the words, or the help that they ask for.

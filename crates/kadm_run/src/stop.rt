@@ -1,7 +1,10 @@
 //! Why a command ends before it is done, and what it then prints.
 ghost use Rattle.std.specs.Prelude.{◌≤◌, IfOk};
 
+use crate::reason::Reason;
 use crate::run::{FAILED, REFUSED, USAGE};
+use clap::ArgMatches;
+use clap::error::Error;
 use file_store::{Amiss, FileFault};
 use krb_fields::NameFault;
 use principals::{ChangeFault, FirstFault, ReadFault};
@@ -20,8 +23,7 @@ const STANDARD_OUTPUT: &str = "standard output";
 pub(crate) enum Stop<'p> {
     /// The words are at fault, and that has been printed.
     Usage,
-    /// The word that stands for the reason.
-    Refused(&'static str),
+    Refused(Reason),
     /// A file is refused or failed, or what stands in place of one.
     File(FileFault<'p>),
 }
@@ -54,10 +56,11 @@ impl From<io::Error> for Stop<'_> {
     }
 }
 
+/// Of a principal.
 impl From<NameFault> for Stop<'_> {
     fn from(fault: NameFault) -> Self {
         match fault {
-            NameFault::BadName => Stop::Refused("BadName"),
+            NameFault::BadName => Stop::Refused(Reason::BadName),
             NameFault::Memory => Stop::from(AllocError),
         }
     }
@@ -65,9 +68,12 @@ impl From<NameFault> for Stop<'_> {
 
 impl From<ReadFault> for Stop<'_> {
     fn from(fault: ReadFault) -> Self {
-        match fault.refusal() {
-            Some(word) => Stop::Refused(word),
-            None => Stop::from(AllocError),
+        match fault {
+            ReadFault::NotJson => Stop::Refused(Reason::NotJson),
+            ReadFault::BadVersion => Stop::Refused(Reason::BadVersion),
+            ReadFault::BadRow => Stop::Refused(Reason::BadRow),
+            ReadFault::NoTicketGranter => Stop::Refused(Reason::NoTicketGranter),
+            ReadFault::Memory => Stop::from(AllocError),
         }
     }
 }
@@ -75,8 +81,13 @@ impl From<ReadFault> for Stop<'_> {
 impl From<ChangeFault> for Stop<'_> {
     fn from(fault: ChangeFault) -> Self {
         match fault {
+            ChangeFault::BadName => Stop::Refused(Reason::BadName),
+            ChangeFault::Exists => Stop::Refused(Reason::Exists),
+            ChangeFault::Protected => Stop::Refused(Reason::Protected),
+            ChangeFault::Absent => Stop::Refused(Reason::Absent),
+            ChangeFault::LastVersion => Stop::Refused(Reason::LastVersion),
+            ChangeFault::CurrentKeys => Stop::Refused(Reason::CurrentKeys),
             ChangeFault::Memory => Stop::from(AllocError),
-            fault => Stop::Refused(fault.name()),
         }
     }
 }
@@ -84,7 +95,7 @@ impl From<ChangeFault> for Stop<'_> {
 impl From<FirstFault> for Stop<'_> {
     fn from(fault: FirstFault) -> Self {
         match fault {
-            FirstFault::BadName => Stop::Refused("BadName"),
+            FirstFault::BadName => Stop::Refused(Reason::BadRealm),
             FirstFault::Memory => Stop::from(AllocError),
         }
     }
@@ -93,9 +104,9 @@ impl From<FirstFault> for Stop<'_> {
 impl From<cred_files::FileFault> for Stop<'_> {
     fn from(fault: cred_files::FileFault) -> Self {
         match fault {
-            cred_files::FileFault::BadMagic => Stop::Refused("BadMagic"),
-            cred_files::FileFault::Truncated => Stop::Refused("Truncated"),
-            cred_files::FileFault::BadEntry => Stop::Refused("BadEntry"),
+            cred_files::FileFault::BadMagic => Stop::Refused(Reason::BadMagic),
+            cred_files::FileFault::Truncated => Stop::Refused(Reason::Truncated),
+            cred_files::FileFault::BadEntry => Stop::Refused(Reason::BadEntry),
             // the others are of caches
             _ => Stop::from(AllocError),
         }
@@ -108,29 +119,56 @@ impl<'p> From<FileFault<'p>> for Stop<'p> {
     }
 }
 
-/// Prints why a command ended early: a word for programs to `out`; to `errors` which file it was of, and why. The
-/// result is the status.
+/// What is wrong with the text of a realm.
+pub(crate) fn of_realm(fault: NameFault) -> Stop<'static> {
+    match fault {
+        NameFault::BadName => Stop::Refused(Reason::BadRealm),
+        NameFault::Memory => Stop::from(AllocError),
+    }
+}
+
+/// Prints why a command ended early: a word for programs to `out`; to `errors` what it was of, and why. The result is
+/// the status.
 pub(crate) fn report<W: Write, E: Write>(
     out: &mut W,
     errors: &mut E,
+    matches: &Result<ArgMatches<'_>, Error>,
     stop: Stop<'_>,
 ) -> io::Result<u8>
     ensures { IfOk result (λ status. status ≤ 3) }
 {
     match stop {
         Stop::Usage => Ok(USAGE),
-        Stop::Refused(name) => print_refusal(out, name),
+        Stop::Refused(reason) => {
+            tell_reason(errors, word_of(matches, reason.option()), reason);
+            print_refusal(out, reason.name())
+        }
         Stop::File(fault) => {
-            writeln!(errors, "kadm: {fault}")?;
+            let _ = writeln!(errors, "kadm: {fault}");
             match fault.amiss.refusal() {
                 Some(name) => print_refusal(out, name),
-                None => {
-                    writeln!(out, "failed")?;
-                    Ok(FAILED)
-                }
+                None => print_failure(out),
             }
         }
     }
+}
+
+/// The word of an option, if it is not empty.
+fn word_of<'a>(matches: &Result<ArgMatches<'a>, Error>, option: &str) -> Option<&'a str> {
+    let Ok(matches) = matches else {
+        return None;
+    };
+    let (_, args) = matches.subcommand()?;
+    let word = args.get_str(option)?;
+    if word.is_empty() { None } else { Some(word) }
+}
+
+/// Says of what a refusal is, and what it means. Where that can't be written there is no one to tell.
+fn tell_reason<E: Write>(errors: &mut E, word: Option<&str>, reason: Reason) {
+    let _ = match word {
+        Some(word) => writeln!(errors, "kadm: {word}: {}", reason.text()),
+        None => writeln!(errors, "kadm: --{}: {}", reason.option(), reason.text()),
+    };
 }
 
 fn print_refusal<W: Write>(out: &mut W, name: &str) -> io::Result<u8>
@@ -138,4 +176,11 @@ fn print_refusal<W: Write>(out: &mut W, name: &str) -> io::Result<u8>
 {
     writeln!(out, "refused {name}")?;
     Ok(REFUSED)
+}
+
+fn print_failure<W: Write>(out: &mut W) -> io::Result<u8>
+    ensures { IfOk result (λ status. status ≤ 3) }
+{
+    writeln!(out, "failed")?;
+    Ok(FAILED)
 }

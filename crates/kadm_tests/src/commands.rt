@@ -1,6 +1,6 @@
 //! Command lines over files in memory.
 use crate::steps::Step::{
-    Absent, Copy, FailsAtEach, Holds, IsAtFault, Leaves, Put, PutTooLong, Run,
+    Absent, Copy, FailsAtEach, Holds, Input, IsAtFault, Keep, Leaves, Put, PutTooLong, Refuses, Run,
 };
 use crate::steps::{Step, file_after, run};
 use cred_files::Keytab;
@@ -64,48 +64,172 @@ fn a_realm_is_made_changed_and_listed(rt: HostRuntime) -> io::Result<()> {
     run(&rt, rt.alloc(), CHANGES)
 }
 
+/// A database whose keys have the last version.
+const LAST: &[u8] = b"\
+        {\"principals\":{\"krbtgt/A.B\":{\"disabled\":false,\"expires\":null,\"forwardable\":true,\
+        \"greatest_life\":4294967295,\"greatest_renewable\":4294967295,\"keys\":[{\"keys\":[{\"etype\":17,\
+        \"key\":\"000102030405060708090a0b0c0d0e0f\"}],\"version\":4294967295}],\"ok_as_delegate\":false,\
+        \"password_expires\":null,\"postdate\":false,\"preauth\":true,\"proxiable\":true,\"revoked_before\":null}},\
+        \"realm\":\"A.B\",\"version\":2}";
+
+/// Each refusal, in a word and in words.
 const REFUSALS: &[Step] = &[
     Run(INIT, "ok\n", DONE),
     Copy("db", "before"),
+    Put("last", LAST),
+    Put("last.lock", b""),
     Put("latin", b"\xff"),
-    PutTooLong("big"),
-    Leaves(
-        "kadm remove --db db --name krbtgt/A.B",
-        "refused Protected\n",
-        REFUSED,
+    Put("empty", b"{}"),
+    Put("rows", b"{\"version\":2}"),
+    Put(
+        "bare",
+        b"{\"principals\":{},\"realm\":\"A.B\",\"version\":2}",
     ),
-    Leaves(
+    Put("cut", b"\x05\x02\x00"),
+    Put("entry", b"\x05\x02\x00\x00\x00\x01\x00"),
+    PutTooLong("big"),
+    Refuses(
+        "kadm random --db db --name x --seed short",
+        "refused ShortSeed\n",
+        "kadm: short: it has fewer than 32 octets\n",
+    ),
+    Refuses(
+        "kadm add --db db --name x --password-file long",
+        "refused LongPassword\n",
+        "kadm: long: its first line has more than 1024 octets\n",
+    ),
+    Refuses(
+        "kadm add --db db --name x --password-file big",
+        "refused LongFile\n",
+        "kadm: big: it has more octets than are taken\n",
+    ),
+    Refuses(
         "kadm remove --db db --name u//v",
         "refused BadName\n",
-        REFUSED,
+        "kadm: u//v: no name is written so; it stands without @REALM\n",
     ),
-    Leaves(
-        "kadm init --db other --realm A/B --seed seed",
+    Refuses(
+        "kadm show --db db --name u@A.B",
         "refused BadName\n",
-        REFUSED,
+        "kadm: u@A.B: no name is written so; it stands without @REALM\n",
     ),
-    Leaves(
-        "kadm random --db db --name h --seed short",
-        "refused ShortSeed\n",
-        REFUSED,
+    Refuses(
+        "kadm random --db db --name ",
+        "refused BadName\n",
+        "kadm: --name: no name is written so; it stands without @REALM\n",
     ),
-    Leaves(
-        "kadm add --db db --name h --password-file long",
-        "refused LongPassword\n",
-        REFUSED,
+    Refuses(
+        "kadm init --db other --realm A/B",
+        "refused BadName\n",
+        "kadm: A/B: no realm is written so; it is one component of 1 to 255 octets\n",
     ),
-    Leaves(
-        "kadm add --db db --name h --password-file big",
-        "refused LongFile\n",
-        REFUSED,
+    Refuses(
+        "kadm init --db db --realm A.B",
+        "refused Exists\n",
+        "kadm: db: it is there already\n",
     ),
-    Leaves("kadm list --db latin", "refused NotJson\n", REFUSED),
-    Leaves("kadm list --db pass", "refused NotJson\n", REFUSED),
-    Leaves("kadm list --db absent", "failed\n", FAILED),
-    Leaves(
-        "kadm keytab --db db --name h --out kt",
+    Refuses(
+        "kadm add --db db --name krbtgt/A.B --password-file pass --types 17",
+        "refused Exists\n",
+        "kadm: krbtgt/A.B: it is there already\n",
+    ),
+    Refuses(
+        "kadm remove --db db --name krbtgt/A.B",
+        "refused Protected\n",
+        "kadm: krbtgt/A.B: the realm's tickets are made with its keys, so it stays\n",
+    ),
+    Refuses(
+        "kadm drop --db db --name x --version 1",
         "refused Absent\n",
-        REFUSED,
+        "kadm: x: no such principal is in the database\n",
+    ),
+    Refuses(
+        "kadm policy --db db --name x --field preauth --value true",
+        "refused Absent\n",
+        "kadm: x: no such principal is in the database\n",
+    ),
+    Refuses(
+        "kadm show --db db --name x",
+        "refused Absent\n",
+        "kadm: x: no such principal is in the database\n",
+    ),
+    Refuses(
+        "kadm keytab --db db --name x --out kt",
+        "refused Absent\n",
+        "kadm: x: no such principal is in the database\n",
+    ),
+    Refuses(
+        "kadm drop --db db --name krbtgt/A.B --version 7",
+        "refused Absent\n",
+        "kadm: krbtgt/A.B: it has no keys of this version\n",
+    ),
+    Refuses(
+        "kadm drop --db db --name krbtgt/A.B --version 1",
+        "refused CurrentKeys\n",
+        "kadm: krbtgt/A.B: its keys of this version are the current ones, which stay\n",
+    ),
+    Refuses(
+        "kadm random --db last --name krbtgt/A.B",
+        "refused LastVersion\n",
+        "kadm: krbtgt/A.B: its keys have the last version, 4294967295\n",
+    ),
+    Refuses(
+        "kadm list --db latin",
+        "refused NotJson\n",
+        "kadm: latin: it is no database: its text is no JSON object\n",
+    ),
+    Refuses(
+        "kadm list --db pass",
+        "refused NotJson\n",
+        "kadm: pass: it is no database: its text is no JSON object\n",
+    ),
+    Refuses(
+        "kadm list --db empty",
+        "refused BadVersion\n",
+        "kadm: empty: it is no database of version 1 or 2\n",
+    ),
+    Refuses(
+        "kadm migrate --db rows",
+        "refused BadRow\n",
+        "kadm: rows: its realm, or a row, is amiss\n",
+    ),
+    Refuses(
+        "kadm list --db bare",
+        "refused NoTicketGranter\n",
+        "kadm: bare: it has no row of krbtgt/REALM\n",
+    ),
+    Refuses(
+        "kadm keytab --db db --name krbtgt/A.B --out last",
+        "refused IsDatabase\n",
+        "kadm: last: a lock stands beside it, as beside a database\n",
+    ),
+    Refuses(
+        "kadm keytab --db db --name krbtgt/A.B --out pass --append",
+        "refused BadMagic\n",
+        "kadm: pass: it is no keytab of version 2\n",
+    ),
+    Refuses(
+        "kadm keytab --db db --name krbtgt/A.B --out cut --append",
+        "refused Truncated\n",
+        "kadm: cut: it ends too early\n",
+    ),
+    Refuses(
+        "kadm keytab --db db --name krbtgt/A.B --out entry --append",
+        "refused BadEntry\n",
+        "kadm: entry: an entry is amiss, or has no room in a keytab\n",
+    ),
+    Leaves("kadm list --db absent", "failed\n", FAILED),
+    Input(b"password\npasswort\n", true),
+    Refuses(
+        "kadm add --db db --name u",
+        "refused Mismatch\n",
+        "kadm: u: the two passwords differ\n",
+    ),
+    Keep,
+    Refuses(
+        "kadm remove --db db --name x",
+        "refused Locked\n",
+        "kadm: db: another command works on it\n",
     ),
     Absent("kt"),
     Absent("other"),
@@ -175,6 +299,12 @@ const FAULTS: &[Step] = &[
         "kadm random --db db --name u --seed seed --types=",
         "--types",
     ),
+    IsAtFault("kadm random --db db --name u --seed ", "--seed"),
+    IsAtFault(
+        "kadm add --db db --name u --password-file ",
+        "--password-file",
+    ),
+    IsAtFault("kadm keytab --db db --name u --out ", "--out"),
     IsAtFault("kadm init --db db --realm A.B --types 18", "--types"),
     IsAtFault(
         "kadm keytab --db db --name u --out kt --append=1",

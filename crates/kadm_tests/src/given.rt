@@ -9,6 +9,8 @@ use std::io;
 
 const ADD: &str = "kadm add --db db --name u";
 
+const PASSWD: &str = "kadm passwd --db db --name u";
+
 const ADD_BY_FILE: &str = "kadm add --db db --name u --password-file pass";
 
 const DRAWS: &[Step] = &[
@@ -45,6 +47,16 @@ const LINES: &[Step] = &[
     Input(b"password", false),
     Run(ADD, "ok\n", DONE),
     Same("db", "wanted"),
+    Run(
+        "kadm passwd --db db --name u --password-file pass",
+        "ok\n",
+        DONE,
+    ),
+    Copy("db", "renewed"),
+    Copy("wanted", "db"),
+    Input(b"password\nmore", false),
+    Run(PASSWD, "ok\n", DONE),
+    Same("db", "renewed"),
     Asked(""),
 ];
 
@@ -83,10 +95,7 @@ const ENDED_INPUTS: &[Step] = &[
     Letters(1_024),
     Run(ADD, "ok\n", DONE),
     Input(b"", false),
-    Says(
-        "kadm passwd --db db --name u",
-        "kadm: standard input: unexpected end of file\n",
-    ),
+    Says(PASSWD, "kadm: standard input: unexpected end of file\n"),
     Says("kadm list --db absent", "kadm: absent: entity not found\n"),
 ];
 

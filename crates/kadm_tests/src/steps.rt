@@ -2,7 +2,7 @@
 //!
 //! A store is let go in `file_after` alone, and all else borrows it: proofs about its end take long for each place.
 use file_store::{LONGEST_FILE, MemoryStore};
-use kadm_run::{DONE, FAILED, USAGE, kadm_run};
+use kadm_run::{DONE, FAILED, REFUSED, USAGE, kadm_run};
 use principal_rows::Policy;
 use std::alloc::{AllocError, Global};
 use std::io;
@@ -16,6 +16,8 @@ pub enum Step {
     Run(&'static str, &'static str, u8),
     /// The same, and it leaves `db` as `before` is.
     Leaves(&'static str, &'static str, u8),
+    /// A command line is refused so, writes this to standard error, and leaves `db` as `before` is.
+    Refuses(&'static str, &'static str, &'static str),
     /// So does a command line at each of so many calls of the store, if that call fails.
     FailsAtEach(&'static str, u32),
     /// A command line that ends early writes this to standard error.
@@ -92,14 +94,6 @@ fn text(octets: &[u8]) -> &str {
     str::from_utf8(octets).unwrap_or("")
 }
 
-/// Whether it is a file that was refused.
-fn is_of_file(printed: &str) -> bool {
-    matches!(
-        printed,
-        "refused LongFile\n" | "refused ShortSeed\n" | "refused LongPassword\n"
-    )
-}
-
 fn expect_run(
     rt: &impl Abort,
     alloc: Global,
@@ -111,8 +105,8 @@ fn expect_run(
     let ended = run_line(alloc, store, line)?;
     assert_eq!(rt; text(&ended.written), printed, "{line}");
     assert_eq!(rt; ended.status, status, "{line}");
-    // which file failed is said beside, and of nothing that was done
-    let is_quiet = status != FAILED && !is_of_file(printed);
+    // what is not done is told beside, but for a fault of the words
+    let is_quiet = status == DONE || status == USAGE;
     assert!(rt; ended.errors.is_empty() == is_quiet, "{line}");
     Ok(())
 }
@@ -126,6 +120,22 @@ fn expect_left(
     status: u8,
 ) -> io::Result<()> {
     expect_run(rt, alloc, store, line, printed, status)?;
+    assert!(rt; are_same(store, "db", "before"), "{line}");
+    Ok(())
+}
+
+fn expect_refusal(
+    rt: &impl Abort,
+    alloc: Global,
+    store: &mut MemoryStore,
+    line: &str,
+    printed: &str,
+    said: &str,
+) -> io::Result<()> {
+    let ended = run_line(alloc, store, line)?;
+    assert_eq!(rt; ended.status, REFUSED, "{line}");
+    assert_eq!(rt; text(&ended.written), printed, "{line}");
+    assert_eq!(rt; text(&ended.errors), said, "{line}");
     assert!(rt; are_same(store, "db", "before"), "{line}");
     Ok(())
 }
@@ -235,6 +245,7 @@ fn do_step(rt: &impl Abort, alloc: Global, store: &mut MemoryStore, step: Step) 
     match step {
         Step::Run(line, printed, status) => expect_run(rt, alloc, store, line, printed, status),
         Step::Leaves(line, printed, status) => expect_left(rt, alloc, store, line, printed, status),
+        Step::Refuses(line, printed, said) => expect_refusal(rt, alloc, store, line, printed, said),
         Step::FailsAtEach(line, calls) => expect_failures(rt, alloc, store, line, calls),
         Step::Says(line, said) => expect_error(rt, alloc, store, line, said),
         Step::IsAtFault(line, said) => expect_fault(rt, alloc, store, line, said),

@@ -1,0 +1,103 @@
+//! Why a command is refused, in a word and in words.
+
+/// Why a command is refused.
+#[derive(Clone, Copy)]
+pub(crate) enum Reason {
+    /// What stands for a principal is no name.
+    BadName,
+    /// What stands for a realm is none.
+    BadRealm,
+    /// Another command works on the database.
+    Locked,
+    /// The file of a new realm is there already.
+    FileExists,
+    NotJson,
+    BadVersion,
+    BadRow,
+    NoTicketGranter,
+    /// A password that is given twice is another the second time.
+    Mismatch,
+    Exists,
+    Protected,
+    /// There is no such principal.
+    Absent,
+    /// The principal has no such version.
+    NoVersion,
+    LastVersion,
+    CurrentKeys,
+    /// A keytab would replace a database.
+    IsDatabase,
+    BadMagic,
+    Truncated,
+    BadEntry,
+}
+
+impl Reason {
+    /// The word for it on standard output.
+    pub(crate) fn name(self) -> &'static str {
+        match self {
+            Reason::BadName | Reason::BadRealm => "BadName",
+            Reason::Locked => "Locked",
+            Reason::FileExists | Reason::Exists => "Exists",
+            Reason::NotJson => "NotJson",
+            Reason::BadVersion => "BadVersion",
+            Reason::BadRow => "BadRow",
+            Reason::NoTicketGranter => "NoTicketGranter",
+            Reason::Mismatch => "Mismatch",
+            Reason::Protected => "Protected",
+            Reason::Absent | Reason::NoVersion => "Absent",
+            Reason::LastVersion => "LastVersion",
+            Reason::CurrentKeys => "CurrentKeys",
+            Reason::IsDatabase => "IsDatabase",
+            Reason::BadMagic => "BadMagic",
+            Reason::Truncated => "Truncated",
+            Reason::BadEntry => "BadEntry",
+        }
+    }
+
+    /// What it means, for standard error.
+    pub(crate) fn text(self) -> &'static str {
+        match self {
+            Reason::BadName => "no name is written so; it stands without @REALM",
+            Reason::BadRealm => "no realm is written so; it is one component of 1 to 255 octets",
+            Reason::Locked => "another command works on it",
+            Reason::FileExists | Reason::Exists => "it is there already",
+            Reason::NotJson => "it is no database: its text is no JSON object",
+            Reason::BadVersion => "it is no database of version 1 or 2",
+            Reason::BadRow => "its realm, or a row, is amiss",
+            Reason::NoTicketGranter => "it has no row of krbtgt/REALM",
+            Reason::Mismatch => "the two passwords differ",
+            Reason::Protected => "the realm's tickets are made with its keys, so it stays",
+            Reason::Absent => "no such principal is in the database",
+            Reason::NoVersion => "it has no keys of this version",
+            Reason::LastVersion => "its keys have the last version, 4294967295",
+            Reason::CurrentKeys => "its keys of this version are the current ones, which stay",
+            Reason::IsDatabase => "a lock stands beside it, as beside a database",
+            Reason::BadMagic => "it is no keytab of version 2",
+            Reason::Truncated => "it ends too early",
+            Reason::BadEntry => "an entry is amiss, or has no room in a keytab",
+        }
+    }
+
+    /// The option whose word it is of.
+    pub(crate) fn option(self) -> &'static str {
+        match self {
+            Reason::BadRealm => "realm",
+            Reason::Locked
+            | Reason::FileExists
+            | Reason::NotJson
+            | Reason::BadVersion
+            | Reason::BadRow
+            | Reason::NoTicketGranter => "db",
+            Reason::IsDatabase | Reason::BadMagic | Reason::Truncated | Reason::BadEntry => "out",
+            Reason::BadName
+            | Reason::Mismatch
+            | Reason::Exists
+            | Reason::Protected
+            | Reason::Absent
+            | Reason::NoVersion
+            | Reason::LastVersion
+            | Reason::CurrentKeys => "name",
+        }
+    }
+}
