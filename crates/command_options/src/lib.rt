@@ -8,6 +8,9 @@ use std::alloc::{AllocError, Global};
 /// The shape of a file's path. An empty word is none, and a fault of the command line that names the option.
 const FILE: &str = "FILE";
 
+/// The version of the programs, which `--version` prints behind a program's name.
+pub const VERSION: &str = "0.1.0";
+
 /// How often an option stands on a command line.
 #[derive(Clone, Copy, Debug, PartialEq, Eq)]
 pub enum Times {
@@ -33,7 +36,7 @@ impl Times {
 }
 
 /// The words of an option with a value.
-#[derive(Clone, Copy, Debug)]
+#[derive(Clone, Copy)]
 pub struct OptionRow {
     /// What stands behind `--`, and the name by which its value is found.
     pub name: &'static str,
@@ -45,14 +48,14 @@ pub struct OptionRow {
 }
 
 /// The words of an option without a value, which is there or not.
-#[derive(Clone, Copy, Debug)]
+#[derive(Clone, Copy)]
 pub struct FlagRow {
     pub name: &'static str,
     pub help: &'static str,
 }
 
 /// The words of a subcommand.
-#[derive(Clone, Copy, Debug)]
+#[derive(Clone, Copy)]
 pub struct SubcommandRow {
     pub name: &'static str,
     /// What it does.
@@ -61,13 +64,13 @@ pub struct SubcommandRow {
     pub flags: &'static [FlagRow],
 }
 
-/// The command, with these subcommands, of which one has to be there.
+/// The command with its version and these subcommands, of which one has to be there.
 pub fn with_subcommands<'a>(
     alloc: Global,
     command: Command<'a>,
     table: &[SubcommandRow],
 ) -> Result<Command<'a>, AllocError> {
-    let mut command = command.subcommand_required(true);
+    let mut command = command.version(VERSION).subcommand_required(true);
     for row in table {
         command = command.subcommand(subcommand(alloc, row)?)?;
     }

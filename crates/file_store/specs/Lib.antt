@@ -1,2 +1,4 @@
 pub mod Counting
 pub mod Inputs
+pub mod Memory
+pub mod World

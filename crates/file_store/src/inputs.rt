@@ -1,9 +1,10 @@
 //! The files that a command reads and writes, and what it takes where no file is named. A fault says what it is of.
 ghost use Rattle.std.specs.Prelude.{◌≡◌, ◌≤◌, ◌<◌, IfErr, IfOk, IfNone, IfSome, length, take, vec_len};
-ghost use Rattle.std.specs.Prelude.{◌==◌};
+ghost use Rattle.std.specs.Prelude.{◌==◌, Option, OnOk, OnErr, Some, option_map};
 ghost use Rattle.std.specs.List.{position};
 ghost use Rattle.file_store.specs.Counting.{IsShown};
 ghost use Rattle.file_store.specs.Inputs.{first_line};
+ghost use Rattle.file_store.specs.World.{World, with_file, HasFirstLine, HasSeed, IsDrawn, IsRead, IsThere};
 
 use crate::faults::{Amiss, FileFault};
 use crate::store::{LONGEST_FILE, Store};
@@ -19,11 +20,16 @@ const LONGEST_PASSWORD: usize = 1_024;
 /// What stands in place of a path where a seed is the system's.
 const SYSTEM_SOURCE: &str = "the system's random octets";
 
+/// What stands in place of a path where a moment is the system's.
+const SYSTEM_CLOCK: &str = "the system's clock";
+
 /// What stands in place of a path where a password is not in a file.
 const STANDARD_INPUT: &str = "standard input";
 
 /// Whether there is a file.
 pub fn has_file<'p, S: Store>(store: &mut S, path: &'p str) -> Result<bool, FileFault<'p>>
+    ensures there { IfOk result (λ found. IsThere (S.world store.old) path.now found) }
+    ensures kept { S.world store.new ≡ S.world store.old }
     ensures named { IfErr result (λ fault. fault.path.now ≡ path.now) }
     ensures shown { IsShown (S.fault_count store.old) result (S.fault_count store.new) }
 {
@@ -43,6 +49,8 @@ pub fn read_file<'p, S: Store>(
     path: &'p str,
 ) -> Result<Vec<u8>, FileFault<'p>>
     ensures within { IfOk result (λ octets. vec_len octets ≤ 16777216) }
+    ensures read { IfOk result (λ octets. IsRead (S.world store.old) path.now octets.items) }
+    ensures kept { S.world store.new ≡ S.world store.old }
     ensures named { IfErr result (λ fault. fault.path.now ≡ path.now) }
     ensures shown { IsShown (S.fault_count store.old) result (S.fault_count store.new) }
 {
@@ -57,6 +65,8 @@ pub fn read_at_most<'p, S: Store>(
     most: usize,
 ) -> Result<Vec<u8>, FileFault<'p>>
     ensures within { IfOk result (λ octets. vec_len octets ≤ most) }
+    ensures read { IfOk result (λ octets. IsRead (S.world store.old) path.now octets.items) }
+    ensures kept { S.world store.new ≡ S.world store.old }
     ensures named { IfErr result (λ fault. fault.path.now ≡ path.now) }
     ensures shown { IsShown (S.fault_count store.old) result (S.fault_count store.new) }
 {
@@ -73,13 +83,16 @@ pub fn read_at_most<'p, S: Store>(
     }
 }
 
-/// Makes a file of these octets, in place of the one that is there. After an `Err` the path has what it had.
+/// Writes a new file, in place of the one that is there. Its owner alone may read and write it. After an `Err` the path
+/// has what it had.
 pub fn write_file<'p, S: Store>(
     alloc: Global,
     store: &mut S,
     path: &'p str,
     octets: &[u8],
 ) -> Result<(), FileFault<'p>>
+    ensures written { OnOk result (S.world store.new ≡ option_map (with_file path.now octets.now) (S.world store.old)) }
+    ensures kept { OnErr result (S.world store.new ≡ S.world store.old) }
     ensures named { IfErr result (λ fault. fault.path.now ≡ path.now) }
     ensures shown { IsShown (S.fault_count store.old) result (S.fault_count store.new) }
 {
@@ -92,12 +105,35 @@ pub fn write_file<'p, S: Store>(
     }
 }
 
-/// Keeps other commands from a file, until the store is let go. `false` where another one keeps it.
+/// Writes a file, and keeps the owner, the group and the mode of the one that is there. After an `Err` the path has what
+/// it had.
+pub fn update_file<'p, S: Store>(
+    alloc: Global,
+    store: &mut S,
+    path: &'p str,
+    octets: &[u8],
+) -> Result<(), FileFault<'p>>
+    ensures written { OnOk result (S.world store.new ≡ option_map (with_file path.now octets.now) (S.world store.old)) }
+    ensures kept { OnErr result (S.world store.new ≡ S.world store.old) }
+    ensures named { IfErr result (λ fault. fault.path.now ≡ path.now) }
+    ensures shown { IsShown (S.fault_count store.old) result (S.fault_count store.new) }
+{
+    match store.update(alloc, path, octets) {
+        Ok(()) => Ok(()),
+        Err(error) => Err(FileFault {
+            path,
+            amiss: Amiss::Failed(error),
+        }),
+    }
+}
+
+/// Takes the lock of a file, until the store is dropped. `false` if another program has it.
 pub fn lock_file<'p, S: Store>(
     alloc: Global,
     store: &mut S,
     path: &'p str,
 ) -> Result<bool, FileFault<'p>>
+    ensures kept { S.world store.new ≡ S.world store.old }
     ensures named { IfErr result (λ fault. fault.path.now ≡ path.now) }
     ensures shown { IsShown (S.fault_count store.old) result (S.fault_count store.new) }
 {
@@ -110,12 +146,28 @@ pub fn lock_file<'p, S: Store>(
     }
 }
 
+/// The whole seconds since the start of 1970.
+pub fn read_clock<S: Store>(store: &mut S) -> Result<u64, FileFault<'static>>
+    ensures kept { S.world store.new ≡ S.world store.old }
+    ensures shown { IsShown (S.fault_count store.old) result (S.fault_count store.new) }
+{
+    match store.seconds() {
+        Ok(seconds) => Ok(seconds),
+        Err(error) => Err(FileFault {
+            path: SYSTEM_CLOCK,
+            amiss: Amiss::Failed(error),
+        }),
+    }
+}
+
 /// The seed that a file holds: its first 32 octets.
 pub fn read_seed<'p, S: Store>(
     alloc: Global,
     store: &mut S,
     path: &'p str,
 ) -> Result<[u8; 32], FileFault<'p>>
+    ensures read { IfOk result (λ seed. HasSeed (S.world store.old) (Some path.now) seed) }
+    ensures kept { S.world store.new ≡ S.world store.old }
     ensures named { IfErr result (λ fault. fault.path.now ≡ path.now) }
     ensures shown { IsShown (S.fault_count store.old) result (S.fault_count store.new) }
 {
@@ -135,7 +187,9 @@ pub fn read_or_draw_seed<'p, S: Store>(
     store: &mut S,
     path: Option<&'p str>,
 ) -> Result<[u8; 32], FileFault<'p>>
-    ensures { IsShown (S.fault_count store.old) result (S.fault_count store.new) }
+    ensures seed { IfOk result (λ seed. HasSeed (S.world store.old) (option_map (λ named. named.now) path.entry) seed) }
+    ensures kept { S.world store.new ≡ S.world store.old }
+    ensures shown { IsShown (S.fault_count store.old) result (S.fault_count store.new) }
 {
     match path {
         Some(path) => read_seed(alloc, store, path),
@@ -145,7 +199,9 @@ pub fn read_or_draw_seed<'p, S: Store>(
 
 /// A seed of the system's own random octets.
 pub fn draw_seed<S: Store>(store: &mut S) -> Result<[u8; 32], FileFault<'static>>
-    ensures { IsShown (S.fault_count store.old) result (S.fault_count store.new) }
+    ensures drawn { IfOk result (λ seed. IsDrawn (S.world store.old) seed) }
+    ensures kept { S.world store.new ≡ S.world store.old }
+    ensures shown { IsShown (S.fault_count store.old) result (S.fault_count store.new) }
 {
     match store.random() {
         Ok(seed) => Ok(seed),
@@ -174,6 +230,8 @@ pub fn read_password<'p, S: Store>(
     path: &'p str,
 ) -> Result<Vec<u8>, FileFault<'p>>
     ensures within { IfOk result (λ pass. vec_len pass ≤ 1024) }
+    ensures line { IfOk result (λ pass. HasFirstLine (S.world store.old) path.now pass.items) }
+    ensures kept { S.world store.new ≡ S.world store.old }
     ensures named { IfErr result (λ fault. fault.path.now ≡ path.now) }
     ensures shown { IsShown (S.fault_count store.old) result (S.fault_count store.new) }
 {
@@ -198,6 +256,7 @@ pub fn ask_password<S: Store>(
     realm: &str,
 ) -> Result<Vec<u8>, FileFault<'static>>
     ensures within { IfOk result (λ pass. vec_len pass ≤ 1024) }
+    ensures kept { S.world store.new ≡ S.world store.old }
     ensures shown { IsShown (S.fault_count store.old) result (S.fault_count store.new) }
 {
     match ask_line(alloc, store, name, realm) {
@@ -220,6 +279,7 @@ fn ask_line<S: Store>(
     realm: &str,
 ) -> io::Result<Option<Vec<u8>>>
     ensures within { IfOk result (λ found. IfSome found (λ pass. vec_len pass ≤ 1024)) }
+    ensures kept { S.world store.new ≡ S.world store.old }
     ensures shown { IfOk result (λ _. S.fault_count store.new ≡ S.fault_count store.old) }
 {
     let question = format!(in alloc; "Password for {name}@{realm}: ")?;

@@ -1,5 +1,7 @@
 //! Files, random octets and an input in memory, for tests.
-ghost use Rattle.std.specs.Prelude.{◌≡◌, ◌≤◌, IfOk, IfSome, vec_len};
+ghost use Rattle.std.specs.Prelude.{◌≡◌, ◌≤◌, Some, IfOk, OnOk, OnErr, IfSome, vec_len, option_map, is_some};
+ghost use Rattle.file_store.specs.Memory.{file_at, world_of};
+ghost use Rattle.file_store.specs.World.{with_file};
 
 use crate::counting::counted;
 use crate::inputs::line_of;
@@ -18,9 +20,13 @@ struct StoredFile {
 /// Files in memory, for tests. One call can be made to fail.
 #[derive(Drop)]
 pub struct MemoryStore {
+    /// A file that was written again stands in front of what it had before.
     files: Vec<StoredFile>,
-    /// Whether another program keeps each file.
-    kept: bool,
+    /// For how many pauses another program has the lock of each file.
+    kept: u32,
+    /// How many pauses there were.
+    pauses: u32,
+    seconds: u64,
     random: [u8; 32],
     input: Vec<u8>,
     terminal: bool,
@@ -32,11 +38,13 @@ pub struct MemoryStore {
 }
 
 impl MemoryStore {
-    /// No files, random octets of zeros, and an input that has ended.
+    /// A store without files. Its random octets are zeros, its clock stands at 0, and its input has ended.
     pub fn new(alloc: Global) -> MemoryStore {
         MemoryStore {
             files: Vec::new(alloc),
-            kept: false,
+            kept: 0,
+            pauses: 0,
+            seconds: 0,
             random: [0; 32],
             input: Vec::new(alloc),
             terminal: false,
@@ -54,7 +62,9 @@ impl MemoryStore {
     }
 
     /// What a file holds.
-    pub fn get(&self, path: &str) -> Option<&[u8]> {
+    pub fn get(&self, path: &str) -> Option<&[u8]>
+        ensures { option_map (λ octets. octets.now) result ≡ file_at self.now.files.items path.now }
+    {
         for file in &self.files {
             if file.path.as_str() == path {
                 return Some(file.octets.as_slice());
@@ -64,13 +74,37 @@ impl MemoryStore {
     }
 
     /// Makes a file of these octets, in place of the one that is there.
-    pub fn set(&mut self, alloc: Global, path: &str, octets: &[u8]) -> Result<(), AllocError> {
-        put(alloc, &mut self.files, path, octets)
+    pub fn set(&mut self, alloc: Global, path: &str, octets: &[u8]) -> Result<(), AllocError>
+        ensures written { OnOk result (world_of self.new ≡ with_file path.now octets.now (world_of self.old)) }
+        ensures kept { OnErr result (world_of self.new ≡ world_of self.old) }
+        ensures faults { self.new.faults ≡ self.old.faults }
+    {
+        let file = StoredFile {
+            path: format!(in alloc; "{path}")?,
+            octets: Vec::from_slice(alloc, octets)?,
+        };
+        self.files.insert(0, file)?;
+        Ok(())
     }
 
-    /// Lets another program keep each file, or none.
+    /// Gives another program the lock of each file for so many pauses.
+    pub fn keep_for(&mut self, pauses: u32) {
+        self.kept = pauses;
+    }
+
+    /// Gives another program the lock of each file for good, or takes it away.
     pub fn keep(&mut self, kept: bool) {
-        self.kept = kept;
+        self.keep_for(if kept { u32::MAX } else { 0 });
+    }
+
+    /// How many pauses there were.
+    pub fn pauses(&self) -> u32 {
+        self.pauses
+    }
+
+    /// Sets the clock.
+    pub fn set_seconds(&mut self, seconds: u64) {
+        self.seconds = seconds;
     }
 
     /// Makes these the random octets of each call.
@@ -97,7 +131,8 @@ impl MemoryStore {
 
     /// Counts a call. One of them fails.
     fn call(&mut self) -> io::Result<()>
-        ensures { self.new.faults ≡ self.old.faults }
+        ensures world { world_of self.new ≡ world_of self.old }
+        ensures faults { self.new.faults ≡ self.old.faults }
     {
         self.calls = self.calls.wrapping_add(1);
         if self.calls == self.failing {
@@ -107,7 +142,9 @@ impl MemoryStore {
     }
 
     fn find(&mut self, path: &str) -> io::Result<bool>
-        ensures { self.new.faults ≡ self.old.faults }
+        ensures there { IfOk result (λ found. found ≡ is_some ((world_of self.old).files path.now)) }
+        ensures world { world_of self.new ≡ world_of self.old }
+        ensures faults { self.new.faults ≡ self.old.faults }
     {
         self.call()?;
         Ok(self.get(path).is_some())
@@ -115,6 +152,9 @@ impl MemoryStore {
 
     fn copy(&mut self, alloc: Global, path: &str, most: usize) -> io::Result<Option<Vec<u8>>>
         ensures within { IfOk result (λ found. IfSome found (λ octets. vec_len octets ≤ most)) }
+        ensures read { IfOk result (λ found. IfSome found (λ octets.
+            (world_of self.old).files path.now ≡ Some octets.items)) }
+        ensures world { world_of self.new ≡ world_of self.old }
         ensures faults { self.new.faults ≡ self.old.faults }
     {
         self.call()?;
@@ -126,14 +166,25 @@ impl MemoryStore {
     }
 
     fn find_lock(&mut self) -> io::Result<bool>
-        ensures { self.new.faults ≡ self.old.faults }
+        ensures world { world_of self.new ≡ world_of self.old }
+        ensures faults { self.new.faults ≡ self.old.faults }
     {
         self.call()?;
-        Ok(!self.kept)
+        Ok(self.kept == 0)
+    }
+
+    fn read_clock(&mut self) -> io::Result<u64>
+        ensures world { world_of self.new ≡ world_of self.old }
+        ensures faults { self.new.faults ≡ self.old.faults }
+    {
+        self.call()?;
+        Ok(self.seconds)
     }
 
     fn draw(&mut self) -> io::Result<[u8; 32]>
-        ensures { self.new.faults ≡ self.old.faults }
+        ensures drawn { IfOk result (λ seed. seed ≡ (world_of self.old).random) }
+        ensures world { world_of self.new ≡ world_of self.old }
+        ensures faults { self.new.faults ≡ self.old.faults }
     {
         self.call()?;
         Ok(self.random)
@@ -146,6 +197,7 @@ impl MemoryStore {
         most: usize,
     ) -> io::Result<Option<Vec<u8>>>
         ensures within { IfOk result (λ found. IfSome found (λ octets. vec_len octets ≤ most)) }
+        ensures world { world_of self.new ≡ world_of self.old }
         ensures faults { self.new.faults ≡ self.old.faults }
     {
         self.call()?;
@@ -156,10 +208,12 @@ impl MemoryStore {
     }
 
     fn replace(&mut self, alloc: Global, path: &str, octets: &[u8]) -> io::Result<()>
-        ensures { self.new.faults ≡ self.old.faults }
+        ensures written { OnOk result (world_of self.new ≡ with_file path.now octets.now (world_of self.old)) }
+        ensures kept { OnErr result (world_of self.new ≡ world_of self.old) }
+        ensures faults { self.new.faults ≡ self.old.faults }
     {
         self.call()?;
-        put(alloc, &mut self.files, path, octets)?;
+        self.set(alloc, path, octets)?;
         Ok(())
     }
 }
@@ -180,28 +234,10 @@ fn take_line(alloc: Global, input: &mut Vec<u8>, most: usize) -> io::Result<Opti
     Ok(Some(line))
 }
 
-fn put(
-    alloc: Global,
-    files: &mut Vec<StoredFile>,
-    path: &str,
-    octets: &[u8],
-) -> Result<(), AllocError> {
-    let octets = Vec::from_slice(alloc, octets)?;
-    for file in &mut *files {
-        if file.path.as_str() == path {
-            file.octets = octets;
-            return Ok(());
-        }
-    }
-    files.push(StoredFile {
-        path: format!(in alloc; "{path}")?,
-        octets,
-    })?;
-    Ok(())
-}
-
 impl Store for MemoryStore {
     ghost fault_count = { λ s. s.faults };
+
+    ghost world = { λ s. Some (world_of s) };
 
     fn exists(&mut self, path: &str) -> io::Result<bool> {
         let found = self.find(path);
@@ -221,10 +257,25 @@ impl Store for MemoryStore {
         written
     }
 
+    fn update(&mut self, alloc: Global, path: &str, octets: &[u8]) -> io::Result<()> {
+        self.write(alloc, path, octets)
+    }
+
     fn lock(&mut self, _alloc: Global, _path: &str) -> io::Result<bool> {
         let locked = self.find_lock();
         self.faults = counted(self.faults, &locked);
         locked
+    }
+
+    fn pause(&mut self) {
+        self.pauses = self.pauses.saturating_add(1);
+        self.kept = self.kept.saturating_sub(1);
+    }
+
+    fn seconds(&mut self) -> io::Result<u64> {
+        let read = self.read_clock();
+        self.faults = counted(self.faults, &read);
+        read
     }
 
     fn random(&mut self) -> io::Result<[u8; 32]> {

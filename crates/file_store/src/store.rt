@@ -1,6 +1,7 @@
 //! What a program takes from its system.
-ghost use Rattle.std.specs.Prelude.{◌≡◌, ◌≤◌, ℕ, IfOk, IfSome, vec_len};
+ghost use Rattle.std.specs.Prelude.{◌≡◌, ◌≤◌, ℕ, Option, IfOk, OnOk, OnErr, IfSome, vec_len, option_map};
 ghost use Rattle.file_store.specs.Counting.{IsCounted};
+ghost use Rattle.file_store.specs.World.{World, with_file, IsThere, IsRead, IsDrawn};
 
 use std::alloc::Global;
 use std::io;
@@ -8,42 +9,72 @@ use std::io;
 /// The most octets of a file that is read.
 pub const LONGEST_FILE: usize = 16_777_216;
 
-/// Files by their paths; and what a command takes where no file is named: random octets, and lines of standard input. A
-/// store counts the calls that fail.
+/// The files, the random octets, the clock and the standard input that a program works with. A store counts the calls
+/// that fail.
 pub trait Store {
     // How often a call has failed.
     ghost fault_count: { Self → ℕ };
 
-    /// Whether there is a file.
+    // What the store holds. `None` of a store that can't tell: no contract knows what a system's file holds.
+    ghost world: { Self → Option World };
+
+    /// Checks whether there is a file.
     fn exists(&mut self, path: &str) -> io::Result<bool>
+        ensures there { IfOk result (λ found. IsThere (world self.old) path.now found) }
+        ensures kept { world self.new ≡ world self.old }
         ensures counted { IsCounted (fault_count self.old) result (fault_count self.new) };
 
-    /// The whole of a file, or `None` where it has more than so many octets.
+    /// Reads the whole of a file. `None` if it has more than `most` octets.
     fn read(&mut self, alloc: Global, path: &str, most: usize) -> io::Result<Option<Vec<u8>>>
         ensures within { IfOk result (λ found. IfSome found (λ octets. vec_len octets ≤ most)) }
+        ensures read { IfOk result (λ found. IfSome found (λ octets. IsRead (world self.old) path.now octets.items)) }
+        ensures kept { world self.new ≡ world self.old }
         ensures counted { IsCounted (fault_count self.old) result (fault_count self.new) };
 
-    /// Makes a file of these octets, in place of the one that is there. After an `Err` the path has what it had.
+    /// Writes a new file, in place of the one that is there. Its owner alone may read and write it. After an `Err` the
+    /// path has what it had.
     fn write(&mut self, alloc: Global, path: &str, octets: &[u8]) -> io::Result<()>
+        ensures written { OnOk result (world self.new ≡ option_map (with_file path.now octets.now) (world self.old)) }
+        ensures kept { OnErr result (world self.new ≡ world self.old) }
         ensures counted { IsCounted (fault_count self.old) result (fault_count self.new) };
 
-    /// Keeps other programs that ask for the same from a file, until the store is let go or is asked for another file.
-    /// `false` where another one keeps it.
+    /// Writes a file, and keeps the owner, the group and the mode of the one that is there. It fails where it can't keep
+    /// them. Without a file there it does as `write` does. After an `Err` the path has what it had.
+    fn update(&mut self, alloc: Global, path: &str, octets: &[u8]) -> io::Result<()>
+        ensures written { OnOk result (world self.new ≡ option_map (with_file path.now octets.now) (world self.old)) }
+        ensures kept { OnErr result (world self.new ≡ world self.old) }
+        ensures counted { IsCounted (fault_count self.old) result (fault_count self.new) };
+
+    /// Takes the lock of a file, which other programs that ask for the same then don't get, until the store is dropped
+    /// or asked for the lock of another file. `false` if another program has it.
     fn lock(&mut self, alloc: Global, path: &str) -> io::Result<bool>
+        ensures kept { world self.new ≡ world self.old }
         ensures counted { IsCounted (fault_count self.old) result (fault_count self.new) };
 
-    /// 32 octets of the system's own source.
+    /// Waits for a tenth of a second.
+    fn pause(&mut self)
+        ensures kept { world self.new ≡ world self.old }
+        ensures counted { fault_count self.new ≡ fault_count self.old };
+
+    /// The whole seconds since the start of 1970.
+    fn seconds(&mut self) -> io::Result<u64>
+        ensures kept { world self.new ≡ world self.old }
+        ensures counted { IsCounted (fault_count self.old) result (fault_count self.new) };
+
+    /// Draws 32 octets of the system's own source.
     fn random(&mut self) -> io::Result<[u8; 32]>
+        ensures drawn { IfOk result (λ seed. IsDrawn (world self.old) seed) }
+        ensures kept { world self.new ≡ world self.old }
         ensures counted { IsCounted (fault_count self.old) result (fault_count self.new) };
 
-    /// Whether standard input is a terminal.
+    /// Checks whether standard input is a terminal.
     fn is_terminal(&self) -> bool;
 
-    /// The next line of standard input without its line feed, or `None` where it has more than so many octets.
-    /// At a terminal the question is written first, to standard error. Where the input has ended there is no
-    /// line, and that is an `Err`.
+    /// Reads the next line of standard input, without its line feed. `None` if it has more than `most` octets.
+    /// At a terminal the question is written first, to standard error. An input that has ended is an `Err`.
     fn ask(&mut self, alloc: Global, question: &str, most: usize) -> io::Result<Option<Vec<u8>>>
         ensures within { IfOk result (λ found. IfSome found (λ octets. vec_len octets ≤ most)) }
+        ensures kept { world self.new ≡ world self.old }
         ensures counted { IsCounted (fault_count self.old) result (fault_count self.new) };
 
     /// How often a call has failed. The count stops at the greatest `u64`.

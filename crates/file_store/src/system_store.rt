@@ -1,18 +1,56 @@
 //! The files of the system.
-ghost use Rattle.std.specs.Prelude.{◌≤◌, IfOk, IfSome, vec_len};
+ghost use Rattle.std.specs.Prelude.{◌≤◌, None, IfOk, IfSome, vec_len};
 
 use crate::counting::counted;
 use crate::store::Store;
 use std::alloc::Global;
-use std::fs::{File, OpenFile, OpenOptions, TryLockError};
+use std::fs::{File, Metadata, OpenFile, OpenOptions, Permissions, TryLockError};
 use std::io::{BufRead, Error, ErrorKind, IsTerminal, Read, Write};
-use std::os::unix::fs::OpenOptionsExt;
+use std::os::unix::fs::{MetadataExt, OpenOptionsExt, PermissionsExt, fchown};
 use std::random::RandomSource;
-use std::rt::Files;
-use std::{fs, io};
+use std::rt::{Clock, Files};
+use std::time::{Duration, SystemTime, UNIX_EPOCH};
+use std::{fs, io, thread};
 
 /// The mode of a file that is made: its owner alone reads and writes it, since it holds keys.
 const OWNER_ONLY: u32 = 0o600;
+
+/// The bits of a mode that say who may read, write and run a file.
+const RIGHTS: u32 = 0o777;
+
+/// How many milliseconds a pause takes.
+const PAUSE: u64 = 100;
+
+/// Who owns a file, and who may read and write it.
+#[derive(Clone, Copy)]
+struct Rights {
+    owner: u32,
+    group: u32,
+    mode: u32,
+}
+
+impl Rights {
+    fn of(file: &Metadata) -> Rights {
+        Rights {
+            owner: file.uid(),
+            group: file.gid(),
+            mode: file.mode() & RIGHTS,
+        }
+    }
+
+    /// Gives a file that was just made this owner, group and mode.
+    fn give(self, file: &File) -> io::Result<()> {
+        let made = Rights::of(&file.metadata()?);
+        let is_others = self.owner != made.owner || self.group != made.group;
+        if is_others && fchown(file, Some(self.owner), Some(self.group)).is_err() {
+            return Err(Error::new(
+                ErrorKind::PermissionDenied,
+                "its owner and group can't be kept, so it was not written",
+            ));
+        }
+        file.set_permissions(Permissions::from_mode(self.mode))
+    }
+}
 
 /// The files, the random octets and the standard input that a runtime reaches.
 #[derive(Drop)]
@@ -32,21 +70,14 @@ impl<'a, R: Files> FileStore<'a, R> {
         }
     }
 
-    /// Whether a path is free, or has a file: what is a device or a folder is not replaced.
-    fn takes_file(&self, path: &str) -> io::Result<bool> {
+    /// What is at a path, or `None` if it is free. A device or a folder is an `Err`, since neither is replaced.
+    fn there(&self, path: &str) -> io::Result<Option<Metadata>> {
         match fs::metadata(self.files, path) {
-            Ok(there) => Ok(there.is_file()),
-            Err(error) if error.kind() == ErrorKind::NotFound => Ok(true),
+            Ok(there) if there.is_file() => Ok(Some(there)),
+            Ok(_) => Err(Error::from(ErrorKind::InvalidInput)),
+            Err(error) if error.kind() == ErrorKind::NotFound => Ok(None),
             Err(error) => Err(error),
         }
-    }
-
-    /// Writes the new file to its end, and only then puts it in place.
-    fn fill(&self, new: R::File, beside: &str, path: &str, octets: &[u8]) -> io::Result<()> {
-        let mut new = new;
-        new.write_all(octets)?;
-        new.sync_all()?;
-        fs::rename(self.files, beside, path)
     }
 
     /// The whole of a file, or `None` where it has more than so many octets.
@@ -68,22 +99,58 @@ impl<'a, R: Files> FileStore<'a, R> {
     }
 }
 
-impl<'a, R: Files + RandomSource> FileStore<'a, R> {
+impl<'a, R: Files<File = File> + RandomSource> FileStore<'a, R> {
+    /// Writes a file whose owner alone may read and write it.
+    fn write_own(&self, alloc: Global, path: &str, octets: &[u8]) -> io::Result<()> {
+        let _there = self.there(path)?;
+        self.replace(alloc, path, octets, None)
+    }
+
+    /// Writes a file with the rights of the one that is there.
+    fn write_over(&self, alloc: Global, path: &str, octets: &[u8]) -> io::Result<()> {
+        let rights = match self.there(path)? {
+            Some(there) => Some(Rights::of(&there)),
+            None => None,
+        };
+        self.replace(alloc, path, octets, rights)
+    }
+
     /// The new file has a name of its own until it is whole and synced; then it is renamed. So a kill at any moment
     /// leaves the old file or the new one, and of two writes at once each fills its own file.
-    fn replace(&self, alloc: Global, path: &str, octets: &[u8]) -> io::Result<()> {
-        if !self.takes_file(path)? {
-            return Err(Error::from(ErrorKind::InvalidInput));
-        }
+    fn replace(
+        &self,
+        alloc: Global,
+        path: &str,
+        octets: &[u8],
+        rights: Option<Rights>,
+    ) -> io::Result<()> {
         let beside = name_beside(alloc, self.files, path)?;
         let mut how = OpenOptions::new();
         how.write(true).create_new(true).mode(OWNER_ONLY);
         let new = how.open(self.files, beside.as_str())?;
-        let filled = self.fill(new, &beside, path, octets);
+        let filled = self.fill(new, &beside, path, octets, rights);
         if filled.is_err() {
             let _removed = fs::remove_file(self.files, beside.as_str());
         }
         filled
+    }
+
+    /// Writes the new file to its end, and only then puts it in place.
+    fn fill(
+        &self,
+        new: File,
+        beside: &str,
+        path: &str,
+        octets: &[u8],
+        rights: Option<Rights>,
+    ) -> io::Result<()> {
+        let mut new = new;
+        if let Some(rights) = rights {
+            rights.give(&new)?;
+        }
+        new.write_all(octets)?;
+        new.sync_all()?;
+        fs::rename(self.files, beside, path)
     }
 }
 
@@ -103,13 +170,54 @@ fn open_locked<R: Files<File = File>>(
     path: &str,
 ) -> io::Result<Option<File>> {
     let beside = format!(in alloc; "{path}.lock")?;
-    let mut how = OpenOptions::new();
-    how.write(true).create(true).mode(OWNER_ONLY);
-    let file = how.open(files, beside.as_str())?;
+    let file = open_lock(files, beside.as_str(), path)?;
     match file.try_lock() {
         Ok(()) => Ok(Some(file)),
         Err(TryLockError::WouldBlock) => Ok(None),
         Err(TryLockError::Error(error)) => Err(error),
+    }
+}
+
+/// Opens the file of a lock. What is there already keeps its owner, since who owns the folder may have put a link to
+/// another file there.
+fn open_lock<R: Files<File = File>>(files: &R, beside: &str, path: &str) -> io::Result<File> {
+    match make_lock(files, beside) {
+        Ok(made) => {
+            hand_over(files, &made, path);
+            Ok(made)
+        }
+        Err(error) if error.kind() == ErrorKind::AlreadyExists => {
+            let mut how = OpenOptions::new();
+            how.write(true);
+            how.open(files, beside)
+        }
+        Err(error) => Err(error),
+    }
+}
+
+/// Makes the file of a lock, where nothing is there, not even a link.
+fn make_lock<R: Files<File = File>>(files: &R, beside: &str) -> io::Result<File> {
+    let mut how = OpenOptions::new();
+    how.write(true).create_new(true).mode(OWNER_ONLY);
+    how.open(files, beside)
+}
+
+/// Gives a lock that was just made to the owner of the file that it is beside. Else the lock that a superuser's command
+/// made would keep the owner's commands out.
+fn hand_over(files: &impl Files, lock: &File, path: &str) {
+    let (Ok(there), Ok(made)) = (fs::metadata(files, path), lock.metadata()) else {
+        return;
+    };
+    if there.uid() != made.uid() {
+        // only a superuser may: the lock that another user made stays that user's
+        let _ = fchown(lock, Some(there.uid()), Some(there.gid()));
+    }
+}
+
+fn seconds_of(clock: &impl Clock) -> io::Result<u64> {
+    match SystemTime::now(clock)?.duration_since(UNIX_EPOCH) {
+        Ok(since) => Ok(since.as_secs()),
+        Err(_) => Err(Error::new(ErrorKind::InvalidData, "the clock stands before 1970")),
     }
 }
 
@@ -159,11 +267,14 @@ where
     }
 }
 
-impl<'a, R: Files<File = File> + RandomSource + Input + Eprint> Store for FileStore<'a, R>
+impl<'a, R: Files<File = File> + RandomSource + Clock + Input + Eprint> Store for FileStore<'a, R>
 where
     R::Reader: IsTerminal,
 {
     ghost fault_count = { λ s. s.faults };
+
+    // no contract knows what a file of the system holds
+    ghost world = { λ _. None };
 
     fn exists(&mut self, path: &str) -> io::Result<bool> {
         let found = fs::exists(self.files, path);
@@ -178,7 +289,13 @@ where
     }
 
     fn write(&mut self, alloc: Global, path: &str, octets: &[u8]) -> io::Result<()> {
-        let written = self.replace(alloc, path, octets);
+        let written = self.write_own(alloc, path, octets);
+        self.faults = counted(self.faults, &written);
+        written
+    }
+
+    fn update(&mut self, alloc: Global, path: &str, octets: &[u8]) -> io::Result<()> {
+        let written = self.write_over(alloc, path, octets);
         self.faults = counted(self.faults, &written);
         written
     }
@@ -189,6 +306,16 @@ where
         self.faults = counted(self.faults, &locked);
         self.lock = locked?;
         Ok(self.lock.is_some())
+    }
+
+    fn pause(&mut self) {
+        thread::sleep(self.files, Duration::from_millis(PAUSE));
+    }
+
+    fn seconds(&mut self) -> io::Result<u64> {
+        let read = seconds_of(self.files);
+        self.faults = counted(self.faults, &read);
+        read
     }
 
     fn random(&mut self) -> io::Result<[u8; 32]> {

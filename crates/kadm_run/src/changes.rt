@@ -1,181 +1,119 @@
-//! The commands that change a database.
-use crate::databases::{lock_database, make_change, open_database, write_database};
-use crate::order::{ChangeArgs, setting_of};
-use crate::passwords::new_password;
+//! The commands that make a database, and change one without giving keys.
+ghost use Rattle.std.specs.Prelude.{◌≡◌, IfOk, OnOk, OnErr};
+ghost use Rattle.principals.specs.Change.{row_changed};
+ghost use Rattle.principals.specs.declared.change.RowChange.TheVariants as row_changes;
+ghost use Rattle.kadm_run.specs.Granting.{IsChanged, IsPolicySet, IsValueOf};
+ghost use Rattle.kadm_run.specs.Worlds.{Changed, MadeNew, MadeRealm, Migrated, path_of};
+
+use crate::databases::{apply, lock_database, open_database, write_database};
+use crate::granting::drop_older;
+use crate::order::{ChangeArgs, Order};
 use crate::reason::Reason;
 use crate::stop::{Stop, of_realm};
-use enctypes::Etype;
-use file_store::{Store, has_file, read_or_draw_seed};
+use crate::values::{setting_from, setting_of};
+use file_store::{Store, has_file, read_clock, read_or_draw_seed};
 use krb_elements::KerberosString;
 use krb_fields::{Name, component_from_text};
-use principal_keys::{password_keys, random_keys};
-use principal_rows::KeyList;
+use principal_keys::random_keys;
 use principals::{ChangeFault, Database, RowChange};
 use std::alloc::Global;
+use std::io::Write;
+use text_fields::Setting;
 
 /// Makes the database of a new realm.
-pub(crate) fn make_realm<'p, T: Store>(
+pub(crate) fn make_realm<'p, T: Store, E: Write>(
     alloc: Global,
+    order: &Order<'p>,
     store: &mut T,
-    db: &'p str,
+    errors: &mut E,
     realm: &str,
     seed: Option<&'p str>,
-    etypes: &[Etype],
-) -> Result<(), Stop<'p>> {
+) -> Result<(), Stop<'p>>
+    ensures done { OnOk result (MadeRealm (T.world store.old) order.now.db.now order.now.etypes.items realm.now
+        (path_of seed.entry) (T.world store.new)) }
+    ensures kept { OnErr result (T.world store.new ≡ T.world store.old) }
+{
     match component_from_text(alloc, realm) {
-        Ok(realm) => make_new_realm(alloc, store, db, &realm, seed, etypes),
+        Ok(realm) => make_new_realm(alloc, order, store, errors, &realm, seed),
         Err(fault) => Err(of_realm(fault)),
     }
 }
 
-fn make_new_realm<'p, T: Store>(
+fn make_new_realm<'p, T: Store, E: Write>(
     alloc: Global,
+    order: &Order<'p>,
     store: &mut T,
-    db: &'p str,
+    errors: &mut E,
     realm: &KerberosString,
     seed: Option<&'p str>,
-    etypes: &[Etype],
-) -> Result<(), Stop<'p>> {
-    lock_database(alloc, store, db)?;
-    if has_file(store, db)? {
+) -> Result<(), Stop<'p>>
+    ensures done { OnOk result (MadeNew (T.world store.old) order.now.db.now order.now.etypes.items realm.now
+        (path_of seed.entry) (T.world store.new)) }
+    ensures kept { OnErr result (T.world store.new ≡ T.world store.old) }
+{
+    lock_database(alloc, order, store, errors)?;
+    if has_file(store, order.db)? {
         return Err(Stop::Refused(Reason::FileExists));
     }
-    let keys = random_keys(alloc, etypes, read_or_draw_seed(alloc, store, seed)?)?;
+    let keys = random_keys(alloc, &order.etypes, read_or_draw_seed(alloc, store, seed)?)?;
     let database = Database::first(alloc, realm.as_slice(), keys)?;
-    write_database(alloc, store, db, &database)
+    write_database(alloc, store, order.db, &database)
 }
 
-/// Changes a principal, and writes the database.
-pub(crate) fn change<'p, T: Store>(
+/// Changes a principal, and writes the database. A change that is refused writes nothing.
+pub(crate) fn change<'p, T: Store, E: Write>(
     alloc: Global,
+    order: &Order<'p>,
     store: &mut T,
-    db: &'p str,
-    name: &'p str,
-    how: ChangeArgs<'p>,
-    etypes: &[Etype],
-) -> Result<(), Stop<'p>> {
+    errors: &mut E,
+    name: &str,
+    how: ChangeArgs<'_>,
+) -> Result<(), Stop<'p>>
+    ensures done { OnOk result (Changed (T.world store.old) order.now.db.now name.now how.entry (T.world store.new)) }
+    ensures kept { OnErr result (T.world store.new ≡ T.world store.old) }
+{
     let who = Name::from_text(alloc, name)?;
-    let mut database = open_database(alloc, store, db)?;
-    change_in(alloc, store, db, &mut database, name, who, how, etypes)
+    let mut database = open_database(alloc, order, store, errors)?;
+    change_row(alloc, store, &mut database, &who, how)?;
+    write_database(alloc, store, order.db, &database)
 }
 
-/// The principal's name is given as its text too, by which a password is asked for.
-fn change_in<'p, T: Store>(
+fn change_row<T: Store>(
     alloc: Global,
     store: &mut T,
-    db: &'p str,
     database: &mut Database,
-    name: &str,
-    who: Name,
-    how: ChangeArgs<'p>,
-    etypes: &[Etype],
-) -> Result<(), Stop<'p>> {
-    match how {
-        ChangeArgs::Add { password } => {
-            add(alloc, store, db, database, name, who, password, etypes)
-        }
-        ChangeArgs::Passwd { password } => {
-            set_password(alloc, store, db, database, name, who, password, etypes)
-        }
-        ChangeArgs::Random { seed } => {
-            give_random_keys(alloc, store, db, database, who, seed, etypes)
-        }
-        ChangeArgs::Drop { version } => drop_keys(alloc, store, db, database, who, version),
-        ChangeArgs::Policy { field, value } => {
-            set_policy(alloc, store, db, database, who, field, value)
-        }
-        ChangeArgs::Remove => make_change(alloc, store, db, database, who, RowChange::Remove),
-    }
-}
-
-fn add<'p, T: Store>(
-    alloc: Global,
-    store: &mut T,
-    db: &'p str,
-    database: &mut Database,
-    name: &str,
-    who: Name,
-    password: Option<&'p str>,
-    etypes: &[Etype],
-) -> Result<(), Stop<'p>> {
-    let keys = keys_of_password(alloc, store, password, name, &who, database, etypes)?;
-    make_change(alloc, store, db, database, who, RowChange::Add(keys))
-}
-
-/// Gives a principal the keys of a password, as a new version.
-fn set_password<'p, T: Store>(
-    alloc: Global,
-    store: &mut T,
-    db: &'p str,
-    database: &mut Database,
-    name: &str,
-    who: Name,
-    password: Option<&'p str>,
-    etypes: &[Etype],
-) -> Result<(), Stop<'p>> {
-    let keys = keys_of_password(alloc, store, password, name, &who, database, etypes)?;
-    make_change(alloc, store, db, database, who, RowChange::NewKeys(keys))
-}
-
-/// The keys of a password, with the principal's default salt.
-fn keys_of_password<'p, T: Store>(
-    alloc: Global,
-    store: &mut T,
-    password: Option<&'p str>,
-    name: &str,
     who: &Name,
-    database: &Database,
-    etypes: &[Etype],
-) -> Result<KeyList, Stop<'p>> {
-    let realm = database.realm();
-    let pass = new_password(alloc, store, password, name, realm)?;
-    let salt = who.salt(alloc, realm)?;
-    Ok(password_keys(alloc, etypes, &pass, salt.as_slice())?)
-}
-
-/// Gives a principal random keys, as a new principal or as a new version.
-fn give_random_keys<'p, T: Store>(
-    alloc: Global,
-    store: &mut T,
-    db: &'p str,
-    database: &mut Database,
-    who: Name,
-    seed: Option<&'p str>,
-    etypes: &[Etype],
-) -> Result<(), Stop<'p>> {
-    let keys = random_keys(alloc, etypes, read_or_draw_seed(alloc, store, seed)?)?;
-    let there = database.get(&who).is_some();
-    let what = if there {
-        RowChange::NewKeys(keys)
-    } else {
-        RowChange::Add(keys)
-    };
-    make_change(alloc, store, db, database, who, what)
+    how: ChangeArgs<'_>,
+) -> Result<(), Stop<'static>>
+    ensures changed { OnOk result (IsChanged how.entry who.now.components database.old database.new) }
+    ensures kept { T.world store.new ≡ T.world store.old }
+{
+    match how {
+        ChangeArgs::Drop { version } => drop_keys(alloc, database, who, version),
+        ChangeArgs::DropOlder => Ok(drop_older(alloc, database, who)?),
+        ChangeArgs::Policy { field, value } => {
+            set_policy(alloc, store, database, who, field, value)
+        }
+        ChangeArgs::Remove => Ok(apply(alloc, database, who, RowChange::Remove)?),
+    }
 }
 
 /// Drops the keys of an old version.
-fn drop_keys<'p, T: Store>(
+fn drop_keys(
     alloc: Global,
-    store: &mut T,
-    db: &'p str,
     database: &mut Database,
-    who: Name,
+    who: &Name,
     version: u32,
-) -> Result<(), Stop<'p>> {
-    if lacks_version(database, &who, version) {
+) -> Result<(), Stop<'static>>
+    ensures { OnOk result (database.new ≡ row_changed database.old who.now.components (row_changes.DropKeys version)) }
+{
+    if lacks_version(database, who, version) {
         return Err(Stop::Refused(Reason::NoVersion));
     }
-    make_change(
-        alloc,
-        store,
-        db,
-        database,
-        who,
-        RowChange::DropKeys(version),
-    )
+    Ok(apply(alloc, database, who, RowChange::DropKeys(version))?)
 }
 
-/// Whether a principal is there, but no such version of it.
+/// Checks whether a principal is there, but no such version of it.
 fn lacks_version(database: &Database, who: &Name, version: u32) -> bool {
     match database.get(who) {
         Some(row) => row.versions.find(version).is_none(),
@@ -183,38 +121,49 @@ fn lacks_version(database: &Database, who: &Name, version: u32) -> bool {
     }
 }
 
-fn set_policy<'p, T: Store>(
+fn set_policy<T: Store>(
     alloc: Global,
     store: &mut T,
-    db: &'p str,
     database: &mut Database,
-    who: Name,
+    who: &Name,
     field: &str,
     value: &str,
-) -> Result<(), Stop<'p>> {
-    let Some(row) = database.get(&who) else {
+) -> Result<(), Stop<'static>>
+    ensures changed { OnOk result (IsPolicySet field.now value.now who.now.components database.old database.new) }
+    ensures kept { T.world store.new ≡ T.world store.old }
+{
+    let Some(row) = database.get(who) else {
         return Err(Stop::from(ChangeFault::Absent));
     };
-    let Some(setting) = setting_of(field, value) else {
-        return Err(Stop::Usage);
-    };
-    let policy = setting.on(row.policy);
-    make_change(
-        alloc,
-        store,
-        db,
-        database,
-        who,
-        RowChange::SetPolicy(policy),
-    )
+    let policy = row.policy;
+    let policy = setting(store, field, value)?.on(policy);
+    Ok(apply(alloc, database, who, RowChange::SetPolicy(policy))?)
+}
+
+/// A field with its value, for which the clock is read if the value is a time from now.
+fn setting<T: Store>(store: &mut T, field: &str, value: &str) -> Result<Setting, Stop<'static>>
+    ensures setting { IfOk result (λ setting. IsValueOf setting field.now value.now) }
+    ensures kept { T.world store.new ≡ T.world store.old }
+{
+    if let Some(setting) = setting_of(field, value) {
+        return Ok(setting);
+    }
+    match setting_from(field, value, read_clock(store)?) {
+        Some(setting) => Ok(setting),
+        None => Err(Stop::Refused(Reason::BadTime)),
+    }
 }
 
 /// Writes what was read, in the version that is written.
-pub(crate) fn migrate<'p, T: Store>(
+pub(crate) fn migrate<'p, T: Store, E: Write>(
     alloc: Global,
+    order: &Order<'p>,
     store: &mut T,
-    db: &'p str,
-) -> Result<(), Stop<'p>> {
-    let database = open_database(alloc, store, db)?;
-    write_database(alloc, store, db, &database)
+    errors: &mut E,
+) -> Result<(), Stop<'p>>
+    ensures done { OnOk result (Migrated (T.world store.old) order.now.db.now (T.world store.new)) }
+    ensures kept { OnErr result (T.world store.new ≡ T.world store.old) }
+{
+    let database = open_database(alloc, order, store, errors)?;
+    write_database(alloc, store, order.db, &database)
 }

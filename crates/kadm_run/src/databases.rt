@@ -1,40 +1,78 @@
 //! The database in its file.
+ghost use Rattle.std.specs.Prelude.{◌≡◌, IfOk, OnOk, OnErr};
+ghost use Rattle.principals.specs.Change.{row_changed};
+ghost use Rattle.kadm_run.specs.Worlds.{HoldsDatabase, with_database};
+
+use crate::order::Order;
 use crate::reason::Reason;
 use crate::stop::Stop;
-use file_store::{Store, lock_file, read_at_most, write_file};
+use file_store::{Store, lock_file, read_at_most, update_file};
 use krb_fields::Name;
-use principals::{Change, Database, LONGEST_TEXT, RowChange};
+use principals::{Change, ChangeFault, Database, LONGEST_TEXT, RowChange};
 use std::alloc::Global;
+use std::io::Write;
 use std::str;
 
-/// Keeps other commands from the database until this one is done.
-pub(crate) fn lock_database<'p, T: Store>(
+/// How often a command looks again whether the lock is free, a tenth of a second apart.
+const LOOKS: u32 = 100;
+
+/// After how many looks a command says that it waits.
+const QUIET_LOOKS: u32 = 10;
+
+/// Keeps other commands from the database until this one is done. Waits at most ten seconds for one that works on it.
+pub(crate) fn lock_database<'p, T: Store, E: Write>(
     alloc: Global,
+    order: &Order<'p>,
     store: &mut T,
-    db: &'p str,
-) -> Result<(), Stop<'p>> {
-    if lock_file(alloc, store, db)? {
+    errors: &mut E,
+) -> Result<(), Stop<'p>>
+    ensures kept { T.world store.new ≡ T.world store.old }
+{
+    for looks in 0..LOOKS {
+        if lock_file(alloc, store, order.db)? {
+            return Ok(());
+        }
+        if looks == QUIET_LOOKS {
+            tell_waiting(errors);
+        }
+        store.pause();
+    }
+    if lock_file(alloc, store, order.db)? {
         Ok(())
     } else {
         Err(Stop::Refused(Reason::Locked))
     }
 }
 
-/// The database, from which other commands are kept until this one is done.
-pub(crate) fn open_database<'p, T: Store>(
-    alloc: Global,
-    store: &mut T,
-    db: &'p str,
-) -> Result<Database, Stop<'p>> {
-    lock_database(alloc, store, db)?;
-    read_database(alloc, store, db)
+/// Says that the command waits. If that can't be written there is no one to tell.
+fn tell_waiting<E: Write>(errors: &mut E) {
+    let _ = writeln!(errors, "kadm: waiting for another kadm");
+    let _ = errors.flush();
 }
 
+/// Reads the database, after other commands are kept from it.
+pub(crate) fn open_database<'p, T: Store, E: Write>(
+    alloc: Global,
+    order: &Order<'p>,
+    store: &mut T,
+    errors: &mut E,
+) -> Result<Database, Stop<'p>>
+    ensures read { IfOk result (λ database. HoldsDatabase (T.world store.old) order.now.db.now database) }
+    ensures kept { T.world store.new ≡ T.world store.old }
+{
+    lock_database(alloc, order, store, errors)?;
+    read_database(alloc, store, order.db)
+}
+
+/// Reads the database as it is at this moment.
 pub(crate) fn read_database<'p, T: Store>(
     alloc: Global,
     store: &mut T,
     db: &'p str,
-) -> Result<Database, Stop<'p>> {
+) -> Result<Database, Stop<'p>>
+    ensures read { IfOk result (λ database. HoldsDatabase (T.world store.old) db.now database) }
+    ensures kept { T.world store.new ≡ T.world store.old }
+{
     let octets = read_at_most(alloc, store, db, LONGEST_TEXT)?;
     let Ok(text) = str::from_utf8(&octets) else {
         return Err(Stop::Refused(Reason::NotJson));
@@ -42,26 +80,31 @@ pub(crate) fn read_database<'p, T: Store>(
     Ok(Database::read(alloc, text)?)
 }
 
+/// Writes the database. Its file keeps its owner, group and mode.
 pub(crate) fn write_database<'p, T: Store>(
     alloc: Global,
     store: &mut T,
     db: &'p str,
     database: &Database,
-) -> Result<(), Stop<'p>> {
+) -> Result<(), Stop<'p>>
+    ensures written { OnOk result (T.world store.new ≡ with_database db.now database.now (T.world store.old)) }
+    ensures kept { OnErr result (T.world store.new ≡ T.world store.old) }
+{
     let text = database.write(alloc)?;
-    write_file(alloc, store, db, text.as_bytes())?;
+    update_file(alloc, store, db, text.as_bytes())?;
     Ok(())
 }
 
-/// Changes a principal and writes the database; a change that is refused writes nothing.
-pub(crate) fn make_change<'p, T: Store>(
+/// Makes a change of a principal's row. A change that is refused leaves the database as it was.
+pub(crate) fn apply(
     alloc: Global,
-    store: &mut T,
-    db: &'p str,
     database: &mut Database,
-    name: Name,
+    who: &Name,
     what: RowChange,
-) -> Result<(), Stop<'p>> {
-    database.apply(alloc, &Change { name, what })?;
-    write_database(alloc, store, db, database)
+) -> Result<(), ChangeFault>
+    ensures changed { OnOk result (database.new ≡ row_changed database.old who.now.components what) }
+    ensures kept { OnErr result (database.new ≡ database.old) }
+{
+    let name = who.copy(alloc)?;
+    database.apply(alloc, &Change { name, what })
 }

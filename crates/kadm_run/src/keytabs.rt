@@ -1,29 +1,37 @@
 //! The command that writes a keytab.
+ghost use Rattle.std.specs.Prelude.{◌≡◌, OnOk, OnErr};
+ghost use Rattle.kadm_run.specs.Worlds.{WroteFile, WroteKeytab};
+
 use crate::databases::open_database;
 use crate::joining::joined;
+use crate::order::{KeytabOrder, Order};
 use crate::reason::Reason;
 use crate::stop::Stop;
 use cred_files::{Keytab, KeytabEntry};
 use enctypes::Key;
-use file_store::{Amiss, FileFault, Store, has_file, read_file, write_file};
+use file_store::{Amiss, FileFault, Store, has_file, read_file, update_file, write_file};
 use krb_elements::KerberosString;
 use krb_fields::Name;
 use principal_rows::Row;
 use principals::{ChangeFault, Database};
 use std::alloc::{AllocError, Global};
+use std::io::Write;
 
-/// Writes a keytab of a principal's current keys. With `append` the entries that the file has stay, in front of them.
-pub(crate) fn write_keytab<'p, T: Store>(
+/// Writes a keytab of a principal's current keys. With `append` the keytab keeps what it has, in front of them, and its
+/// owner, group and mode.
+pub(crate) fn write_keytab<'p, T: Store, E: Write>(
     alloc: Global,
+    order: &Order<'p>,
     store: &mut T,
-    db: &'p str,
-    name: &str,
-    path: &'p str,
-    append: bool,
-) -> Result<(), Stop<'p>> {
-    let name = Name::from_text(alloc, name)?;
-    let database = open_database(alloc, store, db)?;
-    write_keys(alloc, store, &database, &name, path, append)
+    errors: &mut E,
+    to: KeytabOrder<'p>,
+) -> Result<(), Stop<'p>>
+    ensures done { OnOk result (WroteKeytab (T.world store.old) order.now.db.now to.entry (T.world store.new)) }
+    ensures kept { OnErr result (T.world store.new ≡ T.world store.old) }
+{
+    let name = Name::from_text(alloc, to.name)?;
+    let database = open_database(alloc, order, store, errors)?;
+    write_keys(alloc, store, &database, &name, to)
 }
 
 fn write_keys<'p, T: Store>(
@@ -31,21 +39,29 @@ fn write_keys<'p, T: Store>(
     store: &mut T,
     database: &Database,
     name: &Name,
-    path: &'p str,
-    append: bool,
-) -> Result<(), Stop<'p>> {
-    if has_lock(alloc, store, path)? {
+    to: KeytabOrder<'p>,
+) -> Result<(), Stop<'p>>
+    ensures done { OnOk result (WroteFile (T.world store.old) to.entry.out.now (T.world store.new)) }
+    ensures kept { OnErr result (T.world store.new ≡ T.world store.old) }
+{
+    if has_lock(alloc, store, to.out)? {
         return Err(Stop::Refused(Reason::IsDatabase));
     }
-    let old = read_old(alloc, store, path, append)?;
+    let old = read_old(alloc, store, to.out, to.append)?;
     let octets = keytab_behind(alloc, database, name, old)?;
-    write_file(alloc, store, path, &octets)?;
+    if to.append {
+        update_file(alloc, store, to.out, &octets)?;
+    } else {
+        write_file(alloc, store, to.out, &octets)?;
+    }
     Ok(())
 }
 
 /// Whether a lock stands beside a file, as it does beside each database that a command writes, and beside the one that
 /// this command locks, whatever its path is called.
-fn has_lock<'p, T: Store>(alloc: Global, store: &mut T, path: &'p str) -> Result<bool, Stop<'p>> {
+fn has_lock<'p, T: Store>(alloc: Global, store: &mut T, path: &'p str) -> Result<bool, Stop<'p>>
+    ensures kept { T.world store.new ≡ T.world store.old }
+{
     let beside = format!(in alloc; "{path}.lock")?;
     match store.exists(&beside) {
         Ok(found) => Ok(found),
@@ -62,7 +78,9 @@ fn read_old<'p, T: Store>(
     store: &mut T,
     path: &'p str,
     append: bool,
-) -> Result<Option<Vec<u8>>, Stop<'p>> {
+) -> Result<Option<Vec<u8>>, Stop<'p>>
+    ensures kept { T.world store.new ≡ T.world store.old }
+{
     if append && has_file(store, path)? {
         Ok(Some(read_judged(alloc, store, path)?))
     } else {
@@ -75,7 +93,9 @@ fn read_judged<'p, T: Store>(
     alloc: Global,
     store: &mut T,
     path: &'p str,
-) -> Result<Vec<u8>, Stop<'p>> {
+) -> Result<Vec<u8>, Stop<'p>>
+    ensures kept { T.world store.new ≡ T.world store.old }
+{
     let octets = read_file(alloc, store, path)?;
     let _read = Keytab::read(alloc, &octets)?;
     Ok(octets)

@@ -5,13 +5,16 @@
 
 mod changes;
 mod databases;
+mod granting;
 mod joining;
 mod keytabs;
 mod listing;
 mod order;
 mod passwords;
+mod patterns;
 mod reason;
 mod run;
 mod stop;
+mod values;
 
 pub use run::{DONE, FAILED, REFUSED, USAGE, kadm_run};

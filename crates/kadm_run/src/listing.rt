@@ -1,23 +1,32 @@
 //! The commands that print what a database holds, but no key.
+ghost use Rattle.std.specs.Prelude.{◌≡◌};
+
 use crate::databases::read_database;
+use crate::patterns::is_like;
 use crate::stop::Stop;
 use file_store::Store;
-use krb_fields::Name;
+use krb_fields::{Name, Second};
 use principal_rows::{KeyList, Row};
 use principals::{ChangeFault, Database};
 use std::alloc::{AllocError, Global};
 use std::io;
 use std::io::Write;
-use text_fields::Setting;
+use text_fields::{Setting, UtcDate};
 
-/// Prints `NAME VERSION TYPES` for each principal, in the order of the names' texts.
+/// Prints `NAME VERSION TYPES` for each principal whose name fits, in the order of the names' texts. A long line goes on
+/// with `EXPIRES PASSWORD_EXPIRES DISABLED VERSIONS`.
 pub(crate) fn print_list<'p, T: Store, W: Write>(
     alloc: Global,
-    store: &mut T,
     db: &'p str,
+    like: Option<&str>,
+    long: bool,
+    store: &mut T,
     out: &mut W,
-) -> Result<(), Stop<'p>> {
-    let lines = read_lines(alloc, store, db)?;
+) -> Result<(), Stop<'p>>
+    ensures kept { T.world store.new ≡ T.world store.old }
+{
+    let database = read_database(alloc, store, db)?;
+    let lines = sorted_lines(alloc, &database, like, long)?;
     Ok(print_lines(&lines, out)?)
 }
 
@@ -28,33 +37,69 @@ fn print_lines<W: Write>(lines: &[String], out: &mut W) -> io::Result<()> {
     Ok(())
 }
 
-fn read_lines<'p, T: Store>(
+fn sorted_lines(
     alloc: Global,
-    store: &mut T,
-    db: &'p str,
-) -> Result<Vec<String>, Stop<'p>> {
-    let database = read_database(alloc, store, db)?;
-    let mut lines = lines_of(alloc, &database)?;
+    database: &Database,
+    like: Option<&str>,
+    long: bool,
+) -> Result<Vec<String>, AllocError> {
+    let mut lines = lines_of(alloc, database, like, long)?;
     // no text of a name has an octet as low as the space behind it, so lines are ordered as names are
     lines.sort()?;
     Ok(lines)
 }
 
-fn lines_of(alloc: Global, database: &Database) -> Result<Vec<String>, AllocError> {
+fn lines_of(
+    alloc: Global,
+    database: &Database,
+    like: Option<&str>,
+    long: bool,
+) -> Result<Vec<String>, AllocError> {
     let mut lines = Vec::new(alloc);
     for place in 0..database.len() {
         if let Some((name, row)) = database.at(place) {
-            lines.push(line_of(alloc, name, row)?)?;
+            let name = name.to_text(alloc)?;
+            if fits(like, &name) {
+                lines.push(line_of(alloc, &name, row, long)?)?;
+            }
         }
     }
     Ok(lines)
 }
 
-fn line_of(alloc: Global, name: &Name, row: &Row) -> Result<String, AllocError> {
+/// Checks whether a name's text is one that is asked for.
+fn fits(like: Option<&str>, name: &str) -> bool {
+    match like {
+        Some(pattern) => is_like(pattern, name),
+        None => true,
+    }
+}
+
+fn line_of(alloc: Global, name: &str, row: &Row, long: bool) -> Result<String, AllocError> {
     let current = row.versions.current();
-    let name = name.to_text(alloc)?;
     let types = types_of(alloc, &current.keys)?;
-    format!(in alloc; "{name} {} {types}", current.number)
+    let mut line = format!(in alloc; "{name} {} {types}", current.number)?;
+    if long {
+        push_columns(&mut line, row)?;
+    }
+    Ok(line)
+}
+
+/// Adds the further columns of a long line.
+fn push_columns(line: &mut String, row: &Row) -> Result<(), AllocError> {
+    push_time(line, row.policy.expires)?;
+    push_time(line, row.policy.password_expires)?;
+    let versions = row.versions.as_slice().len();
+    write!(line, " {} {versions}", row.policy.disabled)?;
+    Ok(())
+}
+
+fn push_time(line: &mut String, time: Option<Second>) -> Result<(), AllocError> {
+    match time {
+        Some(second) => write!(line, " {}", UtcDate(second))?,
+        None => line.push_str(" never")?,
+    }
+    Ok(())
 }
 
 /// The numbers of the keys' types, joined by commas.
@@ -77,7 +122,9 @@ pub(crate) fn print_row<'p, T: Store, W: Write>(
     db: &'p str,
     name: &str,
     out: &mut W,
-) -> Result<(), Stop<'p>> {
+) -> Result<(), Stop<'p>>
+    ensures kept { T.world store.new ≡ T.world store.old }
+{
     let name = Name::from_text(alloc, name)?;
     let database = read_database(alloc, store, db)?;
     match database.get(&name) {

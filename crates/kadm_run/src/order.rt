@@ -1,4 +1,8 @@
 //! The words of a command line, and what they order.
+ghost use Rattle.std.specs.Prelude.{◌≡◌};
+ghost use Rattle.kadm_run.specs.Granting.{key_change};
+
+use crate::values::{is_setting, taken_by};
 use clap::error::Error;
 use clap::{ArgMatches, Command};
 use command_options::{FlagRow, OptionRow, SubcommandRow, Times, with_subcommands};
@@ -6,7 +10,7 @@ use enctypes::Etype;
 use principal_keys::{EtypesFault, offered, read_etypes};
 use std::alloc::Global;
 use std::convert::AsStr;
-use text_fields::{Setting, number_u32};
+use text_fields::number_u32;
 
 /// What one command line orders.
 #[derive(Drop)]
@@ -20,43 +24,126 @@ pub(crate) struct Order<'a> {
 
 /// Why words order nothing.
 #[derive(Clone, Copy)]
-pub(crate) enum OrderFault {
-    /// An option has a value that is none, and this is what it takes.
+pub(crate) enum OrderFault<'a> {
+    /// The words don't fit, and this is what they should be.
     BadValue(&'static str),
+    /// A policy has no field of this name.
+    NoField(&'a str),
+    /// A field of a policy does not take this value.
+    NoSetting { field: &'a str, value: &'a str },
     Memory,
 }
 
-/// What is to be done. Paths and names stand as they were given. A seed that is in no file is the system's.
+/// What is to be done. Paths and names stand as they were given.
 #[derive(Clone, Copy)]
 pub(crate) enum Task<'a> {
+    Print(Print<'a>),
+    Write(Work<'a>),
+}
+
+/// What is printed of a database.
+#[derive(Clone, Copy)]
+pub(crate) enum Print<'a> {
+    /// A line for each principal, or for those whose names fit a pattern. A long line has more columns.
+    List { like: Option<&'a str>, long: bool },
+    Show { name: &'a str },
+}
+
+/// What is written. A seed that is in no file is the system's.
+#[derive(Clone, Copy)]
+pub(crate) enum Work<'a> {
     Init {
         realm: &'a str,
         seed: Option<&'a str>,
     },
-    /// A principal is changed.
+    /// A principal gets keys of a password.
+    Password(PasswordGrant<'a>),
+    /// A principal gets random keys.
+    Random(RandomGrant<'a>),
+    /// A principal is changed, but gets no keys.
     Change {
         name: &'a str,
         how: ChangeArgs<'a>,
     },
-    List,
-    Show {
-        name: &'a str,
-    },
-    Keytab {
-        name: &'a str,
-        out: &'a str,
-        append: bool,
-    },
+    Keytab(KeytabOrder<'a>),
     Migrate,
 }
 
-/// How a principal is changed. A field and its value are a setting. A password that is in no file is asked for.
+/// Who gets keys of a password.
+#[derive(Clone, Copy)]
+pub(crate) struct PasswordGrant<'a> {
+    pub name: &'a str,
+    pub password: PasswordArgs<'a>,
+    pub grant: Grant,
+}
+
+/// Who gets random keys.
+#[derive(Clone, Copy)]
+pub(crate) struct RandomGrant<'a> {
+    pub name: &'a str,
+    pub seed: Option<&'a str>,
+    pub grant: Grant,
+}
+
+/// Whose current keys go into which keytab, and whether it keeps what it has.
+#[derive(Clone, Copy)]
+pub(crate) struct KeytabOrder<'a> {
+    pub name: &'a str,
+    pub out: &'a str,
+    pub append: bool,
+}
+
+/// Where a password comes from.
+#[derive(Clone, Copy)]
+pub(crate) struct PasswordArgs<'a> {
+    /// A password that is in no file is asked for.
+    pub file: Option<&'a str>,
+    /// Takes also a password that is empty, or ends in a carriage return.
+    pub any: bool,
+}
+
+/// To whom keys are given.
+#[derive(Clone, Copy, PartialEq, Eq)]
+pub(crate) enum Grant {
+    /// To a new principal.
+    New,
+    /// To a principal that is there, as a new version beside the older ones.
+    Next,
+    /// The same, and the older versions are dropped.
+    Replace,
+    /// To a principal that is there as `Next` says, or to a new one.
+    Either,
+    /// To a principal that is there as `Replace` says, or to a new one.
+    EitherReplace,
+}
+
+/// What is done for a principal that is known to be there, or not.
+#[derive(Clone, Copy)]
+pub(crate) enum KeyChange {
+    New,
+    Next,
+    Replace,
+}
+
+impl Grant {
+    /// What is done, by whether the principal is there.
+    pub(crate) fn key_change(self, there: bool) -> KeyChange
+        ensures { result ≡ key_change self there }
+    {
+        match (self, there) {
+            (Grant::New, _) | (Grant::Either | Grant::EitherReplace, false) => KeyChange::New,
+            (Grant::Next, _) | (Grant::Either, true) => KeyChange::Next,
+            (Grant::Replace, _) | (Grant::EitherReplace, true) => KeyChange::Replace,
+        }
+    }
+}
+
+/// How a principal is changed. A field and its value are a setting.
 #[derive(Clone, Copy)]
 pub(crate) enum ChangeArgs<'a> {
-    Add { password: Option<&'a str> },
-    Passwd { password: Option<&'a str> },
-    Random { seed: Option<&'a str> },
     Drop { version: u32 },
+    /// Drops all versions but the current one.
+    DropOlder,
     Policy { field: &'a str, value: &'a str },
     Remove,
 }
@@ -65,7 +152,7 @@ const EXAMPLE: &str = "\
 A first realm:
   kadm init --db database --realm EXAMPLE.COM
   kadm add --db database --name alice
-  kadm random --db database --name host/www.example.com
+  kadm add --db database --name host/www.example.com --random
   kadm keytab --db database --name host/www.example.com --out www.keytab
   kadm list --db database
 
@@ -80,16 +167,18 @@ disabled, preauth, forwardable, proxiable, postdate, ok_as_delegate; expires, pa
 greatest_life, greatest_renewable";
 
 const VALUES: &str = "\
-true or false; a second since 1970, a date (2027-01-01, 2027-01-01T12:00:00Z) or never; seconds";
+true or false; a second since 1970, a date (2027-01-01, 2027-01-01T12:00:00Z), a time from now (10h, 7d) or never; \
+seconds, or a lifetime (10h, 7d)";
 
-// What stands behind `error:` where an option has a value that is none.
+// What stands behind `error:` where the words don't fit.
 
-const NO_VERSION: &str = "--version takes a number, 0 to 4294967295";
+const NO_VERSION: &str =
+    "--version takes a number, 0 to 4294967295; '--older' drops all versions but the current one";
 
 const NO_KEYTAB: &str = "--out takes another file than --db: try 'kadm keytab --help'";
 
-const NO_SETTING: &str = "\
---field takes the name of a field, and --value a value of that field: try 'kadm policy --help'";
+const NO_SOURCE: &str =
+    "--random takes no --password-file and no --any-password: its keys are of no password";
 
 const NO_TYPES: &str = "\
 --types takes the numbers 18, 17, 20 and 19, each at most once, with commas between";
@@ -111,7 +200,7 @@ pub(crate) fn read_args<'a, S: AsStr>(
 pub(crate) fn read_order<'a>(
     alloc: Global,
     matches: &ArgMatches<'a>,
-) -> Result<Order<'a>, OrderFault> {
+) -> Result<Order<'a>, OrderFault<'a>> {
     let Some((sub, args)) = matches.subcommand() else {
         return Err(OrderFault::BadValue(NO_COMMAND));
     };
@@ -122,18 +211,29 @@ pub(crate) fn read_order<'a>(
     };
     match task_of(sub, args) {
         Some((db, task)) => Ok(Order { db, task, etypes }),
-        None => Err(OrderFault::BadValue(bad_value(sub))),
+        None => Err(fault_of(sub, args)),
     }
 }
 
-/// What an option takes of which the value is none.
-fn bad_value(sub: &str) -> &'static str {
+/// Which words don't fit.
+fn fault_of<'a>(sub: &str, args: &ArgMatches<'a>) -> OrderFault<'a> {
     match sub {
-        "drop" => NO_VERSION,
-        "keytab" => NO_KEYTAB,
-        "policy" => NO_SETTING,
-        _ => NO_COMMAND,
+        "add" => OrderFault::BadValue(NO_SOURCE),
+        "drop" => OrderFault::BadValue(NO_VERSION),
+        "keytab" => OrderFault::BadValue(NO_KEYTAB),
+        "policy" => policy_fault(args),
+        _ => OrderFault::BadValue(NO_COMMAND),
     }
+}
+
+fn policy_fault<'a>(args: &ArgMatches<'a>) -> OrderFault<'a> {
+    let (Some(field), Some(value)) = (args.get_str("field"), args.get_str("value")) else {
+        return OrderFault::BadValue(NO_COMMAND);
+    };
+    if taken_by(field).is_none() {
+        return OrderFault::NoField(field);
+    }
+    OrderFault::NoSetting { field, value }
 }
 
 /// The types of the keys that are made: all four, where none are named.
@@ -144,7 +244,7 @@ fn read_key_types(alloc: Global, args: &ArgMatches<'_>) -> Result<Vec<Etype>, Et
     }
 }
 
-/// The path of the database and what is to be done; `None` where a number, a setting, or the path of a keytab, is none.
+/// The path of the database and what is to be done; `None` if the words don't fit.
 fn task_of<'a>(sub: &str, args: &ArgMatches<'a>) -> Option<(&'a str, Task<'a>)> {
     let db = args.get_str("db")?;
     let task = match args.get_str("name") {
@@ -156,18 +256,79 @@ fn task_of<'a>(sub: &str, args: &ArgMatches<'a>) -> Option<(&'a str, Task<'a>)> 
 
 /// What is to be done to a principal, or with it.
 fn task_on<'a>(sub: &str, name: &'a str, args: &ArgMatches<'a>) -> Option<Task<'a>> {
-    Some(match sub {
-        "show" => Task::Show { name },
-        "keytab" => Task::Keytab {
+    match sub {
+        "show" => Some(Task::Print(Print::Show { name })),
+        _ => Some(Task::Write(work_on(sub, name, args)?)),
+    }
+}
+
+fn work_on<'a>(sub: &str, name: &'a str, args: &ArgMatches<'a>) -> Option<Work<'a>> {
+    match sub {
+        "add" => added(name, args),
+        "passwd" => Some(Work::Password(PasswordGrant {
+            name,
+            password: password_args(args),
+            grant: next_grant(args),
+        })),
+        "random" => Some(Work::Random(RandomGrant {
+            name,
+            seed: args.get_str("seed"),
+            grant: either_grant(args),
+        })),
+        "keytab" => Some(Work::Keytab(KeytabOrder {
             name,
             out: keytab_path(args)?,
             append: args.get_flag(APPEND),
-        },
-        _ => Task::Change {
+        })),
+        _ => Some(Work::Change {
             name,
             how: change_args(sub, args)?,
-        },
-    })
+        }),
+    }
+}
+
+/// A principal that is added; `None` where random keys are to be of a password.
+fn added<'a>(name: &'a str, args: &ArgMatches<'a>) -> Option<Work<'a>> {
+    let password = password_args(args);
+    let grant = Grant::New;
+    if !args.get_flag(RANDOM) {
+        return Some(Work::Password(PasswordGrant {
+            name,
+            password,
+            grant,
+        }));
+    }
+    if password.any || password.file.is_some() {
+        return None;
+    }
+    Some(Work::Random(RandomGrant {
+        name,
+        seed: None,
+        grant,
+    }))
+}
+
+fn password_args<'a>(args: &ArgMatches<'a>) -> PasswordArgs<'a> {
+    PasswordArgs {
+        file: args.get_str("password-file"),
+        any: args.get_flag(ANY_PASSWORD),
+    }
+}
+
+fn next_grant(args: &ArgMatches<'_>) -> Grant {
+    if args.get_flag(REPLACE) {
+        Grant::Replace
+    } else {
+        Grant::Next
+    }
+}
+
+fn either_grant(args: &ArgMatches<'_>) -> Grant {
+    if args.get_flag(REPLACE) {
+        Grant::EitherReplace
+    } else {
+        Grant::Either
+    }
 }
 
 /// The path of a keytab; `None` where it is that of the database, which it would replace.
@@ -180,53 +341,48 @@ fn keytab_path<'a>(args: &ArgMatches<'a>) -> Option<&'a str> {
 }
 
 fn change_args<'a>(sub: &str, args: &ArgMatches<'a>) -> Option<ChangeArgs<'a>> {
-    Some(match sub {
-        "add" => ChangeArgs::Add {
-            password: args.get_str("password-file"),
-        },
-        "passwd" => ChangeArgs::Passwd {
-            password: args.get_str("password-file"),
-        },
-        "random" => ChangeArgs::Random {
-            seed: args.get_str("seed"),
-        },
-        "drop" => ChangeArgs::Drop {
-            version: number_u32(args.get_str("version")?)?,
-        },
-        "policy" => policy_args(args)?,
-        "remove" => ChangeArgs::Remove,
-        _ => return None,
-    })
+    match sub {
+        "drop" => drop_args(args),
+        "policy" => policy_args(args),
+        "remove" => Some(ChangeArgs::Remove),
+        _ => None,
+    }
+}
+
+/// A version, or the older ones; `None` where both are named, or neither is.
+fn drop_args<'a>(args: &ArgMatches<'a>) -> Option<ChangeArgs<'a>> {
+    match (args.get_str("version"), args.get_flag(OLDER)) {
+        (Some(version), false) => Some(ChangeArgs::Drop {
+            version: number_u32(version)?,
+        }),
+        (None, true) => Some(ChangeArgs::DropOlder),
+        _ => None,
+    }
 }
 
 /// What is to be done to a whole database.
 fn task_on_all<'a>(sub: &str, args: &ArgMatches<'a>) -> Option<Task<'a>> {
-    Some(match sub {
-        "init" => Task::Init {
+    match sub {
+        "init" => Some(Task::Write(Work::Init {
             realm: args.get_str("realm")?,
             seed: args.get_str("seed"),
-        },
-        "list" => Task::List,
-        "migrate" => Task::Migrate,
-        _ => return None,
-    })
+        })),
+        "list" => Some(Task::Print(Print::List {
+            like: args.get_str("like"),
+            long: args.get_flag(LONG),
+        })),
+        "migrate" => Some(Task::Write(Work::Migrate)),
+        _ => None,
+    }
 }
 
 fn policy_args<'a>(args: &ArgMatches<'a>) -> Option<ChangeArgs<'a>> {
     let field = args.get_str("field")?;
     let value = args.get_str("value")?;
-    if setting_of(field, value).is_none() {
+    if !is_setting(field, value) {
         return None;
     }
     Some(ChangeArgs::Policy { field, value })
-}
-
-/// A field with its value, of which a time may be a date too.
-pub(crate) fn setting_of(field: &str, value: &str) -> Option<Setting> {
-    match Setting::of(field, value) {
-        Some(setting) => Some(setting),
-        None => Setting::of_date(field, value),
-    }
 }
 
 const DB: OptionRow = OptionRow {
@@ -275,7 +431,14 @@ const VERSION: OptionRow = OptionRow {
     name: "version",
     shape: "N",
     help: "The version's number",
-    times: Times::Once,
+    times: Times::AtMostOnce,
+};
+
+const LIKE: OptionRow = OptionRow {
+    name: "like",
+    shape: "PATTERN",
+    help: "Prints only the principals whose names fit; `*` stands for any octets, as in 'host/*'",
+    times: Times::AtMostOnce,
 };
 
 const FIELD: OptionRow = OptionRow {
@@ -310,7 +473,42 @@ const APPEND: &str = "append";
 
 const APPENDS: FlagRow = FlagRow {
     name: APPEND,
-    help: "Keeps the entries that the keytab has, and adds the keys",
+    help: "Keeps the entries that the keytab has, its owner, group and mode, and adds the keys",
+};
+
+const RANDOM: &str = "random";
+
+const RANDOMS: FlagRow = FlagRow {
+    name: RANDOM,
+    help: "Gives it random keys, and asks for no password",
+};
+
+const REPLACE: &str = "replace";
+
+const REPLACES: FlagRow = FlagRow {
+    name: REPLACE,
+    help: "Drops all older versions of its keys in the same change, as after a theft",
+};
+
+const OLDER: &str = "older";
+
+const OLDERS: FlagRow = FlagRow {
+    name: OLDER,
+    help: "Drops all versions but the current one",
+};
+
+const LONG: &str = "long";
+
+const LONGS: FlagRow = FlagRow {
+    name: LONG,
+    help: "Prints also: expires, password_expires, disabled, and how many versions there are",
+};
+
+const ANY_PASSWORD: &str = "any-password";
+
+const ANY_PASSWORDS: FlagRow = FlagRow {
+    name: ANY_PASSWORD,
+    help: "Takes also a password that is empty, or that ends in a carriage return",
 };
 
 const SUBCOMMANDS: &[SubcommandRow] = &[
@@ -322,27 +520,27 @@ const SUBCOMMANDS: &[SubcommandRow] = &[
     },
     SubcommandRow {
         name: "add",
-        about: "Adds a principal, whose keys are made of a password",
+        about: "Adds a principal, whose keys are made of a password, or random",
         options: &[DB, NAME, PASSWORD, TYPES],
-        flags: &[],
+        flags: &[RANDOMS, ANY_PASSWORDS],
     },
     SubcommandRow {
         name: "passwd",
-        about: "Gives a principal new keys, which are made of a password",
+        about: "Gives a principal new keys, which are made of a password; a `password_expires` that is past is cleared",
         options: &[DB, NAME, PASSWORD, TYPES],
-        flags: &[],
+        flags: &[REPLACES, ANY_PASSWORDS],
     },
     SubcommandRow {
         name: "random",
-        about: "Gives a principal random keys; adds it where it is not there",
+        about: "Gives a principal random keys; adds it where it is not there, and says so",
         options: &[DB, NAME, SEED, TYPES],
-        flags: &[],
+        flags: &[REPLACES],
     },
     SubcommandRow {
         name: "drop",
-        about: "Drops the keys of an old version",
+        about: "Drops the keys of an old version, or of all old ones",
         options: &[DB, NAME, VERSION],
-        flags: &[],
+        flags: &[OLDERS],
     },
     SubcommandRow {
         name: "policy",
@@ -359,8 +557,8 @@ const SUBCOMMANDS: &[SubcommandRow] = &[
     SubcommandRow {
         name: "list",
         about: "Prints a line for each principal: its name, its current version, and the types of its keys",
-        options: &[DB],
-        flags: &[],
+        options: &[DB, LIKE],
+        flags: &[LONGS],
     },
     SubcommandRow {
         name: "show",

@@ -1,28 +1,83 @@
 //! Passwords that are set.
+ghost use Rattle.std.specs.Prelude.{◌≡◌, IfOk};
+ghost use Rattle.kadm_run.specs.Worlds.{IsPasswordOf, path_of};
+
+use crate::databases::read_database;
+use crate::order::{Order, PasswordArgs};
 use crate::reason::Reason;
 use crate::stop::Stop;
 use file_store::{Store, ask_password, read_password};
 use krb_fields::component_to_text;
 use std::alloc::Global;
 
-/// The password of a file, or of standard input where no file is named. A terminal is asked for it twice, and what is
-/// given the second time has to be the same.
+/// Gets the password of a principal, before the database is locked: from its file, or from standard input.
 pub(crate) fn new_password<'p, T: Store>(
     alloc: Global,
+    order: &Order<'p>,
     store: &mut T,
-    path: Option<&'p str>,
     name: &str,
-    realm: &[u8],
-) -> Result<Vec<u8>, Stop<'p>> {
-    if let Some(path) = path {
-        return Ok(read_password(alloc, store, path)?);
+    args: PasswordArgs<'p>,
+) -> Result<Vec<u8>, Stop<'p>>
+    ensures given { IfOk result (λ pass. IsPasswordOf (T.world store.old) (path_of args.entry.file) pass.items) }
+    ensures kept { T.world store.new ≡ T.world store.old }
+{
+    let pass = match args.file {
+        Some(path) => read_password(alloc, store, path)?,
+        None => asked_password(alloc, order, store, name)?,
+    };
+    if !args.any && is_unlikely(&pass) {
+        return Err(Stop::Refused(Reason::BadPassword));
     }
-    let realm = component_to_text(alloc, realm)?;
-    let pass = ask_password(alloc, store, name, &realm)?;
+    Ok(pass)
+}
+
+/// Checks whether a password is none that anybody means to set: it is empty, or its line ends as on other systems.
+fn is_unlikely(pass: &[u8]) -> bool {
+    match pass.last() {
+        Some(octet) => *octet == b'\r',
+        None => true,
+    }
+}
+
+/// Asks for the password of a principal, by its name and realm.
+fn asked_password<'p, T: Store>(
+    alloc: Global,
+    order: &Order<'p>,
+    store: &mut T,
+    name: &str,
+) -> Result<Vec<u8>, Stop<'p>>
+    ensures kept { T.world store.new ≡ T.world store.old }
+{
+    let realm = realm_text(alloc, order, store)?;
+    ask_twice(alloc, store, name, &realm)
+}
+
+/// The text of the realm's name.
+fn realm_text<'p, T: Store>(
+    alloc: Global,
+    order: &Order<'p>,
+    store: &mut T,
+) -> Result<String, Stop<'p>>
+    ensures kept { T.world store.new ≡ T.world store.old }
+{
+    let database = read_database(alloc, store, order.db)?;
+    Ok(component_to_text(alloc, database.realm())?)
+}
+
+/// A terminal is asked twice, and what is given the second time has to be the same.
+fn ask_twice<T: Store>(
+    alloc: Global,
+    store: &mut T,
+    name: &str,
+    realm: &str,
+) -> Result<Vec<u8>, Stop<'static>>
+    ensures kept { T.world store.new ≡ T.world store.old }
+{
+    let pass = ask_password(alloc, store, name, realm)?;
     if !store.is_terminal() {
         return Ok(pass);
     }
-    let again = ask_password(alloc, store, name, &realm)?;
+    let again = ask_password(alloc, store, name, realm)?;
     if again != pass {
         return Err(Stop::Refused(Reason::Mismatch));
     }

@@ -17,6 +17,10 @@ pub(crate) enum Reason {
     NoTicketGranter,
     /// A password that is given twice is another the second time.
     Mismatch,
+    /// A password is empty, or ends in a carriage return.
+    BadPassword,
+    /// A time from now is past the year 9999.
+    BadTime,
     Exists,
     Protected,
     /// There is no such principal.
@@ -44,6 +48,8 @@ impl Reason {
             Reason::BadRow => "BadRow",
             Reason::NoTicketGranter => "NoTicketGranter",
             Reason::Mismatch => "Mismatch",
+            Reason::BadPassword => "BadPassword",
+            Reason::BadTime => "BadTime",
             Reason::Protected => "Protected",
             Reason::Absent | Reason::NoVersion => "Absent",
             Reason::LastVersion => "LastVersion",
@@ -60,13 +66,17 @@ impl Reason {
         match self {
             Reason::BadName => "no name is written so; it stands without @REALM",
             Reason::BadRealm => "no realm is written so; it is one component of 1 to 255 octets",
-            Reason::Locked => "another command works on it",
+            Reason::Locked => "another kadm still works on it after ten seconds",
             Reason::FileExists | Reason::Exists => "it is there already",
             Reason::NotJson => "it is no database: its text is no JSON object",
             Reason::BadVersion => "it is no database of version 1 or 2",
             Reason::BadRow => "its realm, or a row, is amiss",
             Reason::NoTicketGranter => "it has no row of krbtgt/REALM",
             Reason::Mismatch => "the two passwords differ",
+            Reason::BadPassword => {
+                "its password is empty or ends in a carriage return; `--any-password` allows that"
+            }
+            Reason::BadTime => "this is past the end of the year 9999",
             Reason::Protected => "the realm's tickets are made with its keys, so it stays",
             Reason::Absent => "no such principal is in the database",
             Reason::NoVersion => "it has no keys of this version",
@@ -83,6 +93,7 @@ impl Reason {
     pub(crate) fn option(self) -> &'static str {
         match self {
             Reason::BadRealm => "realm",
+            Reason::BadTime => "value",
             Reason::Locked
             | Reason::FileExists
             | Reason::NotJson
@@ -92,6 +103,7 @@ impl Reason {
             Reason::IsDatabase | Reason::BadMagic | Reason::Truncated | Reason::BadEntry => "out",
             Reason::BadName
             | Reason::Mismatch
+            | Reason::BadPassword
             | Reason::Exists
             | Reason::Protected
             | Reason::Absent

@@ -1,14 +1,17 @@
 //! One command line: from its words to the files.
-ghost use Rattle.std.specs.Prelude.{◌≤◌, IfOk};
+ghost use Rattle.std.specs.Prelude.{◌≡◌, ◌⊎◌, IfErr, IfOk, OnErr, OnOk};
+ghost use Rattle.kadm_run.specs.Ends.{IsDone, IsEnd, IsStopped};
+ghost use Rattle.kadm_run.specs.Worlds.{Did, DidSome};
 
 use crate::changes::{change, make_realm, migrate};
+use crate::granting::{grant_password, grant_random};
 use crate::keytabs::write_keytab;
 use crate::listing::{print_list, print_row};
-use crate::order::{Order, OrderFault, Task, read_args, read_order};
+use crate::order::{Order, OrderFault, Print, Task, Work, read_args, read_order};
 use crate::stop::{Stop, report};
+use crate::values::taken_by;
 use clap::ArgMatches;
 use clap::error::{Error, ErrorKind};
-use enctypes::Etype;
 use file_store::Store;
 use std::alloc::{AllocError, Global};
 use std::convert::AsStr;
@@ -37,7 +40,7 @@ pub fn kadm_run<S: AsStr, T: Store, W: Write + Drop, E: Write + Drop>(
     writer: W,
     errors: E,
 ) -> u8
-    ensures { result ≤ 3 }
+    ensures { IsEnd (T.world store.old) result (T.world store.new) }
 {
     let Ok(mut out) = BufWriter::new(alloc, writer) else {
         return FAILED;
@@ -57,9 +60,10 @@ fn run_and_report<T: Store, W: Write, E: Write>(
     out: &mut W,
     errors: &mut E,
 ) -> io::Result<u8>
-    ensures { IfOk result (λ status. status ≤ 3) }
+    ensures ended { IfOk result (λ status. IsEnd (T.world store.old) status (T.world store.new)) }
+    ensures failed { OnErr result (IsEnd (T.world store.old) 3 (T.world store.new)) }
 {
-    let status = match run_to_end(alloc, matches, store, out) {
+    let status = match run_to_end(alloc, matches, store, out, errors) {
         Ok(()) => DONE,
         Err(stop) => report(out, errors, matches, stop)?,
     };
@@ -70,14 +74,18 @@ fn run_and_report<T: Store, W: Write, E: Write>(
 }
 
 /// Does what the words say, up to where all that it prints is taken.
-fn run_to_end<'a, T: Store, W: Write>(
+fn run_to_end<'a, T: Store, W: Write, E: Write>(
     alloc: Global,
     matches: &Result<ArgMatches<'a>, Error>,
     store: &mut T,
     out: &mut W,
-) -> Result<(), Stop<'a>> {
+    errors: &mut E,
+) -> Result<(), Stop<'a>>
+    ensures done { OnOk result ((T.world store.new ≡ T.world store.old) ⊎ DidSome (T.world store.old) (T.world store.new)) }
+    ensures stopped { IfErr result (λ stop. IsStopped stop (T.world store.old) (T.world store.new)) }
+{
     match matches {
-        Ok(matches) => run_matches(alloc, matches, store, out)?,
+        Ok(matches) => run_matches(alloc, matches, store, out, errors)?,
         Err(error) => print_args_fault(out, error)?,
     }
     Ok(out.flush()?)
@@ -96,51 +104,94 @@ fn print_args_fault<'a, W: Write>(out: &mut W, error: &Error) -> Result<(), Stop
     }
 }
 
-fn run_matches<'a, T: Store, W: Write>(
+fn run_matches<'a, T: Store, W: Write, E: Write>(
     alloc: Global,
     matches: &ArgMatches<'a>,
     store: &mut T,
     out: &mut W,
-) -> Result<(), Stop<'a>> {
+    errors: &mut E,
+) -> Result<(), Stop<'a>>
+    ensures done { OnOk result ((T.world store.new ≡ T.world store.old) ⊎ DidSome (T.world store.old) (T.world store.new)) }
+    ensures stopped { IfErr result (λ stop. IsStopped stop (T.world store.old) (T.world store.new)) }
+{
     match read_order(alloc, matches) {
-        Ok(order) => run_order(alloc, &order, store, out),
-        Err(OrderFault::BadValue(fault)) => {
-            writeln!(out, "error: {fault}")?;
-            Err(Stop::Usage)
-        }
-        Err(OrderFault::Memory) => Err(Stop::from(AllocError)),
+        Ok(order) => run_order(alloc, &order, store, out, errors),
+        Err(fault) => print_order_fault(out, fault),
     }
 }
 
-fn run_order<'a, T: Store, W: Write>(
+/// Prints what is wrong with the words of a subcommand.
+fn print_order_fault<'a, W: Write>(out: &mut W, fault: OrderFault<'a>) -> Result<(), Stop<'a>> {
+    match fault {
+        OrderFault::BadValue(fault) => writeln!(out, "error: {fault}")?,
+        OrderFault::NoField(field) => {
+            writeln!(
+                out,
+                "error: --field: a policy has no {field}: try 'kadm policy --help'"
+            )?;
+        }
+        OrderFault::NoSetting { field, value } => {
+            let taken = taken_by(field).unwrap_or("another value");
+            writeln!(out, "error: --value: {field} takes {taken}, not '{value}'")?;
+        }
+        OrderFault::Memory => return Err(Stop::from(AllocError)),
+    }
+    Err(Stop::Usage)
+}
+
+fn run_order<'a, T: Store, W: Write, E: Write>(
     alloc: Global,
     order: &Order<'a>,
     store: &mut T,
     out: &mut W,
-) -> Result<(), Stop<'a>> {
-    let db = order.db;
+    errors: &mut E,
+) -> Result<(), Stop<'a>>
+    ensures done { OnOk result (IsDone (T.world store.old) order.now (T.world store.new)) }
+    ensures stopped { IfErr result (λ stop. IsStopped stop (T.world store.old) (T.world store.new)) }
+{
     match order.task {
-        Task::List => return print_list(alloc, store, db, out),
-        Task::Show { name } => return print_row(alloc, store, db, name, out),
-        task => run_task(alloc, db, task, &order.etypes, store)?,
+        Task::Print(print) => run_print(alloc, order, print, store, out),
+        Task::Write(work) => {
+            run_work(alloc, order, work, store, errors)?;
+            writeln!(out, "ok")?;
+            Ok(())
+        }
     }
-    writeln!(out, "ok")?;
-    Ok(())
 }
 
-/// Does what prints no more than `ok`; `list` and `show` are none of it.
-fn run_task<'a, T: Store>(
+/// Prints what the database holds.
+fn run_print<'a, T: Store, W: Write>(
     alloc: Global,
-    db: &'a str,
-    task: Task<'a>,
-    etypes: &[Etype],
+    order: &Order<'a>,
+    print: Print<'a>,
     store: &mut T,
-) -> Result<(), Stop<'a>> {
-    match task {
-        Task::Init { realm, seed } => make_realm(alloc, store, db, realm, seed, etypes),
-        Task::Change { name, how } => change(alloc, store, db, name, how, etypes),
-        Task::Keytab { name, out, append } => write_keytab(alloc, store, db, name, out, append),
-        Task::Migrate => migrate(alloc, store, db),
-        Task::List | Task::Show { .. } => Ok(()),
+    out: &mut W,
+) -> Result<(), Stop<'a>>
+    ensures kept { T.world store.new ≡ T.world store.old }
+{
+    match print {
+        Print::List { like, long } => print_list(alloc, order.db, like, long, store, out),
+        Print::Show { name } => print_row(alloc, store, order.db, name, out),
+    }
+}
+
+/// Does what writes a file, and prints no more than `ok`.
+fn run_work<'a, T: Store, E: Write>(
+    alloc: Global,
+    order: &Order<'a>,
+    work: Work<'a>,
+    store: &mut T,
+    errors: &mut E,
+) -> Result<(), Stop<'a>>
+    ensures done { OnOk result (Did (T.world store.old) order.now.db.now order.now.etypes.items work.entry (T.world store.new)) }
+    ensures kept { OnErr result (T.world store.new ≡ T.world store.old) }
+{
+    match work {
+        Work::Init { realm, seed } => make_realm(alloc, order, store, errors, realm, seed),
+        Work::Password(to) => grant_password(alloc, order, store, errors, to),
+        Work::Random(to) => grant_random(alloc, order, store, errors, to),
+        Work::Change { name, how } => change(alloc, order, store, errors, name, how),
+        Work::Keytab(to) => write_keytab(alloc, order, store, errors, to),
+        Work::Migrate => migrate(alloc, order, store, errors),
     }
 }

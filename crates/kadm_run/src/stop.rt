@@ -1,5 +1,6 @@
 //! Why a command ends before it is done, and what it then prints.
-ghost use Rattle.std.specs.Prelude.{◌≤◌, IfOk};
+ghost use Rattle.std.specs.Prelude.{◌≡◌, IfOk};
+ghost use Rattle.kadm_run.specs.Ends.{IsFailed, IsStatusOf};
 
 use crate::reason::Reason;
 use crate::run::{FAILED, REFUSED, USAGE};
@@ -29,7 +30,9 @@ pub(crate) enum Stop<'p> {
 }
 
 impl Stop<'_> {
-    fn failed(path: &'static str, error: io::Error) -> Stop<'static> {
+    fn failed(path: &'static str, error: io::Error) -> Stop<'static>
+        ensures { IsFailed result }
+    {
         Stop::File(FileFault {
             path,
             amiss: Amiss::Failed(error),
@@ -51,6 +54,10 @@ impl<T: Drop> From<AllocFailed<T>> for Stop<'_> {
 
 /// An error of what is written to standard output.
 impl From<io::Error> for Stop<'_> {
+    ghost use Rattle.kadm_run.specs.Ends.{IsFailed};
+
+    ghost from_gives = { λ _ stop. IsFailed stop };
+
     fn from(error: io::Error) -> Self {
         Stop::failed(STANDARD_OUTPUT, error)
     }
@@ -135,7 +142,7 @@ pub(crate) fn report<W: Write, E: Write>(
     matches: &Result<ArgMatches<'_>, Error>,
     stop: Stop<'_>,
 ) -> io::Result<u8>
-    ensures { IfOk result (λ status. status ≤ 3) }
+    ensures { IfOk result (λ status. IsStatusOf stop.entry status) }
 {
     match stop {
         Stop::Usage => Ok(USAGE),
@@ -145,9 +152,9 @@ pub(crate) fn report<W: Write, E: Write>(
         }
         Stop::File(fault) => {
             let _ = writeln!(errors, "kadm: {fault}");
-            match fault.amiss.refusal() {
-                Some(name) => print_refusal(out, name),
-                None => print_failure(out),
+            match (fault.amiss, fault.amiss.refusal()) {
+                (Amiss::Failed(_), _) | (_, None) => print_failure(out),
+                (_, Some(name)) => print_refusal(out, name),
             }
         }
     }
@@ -163,23 +170,41 @@ fn word_of<'a>(matches: &Result<ArgMatches<'a>, Error>, option: &str) -> Option<
     if word.is_empty() { None } else { Some(word) }
 }
 
-/// Says of what a refusal is, and what it means. Where that can't be written there is no one to tell.
+/// Says of what a refusal is, and what it means. If that can't be written there is no one to tell.
 fn tell_reason<E: Write>(errors: &mut E, word: Option<&str>, reason: Reason) {
     let _ = match word {
         Some(word) => writeln!(errors, "kadm: {word}: {}", reason.text()),
         None => writeln!(errors, "kadm: --{}: {}", reason.option(), reason.text()),
     };
+    if let (Reason::BadName | Reason::BadRealm, Some(word)) = (reason, word) {
+        let _ = tell_spelling(errors, word);
+    }
+}
+
+/// Says how the characters of a name are written that can't stand in it as they are.
+fn tell_spelling<E: Write>(errors: &mut E, word: &str) -> io::Result<()> {
+    for letter in word.chars() {
+        if !letter.is_ascii_graphic() {
+            write!(errors, "kadm: write {letter:?} as ")?;
+            let mut octets = [0; 4];
+            for octet in letter.encode_utf8(&mut octets).as_bytes() {
+                write!(errors, "\\{octet:02x}")?;
+            }
+            writeln!(errors)?;
+        }
+    }
+    Ok(())
 }
 
 fn print_refusal<W: Write>(out: &mut W, name: &str) -> io::Result<u8>
-    ensures { IfOk result (λ status. status ≤ 3) }
+    ensures { IfOk result (λ status. status ≡ 1) }
 {
     writeln!(out, "refused {name}")?;
     Ok(REFUSED)
 }
 
 fn print_failure<W: Write>(out: &mut W) -> io::Result<u8>
-    ensures { IfOk result (λ status. status ≤ 3) }
+    ensures { IfOk result (λ status. status ≡ 3) }
 {
     writeln!(out, "failed")?;
     Ok(FAILED)

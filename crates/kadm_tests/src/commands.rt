@@ -229,7 +229,10 @@ const REFUSALS: &[Step] = &[
     Refuses(
         "kadm remove --db db --name x",
         "refused Locked\n",
-        "kadm: db: another command works on it\n",
+        "\
+kadm: waiting for another kadm
+kadm: db: another kadm still works on it after ten seconds
+",
     ),
     Absent("kt"),
     Absent("other"),
@@ -248,6 +251,32 @@ const FAULTS: &[Step] = &[
     IsAtFault("kadm list --db ", "--db"),
     IsAtFault("kadm make --db db", "make"),
     IsAtFault("kadm show --db db", "--name"),
+    IsAtFault("kadm drop --db db --name h", "--version"),
+    IsAtFault("kadm drop --db db --name h --version 1 --older", "--older"),
+    IsAtFault(
+        "kadm add --db db --name u --random --password-file pass",
+        "--random",
+    ),
+    IsAtFault(
+        "kadm add --db db --name u --random --any-password",
+        "--random",
+    ),
+    IsAtFault(
+        "kadm policy --db db --name krbtgt/A.B --field life --value 1",
+        "error: --field: a policy has no life: try 'kadm policy --help'\n",
+    ),
+    IsAtFault(
+        "kadm policy --db db --name krbtgt/A.B --field greatest_life --value 1w",
+        "greatest_life takes seconds (36000), or a number with s, m, h or d behind it (10h, 7d), not '1w'\n",
+    ),
+    IsAtFault(
+        "kadm policy --db db --name krbtgt/A.B --field greatest_life --value 49711d",
+        "greatest_life takes",
+    ),
+    IsAtFault(
+        "kadm policy --db db --name krbtgt/A.B --field preauth --value 1h",
+        "preauth takes true or false, not '1h'\n",
+    ),
     IsAtFault("kadm drop --db db --name h --version +1", "--version"),
     IsAtFault("kadm drop --db db --name h --version -1", "--version"),
     IsAtFault("kadm keytab --db db --name h --out db", "--out"),

@@ -9,6 +9,8 @@ mod files;
 #[cfg(test)]
 mod given;
 #[cfg(test)]
+mod grants;
+#[cfg(test)]
 mod rows;
 #[cfg(test)]
 mod steps;

@@ -14,7 +14,9 @@ use text_fields::Setting;
 pub enum Step {
     /// A command line, whose words stand between spaces, prints this and has this status.
     Run(&'static str, &'static str, u8),
-    /// The same, and it leaves `db` as `before` is.
+    /// A command line is done, prints `ok`, and writes this to standard error.
+    Tells(&'static str, &'static str),
+    /// The same as `Run`, and it leaves `db` as `before` is.
     Leaves(&'static str, &'static str, u8),
     /// A command line is refused so, writes this to standard error, and leaves `db` as `before` is.
     Refuses(&'static str, &'static str, &'static str),
@@ -38,8 +40,12 @@ pub enum Step {
     Letters(usize),
     /// What the system draws is octets 7.
     Draw,
-    /// Another program keeps each file.
+    /// The system's clock stands at this second since 1970.
+    Clock(u64),
+    /// Another program has the lock of each file.
     Keep,
+    /// Another program has it for so many pauses.
+    KeepFor(u32),
     /// Two files hold the same.
     Same(&'static str, &'static str),
     /// A file holds these octets.
@@ -106,8 +112,24 @@ fn expect_run(
     assert_eq!(rt; text(&ended.written), printed, "{line}");
     assert_eq!(rt; ended.status, status, "{line}");
     // what is not done is told beside, but for a fault of the words
-    let is_quiet = status == DONE || status == USAGE;
-    assert!(rt; ended.errors.is_empty() == is_quiet, "{line}");
+    assert!(rt;
+        status == DONE || ended.errors.is_empty() == (status == USAGE),
+        "{line}"
+    );
+    Ok(())
+}
+
+fn expect_told(
+    rt: &impl Abort,
+    alloc: Global,
+    store: &mut MemoryStore,
+    line: &str,
+    said: &str,
+) -> io::Result<()> {
+    let ended = run_line(alloc, store, line)?;
+    assert_eq!(rt; text(&ended.written), "ok\n", "{line}");
+    assert_eq!(rt; ended.status, DONE, "{line}");
+    assert_eq!(rt; text(&ended.errors), said, "{line}");
     Ok(())
 }
 
@@ -244,6 +266,7 @@ fn contains(store: &MemoryStore, path: &str, said: &str) -> bool {
 fn do_step(rt: &impl Abort, alloc: Global, store: &mut MemoryStore, step: Step) -> io::Result<()> {
     match step {
         Step::Run(line, printed, status) => expect_run(rt, alloc, store, line, printed, status),
+        Step::Tells(line, said) => expect_told(rt, alloc, store, line, said),
         Step::Leaves(line, printed, status) => expect_left(rt, alloc, store, line, printed, status),
         Step::Refuses(line, printed, said) => expect_refusal(rt, alloc, store, line, printed, said),
         Step::FailsAtEach(line, calls) => expect_failures(rt, alloc, store, line, calls),
@@ -263,7 +286,9 @@ fn do_step(rt: &impl Abort, alloc: Global, store: &mut MemoryStore, step: Step) 
 fn set(store: &mut MemoryStore, step: Step) {
     match step {
         Step::Draw => store.set_random([7; 32]),
+        Step::Clock(seconds) => store.set_seconds(seconds),
         Step::Keep => store.keep(true),
+        Step::KeepFor(pauses) => store.keep_for(pauses),
         _ => {}
     }
 }

@@ -1,10 +1,13 @@
 //! The store over the system's files (`file_store`). Each test removes its files in the end.
 use file_store::{FileStore, Store};
-use std::os::unix::fs::MetadataExt;
+use std::fs::Permissions;
+use std::os::unix::fs::{MetadataExt, PermissionsExt};
 use std::test::Fail;
 use std::{fs, io};
 
 const WRITTEN: &str = "tested.written";
+
+const UPDATED: &str = "tested.updated";
 
 const LIMITED: &str = "tested.limited";
 
@@ -25,6 +28,25 @@ fn a_file_that_is_written_anew_is_its_owners_alone(rt: HostRuntime) -> Result<()
     fs::remove_file(&rt, WRITTEN)?;
     assert!(rt; octets.is_some_and(|octets| octets.as_slice() == b"second".as_slice()));
     assert_eq!(rt; rights, 0o600);
+    Ok(())
+}
+
+/// The rights on a file that others may read, after it is updated, and after it is written anew.
+fn rights_after(rt: &HostRuntime) -> io::Result<[u32; 2]> {
+    let mut store = FileStore::new(rt);
+    store.update(rt.alloc(), UPDATED, b"first")?;
+    fs::set_permissions(rt, UPDATED, Permissions::from_mode(0o644))?;
+    store.update(rt.alloc(), UPDATED, b"second")?;
+    let updated = fs::metadata(rt, UPDATED)?.mode() & 0o777;
+    store.write(rt.alloc(), UPDATED, b"third")?;
+    Ok([updated, fs::metadata(rt, UPDATED)?.mode() & 0o777])
+}
+
+#[test]
+fn a_file_that_is_updated_keeps_its_rights(rt: HostRuntime) -> Result<(), Fail> {
+    let rights = rights_after(&rt)?;
+    fs::remove_file(&rt, UPDATED)?;
+    assert_eq!(rt; rights, [0o644, 0o600]);
     Ok(())
 }
 

@@ -1,0 +1,31 @@
+-- What a store holds. A store that can't tell has no world, and nothing is said of it.
+use Rattle.std.specs.Prelude.{◌≡◌, ◌≤◌, ℕ, Bool, List, Option, Some, None, IfSome, is_some, if◌then◌else◌, bytes_eq}
+use Rattle.std.specs.Prelude.{length, take}
+use Rattle.file_store.specs.Inputs.{first_line}
+
+pub record World : Type 0 where
+  pub files : List ℕ → Option (List ℕ)  -- what each path has
+  pub random : List ℕ  -- what each draw gives
+
+-- with a file at a path, in place of the one that is there; every other path has what it had
+abbrev pub with_file : List ℕ → List ℕ → World → World
+with_file path octets world =
+    record world { files = λ asked. if bytes_eq path asked then Some octets else world.files asked }
+
+abbrev pub IsThere : Option World → List ℕ → Bool → Type 0
+IsThere world path found = IfSome world (λ held. found ≡ is_some (held.files path))
+
+abbrev pub IsRead : Option World → List ℕ → List ℕ → Type 0
+IsRead world path octets = IfSome world (λ held. held.files path ≡ Some octets)
+
+abbrev pub IsDrawn : Option World → List ℕ → Type 0
+IsDrawn world octets = IfSome world (λ held. octets ≡ held.random)
+
+-- the first 32 octets of a file, or of a draw where no file is named
+abbrev pub HasSeed : Option World → Option (List ℕ) → List ℕ → Type 0
+HasSeed world (Some path) seed = (octets : List ℕ) × IsRead world path octets × (32 ≤ length octets) × (seed ≡ take 32 octets)
+HasSeed world None seed = IsDrawn world seed
+
+-- the first line of a file
+abbrev pub HasFirstLine : Option World → List ℕ → List ℕ → Type 0
+HasFirstLine world path line = (octets : List ℕ) × IsRead world path octets × (line ≡ first_line octets)

@@ -1,0 +1,7 @@
+use Rattle.std.proofs.Common.{rules}
+use Rattle.kadm_run.proofs.Doing.{migrated}
+use Rattle.kadm_run.proofs.changes.migrate.Goals as goal
+
+pub returns-clause-done : goal.returns-clause-done
+returns-clause-done g c =
+    migrated c.write_database.result _ _ _ _ c.in_ok-database.database c.in_ok-database.ensures.kept c.in_ok-database.ensures.read (search rules)

@@ -1,0 +1,255 @@
+//! The commands that give a principal new keys.
+ghost use Rattle.std.specs.Prelude.{◌≡◌, IfOk, IfSome, IsSome, OnOk, OnErr, Some, is_some, map};
+ghost use Rattle.std.specs.FinMap as finite;
+ghost use Rattle.krb_fields.specs.Salt.{default_salt};
+ghost use Rattle.principal_keys.specs.Keys.{password_key};
+ghost use Rattle.principal_rows.specs.declared.row.Row as rows;
+ghost use Rattle.kadm_run.specs.Granting.{IsCleared, added, granted, older_numbers, renewed, replaced, without_older};
+ghost use Rattle.kadm_run.specs.Worlds.{GavePassword, GaveRandom};
+
+use crate::databases::{apply, open_database, write_database};
+use crate::order::{Grant, KeyChange, Order, PasswordGrant, RandomGrant};
+use crate::passwords::new_password;
+use crate::stop::Stop;
+use crate::values::second_of;
+use enctypes::Etype;
+use file_store::{Store, read_clock, read_or_draw_seed};
+use krb_fields::Name;
+use principal_keys::{password_keys, random_keys};
+use principal_rows::{KeyList, KeyVersion, Policy};
+use principals::{ChangeFault, Database, RowChange};
+use std::alloc::{AllocError, Global};
+use std::io::Write;
+
+/// Gives a principal the keys of a password, which is asked for before the database is locked.
+pub(crate) fn grant_password<'p, T: Store, E: Write>(
+    alloc: Global,
+    order: &Order<'p>,
+    store: &mut T,
+    errors: &mut E,
+    to: PasswordGrant<'p>,
+) -> Result<(), Stop<'p>>
+    ensures done { OnOk result (GavePassword (T.world store.old) order.now.db.now order.now.etypes.items to.entry (T.world store.new)) }
+    ensures kept { OnErr result (T.world store.new ≡ T.world store.old) }
+{
+    let who = Name::from_text(alloc, to.name)?;
+    let pass = new_password(alloc, order, store, to.name, to.password)?;
+    let mut database = open_database(alloc, order, store, errors)?;
+    let keys = keys_of(alloc, &order.etypes, &pass, &who, &database)?;
+    give(alloc, &mut database, &who, keys, to.grant)?;
+    let cleared = clear_expiry(alloc, store, &mut database, &who)?;
+    write_database(alloc, store, order.db, &database)?;
+    if cleared {
+        tell_cleared(errors, to.name);
+    }
+    Ok(())
+}
+
+/// Gives a principal random keys.
+pub(crate) fn grant_random<'p, T: Store, E: Write>(
+    alloc: Global,
+    order: &Order<'p>,
+    store: &mut T,
+    errors: &mut E,
+    to: RandomGrant<'p>,
+) -> Result<(), Stop<'p>>
+    ensures done { OnOk result (GaveRandom (T.world store.old) order.now.db.now order.now.etypes.items to.entry (T.world store.new)) }
+    ensures kept { OnErr result (T.world store.new ≡ T.world store.old) }
+{
+    let who = Name::from_text(alloc, to.name)?;
+    let mut database = open_database(alloc, order, store, errors)?;
+    let seed = read_or_draw_seed(alloc, store, to.seed)?;
+    let keys = random_keys(alloc, &order.etypes, seed)?;
+    give(alloc, &mut database, &who, keys, to.grant)?;
+    write_database(alloc, store, order.db, &database)?;
+    tell_version(errors, to, &database, &who);
+    Ok(())
+}
+
+/// The keys of a password, with the principal's default salt.
+fn keys_of(
+    alloc: Global,
+    etypes: &[Etype],
+    pass: &[u8],
+    who: &Name,
+    database: &Database,
+) -> Result<KeyList, AllocError>
+    ensures { IfOk result (λ keys. keys
+        ≡ map (password_key pass.now (default_salt database.now.realm who.now.components)) etypes.now) }
+{
+    let salt = who.salt(alloc, database.realm())?;
+    password_keys(alloc, etypes, pass, salt.as_slice())
+}
+
+/// Gives keys to whom `grant` says.
+fn give(
+    alloc: Global,
+    database: &mut Database,
+    who: &Name,
+    keys: KeyList,
+    grant: Grant,
+) -> Result<(), ChangeFault>
+    ensures { OnOk result (database.new ≡ granted grant who.now.components keys database.old) }
+{
+    match grant.key_change(is_there(database, who)) {
+        KeyChange::New => add(alloc, database, who, keys),
+        KeyChange::Next => renew(alloc, database, who, keys),
+        KeyChange::Replace => replace(alloc, database, who, keys),
+    }
+}
+
+/// Checks whether a principal is there.
+fn is_there(database: &Database, who: &Name) -> bool
+    ensures { result ≡ is_some (finite.get database.now.rows who.now.components) }
+{
+    match database.get(who) {
+        Some(_) => true,
+        None => false,
+    }
+}
+
+fn add(alloc: Global, database: &mut Database, who: &Name, keys: KeyList) -> Result<(), ChangeFault>
+    ensures { OnOk result (database.new ≡ added who.now.components keys database.old) }
+{
+    apply(alloc, database, who, RowChange::Add(keys))
+}
+
+fn renew(
+    alloc: Global,
+    database: &mut Database,
+    who: &Name,
+    keys: KeyList,
+) -> Result<(), ChangeFault>
+    ensures { OnOk result (database.new ≡ renewed who.now.components keys database.old) }
+{
+    apply(alloc, database, who, RowChange::NewKeys(keys))
+}
+
+/// Gives a principal new keys, and drops all older versions.
+fn replace(
+    alloc: Global,
+    database: &mut Database,
+    who: &Name,
+    keys: KeyList,
+) -> Result<(), ChangeFault>
+    ensures { OnOk result (database.new ≡ replaced who.now.components keys database.old) }
+{
+    renew(alloc, database, who, keys)?;
+    drop_older(alloc, database, who)
+}
+
+/// Drops all versions of a principal's keys but the current one. After an `Err` some may be dropped.
+pub(crate) fn drop_older(
+    alloc: Global,
+    database: &mut Database,
+    who: &Name,
+) -> Result<(), ChangeFault>
+    ensures { OnOk result (database.new
+        ≡ without_older who.now.components (finite.get database.old.rows who.now.components) database.old) }
+{
+    let Some(row) = database.get(who) else {
+        return Err(ChangeFault::Absent);
+    };
+    let numbers = older_numbers(alloc, row.versions.as_slice())?;
+    for number in &numbers {
+        apply(alloc, database, who, RowChange::DropKeys(*number))?;
+    }
+    Ok(())
+}
+
+/// The numbers of all versions but the first, which is the current one.
+fn older_numbers(alloc: Global, versions: &[KeyVersion]) -> Result<Vec<u32>, AllocError>
+    ensures { IfOk result (λ numbers. numbers.items ≡ older_numbers versions.now) }
+{
+    match versions.split_first() {
+        Some((_, older)) => numbers_of(alloc, older),
+        None => Ok(Vec::new(alloc)),
+    }
+}
+
+fn numbers_of(alloc: Global, versions: &[KeyVersion]) -> Result<Vec<u32>, AllocError>
+    ensures { IfOk result (λ numbers. numbers.items ≡ map (λ version. version.number) versions.now) }
+{
+    let mut numbers = Vec::new(alloc);
+    for version in versions {
+        numbers.push(version.number)?;
+    }
+    Ok(numbers)
+}
+
+/// Clears a `password_expires` that is past, and tells whether it was.
+fn clear_expiry<'p, T: Store>(
+    alloc: Global,
+    store: &mut T,
+    database: &mut Database,
+    who: &Name,
+) -> Result<bool, Stop<'p>>
+    ensures cleared { OnOk result (IsCleared who.now.components database.old database.new) }
+    ensures kept { T.world store.new ≡ T.world store.old }
+{
+    let Some(policy) = expiring(database, who) else {
+        return Ok(false);
+    };
+    if !is_past(policy, read_clock(store)?) {
+        return Ok(false);
+    }
+    let policy = Policy {
+        password_expires: None,
+        ..policy
+    };
+    apply(alloc, database, who, RowChange::SetPolicy(policy))?;
+    Ok(true)
+}
+
+/// The policy of a principal whose password expires.
+fn expiring(database: &Database, who: &Name) -> Option<Policy>
+    ensures { IfSome result (λ policy. (row : rows.Row) × (finite.get database.now.rows who.now.components ≡ Some row)
+        × (row.policy ≡ policy) × IsSome policy.password_expires) }
+{
+    let policy = database.get(who)?.policy;
+    match policy.password_expires {
+        Some(_) => Some(policy),
+        None => None,
+    }
+}
+
+/// Checks whether a password has expired at a second since 1970.
+fn is_past(policy: Policy, now: u64) -> bool {
+    match (policy.password_expires, second_of(now)) {
+        (Some(expires), Some(now)) => expires.get() <= now.get(),
+        _ => false,
+    }
+}
+
+/// If it can't be written there is no one to tell.
+fn tell_cleared<E: Write>(errors: &mut E, name: &str) {
+    let _ = writeln!(
+        errors,
+        "kadm: {name}: password_expires was past, and is never now"
+    );
+}
+
+/// Says what became of a principal that got random keys.
+fn tell_version<E: Write>(errors: &mut E, to: RandomGrant<'_>, database: &Database, who: &Name) {
+    let Some(row) = database.get(who) else {
+        return;
+    };
+    let number = row.versions.current().number;
+    let name = to.name;
+    let _ = match to.grant {
+        Grant::New => Ok(()),
+        _ if number == 1 => writeln!(errors, "kadm: {name}: made, with keys of version 1"),
+        Grant::Replace | Grant::EitherReplace => {
+            writeln!(
+                errors,
+                "kadm: {name}: new keys, version {number}; all older ones are dropped"
+            )
+        }
+        Grant::Next | Grant::Either => {
+            writeln!(
+                errors,
+                "kadm: {name}: new keys, version {number}; older ones stay"
+            )
+        }
+    };
+}

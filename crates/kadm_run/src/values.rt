@@ -1,0 +1,122 @@
+//! The values of a policy's fields, as an administrator writes them.
+ghost use Rattle.std.specs.Prelude.{◌≡◌, ◌++◌, IfSome, pos};
+ghost use Rattle.kadm_run.specs.Spans.{IsSpanText, unit_mark, unit_seconds};
+ghost use Rattle.kadm_run.specs.Granting.{IsLifeOf, IsTimeFrom, IsValueOf};
+
+use krb_fields::Second;
+use text_fields::{Setting, number_u32};
+
+/// A unit of a time span.
+#[derive(Clone, Copy)]
+enum Unit {
+    Second,
+    Minute,
+    Hour,
+    Day,
+}
+
+impl Unit {
+    fn seconds(self) -> u32
+        ensures { result ≡ unit_seconds self }
+    {
+        match self {
+            Unit::Second => 1,
+            Unit::Minute => 60,
+            Unit::Hour => 3_600,
+            Unit::Day => 86_400,
+        }
+    }
+}
+
+const FLAGS: &str = "true or false";
+
+const LIVES: &str = "seconds (36000), or a number with s, m, h or d behind it (10h, 7d)";
+
+const TIMES: &str = "\
+a date (2027-01-01, 2027-01-01T12:00:00Z), a second since 1970, a time from now (10h, 7d) or never";
+
+/// What the field of this name takes. `None` if a policy has no such field.
+pub(crate) fn taken_by(field: &str) -> Option<&'static str> {
+    if Setting::of(field, "true").is_some() {
+        Some(FLAGS)
+    } else if Setting::of(field, "0").is_none() {
+        None
+    } else if Setting::of(field, "never").is_some() {
+        Some(TIMES)
+    } else {
+        Some(LIVES)
+    }
+}
+
+/// Checks whether a field takes a value.
+pub(crate) fn is_setting(field: &str, value: &str) -> bool {
+    setting_of(field, value).is_some() || setting_from(field, value, 0).is_some()
+}
+
+/// Reads a field with its value, which is not a time from now.
+pub(crate) fn setting_of(field: &str, value: &str) -> Option<Setting>
+    ensures { IfSome result (λ setting. IsValueOf setting field.now value.now) }
+{
+    if let Some(setting) = Setting::of(field, value) {
+        return Some(setting);
+    }
+    match Setting::of_date(field, value) {
+        Some(setting) => Some(setting),
+        None => life_setting(field, value),
+    }
+}
+
+/// Reads a field with a lifetime of a unit.
+fn life_setting(field: &str, value: &str) -> Option<Setting>
+    ensures { IfSome result (λ setting. IsLifeOf setting field.now value.now) }
+{
+    match Setting::of(field, "0")? {
+        Setting::Life(life, _) => Some(Setting::Life(life, span(value)?)),
+        _ => None,
+    }
+}
+
+/// Reads a field whose value is a time from now.
+pub(crate) fn setting_from(field: &str, value: &str, now: u64) -> Option<Setting>
+    ensures { IfSome result (λ setting. IsTimeFrom now setting field.now value.now) }
+{
+    match Setting::of(field, "never")? {
+        Setting::Time(time, _) => {
+            let second = now.checked_add(u64::from(span(value)?))?;
+            Some(Setting::Time(time, Some(second_of(second)?)))
+        }
+        _ => None,
+    }
+}
+
+/// The second of so many seconds since 1970.
+pub(crate) fn second_of(seconds: u64) -> Option<Second>
+    ensures { IfSome result (λ second. second ≡ pos seconds) }
+{
+    Second::new(i64::try_from(seconds).ok()?)
+}
+
+/// Reads a time span, in seconds: a decimal number with a unit behind it, which is `s`, `m`, `h` or `d`.
+pub(crate) fn span(text: &str) -> Option<u32>
+    ensures { IfSome result (λ seconds. IsSpanText seconds text.now) }
+{
+    let (digits, unit) = split_unit(text)?;
+    number_u32(digits)?.checked_mul(unit.seconds())
+}
+
+/// Splits the unit off.
+fn split_unit(text: &str) -> Option<(&str, Unit)>
+    ensures { IfSome result (λ found. text.now ≡ found.0.now ++ unit_mark found.1) }
+{
+    if let Some(digits) = text.strip_suffix("s") {
+        Some((digits, Unit::Second))
+    } else if let Some(digits) = text.strip_suffix("m") {
+        Some((digits, Unit::Minute))
+    } else if let Some(digits) = text.strip_suffix("h") {
+        Some((digits, Unit::Hour))
+    } else if let Some(digits) = text.strip_suffix("d") {
+        Some((digits, Unit::Day))
+    } else {
+        None
+    }
+}
