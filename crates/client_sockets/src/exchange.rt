@@ -1,11 +1,10 @@
 //! Messages over sockets (RFC 4120, section 7.2).
-ghost use Rattle.std.specs.Prelude.{◌≡◌, ◌≤◌, IfOk, vec_len};
+ghost use Rattle.std.specs.Prelude.{◌≤◌, ⊤, IfOk, vec_len};
 
 use crate::deadline::{Deadline, no_reply};
 use crate::stream::TimedStream;
-use file_store::counted;
+use client_login::{AnyMessage, Exchange, Transport};
 use framing::frame;
-use kclient_run::{Exchange, Transport};
 use std::alloc::Global;
 use std::io;
 use std::io::{Error, ErrorKind, Read, Write};
@@ -37,49 +36,29 @@ pub struct SocketExchange<'a, R> {
     system: &'a R,
     /// When all waiting ends; `None` before the first message.
     end: Option<Deadline>,
-    answered: Option<SocketAddr>,
-    failures: u64,
 }
 
 impl<'a, R: Net + Clock> SocketExchange<'a, R> {
     pub fn new(system: &'a R) -> SocketExchange<'a, R> {
-        SocketExchange {
-            system,
-            end: None,
-            answered: None,
-            failures: 0,
-        }
+        SocketExchange { system, end: None }
     }
 
-    /// Sends a message, and gives what comes back before all waiting ends.
-    fn send(
-        &mut self,
-        alloc: Global,
-        by: Transport,
-        to: SocketAddr,
-        message: &[u8],
-    ) -> io::Result<Vec<u8>>
-        ensures { self.new.failures ≡ self.old.failures }
-    {
+    /// When all waiting ends: so many seconds after the first message.
+    fn end(&mut self) -> io::Result<Deadline> {
         let end = match self.end {
             Some(end) => end,
             None => Deadline::after(self.system, WHOLE_WAIT)?,
         };
         self.end = Some(end);
-        let reply = match by {
-            Transport::Udp => by_datagrams(alloc, self.system, end, to, message),
-            Transport::Tcp => by_connection(alloc, self.system, end, to, message),
-        }?;
-        self.answered = Some(to);
-        Ok(reply)
+        Ok(end)
     }
 }
 
 impl<'a, R: Net + Clock> Exchange for SocketExchange<'a, R> {
-    ghost failure_count = { λ e. e.failures };
+    ghost carries = { λ message. ⊤ };
 
-    /// A datagram is sent three times, and its reply waited for 1, 2 and 4 seconds. A connection is held for 8 seconds.
-    /// All of it ends 30 seconds after the first message was sent.
+    /// Sends a datagram three times, and waits for its reply for 1, 2 and 4 seconds; or holds a connection for 8
+    /// seconds. All of it ends 30 seconds after the first message was sent.
     fn exchange(
         &mut self,
         alloc: Global,
@@ -87,18 +66,16 @@ impl<'a, R: Net + Clock> Exchange for SocketExchange<'a, R> {
         to: SocketAddr,
         message: &[u8],
     ) -> io::Result<Vec<u8>> {
-        let found = self.send(alloc, by, to, message);
-        self.failures = counted(self.failures, &found);
-        found
+        let end = self.end()?;
+        match by {
+            Transport::Udp => by_datagrams(alloc, self.system, end, to, message),
+            Transport::Tcp => by_connection(alloc, self.system, end, to, message),
+        }
     }
+}
 
-    fn answered(&self) -> Option<SocketAddr> {
-        self.answered
-    }
-
-    fn failures(&self) -> u64 {
-        self.failures
-    }
+impl<'a, R: Net + Clock> AnyMessage for SocketExchange<'a, R> {
+    ghost takes_any = { λ message. tt };
 }
 
 fn by_datagrams<R: Net + Clock>(

@@ -1,6 +1,7 @@
 //! The client's tool: `kclient kinit ..`, `kclient kvno ..` and `kclient klist ..`, as `kclient --help` lists them.
 #![tactic(auto)]
 
+use client_login::{KdcClient, Kdcs};
 use client_sockets::{SocketExchange, now};
 use file_store::FileStore;
 use kclient_run::{Context, Defaults, FAILED, USAGE, Variable, kclient_run};
@@ -62,11 +63,11 @@ fn run(rt: &HostRuntime) -> Result<u8, Fault> {
         cache: variable(&cache)?,
         config: variable(&config)?,
     };
+    let kdcs = Kdcs::new(SocketExchange::new(rt), Vec::new(alloc), false);
     let mut context = Context {
         alloc,
         store: FileStore::new(rt),
-        exchange: SocketExchange::new(rt),
-        at,
+        client: KdcClient { kdcs, at },
     };
     Ok(kclient_run(
         &mut context,

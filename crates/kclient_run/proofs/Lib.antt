@@ -1,2 +1,1 @@
-mod InfoCopies
 mod NewCaches

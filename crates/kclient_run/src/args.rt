@@ -1,7 +1,7 @@
 //! What the words of a command line say.
 use crate::file_names::{NameOf, path_in};
-use crate::wishes::{Again, Wishes};
 use clap::ArgMatches;
+use client_login::{Again, Wishes};
 use text_fields::number_u32;
 
 /// What a command line orders, but for its places.
@@ -15,15 +15,19 @@ pub(crate) enum Task<'a> {
     Klist(KlistArgs<'a>),
 }
 
-/// The words of a first ticket, but for the realm.
+/// The words of a first ticket.
 #[derive(Clone, Copy)]
 pub(crate) struct FirstArgs<'a> {
     pub name: &'a str,
+    /// The realm's name; absent: the default realm.
+    pub realm: Option<&'a str>,
     pub secret: SecretArgs<'a>,
     /// The name of the service; absent: the ticket-granting one.
     pub service: Option<&'a str>,
     /// The path of the seed's file; absent: the seed is the system's.
     pub seed: Option<&'a str>,
+    /// The fewest iterations of string-to-key; absent: each type's default.
+    pub least_count: Option<u32>,
     pub wishes: Wishes,
 }
 
@@ -71,15 +75,22 @@ const FIRST_ALONE: &[&str] = &[
     "service",
     "life",
     "start",
+    "least-count",
 ];
 
 const FIRST_FLAGS: &[&str] = &["renewable", "forwardable", "proxiable"];
 
 // What stands behind `error:` where options don't go together, or a value is none.
 
-const NO_LIFE: &str = "--life takes a number of seconds, 0 to 4294967295";
+const NO_LIFE: &str =
+    "--life takes seconds, 0 to 4294967295, or minutes, hours or days, as 30m, 8h or 7d";
 
-const NO_START: &str = "--start takes a number of seconds, 0 to 4294967295";
+const NO_START: &str =
+    "--start takes seconds, 0 to 4294967295, or minutes, hours or days, as 30m, 8h or 7d";
+
+const TWO_REALMS: &str = "--realm and a realm behind the name of --name don't go together";
+
+const NO_COUNT: &str = "--least-count takes a number, 0 to 4294967295";
 
 const NO_NAME: &str = "--name is missing";
 
@@ -153,13 +164,29 @@ fn asks_for_first(args: &ArgMatches<'_>) -> bool {
 }
 
 fn first_args<'a>(args: &ArgMatches<'a>) -> Result<FirstArgs<'a>, &'static str> {
+    let name = args.get_str("name").ok_or(NO_NAME)?;
+    let (name, realm) = name_and_realm(name, args.get_str("realm"))?;
     Ok(FirstArgs {
-        name: args.get_str("name").ok_or(NO_NAME)?,
+        name,
+        realm,
         secret: secret_args(args)?,
         service: args.get_str("service"),
         seed: args.get_str("seed"),
+        least_count: number_in(args, "least-count").ok_or(NO_COUNT)?,
         wishes: wishes(args)?,
     })
+}
+
+/// A client's name and its realm, which stands behind an `@` or behind `--realm`.
+fn name_and_realm<'a>(
+    name: &'a str,
+    realm: Option<&'a str>,
+) -> Result<(&'a str, Option<&'a str>), &'static str> {
+    match (name.split_once('@'), realm) {
+        (Some(_), Some(_)) => Err(TWO_REALMS),
+        (Some((name, realm)), None) => Ok((name, Some(realm))),
+        (None, realm) => Ok((name, realm)),
+    }
 }
 
 fn secret_args<'a>(args: &ArgMatches<'a>) -> Result<SecretArgs<'a>, &'static str> {
@@ -173,18 +200,39 @@ fn secret_args<'a>(args: &ArgMatches<'a>) -> Result<SecretArgs<'a>, &'static str
 
 fn wishes(args: &ArgMatches<'_>) -> Result<Wishes, &'static str> {
     Ok(Wishes {
-        life: seconds(args, "life").ok_or(NO_LIFE)?,
-        start: seconds(args, "start").ok_or(NO_START)?,
+        life: seconds_in(args, "life").ok_or(NO_LIFE)?,
+        start: seconds_in(args, "start").ok_or(NO_START)?,
         renewable: args.get_flag("renewable"),
         forwardable: args.get_flag("forwardable"),
         proxiable: args.get_flag("proxiable"),
     })
 }
 
-/// A number of seconds, which may be absent; `None` where the word is no number.
-fn seconds(args: &ArgMatches<'_>, name: &str) -> Option<Option<u32>> {
+/// The number behind an option, which may be absent; `None` where the word is no number.
+fn number_in(args: &ArgMatches<'_>, name: &str) -> Option<Option<u32>> {
     match args.get_str(name) {
         Some(text) => Some(Some(number_u32(text)?)),
         None => Some(None),
     }
+}
+
+/// How many seconds the units of a time have.
+const UNITS: &[(char, u32)] = &[('s', 1), ('m', 60), ('h', 3_600), ('d', 86_400)];
+
+/// The seconds behind an option, which may be absent; `None` where the word is no time.
+fn seconds_in(args: &ArgMatches<'_>, name: &str) -> Option<Option<u32>> {
+    match args.get_str(name) {
+        Some(text) => Some(Some(seconds(text)?)),
+        None => Some(None),
+    }
+}
+
+/// A number of seconds, or of the unit that stands behind it; `None` where it is none, or more than 4294967295 seconds.
+fn seconds(text: &str) -> Option<u32> {
+    for (unit, count) in UNITS {
+        if let Some(number) = text.strip_suffix(*unit) {
+            return number_u32(number)?.checked_mul(*count);
+        }
+    }
+    number_u32(text)
 }

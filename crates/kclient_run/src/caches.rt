@@ -5,6 +5,7 @@ ghost use Rattle.kclient_run.specs.Caches.{new_cache};
 
 use crate::faults::{Place, Reason, Stop};
 use crate::files::of;
+use client_login::granting_service;
 use cred_files::{Cache, Credential};
 use file_store::{Store, read_file, write_file};
 use std::alloc::Global;
@@ -66,4 +67,13 @@ pub(crate) fn write_cache<T: Store>(
 ) -> Result<(), Stop> {
     let octets = cache.write(alloc)?;
     of(write_file(alloc, store, path, &octets), Place::Cache)
+}
+
+/// The cache's credential of the ticket-granting service.
+pub(crate) fn granting_ticket(alloc: Global, cache: &Cache) -> Result<&Credential, Stop> {
+    let service = granting_service(alloc, &cache.principal().realm)?;
+    match cache.find(&service) {
+        Ok(granting) => Ok(granting),
+        Err(_) => Err(Stop::Refused(Reason::Absent, Place::Cache)),
+    }
 }

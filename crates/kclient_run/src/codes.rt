@@ -30,7 +30,7 @@ const CODES: &[(i32, &str)] = &[
         "the client's credentials have been revoked: it is disabled, or locked",
     ),
     (19, "the service's credentials have been revoked"),
-    (20, "the ticket for tickets has been revoked"),
+    (20, "the ticket-granting ticket has been revoked: run kinit"),
     (21, "the client is not yet valid"),
     (22, "the service is not yet valid"),
     (23, "the password has expired"),
@@ -47,8 +47,8 @@ const CODES: &[(i32, &str)] = &[
         31,
         "the ticket, or the authenticator, is not opened by its key",
     ),
-    (32, "the ticket for tickets has expired"),
-    (33, "the ticket for tickets is not yet valid"),
+    (32, "the ticket-granting ticket has expired: run kinit"),
+    (33, "the ticket-granting ticket is not yet valid"),
     (34, "the request is a replay"),
     (35, "the ticket is not for this KDC"),
     (
@@ -57,7 +57,7 @@ const CODES: &[(i32, &str)] = &[
     ),
     (
         37,
-        "the clocks of the client and of the KDC differ too much",
+        "the clocks of the client and of the KDC differ by more than 300 seconds, or the KDC has just started",
     ),
     (38, "the ticket is for other network addresses"),
     (39, "the versions of the protocol differ"),
@@ -85,7 +85,7 @@ const CODES: &[(i32, &str)] = &[
     (66, "the certificate does not match"),
     (
         67,
-        "no ticket for tickets is there, as from user to user it has to be",
+        "no ticket-granting ticket is there, as from user to user it has to be",
     ),
     (68, "the client is one of another realm"),
     (69, "the ticket has to be from user to user"),

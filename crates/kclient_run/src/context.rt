@@ -1,13 +1,12 @@
 //! What a command works with.
-use krb_fields::Moment;
+use client_login::KdcClient;
 use std::alloc::Global;
 
-/// What a command takes from outside, beside its words: memory, files, an exchange of messages, and the moment.
+/// What a command takes from outside, beside its words: memory, files, and a client of KDCs, whose addresses the command
+/// finds.
 #[derive(Drop)]
 pub struct Context<T, X> {
     pub alloc: Global,
     pub store: T,
-    pub exchange: X,
-    /// The moment of the next request; each that `kvno` sends moves it on.
-    pub at: Moment,
+    pub client: KdcClient<X>,
 }

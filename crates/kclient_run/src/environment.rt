@@ -2,7 +2,7 @@
 use crate::file_names::{NameOf, path_in};
 
 /// What stands for words that a command line lacks.
-#[derive(Clone, Copy, Debug)]
+#[derive(Clone, Copy)]
 pub struct Defaults<'a> {
     /// The value of `KRB5CCNAME`: the cache, as `FILE:PATH` or as a path.
     pub cache: Variable<'a>,
@@ -11,7 +11,7 @@ pub struct Defaults<'a> {
 }
 
 /// The value of a variable of the environment.
-#[derive(Clone, Copy, Debug)]
+#[derive(Clone, Copy)]
 pub enum Variable<'a> {
     /// It is not there, or empty.
     Absent,

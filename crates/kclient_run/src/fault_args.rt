@@ -122,7 +122,8 @@ pub(crate) fn common_subject<'a>(
     match place {
         Place::Cache => Subject::Thing(places.cache.as_str()),
         Place::Seed => Subject::Thing(seed_word(seed)),
-        Place::Kdc => Subject::Thing(places.kdcs.text.as_str()),
+        Place::Kdc(Some(address)) => Subject::Kdc(address),
+        Place::Kdc(None) => Subject::Thing(places.kdcs.text.as_str()),
         _ => MEMORY,
     }
 }

@@ -1,10 +1,12 @@
 //! Why a command ends before it is done.
-use client_core::{ClientFault, Mismatch};
+use client_core::Mismatch;
+use client_login::{LoginFault, Why};
 use cred_files::FileFault;
 use krb_fields::NameFault;
 use std::alloc::{AllocError, AllocFailed};
 use std::io;
 use std::io::ErrorKind;
+use std::net::SocketAddr;
 
 /// Of what a fault is: a word of the command line, a file, the KDC, or the memory of the program.
 #[derive(Clone, Copy, PartialEq, Eq)]
@@ -16,7 +18,8 @@ pub(crate) enum Place {
     Keytab,
     Cache,
     Seed,
-    Kdc,
+    /// The KDC that replied; all of them where none did.
+    Kdc(Option<SocketAddr>),
     /// A `krb5.conf`.
     Config,
     Memory,
@@ -34,6 +37,10 @@ pub(crate) enum Reason {
     BadEntry,
     TooLate,
     Absent,
+    /// The cache's ticket-granting ticket has ended.
+    Ended,
+    /// It is not renewable.
+    NotRenewable,
     NotAReply,
     /// In what the reply differs from the request.
     Mismatch(Mismatch),
@@ -44,6 +51,8 @@ pub(crate) enum Reason {
     /// The KDC names no key of the client of one of the four types.
     NoKnownType,
     CountTooLarge,
+    /// The KDC asks for fewer iterations of string-to-key than the client takes.
+    WeakCount,
     /// A `krb5.conf` names no default realm.
     NoRealm,
     /// The default realm of a `krb5.conf` is none.
@@ -56,6 +65,8 @@ pub(crate) enum Reason {
     NoKeytab,
     /// An entry of a keytab has no key of its type.
     BadKey,
+    /// The keytab has no key of the client.
+    NoClientKey,
     /// The keytab has no key of the client, of a type that the KDC names.
     NoKey,
     /// The keytab has no key of the type and version that a ticket names.
@@ -69,7 +80,7 @@ pub(crate) enum Reason {
 pub(crate) enum Stop {
     Refused(Reason, Place),
     /// By the KDC, with the code of its KRB-ERROR.
-    Error(i32),
+    Error(i32, Place),
     Failed(io::Error, Place),
 }
 
@@ -77,19 +88,7 @@ impl Stop {
     /// Of what it is.
     pub(crate) fn place(self) -> Place {
         match self {
-            Stop::Refused(_, place) | Stop::Failed(_, place) => place,
-            Stop::Error(_) => Place::Kdc,
-        }
-    }
-}
-
-impl Stop {
-    /// Whether it is what came back from a KDC that ends the command.
-    pub(crate) fn is_of_reply(self) -> bool {
-        match self {
-            Stop::Error(_) => true,
-            Stop::Refused(_, place) => place == Place::Kdc,
-            Stop::Failed(..) => false,
+            Stop::Refused(_, place) | Stop::Error(_, place) | Stop::Failed(_, place) => place,
         }
     }
 }
@@ -107,14 +106,18 @@ impl Reason {
             Reason::BadEntry => "BadEntry",
             Reason::TooLate => "TooLate",
             Reason::Absent => "Absent",
+            Reason::Ended => "Ended",
+            Reason::NotRenewable => "NotRenewable",
             Reason::NotAReply => "NotAReply",
             Reason::Mismatch(_) => "Mismatch",
             Reason::CannotOpen => "CannotOpen",
             Reason::SessionCannotOpen => "CannotOpen",
             Reason::NoKnownType => "CannotOpen",
             Reason::CountTooLarge => "CountTooLarge",
+            Reason::WeakCount => "WeakCount",
             Reason::NoKeytab => "BadMagic",
             Reason::BadKey => "BadEntry",
+            Reason::NoClientKey => "Absent",
             Reason::NoKey => "Absent",
             Reason::NoTicketKey => "Absent",
             Reason::Unopened => "CannotOpen",
@@ -136,7 +139,9 @@ impl Reason {
             Reason::Truncated => "the file ends too early",
             Reason::BadEntry => "the credential has no room in a cache",
             Reason::TooLate => "a cache has no room for a time after the year 2106",
-            Reason::Absent => "no usable ticket for tickets of the realm is there; kinit gets one",
+            Reason::Absent => "no usable ticket-granting ticket of the realm is there: run kinit",
+            Reason::Ended => "the ticket-granting ticket has ended: run kinit",
+            Reason::NotRenewable => "the ticket is not renewable: use kinit --renewable",
             Reason::NotAReply => "what came back is no reply of a KDC",
             Reason::Mismatch(what) => mismatch_text(what),
             Reason::CannotOpen =>
@@ -147,8 +152,11 @@ impl Reason {
                 "the KDC names no key of the client of the encryption types 17 to 20",
             Reason::CountTooLarge =>
                 "the KDC asks for more iterations of string-to-key than 1048576, or none",
+            Reason::WeakCount =>
+                "the KDC asks for fewer iterations of string-to-key than --least-count, or else the type's default: somebody may have changed its reply to find the password",
             Reason::NoKeytab => "the file is no keytab of version 2",
             Reason::BadKey => "an entry's key has not as many octets as keys of its type have",
+            Reason::NoClientKey => "no key of the client is there",
             Reason::NoKey => "no key of the client is there, of a type that the KDC names",
             Reason::NoTicketKey =>
                 "no key of the service is there, of the ticket's type and version",
@@ -203,17 +211,33 @@ impl From<FileFault> for Stop {
     }
 }
 
-impl From<ClientFault> for Stop {
-    fn from(fault: ClientFault) -> Stop {
-        match fault {
-            ClientFault::NotAReply => Stop::Refused(Reason::NotAReply, Place::Kdc),
-            ClientFault::Refused(refusal) => Stop::Error(refusal.code),
-            ClientFault::Mismatch(what) => Stop::Refused(Reason::Mismatch(what), Place::Kdc),
-            ClientFault::CannotOpen => Stop::Refused(Reason::CannotOpen, Place::Kdc),
-            ClientFault::CountTooLarge => Stop::Refused(Reason::CountTooLarge, Place::Kdc),
-            ClientFault::Memory => out_of_memory(),
+impl From<LoginFault> for Stop {
+    fn from(fault: LoginFault) -> Stop {
+        match fault.why {
+            Why::NotAskable => Stop::Refused(Reason::BadName, Place::Name),
+            Why::NotPresentable => Stop::Refused(Reason::Absent, Place::Cache),
+            Why::NoClientKey => Stop::Refused(Reason::NoClientKey, Place::Keytab),
+            Why::NoKey => Stop::Refused(Reason::NoKey, Place::Keytab),
+            Why::Memory => out_of_memory(),
+            Why::Silence(error) => Stop::Failed(error, Place::Kdc(None)),
+            why => of_reply(why, Place::Kdc(fault.kdc)),
         }
     }
+}
+
+/// What a KDC replied that ends a command.
+fn of_reply(why: Why, kdc: Place) -> Stop {
+    let reason = match why {
+        Why::Refused(code) => return Stop::Error(code, kdc),
+        Why::Mismatch(what) => Reason::Mismatch(what),
+        Why::CannotOpen => Reason::CannotOpen,
+        Why::SessionCannotOpen => Reason::SessionCannotOpen,
+        Why::NoKnownType => Reason::NoKnownType,
+        Why::CountTooLarge => Reason::CountTooLarge,
+        Why::WeakCount => Reason::WeakCount,
+        _ => Reason::NotAReply,
+    };
+    Stop::Refused(reason, kdc)
 }
 
 /// What is wrong with a keytab.

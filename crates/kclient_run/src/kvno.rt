@@ -1,17 +1,14 @@
 //! `kvno`: tickets for services, one after the other.
 use crate::args::KvnoArgs;
-use crate::asking::KdcPlace;
-use crate::caches::{put, read_cache, write_cache};
+use crate::caches::{granting_ticket, put, read_cache, write_cache};
 use crate::context::Context;
-use crate::exchange::Exchange;
-use crate::faults::{Place, Stop};
+use crate::faults::{Place, Reason, Stop};
 use crate::files::read_keytab;
-use crate::granting::service_ticket;
 use crate::holding::good_credential;
 use crate::kinit::{generator, read_name};
-use crate::moments::next_moment;
 use crate::opening::check_ticket;
 use crate::places::Places;
+use client_login::AnyMessage;
 use cred_files::{Cache, Credential, Keytab};
 use file_store::Store;
 use krb_elements::read;
@@ -63,7 +60,7 @@ struct Wallet {
 
 /// Gets a ticket for each service, unless the cache has a good one, and puts it into the cache. It gives the versions
 /// of the keys that the tickets are sealed under, in the order of the names.
-pub(crate) fn get_tickets<T: Store, X: Exchange>(
+pub(crate) fn get_tickets<T: Store, X: AnyMessage>(
     context: &mut Context<T, X>,
     places: &Places,
     args: &KvnoArgs<'_>,
@@ -74,14 +71,14 @@ pub(crate) fn get_tickets<T: Store, X: Exchange>(
     get_and_write(context, places, args.fresh, &mut wallet, &services)
 }
 
-fn get_and_write<T: Store, X: Exchange>(
+fn get_and_write<T: Store, X: AnyMessage>(
     context: &mut Context<T, X>,
     places: &Places,
     fresh: bool,
     wallet: &mut Wallet,
     services: &[Name],
 ) -> Result<Vec<i64>, KvnoStop> {
-    let versions = get_each(context, places.kdc(), fresh, wallet, services)?;
+    let versions = get_each(context, fresh, wallet, services)?;
     if wallet.is_changed {
         write_cache(
             context.alloc,
@@ -134,32 +131,30 @@ fn read_checking_keytab<T: Store>(
     }
 }
 
-fn get_each<T, X: Exchange>(
+fn get_each<T, X: AnyMessage>(
     context: &mut Context<T, X>,
-    kdc: KdcPlace<'_>,
     fresh: bool,
     wallet: &mut Wallet,
     services: &[Name],
 ) -> Result<Vec<i64>, KvnoStop> {
     let mut versions = Vec::new(context.alloc);
     for (index, service) in services.iter().enumerate() {
-        let got = get_ticket(context, kdc, fresh, wallet, service);
+        let got = get_ticket(context, fresh, wallet, service);
         versions.push(at_name(got, index)?)?;
     }
     Ok(versions)
 }
 
 /// The version of the key that the service's ticket is sealed under.
-fn get_ticket<T, X: Exchange>(
+fn get_ticket<T, X: AnyMessage>(
     context: &mut Context<T, X>,
-    kdc: KdcPlace<'_>,
     fresh: bool,
     wallet: &mut Wallet,
     service: &Name,
 ) -> Result<i64, Stop> {
-    match held_version(context.alloc, fresh, wallet, service, context.at)? {
+    match held_version(context.alloc, fresh, wallet, service, context.client.at)? {
         Some(version) => Ok(version),
-        None => new_version(context, kdc, wallet, service),
+        None => new_version(context, wallet, service),
     }
 }
 
@@ -181,15 +176,32 @@ fn held_version(
 }
 
 /// Asks for a ticket, puts it into the cache, and gives the version of its key.
-fn new_version<T, X: Exchange>(
+fn new_version<T, X: AnyMessage>(
     context: &mut Context<T, X>,
-    kdc: KdcPlace<'_>,
     wallet: &mut Wallet,
     service: &Name,
 ) -> Result<i64, Stop> {
-    let credential = service_ticket(context, kdc, &wallet.cache, service, &mut wallet.rng)?;
-    context.at = next_moment(context.at);
+    let credential = service_ticket(context, wallet, service)?;
     keep(context.alloc, wallet, &credential)
+}
+
+fn service_ticket<T, X: AnyMessage>(
+    context: &mut Context<T, X>,
+    wallet: &mut Wallet,
+    service: &Name,
+) -> Result<Credential, Stop> {
+    let alloc = context.alloc;
+    let granting = granting_ticket(alloc, &wallet.cache)?;
+    if granting.times.end_time.seconds() <= context.client.at.sec {
+        return Err(Stop::Refused(Reason::Ended, Place::Cache));
+    }
+    match context
+        .client
+        .service_ticket(alloc, &mut wallet.rng, granting, service)
+    {
+        Ok(credential) => Ok(credential),
+        Err(fault) => Err(Stop::from(fault)),
+    }
 }
 
 /// Puts a credential into the cache, and gives the version of its key.

@@ -53,7 +53,7 @@ const REALM: OptionRow = OptionRow {
 const CLIENT: OptionRow = OptionRow {
     name: "name",
     shape: "NAME",
-    help: "The client's name, without its realm",
+    help: "The client's name, also with its realm, as alice@EXAMPLE.COM",
     times: Times::AtMostOnce,
 };
 
@@ -80,15 +80,22 @@ const SERVICE: OptionRow = OptionRow {
 
 const LIFE: OptionRow = OptionRow {
     name: "life",
-    shape: "SECONDS",
-    help: "For how long the ticket is asked; else for as long as the KDC gives",
+    shape: "TIME",
+    help: "For how long the ticket is asked, in seconds or as 30m, 8h or 7d; else for as long as the KDC gives",
     times: Times::AtMostOnce,
 };
 
 const START: OptionRow = OptionRow {
     name: "start",
-    shape: "SECONDS",
-    help: "Asks for a postdated ticket, which starts so many seconds from now and has to be validated then",
+    shape: "TIME",
+    help: "Asks for a postdated ticket, which starts after this time and has to be validated then",
+    times: Times::AtMostOnce,
+};
+
+const LEAST_COUNT: OptionRow = OptionRow {
+    name: "least-count",
+    shape: "N",
+    help: "The fewest iterations of string-to-key that the KDC may ask for; else 4096 or 32768, by the encryption type",
     times: Times::AtMostOnce,
 };
 
@@ -121,7 +128,7 @@ const TCP: FlagRow = FlagRow {
 const SUBCOMMANDS: &[SubcommandRow] = &[
     SubcommandRow {
         name: "kinit",
-        about: "Gets a ticket for tickets by a password or a keytab, and makes a credential cache of it",
+        about: "Gets a ticket-granting ticket by a password or a keytab, and makes a credential cache of it",
         options: &[
             REALM,
             CLIENT,
@@ -130,6 +137,7 @@ const SUBCOMMANDS: &[SubcommandRow] = &[
             SERVICE,
             LIFE,
             START,
+            LEAST_COUNT,
             SEED,
             KDC,
             CACHE,
@@ -149,11 +157,11 @@ const SUBCOMMANDS: &[SubcommandRow] = &[
             },
             FlagRow {
                 name: "renew",
-                help: "Renews the cache's ticket for tickets",
+                help: "Renews the cache's ticket-granting ticket",
             },
             FlagRow {
                 name: "validate",
-                help: "Validates the cache's ticket for tickets, which was postdated",
+                help: "Validates the cache's ticket-granting ticket, which was postdated",
             },
             TCP,
         ],

@@ -1,6 +1,5 @@
 //! Where a command works: its cache, its realm and its KDCs, as its words say, or else what stands for them.
 use crate::args::{FirstArgs, Task};
-use crate::asking::KdcPlace;
 use crate::caches::read_cache;
 use crate::environment::Defaults;
 use crate::faults::{Place, Reason, Stop, of_name};
@@ -78,15 +77,6 @@ pub(crate) struct Places {
     pub kdcs: Kdcs,
     /// Whether the KDCs are asked by TCP alone.
     pub tcp_only: bool,
-}
-
-impl Places {
-    pub(crate) fn kdc(&self) -> KdcPlace<'_> {
-        KdcPlace {
-            addresses: &self.kdcs.addresses,
-            tcp_only: self.tcp_only,
-        }
-    }
 }
 
 const TWO_FILES: &str = "--cache and --keytab don't go together";
@@ -196,9 +186,9 @@ fn find_realm<T: Store>(
     defaults: &Defaults<'_>,
     store: &mut T,
 ) -> Result<Realm, Unplaced> {
-    let realm = args.get_str("realm");
+    let realm = first.realm;
     let given = given_kdcs(alloc, args)?;
-    check_names(alloc, realm, first)?;
+    check_names(alloc, first)?;
     let is_needed = realm.is_none() || given.is_none();
     let config = config_if(alloc, defaults, store, is_needed)?;
     configured(alloc, &config, realm, given)

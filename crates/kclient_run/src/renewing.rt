@@ -1,17 +1,17 @@
-//! `kinit --renew` and `kinit --validate`: the ticket for tickets, once more (RFC 4120, sections 2.3 and 2.4).
+//! `kinit --renew` and `kinit --validate`: the ticket-granting ticket, once more (RFC 4120, sections 2.3 and 2.4).
 use crate::args::AgainArgs;
-use crate::caches::{read_cache, write_new_cache};
+use crate::caches::{granting_ticket, read_cache, write_new_cache};
 use crate::context::Context;
-use crate::exchange::Exchange;
-use crate::faults::Stop;
-use crate::granting::ticket_again;
+use crate::faults::{Place, Reason, Stop};
 use crate::kinit::generator;
 use crate::places::Places;
+use client_login::{Again, AnyMessage};
 use cred_files::Credential;
 use file_store::Store;
+use krb_fields::TicketFlag;
 
-/// Gets the cache's ticket for tickets again, and writes a new cache of it.
-pub(crate) fn get_again<T: Store, X: Exchange>(
+/// Gets the cache's ticket-granting ticket again, and writes a new cache of it.
+pub(crate) fn get_again<T: Store, X: AnyMessage>(
     context: &mut Context<T, X>,
     places: &Places,
     args: &AgainArgs<'_>,
@@ -25,12 +25,31 @@ pub(crate) fn get_again<T: Store, X: Exchange>(
     )
 }
 
-fn ticket_of<T: Store, X: Exchange>(
+fn ticket_of<T: Store, X: AnyMessage>(
     context: &mut Context<T, X>,
     places: &Places,
     args: &AgainArgs<'_>,
 ) -> Result<Credential, Stop> {
-    let cache = read_cache(context.alloc, &mut context.store, places.cache.as_str())?;
-    let mut rng = generator(context.alloc, &mut context.store, args.seed)?;
-    ticket_again(context, places.kdc(), &cache, args.again, &mut rng)
+    let alloc = context.alloc;
+    let cache = read_cache(alloc, &mut context.store, places.cache.as_str())?;
+    let mut rng = generator(alloc, &mut context.store, args.seed)?;
+    let granting = granting_ticket(alloc, &cache)?;
+    if is_refused(granting, args.again) {
+        return Err(Stop::Refused(Reason::NotRenewable, Place::Cache));
+    }
+    match context
+        .client
+        .ticket_again(alloc, &mut rng, granting, args.again)
+    {
+        Ok(credential) => Ok(credential),
+        Err(fault) => Err(Stop::from(fault)),
+    }
+}
+
+/// Whether a KDC would not renew the ticket.
+fn is_refused(granting: &Credential, again: Again) -> bool {
+    match again {
+        Again::Renew => !granting.flags.has(TicketFlag::Renewable),
+        Again::Validate => false,
+    }
 }

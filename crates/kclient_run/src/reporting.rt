@@ -3,7 +3,6 @@ ghost use Rattle.std.specs.Prelude.{◌≤◌, IfOk};
 
 use crate::codes::code_text;
 use crate::environment::Defaults;
-use crate::exchange::Exchange;
 use crate::fault_args::{MEMORY, Subject, word_of};
 use crate::faults::{Place, Reason, Stop};
 use crate::places::Unplaced;
@@ -27,8 +26,8 @@ pub(crate) fn report<W: Write, E: Write>(
 {
     match stop {
         Stop::Refused(reason, _) => print_refusal(out, errors, subject, reason),
-        Stop::Error(code) => print_error(out, errors, subject, code),
-        Stop::Failed(error, Place::Kdc) => print_silence(out, errors, subject, failures, error),
+        Stop::Error(code, _) => print_error(out, errors, subject, code),
+        Stop::Failed(error, Place::Kdc(_)) => print_silence(out, errors, subject, failures, error),
         Stop::Failed(error, _) => print_failure(out, errors, subject, error),
     }
 }
@@ -95,29 +94,6 @@ fn print_silence<W: Write, E: Write>(
     Ok(FAILED)
 }
 
-/// Prints why a command ended early. What came back is of the address from which it came.
-pub(crate) fn report_asked<X: Exchange, W: Write, E: Write>(
-    out: &mut W,
-    errors: &mut E,
-    subject: Subject<'_>,
-    exchange: &X,
-    stop: Stop,
-) -> io::Result<u8>
-    ensures { IfOk result (λ status. status ≤ 3) }
-{
-    let failures = exchange.failures();
-    match exchange.answered() {
-        Some(address) if stop.is_of_reply() => report(
-            out,
-            errors,
-            Subject::Kdc(address),
-            failures,
-            stop,
-        ),
-        _ => report(out, errors, subject, failures, stop),
-    }
-}
-
 /// Prints why a command does not begin.
 pub(crate) fn report_unplaced<W: Write, E: Write>(
     out: &mut W,
@@ -155,7 +131,10 @@ fn report_stopped<W: Write, E: Write>(
     match stop.place() {
         Place::Config => report(out, errors, Subject::Thing(config_word(defaults)), 0, stop),
         Place::Cache => report_cache(out, errors, stop, options, defaults),
-        Place::Realm => report_word(out, errors, stop, "--realm", options.get_str("realm")),
+        Place::Realm if options.get_str("realm").is_some() => {
+            report_word(out, errors, stop, "--realm", options.get_str("realm"))
+        }
+        Place::Realm => report_word(out, errors, stop, "--name", options.get_str("name")),
         Place::Name => report_word(out, errors, stop, "--name", options.get_str("name")),
         Place::Service => report_word(out, errors, stop, "--service", options.get_str("service")),
         _ => report(out, errors, MEMORY, 0, stop),

@@ -4,7 +4,6 @@ ghost use Rattle.std.specs.Prelude.{◌≤◌, IfOk};
 use crate::args::{AgainArgs, FirstArgs, KvnoArgs, Task, task_of};
 use crate::context::Context;
 use crate::environment::Defaults;
-use crate::exchange::Exchange;
 use crate::fault_args::{common_subject, first_subject, kvno_subject};
 use crate::kinit::log_in;
 use crate::klist::run_klist;
@@ -13,13 +12,15 @@ use crate::options::read_args;
 use crate::places::{Places, find_places};
 use crate::renewing::get_again;
 use crate::reporting::{
-    name_at, print_fault, report_args, report_asked, report_unplaced, tell_name, tell_unwritten,
+    name_at, print_fault, report, report_args, report_unplaced, tell_name, tell_unwritten,
 };
 use clap::ArgMatches;
+use client_login::AnyMessage;
 use file_store::Store;
 use std::convert::AsStr;
 use std::io;
 use std::io::{BufWriter, Write};
+use std::mem::swap;
 
 /// The status of a command that did what it was to do.
 pub const DONE: u8 = 0;
@@ -36,7 +37,7 @@ pub const FAILED: u8 = 3;
 /// Does what a command line says, the program's name in front, at the context's moment. What came of it goes to
 /// `writer`, and why it was not done, in words, to `errors`. The status is `DONE`, `REFUSED`, `USAGE` or `FAILED`. But
 /// for `DONE` the cache is as it was, unless the printing alone failed: then it is `FAILED`, and the cache is written.
-pub fn kclient_run<S: AsStr, T: Store, X: Exchange, W: Write + Drop, E: Write + Drop>(
+pub fn kclient_run<S: AsStr, T: Store, X: AnyMessage, W: Write + Drop, E: Write + Drop>(
     context: &mut Context<T, X>,
     args: &[S],
     defaults: &Defaults<'_>,
@@ -65,7 +66,7 @@ pub fn kclient_run<S: AsStr, T: Store, X: Exchange, W: Write + Drop, E: Write + 
 }
 
 /// The status; an error is a failed write.
-fn run_to_end<S: AsStr, T: Store, X: Exchange, W: Write, E: Write>(
+fn run_to_end<S: AsStr, T: Store, X: AnyMessage, W: Write, E: Write>(
     context: &mut Context<T, X>,
     args: &[S],
     defaults: &Defaults<'_>,
@@ -80,7 +81,7 @@ fn run_to_end<S: AsStr, T: Store, X: Exchange, W: Write, E: Write>(
     Ok(status)
 }
 
-fn run_args<S: AsStr, T: Store, X: Exchange, W: Write, E: Write>(
+fn run_args<S: AsStr, T: Store, X: AnyMessage, W: Write, E: Write>(
     context: &mut Context<T, X>,
     args: &[S],
     defaults: &Defaults<'_>,
@@ -95,7 +96,7 @@ fn run_args<S: AsStr, T: Store, X: Exchange, W: Write, E: Write>(
     }
 }
 
-fn run_subcommand<T: Store, X: Exchange, W: Write, E: Write>(
+fn run_subcommand<T: Store, X: AnyMessage, W: Write, E: Write>(
     context: &mut Context<T, X>,
     matches: &ArgMatches<'_>,
     defaults: &Defaults<'_>,
@@ -114,7 +115,7 @@ fn run_subcommand<T: Store, X: Exchange, W: Write, E: Write>(
 }
 
 /// Finds where the command works, and does it there.
-fn run_placed<T: Store, X: Exchange, W: Write, E: Write>(
+fn run_placed<T: Store, X: AnyMessage, W: Write, E: Write>(
     context: &mut Context<T, X>,
     task: &Task<'_>,
     options: &ArgMatches<'_>,
@@ -125,12 +126,18 @@ fn run_placed<T: Store, X: Exchange, W: Write, E: Write>(
     ensures { IfOk result (λ status. status ≤ 3) }
 {
     match find_places(context.alloc, task, options, defaults, &mut context.store) {
-        Ok(places) => run_task(context, task, options, &places, out, errors),
+        Ok(mut places) => {
+            let kdcs = &mut context.client.kdcs;
+            kdcs.restart();
+            kdcs.tcp_only = places.tcp_only;
+            swap(&mut kdcs.addresses, &mut places.kdcs.addresses);
+            run_task(context, task, options, &places, out, errors)
+        }
         Err(unplaced) => report_unplaced(out, errors, &unplaced, options, defaults),
     }
 }
 
-fn run_task<T: Store, X: Exchange, W: Write, E: Write>(
+fn run_task<T: Store, X: AnyMessage, W: Write, E: Write>(
     context: &mut Context<T, X>,
     task: &Task<'_>,
     options: &ArgMatches<'_>,
@@ -158,7 +165,7 @@ fn run_task<T: Store, X: Exchange, W: Write, E: Write>(
     }
 }
 
-fn run_first<T: Store, X: Exchange, W: Write, E: Write>(
+fn run_first<T: Store, X: AnyMessage, W: Write, E: Write>(
     context: &mut Context<T, X>,
     places: &Places,
     args: &FirstArgs<'_>,
@@ -171,12 +178,13 @@ fn run_first<T: Store, X: Exchange, W: Write, E: Write>(
         Ok(()) => print_done(out),
         Err(stop) => {
             let subject = first_subject(places, args, stop.place());
-            report_asked(out, errors, subject, &context.exchange, stop)
+            let failures = context.client.kdcs.failures();
+            report(out, errors, subject, failures, stop)
         }
     }
 }
 
-fn run_again<T: Store, X: Exchange, W: Write, E: Write>(
+fn run_again<T: Store, X: AnyMessage, W: Write, E: Write>(
     context: &mut Context<T, X>,
     places: &Places,
     args: &AgainArgs<'_>,
@@ -189,7 +197,8 @@ fn run_again<T: Store, X: Exchange, W: Write, E: Write>(
         Ok(()) => print_done(out),
         Err(stop) => {
             let subject = common_subject(places, args.seed, stop.place());
-            report_asked(out, errors, subject, &context.exchange, stop)
+            let failures = context.client.kdcs.failures();
+            report(out, errors, subject, failures, stop)
         }
     }
 }
@@ -202,7 +211,7 @@ fn print_done<W: Write>(out: &mut W) -> io::Result<u8>
 }
 
 /// Where `kvno` ends early at one of several names, that is said too.
-fn run_kvno<T: Store, X: Exchange, W: Write, E: Write>(
+fn run_kvno<T: Store, X: AnyMessage, W: Write, E: Write>(
     context: &mut Context<T, X>,
     places: &Places,
     args: &KvnoArgs<'_>,
@@ -218,7 +227,8 @@ fn run_kvno<T: Store, X: Exchange, W: Write, E: Write>(
             let name = name_at(names, index);
             tell_name(errors, names.len(), name)?;
             let subject = kvno_subject(places, args, name, stop.place());
-            report_asked(out, errors, subject, &context.exchange, stop)
+            let failures = context.client.kdcs.failures();
+            report(out, errors, subject, failures, stop)
         }
     }
 }

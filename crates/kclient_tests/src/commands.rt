@@ -297,6 +297,11 @@ const REFUSED_BY_A_WORD: &[Run] = &[
         ..BAD_NAME
     },
     Run {
+        line: "kclient kinit --kdc 192.0.2.1:88 --name u@ --password-file pass --cache cc --seed seed",
+        errors: "kclient: --name u@: no name is written so\n",
+        ..BAD_NAME
+    },
+    Run {
         line: "kclient kvno --kdc 192.0.2.1:88 --cache cc --name h --name  --seed seed",
         errors: "kclient: --name: this name ended the command\nkclient: --name: no name is written so\n",
         ..BAD_NAME
@@ -359,7 +364,7 @@ const REFUSED_BY_A_WORD: &[Run] = &[
     Run {
         line: "kclient kvno --kdc 192.0.2.1:88 --cache empty --name h --seed seed",
         out: "refused Absent\n",
-        errors: "kclient: empty: no usable ticket for tickets of the realm is there; kinit gets one\n",
+        errors: "kclient: empty: no usable ticket-granting ticket of the realm is there: run kinit\n",
         ..BAD_NAME
     },
     Run {
@@ -373,13 +378,13 @@ const REFUSED_BY_A_WORD: &[Run] = &[
     Run {
         line: "kclient kvno --kdc 192.0.2.1:88 --cache oddkey --name h --seed seed",
         out: "refused Absent\n",
-        errors: "kclient: oddkey: no usable ticket for tickets of the realm is there; kinit gets one\n",
+        errors: "kclient: oddkey: no usable ticket-granting ticket of the realm is there: run kinit\n",
         ..BAD_NAME
     },
     Run {
         line: "kclient kvno --kdc 192.0.2.1:88 --cache noticket --name h --seed seed",
         out: "refused Absent\n",
-        errors: "kclient: noticket: no usable ticket for tickets of the realm is there; kinit gets one\n",
+        errors: "kclient: noticket: no usable ticket-granting ticket of the realm is there: run kinit\n",
         ..BAD_NAME
     },
     // of two faults the first is told
@@ -531,6 +536,37 @@ const FAULTS: &[Run] = &[
             kclient kinit --kdc 192.0.2.1:88 --realm A.B --name u --password-file pass --cache cc --seed seed \
             --life 4294967296",
         out: "--life",
+        ..FAULT
+    },
+    Run {
+        line: "\
+            kclient kinit --kdc 192.0.2.1:88 --realm A.B --name u --password-file pass --cache cc --seed seed \
+            --life 49711d",
+        out: "--life takes seconds",
+        ..FAULT
+    },
+    Run {
+        line: "\
+            kclient kinit --kdc 192.0.2.1:88 --realm A.B --name u --password-file pass --cache cc --seed seed \
+            --life h",
+        out: "--life takes seconds",
+        ..FAULT
+    },
+    Run {
+        line: "kclient kinit --kdc 192.0.2.1:88 --realm A.B --name u@A.B --password-file pass --cache cc",
+        out: "--realm and a realm behind the name of --name don't go together",
+        ..FAULT
+    },
+    Run {
+        line: "\
+            kclient kinit --kdc 192.0.2.1:88 --realm A.B --name u --password-file pass --cache cc --seed seed \
+            --least-count many",
+        out: "--least-count takes a number",
+        ..FAULT
+    },
+    Run {
+        line: "kclient kinit --kdc 192.0.2.1:88 --cache cc --renew --least-count 1",
+        out: "--renew and --validate take the ticket of the cache",
         ..FAULT
     },
     Run {

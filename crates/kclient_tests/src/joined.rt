@@ -1,7 +1,7 @@
 //! An exchange of messages that is joined to a KDC in memory.
-ghost use Rattle.std.specs.Prelude.{◌≡◌};
+ghost use Rattle.std.specs.Prelude.{⊤};
 
-use kclient_run::{Exchange, Transport};
+use client_login::{AnyMessage, Exchange, Transport};
 use kdc_core::Kdc;
 use krb_fields::Moment;
 use std::alloc::{AllocError, Global};
@@ -10,7 +10,7 @@ use std::io::{Error, ErrorKind};
 use std::net::SocketAddr;
 
 /// What happens to the messages on their way.
-#[derive(Clone, Copy, Debug, PartialEq, Eq)]
+#[derive(Clone, Copy, PartialEq, Eq)]
 pub enum Link {
     /// The KDC answers.
     Good,
@@ -30,6 +30,12 @@ pub enum Link {
     FirstOnce,
     /// Each message gets a KRB-ERROR with this code.
     Error(u8),
+    /// So does the message at this place, where the first has the number 0, and the KDC answers the others.
+    ErrorAt(usize, u8),
+    /// The first KDC sends a KRB-ERROR with this code, and the second one answers.
+    FirstError(u8),
+    /// The first KDC sends a KRB-ERROR with this code, and the second one is silent.
+    SecondSilent(u8),
     /// Each message gets these octets, in hexadecimal digits.
     Forged(&'static str),
     /// The first message gets them, and the KDC answers the others.
@@ -63,9 +69,6 @@ pub struct JoinedExchange {
     sent: Vec<u8>,
     /// What the KDC answered last.
     answered: Vec<u8>,
-    /// The address that gave the last reply.
-    from: Option<SocketAddr>,
-    failures: u64,
 }
 
 impl JoinedExchange {
@@ -78,8 +81,6 @@ impl JoinedExchange {
             last: Vec::new(alloc),
             sent: Vec::new(alloc),
             answered: Vec::new(alloc),
-            from: None,
-            failures: 0,
         }
     }
 
@@ -89,8 +90,6 @@ impl JoinedExchange {
         self.link = link;
         self.ways = String::new(alloc);
         self.sent = Vec::new(alloc);
-        self.from = None;
-        self.failures = 0;
     }
 
     /// The messages of the command: `u` for a datagram, `t` for one by TCP, `=` for one by TCP with the octets of the
@@ -111,14 +110,13 @@ impl JoinedExchange {
         by: Transport,
         to: SocketAddr,
         message: &[u8],
-    ) -> io::Result<Vec<u8>>
-        ensures { self.new.failures ≡ self.old.failures }
-    {
+    ) -> io::Result<Vec<u8>> {
         let is_second = to.port() == SECOND_PORT;
         let way = way_of(by, is_second, &self.last, message);
         note(alloc, &mut self.ways, &mut self.last, way, message)?;
         self.sent.extend_from_slice(message)?;
-        let is_later = self.ways.len() > 1;
+        let before = self.ways.len().saturating_sub(1);
+        let is_later = before > 0;
         match self.link {
             Link::Silent => Err(silence()),
             Link::FirstSilent if !is_second => Err(silence()),
@@ -127,6 +125,11 @@ impl JoinedExchange {
             Link::Once if is_later => Err(refusal()),
             Link::FirstOnce if is_later && !is_second => Err(refusal()),
             Link::Error(code) => error_of(alloc, code),
+            Link::ErrorAt(place, code) if place == before => error_of(alloc, code),
+            Link::FirstError(code) | Link::SecondSilent(code) if !is_second => error_of(
+                alloc, code,
+            ),
+            Link::SecondSilent(_) => Err(silence()),
             Link::Forged(digits) => octets(alloc, digits),
             Link::ForgedOnce(digits) if !is_later => octets(alloc, digits),
             Link::Stale => Ok(Vec::from_slice(alloc, &self.answered)?),
@@ -136,7 +139,7 @@ impl JoinedExchange {
 }
 
 impl Exchange for JoinedExchange {
-    ghost failure_count = { λ e. e.failures };
+    ghost carries = { λ message. ⊤ };
 
     fn exchange(
         &mut self,
@@ -145,24 +148,12 @@ impl Exchange for JoinedExchange {
         to: SocketAddr,
         message: &[u8],
     ) -> io::Result<Vec<u8>> {
-        let reply = self.reply(alloc, by, to, message);
-        if reply.is_ok() {
-            self.from = Some(to);
-        }
-        self.failures = match &reply {
-            Ok(_) => self.failures,
-            Err(_) => self.failures.saturating_add(1),
-        };
-        reply
+        self.reply(alloc, by, to, message)
     }
+}
 
-    fn answered(&self) -> Option<SocketAddr> {
-        self.from
-    }
-
-    fn failures(&self) -> u64 {
-        self.failures
-    }
+impl AnyMessage for JoinedExchange {
+    ghost takes_any = { λ message. tt };
 }
 
 fn silence() -> Error {
@@ -221,13 +212,12 @@ fn ask(
     answered: &mut Vec<u8>,
 ) -> io::Result<Vec<u8>> {
     let random = [7; 64];
-    let handled = kdc.handle(alloc, at, &random, u32::MAX, message);
-    match handled {
-        Ok(Some(reply)) => {
+    let reply = kdc.handle(alloc, at, &random, u32::MAX, message)?.reply;
+    match reply {
+        Some(reply) => {
             *answered = Vec::from_slice(alloc, &reply)?;
             Ok(reply)
         }
-        Ok(None) => Err(silence()),
-        Err(error) => Err(Error::from(error)),
+        None => Err(silence()),
     }
 }

@@ -7,7 +7,7 @@ use std::process::Abort;
 use std::test::Fail;
 
 /// A cache as a model in Python writes it, by the format: a header as MIT's library writes it; the default principal
-/// `u` of `A.B`; a setting of the library; a ticket for tickets; one for a service whose name has a line feed, `@`, `/`
+/// `u` of `A.B`; a setting of the library; a ticket-granting ticket; one for a service whose name has a line feed, `@`, `/`
 /// and `\\`, without a start, sealed under a key of another type; and one of `v` in `C D`, with all flags, the last
 /// end, and octets that are no ticket.
 const CACHE: &str = "\

@@ -44,11 +44,14 @@ const FIRST: &[Run] = &[
         ..KINIT_V
     },
     Run {
-        line: "kclient kinit --kdc 192.0.2.1:88 --realm A.B --name u --keytab other --cache cc --seed seed",
+        line: "kclient kinit --kdc 192.0.2.1:88 --realm A.B --name v --keytab keys --cache cc --seed seed",
+        link: Link::Forged(WANTED_BY_17),
         ..NO_KEY
     },
     Run {
         line: "kclient kinit --kdc 192.0.2.1:88 --realm A.B --name v --keytab other --cache cc --seed seed",
+        errors: "kclient: other: no key of the client is there\n",
+        ways: "",
         ..NO_KEY
     },
     Run {
@@ -112,12 +115,25 @@ const FIRST: &[Run] = &[
         held: "krbtgt/A.B 150 150 36150 - 00600000 18\n",
         ..KINIT
     },
+    // a keytab with a key of type 17 alone, where the KDC has one of type 18 too, and one where it has not
+    Run {
+        line: "kclient kinit --kdc 192.0.2.1:88 --realm A.B --name w --keytab type17 --cache cc --seed seed",
+        held: "krbtgt/A.B 160 160 36160 - 00600000 17\n",
+        ..KINIT
+    },
+    Run {
+        line: "kclient kinit --kdc 192.0.2.1:88 --realm A.B --name u --keytab other --cache cc --seed seed",
+        out: "refused 14\n",
+        errors: "\
+            kclient: 192.0.2.1:88: error 14: the KDC, or a key, has none of the encryption types that were asked\n",
+        ..NO_KEY
+    },
     Run {
         line: "kclient kinit --kdc 192.0.2.1:88 --realm A.B --name u --cache cc --seed seed",
         input: "password",
         terminal: true,
         asked: "Password for u@A.B: ",
-        held: "krbtgt/A.B 160 160 36160 - 00600000 18\n",
+        held: "krbtgt/A.B 180 180 36180 - 00600000 18\n",
         ..KINIT
     },
 ];
@@ -131,17 +147,95 @@ const WANTED_BY_17: &str = "\
 const NO_KEY: Run = Run {
     status: REFUSED,
     out: "refused Absent\n",
-    errors: "kclient: other: no key of the client is there, of a type that the KDC names\n",
+    errors: "kclient: keys: no key of the client is there, of a type that the KDC names\n",
     ways: "u",
     ..KINIT
 };
+
+/// KRB-ERROR with code 25, whose PA-ETYPE-INFO2 names a type, the salt of `u` and a count of iterations.
+macro_rules! wanted {
+    ($etype:literal, $count:literal) => {
+        concat!(
+            "7e743072a003020105a10302011ea411180f32303234303130313030303030305aa503020100a603020119a9051b03412e42",
+            "aa183016a003020102a10f300d1b066b72627467741b03412e42ac28042630243022a103020113a21b041930173015a00302",
+            "01",
+            $etype,
+            "a1061b04412e4275a2060404",
+            $count
+        )
+    };
+}
+
+const WEAK: Run = Run {
+    status: REFUSED,
+    out: "refused WeakCount\n",
+    errors: "\
+        kclient: 192.0.2.1:88: the KDC asks for fewer iterations of string-to-key than --least-count, or else the \
+        type's default: somebody may have changed its reply to find the password\n",
+    ways: "u",
+    ..KINIT
+};
+
+/// No timestamp goes out under a key of fewer iterations than the least count.
+const COUNTS: &[Run] = &[
+    Run {
+        link: Link::ForgedOnce(wanted!("12", "00000001")),
+        ..WEAK
+    },
+    Run {
+        link: Link::ForgedOnce(wanted!("12", "00000fff")),
+        ..WEAK
+    },
+    Run {
+        link: Link::ForgedOnce(wanted!("11", "00000fff")),
+        ..WEAK
+    },
+    Run {
+        link: Link::ForgedOnce(wanted!("14", "00001000")),
+        ..WEAK
+    },
+    Run {
+        link: Link::ForgedOnce(wanted!("13", "00007fff")),
+        ..WEAK
+    },
+    Run {
+        link: Link::ForgedOnce(wanted!("12", "00001000")),
+        held: "krbtgt/A.B 50 50 36050 - 00600000 18\n",
+        ..KINIT
+    },
+    // a count of 1 makes another key
+    Run {
+        line: "\
+            kclient kinit --kdc 192.0.2.1:88 --realm A.B --name u --password-file pass --cache cc --seed seed \
+            --least-count 1",
+        link: Link::ForgedOnce(wanted!("12", "00000001")),
+        out: "refused 24\n",
+        errors: "\
+            kclient: 192.0.2.1:88: error 24: the preauthentication failed: the password is another, or the \
+            clocks differ\n",
+        ways: "uu",
+        ..WEAK
+    },
+    Run {
+        line: "\
+            kclient kinit --kdc 192.0.2.1:88 --realm A.B --name u --password-file pass --cache cc --seed seed \
+            --least-count 4097",
+        ..WEAK
+    },
+    Run {
+        line: "\
+            kclient kinit --kdc 192.0.2.1:88 --realm A.B --name v --password-file pass --cache cc --seed seed \
+            --least-count 4097",
+        ..WEAK
+    },
+];
 
 /// A ticket is renewed: it starts now, lives as long as it lived, and keeps until when it is renewable.
 const RENEWED: &[Run] = &[
     Run {
         line: "\
-            kclient kinit --kdc 192.0.2.1:88 --realm A.B --name u --password-file pass --cache cc --seed seed \
-            --life 3600 --renewable --forwardable",
+            kclient kinit --kdc 192.0.2.1:88 --name u@A.B --password-file pass --cache cc --seed seed \
+            --life 1h --renewable --forwardable",
         held: "krbtgt/A.B 0 0 3600 604800 40e00000 18\n",
         ..KINIT
     },
@@ -165,7 +259,7 @@ const RENEWED: &[Run] = &[
         line: "kclient kinit --renew --kdc 192.0.2.1:88 --cache empty --seed seed",
         status: REFUSED,
         out: "refused Absent\n",
-        errors: "kclient: empty: no usable ticket for tickets of the realm is there; kinit gets one\n",
+        errors: "kclient: empty: no usable ticket-granting ticket of the realm is there: run kinit\n",
         ways: "",
         ..KINIT
     },
@@ -181,9 +275,9 @@ const RENEWED: &[Run] = &[
     Run {
         line: "kclient kinit --renew --kdc 192.0.2.1:88 --cache cc --seed seed",
         status: REFUSED,
-        out: "refused 13\n",
-        errors: "kclient: 192.0.2.1:88: error 13: the KDC does not grant an option that was asked\n",
-        ways: "u",
+        out: "refused NotRenewable\n",
+        errors: "kclient: cc: the ticket is not renewable: use kinit --renewable\n",
+        ways: "",
         ..KINIT
     },
 ];
@@ -201,7 +295,7 @@ const VALIDATED: &[Run] = &[
         line: "kclient kinit --validate --kdc 192.0.2.1:88 --cache cc --seed seed",
         status: REFUSED,
         out: "refused 33\n",
-        errors: "kclient: 192.0.2.1:88: error 33: the ticket for tickets is not yet valid\n",
+        errors: "kclient: 192.0.2.1:88: error 33: the ticket-granting ticket is not yet valid\n",
         ways: "u",
         ..KINIT
     },
@@ -233,7 +327,7 @@ const VALIDATED: &[Run] = &[
     Run {
         status: REFUSED,
         out: "refused 33\n",
-        errors: "kclient: 192.0.2.1:88: error 33: the ticket for tickets is not yet valid\n",
+        errors: "kclient: 192.0.2.1:88: error 33: the ticket-granting ticket is not yet valid\n",
         ..KVNO
     },
 ];
@@ -241,6 +335,11 @@ const VALIDATED: &[Run] = &[
 #[test]
 fn a_first_ticket_is_what_was_asked(rt: HostRuntime) -> Result<(), Fail> {
     expect_runs(&rt, rt.alloc(), FIRST)
+}
+
+#[test]
+fn no_key_of_fewer_iterations_is_used(rt: HostRuntime) -> Result<(), Fail> {
+    expect_runs(&rt, rt.alloc(), COUNTS)
 }
 
 #[test]

@@ -16,6 +16,11 @@ const TWO_KDCS_KVNO: Run = Run {
     ..KVNO
 };
 
+const TWO_KDCS_FRESH: Run = Run {
+    line: "kclient kvno --fresh --kdc 192.0.2.1:88 --kdc 192.0.2.2:89 --cache cc --name h --seed seed",
+    ..KVNO
+};
+
 const SEVERAL: &[Run] = &[
     TWO_KDCS,
     // once the second has answered, the first is not asked again
@@ -57,6 +62,33 @@ const SEVERAL: &[Run] = &[
         errors: "kclient: 192.0.2.2:89: error 7: the service is not in the database\n",
         ways: "u=U",
         ..TWO_KDCS_KVNO
+    },
+    // but one that is not available, or whose clock differs, is passed over
+    Run {
+        link: Link::FirstError(29),
+        ways: "uUU",
+        ..TWO_KDCS
+    },
+    Run {
+        link: Link::FirstError(37),
+        ways: "uU",
+        ..TWO_KDCS_FRESH
+    },
+    Run {
+        link: Link::Error(29),
+        status: REFUSED,
+        out: "refused 29\n",
+        errors: "kclient: 192.0.2.1:88: error 29: a service is not available\n",
+        ways: "uU",
+        ..TWO_KDCS
+    },
+    Run {
+        link: Link::SecondSilent(29),
+        status: REFUSED,
+        out: "refused 29\n",
+        errors: "kclient: 192.0.2.1:88: error 29: a service is not available\n",
+        ways: "uU#",
+        ..TWO_KDCS
     },
     Run {
         link: Link::Silent,

@@ -1,6 +1,7 @@
 //! A command line over files in memory and a KDC in memory, and what comes of it.
 use crate::joined::{JoinedExchange, Link};
 use crate::realm::open;
+use client_login::{KdcClient, Kdcs};
 use cred_files::{Cache, Credential};
 use file_store::{LONGEST_FILE, MemoryStore};
 use kclient_run::{Context, DONE, Defaults, USAGE, Variable, kclient_run};
@@ -117,6 +118,11 @@ const TWO_TYPES: &str = "\
         55565758595a5b5c5d5e5f000000010000002b00010003412e42000177000000010000000001001100106061626364656667\
         68696a6b6c6d6e6f00000001";
 
+/// The key of `w` of the type 17 alone.
+const TYPE_17: &str = "\
+        05020000002b00010003412e42000177000000010000000001001100106061626364656667\
+        68696a6b6c6d6e6f00000001";
+
 /// A `krb5.conf` of `A.B`, and of a realm `N` whose KDC is named.
 const CONF: &[u8] = b"\
 # the realm of the tests
@@ -172,6 +178,7 @@ fn store(alloc: Global) -> Result<MemoryStore, Fail> {
     set_hex(alloc, &mut store, "old", OLD)?;
     set_hex(alloc, &mut store, "other", OTHER)?;
     set_hex(alloc, &mut store, "twotypes", TWO_TYPES)?;
+    set_hex(alloc, &mut store, "type17", TYPE_17)?;
     set_hex(alloc, &mut store, "oddkey", ODD_KEY)?;
     set_hex(alloc, &mut store, "noticket", NO_TICKET)?;
     Ok(store)
@@ -343,11 +350,16 @@ fn expect_sent(rt: &impl Abort, alloc: Global, run: &Run, sent: &[u8]) -> Result
     Ok(())
 }
 
+/// Begins a command at a moment.
+fn begin(context: &mut Memory, at: Moment, link: Link) {
+    context.client.at = at;
+    context.client.kdcs.exchange.begin(context.alloc, at, link);
+}
+
 fn expect_run(rt: &impl Abort, context: &mut Memory, run: &Run, at: Moment) -> Result<(), Fail> {
     let alloc = context.alloc;
     let before = cache_file(alloc, &context.store)?;
-    context.at = at;
-    context.exchange.begin(alloc, at, run.link);
+    begin(context, at, run.link);
     context
         .store
         .set_input(alloc, run.input.as_bytes(), run.terminal)?;
@@ -357,10 +369,10 @@ fn expect_run(rt: &impl Abort, context: &mut Memory, run: &Run, at: Moment) -> R
         rt,
         run,
         &ended,
-        context.exchange.ways(),
+        context.client.kdcs.exchange.ways(),
         context.store.asked(),
     );
-    expect_sent(rt, alloc, run, context.exchange.sent())?;
+    expect_sent(rt, alloc, run, context.client.kdcs.exchange.sent())?;
     expect_cache(rt, alloc, &context.store, run, &before)
 }
 
@@ -375,11 +387,14 @@ fn expect_each(rt: &impl Abort, context: &mut Memory, runs: &[Run]) -> Result<()
 pub fn context(alloc: Global) -> Result<Memory, Fail> {
     let at = moment(0)?;
     let store = store(alloc)?;
+    let exchange = JoinedExchange::new(alloc, open(alloc)?, at);
     Ok(Context {
         alloc,
         store,
-        exchange: JoinedExchange::new(alloc, open(alloc)?, at),
-        at,
+        client: KdcClient {
+            kdcs: Kdcs::new(exchange, Vec::new(alloc), false),
+            at,
+        },
     })
 }
 
@@ -431,10 +446,7 @@ fn expect_each_code(
 }
 
 fn expect_code(rt: &impl Abort, context: &mut Memory, code: u8, args: &str) -> Result<(), Fail> {
-    context.at = moment(0)?;
-    context
-        .exchange
-        .begin(context.alloc, context.at, Link::Error(code));
+    begin(context, moment(0)?, Link::Error(code));
     let ended = run_line(context, CODED)?;
     let out = format!(in context.alloc; "refused {code}\n")?;
     assert_eq!(rt; text(&ended.out), out.as_str());

@@ -1,4 +1,5 @@
 //! Tickets for services: which are asked for, and which a keytab opens.
+use crate::joined::Link;
 use crate::runs::{KINIT, KVNO, Run, expect_runs};
 use kclient_run::REFUSED;
 use std::test::Fail;
@@ -59,9 +60,31 @@ const SERVICES: &[Run] = &[
     },
     Run {
         line: "kclient kvno --kdc 192.0.2.1:88 --cache cc --seed seed --name h",
-        out: "refused 11\n",
-        errors: "kclient: 192.0.2.1:88: error 11: the ticket would end before it starts\n",
-        ways: "u",
+        out: "refused Ended\n",
+        errors: "kclient: cc: the ticket-granting ticket has ended: run kinit\n",
+        ..STOPPED
+    },
+];
+
+/// A KDC that has seen another request of the same moment is asked once more, a microsecond later.
+const REPEATED: &[Run] = &[
+    Run {
+        link: Link::ErrorAt(1, 34),
+        ways: "uuu",
+        held: "krbtgt/A.B 0 0 36000 - 00600000 18\n",
+        ..KINIT
+    },
+    Run {
+        link: Link::ErrorAt(0, 34),
+        ways: "uu",
+        ..KVNO
+    },
+    Run {
+        line: "kclient kvno --fresh --kdc 192.0.2.1:88 --cache cc --name h --seed seed",
+        link: Link::Error(34),
+        out: "refused 34\n",
+        errors: "kclient: 192.0.2.1:88: error 34: the request is a replay\n",
+        ways: "uu",
         ..STOPPED
     },
 ];
@@ -122,6 +145,11 @@ const STOPPED: Run = Run {
 #[test]
 fn a_ticket_that_is_good_is_kept(rt: HostRuntime) -> Result<(), Fail> {
     expect_runs(&rt, rt.alloc(), SERVICES)
+}
+
+#[test]
+fn a_replay_is_asked_once_more(rt: HostRuntime) -> Result<(), Fail> {
+    expect_runs(&rt, rt.alloc(), REPEATED)
 }
 
 #[test]

@@ -1,12 +1,10 @@
--- What the commands ask of a KDC (RFC 4120, section 5.4.1).
+-- What a client asks of a KDC (RFC 4120, section 5.4.1).
 use Rattle.std.specs.Prelude.{ℕ, ℤ, pos, ◌+◌, ◌+ℤ◌, int_lt, Bool, true, if◌then◌else◌, is_some}
-use Rattle.std.specs.Prelude.{List, [], ◌∷◌, Option, Some, None, option_map}
+use Rattle.std.specs.Prelude.{codes, List, [], ◌∷◌, Option, Some, None, option_map}
 use Rattle.std.specs.Option.{unwrap_or}
 use Rattle.cred_files.specs.declared.principal.Principal.{Principal}
 use Rattle.client_core.specs.declared.asked.Asked.{Asked}
 use Rattle.enctypes.specs.declared.etype.Etype.{Etype}
-use Rattle.enctypes.specs.declared.etype.Etype.TheVariants.{Aes128CtsHmacSha1_96, Aes256CtsHmacSha1_96}
-use Rattle.enctypes.specs.declared.etype.Etype.TheVariants.{Aes128CtsHmacSha256_128, Aes256CtsHmacSha384_192}
 use Rattle.krb_fields.specs.Flags.{has_bit, with_bit}
 use Rattle.krb_fields.specs.KdcOption.{kdc_option_number}
 use Rattle.krb_fields.specs.PrincipalName.{Name}
@@ -14,9 +12,11 @@ use Rattle.krb_fields.specs.declared.kdc_option.KdcOption.{KdcOption}
 use Rattle.krb_fields.specs.declared.kdc_option.KdcOption.TheVariants.{AllowPostdate, Forwardable, Postdated}
 use Rattle.krb_fields.specs.declared.kdc_option.KdcOption.TheVariants.{Proxiable, Renewable}
 use Rattle.krb_fields.specs.declared.kdc_option.KdcOption.TheVariants as options
-use Rattle.kclient_run.specs.declared.wishes.Again.{Again}
-use Rattle.kclient_run.specs.declared.wishes.Again.TheVariants.{Renew, Validate}
-use Rattle.kclient_run.specs.declared.wishes.Wishes.{Wishes}
+use Rattle.client_login.specs.declared.wishes.Again.{Again}
+use Rattle.client_login.specs.declared.wishes.Again.TheVariants.{Renew, Validate}
+use Rattle.client_login.specs.declared.wishes.Login.{Login}
+use Rattle.client_login.specs.declared.wishes.Wishes.{Wishes}
+use Rattle.client_login.specs.Keys.{offered}
 
 -- ---- the options
 
@@ -71,25 +71,25 @@ rtime_of w = if w.renewable then Some (pos 0) else None
 
 -- ---- the whole
 
--- the types that a client takes, the preferred one first
-abbrev pub offered : List Etype
-offered = Aes256CtsHmacSha1_96 ∷ Aes128CtsHmacSha1_96 ∷ Aes256CtsHmacSha384_192 ∷ Aes128CtsHmacSha256_128 ∷ []
+-- krbtgt/REALM, with the name-type NT-SRV-INST (section 6.2)
+abbrev pub granting_service : List ℕ → Name
+granting_service realm = record { name_type = pos 2; components = codes "krbtgt" ∷ realm ∷ [] }
 
--- a first ticket for a service of the client's realm
-abbrev pub first_asked : Wishes → Principal → Name → ℤ → ℕ → Asked
-first_asked w client service now nonce = record {
-  options = options_of w;
-  client = client.name;
-  realm = client.realm;
-  service = service;
-  from = from_of now w;
-  till = till_of now w;
-  rtime = rtime_of w;
+-- a first ticket for a service of the client's realm, with these types
+abbrev pub first_asked : Login → List Etype → ℤ → ℕ → Asked
+first_asked login etypes now nonce = record {
+  options = options_of login.wishes;
+  client = login.client.name;
+  realm = login.client.realm;
+  service = login.service;
+  from = from_of now login.wishes;
+  till = till_of now login.wishes;
+  rtime = rtime_of login.wishes;
   nonce = nonce;
-  etypes = offered;
+  etypes = etypes;
 }
 
--- with a ticket for tickets: a ticket that ends as late as that one
+-- with a ticket-granting ticket: a ticket that ends as late as that one
 abbrev pub further_asked : ℕ → Principal → Name → ℕ → Asked
 further_asked option_bits client service nonce = record {
   options = option_bits;

@@ -1,8 +1,8 @@
 use Rattle.std.proofs.Common.{◌≡◌, List, subst}
 use Rattle.std.specs.Prelude.{IfOk}
 use Rattle.krb_parts.specs.EtypeInfo2Entry.{EtypeInfo2Entry}
-use Rattle.kclient_run.proofs.InfoCopies.{info_copied}
-use Rattle.kclient_run.proofs.infos.copied.Goals as goal
+use Rattle.client_login.proofs.InfoCopies.{info_copied}
+use Rattle.client_login.proofs.infos.copied.Goals as goal
 
 pub returns : goal.returns
 returns c =

@@ -1,6 +1,6 @@
 //! What a client draws at random. Each call takes its octets from the generator once.
 ghost use Rattle.std.specs.Prelude.{◌≡◌, ◌<◌};
-ghost use Rattle.kclient_run.specs.Draws.{drawn_confounder, drawn_nonce};
+ghost use Rattle.client_login.specs.Draws.{drawn_confounder, drawn_nonce};
 ghost use Rattle.rand_core.specs.Stream.{fill_bytes};
 
 use rand_core::Rng;

@@ -1,6 +1,6 @@
 use Rattle.std.proofs.Common.{◌≡◌, ◌∷◌, drop}
-use Rattle.kclient_run.specs.Keys.{key_named}
-use Rattle.kclient_run.proofs.secrets.key_named.Given as goal
+use Rattle.client_login.specs.Keys.{key_named}
+use Rattle.client_login.proofs.secrets.key_named.Given as goal
 
 abbrev pub invariant-loop-entry : goal.invariant-loop-entry
 invariant-loop-entry l =

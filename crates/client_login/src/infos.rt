@@ -1,8 +1,8 @@
 //! What a KDC says of the types of a client's keys (RFC 4120, section 5.2.7.5): in the METHOD-DATA of a refusal, or in
 //! the padata of an AS-REP.
 ghost use Rattle.std.specs.Prelude.{◌≡◌, IfOk, option_copied};
-ghost use Rattle.kclient_run.specs.Infos.{default_info, first_info, info_in, info_in_reply, info_of_refusal};
-ghost use Rattle.kclient_run.specs.Infos.{info_of_method_data, info_of_reply};
+ghost use Rattle.client_login.specs.Infos.{default_info, first_info, info_in, info_in_reply, info_of_refusal};
+ghost use Rattle.client_login.specs.Infos.{info_of_method_data, info_of_reply};
 
 use client_core::EtypeInfo2;
 use krb_elements::{MakeOwned, Octets, OctetsRef, Seq, SeqRef, read};

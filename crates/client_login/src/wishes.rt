@@ -1,60 +1,92 @@
-//! What the commands ask of a KDC (RFC 4120, section 5.4.1).
+//! What a client asks of a KDC (RFC 4120, section 5.4.1).
 ghost use Rattle.std.specs.Prelude.{◌≡◌, ◌<◌, ◌^◌, IfOk};
-ghost use Rattle.kclient_run.specs.Asking.{again_option, again_options, first_asked, from_of, further_asked, offered};
-ghost use Rattle.kclient_run.specs.Asking.{options_of, rtime_of, till_of, time_after, up_to_last, with_if, with_kept};
+ghost use Rattle.client_login.specs.Asking.{again_option, again_options, first_asked, from_of, further_asked};
+ghost use Rattle.client_login.specs.Asking.{granting_service};
+ghost use Rattle.client_login.specs.Asking.{options_of, rtime_of, till_of, time_after, up_to_last, with_if, with_kept};
+ghost use Rattle.client_login.specs.Keys.{offered};
 
 use client_core::Asked;
 use cred_files::Principal;
 use enctypes::Etype;
 use krb_der::KTime;
-use krb_elements::Seq;
+use krb_elements::{KerberosString, Seq};
 use krb_fields::{Flags, KdcOption, Moment, Name};
 use std::alloc::{AllocError, Global};
 
+/// Who logs in, and the first ticket that is asked for.
+#[derive(Drop)]
+pub struct Login {
+    pub client: Principal,
+    /// A service of the client's realm, mostly [`granting_service`].
+    pub service: Name,
+    pub wishes: Wishes,
+}
+
 /// What a first ticket is to be.
 #[derive(Clone, Copy)]
-pub(crate) struct Wishes {
+pub struct Wishes {
     /// For how many seconds; absent: for as long as the KDC gives.
     pub life: Option<u32>,
-    /// In how many seconds it starts; absent: at once.
+    /// In how many seconds it starts; absent: at once. A ticket that starts later has to be validated then.
     pub start: Option<u32>,
     pub renewable: bool,
     pub forwardable: bool,
     pub proxiable: bool,
 }
 
+impl Wishes {
+    /// A ticket that starts at once, for as long as the KDC gives, without any option.
+    pub const PLAIN: Wishes = Wishes {
+        life: None,
+        start: None,
+        renewable: false,
+        forwardable: false,
+        proxiable: false,
+    };
+}
+
 /// What is to be done with a ticket that the client has.
 #[derive(Clone, Copy)]
-pub(crate) enum Again {
+pub enum Again {
     Renew,
     Validate,
+}
+
+/// The name-type of a service with its instance, NT-SRV-INST (RFC 4120, section 6.2).
+const SERVICE_AND_INSTANCE: i32 = 2;
+
+/// The name of the ticket-granting service of a realm, `krbtgt/REALM`.
+pub fn granting_service(alloc: Global, realm: &KerberosString) -> Result<Name, AllocError>
+    ensures { IfOk result (λ name. name ≡ granting_service realm.now) }
+{
+    Name::new(alloc, SERVICE_AND_INSTANCE, &[b"krbtgt", realm.as_slice()])
 }
 
 /// What is asked for a first ticket.
 pub(crate) fn first_asked(
     alloc: Global,
-    wishes: &Wishes,
-    client: &Principal,
-    service: &Name,
+    login: &Login,
+    etypes: Seq<Etype>,
     at: Moment,
     nonce: u32,
 ) -> Result<Asked, AllocError>
-    ensures { IfOk result (λ asked. asked ≡ first_asked wishes.now client.now service.now at.sec nonce) }
+    ensures { IfOk result (λ asked. asked ≡ first_asked login.now etypes at.sec nonce) }
 {
+    let wishes = &login.wishes;
     Ok(Asked {
         options: options(wishes),
-        client: client.name.copy(alloc)?,
-        realm: client.realm.copy(alloc)?,
-        service: service.copy(alloc)?,
+        client: login.client.name.copy(alloc)?,
+        realm: login.client.realm.copy(alloc)?,
+        service: login.service.copy(alloc)?,
         from: from(wishes, at),
         till: till(wishes, at),
         rtime: rtime(wishes),
         nonce,
-        etypes: offered(alloc)?,
+        etypes,
     })
 }
 
-/// What is asked with a ticket for tickets: a ticket that ends as late as that one.
+/// What is asked with a ticket-granting ticket: a ticket that ends as late as that one.
 pub(crate) fn further_asked(
     alloc: Global,
     options: Flags,
@@ -78,7 +110,7 @@ pub(crate) fn further_asked(
 }
 
 /// The encryption types that a client takes, in the order of its preference.
-fn offered(alloc: Global) -> Result<Seq<Etype>, AllocError>
+pub(crate) fn offered(alloc: Global) -> Result<Seq<Etype>, AllocError>
     ensures { IfOk result (λ etypes. etypes ≡ offered) }
 {
     let mut etypes = Seq::new(alloc);

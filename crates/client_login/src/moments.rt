@@ -1,6 +1,6 @@
 //! The moments of the requests of one command.
 ghost use Rattle.std.specs.Prelude.{◌≡◌};
-ghost use Rattle.kclient_run.specs.Moments.{next_microsecond, next_second};
+ghost use Rattle.client_login.specs.Moments.{next_microsecond, next_second};
 
 use krb_fields::Moment;
 

@@ -1,0 +1,3 @@
+mod InfoCopies
+mod OwnKeys
+mod Takings

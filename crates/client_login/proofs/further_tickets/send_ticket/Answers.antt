@@ -1,0 +1,13 @@
+use Rattle.std.proofs.Common.{◌≡◌, ℕ, List, subst, sym}
+use Rattle.std.specs.Prelude.{IfSome}
+use Rattle.client_core.specs.Sessions.{session}
+use Rattle.client_login.specs.Logins.{presented_request}
+use Rattle.client_login.proofs.Takings.{takes}
+use Rattle.client_login.proofs.further_tickets.send_ticket.Goals as goal
+
+pub ask-requires : goal.ask-requires
+ask-requires g c =
+    let written = subst (λ (octets : List ℕ). IfSome (session c.args.granting.now) (λ held. octets ≡ presented_request c.args.granting.now c.args.asked.now held c.take_moment-at.result c.draw_confounder-confounder.result)) (sym c.deref.ensures.value) c.in_ok-request.ensures.written in
+    takes
+    g.X.Exchange.carries c.args.granting.now c.args.asked.now c.take_moment-at.result c.draw_confounder-confounder.result
+    c.deref.result.now c.requires.presentable c.requires.carried written

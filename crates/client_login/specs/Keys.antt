@@ -1,0 +1,131 @@
+-- The keys of a client: of its password or its keytab, by what a KDC names.
+use Rattle.std.specs.Prelude.{◌≡◌, ℕ, ℤ, ◌==◌, nat_lt, Bool, false, if◌then◌else◌, List, [], ◌∷◌, ◌++◌, length}
+use Rattle.std.specs.Prelude.{Option, Some, None, option_map, is_some, Ok}
+use Rattle.std.specs.Int.{w32, from_be_bytes}
+use Rattle.client_core.specs.Passwords as passwords
+use Rattle.cred_files.specs.Keytab.{newest, passes}
+use Rattle.cred_files.specs.declared.keytab_entry.KeytabEntry.{KeytabEntry}
+use Rattle.cred_files.specs.declared.principal.Principal.{Principal}
+use Rattle.enctypes.specs.Etype.{default_count}
+use Rattle.enctypes.specs.declared.etype.Etype.{Etype}
+use Rattle.enctypes.specs.declared.etype.Etype.TheVariants.{Aes128CtsHmacSha1_96, Aes256CtsHmacSha1_96}
+use Rattle.enctypes.specs.declared.etype.Etype.TheVariants.{Aes128CtsHmacSha256_128, Aes256CtsHmacSha384_192}
+use Rattle.enctypes.specs.declared.key.Key.{Key}
+use Rattle.krb_elements.specs.Format.{whole}
+use Rattle.krb_fields.specs.Name.{Components}
+use Rattle.krb_fields.specs.PrincipalName.{Name}
+use Rattle.krb_parts.specs.EtypeInfo2Entry.{EtypeInfo2Entry}
+use Rattle.krb_replies.specs.KdcRep.{KdcRep, kdc_rep}
+use Rattle.client_login.specs.declared.secrets.Secret.{Secret}
+use Rattle.client_login.specs.declared.secrets.Secret.TheVariants as secrets
+use Rattle.client_login.specs.declared.secrets.Password.{Password}
+use Rattle.sealed_parts.specs.Keys.{type_numbered}
+use Rattle.sealed_parts.specs.Parts.{ok_of}
+
+-- ---- a keytab
+
+-- a principal is its realm and the components of its name; of its keys of a type the one of the greatest version
+abbrev pub key_typed : List KeytabEntry → Components → Option Etype → Option Key
+key_typed keytab who (Some etype) = option_map (λ e. e.key) (newest (passes who (Some etype) None) keytab)
+key_typed keytab who None = None
+
+abbrev pub key_numbered : List KeytabEntry → Components → ℤ → Option Key
+key_numbered keytab who number = key_typed keytab who (type_numbered number)
+
+-- the first of two that is there
+abbrev pub or_later : Option Key → Option Key → Option Key
+or_later (Some key) later = Some key
+or_later None later = later
+
+-- the key of the first type that the KDC names and the keytab has
+abbrev pub key_named : List KeytabEntry → Components → List EtypeInfo2Entry → Option Key
+key_named keytab who [] = None
+key_named keytab who (entry ∷ entries) = or_later (key_numbered keytab who entry.etype) (key_named keytab who entries)
+
+-- the type by whose key an AS-REP is sealed, where the octets are one
+abbrev pub type_of_reply : List ℕ → Option ℤ
+type_of_reply octets = option_map (λ (reply : KdcRep 11). reply.enc_part.etype) (ok_of (whole (kdc_rep 11).at octets))
+
+-- a key of the keytab, of one of the four types
+pub record IsKeytabKey (keytab : List KeytabEntry) (who : Components) (key : Key) : Type 0 where
+  pub number : ℤ
+  pub held : key_numbered keytab who number ≡ Some key
+
+-- ---- a password, and the least count of iterations
+
+-- the least count: the one that was chosen, or else the type's default
+abbrev pub least_count : Option ℕ → Etype → ℕ
+least_count (Some least) etype = least
+least_count None etype = default_count etype
+
+-- four octets, the most significant first
+abbrev pub count_in : List ℕ → Option ℕ
+count_in params = if length params == 4 then Some (from_be_bytes w32 params) else None
+
+-- the count that an entry asks for: that of its parameters, or else the type's default
+abbrev pub stated_count : Etype → Option (List ℕ) → Option ℕ
+stated_count etype (Some params) = count_in params
+stated_count etype None = Some (default_count etype)
+
+abbrev pub is_below : ℕ → Option ℕ → Bool
+is_below least (Some count) = nat_lt count least
+is_below least None = false
+
+abbrev pub is_weak_as : Option ℕ → Option (List ℕ) → Option Etype → Bool
+is_weak_as least params (Some etype) = is_below (least_count least etype) (stated_count etype params)
+is_weak_as least params None = false
+
+abbrev pub is_weak_if : Option ℕ → Option EtypeInfo2Entry → Bool
+is_weak_if least (Some entry) = is_weak_as least entry.s2kparams (type_numbered entry.etype)
+is_weak_if least None = false
+
+-- the entry of which a key is made asks for fewer iterations than the least count
+abbrev pub is_weak : Option ℕ → List EtypeInfo2Entry → Bool
+is_weak least info = is_weak_if least (passwords.entry_of info)
+
+-- the password's key, by what a KDC says of the client's types; not a weak one
+pub record IsPasswordKey (password : Password) (realm : List ℕ) (name : Name) (key : Key) : Type 0 where
+  pub info : List EtypeInfo2Entry
+  pub made : passwords.password_key password.octets realm name info ≡ Ok key
+  pub strong : is_weak password.least_count info ≡ false
+
+-- ---- either
+
+-- a key of the client
+abbrev pub IsOwnKey : Secret → List ℕ → Name → Key → Type 0
+IsOwnKey (secrets.Password password) realm name key = IsPasswordKey password realm name key
+IsOwnKey (secrets.Keytab keytab) realm name key = IsKeytabKey keytab (realm ∷ name.components) key
+
+-- ---- the key by which the reply to a request with a timestamp is opened
+
+-- of a keytab that of the type by which the reply is sealed; where the octets are no reply, the timestamp's
+abbrev pub keytab_key : List KeytabEntry → Components → Key → Option ℤ → Option Key
+keytab_key keytab who key (Some number) = key_numbered keytab who number
+keytab_key keytab who key None = Some key
+
+-- of a password the timestamp's
+abbrev pub next_key : Secret → Components → Key → List ℕ → Option Key
+next_key (secrets.Password password) who key reply = Some key
+next_key (secrets.Keytab keytab) who key reply = keytab_key keytab who key (type_of_reply reply)
+
+-- ---- the types that are asked for
+
+-- those that a client takes, the preferred one first
+abbrev pub offered : List Etype
+offered = Aes256CtsHmacSha1_96 ∷ Aes128CtsHmacSha1_96 ∷ Aes256CtsHmacSha384_192 ∷ Aes128CtsHmacSha256_128 ∷ []
+
+-- with a type where the keytab has a key of it
+abbrev pub with_held : List KeytabEntry → Components → Etype → List Etype → List Etype
+with_held keytab who etype etypes =
+    if is_some (newest (passes who (Some etype) None) keytab) then etypes ++ (etype ∷ []) else etypes
+
+-- those of which the keytab has a key
+abbrev pub held_types : List KeytabEntry → Components → List Etype
+held_types keytab who =
+    with_held keytab who Aes128CtsHmacSha256_128
+    (with_held keytab who Aes256CtsHmacSha384_192
+    (with_held keytab who Aes128CtsHmacSha1_96 (with_held keytab who Aes256CtsHmacSha1_96 [])))
+
+abbrev pub etypes_for : Secret → Principal → List Etype
+etypes_for (secrets.Password password) client = offered
+etypes_for (secrets.Keytab keytab) client = held_types keytab (client.realm ∷ client.name.components)

@@ -1,0 +1,32 @@
+//! Logging in to a realm: a first ticket by a password or a keytab, and tickets for services by that one (RFC 4120,
+//! sections 3.1 and 3.3).
+//!
+//! A [`KdcClient`] sends the requests of `client_core` to the KDCs of a realm over an [`Exchange`] and reads the replies.
+//! It reads no file and no clock: the caller hands in the network, the moment and a source of random octets.
+//!
+//! | call | what it returns |
+//! |---|---|
+//! | [`KdcClient::log_in`] | a first ticket, mostly of the ticket-granting service |
+//! | [`KdcClient::service_ticket`] | a ticket of a service, by a ticket-granting ticket |
+//! | [`KdcClient::ticket_again`] | the ticket that it is given, renewed or validated |
+#![tactic(auto)]
+
+mod asking;
+mod client;
+mod draws;
+mod exchange;
+mod faults;
+mod first_tickets;
+mod further_tickets;
+mod infos;
+mod moments;
+mod secrets;
+mod wishes;
+
+pub use asking::Kdcs;
+pub use client::KdcClient;
+pub use draws::{draw_confounder, draw_nonce};
+pub use exchange::{AnyMessage, Exchange, Transport};
+pub use faults::{LoginFault, Why};
+pub use secrets::{Password, Secret};
+pub use wishes::{Again, Login, Wishes, granting_service};

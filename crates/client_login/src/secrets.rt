@@ -1,0 +1,364 @@
+//! By what a client shows that it is itself: a password, or a keytab (RFC 4120, section 5.2.7.5).
+ghost use Rattle.std.specs.Prelude.{◌≡◌, ◌∷◌, true, Err, Some, option_copied, option_map, Ok, IfOk, OnOk};
+ghost use Rattle.client_core.specs.Passwords as passwords;
+ghost use Rattle.client_login.specs.Infos.{info_of_reply};
+ghost use Rattle.client_login.specs.declared.faults.Why.TheVariants as causes;
+ghost use Rattle.client_login.specs.Keys.{IsKeytabKey, IsOwnKey, IsPasswordKey, count_in, etypes_for, held_types, is_below};
+ghost use Rattle.client_login.specs.Keys.{is_weak, is_weak_if, key_named, key_numbered, key_typed, keytab_key};
+ghost use Rattle.client_login.specs.Keys.{least_count, next_key, stated_count, type_of_reply, with_held};
+
+use crate::faults::Why;
+use crate::infos::{AS_REP, info_of_reply};
+use crate::wishes::offered;
+use client_core::{Asked, ClientFault, EtypeInfo2, password_key};
+use cred_files::{Keytab, Principal};
+use enctypes::{Etype, Key};
+use krb_elements::{Octets, Seq};
+use krb_fields::Name;
+use krb_parts::EtypeInfo2Entry;
+use krb_replies::read_kdc_rep;
+use sealed_parts::type_numbered;
+use std::alloc::{AllocError, Global};
+
+/// By what a client shows that it is itself.
+#[derive(Drop)]
+pub enum Secret {
+    Password(Password),
+    Keytab(Keytab),
+}
+
+/// A password, of which a key is made as the KDC says.
+#[derive(Drop)]
+pub struct Password {
+    pub octets: Octets,
+    /// The fewest iterations of string-to-key that the client takes. Absent: the type's default, 4,096 for the types 17
+    /// and 18 and 32,768 for the types 19 and 20. A program on the path to the KDC may name any count and salt, and sees
+    /// what is sealed by such a key; so fewer iterations make passwords cheaper to guess.
+    pub least_count: Option<u32>,
+}
+
+/// The types that a client asks for: of a keytab those of which it has a key of the client.
+pub(crate) fn etypes_for(
+    alloc: Global,
+    secret: &Secret,
+    client: &Principal,
+) -> Result<Seq<Etype>, AllocError>
+    ensures { IfOk result (λ etypes. etypes ≡ etypes_for secret.now client.now) }
+{
+    match secret {
+        Secret::Password(_) => offered(alloc),
+        Secret::Keytab(keytab) => held_types(alloc, keytab, client),
+    }
+}
+
+fn held_types(alloc: Global, keytab: &Keytab, client: &Principal) -> Result<Seq<Etype>, AllocError>
+    ensures { IfOk result (λ etypes.
+        etypes ≡ held_types keytab.now (client.now.realm ∷ client.now.name.components)) }
+{
+    let mut etypes = Seq::new(alloc);
+    push_held(&mut etypes, keytab, client, Etype::Aes256CtsHmacSha1_96)?;
+    push_held(&mut etypes, keytab, client, Etype::Aes128CtsHmacSha1_96)?;
+    push_held(&mut etypes, keytab, client, Etype::Aes256CtsHmacSha384_192)?;
+    push_held(&mut etypes, keytab, client, Etype::Aes128CtsHmacSha256_128)?;
+    Ok(etypes)
+}
+
+fn push_held(
+    etypes: &mut Seq<Etype>,
+    keytab: &Keytab,
+    client: &Principal,
+    etype: Etype,
+) -> Result<(), AllocError>
+    ensures { OnOk result (etypes.new
+        ≡ with_held keytab.now (client.now.realm ∷ client.now.name.components) etype etypes.old) }
+{
+    if keytab.has(client.realm.as_slice(), &client.name, Some(etype)) {
+        etypes.push(etype)?;
+    }
+    Ok(())
+}
+
+/// The key for a timestamp, by what the KDC says of the client's keys. Of a keytab it is that of the first type which
+/// the KDC names and the keytab has.
+pub(crate) fn key_wanted(
+    alloc: Global,
+    secret: &Secret,
+    asked: &Asked,
+    info: &EtypeInfo2,
+) -> Result<Key, Why>
+    ensures { IfOk result (λ key. IsOwnKey secret.now asked.now.realm asked.now.client key) }
+{
+    match secret {
+        Secret::Password(password) => key_of_password(alloc, password, asked, info),
+        Secret::Keytab(keytab) => named_key(keytab, asked, info),
+    }
+}
+
+/// The key by which an AS-REP is opened. Of a keytab it is that of the reply's type.
+pub(crate) fn key_of_reply(
+    alloc: Global,
+    secret: &Secret,
+    asked: &Asked,
+    reply: &[u8],
+) -> Result<Key, Why>
+    ensures { IfOk result (λ key. IsOwnKey secret.now asked.now.realm asked.now.client key) }
+{
+    match secret {
+        Secret::Password(password) => password_for_reply(alloc, password, asked, reply),
+        Secret::Keytab(keytab) => keytab_for_reply(keytab, asked, reply),
+    }
+}
+
+/// The key by which the reply to a request with a timestamp is opened: of a password the timestamp's.
+pub(crate) fn key_of_next_reply(
+    secret: &Secret,
+    asked: &Asked,
+    key: &Key,
+    reply: &[u8],
+) -> Result<Key, Why>
+    requires { IsOwnKey secret.now asked.now.realm asked.now.client key.now }
+    // Of a keytab it is that of the type by which the reply is sealed.
+    ensures next { IfOk result (λ found. Some found
+        ≡ next_key secret.now (asked.now.realm ∷ asked.now.client.components) key.now reply.now) }
+    ensures own { IfOk result (λ found. IsOwnKey secret.now asked.now.realm asked.now.client found) }
+{
+    match secret {
+        Secret::Password(_) => Ok(*key),
+        Secret::Keytab(keytab) => keytab_key(keytab, asked, key, reply),
+    }
+}
+
+/// The key of the reply's type; the timestamp's where the octets are no reply.
+fn keytab_key(keytab: &Keytab, asked: &Asked, key: &Key, reply: &[u8]) -> Result<Key, Why>
+    requires { IsKeytabKey keytab.now (asked.now.realm ∷ asked.now.client.components) key.now }
+    ensures next { IfOk result (λ found. Some found ≡ keytab_key
+        keytab.now
+        (asked.now.realm ∷ asked.now.client.components)
+        key.now
+        (type_of_reply reply.now)) }
+    ensures own { IfOk result (λ found.
+        IsKeytabKey keytab.now (asked.now.realm ∷ asked.now.client.components) found) }
+{
+    match type_of_reply(reply) {
+        Some(number) => numbered_key(keytab, asked, number),
+        None => Ok(*key),
+    }
+}
+
+/// The client's key of a type.
+#[tactic(auto, using(crate::proofs::OwnKeys::numbered_held))]
+fn numbered_key(keytab: &Keytab, asked: &Asked, number: i32) -> Result<Key, Why>
+    ensures value { IfOk result (λ key. Some key
+        ≡ key_numbered keytab.now (asked.now.realm ∷ asked.now.client.components) number) }
+    ensures own { IfOk result (λ key.
+        IsKeytabKey keytab.now (asked.now.realm ∷ asked.now.client.components) key) }
+{
+    given(key_numbered(keytab, asked.realm.as_slice(), &asked.client, number))
+}
+
+/// The key of a password by what an AS-REP says of it.
+fn password_for_reply(
+    alloc: Global,
+    password: &Password,
+    asked: &Asked,
+    reply: &[u8],
+) -> Result<Key, Why>
+    ensures value { IfOk result (λ key. Some (Ok key) ≡ option_map
+        (passwords.password_key password.now.octets asked.now.realm asked.now.client) (info_of_reply reply.now)) }
+    ensures own { IfOk result (λ key. IsPasswordKey password.now asked.now.realm asked.now.client key) }
+{
+    let Some(info) = info_of_reply(alloc, reply)? else {
+        return Err(Why::NotAReply);
+    };
+    key_of_password(alloc, password, asked, &info)
+}
+
+/// The key of a password, unless the KDC asks for fewer iterations than the least count.
+#[tactic(auto, using(crate::proofs::OwnKeys::strong_key))]
+fn key_of_password(
+    alloc: Global,
+    password: &Password,
+    asked: &Asked,
+    info: &EtypeInfo2,
+) -> Result<Key, Why>
+    ensures value { IfOk result (λ key. Ok key
+        ≡ passwords.password_key password.now.octets asked.now.realm asked.now.client info.now) }
+    ensures own { IfOk result (λ key. IsPasswordKey password.now asked.now.realm asked.now.client key) }
+    ensures weak { is_weak password.now.least_count info.now ≡ true → result ≡ Err causes.WeakCount }
+{
+    if is_weak(password.least_count, info.as_slice()) {
+        return Err(Why::WeakCount);
+    }
+    made_key(alloc, password, asked, info)
+}
+
+fn made_key(
+    alloc: Global,
+    password: &Password,
+    asked: &Asked,
+    info: &EtypeInfo2,
+) -> Result<Key, Why>
+    ensures { IfOk result (λ key. Ok key
+        ≡ passwords.password_key password.now.octets asked.now.realm asked.now.client info.now) }
+{
+    let octets = password.octets.as_slice();
+    match password_key(alloc, octets, asked.realm.as_slice(), &asked.client, info) {
+        Ok(key) => Ok(key),
+        Err(ClientFault::CannotOpen) => Err(Why::NoKnownType),
+        Err(fault) => Err(Why::from(fault)),
+    }
+}
+
+/// Whether the entry of which a key is made asks for fewer iterations than the least count.
+fn is_weak(least: Option<u32>, info: &[EtypeInfo2Entry]) -> bool
+    ensures { result ≡ is_weak least info.now }
+{
+    match entry_of(info) {
+        Some(entry) => is_weak_entry(least, entry),
+        None => false,
+    }
+}
+
+fn is_weak_entry(least: Option<u32>, entry: &EtypeInfo2Entry) -> bool
+    ensures { result ≡ is_weak_if least (Some entry.now) }
+{
+    match type_numbered(entry.etype) {
+        Some(etype) => is_below(
+            least_count(least, etype),
+            stated_count(etype, &entry.s2kparams),
+        ),
+        None => false,
+    }
+}
+
+fn is_below(least: u32, count: Option<u32>) -> bool
+    ensures { result ≡ is_below least count }
+{
+    match count {
+        Some(count) => count < least,
+        None => false,
+    }
+}
+
+fn least_count(least: Option<u32>, etype: Etype) -> u32
+    ensures { result ≡ least_count least etype }
+{
+    match least {
+        Some(least) => least,
+        None => etype.default_count(),
+    }
+}
+
+/// The count that an entry asks for; `None` if its parameters have not four octets.
+fn stated_count(etype: Etype, params: &Option<Octets>) -> Option<u32>
+    ensures { result ≡ stated_count etype params.now }
+{
+    match params {
+        Some(params) => count_in(params.as_slice()),
+        None => Some(etype.default_count()),
+    }
+}
+
+fn count_in(params: &[u8]) -> Option<u32>
+    ensures { result ≡ count_in params.now }
+{
+    let Some((octets, rest)) = params.split_first_chunk::<4>() else {
+        return None;
+    };
+    if !rest.is_empty() {
+        return None;
+    }
+    Some(u32::from_be_bytes(*octets))
+}
+
+/// The first entry of one of the four types.
+fn entry_of(info: &[EtypeInfo2Entry]) -> Option<&EtypeInfo2Entry>
+    ensures { option_copied result ≡ passwords.entry_of info.now }
+{
+    for entry in info {
+        if type_numbered(entry.etype).is_some() {
+            return Some(entry);
+        }
+    }
+    None
+}
+
+fn keytab_for_reply(keytab: &Keytab, asked: &Asked, reply: &[u8]) -> Result<Key, Why>
+    ensures { IfOk result (λ key. IsKeytabKey keytab.now (asked.now.realm ∷ asked.now.client.components) key) }
+{
+    let Some(number) = type_of_reply(reply) else {
+        return Err(Why::NotAReply);
+    };
+    numbered_key(keytab, asked, number)
+}
+
+#[tactic(auto, using(crate::proofs::OwnKeys::named_held))]
+fn named_key(keytab: &Keytab, asked: &Asked, info: &EtypeInfo2) -> Result<Key, Why>
+    ensures value { IfOk result (λ key. Some key
+        ≡ key_named keytab.now (asked.now.realm ∷ asked.now.client.components) info.now) }
+    ensures own { IfOk result (λ key. IsKeytabKey keytab.now (asked.now.realm ∷ asked.now.client.components) key) }
+{
+    given(key_named(
+        keytab,
+        asked.realm.as_slice(),
+        &asked.client,
+        info.as_slice(),
+    ))
+}
+
+fn given(found: Option<&Key>) -> Result<Key, Why>
+    ensures { IfOk result (λ key. Some key ≡ option_copied found.entry) }
+{
+    match found {
+        Some(key) => Ok(*key),
+        None => Err(Why::NoKey),
+    }
+}
+
+/// The type by whose key an AS-REP is sealed; `None` where the octets are none.
+fn type_of_reply(bytes: &[u8]) -> Option<i32>
+    ensures { result ≡ type_of_reply bytes.now }
+{
+    match read_kdc_rep::<AS_REP>(bytes) {
+        Ok(reply) => Some(reply.enc_part.etype),
+        Err(_) => None,
+    }
+}
+
+/// The key of the first type that the KDC names and the keytab has.
+fn key_named<'k>(
+    keytab: &'k Keytab,
+    realm: &[u8],
+    name: &Name,
+    info: &[EtypeInfo2Entry],
+) -> Option<&'k Key>
+    ensures { option_copied result ≡ key_named keytab.now (realm.now ∷ name.now.components) info.now }
+{
+    for entry in info {
+        if let Some(key) = key_numbered(keytab, realm, name, entry.etype) {
+            return Some(key);
+        }
+    }
+    None
+}
+
+fn key_numbered<'k>(keytab: &'k Keytab, realm: &[u8], name: &Name, number: i32) -> Option<&'k Key>
+    ensures { option_copied result ≡ key_numbered keytab.now (realm.now ∷ name.now.components) number }
+{
+    key_typed(keytab, realm, name, type_numbered(number))
+}
+
+/// The key of a type, of the greatest version.
+fn key_typed<'k>(
+    keytab: &'k Keytab,
+    realm: &[u8],
+    name: &Name,
+    etype: Option<Etype>,
+) -> Option<&'k Key>
+    ensures { option_copied result ≡ key_typed keytab.now (realm.now ∷ name.now.components) etype }
+{
+    match etype {
+        Some(etype) => keytab.find(realm, name, etype, None).ok(),
+        None => None,
+    }
+}
