@@ -16,7 +16,6 @@ import argparse
 import calendar
 import pathlib
 import socket
-import sys
 import tempfile
 import threading
 import time
@@ -25,12 +24,12 @@ import trial
 from kerberos import (
     elements, field, fields, general_string, integer, key_of, name, octet_string, opened, sequence, time_of, tlv,
 )
-from trial import ask_udp, datagrams, end_all, programs_in
+from trial import ask_udp, datagrams, ending, programs_in
 
 REALM = b"A.B"
 CACHE = b"what the cache was before\n"
 # By how many seconds a command may be slower than it has to be, beside other work on the machine.
-SLACK = 3
+SLACK = 3 * trial.SLOWNESS
 # The address space of a command, in KiB: what needs more memory fails.
 ROOM = 16384
 # How many authenticators of a client the server remembers: more than are sent.
@@ -48,10 +47,16 @@ def error(code, e_data=None):
     ))
 
 
-def wanted(*more):
-    """Error 25, with a PA-ETYPE-INFO2 of type 18 with the default salt."""
-    entry = sequence(field(0, integer(18)), field(1, general_string(REALM + b"u")), *more)
-    return error(25, sequence(sequence(field(1, integer(19)), field(2, octet_string(sequence(entry))))))
+def entry(etype=18, params=None):
+    """An entry of ETYPE-INFO2 with the default salt, and these parameters of string-to-key."""
+    more = [] if params is None else [field(2, octet_string(params))]
+    return sequence(field(0, integer(etype)), field(1, general_string(REALM + b"u")), *more)
+
+
+def wanted(*entries):
+    """Error 25, with a PA-ETYPE-INFO2 of these entries."""
+    info = octet_string(sequence(*entries))
+    return error(25, sequence(sequence(field(1, integer(19)), field(2, info))))
 
 
 def framed(octets):
@@ -310,6 +315,20 @@ class Hostile(trial.Trial):
         self.note(f"{what} ({took:.1f} s)", "; ".join(faults))
 
 
+# What comes of the parameters of string-to-key in the first error 25. A weak count ends the command before a timestamp is
+# sealed by it; one that is taken leads to a second request.
+WEAK = "refused WeakCount", "fewer iterations of string-to-key"
+OUT_OF_RANGE = "refused CountTooLarge", "more iterations of string-to-key"
+COUNTS = (
+    *((etype, 1, WEAK) for etype in (17, 18, 19, 20)),
+    *((etype, 4095, WEAK) for etype in (17, 18)),
+    *((etype, 32767, WEAK) for etype in (19, 20)),
+    (18, 0, WEAK),
+    (18, (1 << 20) + 1, OUT_OF_RANGE),
+    (18, (1 << 32) - 1, OUT_OF_RANGE),
+)
+
+
 def try_answers(hostile):
     """Programs in a KDC's place."""
     hostile.folder = hostile.folder.parent / "answers"
@@ -340,9 +359,30 @@ def try_answers(hostile):
     hostile.expect_kinit("hello by TCP", [kdc], tcp, *not_a_reply, 0, 0, (0, 1))
     kdc = Kdc(no_datagram, connection(framed(hello)))
     hostile.expect_kinit("no datagram is answered, then hello by TCP", [kdc], (), *not_a_reply, 6.9, 7, (3, 1))
-    kdc = Kdc(datagram(wanted(field(2, octet_string(b"\xff" * 4)))), no_connection)
-    said = "the KDC asks for more iterations"
-    hostile.expect_kinit("a count of 2^32 - 1 in s2kparams", [kdc], (), 1, "refused CountTooLarge", said, 0, 0, (1, 0))
+    for etype, count, (out, said) in COUNTS:
+        kdc = Kdc(datagram(wanted(entry(etype, number(count)))), no_connection)
+        hostile.expect_kinit(f"a count of {count} of type {etype}", [kdc], (), 1, out, said, 0, 0, (1, 0))
+    for params in (b"", b"\0\0\x10", b"\0\0\x10\0\0"):
+        kdc = Kdc(datagram(wanted(entry(18, params))), no_connection)
+        hostile.expect_kinit(f"s2kparams of {len(params)} octets", [kdc], (), 1, *OUT_OF_RANGE, 0, 0, (1, 0))
+    kdc = Kdc(datagram(wanted(entry(18, number(1)))), no_connection)
+    least = ("--least-count", "1")
+    hostile.expect_kinit("a count of 1 that is asked for", [kdc], least, 1, "refused 25", "error 25", 0, 0, (2, 0))
+    kdc = Kdc(datagram(wanted(entry())), no_connection)
+    hostile.expect_kinit("error 25 again and again", [kdc], (), 1, "refused 25", "error 25", 0, 0, (2, 0))
+    kdc = Kdc(datagram(wanted(*[entry(23)] * 999, entry())), no_connection)
+    hostile.expect_kinit("an ETYPE-INFO2 of 1,000 entries", [kdc], (), 1, "refused 25", "error 25", 0, 0, (2, 0))
+    kdc = Kdc(datagram(wanted(*[entry(18, number(1))] * 1000)), no_connection)
+    hostile.expect_kinit("1,000 entries with a count of 1", [kdc], (), 1, *WEAK, 0, 0, (1, 0))
+    kdc = Kdc(datagram(error(34)), no_connection)
+    hostile.expect_kinit("error 34 without a timestamp", [kdc], (), 1, "refused 34", kdc.address, 0, 0, (1, 0))
+    for code in (29, 37):
+        kdcs = [Kdc(datagram(error(code)), no_connection), Kdc(datagram(error(6)), no_connection)]
+        said = f"{kdcs[1].address}: error 6"
+        hostile.expect_kinit(f"error {code}, and the next KDC", kdcs, (), 1, "refused 6", said, 0, 0, (1, 0))
+        kdcs = [Kdc(datagram(error(code)), no_connection), Kdc(datagram(error(29)), no_connection)]
+        said = f"{kdcs[0].address}: error {code}"
+        hostile.expect_kinit(f"error {code}, and error 29", kdcs, (), 1, f"refused {code}", said, 0, 0, (1, 0))
     kdc = Kdc(datagram(error(6), 1.5), no_connection)
     hostile.expect_kinit("a reply after a second and a half", [kdc], (), 1, "refused 6", kdc.address, 1.4, 2)
     kdc = Kdc(datagram(error(52)), connection(framed(hello)))
@@ -351,7 +391,7 @@ def try_answers(hostile):
     hostile.expect_kinit("error 52 also by TCP", [kdc], (), 1, "refused 52", kdc.address, 0, 0, (1, 1))
     kdc = Kdc(from_elsewhere, connection(framed(hello)))
     hostile.expect_kinit("a datagram from another port", [kdc], (), *not_a_reply, 6.9, 7, (3, 1))
-    kdc = Kdc(late, connection(framed(wanted())))
+    kdc = Kdc(late, connection(framed(wanted(entry()))))
     hostile.expect_kinit("a late reply to the request before", [kdc], (), 1, "refused 24", "error 24", 6.9, 7, (4, 1))
     kdc = Kdc(no_datagram, no_connection)
     hostile.expect_kinit("silence", [kdc], (), *silence, 14.9, 15, (3, 1))
@@ -434,16 +474,12 @@ def main():
     words.add_argument("--programs", default=pathlib.Path(__file__).resolve().parent.parent / "crates")
     words.add_argument("--only", nargs="+", choices=PARTS, default=list(PARTS), metavar="PART", help=", ".join(PARTS))
     words = words.parse_args()
-    with tempfile.TemporaryDirectory() as folder:
+    with tempfile.TemporaryDirectory() as folder, ending():
         hostile = Hostile(programs_in(words.programs), pathlib.Path(folder))
-        try:
-            for part in words.only:
-                print(f"{part}: {PARTS[part].__doc__}", flush=True)
-                PARTS[part](hostile)
-        finally:
-            end_all()
-    print(f"{hostile.right} right, {hostile.wrong} wrong")
-    sys.exit(1 if hostile.wrong else 0)
+        for part in words.only:
+            print(f"{part}: {PARTS[part].__doc__}", flush=True)
+            PARTS[part](hostile)
+    hostile.end()
 
 
 if __name__ == "__main__":

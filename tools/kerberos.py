@@ -271,23 +271,60 @@ def ticket_in(key, reply):
     return parts[5], session_key
 
 
+def authenticator(realm, client, seconds, microseconds, check=None):
+    """Authenticator (section 5.5.1), with a checksum of type 16 of the octets and usage in `check`."""
+    parts = [field(0, integer(5)), field(1, general_string(realm)), field(2, name(1, client))]
+    if check:
+        parts.append(field(3, sequence(field(0, integer(16)), field(1, octet_string(checksum(*check))))))
+    return tlv(0x62, sequence(*parts, field(4, integer(microseconds)), field(5, time_of(seconds))))
+
+
+def ap_req(ticket, session_key, usage, shown, options=bytes(4)):
+    """AP-REQ (section 5.5.1) with this authenticator, sealed by this usage."""
+    return tlv(0x6E, sequence(
+        field(0, integer(5)),
+        field(1, integer(14)),
+        field(2, tlv(0x03, b"\0" + options)),
+        field(3, ticket),
+        field(4, encrypted_data(session_key, usage, shown)),
+    ))
+
+
 def tgs_req(realm, client, service, ticket, session_key, seconds, microseconds, nonce=1):
     """A TGS-REQ with an authenticator of this time."""
     asked = body(realm, service, nonce=nonce)
-    authenticator = tlv(0x62, sequence(
-        field(0, integer(5)),
-        field(1, general_string(realm)),
-        field(2, name(1, client)),
-        field(3, sequence(field(0, integer(16)), field(1, octet_string(checksum(session_key, 6, asked))))),
-        field(4, integer(microseconds)),
-        field(5, time_of(seconds)),
-    ))
-    ap_req = tlv(0x6E, sequence(
-        field(0, integer(5)),
-        field(1, integer(14)),
-        field(2, tlv(0x03, bytes(5))),
-        field(3, ticket),
-        field(4, encrypted_data(session_key, 7, authenticator)),
-    ))
-    padata = sequence(field(1, integer(1)), field(2, octet_string(ap_req)))
+    shown = authenticator(realm, client, seconds, microseconds, (session_key, 6, asked))
+    padata = sequence(field(1, integer(1)), field(2, octet_string(ap_req(ticket, session_key, 7, shown))))
     return tlv(0x6C, sequence(field(1, integer(5)), field(2, integer(12)), field(3, sequence(padata)), field(4, asked)))
+
+
+# A credential cache, version 4 (docs/FORMATS.md).
+
+
+def credentials(octets):
+    """The credentials of a cache: the service's components, the session key, and the ticket."""
+    place = 4 + int.from_bytes(octets[2:4], "big")
+
+    def take(count):
+        nonlocal place
+        place += count
+        return octets[place - count:place]
+
+    number = lambda count=4: int.from_bytes(take(count), "big")
+    counted = lambda: take(number())
+
+    def principal():
+        _, count = number(), number()
+        _, *parts = [counted() for _ in range(count + 1)]
+        return parts
+
+    principal()
+    found = []
+    while place < len(octets):
+        _, service, _ = principal(), principal(), take(2)
+        key = counted()
+        # The times, whether it is a session key's, the flags, and two lists that are empty.
+        take(4 * 4 + 1 + 4 + 4 + 4)
+        found.append((service, key, counted()))
+        counted()
+    return found

@@ -16,6 +16,7 @@ import time
 
 from kerberos import body, field, integer, sequence, tlv
 from measure_server import Peer, Server, database_text, row
+from trial import ending
 
 REALM = b"EXAMPLE.COM"
 
@@ -115,7 +116,7 @@ def main():
     words.add_argument("--seconds", type=int, default=20)
     words.add_argument("--changes", type=int, default=5)
     words = words.parse_args()
-    with tempfile.TemporaryDirectory() as folder:
+    with tempfile.TemporaryDirectory() as folder, ending():
         server = Server(words.kdcd, folder)
         path = os.path.join(folder, "database")
         texts = [(f"new{number}", rows_with(words.rows, f"new{number}")) for number in range(words.changes)]

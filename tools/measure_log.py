@@ -21,6 +21,7 @@ import tempfile
 from kerberos import as_req
 from measure_server import Peer
 from stock_kdcs import Principal, kdcd, keep_to_one_processor
+from trial import ending
 
 REALM = "EXAMPLE.COM"
 PRINCIPALS = [Principal("bob", "a password", preauth=False)]
@@ -90,7 +91,7 @@ def main():
     if words.sink != "file" and not others:
         sys.exit("there is no other processor, which the reader of the log needs")
     logins = {"a ticket": b"bob", "a client that is unknown": b"nobody"}
-    with tempfile.TemporaryDirectory() as folder:
+    with tempfile.TemporaryDirectory() as folder, ending():
         plain, logged = [pathlib.Path(folder, name) for name in ("plain", "logged")]
         for each in (plain, logged):
             each.mkdir()

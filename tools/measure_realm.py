@@ -19,6 +19,7 @@ import time
 
 from kerberos import as_req
 from measure_server import Peer, REALM, Server, measure_datagrams, row
+from trial import RUNNING, ending
 
 
 def database_text(rows):
@@ -42,6 +43,7 @@ class RealmServer(Server):
         start = time.perf_counter()
         words = [kdcd, "serve", "--db", database, "--udp", "127.0.0.1:0", "--tcp", "127.0.0.1:0", "--first"]
         self.process = subprocess.Popen(words, stdout=subprocess.PIPE, stderr=subprocess.PIPE, text=True)
+        RUNNING.append(self.process)
         line = self.process.stderr.readline()
         self.started, self.used = time.perf_counter() - start, self.processor_seconds()
         found = re.search(r"udp (\S+):(\d+) and tcp (\S+):(\d+)", line)
@@ -108,7 +110,7 @@ def main():
     words.add_argument("--requests", type=int, default=5_000)
     words = words.parse_args()
     failed = 0
-    with tempfile.TemporaryDirectory() as folder:
+    with tempfile.TemporaryDirectory() as folder, ending():
         large, small = os.path.join(folder, "large"), os.path.join(folder, "small")
         text = database_text(words.rows)
         for path, content in ((large, text), (small, database_text(100))):

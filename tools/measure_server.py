@@ -20,6 +20,7 @@ import threading
 import time
 
 from kerberos import as_req, tgs_req, ticket_in, timestamp
+from trial import RUNNING, ending
 
 REALM = b"EXAMPLE.COM"
 KEY = bytes([0x11]) * 32
@@ -66,6 +67,7 @@ class Server:
         if rounds is not None:
             words += ["--rounds", str(rounds)]
         self.process = subprocess.Popen(words, stdout=subprocess.PIPE, stderr=subprocess.PIPE, text=True)
+        RUNNING.append(self.process)
         line = self.process.stderr.readline()
         found = re.search(r"udp (\S+):(\d+) and tcp (\S+):(\d+)", line)
         if not found:
@@ -320,7 +322,7 @@ def main():
     words = parser.parse_args()
     unknown, known = as_req(REALM, b"nobody"), as_req(REALM, b"alice")
     lost = 0
-    with tempfile.TemporaryDirectory() as folder:
+    with tempfile.TemporaryDirectory() as folder, ending():
         server = Server(words.kdcd, folder)
         lost += measure_datagrams(server, "a client that is unknown", [unknown] * words.requests, 0x7E)
         lost += measure_datagrams(server, "a client without a timestamp", [known] * words.requests, 0x7E)

@@ -16,6 +16,7 @@ import time
 from kerberos import as_req, key_of, tgs_req, ticket_in, timestamp
 from measure_server import Peer, measure_datagrams
 from stock_kdcs import Principal, heimdal, kdcd, keep_to_one_processor, mit
+from trial import ending
 
 REALM = b"EXAMPLE.COM"
 SERVICE = (b"host", b"n1")
@@ -69,7 +70,7 @@ def main():
     words = words.parse_args()
     keep_to_one_processor()
     realm, odd = REALM.decode(), 0
-    with tempfile.TemporaryDirectory() as folder:
+    with tempfile.TemporaryDirectory() as folder, ending():
         folders = [pathlib.Path(folder, name) for name in ("plain", "logged", "mit", "heimdal")]
         for each in folders:
             each.mkdir()

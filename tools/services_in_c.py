@@ -8,9 +8,10 @@ the keytab, `kdcd serve` issues the tickets, MIT's `kinit` logs in, and `tools/a
     cc -o mk_req tools/mk_req.c -lkrb5
     python3 tools/services_in_c.py --ap-service ./ap_service --ap-client ./ap_client --ap-judged ./ap_judged --mk-req ./mk_req
 
-`ap_judged` tries what the header says of bad calls and of what stays accepted, with an AP-REQ of `mk_req`. KIT is the toolchain's folder. `rt run -- --help` builds `kadm` and `kdcd`, each in its folder, and `rt lib` the library in that of
-`ap_accept_c`. It takes six minutes, since a ticket has to be past its end. It ends with status 1 at the first answer that is another,
-and where a sanitizer finds something."""
+`ap_judged` tries what the header says of bad calls and of what stays accepted, with an AP-REQ of `mk_req`. KIT is the toolchain's folder.
+`rt run -- --help` builds `kadm` and `kdcd`, each in its folder, and `rt lib` the library in that of `ap_accept_c`. It takes six minutes,
+since a ticket has to be past its end; with `--quick` that ticket is left out. A line for each type says `ok` or the first answer that is
+another, or what a sanitizer found; the status is 1 if there was any."""
 
 import argparse
 import os
@@ -20,7 +21,8 @@ import subprocess
 import tempfile
 import time
 
-from whole_way import OTHER, SERVICE, TYPES, Kdc, Lines, Place, add_programs, expect
+from trial import PATIENCE, Differs, Notes, ending, expect, free_port
+from whole_way import OTHER, SERVICE, TYPES, Kdc, Lines, OwnRequest, Place, add_programs
 
 # How long a ticket lives that is presented past its end, and by how much a service lets it be past.
 SHORT_LIFE, LENIENCE = 20, 300
@@ -62,12 +64,6 @@ def connections(*lists):
     return sum(len(says) for tries in lists for _, says, _ in tries)
 
 
-def free_port():
-    with socket.socket() as probe:
-        probe.bind(("127.0.0.1", 0))
-        return str(probe.getsockname()[1])
-
-
 class Way:
     """A realm of one type, a client that has logged in, and a service."""
 
@@ -87,11 +83,11 @@ class Way:
 
     def log_in(self, cache, *words):
         kinit = [self.place.programs["kinit"], *words, "u@A.B"]
-        ran = subprocess.run(kinit, input="secret\n", capture_output=True, text=True, env=self.environment(cache))
+        ran = subprocess.run(kinit, input="secret\n", capture_output=True, text=True, env=self.environment(cache), timeout=PATIENCE)
         expect(f"the status of kinit ({ran.stderr})", ran.returncode, 0)
 
     def start(self, count, *words):
-        self.port = free_port()
+        self.port = str(free_port())
         keytab = self.place.path("keytab")
         self.service = Lines(self.place.programs["ap_service"], keytab, self.port, *words, str(count), errors=True)
 
@@ -99,7 +95,7 @@ class Way:
         """What a client prints. The service may not listen yet."""
         command = [self.place.programs["ap_client"], self.port, f"{service}@A.B", *words]
         for _ in range(100):
-            ran = subprocess.run(command, capture_output=True, text=True, env=self.environment(cache))
+            ran = subprocess.run(command, capture_output=True, text=True, env=self.environment(cache), timeout=PATIENCE)
             if "no connection" not in ran.stdout:
                 return ran.stdout
             time.sleep(0.1)
@@ -118,26 +114,27 @@ class Way:
         """What the header says of bad calls, and of an AP-REQ that is accepted. A line tells of each answer that is another."""
         environment = {**self.environment("cache"), "KRB5_KTNAME": "FILE:" + self.place.path("keytab")}
         mk_req = [self.place.programs["mk_req"], f"{SERVICE}@A.B"]
-        made = subprocess.run(mk_req, capture_output=True, text=True, env=environment)
+        made = subprocess.run(mk_req, stdin=subprocess.DEVNULL, capture_output=True, text=True, env=environment, timeout=PATIENCE)
         digits = re.search(r"^ap-req ([0-9a-f]+)$", made.stdout, re.MULTILINE)
         if not digits:
             expect(f"type {self.etype}, what mk_req makes ({made.stderr})", made.stdout, "an AP-REQ")
         ap_judged = [self.place.programs["ap_judged"], self.place.path("keytab"), digits[1]]
-        ran = subprocess.run(ap_judged, capture_output=True, text=True)
+        ran = subprocess.run(ap_judged, capture_output=True, text=True, timeout=PATIENCE)
         expect(f"type {self.etype}, ap_judged", (ran.returncode, ran.stdout, ran.stderr), (0, "0 failed\n", ""))
 
-    def begin(self):
+    def begin(self, old):
+        """With `old` for what a ticket past its end is presented as, if it is."""
         self.log_in("cache")
         self.log_in("old", "-l", f"{SHORT_LIFE}s")
         self.judge()
-        self.start(connections(NEW, FOREIGN, OLD) + 1, "first")
+        self.start(connections(NEW, FOREIGN, old) + 1, "first")
         self.present("old", SERVICE, NEW[:1])
         self.ended = time.time() + SHORT_LIFE + LENIENCE
         self.present("cache", SERVICE, NEW)
         self.present("cache", OTHER, FOREIGN)
 
-    def finish(self):
-        self.present("old", SERVICE, OLD)
+    def finish(self, old):
+        self.present("old", SERVICE, old)
         self.service.end()
         self.start(connections(RESTARTED))
         self.present("cache", SERVICE, RESTARTED)
@@ -147,21 +144,70 @@ class Way:
 
 def main():
     words = argparse.ArgumentParser(description=__doc__, formatter_class=argparse.RawDescriptionHelpFormatter)
-    add_programs(words, "kadm", "kdcd")
+    add_programs(words, "kadm", "kdcd", "kclient")
     for program in ("kinit", "ap-service", "ap-client", "ap-judged", "mk-req"):
         words.add_argument("--" + program, default="kinit" if program == "kinit" else "./" + program.replace("-", "_"))
+    words.add_argument("--quick", action="store_true", help="leave out the ticket that is past its end")
+    words.add_argument("--without-mit", action="store_true", help="type 18 alone, by kclient and Python")
     programs = vars(words.parse_args())
-    with tempfile.TemporaryDirectory() as top:
-        ways = []
+    old, notes, ways = () if programs.pop("quick") else OLD, Notes(), []
+    with tempfile.TemporaryDirectory() as top, ending():
+        if programs.pop("without_mit"):
+            notes.check("the service in C with type 18, without MIT's library", without_mit, programs, top)
+            notes.end()
         for etype in TYPES:
             folder = os.path.join(top, str(etype))
             os.mkdir(folder)
-            ways.append(Way(programs, folder, etype))
-            ways[-1].begin()
-        time.sleep(max(0, ways[-1].ended + 2 - time.time()))
+            notes.check(f"the service in C with type {etype}: judges, new tickets", lambda: ways.append(begun(programs, folder, etype, old)))
+        time.sleep(max([0, *[way.ended + 2 - time.time() for way in ways if old]]))
         for way in ways:
-            way.finish()
-            print(f"type {way.etype}: {connections(NEW, FOREIGN, OLD, RESTARTED) + 1} connections were answered as they have to be")
+            notes.check(f"the service in C with type {way.etype}: {'a ticket past its end, ' * bool(old)}a restart", way.finish, old)
+    if not old:
+        notes.leave("a ticket past its end at the service in C, which takes six minutes")
+    notes.end()
+
+
+def without_mit(programs, folder):
+    """Type 18 alone, with tickets by `kclient` and AP-REQs in Python: `ap_judged`, then two clients of the service, one of which asks for a
+    reply, and the same AP-REQ again."""
+    place = Place({**programs, "mk_req": None}, folder)
+    place.make_realm(18)
+    kdc = Kdc(place)
+    place.get_tickets(kdc.address)
+    kdc.end()
+    words = [programs["ap_judged"], place.path("keytab"), OwnRequest(place, SERVICE, None, ()).digits]
+    judged = subprocess.run(words, capture_output=True, text=True, timeout=PATIENCE)
+    expect("ap_judged", (judged.returncode, judged.stdout, judged.stderr), (0, "0 failed\n", ""))
+    port, requests = free_port(), [OwnRequest(place, SERVICE, None, choice) for choice in ((), ("mutual",))]
+    service = Lines(programs["ap_service"], place.path("keytab"), str(port), "first", "3", errors=True)
+    for request, rest in zip([*requests, requests[0]], ("", ", asks for a reply", None)):
+        reply = asked(port, bytes.fromhex(request.digits))
+        line = service.line()
+        is_said = line == REPEAT if rest is None else re.fullmatch(accepted(rest=rest).replace("TYPE", "18"), line)
+        expect(f"what the service says, {line!r}", bool(is_said), True)
+        if rest:
+            request.take(reply.hex())
+        else:
+            expect("the reply", reply, b"")
+    service.end()
+
+
+def asked(port, request):
+    """The reply to a message; none where the connection is closed. The service may not listen yet."""
+    for _ in range(100):
+        try:
+            with socket.create_connection(("127.0.0.1", port), 10) as peer, peer.makefile("rb") as stream:
+                peer.sendall(len(request).to_bytes(4, "big") + request)
+                return stream.read(int.from_bytes(stream.read(4), "big"))
+        except ConnectionRefusedError:
+            time.sleep(0.1)
+    raise Differs("the service does not listen")
+
+
+def begun(programs, folder, etype, old):
+    way = Way(programs, folder, etype)
+    way.begin(old)
+    return way
 
 
 if __name__ == "__main__":

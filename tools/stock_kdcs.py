@@ -1,19 +1,21 @@
 """One realm served by three KDCs: `kdcd serve`, MIT's `krb5kdc` and Heimdal's `kdc`. For the scripts beside this file; Linux and
 Python 3. The stock KDCs are Debian's packages krb5-kdc and krb5-admin-server, heimdal-kdc and heimdal-clients. They can't all be
 installed, so each is named by a folder: `/` where it is installed, or one in which `dpkg -x` has unpacked it with the libraries that the
-system lacks."""
+system lacks, as `fetched` does."""
 
 import dataclasses
 import glob
 import os
 import pathlib
-import signal
+import re
 import subprocess
 import sys
+import tempfile
 import time
 
 from kerberos import as_req
 from measure_server import Peer
+from trial import PATIENCE, RUNNING, SLOWNESS, family, kill, programs_in
 
 NAMES = {
     17: "aes128-cts-hmac-sha1-96",
@@ -21,6 +23,58 @@ NAMES = {
     19: "aes128-cts-hmac-sha256-128",
     20: "aes256-cts-hmac-sha384-192",
 }
+
+PACKAGES = {
+    "mit": ("krb5-user", "krb5-kdc", "krb5-admin-server", "libkrb5-dev"),
+    "heimdal": ("heimdal-clients", "heimdal-kdc"),
+}
+
+
+def fetched(folder):
+    """Where the packages of each stand that the system can have: unpacked below this folder, with what they need and the system lacks.
+    Nothing is installed."""
+    found = {}
+    for name in PACKAGES:
+        found[name] = unpack(name, folder / name)
+        if not found[name]:
+            # Without a network each try would wait as long again.
+            break
+    return {name: root for name, root in found.items() if root}
+
+
+def unpack(name, root):
+    """Where the packages of one stand. The folder is made whole: one that was there before is taken as it is."""
+    if root.exists():
+        return str(root)
+    root.parent.mkdir(parents=True, exist_ok=True)
+    with tempfile.TemporaryDirectory(prefix=f".{name}-", dir=root.parent) as folder:
+        made = pathlib.Path(folder, "root")
+        made.mkdir()
+        if not unpack_into(name, made):
+            return ""
+        made.rename(root)
+    return str(root)
+
+
+def unpack_into(name, root):
+    """Whether the packages of one could be had."""
+    apt = ["apt-get", "-o", "Acquire::http::Timeout=10", "-o", "Acquire::Retries=1"]
+    how = {"cwd": root, "stdin": subprocess.DEVNULL, "capture_output": True, "text": True, "timeout": PATIENCE}
+    simulate = [*apt, "install", "--simulate", "--no-install-recommends", *PACKAGES[name]]
+    try:
+        told = subprocess.run(simulate, **how)
+        if told.returncode and os.geteuid() == 0:
+            # A container may begin with no lists of packages.
+            subprocess.run([*apt, "update"], **how)
+            told = subprocess.run(simulate, **how)
+        names = re.findall(r"^Inst (\S+)", told.stdout, re.M)
+        subprocess.run([*apt, "download", *(names or PACKAGES[name])], check=True, **how)
+        for package in root.glob("*.deb"):
+            subprocess.run(["dpkg", "-x", package, root], check=True, **how)
+            package.unlink()
+    except (OSError, subprocess.SubprocessError):
+        return False
+    return True
 
 
 @dataclasses.dataclass
@@ -37,31 +91,32 @@ class Running:
     """A server that listens on this port of 127.0.0.1, and all processes that it started."""
 
     def __init__(self, words, realm, port, **how):
-        self.process = subprocess.Popen(words, start_new_session=True, **how)
+        self.process = subprocess.Popen(words, **how)
+        RUNNING.append(self.process)
         self.udp = ("127.0.0.1", port)
         self.address = f"127.0.0.1:{port}"
         peer = Peer(self)
-        for _ in range(100):
+        end = time.monotonic() + 10 * SLOWNESS
+        while time.monotonic() < end and self.process.poll() is None:
             try:
                 peer.ask(as_req(realm.encode(), b"nobody"))
                 return
             except OSError:
                 time.sleep(0.1)
+        kill(self.process)
         sys.exit(f"{words[0]} does not answer")
 
     def processor_seconds(self):
         used = 0
-        for process in pathlib.Path("/proc").glob("[0-9]*"):
+        for pid in family(self.process.pid):
             try:
-                if os.getpgid(int(process.name)) == self.process.pid:
-                    used += sum(int(task.read_text().split()[0]) for task in process.glob("task/*/schedstat"))
+                used += sum(int(task.read_text().split()[0]) for task in pathlib.Path(f"/proc/{pid}").glob("task/*/schedstat"))
             except (OSError, IndexError):
                 continue
         return used / 1e9
 
     def end(self):
-        os.killpg(self.process.pid, signal.SIGTERM)
-        self.process.wait()
+        kill(self.process)
 
 
 def keep_to_one_processor():
@@ -74,7 +129,7 @@ def keep_to_one_processor():
 
 
 def run(words, **how):
-    ran = subprocess.run(words, stdin=subprocess.DEVNULL, stdout=subprocess.PIPE, stderr=subprocess.STDOUT, text=True, **how)
+    ran = subprocess.run(words, stdin=subprocess.DEVNULL, stdout=subprocess.PIPE, stderr=subprocess.STDOUT, text=True, timeout=PATIENCE, **how)
     if ran.returncode:
         sys.exit(f"{' '.join(map(str, words))}: {ran.stdout}")
 
@@ -82,7 +137,7 @@ def run(words, **how):
 def kdcd(programs, folder, realm, principals, port, log=False, errors=None):
     """`programs` is a folder with `kadm` and `kdcd`, or that of the crates, which have each at NAME/out/NAME. Standard error goes to a
     file in `folder`, or to `errors`."""
-    found = {name: next(p for p in (f"{programs}/{name}", f"{programs}/{name}/out/{name}") if os.path.isfile(p)) for name in ("kadm", "kdcd")}
+    found = programs_in(programs, ("kadm", "kdcd"))
     kadm = lambda sub, *words: run([found["kadm"], sub, "--db", folder / "database", *words])
     kadm("init", "--realm", realm)
     for each in principals:
@@ -100,13 +155,14 @@ def kdcd(programs, folder, realm, principals, port, log=False, errors=None):
     return Running(words, realm, port, stdout=subprocess.DEVNULL, stderr=errors)
 
 
-def unpacked(root):
-    """The environment and the programs of packages that stand below a folder."""
-    if root == "/":
-        return {**os.environ, "PATH": f"/usr/sbin:/usr/lib/heimdal-servers:{os.environ['PATH']}"}
-    libraries = [folder for folder in glob.glob(f"{root}/**/lib/**/", recursive=True) if glob.glob(f"{folder}/*.so*")]
-    programs = [f"{root}/usr/sbin", f"{root}/usr/bin", f"{root}/usr/lib/heimdal-servers", os.environ["PATH"]]
-    return {**os.environ, "LD_LIBRARY_PATH": ":".join(libraries), "PATH": ":".join(programs)}
+def unpacked(*roots):
+    """The environment and the programs of packages that stand below these folders."""
+    servers = f"/usr/sbin:/usr/lib/heimdal-servers:{os.environ['PATH']}"
+    roots = [root for root in roots if root != "/"]
+    libraries = [folder for root in roots for folder in glob.glob(f"{root}/**/lib/**/", recursive=True) if glob.glob(f"{folder}/*.so*")]
+    programs = [f"{root}/usr/{each}" for root in roots for each in ("sbin", "bin", "lib/heimdal-servers")]
+    found = {**os.environ, "PATH": ":".join([*programs, servers])}
+    return {**found, "LD_LIBRARY_PATH": ":".join(libraries)} if libraries else found
 
 
 def mit(root, folder, realm, principals, port):

@@ -1,12 +1,14 @@
 """Commands and servers of a realm that are tried one after another, and a line for each of what came of it. For the
 scripts beside this file; Linux and Python 3."""
 
-import fcntl
+import contextlib
 import os
+import pathlib
 import pty
 import re
 import select
 import shlex
+import signal
 import socket
 import subprocess
 import sys
@@ -15,16 +17,72 @@ import time
 from kerberos import as_req, elements, fields
 
 REALM = "A.B"
-# How many seconds a program may take, beside other work on the machine.
-PATIENCE = 60
+
+
+def processors():
+    """How many processors this process may use. A container may have a part of them."""
+    found = len(os.sched_getaffinity(0))
+    with contextlib.suppress(OSError, ValueError):
+        quota, period = pathlib.Path("/sys/fs/cgroup/cpu.max").read_text().split()
+        found = min(found, max(1, int(quota) // int(period)))
+    return found
+
+
+def slowness():
+    """How many times as long as on an idle machine of six processors something may take: three times on two of them, more where others
+    work too."""
+    return min(8.0, max(1.0, 6 / processors(), os.getloadavg()[0] / processors()))
+
+
+# By this each limit of time is multiplied. What has to take a time at the least is not.
+SLOWNESS = slowness()
+# How many seconds a program may take.
+PATIENCE = 60 * SLOWNESS
 RUNNING = []
 
 
+def family(pid):
+    """A process, and all that it started and that they did."""
+    parents = {}
+    for stat in pathlib.Path("/proc").glob("[0-9]*/stat"):
+        # One that has ended in the meantime has no file.
+        with contextlib.suppress(OSError):
+            parents.setdefault(int(stat.read_text(errors="replace").rpartition(")")[2].split()[1]), []).append(int(stat.parent.name))
+    found = [pid]
+    for each in found:
+        found += parents.get(each, ())
+    return found
+
+
+def kill(process):
+    """Kills what runs of a process, and of those that it started."""
+    if process.poll() is None:
+        for pid in family(process.pid):
+            with contextlib.suppress(ProcessLookupError):
+                os.kill(pid, signal.SIGKILL)
+    process.wait()
+
+
 def end_all():
-    for process in RUNNING:
-        if process.poll() is None:
-            process.kill()
-            process.wait()
+    while RUNNING:
+        kill(RUNNING.pop())
+
+
+def on_signals(handler):
+    """What is done of the signals that end a script. One that is ignored, as by `nohup`, stays so."""
+    for number in (signal.SIGTERM, signal.SIGINT, signal.SIGHUP):
+        if signal.getsignal(number) != signal.SIG_IGN:
+            signal.signal(number, handler)
+
+
+@contextlib.contextmanager
+def ending():
+    """At its end all that was started ends, also where a fault or a signal ends the script."""
+    on_signals(lambda number, _: sys.exit(128 + number))
+    try:
+        yield
+    finally:
+        end_all()
 
 
 class Ran:
@@ -32,10 +90,10 @@ class Ran:
 
     def __init__(self, process, given, seconds):
         try:
-            octets = process.communicate(given, seconds)
+            octets = process.communicate(given, seconds * SLOWNESS)
             self.status = process.returncode
         except subprocess.TimeoutExpired:
-            process.kill()
+            kill(process)
             octets = process.communicate()
             self.status = None
         self.out, self.err = [(each or b"").decode(errors="replace") for each in octets]
@@ -51,23 +109,54 @@ class Ran:
         return f"{ended}, prints {self.out[:160]!r}, says {self.err[:160]!r}; wanted: {wanted}"
 
 
-class Trial:
-    """A folder in which commands are run, and how many things were right and wrong."""
+class Differs(Exception):
+    """Something came out otherwise than it has to."""
 
-    def __init__(self, programs, folder):
-        self.programs, self.folder, self.right, self.wrong, self.left = programs, folder / "none", 0, 0, 0
-        self.environment = {"PATH": os.environ["PATH"], "HOME": "/", "LANG": "C.UTF-8", "KRB5_CONFIG": "krb5.conf"}
-        # What stands for a word of a command line.
-        self.short = {}
+
+def expect(what, found, wanted):
+    if found != wanted:
+        raise Differs(f"{what}: {found!r}, and not {wanted!r}")
+
+
+class Notes:
+    """How many things were right and wrong, with a line for each."""
+
+    def __init__(self):
+        self.right, self.wrong = 0, 0
 
     def note(self, what, fault=""):
         self.right, self.wrong = self.right + (not fault), self.wrong + bool(fault)
         shown = f"{'WRONG' if fault else 'ok   '} {what}{': ' * bool(fault)}{fault}"
         print(shown.encode("ascii", "backslashreplace").decode(), flush=True)
 
+    def check(self, what, call, *given):
+        """Calls a function that raises `Differs` where something is wrong."""
+        try:
+            call(*given)
+            self.note(what)
+        except (Differs, OSError, subprocess.SubprocessError) as fault:
+            self.note(what, str(fault) or type(fault).__name__)
+
     def leave(self, what):
-        self.left += 1
         print(f"left  {what}", flush=True)
+
+    def end(self):
+        """The last line, and the status: 1 where anything was wrong."""
+        print(f"{self.right} passed, {self.wrong} failed")
+        sys.exit(1 if self.wrong else 0)
+
+
+class Trial(Notes):
+    """A folder in which commands are run."""
+
+    def __init__(self, programs, folder):
+        super().__init__()
+        self.programs, self.folder = programs, folder / "none"
+        self.environment = {"PATH": os.environ["PATH"], "HOME": "/", "LANG": "C.UTF-8", "KRB5_CONFIG": "krb5.conf"}
+        # Where the stock programs were unpacked, their libraries are found so.
+        self.environment |= {name: os.environ[name] for name in ("LD_LIBRARY_PATH",) if name in os.environ}
+        # What stands for a word of a command line.
+        self.short = {}
 
     def write(self, name, text):
         (self.folder / name).write_bytes(text if isinstance(text, bytes) else text.encode())
@@ -79,7 +168,8 @@ class Trial:
         RUNNING.append(process)
         return process
 
-    def run(self, words, given="", seconds=PATIENCE, **how):
+    def run(self, words, given="", seconds=60, **how):
+        """What comes of a command, which has so many seconds on an idle machine."""
         if isinstance(words, str):
             words = [part for word in shlex.split(words) for part in self.short.get(word, [word])]
         how = {"stdin": subprocess.PIPE, "stdout": subprocess.PIPE, "stderr": subprocess.PIPE, **how}
@@ -137,9 +227,10 @@ class Trial:
         self.write("krb5.conf", f"[libdefaults]\n{defaults}[realms]\n{REALM} = {{\nkdc = {address}\n}}\n")
 
 
-def programs_in(folder):
+def programs_in(folder, names=("kadm", "kdcd", "kclient")):
+    """The programs, by their names: in this folder, or built in the folder of the crates."""
     found = {}
-    for name in ("kadm", "kdcd", "kclient"):
+    for name in names:
         places = [f"{folder}/{name}", f"{folder}/{name}/out/{name}"]
         found[name] = next((os.path.abspath(each) for each in places if os.path.isfile(each)), None)
         if not found[name]:
@@ -171,7 +262,7 @@ def place_of(address):
 
 def datagrams(address):
     peer = socket.socket(socket.AF_INET6 if "[" in address else socket.AF_INET, socket.SOCK_DGRAM)
-    peer.settimeout(1)
+    peer.settimeout(SLOWNESS)
     peer.connect(place_of(address))
     return peer
 
@@ -189,7 +280,7 @@ def ask_udp(peer, request, tries=3):
 
 def ask_tcp(address, request):
     try:
-        with socket.create_connection(place_of(address), 5) as peer, peer.makefile("rb") as stream:
+        with socket.create_connection(place_of(address), 5 * SLOWNESS) as peer, peer.makefile("rb") as stream:
             peer.sendall(len(request).to_bytes(4, "big") + request)
             return stream.read(int.from_bytes(stream.read(4), "big"))
     except OSError:
@@ -208,7 +299,7 @@ class Server:
     """`kdcd serve` on a port of 127.0.0.1 that was free, or on the addresses of `words`. Standard error goes to a file,
     or elsewhere."""
 
-    def __init__(self, trial, words="--first", errors=None):
+    def __init__(self, trial, words="--first", errors=None, environment=None):
         self.file, self.out = trial.folder / f"log{len(RUNNING)}", trial.folder / f"out{len(RUNNING)}"
         address = f"127.0.0.1:{free_port()}"
         words += "" if "--udp" in words else f" --udp {address} --tcp {address}"
@@ -216,13 +307,14 @@ class Server:
         with open(self.file, "wb") as file, open(self.out, "wb") as out:
             words = ["kdcd", "serve", "--db", "database", *shlex.split(words)]
             how = {"stdin": subprocess.DEVNULL, "stdout": out, "stderr": file if errors is None else errors}
+            how["env"] = environment or trial.environment
             self.process = trial.start(words, **how)
         self.is_up = self.wait(self.read_addresses if errors is None else lambda: self.answer("nobody", 1) == "6")
         if not self.is_up:
             trial.note(shlex.join(words), f"does not serve: {self.said()!r}")
 
-    def wait(self, is_there, seconds=PATIENCE):
-        end = time.monotonic() + seconds
+    def wait(self, is_there, seconds=60):
+        end = time.monotonic() + seconds * SLOWNESS
         while time.monotonic() < end and self.process.poll() is None and not is_there():
             time.sleep(0.02)
         return is_there()
@@ -248,7 +340,7 @@ class Server:
         """The status, once it was told to end."""
         self.process.terminate()
         try:
-            return self.process.wait(5)
+            return self.process.wait(5 * SLOWNESS)
         except subprocess.TimeoutExpired:
             self.process.kill()
             return self.process.wait(PATIENCE)
@@ -290,13 +382,3 @@ def drained(reader):
             break
         octets += more
     return octets.decode(errors="replace").replace("\r\n", "\n")
-
-
-def is_locked(path):
-    time.sleep(0.02)
-    try:
-        with open(path, "rb") as file:
-            fcntl.flock(file, fcntl.LOCK_EX | fcntl.LOCK_NB)
-    except OSError as error:
-        return isinstance(error, BlockingIOError)
-    return False

@@ -10,6 +10,9 @@ each thing that it tried, with `ok` or what was wrong, and ends with status 1 if
 
 import argparse
 import collections
+import fcntl
+import json
+import math
 import os
 import pathlib
 import pty
@@ -18,18 +21,22 @@ import shlex
 import shutil
 import socket
 import subprocess
-import sys
 import tempfile
 import time
 
 from trial import (
-    PATIENCE, REALM, SINKS, Server, Trial, answer, ask_tcp, ask_udp, datagrams, drained, end_all, flood, free_port,
-    is_locked, login, programs_in, sink_of,
+    PATIENCE, REALM, SINKS, SLOWNESS, Server, Trial, answer, ask_tcp, ask_udp, datagrams, drained, ending, flood, free_port,
+    login, programs_in, sink_of,
 )
 
 MOST = 4294967295
 # For how many seconds a client is locked.
 LOCK_SECONDS = 60
+SHORT_LOCK_SECONDS = math.ceil(6 * SLOWNESS)
+# How many seconds ahead a ticket begins that is postdated.
+AHEAD = math.ceil(3 * SLOWNESS)
+# For how many seconds `kadm` waits for another one, and within how many a server has what is changed.
+KADM_WAITS, SERVED_WITHIN = 10, 2 * SLOWNESS
 
 # Values that are none, by the options that take them.
 NUMBERS = ("", "-1", "+1", "1.5", "0x10", "ten", " 1", "1 ", "\u0661", str(MOST + 1), "18446744073709551617")
@@ -38,10 +45,11 @@ ADDRESSES = (
 )
 BAD = {
     **dict.fromkeys(("db", "seed", "password-file", "out", "keytab", "cache"), ("",)),
-    **dict.fromkeys(("version", "rounds", "lock-after", "lock-seconds", "life", "start"), NUMBERS),
+    **dict.fromkeys(("version", "rounds", "lock-after", "lock-seconds", "life", "start", "least-count"), NUMBERS),
     **dict.fromkeys(("greatest-life", "greatest-renewable"), NUMBERS),
     **dict.fromkeys(("udp", "tcp", "kdc"), ADDRESSES),
     "remembered": (*NUMBERS, "0", "65537"),
+    "log-format": ("", "nonsense", "JSON", "text,json"),
     "types": ("", "16", "18,18", "18,", ",18", "18 17", "18;17", "aes256-cts", "18,17,20,19,23"),
     "field": ("", "nonsense", "Disabled"),
     "value": ("", "nonsense"),
@@ -49,24 +57,25 @@ BAD = {
 GOOD = {
     "db": "database", "realm": REALM, "name": "n", "seed": "seed", "password-file": "pw", "types": "18", "version": "1",
     "field": "disabled", "value": "true", "out": "kt", "keytab": "kt", "udp": "127.0.0.1:0", "cache": "cc",
+    "log-format": "text",
 }
 # The options of each command: `!` has to stand there, `*` may stand more than once, and `-` has no value.
 COMMANDS = {
     "kadm init": "db! realm! seed",
-    "kadm add": "db! name! password-file types",
-    "kadm passwd": "db! name! password-file types",
-    "kadm random": "db! name! seed types",
-    "kadm drop": "db! name! version!",
+    "kadm add": "db! name! password-file types random- any-password-",
+    "kadm passwd": "db! name! password-file types replace- any-password-",
+    "kadm random": "db! name! seed types replace-",
+    "kadm drop": "db! name! version older-",
     "kadm policy": "db! name! field! value!",
     "kadm remove": "db! name!",
-    "kadm list": "db!",
+    "kadm list": "db! like long-",
     "kadm show": "db! name!",
     "kadm keytab": "db! name! out! append-",
     "kadm migrate": "db!",
-    "kdcd serve": "db! udp!* tcp* log- first- fixed- seed rounds remembered lock-after lock-seconds greatest-life "
+    "kdcd serve": "db! udp!* tcp* log- log-format first- fixed- seed rounds remembered lock-after lock-seconds greatest-life "
     "greatest-renewable",
-    "kclient kinit": "kdc* realm name! password-file keytab cache! service seed life start renewable- forwardable- "
-    "proxiable- tcp- renew- validate-",
+    "kclient kinit": "kdc* realm name! password-file keytab cache! service seed life start least-count renewable- "
+    "forwardable- proxiable- tcp- renew- validate-",
     "kclient kvno": "kdc* cache! name!* keytab seed fresh- tcp-",
     "kclient klist": "cache! keytab",
 }
@@ -77,10 +86,10 @@ SPANS = ("greatest_life", "greatest_renewable")
 SETTINGS = {
     **dict.fromkeys(FLAGS, (("true", "false"), ("", "TRUE", "yes", "1", "never", "true "))),
     **dict.fromkeys(TIMES, (
-        ("never", "0", "1798761600", "2027-01-01", "2027-01-01T12:00:00Z", "2028-02-29"),
+        ("never", "0", "7d", "90m", "1798761600", "2027-01-01", "2027-01-01T12:00:00Z", "2028-02-29"),
         ("", "Never", "-1", "2027-1-1", "2027-02-29", "2027-13-01", "2027-01-01T24:00:00Z", "2027-01-01 12:00:00Z"),
     )),
-    **dict.fromkeys(SPANS, (("0", "1", str(MOST)), ("", "-1", "never", "10h", str(MOST + 1)))),
+    **dict.fromkeys(SPANS, (("0", "1", "10h", "49710d", str(MOST)), ("", "-1", "never", "h", "1w", "1 h", "49711d", str(MOST + 1)))),
 }
 NAMES = (
     "", "a b", "a//b", "/a", "a/", "u@x", "\\41", "\\4A", "\\4", "\u00e9", "a" * 256, "a/" * 16 + "a", "a\nb",
@@ -88,8 +97,10 @@ NAMES = (
 # What a line of the log is.
 LINE = re.compile(
     r"\d{4}-\d\d-\d\dT\d\d:\d\d:\d\dZ \S+:\d+ (udp|tcp) "
-    r"(none|(as|tgs) \S+ \S+ (ticket \w+|refused \d+ [a-z-]+|unanswered))"
+    r"(none|unanswered|(as|tgs) \S+ \S+ (ticket [\w-]+|refused (\d+|-) [a-z-]+)( [a-z]+=\S+)*)"
 )
+# The names that each line has with --log-format json.
+NAMED = {"time", "peer", "transport", "exchange"}
 
 
 def faults_of(trial, base, values, status, *texts):
@@ -147,6 +158,20 @@ def try_kadm(trial):
         kadm random --db database --name r -> 0 =ok
         kadm random --db database --name r --seed seed --types 19,17 -> 0 =ok
         kadm drop --db database --name r --version 0000000001 -> 0 =ok
+        kadm add --db database --name s --random -> 0 =ok
+        kadm random --db database --name s -> 0 =ok; s: new keys, version 2; older ones stay
+        kadm random --db database --name s --replace -> 0 =ok; s: new keys, version 3; all older ones are dropped
+        kadm random --db database --name t -> 0 =ok; t: made, with keys of version 1
+        kadm random --db database --name t --types 17 -> 0 =ok
+        kadm drop --db database --name t --older -> 0 =ok
+        kadm add --db database --name s --random -> 1 =refused Exists
+        kadm add --db database --name x <<<  -> 1 =refused BadPassword
+        kadm add --db database --name x --random --password-file pw -> 2 --random
+        kadm drop --db database --name s --older --version 1 -> 2 --older
+        kadm list --db database --like t --long -> 0 =t 2 17 never never false 1
+        kadm remove --db database --name s -> 0 =ok
+        kadm remove --db database --name t -> 0 =ok
+        kadm --version -> 0 kadm 
         kadm keytab --db database --name a --out a.keytab -> 0 =ok
         kadm keytab --db database --name b --out a.keytab --append -> 0 =ok
         kadm remove --db database --name b -> 0 =ok
@@ -272,17 +297,21 @@ def try_kclient(trial):
     trial.run("kadm keytab --db database --name host/n --out host.keytab")
     served = trial.serve()
     trial.configure(served.udp)
-    trial.cases("""
+    trial.cases(f"""
         KINIT u --password-file pw --tcp -> 0 =ok
         KINIT u --keytab u.keytab -> 0 =ok
         KINIT u --password-file pw --seed seed -> 0 =ok
         KINIT u --password-file pw --service h -> 0 =ok
         KINIT u <<< a password -> 0 =ok
+        kclient kinit --kdc KDC --name u@A.B --password-file pw --cache cc --life 8h -> 0 =ok
+        kclient kinit --renew --kdc KDC --cache cc -> 1 =refused NotRenewable; --renewable
+        KINIT u --password-file pw --least-count 4096 -> 0 =ok
+        KINIT u --password-file pw --least-count 4097 -> 1 =refused WeakCount; --least-count
         KINIT u --password-file pw --life 600 --renewable --forwardable --proxiable -> 0 =ok
         kclient klist --cache cc -> 0 principal u@A.B; flags F; renew 2
         kclient kinit --renew --kdc KDC --cache cc -> 0 =ok
         kclient kinit --kdc 127.0.0.1:9 --kdc KDC --realm A.B --name u --keytab u.keytab --cache cc -> 0 =ok
-        KINIT u --password-file pw --start 3 -> 0 =ok
+        KINIT u --password-file pw --start {AHEAD} -> 0 =ok
         kclient kinit --validate --kdc KDC --cache cc -> 1 =refused 33
     """)
     mode = (trial.folder / "cc").stat().st_mode & 0o777
@@ -293,7 +322,7 @@ def try_kclient(trial):
         kclient klist -> 0 principal u@A.B; h@A.B from
     """, env={**trial.environment, "KRB5CCNAME": "FILE:named"})
     trial.expect("kclient klist", 2, "KRB5CCNAME", env={**trial.environment, "KRB5CCNAME": "KEYRING:x"})
-    time.sleep(3)
+    time.sleep(AHEAD)
     trial.cases("""
         kclient kinit --validate --kdc KDC --cache cc -> 0 =ok
         KVNO h --name host/n -> 0 h kvno 1; host/n kvno 1
@@ -317,42 +346,93 @@ def try_kclient(trial):
         kclient klist --cache none -> 3 =failed; none: No such file
         kclient kinit --kdc KDC --realm A.B --name u --keytab u.keytab --cache no/cc -> 3 =failed; no/cc: 
         kclient kinit --kdc 127.0.0.1:9 --realm A.B --name u --keytab u.keytab --cache cc -> 3 =failed; 127.0.0.1:9: 
-        kclient kinit --kdc KDC --realm X.Y --name u --keytab u.keytab --cache cc -> 1 =refused 6
+        kclient kinit --kdc KDC --realm X.Y --name u --password-file pw --cache cc -> 1 =refused 6
+        kclient kinit --kdc KDC --realm X.Y --name u --keytab u.keytab --cache cc -> 1 =refused Absent; u.keytab: 
     """)
     kinit = [*"kclient kinit --kdc 127.0.0.1:9 --realm A.B --keytab u.keytab --cache cc --name".split()]
-    trial.note(f"{len(NAMES)} names that are none", faults_of(trial, kinit, NAMES, 1, "=refused BadName"))
+    # behind an `@` stands a realm
+    names = [each for each in NAMES if "@" not in each]
+    trial.note(f"{len(names)} names that are none", faults_of(trial, kinit, names, 1, "=refused BadName"))
     served.end()
 
 
 def try_pairs(trial):
-    """Two commands at once on one database."""
+    """Twenty commands at once on one database, and commands that wait for its lock."""
     trial.realm("pairs")
-    done, refused, faults, random = set(), 0, [], "kadm random --db database --name".split()
-    for turn in range(100):
-        names = [f"{side}{turn}" for side in "ab"]
-        both = [trial.start([*random, name], stdout=subprocess.PIPE) for name in names]
-        said = [process.communicate(timeout=PATIENCE)[0] for process in both]
-        done.update(name for name, text in zip(names, said) if text == b"ok\n")
-        refused += said.count(b"refused Locked\n")
-        faults += [f"{names}: {said}"] if set(said) - {b"ok\n", b"refused Locked\n"} or b"ok\n" not in said else []
-    trial.note(f"a hundred pairs of kadm random: {len(done)} done, {refused} refused Locked", " | ".join(faults))
+    random, names = "kadm random --db database --name".split(), {f"n{number}" for number in range(20)}
+    quiet = {"stdout": subprocess.PIPE, "stderr": subprocess.DEVNULL}
+    commands = [trial.start([*random, name], **quiet) for name in names]
+    said = {process.communicate(timeout=PATIENCE)[0] for process in commands}
+    trial.note("twenty kadm random at once: all are done", "" if said == {b"ok\n"} else str(said))
     listed = {line.split()[0] for line in trial.run("kadm list --db database").out.splitlines()}
-    differ = done ^ (listed - {"u", "v", "h", "host/n", f"krbtgt/{REALM}"})
+    differ = names ^ (listed - {"u", "v", "h", "host/n", f"krbtgt/{REALM}"})
     trial.note("the database has what was done, and nothing else", str(sorted(differ)) if differ else "")
     left = [each.name for each in trial.folder.glob("database.*.new")]
     trial.note("no file is left beside it", str(left) if left else "")
+    with open(trial.folder / "database.lock") as lock:
+        fcntl.flock(lock, fcntl.LOCK_EX)
+        begun = time.monotonic()
+        trial.expect("kadm random --db database --name x", 1, "=refused Locked", "waiting for another kadm", seconds=20)
+        took = time.monotonic() - begun
+        trial.note(f"it waits for {KADM_WAITS} seconds", f"for {took:.1f}" * (took < KADM_WAITS))
+        trial.expect("kadm list --db database", 0, "host/n", seconds=10)
+        waits = trial.start([*random, "x"], **quiet)
+        time.sleep(3)
+    said = waits.communicate(timeout=PATIENCE)[0]
+    trial.note("a command that waits is done once the lock is free", "" if said == b"ok\n" else repr(said))
     waits = trial.start("kadm add --db database --name w".split(), stdin=subprocess.PIPE, stdout=subprocess.PIPE)
-    is_held = any(is_locked(trial.folder / "database.lock") for _ in range(500))
-    trial.note("kadm add holds the lock while it waits for a password", "" if is_held else "nothing holds it")
-    trial.expect("kadm random --db database --name x", 1, "=refused Locked", seconds=10)
-    trial.expect("kadm list --db database", 0, "host/n", seconds=10)
+    trial.expect("kadm random --db database --name y", 0, "=ok", seconds=10, what="a prompt keeps no command waiting")
     said = waits.communicate(b"a password\n", PATIENCE)[0]
     trial.note("it is done once the password is there", "" if said == b"ok\n" else repr(said))
-    waits = trial.start("kadm add --db database --name y".split(), stdin=subprocess.PIPE)
-    any(is_locked(trial.folder / "database.lock") for _ in range(500))
-    waits.kill()
-    waits.wait(PATIENCE)
-    trial.expect("kadm random --db database --name z", 0, "=ok", what="a command that is killed leaves no lock")
+    try_owners(trial)
+
+
+def try_owners(trial):
+    """What is changed keeps its owner, group and mode."""
+    if os.geteuid():
+        trial.leave("owners and groups: only root can give files away")
+        return
+    trial.run("kadm keytab --db database --name h --out shared.keytab")
+    try:
+        os.chown(trial.folder / "text", 65534, 65533)
+    except OSError as fault:
+        trial.leave(f"owners and groups: files can't be given away here ({fault.strerror})")
+        return
+    kept = {"database": (65534, 65533, 0o640), "shared.keytab": (65532, 65531, 0o440)}
+    for name, (owner, group, mode) in kept.items():
+        os.chown(trial.folder / name, owner, group)
+        os.chmod(trial.folder / name, mode)
+    # A lock that is there stays its owner's: the next command makes one.
+    (trial.folder / "database.lock").unlink()
+    trial.expect("kadm random --db database --name h", 0, "=ok")
+    trial.expect("kadm keytab --db database --name h --out shared.keytab --append", 0, "=ok")
+    for name, wanted in kept.items():
+        found = (trial.folder / name).stat()
+        found = (found.st_uid, found.st_gid, found.st_mode & 0o777)
+        trial.note(f"{name} keeps its owner, group and mode", "" if found == wanted else str(found))
+    lock, secret = trial.folder / "database.lock", trial.folder / "secret"
+    owner = lock.stat().st_uid
+    trial.note("a lock that is made belongs to the owner of the database", "" if owner == 65534 else str(owner))
+    # Who owns the folder may have put a link there.
+    lock.unlink()
+    secret.write_bytes(b"")
+    lock.symlink_to(secret)
+    trial.expect("kadm random --db database --name h", 0, "=ok")
+    owner = secret.stat().st_uid
+    trial.note("the file that a lock is a link to keeps its owner", "" if owner == os.geteuid() else str(owner))
+    lock.unlink()
+    other = ["setpriv", "--reuid=65534", "--regid=65534", "--clear-groups"]
+    if not shutil.which("setpriv") or trial.run([*other, "true"]).status:
+        trial.leave("a kadm of another user: setpriv is missing, or may not become one here")
+        return
+    before = (trial.folder / "database").read_bytes()
+    os.chmod(trial.folder, 0o777)
+    os.chown(trial.folder / "database", 65533, 65533)
+    os.chmod(trial.folder / "database", 0o644)
+    words = [*other, trial.programs["kadm"], *"random --db database --name h".split()]
+    trial.expect(words, 3, "=failed", "can't be kept", what="a user who can't keep them changes nothing")
+    is_same = (trial.folder / "database").read_bytes() == before
+    trial.note("the database is as it was", "" if is_same else "it is another")
 
 
 def try_addresses(trial):
@@ -385,7 +465,7 @@ def try_addresses(trial):
 def try_lock(trial):
     """A lock, its end, and one more that a single failure brings, since a good login alone begins the count anew."""
     trial.realm("lock")
-    served = trial.serve("--first --lock-after 3 --lock-seconds 6")
+    served = trial.serve(f"--first --lock-after 3 --lock-seconds {SHORT_LOCK_SECONDS}")
     wrong, right = "KINIT u --password-file other -> 1 =refused 24\n", "KINIT u --password-file pw -> 0 =ok\n"
     locked = "KINIT u --password-file pw -> 1 =refused 18; locked\n"
     others = "KINIT u --password-file other -> 1 =refused 18\nKINIT v --password-file pw -> 0 =ok\n"
@@ -393,22 +473,22 @@ def try_lock(trial):
         trial.cases(failures)
         last = time.time()
         trial.cases(while_locked)
-        time.sleep(max(0.0, last + 7.1 - time.time()))
+        time.sleep(max(0.0, last + SHORT_LOCK_SECONDS + 1.1 - time.time()))
     trial.cases(right + 2 * wrong + right)
     served.end()
 
 
 def try_change(trial):
-    """What `kadm` changes is served within two seconds."""
+    """What `kadm` changes is served within two seconds, or on a slow machine a few more."""
     trial.realm("change")
     served, fixed = trial.serve(), Server(trial, "--first --fixed")
 
     def change(words, wanted, given=""):
         fault, start = trial.run(words, given=given).fault(0), time.monotonic()
-        while (found := served.answer("w")) != wanted and time.monotonic() < start + 6:
+        while (found := served.answer("w")) != wanted and time.monotonic() < start + 3 * SERVED_WITHIN:
             time.sleep(0.02)
         took = time.monotonic() - start
-        is_late = found != wanted or took > 2
+        is_late = found != wanted or took > SERVED_WITHIN
         trial.note(f"{words} is served", fault or (f"w gets {found} after {took:.1f} s" if is_late else ""))
 
     change("kadm add --db database --name w", "25", given="a password\n")
@@ -420,7 +500,7 @@ def try_change(trial):
     trial.cases("KINIT u --password-file pw -> 0 =ok\nKVNO h -> 0 =h kvno 1")
     trial.run("kadm passwd --db database --name u --password-file other")
     trial.run("kadm random --db database --name h")
-    time.sleep(2)
+    time.sleep(SERVED_WITHIN)
     trial.cases("""
         KVNO h -> 0 =h kvno 1
         KVNO h --fresh -> 0 =h kvno 2
@@ -434,7 +514,7 @@ def try_change(trial):
         trial.run(f"{words} {'gone' if said == none else 'database'}")
         line = f"kdcd: database: {said}; the rows before it stay\n"
         trial.note(f"{words}: it says {said}", "" if served.wait(lambda: line in served.said(), 4) else served.said())
-    time.sleep(2)
+    time.sleep(SERVED_WITHIN)
     trial.note("each is said once", "" if served.said().count("rows before it stay") == 3 else served.said())
     trial.cases("KINIT u --password-file other -> 0 =ok")
     trial.run("mv kept database")
@@ -474,7 +554,23 @@ def try_log(trial):
         trial.note(f"log to {what}: lines are whole", f"{odd[:3]}" if odd else "")
         status = served.end()
         trial.note(f"log to {what}: SIGTERM ends it", "" if status == -15 else f"status {status}")
+    try_objects(trial)
     try_lost_lines(trial)
+
+
+def try_objects(trial):
+    """Lines of JSON."""
+    served = trial.serve("--first --log-format json")
+    for name in ("v", "nobody"):
+        served.answer(name)
+    served.wait(lambda: served.said().count("\n{") >= 2, 3)
+    served.end()
+    lines = [line for line in served.said().splitlines() if not line.startswith("kdcd: ")]
+    objects = [json.loads(line) for line in lines]
+    is_well = len(objects) >= 2 and all(NAMED <= each.keys() and set(map(type, each.values())) == {str} for each in objects)
+    told = {(each.get("client"), each.get("outcome")) for each in objects}
+    is_well = is_well and {("v", "ticket"), ("nobody", "refused")} <= told
+    trial.note("--log-format json: a line is an object, whose values are strings", "" if is_well else f"{lines[:3]}")
 
 
 def try_lost_lines(trial):
@@ -560,7 +656,7 @@ def try_mit(trial, served):
     for way in ("", "udp_preference_limit = 1"):
         trial.configure(served.udp, way)
         trial.cases("kinit u <<< a password -> 0\nkvno -k h.keytab h -> 0 kvno = 1, keytab entry valid", env=stock)
-    trial.cases("""
+    trial.cases(f"""
         kclient kvno --name h --name host/n -> 0 h kvno 1; host/n kvno 1
         kclient klist -> 0 principal u@A.B
         kinit -k -t v.keytab v -> 0
@@ -570,10 +666,10 @@ def try_mit(trial, served):
         kvno nothing -> 1 Server not found in Kerberos database
         kinit -r 2d u <<< a password -> 0
         kinit -R -> 0
-        kinit -s 3s u <<< a password -> 0
+        kinit -s {AHEAD}s u <<< a password -> 0
         kinit -v -> 1 Ticket not yet valid
     """, env=stock)
-    time.sleep(3)
+    time.sleep(AHEAD)
     trial.cases("kinit -v -> 0\nkvno h -> 0 kvno = 1", env=stock)
     try_mit_lock(trial, stock)
     trial.configure(served.udp)
@@ -612,17 +708,13 @@ def main():
     words.add_argument("--only", nargs="+", choices=PARTS, default=list(PARTS), metavar="PART", help=", ".join(PARTS))
     words.add_argument("--requests", type=int, default=3000, help="datagrams with each log")
     words = words.parse_args()
-    with tempfile.TemporaryDirectory() as folder:
+    with tempfile.TemporaryDirectory() as folder, ending():
         trial = Trial(programs_in(words.programs), pathlib.Path(folder))
         trial.requests = words.requests
-        try:
-            for part in words.only:
-                print(f"{part}: {PARTS[part].__doc__}")
-                PARTS[part](trial)
-        finally:
-            end_all()
-    print(f"{trial.right} right, {trial.wrong} wrong, {trial.left} left out")
-    sys.exit(1 if trial.wrong else 0)
+        for part in words.only:
+            print(f"{part}: {PARTS[part].__doc__}")
+            PARTS[part](trial)
+    trial.end()
 
 
 if __name__ == "__main__":

@@ -7,15 +7,22 @@ tickets, `kclient` gets them, MIT's library makes AP-REQs of them (`tools/mk_req
     python3 tools/whole_way.py --mk-req ./mk_req
 
 The first line proves and builds the programs, each at crates/NAME/out/NAME. What the service prints of a ticket is compared with what
-MIT's library reads of it, and that library takes the AP-REP. It ends with status 1 at the first difference."""
+MIT's library reads of it, and that library takes the AP-REP. A line for each type says `ok` or the first difference; the status is 1 if
+there was any."""
 
 import argparse
+import calendar
+import contextlib
 import json
 import os
 import re
 import subprocess
-import sys
 import tempfile
+import threading
+import time
+
+from kerberos import ap_req, authenticator, credentials, elements, fields, integer, opened, time_of
+from trial import PATIENCE, RUNNING, Differs, Notes, end_all, ending, expect, kill
 
 TYPES = (17, 18, 19, 20)
 SERVICE, OTHER = "imap/h", "imap/other"
@@ -26,16 +33,13 @@ CONFIGURATION = "[libdefaults]\ndefault_realm = A.B\nrdns = false\ndns_lookup_kd
 PRINTED = ("client", "session-key-type", "flags", "authtime", "starttime", "endtime", "renew-till")
 
 
-def expect(what, found, wanted):
-    if found != wanted:
-        sys.exit(f"{what}: {found!r}, and not {wanted!r}")
-
-
 class Place:
     """A folder with the files of a realm whose keys are all of one type."""
 
     def __init__(self, programs, folder):
         self.programs, self.folder = programs, folder
+        # Who makes AP-REQs.
+        self.requests = Request if programs.get("mk_req") else OwnRequest
 
     def path(self, name):
         return os.path.join(self.folder, name)
@@ -50,7 +54,7 @@ class Place:
 
     def run(self, program, *words):
         """What a program prints. It has to end well."""
-        ran = subprocess.run([self.programs[program], *words], capture_output=True, text=True)
+        ran = subprocess.run([self.programs[program], *words], capture_output=True, text=True, timeout=PATIENCE)
         expect(f"the status of {program} {' '.join(words)} ({ran.stdout}{ran.stderr})", ran.returncode, 0)
         return ran.stdout
 
@@ -87,8 +91,22 @@ class Place:
             expect("kvno", printed, f"{service} kvno 1\n")
 
 
+@contextlib.contextmanager
+def in_time(process):
+    """Kills a program that does not get so far in its time, and that is a fault."""
+    late = threading.Event()
+    timer = threading.Timer(PATIENCE, lambda: (late.set(), kill(process)))
+    timer.start()
+    try:
+        yield
+    finally:
+        timer.cancel()
+    if late.is_set():
+        raise Differs(f"{os.path.basename(process.args[0])} says nothing more, and does not end, for {PATIENCE:.0f} seconds")
+
+
 class Lines:
-    """A program that is asked line by line."""
+    """A program that is asked line by line, each of which it has to answer in its time."""
 
     def __init__(self, *words, environment=None, errors=False):
         """With `errors` it says nothing on standard error, or that is a fault."""
@@ -100,13 +118,15 @@ class Lines:
             text=True,
             env=environment,
         )
+        RUNNING.append(self.process)
 
     def tell(self, line):
         self.process.stdin.write(line + "\n")
         self.process.stdin.flush()
 
     def line(self):
-        return self.process.stdout.readline().rstrip("\n")
+        with in_time(self.process):
+            return self.process.stdout.readline().rstrip("\n")
 
     def ask(self, line):
         self.tell(line)
@@ -115,8 +135,10 @@ class Lines:
     def end(self):
         self.process.stdin.close()
         self.process.stdout.close()
-        said = self.process.stderr.read() if self.process.stderr else ""
-        expect(f"the status at the end ({said})", self.process.wait(), 0)
+        with in_time(self.process):
+            said = self.process.stderr.read() if self.process.stderr else ""
+            status = self.process.wait()
+        expect(f"the status at the end ({said})", status, 0)
         expect("what it said on standard error", said, "")
 
 
@@ -125,14 +147,44 @@ class Kdc:
         words = [place.programs["kdcd"], "serve", "--db", place.path("database"), "--seed", place.seed(), "--first"]
         words += ["--udp", "127.0.0.1:0", "--tcp", "127.0.0.1:0"]
         self.process = subprocess.Popen(words, stdout=subprocess.DEVNULL, stderr=subprocess.PIPE, text=True)
-        found = re.search(r"udp (\S+:\d+) and tcp", self.process.stderr.readline())
+        RUNNING.append(self.process)
+        with in_time(self.process):
+            found = re.search(r"udp (\S+:\d+) and tcp", self.process.stderr.readline())
         if not found:
-            sys.exit("kdcd does not serve")
+            raise Differs("kdcd does not serve")
         self.address = found[1]
 
     def end(self):
-        self.process.terminate()
-        self.process.wait()
+        kill(self.process)
+
+
+class OwnRequest:
+    """An AP-REQ of type 18 by `kerberos.py`, and what that reads of the ticket by the service's key."""
+
+    def __init__(self, place, service, _keytab, choice):
+        with open(place.path("cache"), "rb") as cache:
+            found = {b"/".join(parts).decode(): (key, ticket) for parts, key, ticket in credentials(cache.read())}
+        self.key, ticket = found[service]
+        with open(place.path("database")) as file:
+            key = json.load(file)["principals"][service]["keys"][0]["keys"][0]["key"]
+        sealed = elements(fields(fields(elements(ticket)[0][1])[3])[2])[0][1]
+        part = fields(elements(opened(bytes.fromhex(key), 2, sealed))[0][1])
+        seconds = lambda number: str(calendar.timegm(time.strptime(elements(part[number])[0][1].decode(), "%Y%m%d%H%M%SZ")) if number in part else 0)
+        times = {word: seconds(number) for word, number in zip(PRINTED[3:], (5, 6, 7, 8))}
+        flags = elements(part[0])[0][1][1:].hex()
+        self.read = {"client": "u@A.B", "session-key-type": "18", "flags": flags, **times}
+        self.at = int(time.time()), int.from_bytes(os.urandom(2), "big")
+        options = b"\x20\0\0\0" if "mutual" in choice else bytes(4)
+        self.digits = ap_req(ticket, self.key, 11, authenticator(b"A.B", b"u", *self.at), options).hex()
+
+    def take(self, ap_rep):
+        sealed = elements(fields(fields(elements(bytes.fromhex(ap_rep))[0][1])[2])[2])[0][1]
+        part = fields(elements(opened(self.key, 12, sealed))[0][1])
+        expect("the time in the AP-REP", part[0], time_of(self.at[0]))
+        expect("the microseconds in the AP-REP", part[1], integer(self.at[1]))
+
+    def end(self):
+        """Nothing runs."""
 
 
 class Request:
@@ -150,7 +202,7 @@ class Request:
         while "renew-till" not in self.read:
             word, _, value = self.maker.line().partition(" ")
             if not word:
-                sys.exit("mk_req made no AP-REQ")
+                raise Differs("mk_req made no AP-REQ")
             self.read[word] = value
         self.digits = self.read["ap-req"]
 
@@ -170,7 +222,7 @@ def told(answer):
 
 def present(place, service, choice):
     """Presents a ticket that is accepted, and then the same AP-REQ again."""
-    request = Request(place, SERVICE, "keytab", choice)
+    request = place.requests(place, SERVICE, "keytab", choice)
     accepted = told(service.ask(request.digits))
     for word in PRINTED:
         expect(word, accepted.get(word, "0"), request.read[word])
@@ -183,31 +235,37 @@ def present(place, service, choice):
 
 
 def refuse(place, service, name, keytab, answer):
-    request = Request(place, name, keytab, ())
+    request = place.requests(place, name, keytab, ())
     expect(f"a ticket for {name}", service.ask(request.digits), answer)
     expect("an AP-REQ that is cut", service.ask(request.digits[:-2]), "not an AP-REQ")
     request.end()
 
 
 def go(programs, etype):
+    """AP-REQs that are accepted, and refused when they come again; so are one for another service, one that is cut, and one after a
+    restart."""
     with tempfile.TemporaryDirectory() as folder:
-        place = Place(programs, folder)
-        place.make_realm(etype)
-        kdc = Kdc(place)
-        place.get_tickets(kdc.address)
-        kdc.end()
-        service = Lines(programs["ap_whois"], place.path("keytab"), "first")
-        for choice in CHOICES:
-            accepted = present(place, service, choice)
-            expect("the client", accepted["client"], "u@A.B")
-            expect("the session key's type", accepted["session-key-type"], str(etype))
-        refuse(place, service, OTHER, "other.keytab", "refused 35 KRB_AP_ERR_NOT_US")
-        service.end()
-        restarted = Lines(programs["ap_whois"], place.path("keytab"))
-        refuse(place, restarted, SERVICE, "keytab", "refused 37 KRB_AP_ERR_SKEW")
-        restarted.end()
-    print(f"type {etype}: {len(CHOICES)} AP-REQs were accepted, and refused when they came again; so were one for another")
-    print("    service, one that was cut, and one after a restart")
+        try:
+            go_in(Place(programs, folder), etype)
+        finally:
+            end_all()
+
+
+def go_in(place, etype):
+    place.make_realm(etype)
+    kdc = Kdc(place)
+    place.get_tickets(kdc.address)
+    kdc.end()
+    service = Lines(place.programs["ap_whois"], place.path("keytab"), "first")
+    for choice in CHOICES if place.requests is Request else CHOICES[:2]:
+        accepted = present(place, service, choice)
+        expect("the client", accepted["client"], "u@A.B")
+        expect("the session key's type", accepted["session-key-type"], str(etype))
+    refuse(place, service, OTHER, "other.keytab", "refused 35 KRB_AP_ERR_NOT_US")
+    service.end()
+    restarted = Lines(place.programs["ap_whois"], place.path("keytab"))
+    refuse(place, restarted, SERVICE, "keytab", "refused 37 KRB_AP_ERR_SKEW")
+    restarted.end()
 
 
 def add_programs(words, *programs):
@@ -220,10 +278,12 @@ def add_programs(words, *programs):
 def main():
     words = argparse.ArgumentParser(description=__doc__, formatter_class=argparse.RawDescriptionHelpFormatter)
     add_programs(words, "kadm", "kdcd", "kclient", "ap_whois")
-    words.add_argument("--mk-req", default="./mk_req")
-    programs = vars(words.parse_args())
-    for etype in TYPES:
-        go(programs, etype)
+    words.add_argument("--mk-req", help="left out, AP-REQs are made in Python, of type 18 alone")
+    programs, notes = vars(words.parse_args()), Notes()
+    with ending():
+        for etype in TYPES if programs["mk_req"] else (18,):
+            notes.check(f"the whole way to ap_whois with type {etype}", go, programs, etype)
+    notes.end()
 
 
 if __name__ == "__main__":

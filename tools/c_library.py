@@ -1,0 +1,40 @@
+#!/usr/bin/env python3
+"""Builds the library for C, crates/ap_accept_c/out/libap_accept_c.a, over the libraries below it that `rt ci` has proved in this copy and
+left in their folders: a minute, where `rt lib` would prove each of them anew, since `rt ci` leaves no stamps. Where `rt check` has built
+them, as in a copy that is worked in, it is `rt lib`.
+
+    python3 tools/c_library.py"""
+
+import importlib.util
+import os
+import pathlib
+import shutil
+import subprocess
+import sys
+
+TOP = pathlib.Path(__file__).resolve().parent.parent
+CRATE = TOP / "crates" / "ap_accept_c"
+LIBRARY = CRATE / "out" / "libap_accept_c.a"
+
+
+def kit():
+    """The toolchain's folder."""
+    return pathlib.Path(os.path.realpath(shutil.which("rt"))).parent.parent
+
+
+def main():
+    os.chdir(CRATE)
+    spec = importlib.util.spec_from_file_location("rtlib", kit() / "bin" / "rtlib.py")
+    sys.dont_write_bytecode, rtlib = True, importlib.util.module_from_spec(spec)
+    sys.modules["rtlib"] = rtlib
+    spec.loader.exec_module(rtlib)
+    crate = rtlib.Crate(str(CRATE), str(TOP), {})
+    if all(each.is_built() for each in crate.below()):
+        sys.exit(subprocess.run(["rt", "lib"]).returncode)
+    words = crate.words(["--jobs", "1"], keeps=False)
+    how = ["--toolchain", str(kit() / "toolchain"), "--backend", "llvm", "-o", str(LIBRARY)]
+    sys.exit(subprocess.run([rtlib.RATTLE, "build", *words, *how]).returncode)
+
+
+if __name__ == "__main__":
+    main()

@@ -1,0 +1,366 @@
+#!/usr/bin/env python3
+"""Tries what goes wrong around the built programs: peers of `kdcd serve` that close half of a connection, are slow, never read, are idle or
+send nonsense; whether each of many requests is answered; a `kadm` that is killed while it writes; and allocations that are refused in
+`kadm`, `kclient`, `kdcd` and `ap_whois`. Linux and Python 3, and for the last part a C compiler.
+
+    python3 tools/try_faults.py [--programs FOLDER] [--only PART ..] [--places N]
+
+The folder is that of the programs, or that of the crates, which have each at NAME/out/NAME. Of each command --places allocations are
+refused, one in a run. It prints a line for each thing that it tried, with `ok` or what was wrong, and ends with status 1 if anything was."""
+
+import argparse
+import json
+import pathlib
+import random
+import shutil
+import signal
+import socket
+import subprocess
+import tempfile
+import time
+
+from kerberos import key_of, tgs_req, ticket_in
+from trial import PATIENCE, REALM, SLOWNESS, Server, Trial, answer, ask_tcp, ask_udp, datagrams, ending, login, place_of, programs_in
+
+# How many connections are served at once (docs/OPERATIONS.md, 'Limits').
+CONNECTIONS = 256
+# How many octets a peer may send that reads no reply, at the most: what is kept for it, and the buffers of the system.
+UNREAD = 1 << 26
+# How many datagrams are sent one after another, and how many authenticators of a client are remembered.
+DATAGRAMS, REMEMBERED = 1000, 1000
+# How many rows are written while a `kadm` is killed, how often one is started for it, and how many have to be killed before they end.
+ROWS, KILLS, KILLS_AT_LEAST = 4000, 40, 8
+
+
+def framed(message):
+    return len(message).to_bytes(4, "big") + message
+
+
+def connected(server):
+    return socket.create_connection(place_of(server.addresses[1][1]), 10 * SLOWNESS)
+
+
+def read_reply(connection, piece=65536):
+    """The next reply, read in pieces; what there is of it where the connection ends."""
+    octets, wanted = b"", 4
+    while len(octets) < wanted:
+        read = connection.recv(min(piece, wanted - len(octets)))
+        if not read:
+            break
+        octets += read
+        wanted = 4 + int.from_bytes(octets[:4], "big")
+    return octets[4:]
+
+
+def is_served(server):
+    """What is wrong unless a datagram and a new connection are answered now."""
+    found = server.answer("v"), answer(ask_tcp(server.addresses[1][1], login("v")))
+    return "" if found == ("ticket", "ticket") else f"beside it a datagram gets {found[0]}, and a connection {found[1]}"
+
+
+def half_closed(server):
+    """Requests behind which the peer sends no more, and half of one."""
+    faults = []
+    for requests in (1, 3):
+        with connected(server) as peer:
+            peer.sendall(framed(login("v")) * requests)
+            peer.shutdown(socket.SHUT_WR)
+            found = [answer(read_reply(peer)) for _ in range(requests)]
+            rest = peer.recv(1)
+        if found != ["ticket"] * requests or rest:
+            faults.append(f"{requests} requests get {found}, then {rest!r}")
+    with connected(server) as peer:
+        peer.sendall(framed(login("v"))[:20])
+        peer.shutdown(socket.SHUT_WR)
+        rest = peer.recv(1)
+    return "; ".join([*faults, *[f"half a request gets {rest!r}"] * bool(rest)]) or is_served(server)
+
+
+def slow(server):
+    """An octet of the request at a time, and of the reply."""
+    with connected(server) as peer:
+        peer.setsockopt(socket.IPPROTO_TCP, socket.TCP_NODELAY, 1)
+        for octet in framed(login("v")):
+            peer.sendall(bytes([octet]))
+            time.sleep(0.003)
+        beside = is_served(server)
+        found = answer(read_reply(peer, 1))
+    return beside or ("" if found == "ticket" else f"it gets {found}")
+
+
+def full(server):
+    """A peer that asks again and again, and reads no reply, is dropped; nobody waits for it."""
+    sent, requests = 0, framed(login("v")) * 100
+    with connected(server) as peer:
+        peer.settimeout(20 * SLOWNESS)
+        try:
+            while sent < UNREAD:
+                peer.sendall(requests)
+                sent += len(requests)
+        except ConnectionError:
+            return is_served(server)
+    return f"it can send {sent} octets"
+
+
+def idle(server):
+    """As many connections as are served at once, which send nothing: datagrams are answered, and connections once these are closed."""
+    peers = [connected(server) for _ in range(CONNECTIONS)]
+    found = server.answer("v")
+    for peer in peers:
+        peer.close()
+    end = time.monotonic() + 10 * SLOWNESS
+    while is_served(server) and time.monotonic() < end:
+        time.sleep(0.05)
+    return is_served(server) if found == "ticket" else f"beside them a datagram gets {found}"
+
+
+def odd_lengths(server):
+    """A length with its high bit, a length past the longest request, and none."""
+    faults = []
+    for octets, wanted in ((b"\x80\0\0\0", "61"), ((65536).to_bytes(4, "big"), "61"), (bytes(4), "none")):
+        with connected(server) as peer:
+            peer.sendall(octets)
+            found, rest = answer(read_reply(peer)), peer.recv(1)
+        if found != wanted or rest:
+            faults.append(f"{octets.hex()} gets {found}, then {rest!r}")
+    return "; ".join(faults) or is_served(server)
+
+
+def nonsense(server):
+    """Datagrams of random octets, and logins with an octet changed. Each of these gets one reply at most."""
+    chance = random.Random(42)
+    with datagrams(server.udp) as peer:
+        for turn in range(4000):
+            octets = bytearray(login("v")) if turn % 2 else chance.randbytes(chance.randrange(1400))
+            if turn % 2:
+                octets[chance.randrange(len(octets))] = chance.randrange(256)
+            peer.send(octets)
+            time.sleep(0.0005 * (turn % 4 == 0))
+        time.sleep(0.5)
+    return is_served(server)
+
+
+def try_sockets(trial):
+    """Peers of the server."""
+    trial.realm("sockets")
+    server = trial.serve()
+    for what, tried in {
+        "a peer that closes its half of a connection": half_closed, "a peer that sends and reads an octet at a time": slow,
+        "a peer that reads no reply": full, f"{CONNECTIONS} idle connections": idle, "lengths that are none": odd_lengths,
+        "datagrams that are no requests": nonsense,
+    }.items():
+        try:
+            fault = tried(server)
+        except OSError as error:
+            fault = str(error) or type(error).__name__
+        trial.note(what, fault)
+    status = server.end()
+    trial.note("the server still runs, and ends when told", "" if status == -15 else f"status {status}")
+
+
+def try_each(trial):
+    """Requests of which each has to be answered: datagrams that are sent once, and as many authenticators of a client as are remembered."""
+    trial.realm("each")
+    server = trial.serve(f"--first --remembered {REMEMBERED}")
+    with datagrams(server.udp) as peer:
+        peer.settimeout(10 * SLOWNESS)
+        answered = sum(bool(ask_udp(peer, login("v"), 1)) for _ in range(DATAGRAMS))
+        trial.note(f"{DATAGRAMS} datagrams are answered, each asked once", "" if answered == DATAGRAMS else f"{answered} are")
+        try_remembered(trial, peer)
+    server.end()
+
+
+def try_remembered(trial, peer):
+    """Each of these authenticators buys a ticket, the next one is refused, and those that come again get the same octets as before."""
+    realm, now = REALM.encode(), int(time.time())
+    ticket, key = ticket_in(key_of(b"a password", realm + b"v"), ask_udp(peer, login("v")))
+    requests = [tgs_req(realm, b"v", (b"h",), ticket, key, now, turn) for turn in range(REMEMBERED + 1)]
+    replies = [ask_udp(peer, request) for request in requests]
+    bought = sum(reply[:1] == b"\x6d" for reply in replies)
+    trial.note(f"{REMEMBERED} authenticators of a client buy a ticket each", "" if bought == REMEMBERED else f"{bought} do")
+    found = answer(replies[-1])
+    trial.note("one more is refused with 29", "" if found == "29" else f"it gets {found}")
+    others = sum(ask_udp(peer, request) != reply for request, reply in list(zip(requests, replies))[:-1])
+    trial.note("each that comes again gets the reply of before", f"{others} get another" if others else "")
+
+
+def try_killed(trial):
+    """A command that is killed at a moment of its run, also while it writes."""
+    trial.realm("killed")
+    file = trial.folder / "database"
+    database = json.loads(file.read_text())
+    row = database["principals"]["h"]
+    database["principals"].update({f"n{number}": row for number in range(ROWS)})
+    file.write_text(json.dumps(database))
+    begun = time.monotonic()
+    trial.expect("kadm random --db database --name first", 0, "=ok", what=f"a row more beside {ROWS}")
+    took, killed, faults = time.monotonic() - begun, 0, []
+    for turn in range(KILLS):
+        before, name = file.read_bytes(), f"killed{turn}"
+        quiet = {"stdout": subprocess.PIPE, "stderr": subprocess.DEVNULL}
+        running = trial.start(["kadm", "random", "--db", "database", "--name", name], **quiet)
+        # More of them in the last half of the run, in which the file is written.
+        time.sleep(took * (1 - (1 - turn / KILLS) ** 2) * 1.1)
+        running.kill()
+        said = running.communicate(timeout=PATIENCE)[0]
+        killed += running.returncode == -signal.SIGKILL and not said
+        if running.returncode not in (0, -signal.SIGKILL):
+            faults.append(f"{name}: status {running.returncode}")
+        rows = json.loads(file.read_bytes())["principals"]
+        if file.read_bytes() != before and name not in rows or said and name not in rows:
+            faults.append(f"{name}: it said {said!r}, and the database is neither what it was nor what it has to be")
+    if killed < KILLS_AT_LEAST:
+        faults.append(f"so few are killed, and not {KILLS_AT_LEAST} at the least")
+    trial.note(f"{KILLS} commands of which {killed} were killed: the database is what it was, or has the row", "; ".join(faults))
+    trial.expect("kadm random --db database --name last", 0, "=ok", what="the next command finds no lock")
+    trial.expect("kadm list --db database", 0, "\nlast 1 ", "\nn0 1 ")
+    left = [each for each in trial.folder.glob("database*") if each.suffix != ".lock"]
+    modes = {each.stat().st_mode & 0o777 for each in left}
+    trial.note("what is left of them is the owner's alone", "" if modes <= {0o600} else str(modes))
+
+
+# Refuses the allocation whose number REFUSED says, and writes how many there were into the file COUNTED.
+LINES = r"""
+#define _GNU_SOURCE
+#include <dlfcn.h>
+#include <stdio.h>
+#include <stdlib.h>
+
+static long calls, refused = -1;
+
+static int is_refused(void)
+{
+    if (refused < 0) {
+        const char *text = getenv("REFUSED");
+        refused = text ? atol(text) : 0;
+    }
+    return ++calls == refused;
+}
+
+#define NEXT(name) static __typeof__(name) *next; if (!next) next = dlsym(RTLD_NEXT, #name)
+
+void *malloc(size_t size) { NEXT(malloc); return is_refused() ? 0 : next(size); }
+void *realloc(void *old, size_t size) { NEXT(realloc); return is_refused() ? 0 : next(old, size); }
+void *aligned_alloc(size_t align, size_t size) { NEXT(aligned_alloc); return is_refused() ? 0 : next(align, size); }
+
+__attribute__((destructor)) static void tell(void)
+{
+    const char *name = getenv("COUNTED");
+    long counted = calls;
+    FILE *file = name ? fopen(name, "w") : 0;
+    if (file) {
+        fprintf(file, "%ld", counted);
+        fclose(file);
+    }
+}
+"""
+
+
+def preloaded(trial):
+    """The environment in which allocations are counted and refused, or none."""
+    compiler = shutil.which("cc")
+    if not compiler:
+        return None
+    (trial.folder / "refuse.c").write_text(LINES)
+    words = [compiler, "-O1", "-shared", "-fPIC", "refuse.c", "-o", "refuse.so"]
+    subprocess.run(words, cwd=trial.folder, check=True)
+    return {**trial.environment, "LD_PRELOAD": str(trial.folder / "refuse.so"), "COUNTED": str(trial.folder / "counted")}
+
+
+def contents(folder):
+    """The files of a folder, but for the locks and what is counted."""
+    kept = (each for each in folder.iterdir() if each.suffix not in (".lock", ".c", ".so") and each.name != "counted")
+    return {each.name: each.read_bytes() for each in kept}
+
+
+def sample(counted, places):
+    """So many numbers from 1 to `counted`, the first and the last among them."""
+    return sorted({1 + turn * (counted - 1) // max(1, places - 1) for turn in range(places)})
+
+
+def put_back(folder, before):
+    for name in contents(folder).keys() - before.keys():
+        (folder / name).unlink()
+    for name, octets in before.items():
+        (folder / name).write_bytes(octets)
+
+
+def refuse_each(trial, environment, words, places, given="", status=3, out=None):
+    """A command each of whose allocations, at some places, is refused in a run of its own. It ends with this status and leaves all files as
+    they were, or does all of its work with another way than the room that was refused; or it prints `out`."""
+    before, faults, done = contents(trial.folder), [], 0
+    whole = trial.run(words, given=given, env=environment)
+    if whole.status != 0:
+        return trial.note(words, whole.fault(0))
+    # What changes from run to run is not compared.
+    after, counted = contents(trial.folder).keys(), int((trial.folder / "counted").read_text())
+    for number in sample(counted, places):
+        put_back(trial.folder, before)
+        ran = trial.run(words, given=given, env={**environment, "REFUSED": str(number)})
+        is_whole = ran.status == 0 and ran.out in (whole.out, out) and contents(trial.folder).keys() == after
+        done += is_whole
+        if not is_whole and (ran.status != status or contents(trial.folder) != before):
+            changed = sorted(contents(trial.folder).keys() ^ before.keys())
+            faults.append(f"{number}: {ran.fault(status)}, {ran.out[:80]!r}, {ran.err[:80]!r}, files {changed}")
+    put_back(trial.folder, before)
+    trial.run(words, given=given)
+    trial.note(f"{words}: of {counted} allocations {len(sample(counted, places))} refused, {done} of them in vain", "; ".join(faults[:3]))
+
+
+def try_memory(trial):
+    """Allocations that are refused."""
+    trial.realm("memory")
+    environment = preloaded(trial)
+    if not environment:
+        trial.leave("allocations that are refused, since there is no C compiler cc")
+        return
+    for words in (
+        "init --db new --realm R.S", "add --name w --password-file pw", "passwd --name w --password-file other", "random --name r",
+        "random --name r", "drop --name r --version 1", "policy --name w --field disabled --value true", "list", "show --name w",
+        "keytab --name h --out kt", "keytab --name r --out kt --append", "remove --name w", "migrate",
+    ):
+        refuse_each(trial, environment, f"kadm {words}" + " --db database" * ("--db" not in words), trial.places)
+    server = trial.serve()
+    for words in ("KINIT v --password-file pw", "KVNO h", "kclient klist --cache cc"):
+        refuse_each(trial, environment, words, trial.places)
+    server.end()
+    refuse_each(trial, environment, "kdcd serve --db database --udp 127.0.0.1:0 --rounds 0 --first", trial.places)
+    refuse_each(trial, environment, "ap_whois h.keytab first", trial.places, given="00\n", status=1, out="out of memory\n")
+    try_server_memory(trial, environment)
+
+
+def try_server_memory(trial, environment):
+    """Of a server that runs: a request whose memory is refused may get no ticket, and all others get theirs."""
+    trial.run("kdcd serve --db database --udp 127.0.0.1:0 --tcp 127.0.0.1:0 --rounds 0 --first", env=environment)
+    begun, faults, hurt = int((trial.folder / "counted").read_text()), [], 0
+    for number in range(1, 3 * trial.places):
+        server = Server(trial, environment={**environment, "REFUSED": str(begun + number)})
+        found = [server.answer("v", 1) for _ in range(4)]
+        status, lost = server.end(), len(found) - found.count("ticket")
+        hurt += lost
+        if lost > 1 or status != -15:
+            faults.append(f"{number}: {found}, status {status}")
+    what = f"kdcd serve: {3 * trial.places - 1} allocations refused while it serves, which cost {hurt} tickets"
+    trial.note(what, "; ".join(faults[:3]))
+
+
+PARTS = {"sockets": try_sockets, "each": try_each, "killed": try_killed, "memory": try_memory}
+
+
+def main():
+    words = argparse.ArgumentParser(description=__doc__, formatter_class=argparse.RawDescriptionHelpFormatter)
+    words.add_argument("--programs", default=pathlib.Path(__file__).resolve().parent.parent / "crates")
+    words.add_argument("--only", nargs="+", choices=PARTS, default=list(PARTS), metavar="PART", help=", ".join(PARTS))
+    words.add_argument("--places", type=int, default=12, help="allocations of each command that are refused")
+    words = words.parse_args()
+    with tempfile.TemporaryDirectory() as folder, ending():
+        trial = Trial(programs_in(words.programs, ("kadm", "kdcd", "kclient", "ap_whois")), pathlib.Path(folder))
+        trial.places = words.places
+        for part in words.only:
+            print(f"{part}: {PARTS[part].__doc__}", flush=True)
+            PARTS[part](trial)
+    trial.end()
+
+
+if __name__ == "__main__":
+    main()
