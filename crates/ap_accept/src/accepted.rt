@@ -7,7 +7,7 @@ use ticket_times::TicketTerms;
 
 /// What is accepted: who the client is and what its ticket says, and what its authenticator says beside (RFC 4120,
 /// section 5.5.1).
-#[derive(Debug, Drop)]
+#[derive(Drop)]
 pub struct Accepted {
     pub client: Principal,
     /// The ticket's session key.

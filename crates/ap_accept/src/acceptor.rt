@@ -19,7 +19,7 @@ use std::alloc::{AllocError, Global};
 use std::marker::Model;
 
 /// The services of a process: their keys, and what is remembered of each one's clients.
-#[derive(Debug, Drop)]
+#[derive(Drop)]
 pub struct Acceptor {
     state: State,
 }

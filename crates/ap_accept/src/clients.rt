@@ -16,7 +16,7 @@ use std::alloc::{AllocError, Global};
 const HOUR: i64 = 3_600;
 
 /// The clients of a service.
-#[derive(Debug, Drop)]
+#[derive(Drop)]
 pub struct Clients {
     /// The second since 1970 below which an authenticator of a client that has no memory is too old. Whatever was let
     /// go lies below it.

@@ -9,7 +9,7 @@ use std::alloc::Global;
 
 /// The keys of services, the limits, and what is remembered of each service's clients: where nothing is stored for a
 /// service, it is that of the opening.
-#[derive(Debug, Drop)]
+#[derive(Drop)]
 pub struct State {
     pub keytab: Keytab,
     pub limits: Limits,

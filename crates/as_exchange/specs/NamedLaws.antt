@@ -35,7 +35,7 @@ pub record IsNamed (client_row service_row : Option Row) (t : Terms) : Type 0 wh
   pub service_key : key_named service_row (number t.service.key.key.etype)
       (Some (pos t.service.key.version)) ≡ Some t.service.key.key
 
-admitted_terms : (timestamp : Outcome) (o : Option Terms) (times : Option Times) (a : Admission)
+pub admitted_terms : (timestamp : Outcome) (o : Option Terms) (times : Option Times) (a : Admission)
     → admission_of timestamp o times ≡ Some a → o ≡ Some a.terms
 admitted_terms timestamp (Some t) (Some times) a e = ap (λ (o : Option Admission). again o) e
   where
@@ -46,7 +46,7 @@ admitted_terms timestamp (Some t) None a e = absurd cc
 admitted_terms timestamp None times a e = absurd cc
 
 -- what the terms are made of
-found_by : (cname : Name) (client : Row) (reply : Option Key) (service : Option ServiceTerms) (t : Terms)
+pub found_by : (cname : Name) (client : Row) (reply : Option Key) (service : Option ServiceTerms) (t : Terms)
     → terms_by cname client reply service ≡ Some t
     → (cname ≡ t.client_name) × (reply ≡ Some t.reply_key) × ((current client.versions).number ≡ t.reply_version)
     × (service ≡ Some t.service)

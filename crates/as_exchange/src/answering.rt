@@ -1,20 +1,25 @@
-//! From an AS-REQ to its reply, and what becomes of the client's failures.
-ghost use Rattle.std.specs.Prelude.{◌≡◌, ◌⊎◌, length, IfOk};
+//! From an AS-REQ to its reply, what came of it, and what becomes of the client's failures.
+ghost use Rattle.std.specs.Prelude.{◌≡◌, ℕ, List, None, IfOk};
 ghost use Rattle.kdc_replies.specs.ErrorReply.{too_big};
 ghost use Rattle.krb_types.specs.KrbError.{krb_error};
 ghost use Rattle.as_exchange.specs.Answer.{after_timestamp, after_sequel, answer_by, as_answer, as_error, refused};
-ghost use Rattle.as_exchange.specs.Answer.{within_room};
+ghost use Rattle.as_exchange.specs.Answer.{refused_room};
 ghost use Rattle.as_exchange.specs.Answer.{Opens, OpensBy, Spelled, SpelledBy};
 ghost use Rattle.as_exchange.specs.Decision.{IfIssued};
 ghost use Rattle.as_exchange.specs.Known.{IsKnown};
 ghost use Rattle.as_exchange.specs.NamedLaws.{IsNamed};
+ghost use Rattle.as_exchange.specs.Outcome.{as_outcome, outcome_by, OutcomeSpelled, OutcomeSpelledBy};
+ghost use Rattle.as_exchange.specs.declared.decision.Decision.TheVariants.{Issues};
+ghost use Rattle.as_exchange.specs.declared.outcome.AsOutcome.TheVariants.{Refused, TooBig};
 
 use crate::deciding::decision;
 use crate::decision::Decision;
 use crate::errors::as_error;
-use crate::issuing::as_rep;
+use crate::issuing::{as_rep, granted_of};
+use crate::outcome::AsOutcome;
 use crate::refusal::{AsRefusal, Sequel};
 use crate::rules::is_good;
+use crate::terms::Admission;
 use crate::view::AsView;
 use kdc_replies::{Incoming, too_big};
 use krb_fields::Moment;
@@ -23,10 +28,11 @@ use preauth::{Outcome, after_failure, after_success};
 use replay::Failures;
 use std::alloc::{AllocError, Global};
 
-/// The reply to an AS-REQ, and the client's failures afterwards: `None` where they stay as they were.
-#[derive(Debug, Drop)]
+/// The reply to an AS-REQ, what came of it, and the client's failures afterwards: `None` where they stay as they were.
+#[derive(Drop)]
 pub struct AsAnswer {
     pub reply: Vec<u8>,
+    pub outcome: AsOutcome,
     pub failures: Option<Failures>,
 }
 
@@ -41,9 +47,14 @@ pub fn as_answer(
     ensures reply { IfOk result (λ answer. answer.reply.items ≡ (as_answer view.now incoming.now message.now).reply) }
     ensures failures { IfOk result (λ answer.
         answer.failures ≡ (as_answer view.now incoming.now message.now).failures) }
+    // What came of it is what was decided, and whether the reply had room.
+    ensures outcome { IfOk result (λ answer. answer.outcome ≡ as_outcome view.now incoming.now message.now) }
     // The octets spell the message that is due: the error of the rule that refuses, or the ticket's reply.
     ensures spelled { IfOk result (λ answer.
         Spelled view.now incoming.now.at incoming.now.random message.now answer.reply.items) }
+    // They spell what that says.
+    ensures outcome_spelled { IfOk result (λ answer.
+        OutcomeSpelled view.now incoming.now.at incoming.now.random message.now answer.outcome answer.reply.items) }
     // Where they spell an AS-REP, the client's key and the service's find the same inside.
     ensures same { IfOk result (λ answer. Opens view.now incoming.now.at incoming.now.random message.now) }
 {
@@ -66,8 +77,13 @@ fn answer_by(
         answer.reply.items ≡ (answer_by view.now incoming.now body.now decision.now).reply) }
     ensures failures { IfOk result (λ answer.
         answer.failures ≡ (answer_by view.now incoming.now body.now decision.now).failures) }
+    ensures outcome { IfOk result (λ answer.
+        answer.outcome ≡ outcome_by view.now incoming.now body.now decision.now) }
     ensures spelled { IfOk result (λ answer.
         SpelledBy view.now incoming.now.at incoming.now.random body.now decision.now answer.reply.items) }
+    ensures outcome_spelled { IfOk result (λ answer.
+        OutcomeSpelledBy view.now incoming.now.at incoming.now.random body.now answer.outcome decision.now
+        answer.reply.items) }
     ensures same { IfOk result (λ answer.
         OpensBy view.now incoming.now.at incoming.now.random body.now decision.now) }
 {
@@ -75,11 +91,7 @@ fn answer_by(
         Decision::Refuses(refusal, timestamp) => {
             refused(alloc, view, incoming.at, body, *refusal, *timestamp)
         }
-        Decision::Issues(admission) => {
-            let reply = as_rep(alloc, view, incoming, body, admission)?;
-            let failures = after_timestamp(view.failures, admission.timestamp);
-            within_room(alloc, view, incoming, body, reply, failures)
-        }
+        Decision::Issues(admission) => issued(alloc, view, incoming, body, admission),
     }
 }
 
@@ -97,40 +109,75 @@ fn refused(
         answer.reply.items ≡ (refused view.now at body.now refusal timestamp).reply) }
     ensures failures { IfOk result (λ answer.
         answer.failures ≡ (refused view.now at body.now refusal timestamp).failures) }
+    ensures outcome { IfOk result (λ answer. answer.outcome ≡ Refused refusal) }
     ensures spelled { IfOk result (λ answer.
         krb_error.Spells (as_error view.now at body.now refusal) answer.reply.items) }
+    ensures outcome_spelled { (random : List ℕ) (decided : Decision) → IfOk result (λ answer.
+        OutcomeSpelledBy view.now at random body.now answer.outcome decided answer.reply.items) }
 {
     Ok(AsAnswer {
         reply: as_error(alloc, view, at, body, refusal)?,
+        outcome: AsOutcome::Refused(refusal),
         failures: after_sequel(view.failures, at, timestamp, refusal.sequel()),
     })
 }
 
 /// The reply with a ticket, or an error in its place where it is longer than the room.
-fn within_room(
+fn issued(
     alloc: Global,
     view: &AsView<'_>,
     incoming: &Incoming<'_>,
     body: &ReqBodyRef<'_>,
-    reply: Vec<u8>,
-    failures: Option<Failures>,
+    admission: &Admission,
+) -> Result<AsAnswer, AllocError>
+    requires known { IsKnown view.now body.now }
+    requires named { IsNamed view.now.client view.now.service admission.now.terms }
+    ensures reply { IfOk result (λ answer.
+        answer.reply.items ≡ (answer_by view.now incoming.now body.now (Issues admission.now)).reply) }
+    ensures failures { IfOk result (λ answer.
+        answer.failures ≡ (answer_by view.now incoming.now body.now (Issues admission.now)).failures) }
+    ensures outcome { IfOk result (λ answer.
+        answer.outcome ≡ outcome_by view.now incoming.now body.now (Issues admission.now)) }
+    ensures spelled { IfOk result (λ answer.
+        SpelledBy view.now incoming.now.at incoming.now.random body.now (Issues admission.now) answer.reply.items) }
+    ensures outcome_spelled { IfOk result (λ answer.
+        OutcomeSpelledBy view.now incoming.now.at incoming.now.random body.now answer.outcome (Issues admission.now)
+        answer.reply.items) }
+    ensures same { IfOk result (λ answer.
+        OpensBy view.now incoming.now.at incoming.now.random body.now (Issues admission.now)) }
+{
+    let reply = as_rep(alloc, view, incoming, body, admission)?;
+    if reply.len() > incoming.room as usize {
+        return refused_room(alloc, view, incoming.at, body);
+    }
+    Ok(AsAnswer {
+        reply,
+        outcome: AsOutcome::Issued(granted_of(incoming.at, body, admission)),
+        failures: after_timestamp(view.failures, admission.timestamp),
+    })
+}
+
+/// The error in place of a reply that is longer than the room.
+fn refused_room(
+    alloc: Global,
+    view: &AsView<'_>,
+    at: Moment,
+    body: &ReqBodyRef<'_>,
 ) -> Result<AsAnswer, AllocError>
     requires { IsKnown view.now body.now }
-    ensures reply { IfOk result (λ answer.
-        answer.reply.items ≡ (within_room view.now incoming.now body.now reply.items failures).reply) }
-    ensures failures { IfOk result (λ answer.
-        answer.failures ≡ (within_room view.now incoming.now body.now reply.items failures).failures) }
+    ensures reply { IfOk result (λ answer. answer.reply.items ≡ (refused_room view.now at body.now).reply) }
+    ensures failures { IfOk result (λ answer. answer.failures ≡ None) }
+    ensures outcome { IfOk result (λ answer. answer.outcome ≡ TooBig) }
     ensures spelled { IfOk result (λ answer.
-        (answer.reply.items ≡ reply.items)
-        ⊎ krb_error.Spells (too_big view.now.realm incoming.now.at body.now) answer.reply.items) }
+        krb_error.Spells (too_big view.now.realm at body.now) answer.reply.items) }
+    ensures outcome_spelled { (random : List ℕ) (decided : Decision) → IfOk result (λ answer.
+        OutcomeSpelledBy view.now at random body.now answer.outcome decided answer.reply.items) }
 {
-    if reply.len() > incoming.room as usize {
-        return Ok(AsAnswer {
-            reply: too_big(alloc, view.realm, incoming.at, body)?,
-            failures: None,
-        });
-    }
-    Ok(AsAnswer { reply, failures })
+    Ok(AsAnswer {
+        reply: too_big(alloc, view.realm, at, body)?,
+        outcome: AsOutcome::TooBig,
+        failures: None,
+    })
 }
 
 /// The failures after a refusal.

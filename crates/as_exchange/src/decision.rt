@@ -4,7 +4,7 @@ use crate::terms::Admission;
 use preauth::Outcome;
 
 /// What is decided of a request.
-#[derive(Debug, Drop)]
+#[derive(Drop)]
 pub enum Decision {
     /// It is refused; and what became of its timestamp.
     Refuses(AsRefusal, Outcome),

@@ -5,19 +5,22 @@ ghost use Rattle.krb_fields.specs.NameLimits.{IsWithinLimits};
 ghost use Rattle.krb_fields.specs.PaData.{pa_data};
 ghost use Rattle.krb_replies.specs.KdcRep.{kdc_rep};
 ghost use Rattle.kdc_replies.specs.Grant.{IsShort};
+ghost use Rattle.ticket_times.specs.Flags.{as_flags};
 ghost use Rattle.as_exchange.specs.Answer.{OpensFor};
 ghost use Rattle.as_exchange.specs.Issue.{grant_by, reply_key_of, reply_info, as_rep};
 ghost use Rattle.as_exchange.specs.NamedLaws.{IsNamed};
+ghost use Rattle.as_exchange.specs.Outcome.{granted_by};
+ghost use Rattle.as_exchange.specs.Rules.{is_good};
 
 use crate::rules::is_good;
 use crate::terms::{Admission, Terms};
 use crate::view::AsView;
 use enctypes::KeyUsage;
 use kdc_replies::{
-    Grant, Incoming, ReplyInputs, ReplyKey, session_key, ticket_reply, version_number,
+    Grant, Granted, Incoming, ReplyInputs, ReplyKey, session_key, ticket_reply, version_number,
 };
 use krb_elements::{KerberosStringRef, Lent, Seq};
-use krb_fields::PaData;
+use krb_fields::{Flags, Moment, PaData};
 use krb_types::ReqBodyRef;
 use preauth::etype_info2;
 use std::alloc::{AllocError, Global};
@@ -74,27 +77,50 @@ fn grant_of<'g>(
     ensures value { result ≡ grant_by view.now incoming.now.at incoming.now.random body.now admission.now }
     ensures short { IsShort result }
 {
-    let Admission {
-        terms,
-        times,
-        timestamp,
-    } = admission;
-    let flags = as_flags(
-        body,
-        &terms.client_policy,
-        &terms.service.policy,
-        is_good(*timestamp),
-        times,
-    );
+    let Admission { terms, times, .. } = admission;
     Grant {
         realm: KerberosStringRef::new(view.realm),
         client: Lent::new(&terms.client_name),
         service: Lent::new(&terms.service.name),
         session_key: session_key(terms.service.session_type, incoming.random),
-        flags,
+        flags: flags_of(body, admission),
         authtime: incoming.at.time(),
         times: *times,
         authorization_data: None,
+    }
+}
+
+fn flags_of(body: &ReqBodyRef<'_>, admission: &Admission) -> Flags
+    ensures { result
+        ≡ as_flags body.now admission.now.terms.client_policy admission.now.terms.service.policy
+        (is_good admission.now.timestamp) admission.now.times }
+{
+    let Admission {
+        terms,
+        times,
+        timestamp,
+    } = admission;
+    as_flags(
+        body,
+        &terms.client_policy,
+        &terms.service.policy,
+        is_good(*timestamp),
+        times,
+    )
+}
+
+/// What the ticket is issued with, for the account of the request.
+pub fn granted_of(at: Moment, body: &ReqBodyRef<'_>, admission: &Admission) -> Granted
+    ensures { result ≡ granted_by at body.now admission.now }
+{
+    let Admission { terms, times, .. } = admission;
+    Granted {
+        reply_type: terms.reply_key.etype(),
+        ticket_type: terms.service.key.key.etype(),
+        session_type: terms.service.session_type,
+        flags: flags_of(body, admission),
+        authtime: at.time(),
+        times: *times,
     }
 }
 

@@ -7,11 +7,13 @@ mod deciding;
 mod decision;
 mod errors;
 mod issuing;
+mod outcome;
 mod refusal;
 mod rules;
 mod terms;
 mod view;
 
 pub use answering::{AsAnswer, as_answer};
+pub use outcome::AsOutcome;
 pub use refusal::AsRefusal;
 pub use view::AsView;

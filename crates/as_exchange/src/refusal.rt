@@ -28,7 +28,7 @@ pub enum AsRefusal {
 }
 
 /// What goes with a refusal beside its code.
-#[derive(Clone, Copy, Debug, PartialEq, Eq)]
+#[derive(Clone, Copy, PartialEq, Eq)]
 pub enum Sequel {
     Nothing,
     /// A failure of the client is counted.

@@ -14,7 +14,7 @@ use std::alloc::{AllocError, Global};
 use ticket_times::{Times, as_times};
 
 /// A client and a service that have keys of the types asked for.
-#[derive(Debug, Drop)]
+#[derive(Drop)]
 pub struct Terms {
     pub client_name: Name,
     pub client_policy: Policy,
@@ -26,7 +26,7 @@ pub struct Terms {
 }
 
 /// What a ticket is issued by.
-#[derive(Debug, Drop)]
+#[derive(Drop)]
 pub struct Admission {
     pub terms: Terms,
     pub times: Times,

@@ -4,7 +4,7 @@ use replay::Failures;
 use std::marker::Model;
 
 /// What is known of the client and the service that a request names.
-#[derive(Debug, Drop)]
+#[derive(Drop)]
 pub struct AsView<'a> {
     /// The realm's octets, 1 to 255.
     pub realm: &'a [u8],

@@ -17,7 +17,7 @@ use std::alloc::{AllocError, Global};
 pub const MAX_ETYPES: usize = 64;
 
 /// A ticket that a client asks for.
-#[derive(Debug, Drop)]
+#[derive(Drop)]
 pub struct Asked {
     /// Its named bits are those of `krb_fields::KdcOption`.
     pub options: Flags,

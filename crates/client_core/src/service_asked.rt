@@ -3,7 +3,7 @@ use enctypes::Key;
 use krb_fields::Typed;
 
 /// What a client asks of a service, and tells it under the session key.
-#[derive(Debug, Drop)]
+#[derive(Drop)]
 pub struct ServiceAsked {
     /// Whether the service is to answer with an AP-REP.
     pub mutual_required: bool,

@@ -16,7 +16,7 @@ use std::alloc::{AllocError, Global};
 pub const MAX_OCTETS_SENT: usize = 16_777_216;
 
 /// A ticket, and the session key that it holds.
-#[derive(Debug, Drop)]
+#[derive(Drop)]
 pub struct Session {
     pub ticket: Ticket,
     pub key: Key,

@@ -41,7 +41,7 @@ impl fmt::Display for FileFault {
 impl Error for FileFault {}
 
 /// Why a value is not read at the front of octets.
-#[derive(Clone, Copy, Debug, PartialEq, Eq)]
+#[derive(Clone, Copy, PartialEq, Eq)]
 pub enum Cut {
     /// The octets end before the value does.
     End,

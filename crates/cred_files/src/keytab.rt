@@ -54,7 +54,7 @@ enum Part {
 }
 
 /// The keys of services, in the order of their file.
-#[derive(Debug, Drop)]
+#[derive(Drop)]
 pub struct Keytab {
     entries: Vec<KeytabEntry>,
 }

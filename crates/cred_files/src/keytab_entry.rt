@@ -20,7 +20,7 @@ use krb_fields::Name;
 use std::alloc::{AllocError, Global};
 
 /// A key of a principal.
-#[derive(Debug, Drop)]
+#[derive(Drop)]
 pub struct KeytabEntry {
     pub realm: KerberosString,
     pub name: Name,

@@ -16,7 +16,7 @@ use krb_fields::Name;
 use std::alloc::{AllocError, Global};
 
 /// A principal and its realm.
-#[derive(Debug, Drop)]
+#[derive(Drop)]
 pub struct Principal {
     pub realm: KerberosString,
     pub name: Name,

@@ -10,7 +10,7 @@ use std::alloc::{AllocError, Global};
 use std::marker::Model;
 
 /// The octets of one stream that came and were not yet handed out as messages, and the fault that ended it, if any.
-#[derive(Debug, Drop)]
+#[derive(Drop)]
 pub struct Splitter {
     greatest: u32,
     bytes: Vec<u8>,

@@ -10,7 +10,7 @@ use std::alloc::Global;
 use std::test::Fail;
 
 /// How a way ends.
-#[derive(Clone, Copy, Debug, PartialEq, Eq)]
+#[derive(Clone, Copy, PartialEq, Eq)]
 enum End {
     Accepted,
     NoReply,

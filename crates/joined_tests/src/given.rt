@@ -62,7 +62,7 @@ pub fn user(alloc: Global) -> Result<Name, Fail> {
 }
 
 /// Which service a ticket is for.
-#[derive(Clone, Copy, Debug)]
+#[derive(Clone, Copy)]
 pub enum Service {
     /// `krbtgt/A.B`.
     Granter,

@@ -7,7 +7,7 @@ use Rattle.krb_fields.specs.Name.{Components, name_total, same_name}
 use Rattle.replay.specs.declared.keep.Kept.{Kept}
 use Rattle.replay.specs.declared.memory.Memory.{Memory}
 use Rattle.kdc_state.specs.declared.state.State.{State}
-use Rattle.replay.specs.Opening.{opened_memory}
+use Rattle.replay.specs.Tidied.{empty_memory}
 use Rattle.kdc_state.specs.State.{memory_of}
 use Rattle.kdc_core.specs.Answer.{keep}
 
@@ -28,7 +28,7 @@ module _ (state : State) where
 
   pub other_kept : (c : Option Components) (m : Option (Memory Kept)) (n : Components) → c ≢ Some n → memory_of (keep state c m) n ≡ memory_of state n
   other_kept (Some c) (Some m) n h =
-      ap (λ o. unwrap_or o (opened_memory state.opening)) (get-insert name_total state.memories c m n
+      ap (λ o. unwrap_or o (empty_memory state.floor)) (get-insert name_total state.memories c m n
       ∙ ap (λ b. cond b (Some m) (map.get state.memories n)) (not_true _ (λ e. h (ap Some (sym (same_name n c e))))))
   other_kept (Some c) None n h = refl
   other_kept None m n h = refl

@@ -16,8 +16,10 @@ use Rattle.principals.specs.declared.change.Change.{Change as PrincipalChange}
 use Rattle.principals.specs.declared.change.ChangeFault.{ChangeFault}
 use Rattle.replay.specs.declared.keep.Kept.{Kept}
 use Rattle.replay.specs.declared.memory.Memory.{Memory}
-use Rattle.replay.specs.Opening.{opened_memory}
-use Rattle.kdc_state.specs.State.{memory_of, restarted}
+use Rattle.replay.specs.Opening.{opening_floor}
+use Rattle.replay.specs.Tidied.{empty_memory, tidied}
+use Rattle.kdc_state.proofs.Tidied.{memory_tidied}
+use Rattle.kdc_state.specs.State.{memory_of, restarted, tidied_state}
 use Rattle.replay.specs.declared.opening.Opening.TheVariants.{Restart as Restarted}
 use Rattle.kdc_state.specs.declared.state.State.{State}
 use Rattle.kdc_core.proofs.Changes.{other_row, realm_stays, same_refusal, same_row_after}
@@ -26,10 +28,10 @@ use Rattle.kdc_core.specs.AgreementLaws.{names_agree, view_agrees}
 use Rattle.kdc_core.specs.Answer.{answer, answer_to, keep, after_incoming}
 use Rattle.kdc_core.specs.Run.{after_change, after_event, event_reply, replaced, run, unless_faulty}
 use Rattle.kdc_core.specs.Struck.{AgreesFor, IsIsolated, Isolation, Names, NamesWithin, ServicesWithin, is_client, is_left, is_request, is_request_of, replies_to, strike}
-use Rattle.kdc_core.specs.Unaffected.{Unaffected}
+use Rattle.kdc_core.specs.Unaffected.{AreAlike, HasSameRows, IsAlike, Unaffected}
 use Rattle.kdc_core.specs.View.{Agrees, named, view}
 use Rattle.kdc_core.specs.declared.run.Event.{Event}
-use Rattle.kdc_core.specs.declared.run.Event.TheVariants.{Request, Change, Replace, Restart, Reopen}
+use Rattle.kdc_core.specs.declared.run.Event.TheVariants.{Request, Change, Replace, Tidy, Restart, Reopen}
 
 -- ---- names
 
@@ -60,11 +62,11 @@ not_both b t f = cc
 
 memory_kept : (state : State) (c : Components) (m : Option (Memory Kept)) → memory_of (keep state (Some c) m) c ≡ unwrap_or m (memory_of state c)
 memory_kept state c (Some m) =
-    ap (λ o. unwrap_or o (opened_memory state.opening)) (get-insert name_total state.memories c m c ∙ ap (λ b. cond b (Some m) (map.get state.memories c)) (itself c))
+    ap (λ o. unwrap_or o (empty_memory state.floor)) (get-insert name_total state.memories c m c ∙ ap (λ b. cond b (Some m) (map.get state.memories c)) (itself c))
 memory_kept state c None = refl
 
-memory_restarted : (state : State) (at : Moment) (c : Components) → memory_of (restarted state at) c ≡ opened_memory (Restarted at)
-memory_restarted state at c = ap (λ o. unwrap_or o (opened_memory (Restarted at))) (get-empty name_cmp c)
+memory_restarted : (state : State) (at : Moment) (c : Components) → memory_of (restarted state at) c ≡ empty_memory (opening_floor (Restarted at))
+memory_restarted state at c = ap (λ o. unwrap_or o (empty_memory (opening_floor (Restarted at)))) (get-empty name_cmp c)
 
 module _ (c : Components) (S : Names) where
   -- ---- requests
@@ -182,14 +184,15 @@ module _ (c : Components) (S : Names) where
 
   -- ---- replacements
 
-  -- where both have the same realm, the other database takes the place of both or of neither
-  both_replaced : (state other : State) (database : Principals) → AgreesFor c S state other → AgreesFor c S (replaced state database) (replaced other database)
-  both_replaced state other database a =
-      subst (λ realm. AgreesFor c S (replaced state database) (if pointwise nat_eq database.realm realm then record other { database = database } else other)) (sym a.realm)
-      (by_test (pointwise nat_eq database.realm state.database.realm))
+  -- databases with the same rows for c and S take the place of both or of neither
+  both_replaced : (state other : State) (database new : Principals) → HasSameRows c S database new → AgreesFor c S state other → AgreesFor c S (replaced state database) (replaced other new)
+  both_replaced state other database new same a =
+      subst (λ realm. AgreesFor c S (replaced state database) (if pointwise nat_eq new.realm realm then record other { database = new } else other)) (sym a.realm)
+      (subst (λ realm. AgreesFor c S (replaced state database) (if pointwise nat_eq realm state.database.realm then record other { database = new } else other)) (sym same.realm)
+      (by_test (pointwise nat_eq database.realm state.database.realm)))
     where
-      by_test : (b : Bool) → AgreesFor c S (if b then record state { database = database } else state) (if b then record other { database = database } else other)
-      by_test true = record { realm = refl; limits = a.limits; row = refl; memory = a.memory; rows = λ name within. refl }
+      by_test : (b : Bool) → AgreesFor c S (if b then record state { database = database } else state) (if b then record other { database = new } else other)
+      by_test true = record { realm = same.realm; limits = a.limits; row = same.row; memory = a.memory; rows = same.rows }
       by_test false = a
 
   realm_replaced : (state : State) (database : Principals) → (replaced state database).database.realm ≡ state.database.realm
@@ -198,6 +201,17 @@ module _ (c : Components) (S : Names) where
       by_test : (b : Bool) → pointwise nat_eq database.realm state.database.realm ≡ b → (if b then record state { database = database } else state).database.realm ≡ state.database.realm
       by_test true same = same_text database.realm state.database.realm (sym same)
       by_test false other = refl
+
+  -- ---- tidying
+
+  both_tidied : (state other : State) (at : Moment) → AgreesFor c S state other → AgreesFor c S (tidied_state state at) (tidied_state other at)
+  both_tidied state other at a = record {
+    realm = a.realm;
+    limits = a.limits;
+    row = a.row;
+    memory = memory_tidied other at c ∙ ap (λ m. tidied m at.sec) a.memory ∙ sym (memory_tidied state at c);
+    rows = a.rows;
+  }
 
   -- ---- restarts
 
@@ -225,25 +239,37 @@ module _ (c : Components) (S : Names) where
       same_granted _ _ (ap (λ d. d.realm) (database_kept state (named state request).client (answer (view state request) at random room request).kept)) granter
   still_granted state (Change change) within granter = same_granted _ _ (realm_unless state change (refusal state.database change)) granter
   still_granted state (Replace database) within granter = same_granted _ _ (realm_replaced state database) granter
+  still_granted state (Tidy at) within granter = granter
   still_granted state (Restart at) within granter = granter
   still_granted state (Reopen database limits at) within granter = within
 
-  -- an event that is left: both run it, and give the same reply
-  record IsLeft (state other : State) (event : Event) : Type 0 where
-    pub reply : event_reply other event ≡ event_reply state event
-    pub is_own : is_request other event ≡ is_request_of c state event
-    pub agrees : AgreesFor c S (after_event state event) (after_event other event)
+  -- an event that is left: the second state runs it, or one alike, and gives the same reply
+  record IsLeft (state other : State) (event given : Event) : Type 0 where
+    pub reply : event_reply other given ≡ event_reply state event
+    pub is_own : is_request other given ≡ is_request_of c state event
+    pub agrees : AgreesFor c S (after_event state event) (after_event other given)
 
-  event_left : (state other : State) (event : Event) → IsTrue (S (ticket_granter state.database.realm)) → NamesWithin c S state event → AgreesFor c S state other → is_left c S state event ≡ true → IsLeft state other event
-  event_left state other (Request at random room octets) granter within a left =
+  left_itself : (state other : State) (event : Event) (given : Event) → given ≡ event → IsLeft state other event event → IsLeft state other event given
+  left_itself state other event given is at = subst (λ (e : Event). IsLeft state other event e) (sym is) at
+
+  event_left : (state other : State) (event given : Event) → IsTrue (S (ticket_granter state.database.realm)) → NamesWithin c S state event → AgreesFor c S state other → is_left c S state event ≡ true → IsAlike c S event given → IsLeft state other event given
+  event_left state other (Request at random room octets) given granter within a left is =
       let incoming : Incoming = record { at = at; random = random; room = room; octets = octets } in
-      let is = is_named c (named state octets).client left in
-      let agrees = agrees_at state other incoming a granter is (within left) in
-      record { reply = same_reply state other incoming a agrees; is_own = sym left; agrees = own_request state other incoming a is agrees }
-  event_left state other (Change change) granter within a left = record { reply = refl; is_own = refl; agrees = own_change state other change a left }
-  event_left state other (Replace database) granter within a left = record { reply = refl; is_own = refl; agrees = both_replaced state other database a }
-  event_left state other (Restart at) granter within a left = record { reply = refl; is_own = refl; agrees = both_restart state other at a }
-  event_left state other (Reopen database limits at) granter within a left = record { reply = refl; is_own = refl; agrees = record { realm = refl; limits = refl; row = refl; memory = refl; rows = λ name within. refl } }
+      let named_c = is_named c (named state octets).client left in
+      let agrees = agrees_at state other incoming a granter named_c (within left) in
+      left_itself state other (Request at random room octets) given is
+      (record { reply = same_reply state other incoming a agrees; is_own = sym left; agrees = own_request state other incoming a named_c agrees })
+  event_left state other (Change change) given granter within a left is =
+      left_itself state other (Change change) given is (record { reply = refl; is_own = refl; agrees = own_change state other change a left })
+  event_left state other (Replace database) given granter within a left is =
+      subst (λ (e : Event). IsLeft state other (Replace database) e) (sym is.1) (record { reply = refl; is_own = refl; agrees = both_replaced state other database is.0 is.2 a })
+  event_left state other (Tidy at) given granter within a left is =
+      left_itself state other (Tidy at) given is (record { reply = refl; is_own = refl; agrees = both_tidied state other at a })
+  event_left state other (Restart at) given granter within a left is =
+      left_itself state other (Restart at) given is (record { reply = refl; is_own = refl; agrees = both_restart state other at a })
+  event_left state other (Reopen database limits at) given granter within a left is =
+      subst (λ (e : Event). IsLeft state other (Reopen database limits at) e) (sym is.1)
+      (record { reply = refl; is_own = refl; agrees = record { realm = is.2.realm; limits = refl; row = is.2.row; memory = refl; rows = is.2.rows } })
 
   -- an event that is struck out: no request of c, and the first state alone runs it
   event_struck : (state other : State) (event : Event) → AgreesFor c S state other → is_left c S state event ≡ false → (is_request_of c state event ≡ false) × AgreesFor c S (after_event state event) other
@@ -251,49 +277,68 @@ module _ (c : Components) (S : Names) where
       (struck, other_request state other (record { at = at; random = random; room = room; octets = octets }) a struck)
   event_struck state other (Change change) a struck = (refl, other_change state other change a struck)
   event_struck state other (Replace database) a struck = absurd cc
+  event_struck state other (Tidy at) a struck = absurd cc
   event_struck state other (Restart at) a struck = absurd cc
   event_struck state other (Reopen database limits at) a struck = absurd cc
 
   module _ (state other : State) (event : Event) (events : List Event) where
-    with_left : is_left c S state event ≡ true → IsLeft state other event
-        → IsIsolated c S (after_event state event) (after_event other event) events (strike c S (after_event state event) events) → IsIsolated c S state other (event ∷ events) (strike c S state (event ∷ events))
-    with_left left at rest =
-        let later = strike c S (after_event state event) events in
-        subst (λ struck. IsIsolated c S state other (event ∷ events) struck) (ap (λ b. if b then event ∷ later else later) (sym left)) (record {
-          own = λ i. if at.is_own i then at.reply i ∷ rest.own i else rest.own i;
-          left = (λ i. at.reply i ∷ rest.left i)
-              ∙ ap (λ b. if b then event_reply state event ∷ replies_to (is_left c S) (after_event state event) events else replies_to (is_left c S) (after_event state event) events) (sym left);
-          afterwards = rest.afterwards;
-        })
+    with_left : (given : Event) (others : List Event) → is_left c S state event ≡ true → IsLeft state other event given
+        → IsIsolated c S (after_event state event) (after_event other given) events others → IsIsolated c S state other (event ∷ events) (given ∷ others)
+    with_left given others left at rest = record {
+      own = λ i. if at.is_own i then at.reply i ∷ rest.own i else rest.own i;
+      left = (λ i. at.reply i ∷ rest.left i)
+          ∙ ap (λ b. if b then event_reply state event ∷ replies_to (is_left c S) (after_event state event) events else replies_to (is_left c S) (after_event state event) events) (sym left);
+      afterwards = rest.afterwards;
+    }
 
-    with_struck : is_left c S state event ≡ false → is_request_of c state event ≡ false
-        → IsIsolated c S (after_event state event) other events (strike c S (after_event state event) events) → IsIsolated c S state other (event ∷ events) (strike c S state (event ∷ events))
-    with_struck struck not_own rest =
-        let later = strike c S (after_event state event) events in
-        subst (λ l. IsIsolated c S state other (event ∷ events) l) (ap (λ b. if b then event ∷ later else later) (sym struck)) (record {
-          own = rest.own
-              ∙ ap (λ b. if b then event_reply state event ∷ replies_to (is_request_of c) (after_event state event) events else replies_to (is_request_of c) (after_event state event) events) (sym not_own);
-          left = rest.left
-              ∙ ap (λ b. if b then event_reply state event ∷ replies_to (is_left c S) (after_event state event) events else replies_to (is_left c S) (after_event state event) events) (sym struck);
-          afterwards = rest.afterwards;
-        })
+    with_struck : (others : List Event) → is_left c S state event ≡ false → is_request_of c state event ≡ false
+        → IsIsolated c S (after_event state event) other events others → IsIsolated c S state other (event ∷ events) others
+    with_struck others struck not_own rest = record {
+      own = rest.own
+          ∙ ap (λ b. if b then event_reply state event ∷ replies_to (is_request_of c) (after_event state event) events else replies_to (is_request_of c) (after_event state event) events) (sym not_own);
+      left = rest.left
+          ∙ ap (λ b. if b then event_reply state event ∷ replies_to (is_left c S) (after_event state event) events else replies_to (is_left c S) (after_event state event) events) (sym struck);
+      afterwards = rest.afterwards;
+    }
 
-  isolated : (events : List Event) (state other : State) → IsTrue (S (ticket_granter state.database.realm)) → ServicesWithin c S state events → AgreesFor c S state other → IsIsolated c S state other events (strike c S state events)
-  isolated [] state other granter within a = record { own = refl; left = refl; afterwards = a }
-  isolated (event ∷ events) state other granter within a =
-      by_test (λ t agrees. isolated events (after_event state event) t (still_granted state event within.0 granter) within.1 agrees) (is_left c S state event) refl
+  -- the second state runs what is left, or events alike
+  isolated : (events : List Event) (state other : State) (others : List Event) → IsTrue (S (ticket_granter state.database.realm)) → ServicesWithin c S state events → AgreesFor c S state other
+      → AreAlike c S (strike c S state events) others → IsIsolated c S state other events others
+  isolated [] state other [] granter within a alike = record { own = refl; left = refl; afterwards = a }
+  isolated [] state other (given ∷ others) granter within a alike = absurd alike
+  isolated (event ∷ events) state other others granter within a alike =
+      by_test (λ t rest agrees same. isolated events (after_event state event) t rest (still_granted state event within.0 granter) within.1 agrees same) (is_left c S state event) refl others alike
     where
-      by_test : ((t : State) → AgreesFor c S (after_event state event) t → IsIsolated c S (after_event state event) t events (strike c S (after_event state event) events))
-          → (b : Bool) → is_left c S state event ≡ b → IsIsolated c S state other (event ∷ events) (strike c S state (event ∷ events))
-      by_test later true left =
-          let at = event_left state other event granter within.0 a left in
-          with_left state other event events left at (later (after_event other event) at.agrees)
-      by_test later false struck =
+      by_test : ((t : State) (rest : List Event) → AgreesFor c S (after_event state event) t → AreAlike c S (strike c S (after_event state event) events) rest → IsIsolated c S (after_event state event) t events rest)
+          → (b : Bool) → is_left c S state event ≡ b → (others : List Event)
+          → AreAlike c S (if b then event ∷ strike c S (after_event state event) events else strike c S (after_event state event) events) others → IsIsolated c S state other (event ∷ events) others
+      by_test later true left [] alike = absurd alike
+      by_test later true left (given ∷ others) alike =
+          let at = event_left state other event given granter within.0 a left alike.0 in
+          with_left state other event events given others left at (later (after_event other given) others at.agrees alike.1)
+      by_test later false struck others alike =
           let at = event_struck state other event a struck in
-          with_struck state other event events struck at.0 (later other at.1)
+          with_struck state other event events others struck at.0 (later other others at.1 alike)
+
+  -- ---- alike
+
+  same_rows : (database : Principals) → HasSameRows c S database database
+  same_rows database = record { realm = refl; row = refl; rows = λ name within. refl }
+
+  alike_itself : (event : Event) → IsAlike c S event event
+  alike_itself (Request at random room request) = refl
+  alike_itself (Change change) = refl
+  alike_itself (Replace database) = (database, refl, same_rows database)
+  alike_itself (Tidy at) = refl
+  alike_itself (Restart at) = refl
+  alike_itself (Reopen database limits at) = (database, refl, same_rows database)
+
+  alike_all : (events : List Event) → AreAlike c S events events
+  alike_all [] = tt
+  alike_all (event ∷ events) = (alike_itself event, alike_all events)
 
 pub isolation : (state : State) (events : List Event) → Isolation state events
-isolation state events c S other granter within a = isolated c S events state other granter within a
+isolation state events c S other granter within a = isolated c S events state other (strike c S state events) granter within a (alike_all c S (strike c S state events))
 
 -- ---- two runs
 
@@ -312,11 +357,11 @@ module _ (c : Components) (S : Names) where
   }
 
 pub unaffected : Unaffected
-unaffected c S state other events others granter within within_other a same =
-    let here = isolated c S events state other granter within a in
-    let there = isolated c S others other other (subst (λ r. IsTrue (S (ticket_granter r))) (sym a.realm) granter) within_other (agrees_itself c S other) in
+unaffected c S state other events others granter within within_other a alike =
+    let struck = strike c S other others in
+    let here = isolated c S events state other struck granter within a alike in
+    let there = isolated c S others other other struck (subst (λ r. IsTrue (S (ticket_granter r))) (sym a.realm) granter) within_other (agrees_itself c S other) (alike_all c S struck) in
     record {
-      replies = sym there.own ∙ ap (replies_to is_request other) same ∙ here.own;
-      afterwards = both_agree c S (run state events) (run other others) (run other (strike c S state events)) here.afterwards
-          (subst (λ struck. AgreesFor c S (run other others) (run other struck)) same there.afterwards);
+      replies = sym there.own ∙ here.own;
+      afterwards = both_agree c S (run state events) (run other others) (run other struck) here.afterwards there.afterwards;
     }

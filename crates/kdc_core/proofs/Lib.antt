@@ -6,3 +6,4 @@ pub mod Changes
 pub mod Isolation
 pub mod Marking
 pub mod Tickets
+pub mod Unseen

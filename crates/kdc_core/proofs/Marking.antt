@@ -15,7 +15,8 @@ use Rattle.krb_fields.specs.Name.{Components, name_cmp, name_total}
 use Rattle.krb_replies.specs.KdcRep.{KdcRep, kdc_rep}
 use Rattle.krb_types.specs.KrbError.{KrbError, krb_error}
 use Rattle.krb_types.specs.ReqBody.{ReqBody}
-use Rattle.kdc_state.specs.State.{opened_state}
+use Rattle.kdc_state.proofs.Tidied.{memory_tidied}
+use Rattle.kdc_state.specs.State.{memory_of, opened_state}
 use Rattle.kdc_state.specs.declared.state.State.{State}
 use Rattle.principals.specs.Change.{changed, refusal}
 use Rattle.principals.specs.Database.{Principals}
@@ -23,12 +24,12 @@ use Rattle.principals.specs.declared.change.Change.{Change as PrincipalChange}
 use Rattle.principals.specs.declared.change.ChangeFault.{ChangeFault}
 use Rattle.replay.proofs.Stamps.{stamp_exact, stamp_total}
 use Rattle.replay.specs.Memory.{floor_at, remembered}
-use Rattle.replay.specs.Opening.{opened_memory}
+use Rattle.replay.specs.Opening.{opening_floor}
+use Rattle.replay.specs.Tidied.{empty_memory, tidied}
 use Rattle.replay.specs.Stamp.{Stamp, is_from, stamp_cmp}
 use Rattle.replay.specs.declared.failures.Failures.{Failures}
 use Rattle.replay.specs.declared.keep.Kept.{Kept}
 use Rattle.replay.specs.declared.memory.Memory.{Memory}
-use Rattle.replay.specs.declared.opening.Opening.{Opening}
 use Rattle.replay.specs.declared.opening.Opening.TheVariants.{First, Restart as OpenedAgain}
 use Rattle.tgs_exchange.specs.Answer.{TgsAnswer, answer_by, is_ticket, tgs_answer, tgs_error}
 use Rattle.tgs_exchange.specs.Decision.{decision}
@@ -47,7 +48,7 @@ use Rattle.kdc_core.specs.View.{View, as_view, memory_named, named, tgs_view, vi
 use Rattle.kdc_core.specs.declared.contents.Contents.{Contents}
 use Rattle.kdc_core.specs.declared.contents.Contents.TheVariants.{NoRequest, AsReq, RefusedTgsReq, TgsReq}
 use Rattle.kdc_core.specs.declared.run.Event.{Event}
-use Rattle.kdc_core.specs.declared.run.Event.TheVariants.{Request, Change, Replace, Restart, Reopen}
+use Rattle.kdc_core.specs.declared.run.Event.TheVariants.{Request, Change, Replace, Tidy, Restart, Reopen}
 
 -- ---- replies
 
@@ -116,17 +117,26 @@ counted_marked : (m : Memory Kept) (failures : Option Failures) → AreMarked m 
 counted_marked m (Some failures) marked = marked
 counted_marked m None marked = tt
 
-opened_marked : (opening : Opening) → AreMarked (opened_memory opening)
-opened_marked First stamp = subst (λ (o : Option Kept). IfSome o IsMarked) (sym (get-empty stamp_cmp stamp)) tt
-opened_marked (OpenedAgain at) stamp =
-    subst (λ (o : Option Kept). IfSome o IsMarked) (sym (get-empty stamp_cmp stamp)) tt
+tidied_marked : (m : Memory Kept) (now : ℤ) → AreMarked m → AreMarked (tidied m now)
+tidied_marked m now marked s =
+    subst (λ (o : Option Kept). IfSome o IsMarked)
+    (sym (get-retain_keys m.pairs (is_from (floor_at m.floor now)) s
+    (λ x t. ap (is_from (floor_at m.floor now)) (sym (stamp_exact s x t)))))
+    (left (is_from (floor_at m.floor now) s) (map.get m.pairs s) (marked s))
+  where
+    left : (b : Bool) (o : Option Kept) → IfSome o IsMarked → IfSome (cond b o None) IsMarked
+    left true o h = h
+    left false o h = tt
+
+empty_marked : (floor : ℤ) → AreMarked (empty_memory floor)
+empty_marked floor stamp = subst (λ (o : Option Kept). IfSome o IsMarked) (sym (get-empty stamp_cmp stamp)) tt
 
 -- where nothing is stored
-unstored_marked : (opening : Opening) (client : Components)
-    → AreMarked (unwrap_or (map.get (map.empty {R = name_cmp}) client) (opened_memory opening))
-unstored_marked opening client =
-    subst (λ (o : Option (Memory Kept)). AreMarked (unwrap_or o (opened_memory opening)))
-    (sym (get-empty name_cmp client)) (opened_marked opening)
+unstored_marked : (floor : ℤ) (client : Components)
+    → AreMarked (unwrap_or (map.get (map.empty {R = name_cmp}) client) (empty_memory floor))
+unstored_marked floor client =
+    subst (λ (o : Option (Memory Kept)). AreMarked (unwrap_or o (empty_memory floor)))
+    (sym (get-empty name_cmp client)) (empty_marked floor)
 
 -- ---- answers
 
@@ -135,7 +145,7 @@ answer_marked : (v : View) (incoming : Incoming) (held : Contents) → AreMarked
 answer_marked v incoming NoRequest marked = tt
 answer_marked v incoming (AsReq message) marked =
     counted_marked v.memory (as_answer (as_view v) incoming message).failures marked
-answer_marked v incoming (RefusedTgsReq message refusal) marked = tt
+answer_marked v incoming (RefusedTgsReq message rejected) marked = tt
 answer_marked v incoming (TgsReq message p) marked =
     stamped_marked v.memory incoming.at.sec p (tgs_answer (tgs_view v) incoming message.body.value p).kept marked
     (tgs_marked (tgs_view v) incoming message.body.value p)
@@ -145,15 +155,15 @@ answer_marked v incoming (TgsReq message p) marked =
 module _ (state : State) (marked : AllMarked state) where
   named_marked : (o : Option Components) → AreMarked (memory_named state o)
   named_marked (Some name) = marked name
-  named_marked None = opened_marked First
+  named_marked None = empty_marked (opening_floor First)
 
   keep_marked : (o : Option Components) (m : Option (Memory Kept)) → IfSome m AreMarked → AllMarked (keep state o m)
   keep_marked (Some name) (Some m) is client =
-      subst (λ (o : Option (Memory Kept)). AreMarked (unwrap_or o (opened_memory state.opening)))
+      subst (λ (o : Option (Memory Kept)). AreMarked (unwrap_or o (empty_memory state.floor)))
       (sym (get-insert name_total state.memories name m client)) (at (eq_by_cmp name_cmp client name))
     where
       at : (b : Bool)
-          → AreMarked (unwrap_or (cond b (Some m) (map.get state.memories client)) (opened_memory state.opening))
+          → AreMarked (unwrap_or (cond b (Some m) (map.get state.memories client)) (empty_memory state.floor))
       at true = is
       at false = marked client
   keep_marked (Some name) None is client = marked client
@@ -179,8 +189,10 @@ module _ (state : State) (marked : AllMarked state) where
   event_marked (Change change) client = change_marked change (refusal state.database change) client
   event_marked (Replace database) client =
       replaced_marked database (pointwise nat_eq database.realm state.database.realm) client
-  event_marked (Restart at) client = unstored_marked (OpenedAgain at) client
-  event_marked (Reopen database limits at) client = unstored_marked (OpenedAgain at) client
+  event_marked (Tidy at) client =
+      subst AreMarked (sym (memory_tidied state at client)) (tidied_marked (memory_of state client) at.sec (marked client))
+  event_marked (Restart at) client = unstored_marked (opening_floor (OpenedAgain at)) client
+  event_marked (Reopen database limits at) client = unstored_marked (opening_floor (OpenedAgain at)) client
 
 run_marked : (state : State) (events : List Event) → AllMarked state → AllMarked (run state events)
 run_marked state [] marked = marked
@@ -188,4 +200,4 @@ run_marked state (event ∷ events) marked = run_marked (after_event state event
 
 pub keeps_marked : KeepsMarked
 keeps_marked database limits opening events =
-    run_marked (opened_state database limits opening) events (unstored_marked opening)
+    run_marked (opened_state database limits opening) events (unstored_marked (opening_floor opening))

@@ -29,18 +29,18 @@ length_replies state [] = refl
 length_replies state (e ∷ es) = ap suc (length_replies (after_event state e) es)
 
 -- the first n events got these replies, and led to this state
-pub record AreDone (start : State) (events : List Event) (n : ℕ) (told : List (Option (List ℕ))) (now : State) : Type 0 where
-  pub replies_are : told ≡ replies start (take n events)
+pub record AreDone (start : State) (events : List Event) (n : ℕ) (given : List (Option (List ℕ))) (now : State) : Type 0 where
+  pub replies_are : given ≡ replies start (take n events)
   pub state_is : now ≡ run start (take n events)
 
-module _ {start : State} {events : List Event} {n : ℕ} {told : List (Option (List ℕ))} {now : State} (so_far : AreDone start events n told now) where
-  pub one_more : (event : Event) → n < length events → event ≡ slice_index_or events n event → {next_told : List (Option (List ℕ))} {next : State}
-      → next_told ≡ told ++ event_reply now event ∷ [] → next ≡ after_event now event → AreDone start events (n + 1) next_told next
-  one_more event lt is told_is next_is =
+module _ {start : State} {events : List Event} {n : ℕ} {given : List (Option (List ℕ))} {now : State} (so_far : AreDone start events n given now) where
+  pub one_more : (event : Event) → n < length events → event ≡ slice_index_or events n event → {next_given : List (Option (List ℕ))} {next : State}
+      → next_given ≡ given ++ event_reply now event ∷ [] → next ≡ after_event now event → AreDone start events (n + 1) next_given next
+  one_more event lt is granted_is next_is =
       let further : take (n + 1) events ≡ take n events ++ event ∷ [] =
       (let e : n + 1 ≡ suc n = omega arith in ap (λ k. take k events) e) ∙ take-suc events n event lt ∙ ap (λ y. take n events ++ y ∷ []) (sym is) in
       record {
-        replies_are = told_is ∙ (λ i. so_far.replies_are i ++ event_reply (so_far.state_is i) event ∷ []) ∙ sym (replies_on start (take n events) event) ∙ ap (replies start) (sym further);
+        replies_are = granted_is ∙ (λ i. so_far.replies_are i ++ event_reply (so_far.state_is i) event ∷ []) ∙ sym (replies_on start (take n events) event) ∙ ap (replies start) (sym further);
         state_is = next_is ∙ ap (λ s. after_event s event) so_far.state_is ∙ sym (run_on start (take n events) event) ∙ ap (run start) (sym further);
       }
 

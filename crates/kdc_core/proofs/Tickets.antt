@@ -16,7 +16,7 @@ use Rattle.krb_types.specs.KrbError.{KrbError, krb_error}
 use Rattle.krb_types.specs.ReqBody.{ReqBody}
 use Rattle.replay.proofs.Runs.{GivesOf, one_for_each}
 use Rattle.replay.specs.Machine.{IsGiven, Keeps, next_if}
-use Rattle.replay.specs.Run.{MemoryEvent, Checked, Counted, Restarted, after_verdict, collected, with_any, RestartsFrom as MemoryFrom, RestartsFollow as MemoryFollow}
+use Rattle.replay.specs.Run.{MemoryEvent, Checked, Counted, Restarted, Tidied, after_verdict, collected, with_any, RestartsFrom as MemoryFrom, RestartsFollow as MemoryFollow}
 use Rattle.replay.specs.Stamp.{Stamp}
 use Rattle.replay.specs.declared.failures.Failures.{Failures}
 use Rattle.replay.specs.declared.keep.Bears.TheVariants.{Ticket}
@@ -32,7 +32,9 @@ use Rattle.tgs_exchange.specs.declared.decision.Decision.{Decision}
 use Rattle.tgs_exchange.specs.declared.decision.Decision.TheVariants.{Refuses, Remembers, Repeats, Issues}
 use Rattle.tgs_opening.specs.declared.presented.Presented.{Presented}
 use Rattle.tgs_opening.specs.declared.refusal.TgsRefusal.TheVariants.{Repeated}
-use Rattle.replay.specs.Opening.{opened_memory}
+use Rattle.replay.specs.Opening.{opening_floor}
+use Rattle.replay.specs.Tidied.{empty_memory}
+use Rattle.kdc_state.proofs.Tidied.{memory_tidied}
 use Rattle.kdc_state.specs.State.{memory_of}
 use Rattle.replay.specs.declared.opening.Opening.TheVariants.{Restart as OpenedAgain}
 use Rattle.kdc_state.specs.declared.state.State.{State}
@@ -42,7 +44,7 @@ use Rattle.principals.specs.declared.change.Change.{Change as PrincipalChange}
 use Rattle.principals.specs.declared.change.ChangeFault.{ChangeFault}
 use Rattle.kdc_core.specs.Answer.{answer_of, counted, keep, after_incoming, stamped}
 use Rattle.kdc_core.specs.Contents.{contents, names_answered, presented_in}
-use Rattle.kdc_core.specs.ContentsLaws.{Tells, nothing_kept, tells}
+use Rattle.kdc_core.specs.ContentsLaws.{AreNamesOf, are_names_of, nothing_kept}
 use Rattle.kdc_core.specs.Request.{request_of}
 use Rattle.kdc_core.specs.Run.{after_event, unless_faulty}
 use Rattle.kdc_core.specs.Struck.{is_client}
@@ -52,7 +54,7 @@ use Rattle.kdc_core.specs.View.{Named, View, as_view, components_of, memory_name
 use Rattle.kdc_core.specs.declared.contents.Contents.{Contents}
 use Rattle.kdc_core.specs.declared.contents.Contents.TheVariants.{NoRequest, AsReq, RefusedTgsReq, TgsReq}
 use Rattle.kdc_core.specs.declared.run.Event.{Event}
-use Rattle.kdc_core.specs.declared.run.Event.TheVariants.{Request, Change, Replace, Restart, Reopen}
+use Rattle.kdc_core.specs.declared.run.Event.TheVariants.{Request, Change, Replace, Tidy, Restart, Reopen}
 
 -- ---- what a memory gives: the reply that is made, or the one that was kept
 
@@ -175,10 +177,10 @@ module _ (v : TgsView) (incoming : Incoming) (body : ReqBody) (p : Presented) wh
 -- ---- what events do to a client's memory
 
 -- the memory that is kept for a name
-memory_kept : (state : State) (c name : Components) (m : Option (Memory Kept)) → memory_of (keep state (Some name) m) c ≡ cond (eq_by_cmp name_cmp c name) (unwrap_or m (memory_of state name)) (memory_of state c)
-memory_kept state c name (Some m) = ap (λ o. unwrap_or o (opened_memory state.opening)) (get-insert name_total state.memories name m c) ∙ inside (eq_by_cmp name_cmp c name)
+pub memory_kept : (state : State) (c name : Components) (m : Option (Memory Kept)) → memory_of (keep state (Some name) m) c ≡ cond (eq_by_cmp name_cmp c name) (unwrap_or m (memory_of state name)) (memory_of state c)
+memory_kept state c name (Some m) = ap (λ o. unwrap_or o (empty_memory state.floor)) (get-insert name_total state.memories name m c) ∙ inside (eq_by_cmp name_cmp c name)
   where
-    inside : (b : Bool) → unwrap_or (cond b (Some m) (map.get state.memories c)) (opened_memory state.opening) ≡ cond b m (memory_of state c)
+    inside : (b : Bool) → unwrap_or (cond b (Some m) (map.get state.memories c)) (empty_memory state.floor) ≡ cond b m (memory_of state c)
     inside true = refl
     inside false = refl
 memory_kept state c name None = by_test (eq_by_cmp name_cmp c name) refl
@@ -199,7 +201,7 @@ module _ (c : Components) where
   abbrev happens_of : View → Incoming → Contents → Option (MemoryEvent Kept)
   happens_of v incoming NoRequest = None
   happens_of v incoming (AsReq message) = happens_as (components_of message.body.value.cname) (as_answer (as_view v) incoming message).failures
-  happens_of v incoming (RefusedTgsReq message refusal) = None
+  happens_of v incoming (RefusedTgsReq message rejected) = None
   happens_of v incoming (TgsReq message p) = for_name p.ticket.cname.components (happens_now (tgs_view v) incoming message.body.value p)
 
   abbrev happens_request : State → Incoming → Option (MemoryEvent Kept)
@@ -209,6 +211,7 @@ module _ (c : Components) where
   happens state (Request at random room octets) = happens_request state (record { at = at; random = random; room = room; octets = octets })
   happens state (Change change) = None
   happens state (Replace database) = None
+  happens state (Tidy at) = Some (Tidied at.sec)
   happens state (Restart at) = Some (Restarted at.sec)
   happens state (Reopen database limits at) = Some (Restarted at.sec)
 
@@ -246,22 +249,22 @@ module _ (c : Components) where
       memory_of (keep state names.client (answer_of (view_of state names) incoming held).kept) c
       ≡ next_if state.limits.remembered (memory_of state c) (happens_of (view_of state names) incoming held)
 
-  moves_of : (state : State) (incoming : Incoming) (names : Named) (held : Contents) → Tells names held → Moves state incoming names held
-  moves_of state incoming names NoRequest told = ap (λ s. memory_of s c) (nothing_kept state names.client)
-  moves_of state incoming names (AsReq message) told =
-      subst (λ (n : Named). Moves state incoming n (AsReq message)) (sym told)
+  moves_of : (state : State) (incoming : Incoming) (names : Named) (held : Contents) → AreNamesOf names held → Moves state incoming names held
+  moves_of state incoming names NoRequest names_are = ap (λ s. memory_of s c) (nothing_kept state names.client)
+  moves_of state incoming names (AsReq message) names_are =
+      subst (λ (n : Named). Moves state incoming n (AsReq message)) (sym names_are)
       (as_moves state (components_of message.body.value.cname) (view_of state (names_answered (AsReq message))).memory (named_memory state (names_answered (AsReq message)))
       (as_answer (as_view (view_of state (names_answered (AsReq message)))) incoming message).failures)
-  moves_of state incoming names (RefusedTgsReq message refusal) told = ap (λ s. memory_of s c) (nothing_kept state names.client)
-  moves_of state incoming names (TgsReq message p) told =
+  moves_of state incoming names (RefusedTgsReq message rejected) names_are = ap (λ s. memory_of s c) (nothing_kept state names.client)
+  moves_of state incoming names (TgsReq message p) names_are =
       let v = tgs_view (presented_view state message p) in
-      subst (λ (n : Named). Moves state incoming n (TgsReq message p)) (sym told)
+      subst (λ (n : Named). Moves state incoming n (TgsReq message p)) (sym names_are)
       (moved_for state.limits.remembered state p.ticket.cname.components (answer_of (presented_view state message p) incoming (TgsReq message p)).kept _
       (memory_moves v incoming message.body.value p))
 
   moves_request : (state : State) (incoming : Incoming) → memory_of (after_incoming state incoming) c ≡ next_if state.limits.remembered (memory_of state c) (happens_request state incoming)
   moves_request state incoming =
-      moves_of state incoming (named state incoming.octets) (contents (view state incoming.octets) (request_of incoming.octets)) (tells state (request_of incoming.octets))
+      moves_of state incoming (named state incoming.octets) (contents (view state incoming.octets) (request_of incoming.octets)) (are_names_of state (request_of incoming.octets))
 
   unless_memory : (state : State) (change : PrincipalChange) (fault : Option ChangeFault) → memory_of (unless_faulty fault state (record state { database = changed state.database change })) c ≡ memory_of state c
   unless_memory state change (Some fault) = refl
@@ -271,13 +274,14 @@ module _ (c : Components) where
   replaced_memory state database true = refl
   replaced_memory state database false = refl
 
-  opened_again : (at : Moment) → unwrap_or (map.get (map.empty {R = name_cmp}) c) (opened_memory {T = Kept} (OpenedAgain at)) ≡ opened_memory (OpenedAgain at)
-  opened_again at = ap (λ o. unwrap_or o (opened_memory (OpenedAgain at))) (get-empty name_cmp c)
+  opened_again : (at : Moment) → unwrap_or (map.get (map.empty {R = name_cmp}) c) (empty_memory {T = Kept} (opening_floor (OpenedAgain at))) ≡ empty_memory (opening_floor (OpenedAgain at))
+  opened_again at = ap (λ o. unwrap_or o (empty_memory (opening_floor (OpenedAgain at)))) (get-empty name_cmp c)
 
   moves : (state : State) (event : Event) → memory_of (after_event state event) c ≡ next_if state.limits.remembered (memory_of state c) (happens state event)
   moves state (Request at random room octets) = moves_request state (record { at = at; random = random; room = room; octets = octets })
   moves state (Change change) = unless_memory state change (refusal state.database change)
   moves state (Replace database) = replaced_memory state database (pointwise nat_eq database.realm state.database.realm)
+  moves state (Tidy at) = memory_tidied state at c
   moves state (Restart at) = opened_again at
   moves state (Reopen database limits at) = opened_again at
 
@@ -300,25 +304,26 @@ module _ (c : Components) where
       IfSome (if is_client c names.client then ticket_by (presented_in held) (answer_of (view_of state names) incoming held).reply else None)
       (IsGiven give state.limits.remembered (memory_of state c) (happens_of (view_of state names) incoming held))
 
-  gives_of : (state : State) (incoming : Incoming) (names : Named) (held : Contents) → Tells names held → HandsOut state incoming names held
-  gives_of state incoming names NoRequest told = nothing_given (is_client c names.client) _
-  gives_of state incoming names (AsReq message) told = nothing_given (is_client c names.client) _
-  gives_of state incoming names (RefusedTgsReq message refusal) told = nothing_given (is_client c names.client) _
-  gives_of state incoming names (TgsReq message p) told =
+  gives_of : (state : State) (incoming : Incoming) (names : Named) (held : Contents) → AreNamesOf names held → HandsOut state incoming names held
+  gives_of state incoming names NoRequest names_are = nothing_given (is_client c names.client) _
+  gives_of state incoming names (AsReq message) names_are = nothing_given (is_client c names.client) _
+  gives_of state incoming names (RefusedTgsReq message rejected) names_are = nothing_given (is_client c names.client) _
+  gives_of state incoming names (TgsReq message p) names_are =
       let v = tgs_view (presented_view state message p) in
       let answered : TgsAnswer = tgs_answer v incoming message.body.value p in
-      subst (λ (n : Named). HandsOut state incoming n (TgsReq message p)) (sym told)
+      subst (λ (n : Named). HandsOut state incoming n (TgsReq message p)) (sym names_are)
       (given_for state.limits.remembered state p.ticket.cname.components (handed (stamp_of p) answered.reply) _ (memory_gives v incoming message.body.value p))
 
   gives_request : (state : State) (incoming : Incoming)
       → HandsOut state incoming (named state incoming.octets) (contents (view state incoming.octets) (request_of incoming.octets))
   gives_request state incoming =
-      gives_of state incoming (named state incoming.octets) (contents (view state incoming.octets) (request_of incoming.octets)) (tells state (request_of incoming.octets))
+      gives_of state incoming (named state incoming.octets) (contents (view state incoming.octets) (request_of incoming.octets)) (are_names_of state (request_of incoming.octets))
 
   gives : (state : State) (event : Event) → IfSome (ticket_to c state event) (IsGiven give state.limits.remembered (memory_of state c) (happens state event))
   gives state (Request at random room octets) = gives_request state (record { at = at; random = random; room = room; octets = octets })
   gives state (Change change) = tt
   gives state (Replace database) = tt
+  gives state (Tidy at) = tt
   gives state (Restart at) = tt
   gives state (Reopen database limits at) = tt
 
@@ -330,6 +335,7 @@ module _ (c : Components) where
   IsAt now (Some (Checked second stamp made)) = second ≡ now
   IsAt now (Some (Counted failures)) = ⊤
   IsAt now (Some (Restarted at)) = ⊥
+  IsAt now (Some (Tidied at)) = ⊥
 
   for_name_at : (now : ℤ) (b : Bool) (o : Option (MemoryEvent Kept)) → IsAt now o → IsAt now (if b then o else None)
   for_name_at now true o at = at
@@ -357,7 +363,7 @@ module _ (c : Components) where
   at_of : (v : View) (incoming : Incoming) (held : Contents) → IsAt incoming.at.sec (happens_of v incoming held)
   at_of v incoming NoRequest = tt
   at_of v incoming (AsReq message) = as_at incoming.at.sec (components_of message.body.value.cname) (as_answer (as_view v) incoming message).failures
-  at_of v incoming (RefusedTgsReq message refusal) = tt
+  at_of v incoming (RefusedTgsReq message rejected) = tt
   at_of v incoming (TgsReq message p) =
       for_name_at incoming.at.sec (eq_by_cmp name_cmp c p.ticket.cname.components) _
       (decision_at (tgs_view v) incoming message.body.value p (decision (tgs_view v) incoming.at.sec message.body.value p))
@@ -370,12 +376,14 @@ module _ (c : Components) where
   from_any now second (Some (Checked time stamp made)) rest at from = from
   from_any now second (Some (Counted failures)) rest at from = from
   from_any now second (Some (Restarted time)) rest at from = absurd at
+  from_any now second (Some (Tidied time)) rest at from = absurd at
 
   follow_any : (second : ℤ) (o : Option (MemoryEvent Kept)) (rest : List (MemoryEvent Kept)) → IsAt second o → MemoryFrom second rest → MemoryFollow rest → MemoryFollow (with_any o rest)
   follow_any second None rest at from follow = follow
   follow_any second (Some (Checked time stamp made)) rest at from follow = (subst (λ now. MemoryFrom now rest) (sym at) from, follow)
   follow_any second (Some (Counted failures)) rest at from follow = follow
   follow_any second (Some (Restarted time)) rest at from follow = absurd at
+  follow_any second (Some (Tidied time)) rest at from follow = absurd at
 
   restarts_from : (now : ℤ) (state : State) (events : List Event) → RestartsFrom now events → MemoryFrom now (collected after_event happens state events)
   restarts_from now state [] from = tt
@@ -384,6 +392,7 @@ module _ (c : Components) where
       (restarts_from now (after_event state (Request at random room request)) events from)
   restarts_from now state (Change change ∷ events) from = restarts_from now (after_event state (Change change)) events from
   restarts_from now state (Replace database ∷ events) from = restarts_from now (after_event state (Replace database)) events from
+  restarts_from now state (Tidy at ∷ events) from = restarts_from now (after_event state (Tidy at)) events from
   restarts_from now state (Restart at ∷ events) from = (from.0, restarts_from now (after_event state (Restart at)) events from.1)
   restarts_from now state (Reopen database limits at ∷ events) from = (from.0, restarts_from now (after_event state (Reopen database limits at)) events from.1)
 
@@ -395,6 +404,7 @@ module _ (c : Components) where
       (restarts_follow (after_event state (Request at random room request)) events follow.1)
   restarts_follow state (Change change ∷ events) follow = restarts_follow (after_event state (Change change)) events follow
   restarts_follow state (Replace database ∷ events) follow = restarts_follow (after_event state (Replace database)) events follow
+  restarts_follow state (Tidy at ∷ events) follow = restarts_follow (after_event state (Tidy at)) events follow
   restarts_follow state (Restart at ∷ events) follow = restarts_follow (after_event state (Restart at)) events follow
   restarts_follow state (Reopen database limits at ∷ events) follow = restarts_follow (after_event state (Reopen database limits at)) events follow
 

@@ -13,7 +13,7 @@ use Rattle.krb_types.specs.KdcReq.{Received}
 use Rattle.principals.specs.Database.{ticket_granter}
 use Rattle.replay.specs.declared.keep.Kept.{Kept}
 use Rattle.replay.specs.declared.memory.Memory.{Memory}
-use Rattle.replay.specs.Opening.{opened_memory}
+use Rattle.replay.specs.Tidied.{empty_memory}
 use Rattle.kdc_state.specs.declared.state.State.{State}
 use Rattle.kdc_state.specs.State.{memory_of}
 use Rattle.tgs_opening.specs.Opening.{opened_ticket}
@@ -90,12 +90,12 @@ view_agrees state other bytes a =
 kept_alike : (state other : State) (c n : Components) (m : Memory Kept) → memory_of other n ≡ memory_of state n
     → memory_of (keep other (Some c) (Some m)) n ≡ memory_of (keep state (Some c) (Some m)) n
 kept_alike state other c n m h =
-    ap (λ o. unwrap_or o (opened_memory other.opening)) (get-insert name_total other.memories c m n)
+    ap (λ o. unwrap_or o (empty_memory other.floor)) (get-insert name_total other.memories c m n)
     ∙ at (eq_by_cmp name_cmp n c)
-    ∙ sym (ap (λ o. unwrap_or o (opened_memory state.opening)) (get-insert name_total state.memories c m n))
+    ∙ sym (ap (λ o. unwrap_or o (empty_memory state.floor)) (get-insert name_total state.memories c m n))
   where
-    at : (b : Bool) → unwrap_or (cond b (Some m) (map.get other.memories n)) (opened_memory other.opening) ≡ unwrap_or
-        (cond b (Some m) (map.get state.memories n)) (opened_memory state.opening)
+    at : (b : Bool) → unwrap_or (cond b (Some m) (map.get other.memories n)) (empty_memory other.floor) ≡ unwrap_or
+        (cond b (Some m) (map.get state.memories n)) (empty_memory state.floor)
     at true = refl
     at false = h
 

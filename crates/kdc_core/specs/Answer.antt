@@ -60,7 +60,7 @@ refused v at message refusal = record {
 abbrev pub answer_of : View → Incoming → Contents → Answer
 answer_of v incoming NoRequest = record { reply = None; kept = None }
 answer_of v incoming (AsReq message) = of_as v (as_answer (as_view v) incoming message)
-answer_of v incoming (RefusedTgsReq message refusal) = refused v incoming.at message refusal
+answer_of v incoming (RefusedTgsReq message rejected) = refused v incoming.at message rejected.rule
 answer_of v incoming (TgsReq message p) =
     of_tgs v incoming.at.sec p (tgs_answer (tgs_view v) incoming message.body.value p)
 
@@ -68,8 +68,8 @@ answer_of v incoming (TgsReq message p) =
 abbrev pub SpelledOf : View → Moment → List ℕ → Contents → List ℕ → Type 0
 SpelledOf v at random NoRequest octets = ⊥
 SpelledOf v at random (AsReq message) octets = AsSpelled (as_view v) at random message octets
-SpelledOf v at random (RefusedTgsReq message refusal) octets =
-    krb_error.Spells (tgs_error v.realm at message.body.value refusal) octets
+SpelledOf v at random (RefusedTgsReq message rejected) octets =
+    krb_error.Spells (tgs_error v.realm at message.body.value rejected.rule) octets
 SpelledOf v at random (TgsReq message p) octets = TgsSpelled (tgs_view v) at random message.body.value p octets
 
 -- where a ticket is issued, the reply key opens the reply to the session key, flags and times that the service's key
@@ -77,14 +77,14 @@ SpelledOf v at random (TgsReq message p) octets = TgsSpelled (tgs_view v) at ran
 abbrev pub OpensOf : View → Moment → List ℕ → Contents → Type 0
 OpensOf v at random NoRequest = ⊤
 OpensOf v at random (AsReq message) = AsOpens (as_view v) at random message
-OpensOf v at random (RefusedTgsReq message refusal) = ⊤
+OpensOf v at random (RefusedTgsReq message rejected) = ⊤
 OpensOf v at random (TgsReq message p) = TgsOpens (tgs_view v) at random message.body.value p
 
 -- where a ticket is issued, these octets spell its reply, which is opened so, or an error in its place
 abbrev pub SentOf : View → Moment → List ℕ → Contents → List ℕ → Type 0
 SentOf v at random NoRequest octets = ⊤
 SentOf v at random (AsReq message) octets = AsSent (as_view v) at random message octets
-SentOf v at random (RefusedTgsReq message refusal) octets = ⊤
+SentOf v at random (RefusedTgsReq message rejected) octets = ⊤
 SentOf v at random (TgsReq message p) octets = TgsSent (tgs_view v) at random message.body.value p octets
 
 -- there is no reply where there is no request, and only there

@@ -9,15 +9,15 @@ use Rattle.krb_types.specs.declared.kdc_req.Exchange.{Exchange}
 use Rattle.krb_types.specs.declared.kdc_req.Exchange.TheVariants.{As, Tgs}
 use Rattle.tgs_opening.specs.Opening.{presented}
 use Rattle.tgs_opening.specs.declared.presented.Presented.{Presented}
-use Rattle.tgs_opening.specs.declared.refusal.TgsRefusal.{TgsRefusal}
+use Rattle.tgs_opening.specs.declared.rejection.Rejection.{Rejection}
 use Rattle.kdc_core.specs.Request.{Request}
 use Rattle.kdc_core.specs.View.{Named, View, components_of, names_presented, opening_view}
 use Rattle.kdc_core.specs.declared.contents.Contents.{Contents}
 use Rattle.kdc_core.specs.declared.contents.Contents.TheVariants.{NoRequest, AsReq, RefusedTgsReq, TgsReq}
 
-abbrev pub tgs_contents : Received → Result Presented TgsRefusal → Contents
+abbrev pub tgs_contents : Received → Result Presented Rejection → Contents
 tgs_contents message (Ok p) = TgsReq message p
-tgs_contents message (Err refusal) = RefusedTgsReq message refusal
+tgs_contents message (Err rejected) = RefusedTgsReq message rejected
 
 abbrev pub contents_in : View → Exchange → Received → Contents
 contents_in v As message = AsReq message
@@ -31,7 +31,7 @@ contents v None = NoRequest
 abbrev pub presented_in : Contents → Option Presented
 presented_in NoRequest = None
 presented_in (AsReq message) = None
-presented_in (RefusedTgsReq message refusal) = None
+presented_in (RefusedTgsReq message rejected) = None
 presented_in (TgsReq message p) = Some p
 
 -- The names by which it is answered. A TGS-REQ that is refused may name a client and a service (`named` says whom), but
@@ -42,7 +42,7 @@ names_answered (AsReq message) = record {
   client = components_of message.body.value.cname;
   service = components_of message.body.value.sname;
 }
-names_answered (RefusedTgsReq message refusal) = record { client = None; service = None }
+names_answered (RefusedTgsReq message rejected) = record { client = None; service = None }
 names_answered (TgsReq message p) = names_presented message p
 
 -- ---- the texts in them are short, as those of a request are
@@ -56,5 +56,5 @@ IsShortData p = IfSome p.ticket.authorization_data (λ list. length ((list_of ty
 abbrev pub AreShort : Contents → Type 0
 AreShort NoRequest = ⊤
 AreShort (AsReq message) = IsShortName message
-AreShort (RefusedTgsReq message refusal) = IsShortName message
+AreShort (RefusedTgsReq message rejected) = IsShortName message
 AreShort (TgsReq message p) = IsShortName message × IsShortData p

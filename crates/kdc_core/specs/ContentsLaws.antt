@@ -13,7 +13,7 @@ use Rattle.tgs_opening.specs.Opening.{opened_ticket, presented}
 use Rattle.tgs_opening.specs.OpeningLaws.{ticket_opened}
 use Rattle.tgs_opening.specs.View.{TicketView}
 use Rattle.tgs_opening.specs.declared.presented.Presented.{Presented}
-use Rattle.tgs_opening.specs.declared.refusal.TgsRefusal.{TgsRefusal}
+use Rattle.tgs_opening.specs.declared.rejection.Rejection.{Rejection}
 use Rattle.kdc_state.specs.State.{memory_of}
 use Rattle.kdc_state.specs.declared.state.State.{State}
 use Rattle.kdc_core.specs.After.{after, after_reply, stamped_of}
@@ -36,36 +36,36 @@ presented_client v message p e =
     let (o, opens, same) = ticket_opened v message p e in
     ap client_of opens ∙ ap (λ (part : EncTicketPart). Some part.cname.components) same
 
--- ---- so what the octets hold tells what the request names
+-- ---- so what the octets hold gives the names of the request
 
-abbrev pub Tells : Named → Contents → Type 0
-Tells names NoRequest = ⊤
-Tells names (AsReq message) = names ≡ names_answered (AsReq message)
-Tells names (RefusedTgsReq message refusal) = ⊤
-Tells names (TgsReq message p) = names ≡ names_answered (TgsReq message p)
+abbrev pub AreNamesOf : Named → Contents → Type 0
+AreNamesOf names NoRequest = ⊤
+AreNamesOf names (AsReq message) = names ≡ names_answered (AsReq message)
+AreNamesOf names (RefusedTgsReq message rejected) = ⊤
+AreNamesOf names (TgsReq message p) = names ≡ names_answered (TgsReq message p)
 
 module _ (state : State) where
-  tgs_tells : (message : Received) (r : Result Presented TgsRefusal) → presented (ticket_view state message) message ≡ r
-      → Tells (named_in state (record { exchange = Tgs; message = message })) (tgs_contents message r)
-  tgs_tells message (Ok p) is = λ i. record {
+  tgs_names : (message : Received) (r : Result Presented Rejection) → presented (ticket_view state message) message ≡ r
+      → AreNamesOf (named_in state (record { exchange = Tgs; message = message })) (tgs_contents message r)
+  tgs_names message (Ok p) is = λ i. record {
     client = presented_client (ticket_view state message) message p is i;
     service = components_of message.body.value.sname;
   }
-  tgs_tells message (Err refusal) is = tt
+  tgs_names message (Err rejected) is = tt
 
-  tells_in : (exchange : Exchange) (message : Received)
-      → Tells (named_in state (record { exchange = exchange; message = message }))
+  names_in : (exchange : Exchange) (message : Received)
+      → AreNamesOf (named_in state (record { exchange = exchange; message = message }))
       (contents_in (view_of state (named_in state (record { exchange = exchange; message = message })))
       exchange message)
-  tells_in As message = refl
-  tells_in Tgs message = tgs_tells message (presented (ticket_view state message) message) refl
+  names_in As message = refl
+  names_in Tgs message = tgs_names message (presented (ticket_view state message) message) refl
 
-  pub tells : (request : Option Request)
-      → Tells (named_by state request) (contents (view_of state (named_by state request)) request)
-  tells (Some request) = tells_in request.exchange request.message
-  tells None = tt
+  pub are_names_of : (request : Option Request)
+      → AreNamesOf (named_by state request) (contents (view_of state (named_by state request)) request)
+  are_names_of (Some request) = names_in request.exchange request.message
+  are_names_of None = tt
 
--- ---- so the answer by the names that it tells is the answer
+-- ---- so the answer by these names is the answer
 
 pub nothing_kept : (state : State) (c : Option Components) → keep state c None ≡ state
 nothing_kept state (Some c) = refl
@@ -75,13 +75,13 @@ module _ {A E : Type 0} (state : State) (incoming : Incoming) (r : Result A E) w
   abbrev Answers : (A → Option (List ℕ)) → Named → Contents → Type 0
   Answers octets names held = IfOk r (λ a. octets a ≡ (answer_of (view_of state names) incoming held).reply)
 
-  pub reply_so : (octets : A → Option (List ℕ)) (names : Named) (held : Contents) → Tells names held
+  pub reply_so : (octets : A → Option (List ℕ)) (names : Named) (held : Contents) → AreNamesOf names held
       → Answers octets (names_answered held) held → Answers octets names held
-  reply_so octets names NoRequest told h = h
-  reply_so octets names (AsReq message) told h = subst (λ (n : Named). Answers octets n (AsReq message)) (sym told) h
-  reply_so octets names (RefusedTgsReq message refusal) told h = h
-  reply_so octets names (TgsReq message p) told h =
-      subst (λ (n : Named). Answers octets n (TgsReq message p)) (sym told) h
+  reply_so octets names NoRequest names_are h = h
+  reply_so octets names (AsReq message) names_are h = subst (λ (n : Named). Answers octets n (AsReq message)) (sym names_are) h
+  reply_so octets names (RefusedTgsReq message rejected) names_are h = h
+  reply_so octets names (TgsReq message p) names_are h =
+      subst (λ (n : Named). Answers octets n (TgsReq message p)) (sym names_are) h
 
   abbrev Leaves : (A → Option (Option Mark)) → Named → Contents → Type 0
   Leaves mark names held =
@@ -93,22 +93,22 @@ module _ {A E : Type 0} (state : State) (incoming : Incoming) (r : Result A E) w
   nothing_left mark names h =
       subst (λ (s : State). IfOk r (λ a. after_reply state (mark a) ≡ s)) (sym (nothing_kept state names.client)) h
 
-  pub after_so : (mark : A → Option (Option Mark)) (names : Named) (held : Contents) → Tells names held
+  pub after_so : (mark : A → Option (Option Mark)) (names : Named) (held : Contents) → AreNamesOf names held
       → Leaves mark (names_answered held) held → Leaves mark names held
-  after_so mark names NoRequest told h = nothing_left mark names h
-  after_so mark names (AsReq message) told h = subst (λ (n : Named). Leaves mark n (AsReq message)) (sym told) h
-  after_so mark names (RefusedTgsReq message refusal) told h = nothing_left mark names h
-  after_so mark names (TgsReq message p) told h = subst (λ (n : Named). Leaves mark n (TgsReq message p)) (sym told) h
+  after_so mark names NoRequest names_are h = nothing_left mark names h
+  after_so mark names (AsReq message) names_are h = subst (λ (n : Named). Leaves mark n (AsReq message)) (sym names_are) h
+  after_so mark names (RefusedTgsReq message rejected) names_are h = nothing_left mark names h
+  after_so mark names (TgsReq message p) names_are h = subst (λ (n : Named). Leaves mark n (TgsReq message p)) (sym names_are) h
 
   abbrev Spells : (A → Option (List ℕ)) → Named → Contents → Type 0
   Spells octets names held = IfOk r (λ a. IsReplyTo (view_of state names) incoming.at incoming.random (octets a) held)
 
   -- the octets of the answer to a TGS-REQ that is refused depend on the realm alone
-  refused_so : (o : Option (List ℕ)) (names other : Named) (message : Received) (refusal : TgsRefusal)
-      → IsReplyTo (view_of state names) incoming.at incoming.random o (RefusedTgsReq message refusal)
-      → IsReplyTo (view_of state other) incoming.at incoming.random o (RefusedTgsReq message refusal)
-  refused_so (Some octets) names other message refusal h = h
-  refused_so None names other message refusal h = h
+  refused_so : (o : Option (List ℕ)) (names other : Named) (message : Received) (rejected : Rejection)
+      → IsReplyTo (view_of state names) incoming.at incoming.random o (RefusedTgsReq message rejected)
+      → IsReplyTo (view_of state other) incoming.at incoming.random o (RefusedTgsReq message rejected)
+  refused_so (Some octets) names other message rejected h = h
+  refused_so None names other message rejected h = h
 
   unnamed_so : (o : Option (List ℕ)) (names other : Named)
       → IsReplyTo (view_of state names) incoming.at incoming.random o NoRequest
@@ -121,26 +121,26 @@ if_ok (Ok a) P Q f h = f a h
 if_ok (Err e) P Q f h = tt
 
 module _ {A E : Type 0} (state : State) (incoming : Incoming) (r : Result A E) where
-  pub spelled_so : (octets : A → Option (List ℕ)) (names : Named) (held : Contents) → Tells names held
+  pub spelled_so : (octets : A → Option (List ℕ)) (names : Named) (held : Contents) → AreNamesOf names held
       → Spells state incoming r octets (names_answered held) held → Spells state incoming r octets names held
-  spelled_so octets names NoRequest told h =
+  spelled_so octets names NoRequest names_are h =
       if_ok r _ _ (λ a. unnamed_so state incoming r (octets a) (names_answered NoRequest) names) h
-  spelled_so octets names (AsReq message) told h =
-      subst (λ (n : Named). Spells state incoming r octets n (AsReq message)) (sym told) h
-  spelled_so octets names (RefusedTgsReq message refusal) told h =
+  spelled_so octets names (AsReq message) names_are h =
+      subst (λ (n : Named). Spells state incoming r octets n (AsReq message)) (sym names_are) h
+  spelled_so octets names (RefusedTgsReq message rejected) names_are h =
       if_ok r _ _ (λ a. refused_so state incoming r (octets a)
-      (names_answered (RefusedTgsReq message refusal)) names message refusal) h
-  spelled_so octets names (TgsReq message p) told h =
-      subst (λ (n : Named). Spells state incoming r octets n (TgsReq message p)) (sym told) h
+      (names_answered (RefusedTgsReq message rejected)) names message rejected) h
+  spelled_so octets names (TgsReq message p) names_are h =
+      subst (λ (n : Named). Spells state incoming r octets n (TgsReq message p)) (sym names_are) h
 
   abbrev Opens : Named → Contents → Type 0
   Opens names held = IfOk r (λ a. OpensOf (view_of state names) incoming.at incoming.random held)
 
-  pub opens_so : (names : Named) (held : Contents) → Tells names held → Opens (names_answered held) held → Opens names held
-  opens_so names NoRequest told h = h
-  opens_so names (AsReq message) told h = subst (λ (n : Named). Opens n (AsReq message)) (sym told) h
-  opens_so names (RefusedTgsReq message refusal) told h = h
-  opens_so names (TgsReq message p) told h = subst (λ (n : Named). Opens n (TgsReq message p)) (sym told) h
+  pub opens_so : (names : Named) (held : Contents) → AreNamesOf names held → Opens (names_answered held) held → Opens names held
+  opens_so names NoRequest names_are h = h
+  opens_so names (AsReq message) names_are h = subst (λ (n : Named). Opens n (AsReq message)) (sym names_are) h
+  opens_so names (RefusedTgsReq message rejected) names_are h = h
+  opens_so names (TgsReq message p) names_are h = subst (λ (n : Named). Opens n (TgsReq message p)) (sym names_are) h
 
 -- ---- of what was read from the octets
 
@@ -149,32 +149,32 @@ module _ {A E : Type 0} (state : State) (incoming : Incoming) (r : Result A E) (
   abbrev names : Named
   names = named state incoming.octets
 
-  told : Tells names held
-  told = subst (λ (h : Contents). Tells names h) (sym is) (tells state (request_of incoming.octets))
+  names_are : AreNamesOf names held
+  names_are = subst (λ (h : Contents). AreNamesOf names h) (sym is) (are_names_of state (request_of incoming.octets))
 
   pub replies_so : (octets : A → Option (List ℕ)) → Answers state incoming r octets (names_answered held) held
       → IfOk r (λ a. octets a ≡ (answer_to (view state incoming.octets) incoming).reply)
   replies_so octets h =
       subst (λ (h : Contents). Answers state incoming r octets names h) is
-      (reply_so state incoming r octets names held told h)
+      (reply_so state incoming r octets names held names_are h)
 
   pub leaves_so : (mark : A → Option (Option Mark)) → Leaves state incoming r mark (names_answered held) held
       → IfOk r (λ a. after_reply state (mark a) ≡ after_incoming state incoming)
   leaves_so mark h =
       subst (λ (h : Contents). Leaves state incoming r mark names h) is
-      (after_so state incoming r mark names held told h)
+      (after_so state incoming r mark names held names_are h)
 
   pub spells_so : (octets : A → Option (List ℕ)) → Spells state incoming r octets (names_answered held) held
       → IfOk r (λ a. IsReply (view state incoming.octets) incoming.at incoming.random (request_of incoming.octets)
       (octets a))
   spells_so octets h =
       subst (λ (h : Contents). Spells state incoming r octets names h) is
-      (spelled_so state incoming r octets names held told h)
+      (spelled_so state incoming r octets names held names_are h)
 
   pub opens_held : Opens state incoming r (names_answered held) held
       → IfOk r (λ a. ReplyOpens (view state incoming.octets) incoming.at incoming.random
       (request_of incoming.octets))
-  opens_held h = subst (λ (h : Contents). Opens state incoming r names h) is (opens_so state incoming r names held told h)
+  opens_held h = subst (λ (h : Contents). Opens state incoming r names h) is (opens_so state incoming r names held names_are h)
 
 -- ---- what is kept of an authenticator
 

@@ -13,7 +13,7 @@ use Rattle.kdc_core.specs.declared.contents.Contents.TheVariants.{NoRequest, AsR
 abbrev pub issued_of : View → Moment → List ℕ → Contents → Option Issue
 issued_of v at random NoRequest = None
 issued_of v at random (AsReq message) = as_exchange.issued (as_view v) at random message
-issued_of v at random (RefusedTgsReq message refusal) = None
+issued_of v at random (RefusedTgsReq message rejected) = None
 issued_of v at random (TgsReq message p) = tgs_exchange.issued (tgs_view v) at random message.body.value p
 
 -- what a request is issued at this moment, with these random octets; a reply that was kept is issued once

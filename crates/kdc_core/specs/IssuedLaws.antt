@@ -19,7 +19,7 @@ module _ (v : View) (at : Moment) (random octets : List ℕ) where
   sent_so NoRequest spelled opens = tt
   sent_so (AsReq message) spelled opens =
       as_exchange.reply_is_sent (as_view v) at random octets message spelled opens
-  sent_so (RefusedTgsReq message refusal) spelled opens = tt
+  sent_so (RefusedTgsReq message rejected) spelled opens = tt
   sent_so (TgsReq message p) spelled opens =
       tgs_exchange.reply_is_sent (tgs_view v) at random octets message.body.value p spelled opens
 
@@ -29,7 +29,7 @@ module _ (v : View) (at : Moment) (random octets : List ℕ) where
     issued_so NoRequest sent e = absurd cc
     issued_so (AsReq message) sent e =
         as_exchange.reply_is_issued (as_view v) at random octets long issue message sent e
-    issued_so (RefusedTgsReq message refusal) sent e = absurd cc
+    issued_so (RefusedTgsReq message rejected) sent e = absurd cc
     issued_so (TgsReq message p) sent e =
         tgs_exchange.reply_is_issued (tgs_view v) at random octets message.body.value p long issue sent e
 

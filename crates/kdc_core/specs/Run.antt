@@ -9,18 +9,19 @@ use Rattle.principals.specs.Database.{Principals}
 use Rattle.principals.specs.declared.change.Change.{Change as PrincipalChange}
 use Rattle.principals.specs.declared.change.ChangeFault.{ChangeFault}
 use Rattle.replay.specs.declared.opening.Opening.TheVariants.{Restart as OpenedAgain}
-use Rattle.kdc_state.specs.State.{opened_state, restarted}
+use Rattle.kdc_state.specs.State.{opened_state, restarted, tidied_state}
 use Rattle.kdc_state.specs.declared.state.State.{State}
 use Rattle.kdc_core.specs.Answer.{answer, after_request}
 use Rattle.kdc_core.specs.View.{view}
 use Rattle.kdc_core.specs.declared.run.Event.{Event}
-use Rattle.kdc_core.specs.declared.run.Event.TheVariants.{Request, Change, Replace, Restart, Reopen}
+use Rattle.kdc_core.specs.declared.run.Event.TheVariants.{Request, Change, Replace, Tidy, Restart, Reopen}
 
 -- a request alone gets a reply
 abbrev pub event_reply : State → Event → Option (List ℕ)
 event_reply state (Request at random room request) = (answer (view state request) at random room request).reply
 event_reply state (Change change) = None
 event_reply state (Replace database) = None
+event_reply state (Tidy at) = None
 event_reply state (Restart at) = None
 event_reply state (Reopen database limits at) = None
 
@@ -42,6 +43,7 @@ abbrev pub after_event : State → Event → State
 after_event state (Request at random room request) = after_request state at random room request
 after_event state (Change change) = after_change state change
 after_event state (Replace database) = replaced state database
+after_event state (Tidy at) = tidied_state state at
 after_event state (Restart at) = restarted state at
 after_event state (Reopen database limits at) = opened_state database limits (OpenedAgain at)
 
@@ -65,6 +67,9 @@ pub change_alone : (state : State) (change : PrincipalChange) → refusal state.
     → run state (Change change ∷ []) ≡ record state { database = changed state.database change }
 change_alone state change fits =
     ap (λ o. unless_faulty o state (record state { database = changed state.database change })) fits
+
+pub tidy_alone : (state : State) (at : Moment) → run state (Tidy at ∷ []) ≡ tidied_state state at
+tidy_alone state at = refl
 
 pub restart_alone : (state : State) (at : Moment) → run state (Restart at ∷ []) ≡ restarted state at
 restart_alone state at = refl

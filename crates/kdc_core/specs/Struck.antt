@@ -11,7 +11,7 @@ use Rattle.kdc_state.specs.declared.state.State.{State}
 use Rattle.kdc_core.specs.Run.{after_event, event_reply, replies, run}
 use Rattle.kdc_core.specs.View.{named}
 use Rattle.kdc_core.specs.declared.run.Event.{Event}
-use Rattle.kdc_core.specs.declared.run.Event.TheVariants.{Request, Change, Replace, Restart, Reopen}
+use Rattle.kdc_core.specs.declared.run.Event.TheVariants.{Request, Change, Replace, Tidy, Restart, Reopen}
 
 -- a set of names, as a test
 abbrev pub Names : Type 0
@@ -26,6 +26,7 @@ abbrev pub is_request : State → Event → Bool
 is_request state (Request at random room request) = true
 is_request state (Change change) = false
 is_request state (Replace database) = false
+is_request state (Tidy at) = false
 is_request state (Restart at) = false
 is_request state (Reopen database limits at) = false
 
@@ -34,15 +35,17 @@ abbrev pub is_request_of : Components → State → Event → Bool
 is_request_of c state (Request at random room request) = is_client c (named state request).client
 is_request_of c state (Change change) = false
 is_request_of c state (Replace database) = false
+is_request_of c state (Tidy at) = false
 is_request_of c state (Restart at) = false
 is_request_of c state (Reopen database limits at) = false
 
 -- whether an event is left for the client c, where the rows of S count: a request of c, a change of c's row or of one
--- of S, and each replacement and restart
+-- of S, and each replacement, tidying and restart
 abbrev pub is_left : Components → Names → State → Event → Bool
 is_left c S state (Request at random room request) = is_client c (named state request).client
 is_left c S state (Change change) = eq_by_cmp name_cmp c change.name.components || S change.name.components
 is_left c S state (Replace database) = true
+is_left c S state (Tidy at) = true
 is_left c S state (Restart at) = true
 is_left c S state (Reopen database limits at) = true
 
@@ -68,6 +71,7 @@ NamesWithin c S state (Request at random room request) =
     → IfSome (named state request).service (λ service. IsTrue (S service))
 NamesWithin c S state (Change change) = ⊤
 NamesWithin c S state (Replace database) = ⊤
+NamesWithin c S state (Tidy at) = ⊤
 NamesWithin c S state (Restart at) = ⊤
 NamesWithin c S state (Reopen database limits at) = IsTrue (S (ticket_granter database.realm))
 

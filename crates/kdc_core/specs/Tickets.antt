@@ -13,7 +13,7 @@ use Rattle.kdc_core.specs.Struck.{is_client}
 use Rattle.kdc_core.specs.Contents.{contents, presented_in}
 use Rattle.kdc_core.specs.View.{named, named_by, view_of}
 use Rattle.kdc_core.specs.declared.run.Event.{Event}
-use Rattle.kdc_core.specs.declared.run.Event.TheVariants.{Request, Change, Replace, Restart, Reopen}
+use Rattle.kdc_core.specs.declared.run.Event.TheVariants.{Request, Change, Replace, Tidy, Restart, Reopen}
 
 -- no restart is before this second
 abbrev pub RestartsFrom : ℤ → List Event → Type 0
@@ -21,17 +21,19 @@ RestartsFrom now [] = ⊤
 RestartsFrom now (Request at random room request ∷ events) = RestartsFrom now events
 RestartsFrom now (Change change ∷ events) = RestartsFrom now events
 RestartsFrom now (Replace database ∷ events) = RestartsFrom now events
+RestartsFrom now (Tidy at ∷ events) = RestartsFrom now events
 RestartsFrom now (Restart at ∷ events) = (now ≤ℤ at.sec) × RestartsFrom now events
 RestartsFrom now (Reopen database limits at ∷ events) = (now ≤ℤ at.sec) × RestartsFrom now events
 
 -- No restart is before the second of a request that came earlier. This is all that is asked, and less than that moments
--- rise: those of requests may go back while the KDC runs, and those of restarts among themselves, so the law is
--- stronger than one of runs whose moments rise.
+-- rise: those of requests may go back while the KDC runs, those of restarts among themselves, and tidying may be of any
+-- moment, so the law is stronger than one of runs whose moments rise.
 abbrev pub RestartsFollow : List Event → Type 0
 RestartsFollow [] = ⊤
 RestartsFollow (Request at random room request ∷ events) = RestartsFrom at.sec events × RestartsFollow events
 RestartsFollow (Change change ∷ events) = RestartsFollow events
 RestartsFollow (Replace database ∷ events) = RestartsFollow events
+RestartsFollow (Tidy at ∷ events) = RestartsFollow events
 RestartsFollow (Restart at ∷ events) = RestartsFollow events
 RestartsFollow (Reopen database limits at ∷ events) = RestartsFollow events
 
@@ -55,6 +57,7 @@ ticket_for c state (Request at random room request) reply =
     if is_client c (named state request).client then ticket_by (presented_by state (request_of request)) reply else None
 ticket_for c state (Change change) reply = None
 ticket_for c state (Replace database) reply = None
+ticket_for c state (Tidy at) reply = None
 ticket_for c state (Restart at) reply = None
 ticket_for c state (Reopen database limits at) reply = None
 

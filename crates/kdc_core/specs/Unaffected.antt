@@ -1,22 +1,48 @@
--- Runs in which a client asks the same, whatever others ask in either.
-use Rattle.std.specs.Prelude.{◌≡◌, IsTrue, List}
+-- Runs in which a client asks the same, whatever others ask in either, and whatever rows others have.
+use Rattle.std.specs.Prelude.{◌≡◌, ⊤, IsTrue, List, [], ◌∷◌}
+use Rattle.std.specs.FinMap as map
 use Rattle.krb_fields.specs.Name.{Components}
-use Rattle.principals.specs.Database.{ticket_granter}
+use Rattle.principals.specs.Database.{Principals, ticket_granter}
 use Rattle.kdc_state.specs.declared.state.State.{State}
 use Rattle.kdc_core.specs.Run.{run}
 use Rattle.kdc_core.specs.Struck.{AgreesFor, Names, ServicesWithin, is_request_of, replies_to, strike}
 use Rattle.kdc_core.specs.declared.run.Event.{Event}
+use Rattle.kdc_core.specs.declared.run.Event.TheVariants.{Request, Change, Replace, Tidy, Restart, Reopen}
+
+-- a second database of the same realm has the same row for c and the same rows for S
+pub record HasSameRows (c : Components) (S : Names) (database other : Principals) : Type 0 where
+  pub realm : other.realm ≡ database.realm
+  pub row : map.get other.rows c ≡ map.get database.rows c
+  pub rows : (name : Components) → IsTrue (S name) → map.get other.rows name ≡ map.get database.rows name
+
+-- the same event; a database that takes a place may have other rows for others
+abbrev pub IsAlike : Components → Names → Event → Event → Type 0
+IsAlike c S (Request at random room request) other = other ≡ Request at random room request
+IsAlike c S (Change change) other = other ≡ Change change
+IsAlike c S (Replace database) other = (new : Principals) × (other ≡ Replace new) × HasSameRows c S database new
+IsAlike c S (Tidy at) other = other ≡ Tidy at
+IsAlike c S (Restart at) other = other ≡ Restart at
+IsAlike c S (Reopen database limits at) other =
+    (new : Principals) × (other ≡ Reopen new limits at) × HasSameRows c S database new
+
+-- one by one
+abbrev pub AreAlike : Components → Names → List Event → List Event → Type 0
+AreAlike c S [] [] = ⊤
+AreAlike c S [] (other ∷ others) = ⊥
+AreAlike c S (event ∷ events) [] = ⊥
+AreAlike c S (event ∷ events) (other ∷ others) = IsAlike c S event other × AreAlike c S events others
 
 -- c's requests get the same replies, in order, and the two agree for c in the end
 pub record GetsTheSame (c : Components) (S : Names) (state other : State) (events others : List Event) : Type 0 where
   pub replies : replies_to (is_request_of c) other others ≡ replies_to (is_request_of c) state events
   pub afterwards : AgreesFor c S (run state events) (run other others)
 
--- Two runs of which the same is left for c, from states that agree for it: for every set S of names that holds the
--- ticket-granting service and each service that c's requests name in either.
+-- Two runs of which the same is left for c but for the rows of others in the databases that take a place, from states
+-- that agree for it: for every set S of names that holds the ticket-granting service and each service that c's requests
+-- name in either.
 abbrev pub Unaffected : Type 0
 Unaffected = (c : Components) (S : Names) (state other : State) (events others : List Event)
     → IsTrue (S (ticket_granter state.database.realm)) → ServicesWithin c S state events
     → ServicesWithin c S other others → AgreesFor c S state other
-    → strike c S other others ≡ strike c S state events
+    → AreAlike c S (strike c S state events) (strike c S other others)
     → GetsTheSame c S state other events others

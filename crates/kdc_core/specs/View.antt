@@ -18,7 +18,8 @@ use Rattle.kdc_state.specs.State.{memory_of}
 use Rattle.as_exchange.specs.View as as_exchange
 use Rattle.tgs_exchange.specs.View as tgs_exchange
 use Rattle.tgs_opening.specs.View as tgs_opening
-use Rattle.tgs_opening.specs.Opening.{OpenedTicket, opened_ticket}
+use Rattle.tgs_opening.specs.Opening.{opened_ticket}
+use Rattle.tgs_opening.specs.declared.opened.OpenedTicket.{OpenedTicket}
 use Rattle.tgs_opening.specs.declared.presented.Presented.{Presented}
 use Rattle.tgs_opening.specs.declared.refusal.TgsRefusal.{TgsRefusal}
 use Rattle.kdc_core.specs.Request.{Request, request_of}

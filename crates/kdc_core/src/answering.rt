@@ -1,136 +1,186 @@
-//! From a request's octets to a reply's, and to what is kept of the client: what they hold is read first, and decides.
+//! From a request's octets to the reply, the account of the request, and what is kept of the client. What the octets
+//! hold is read first, and decides.
 ghost use Rattle.std.specs.Prelude.{◌≡◌, None, IfOk, IfSome, OnOk, OnErr, option_map};
+ghost use Rattle.std.specs.Option.{unwrap_or};
 ghost use Rattle.krb_types.specs.KrbError.{krb_error};
 ghost use Rattle.tgs_exchange.specs.Answer.{tgs_error};
 ghost use Rattle.krb_elements.specs.Codec.{written};
+ghost use Rattle.kdc_core.specs.Account.{account_of, account_to, AccountSpelled};
 ghost use Rattle.kdc_core.specs.After.{after_reply, MayStay};
 ghost use Rattle.kdc_core.specs.Answer.{answer_of, answer_to, keep, after_incoming};
 ghost use Rattle.kdc_core.specs.Answer.{IsReply, IsReplyTo, OpensOf, ReplyOpens};
-ghost use Rattle.kdc_core.specs.Contents.{AreShort, IsShortName, names_answered};
+ghost use Rattle.kdc_core.specs.Contents.{AreShort, IsShortName, contents, names_answered};
 ghost use Rattle.kdc_core.specs.Request.{request_of};
 ghost use Rattle.kdc_core.specs.View.{view, view_of};
+ghost use Rattle.kdc_core.specs.declared.account.Account.TheVariants.{NoRequest, Tgs};
+ghost use Rattle.tgs_exchange.specs.declared.outcome.TgsOutcome.TheVariants.{Refused};
 
+use crate::account::{Account, Answer, lent_name};
 use crate::as_replies::as_reply;
 use crate::contents::{Contents, contents_of};
 use crate::mark::{Mark, keep_mark};
 use crate::tgs_replies::tgs_reply;
 use kdc_replies::Incoming;
 use kdc_state::State;
+use krb_fields::NameRef;
 use krb_types::KdcReqRef;
 use std::alloc::{AllocError, Global};
-use tgs_exchange::tgs_error;
-use tgs_opening::TgsRefusal;
+use tgs_exchange::{TgsOutcome, tgs_error};
+use tgs_opening::Rejection;
 
-/// A reply, and what is to be kept of the client, if anything is.
+/// A reply, the account of its request, and what is to be kept of the client, if anything is.
 #[derive(Drop)]
-pub struct Answered {
+pub struct Answered<'q> {
     pub octets: Vec<u8>,
     pub mark: Option<Mark>,
+    pub account: Account<NameRef<'q>>,
 }
 
-/// Answers a request, and keeps what has to be remembered of its client.
-pub fn handle(
+/// Answers a request, whose octets are `request`, and keeps what has to be remembered of its client.
+pub fn handle<'q>(
     state: &mut State,
     alloc: Global,
     incoming: &Incoming<'_>,
-) -> Result<Option<Vec<u8>>, AllocError>
-    ensures reply { IfOk result (λ reply.
-        option_map (λ octets. octets.items) reply
+    request: &'q [u8],
+) -> Result<Answer<'q>, AllocError>
+    requires { request.now ≡ incoming.now.octets }
+    ensures reply { IfOk result (λ answer.
+        option_map (λ octets. octets.items) answer.reply
         ≡ (answer_to (view state.old incoming.now.octets) incoming.now).reply) }
-    ensures spelled { IfOk result (λ reply.
+    ensures account { IfOk result (λ answer.
+        answer.account ≡ account_to (view state.old incoming.now.octets) incoming.now) }
+    ensures spelled { IfOk result (λ answer.
         IsReply (view state.old incoming.now.octets) incoming.now.at incoming.now.random
-        (request_of incoming.now.octets) (option_map (λ octets. octets.items) reply)) }
-    ensures same { IfOk result (λ reply.
+        (request_of incoming.now.octets) (option_map (λ octets. octets.items) answer.reply)) }
+    ensures outcome_spelled { IfOk result (λ answer.
+        AccountSpelled (view state.old incoming.now.octets) incoming.now
+        (option_map (λ octets. octets.items) answer.reply)
+        (contents (view state.old incoming.now.octets) (request_of incoming.now.octets))) }
+    ensures same { IfOk result (λ answer.
         ReplyOpens (view state.old incoming.now.octets) incoming.now.at incoming.now.random
         (request_of incoming.now.octets)) }
     ensures state { OnOk result (state.new ≡ after_incoming state.old incoming.now) }
     ensures err { OnErr result (state.new ≡ state.old) }
 {
-    let Some(Answered { octets, mark }) = reply(state, alloc, incoming)? else {
-        return Ok(None);
+    let Some(answered) = reply(state, alloc, incoming, request)? else {
+        return Ok(Answer {
+            reply: None,
+            account: Account::NoRequest,
+        });
     };
+    let Answered {
+        octets,
+        mark,
+        account,
+    } = answered;
     if let Some(mark) = mark {
         keep_mark(state, alloc, mark)?;
     }
-    Ok(Some(octets))
+    Ok(Answer {
+        reply: Some(octets),
+        account,
+    })
 }
 
 /// The reply to a request, if its octets spell one.
-fn reply(
+fn reply<'q>(
     state: &State,
     alloc: Global,
     incoming: &Incoming<'_>,
-) -> Result<Option<Answered>, AllocError>
+    request: &'q [u8],
+) -> Result<Option<Answered<'q>>, AllocError>
+    requires { request.now ≡ incoming.now.octets }
     ensures reply { IfOk result (λ reply.
         option_map (λ r. r.octets.items) reply ≡ (answer_to (view state.now incoming.now.octets) incoming.now).reply) }
     ensures after { IfOk result (λ reply.
         after_reply state.now (option_map (λ r. r.mark) reply) ≡ after_incoming state.now incoming.now) }
+    ensures account { IfOk result (λ reply.
+        unwrap_or (option_map (λ r. r.account) reply) NoRequest
+        ≡ account_to (view state.now incoming.now.octets) incoming.now) }
     ensures spelled { IfOk result (λ reply.
         IsReply (view state.now incoming.now.octets) incoming.now.at incoming.now.random
         (request_of incoming.now.octets) (option_map (λ r. r.octets.items) reply)) }
+    ensures outcome_spelled { IfOk result (λ reply.
+        AccountSpelled (view state.now incoming.now.octets) incoming.now (option_map (λ r. r.octets.items) reply)
+        (contents (view state.now incoming.now.octets) (request_of incoming.now.octets))) }
     ensures same { IfOk result (λ reply.
         ReplyOpens (view state.now incoming.now.octets) incoming.now.at incoming.now.random
         (request_of incoming.now.octets)) }
     ensures stays { IfOk result (λ reply. IfSome reply (λ r. IfSome r.mark (MayStay state.now))) }
 {
-    let held = contents_of(state, alloc, incoming.ready, incoming.octets)?;
-    reply_to(state, alloc, incoming, &held)
+    let held = contents_of(state, alloc, incoming.ready, request)?;
+    reply_to(state, alloc, incoming, held)
 }
 
 /// The reply to what the octets of a request hold.
-fn reply_to(
+fn reply_to<'q>(
     state: &State,
     alloc: Global,
     incoming: &Incoming<'_>,
-    held: &Contents<'_>,
-) -> Result<Option<Answered>, AllocError>
-    requires { AreShort held.now }
+    held: Contents<'q>,
+) -> Result<Option<Answered<'q>>, AllocError>
+    requires { AreShort held }
     ensures reply { IfOk result (λ reply.
         option_map (λ r. r.octets.items) reply
-        ≡ (answer_of (view_of state.now (names_answered held.now)) incoming.now held.now).reply) }
+        ≡ (answer_of (view_of state.now (names_answered held.entry)) incoming.now held.entry).reply) }
     ensures after { IfOk result (λ reply.
         after_reply state.now (option_map (λ r. r.mark) reply)
-        ≡ keep state.now (names_answered held.now).client
-        (answer_of (view_of state.now (names_answered held.now)) incoming.now held.now).kept) }
+        ≡ keep state.now (names_answered held.entry).client
+        (answer_of (view_of state.now (names_answered held.entry)) incoming.now held.entry).kept) }
+    ensures account { IfOk result (λ reply.
+        unwrap_or (option_map (λ r. r.account) reply) NoRequest
+        ≡ account_of (view_of state.now (names_answered held.entry)) incoming.now held.entry) }
     ensures spelled { IfOk result (λ reply.
-        IsReplyTo (view_of state.now (names_answered held.now)) incoming.now.at incoming.now.random
-        (option_map (λ r. r.octets.items) reply) held.now) }
+        IsReplyTo (view_of state.now (names_answered held.entry)) incoming.now.at incoming.now.random
+        (option_map (λ r. r.octets.items) reply) held.entry) }
+    ensures outcome_spelled { IfOk result (λ reply.
+        AccountSpelled (view_of state.now (names_answered held.entry)) incoming.now
+        (option_map (λ r. r.octets.items) reply) held.entry) }
     ensures same { IfOk result (λ reply.
-        OpensOf (view_of state.now (names_answered held.now)) incoming.now.at incoming.now.random held.now) }
+        OpensOf (view_of state.now (names_answered held.entry)) incoming.now.at incoming.now.random held.entry) }
     ensures stays { IfOk result (λ reply. IfSome reply (λ r. IfSome r.mark (MayStay state.now))) }
 {
     match held {
         Contents::NoRequest => Ok(None),
-        Contents::AsReq(message) => Ok(Some(as_reply(state, alloc, incoming, message)?)),
-        Contents::RefusedTgsReq(message, refusal) => {
-            Ok(Some(refused(state, alloc, incoming, message, *refusal)?))
+        Contents::AsReq(message) => Ok(Some(as_reply(state, alloc, incoming, &message)?)),
+        Contents::RefusedTgsReq(message, rejection) => {
+            Ok(Some(refused(state, alloc, incoming, &message, rejection)?))
         }
         Contents::TgsReq(message, presented) => {
-            Ok(Some(tgs_reply(state, alloc, incoming, message, presented)?))
+            Ok(Some(tgs_reply(state, alloc, incoming, &message, presented)?))
         }
     }
 }
 
 /// The error that refuses a TGS-REQ whose ticket or authenticator was not opened. Nothing is kept.
-fn refused(
+fn refused<'q>(
     state: &State,
     alloc: Global,
     incoming: &Incoming<'_>,
-    message: &KdcReqRef<'_>,
-    refusal: TgsRefusal,
-) -> Result<Answered, AllocError>
+    message: &KdcReqRef<'q>,
+    rejection: Rejection,
+) -> Result<Answered<'q>, AllocError>
     requires { IsShortName message.now }
     ensures written { IfOk result (λ reply.
         reply.octets.items ≡ written krb_error
-        (tgs_error state.now.database.realm incoming.now.at message.now.body.value refusal)) }
+        (tgs_error state.now.database.realm incoming.now.at message.now.body.value rejection.rule)) }
     ensures spelled { IfOk result (λ reply.
         krb_error.Spells (tgs_error state.now.database.realm incoming.now.at message.now.body.value
-        refusal) reply.octets.items) }
+        rejection.rule) reply.octets.items) }
     ensures mark { IfOk result (λ reply. reply.mark ≡ None) }
+    ensures account { IfOk result (λ reply.
+        reply.account ≡ Tgs rejection.client message.now.body.value.sname (Refused rejection.rule)) }
 {
     let realm = state.database.realm();
+    let body = &message.body.value;
+    let Rejection { rule, client } = rejection;
     Ok(Answered {
-        octets: tgs_error(alloc, realm, incoming.at, &message.body.value, refusal)?,
+        octets: tgs_error(alloc, realm, incoming.at, body, rule)?,
         mark: None,
+        account: Account::Tgs {
+            client,
+            service: lent_name(body.sname.as_ref()),
+            outcome: TgsOutcome::Refused(rule),
+        },
     })
 }

@@ -2,6 +2,7 @@
 ghost use Rattle.std.specs.Prelude.{◌≡◌, Some, IfOk, IfSome, option_copied};
 ghost use Rattle.as_exchange.specs.Known.{IsKnown};
 ghost use Rattle.krb_types.specs.declared.kdc_req.Exchange.TheVariants.{As};
+ghost use Rattle.kdc_core.specs.Account.{account_of, AccountSpelledOf};
 ghost use Rattle.kdc_core.specs.After.{after, counted_of, MayStay};
 ghost use Rattle.kdc_core.specs.Answer.{answer_of, keep, OpensOf, SpelledOf};
 ghost use Rattle.kdc_core.specs.Contents.{IsShortName};
@@ -9,6 +10,7 @@ ghost use Rattle.kdc_core.specs.View.{as_view, components_of, memory_named, view
 ghost use Rattle.kdc_core.specs.declared.contents.Contents.TheVariants.{AsReq};
 ghost use Rattle.kdc_state.specs.declared.state.State as states;
 
+use crate::account::{Account, lent_name};
 use crate::answering::Answered;
 use crate::contents::row_of;
 use crate::mark::Mark;
@@ -21,12 +23,12 @@ use replay::Failures;
 use std::alloc::{AllocError, Global};
 
 /// The reply to an AS-REQ.
-pub fn as_reply(
+pub fn as_reply<'q>(
     state: &State,
     alloc: Global,
     incoming: &Incoming<'_>,
-    message: &KdcReqRef<'_>,
-) -> Result<Answered, AllocError>
+    message: &KdcReqRef<'q>,
+) -> Result<Answered<'q>, AllocError>
     requires { IsShortName message.now }
     ensures reply { IfOk result (λ reply.
         Some reply.octets.items ≡ (answer_of (view_in state.now As message.now) incoming.now
@@ -35,6 +37,10 @@ pub fn as_reply(
         after state.now reply.mark
         ≡ keep state.now (components_of message.now.body.value.cname)
         (answer_of (view_in state.now As message.now) incoming.now (AsReq message.now)).kept) }
+    ensures account { IfOk result (λ reply.
+        reply.account ≡ account_of (view_in state.now As message.now) incoming.now (AsReq message.now)) }
+    ensures outcome_spelled { IfOk result (λ reply.
+        AccountSpelledOf (view_in state.now As message.now) incoming.now (AsReq message.now) reply.octets.items) }
     ensures spelled { IfOk result (λ reply.
         SpelledOf (view_in state.now As message.now) incoming.now.at incoming.now.random
         (AsReq message.now) reply.octets.items) }
@@ -43,11 +49,21 @@ pub fn as_reply(
     ensures stays { IfOk result (λ reply. IfSome reply.mark (MayStay state.now)) }
 {
     let view = as_view(state, message);
-    let AsAnswer { reply, failures } = as_answer(alloc, &view, incoming, message)?;
-    let mark = counted_of(alloc, message.body.value.cname.as_ref(), failures)?;
+    let body = &message.body.value;
+    let AsAnswer {
+        reply,
+        outcome,
+        failures,
+    } = as_answer(alloc, &view, incoming, message)?;
+    let mark = counted_of(alloc, body.cname.as_ref(), failures)?;
     Ok(Answered {
         octets: reply,
         mark,
+        account: Account::As {
+            client: lent_name(body.cname.as_ref()),
+            service: lent_name(body.sname.as_ref()),
+            outcome,
+        },
     })
 }
 

@@ -1,9 +1,8 @@
 //! What the octets of a request hold.
-ghost use Rattle.std.specs.Prelude.{◌≡◌, ◌<◌, length, IfOk, IfSome, Result, option_copied};
+ghost use Rattle.std.specs.Prelude.{◌≡◌, ◌<◌, length, IfOk, IfSome, option_copied};
 ghost use Rattle.krb_elements.specs.Codec.{list_of};
 ghost use Rattle.krb_fields.specs.PrincipalName.{name};
 ghost use Rattle.krb_fields.specs.Typed.{typed};
-ghost use Rattle.tgs_opening.specs.Fault.{Gives};
 ghost use Rattle.tgs_opening.specs.Opening.{presented};
 ghost use Rattle.tgs_opening.specs.Tickets.{tgs_data};
 ghost use Rattle.kdc_core.specs.Contents.{contents, contents_in, tgs_contents, AreShort};
@@ -16,10 +15,10 @@ use krb_types::{Exchange, KdcReqRef, read_kdc_req};
 use principal_rows::Row;
 use sealed_parts::ReadyKeys;
 use std::alloc::{AllocError, Global};
-use tgs_opening::{Presented, TgsFault, TgsRefusal, TicketView, tgs_open};
+use tgs_opening::{Presented, Rejection, TicketView, tgs_open};
 
 /// The most octets that are read as a request: the lengths of frames over TCP stop there (RFC 4120, section 7.2.2).
-const GREATEST_REQUEST: usize = 2_147_483_647;
+pub const GREATEST_REQUEST: usize = 2_147_483_647;
 
 /// What the octets of a request hold, as far as they were opened.
 #[derive(Drop)]
@@ -28,7 +27,7 @@ pub enum Contents<'a> {
     NoRequest,
     AsReq(KdcReqRef<'a>),
     /// A TGS-REQ whose ticket or authenticator is refused.
-    RefusedTgsReq(KdcReqRef<'a>, TgsRefusal),
+    RefusedTgsReq(KdcReqRef<'a>, Rejection),
     /// A TGS-REQ with the ticket and the authenticator that it presents, opened.
     TgsReq(KdcReqRef<'a>, Presented),
 }
@@ -69,28 +68,23 @@ fn contents_in<'a>(
     match exchange {
         Exchange::As => Ok(Contents::AsReq(message)),
         Exchange::Tgs => {
-            let presented = open_presented(state, alloc, ready, &message);
-            tgs_contents(message, presented)
+            let presented = open_presented(state, alloc, ready, &message)?;
+            Ok(tgs_contents(message, presented))
         }
     }
 }
 
 /// What a TGS-REQ holds, by what became of its ticket and its authenticator.
-fn tgs_contents(
-    message: KdcReqRef<'_>,
-    presented: Result<Presented, TgsFault>,
-) -> Result<Contents<'_>, AllocError>
+fn tgs_contents(message: KdcReqRef<'_>, presented: Result<Presented, Rejection>) -> Contents<'_>
     requires sname { IfSome message.body.value.sname (λ n. length (name.text n) < 2147483648) }
     requires authorization { IfOk presented (λ p.
         IfSome p.ticket.authorization_data (λ list. length ((list_of typed).text list) < 2147483648)) }
-    ensures value { (wanted : Result Presented TgsRefusal) → Gives presented wanted
-        → IfOk result (λ held. held ≡ tgs_contents message.entry wanted) }
-    ensures short { IfOk result AreShort }
+    ensures value { result ≡ tgs_contents message.entry presented }
+    ensures short { AreShort result }
 {
     match presented {
-        Ok(presented) => Ok(Contents::TgsReq(message, presented)),
-        Err(TgsFault::Refused(refusal)) => Ok(Contents::RefusedTgsReq(message, refusal)),
-        Err(TgsFault::Memory) => Err(AllocError),
+        Ok(presented) => Contents::TgsReq(message, presented),
+        Err(rejection) => Contents::RefusedTgsReq(message, rejection),
     }
 }
 
@@ -100,11 +94,11 @@ fn open_presented(
     alloc: Global,
     ready: &ReadyKeys,
     message: &KdcReqRef<'_>,
-) -> Result<Presented, TgsFault>
+) -> Result<Result<Presented, Rejection>, AllocError>
     requires { IfSome (tgs_data message.now) (λ value. length value < 2147483648) }
-    ensures value { Gives result (presented (ticket_view state.now message.now) message.now) }
-    ensures authorization { IfOk result (λ presented.
-        IfSome presented.ticket.authorization_data (λ list. length ((list_of typed).text list) < 2147483648)) }
+    ensures value { IfOk result (λ found. found ≡ presented (ticket_view state.now message.now) message.now) }
+    ensures authorization { IfOk result (λ found. IfOk found (λ presented.
+        IfSome presented.ticket.authorization_data (λ list. length ((list_of typed).text list) < 2147483648))) }
 {
     let view = TicketView {
         realm: state.database.realm(),

@@ -4,6 +4,7 @@ ghost use Rattle.std.specs.Prelude.{IsOkUnless, option_map};
 ghost use Rattle.std.specs.FinMap as map;
 ghost use Rattle.std.specs.Option.{option_copied};
 ghost use Rattle.krb_fields.specs.Name.{Components};
+ghost use Rattle.kdc_core.specs.Account.{account, account_names, AccountHolds};
 ghost use Rattle.kdc_core.specs.Answer.{answer, after_request, error_octets, IsReply, OneTicketTwoKeys};
 ghost use Rattle.kdc_core.specs.Issued.{issued, IsReplyOf};
 ghost use Rattle.kdc_core.specs.Request.{Request, SpellsRequest, request_of};
@@ -12,11 +13,13 @@ ghost use Rattle.kdc_core.specs.View.{Agrees, named, view};
 ghost use Rattle.kdc_core.specs.declared.run.Event.TheVariants.{Reopen};
 ghost use Rattle.krb_fields.specs.declared.moment.Moment as moments;
 ghost use Rattle.replay.specs.declared.opening.Opening.TheVariants.{Restart};
-ghost use Rattle.kdc_state.specs.State.{opened_state, memory_of, restarted};
+ghost use Rattle.kdc_state.specs.State.{opened_state, memory_of, restarted, tidied_state};
 ghost use Rattle.replay.specs.Memory as memories;
+ghost use Rattle.replay.specs.Tidied.{tidied};
 ghost use Rattle.kdc_state.specs.declared.state.State as states;
 ghost use Rattle.principals.specs.Change.{refusal, changed};
 
+use crate::account::Answer;
 use crate::answering::handle;
 use kdc_replies::{Incoming, error_reply};
 use kdc_state::{Opening, State};
@@ -42,7 +45,7 @@ impl fmt::Display for OtherRealm {
 impl Error for OtherRealm {}
 
 /// A key distribution centre: a state that requests and changes go through.
-#[derive(Debug, Drop)]
+#[derive(Drop)]
 pub struct Kdc {
     state: State,
     // The keys that were used last. They save time, and no answer hangs on them.
@@ -80,46 +83,61 @@ impl Kdc {
         })
     }
 
-    /// Answers a request, whatever its octets are: the octets of the reply, or none.
+    /// Answers a request, whatever its octets are: with the octets of a reply or none, and an account of the request.
     ///
     /// `at` is the moment of the request, `random` are 64 random octets, and `room` is the most octets of a
     /// reply with a ticket. Octets that spell neither an AS-REQ nor a TGS-REQ (RFC 4120, section 5.4.1) get no
     /// reply, nor do more than 2147483647. A call that is refused memory changes nothing.
-    pub fn handle<'r>(
-        &'r mut self,
+    pub fn handle<'q>(
+        &mut self,
         alloc: Global,
         at: Moment,
-        random: &'r [u8; 64],
+        random: &[u8; 64],
         room: u32,
-        request: &'r [u8],
-    ) -> Result<Option<Vec<u8>>, AllocError>
+        request: &'q [u8],
+    ) -> Result<Answer<'q>, AllocError>
         // The request is the one that the octets spell, if they spell one and are no more than 2147483647.
         ensures request { (r : Request)
             → (request_of request.now ≡ Some r) ↔ (SpellsRequest r request.now × (length request.now ≤ 2147483647)) }
         // The reply is the one that the rules say.
-        ensures reply { IfOk result (λ reply.
-            option_map (λ octets. octets.items) reply
+        ensures reply { IfOk result (λ given.
+            option_map (λ octets. octets.items) given.reply
             ≡ (answer (view self.old request.now) at random.now room request.now).reply) }
         // The octets of a reply spell the message that the rules say, or are a reply that was kept.
-        ensures spelled { IfOk result (λ reply.
+        ensures spelled { IfOk result (λ given.
             IsReply (view self.old request.now) at random.now (request_of request.now)
-            (option_map (λ octets. octets.items) reply)) }
+            (option_map (λ octets. octets.items) given.reply)) }
         // Where a ticket is issued, the octets that are sent spell its reply, which the reply key opens to the session
         // key, flags and times that the service's key finds in the ticket; or they spell an error in its place. Which
         // of the two the clause `reply` says: an error where the room is too small.
-        ensures keys { IfOk result (λ reply.
+        ensures keys { IfOk result (λ given.
             OneTicketTwoKeys (view self.old request.now) at random.now (request_of request.now)
-            (option_map (λ octets. octets.items) reply)) }
+            (option_map (λ octets. octets.items) given.reply)) }
         // The same, said of the ticket that is issued: what client and service open is what was granted.
-        ensures issued { IfOk result (λ reply.
+        ensures issued { IfOk result (λ given.
             IfSome (issued (view self.old request.now) at random.now (request_of request.now))
-            (λ issue. IsReplyOf issue (option_map (λ octets. octets.items) reply))) }
+            (λ issue. IsReplyOf issue (option_map (λ octets. octets.items) given.reply))) }
+        // The account is the one that the same rules give.
+        ensures account { IfOk result (λ given.
+            given.account ≡ account (view self.old request.now) at random.now room request.now) }
+        // It names the client and the service that the request names.
+        ensures names { IfOk result (λ given. account_names given.account ≡ named self.old request.now) }
+        // The account is true of the reply. If it says that a ticket was issued, the octets spell the reply for a ticket
+        // with these names, types, flags and times, as client and service decrypt it. If it names a rule that refused,
+        // they spell an error with that rule's code. If it says that a kept reply was sent again, they are that reply.
+        ensures holds { IfOk result (λ given.
+            AccountHolds (view self.old request.now) at random.now (request_of request.now) given.account
+            (option_map (λ octets. octets.items) given.reply)) }
         // The state afterwards is the one that the rules say.
         ensures state { OnOk result (self.new ≡ after_request self.old at random.now room request.now) }
         // A second state that agrees at what the request names is answered alike.
         ensures agreement { (other : states.State) → Agrees self.old other request.now
             → answer (view other request.now) at random.now room request.now
             ≡ answer (view self.old request.now) at random.now room request.now }
+        // So is the account of it.
+        ensures same_account { (other : states.State) → Agrees self.old other request.now
+            → account (view other request.now) at random.now room request.now
+            ≡ account (view self.old request.now) at random.now room request.now }
         // The request names the same client and service in both, and they agree there afterwards.
         ensures same_names { (other : states.State) → Agrees self.old other request.now
             → named other request.now ≡ named self.old request.now }
@@ -140,7 +158,7 @@ impl Kdc {
             octets: request,
             ready: &self.ready,
         };
-        handle(&mut self.state, alloc, &incoming)
+        handle(&mut self.state, alloc, &incoming, request)
     }
 
     /// Makes a change of the database. A change that is refused leaves everything as it was.
@@ -166,6 +184,18 @@ impl Kdc {
         }
         self.state.database = database;
         Ok(())
+    }
+
+    /// Forgets each client's authenticators that are too old to be accepted again, and drops every memory that then says
+    /// no more than that of a client never seen. It allocates nothing.
+    pub fn tidy(&mut self, at: Moment)
+        ensures state { self.new ≡ tidied_state self.old at }
+        // Each client's memory is tidied; rows, realm and limits stay.
+        ensures memories { (name : Components) → memory_of self.new name ≡ tidied (memory_of self.old name) at.sec }
+        ensures database { self.new.database ≡ self.old.database }
+        ensures limits { self.new.limits ≡ self.old.limits }
+    {
+        self.state.tidy(at);
     }
 
     /// Forgets what was remembered, as a process does that ends and starts again: no authenticator that was accepted at

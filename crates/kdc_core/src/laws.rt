@@ -4,6 +4,7 @@ ghost use Rattle.kdc_core.specs.Marked.{KeepsMarked};
 ghost use Rattle.kdc_core.specs.Struck.{Isolation};
 ghost use Rattle.kdc_core.specs.Tickets.{OneTicket};
 ghost use Rattle.kdc_core.specs.Unaffected.{Unaffected};
+ghost use Rattle.kdc_core.specs.Unseen.{TidiesUnseen};
 ghost use Rattle.kdc_core.specs.declared.run.Event.{Event};
 ghost use Rattle.kdc_state.specs.declared.state.State.{State};
 
@@ -12,10 +13,13 @@ ghost use Rattle.kdc_state.specs.declared.state.State.{State};
 pub fn any_run()
     // What others ask, and what is changed of others, never changes what a client gets.
     ensures isolation { (state : State) (events : List Event) → Isolation state events }
-    // In two runs of which the same is left for a client it gets the same, whatever others ask in either.
+    // In two runs of which the same is left for a client it gets the same, whatever others ask in either, and whatever
+    // rows others have in the databases that take a place.
     ensures unaffected { Unaffected }
     // Where two TGS-REQs of one client have the same authenticator and both get a ticket, they get the same.
     ensures one_ticket { (state : State) (events : List Event) → OneTicket state events }
     // What is kept of an authenticator says whether its reply bears a ticket, in every run that begins with an opening.
     ensures marked { KeepsMarked }
+    // As long as no request is before a tidying that came earlier, requests get what they get where nothing is tidied.
+    ensures unseen { TidiesUnseen }
 {}

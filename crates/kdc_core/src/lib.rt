@@ -1,6 +1,7 @@
-//! The key distribution centre: from a request's octets to a reply's.
+//! The key distribution centre: answers a request's octets with a reply and an account of the request.
 #![tactic(auto)]
 
+mod account;
 mod answering;
 mod as_replies;
 mod contents;
@@ -10,7 +11,13 @@ mod mark;
 mod run;
 mod tgs_replies;
 
+pub use account::{Account, Answer, RequestNames};
+pub use as_exchange::{AsOutcome, AsRefusal};
 pub use kdc::{Kdc, OtherRealm};
+pub use kdc_replies::Granted;
 pub use kdc_state::Opening;
 pub use laws::any_run;
+pub use replay::Bears;
 pub use run::{Event, RunFault};
+pub use tgs_exchange::TgsOutcome;
+pub use tgs_opening::TgsRefusal;

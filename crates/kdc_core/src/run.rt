@@ -19,7 +19,7 @@ use std::error::Error;
 use std::fmt;
 
 /// What happens to a KDC.
-#[derive(Debug, Drop)]
+#[derive(Drop)]
 pub enum Event {
     /// A request comes, at this moment. `random` are 64 random octets, and `room` is the most octets of a reply with
     /// a ticket.
@@ -36,6 +36,10 @@ pub enum Event {
     /// Another database of the same realm takes the place of this one. One of another realm changes nothing.
     Replace {
         database: Database,
+    },
+    /// What is too old to come again at this moment is forgotten.
+    Tidy {
+        at: Moment,
     },
     /// What was remembered is lost, and the KDC starts again at this moment.
     Restart {
@@ -67,8 +71,8 @@ impl fmt::Display for RunFault {
 impl Error for RunFault {}
 
 impl Kdc {
-    /// Handles the requests, and makes the changes, replacements and restarts, in their order. It gives the reply, or
-    /// none, of each event: a request alone has one, and a change that is refused leaves everything as it was.
+    /// Handles the requests, makes the changes, replacements and restarts, and tidies, in their order. It gives the reply,
+    /// or none, of each event: a request alone has one, and a change that is refused leaves everything as it was.
     ///
     /// Want of memory alone ends a run early. It can go on at the first event that is not done.
     pub fn run(&mut self, alloc: Global, events: &[Event]) -> Result<Vec<Option<Vec<u8>>>, RunFault>
@@ -135,13 +139,20 @@ impl Kdc {
                 random,
                 room,
                 request,
-            } => self.handle(alloc, *at, random, *room, request.as_slice()),
+            } => {
+                let answer = self.handle(alloc, *at, random, *room, request.as_slice())?;
+                Ok(answer.reply)
+            }
             Event::Change { change } => {
                 self.change(alloc, change)?;
                 Ok(None)
             }
             Event::Replace { database } => {
                 let _ = self.replace(database.copy(alloc)?);
+                Ok(None)
+            }
+            Event::Tidy { at } => {
+                self.tidy(*at);
                 Ok(None)
             }
             Event::Restart { at } => {

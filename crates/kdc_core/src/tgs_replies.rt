@@ -1,14 +1,18 @@
 //! The TGS exchange of a KDC.
 ghost use Rattle.std.specs.Prelude.{◌≡◌, Some, IfOk, IfSome};
+ghost use Rattle.tgs_exchange.specs.Answer.{tgs_answer, Opens, Spelled};
 ghost use Rattle.tgs_exchange.specs.Known.{IsKnown};
-ghost use Rattle.replay.specs.Opening.{opened_memory};
+ghost use Rattle.tgs_exchange.specs.Outcome.{tgs_outcome, OutcomeSpelled};
+ghost use Rattle.replay.specs.Tidied.{empty_memory};
 ghost use Rattle.kdc_state.specs.State.{memory_of};
+ghost use Rattle.kdc_core.specs.Account.{account_of, AccountSpelledOf};
 ghost use Rattle.kdc_core.specs.After.{after, stamped_of, MayStay};
 ghost use Rattle.kdc_core.specs.Answer.{answer_of, keep, OpensOf, SpelledOf};
 ghost use Rattle.kdc_core.specs.Contents.{IsShortData, IsShortName};
 ghost use Rattle.kdc_core.specs.View.{presented_view, tgs_view};
 ghost use Rattle.kdc_core.specs.declared.contents.Contents.TheVariants.{TgsReq};
 
+use crate::account::{Account, lent_name};
 use crate::answering::Answered;
 use crate::contents::row_of;
 use crate::mark::Mark;
@@ -22,40 +26,99 @@ use tgs_exchange::{TgsAnswer, TgsView, tgs_answer};
 use tgs_opening::Presented;
 
 /// The reply to a TGS-REQ that presents what was opened.
-pub fn tgs_reply(
+pub fn tgs_reply<'q>(
+    state: &State,
+    alloc: Global,
+    incoming: &Incoming<'_>,
+    message: &KdcReqRef<'q>,
+    presented: Presented,
+) -> Result<Answered<'q>, AllocError>
+    requires sname { IsShortName message.now }
+    requires authorization { IsShortData presented }
+    ensures reply { IfOk result (λ reply.
+        Some reply.octets.items ≡ (answer_of (presented_view state.now message.now presented) incoming.now
+        (TgsReq message.now presented)).reply) }
+    ensures after { IfOk result (λ reply.
+        after state.now reply.mark
+        ≡ keep state.now (Some presented.ticket.cname.components)
+        (answer_of (presented_view state.now message.now presented) incoming.now
+        (TgsReq message.now presented)).kept) }
+    ensures account { IfOk result (λ reply.
+        reply.account ≡ account_of (presented_view state.now message.now presented) incoming.now
+        (TgsReq message.now presented)) }
+    ensures outcome_spelled { IfOk result (λ reply.
+        AccountSpelledOf (presented_view state.now message.now presented) incoming.now (TgsReq message.now presented)
+        reply.octets.items) }
+    ensures spelled { IfOk result (λ reply.
+        SpelledOf (presented_view state.now message.now presented) incoming.now.at incoming.now.random
+        (TgsReq message.now presented) reply.octets.items) }
+    ensures same { IfOk result (λ reply.
+        OpensOf (presented_view state.now message.now presented) incoming.now.at incoming.now.random
+        (TgsReq message.now presented)) }
+    ensures stays { IfOk result (λ reply. IfSome reply.mark (MayStay state.now)) }
+{
+    let TgsAnswer {
+        reply,
+        outcome,
+        kept,
+    } = answered(state, alloc, incoming, message, &presented)?;
+    let mark = stamped_of(alloc, incoming.at, &presented, kept)?;
+    Ok(Answered {
+        octets: reply,
+        mark,
+        account: Account::Tgs {
+            client: Some(client_of(presented)),
+            service: lent_name(message.body.value.sname.as_ref()),
+            outcome,
+        },
+    })
+}
+
+/// The client of the ticket that is presented.
+fn client_of(presented: Presented) -> Name
+    ensures { result ≡ presented.ticket.cname }
+{
+    let ticket = presented.ticket;
+    ticket.cname
+}
+
+/// The answer to a TGS-REQ that presents what was opened.
+fn answered(
     state: &State,
     alloc: Global,
     incoming: &Incoming<'_>,
     message: &KdcReqRef<'_>,
     presented: &Presented,
-) -> Result<Answered, AllocError>
+) -> Result<TgsAnswer, AllocError>
     requires sname { IsShortName message.now }
     requires authorization { IsShortData presented.now }
-    ensures reply { IfOk result (λ reply.
-        Some reply.octets.items ≡ (answer_of (presented_view state.now message.now presented.now) incoming.now
-        (TgsReq message.now presented.now)).reply) }
-    ensures after { IfOk result (λ reply.
-        after state.now reply.mark
-        ≡ keep state.now (Some presented.now.ticket.cname.components)
-        (answer_of (presented_view state.now message.now presented.now) incoming.now
-        (TgsReq message.now presented.now)).kept) }
-    ensures spelled { IfOk result (λ reply.
-        SpelledOf (presented_view state.now message.now presented.now) incoming.now.at incoming.now.random
-        (TgsReq message.now presented.now) reply.octets.items) }
-    ensures same { IfOk result (λ reply.
-        OpensOf (presented_view state.now message.now presented.now) incoming.now.at incoming.now.random
-        (TgsReq message.now presented.now)) }
-    ensures stays { IfOk result (λ reply. IfSome reply.mark (MayStay state.now)) }
+    ensures reply { IfOk result (λ answer.
+        answer.reply.items
+        ≡ (tgs_answer (tgs_view (presented_view state.now message.now presented.now)) incoming.now
+        message.now.body.value presented.now).reply) }
+    ensures kept { IfOk result (λ answer.
+        answer.kept
+        ≡ (tgs_answer (tgs_view (presented_view state.now message.now presented.now)) incoming.now
+        message.now.body.value presented.now).kept) }
+    ensures outcome { IfOk result (λ answer.
+        answer.outcome
+        ≡ tgs_outcome (tgs_view (presented_view state.now message.now presented.now)) incoming.now
+        message.now.body.value presented.now) }
+    ensures outcome_spelled { IfOk result (λ answer.
+        OutcomeSpelled (tgs_view (presented_view state.now message.now presented.now)) incoming.now.at incoming.now.random
+        message.now.body.value presented.now answer.outcome answer.reply.items) }
+    ensures spelled { IfOk result (λ answer.
+        Spelled (tgs_view (presented_view state.now message.now presented.now)) incoming.now.at
+        incoming.now.random message.now.body.value presented.now answer.reply.items) }
+    ensures same { IfOk result (λ answer.
+        Opens (tgs_view (presented_view state.now message.now presented.now)) incoming.now.at
+        incoming.now.random message.now.body.value presented.now) }
+    ensures stays { IfOk result (λ answer.
+        IfSome (stamped_of incoming.now.at presented.now answer.kept) (MayStay state.now)) }
 {
-    let unstored = Memory::opened(alloc, state.opening);
+    let unstored = Memory::empty(alloc, state.floor);
     let view = tgs_view(state, message, presented, &unstored);
-    let body = &message.body.value;
-    let TgsAnswer { reply, kept } = tgs_answer(alloc, &view, incoming, body, presented)?;
-    let mark = stamped_of(alloc, incoming.at, presented, kept)?;
-    Ok(Answered {
-        octets: reply,
-        mark,
-    })
+    tgs_answer(alloc, &view, incoming, &message.body.value, presented)
 }
 
 /// What a TGS-REQ is answered from. `unstored` is the memory of a client that has none stored.
@@ -65,7 +128,7 @@ fn tgs_view<'s>(
     presented: &Presented,
     unstored: &'s Memory<Kept>,
 ) -> TgsView<'s>
-    requires unstored { unstored.now ≡ opened_memory state.now.opening }
+    requires unstored { unstored.now ≡ empty_memory state.now.floor }
     requires sname { IsShortName message.now }
     requires authorization { IsShortData presented.now }
     ensures view { result ≡ tgs_view (presented_view state.now message.now presented.now) }
@@ -83,7 +146,7 @@ fn tgs_view<'s>(
 
 /// What is remembered of a client.
 fn memory_of<'s>(state: &'s State, client: &Name, unstored: &'s Memory<Kept>) -> &'s Memory<Kept>
-    requires { unstored.now ≡ opened_memory state.now.opening }
+    requires { unstored.now ≡ empty_memory state.now.floor }
     ensures { result.now ≡ memory_of state.now client.now.components }
 {
     match state.memories.get(client) {

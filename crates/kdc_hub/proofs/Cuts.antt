@@ -11,6 +11,7 @@ use Rattle.framing.specs.Pieces.{IsSameInTwo}
 use Rattle.krb_fields.specs.declared.moment.Moment.{Moment}
 use Rattle.kdc_hub.specs.declared.event.Action.{Action}
 use Rattle.kdc_hub.specs.declared.event.Event.TheVariants.{Bytes}
+use Rattle.kdc_hub.specs.declared.reply.Reply.{Reply}
 use Rattle.kdc_hub.specs.Issuing.{Issuing, after, reply_of}
 use Rattle.kdc_hub.specs.StreamStep.{StreamStep, reply_then, messages_step, stream_step, stream_room}
 use Rattle.kdc_hub.specs.Hub.{Standing, Step, brings, brought, kept, hub_step}
@@ -30,11 +31,11 @@ unfolding messages_step
 step_more i at conn fault [] ns = refl
 step_more i at conn fault (m ∷ ms) ns = at_reply (reply_of i at stream_room m) (step_more (after i at stream_room m) at conn fault ms ns)
   where
-    with_first : (r : List ℕ) (b : Bool) (a others : StreamStep) → reply_then conn (Some r) (after i at stream_room m) (going_on b a others) ≡ going_on b (reply_then conn (Some r) (after i at stream_room m) a) others
+    with_first : (r : Reply) (b : Bool) (a others : StreamStep) → reply_then conn (Some r) (after i at stream_room m) (going_on b a others) ≡ going_on b (reply_then conn (Some r) (after i at stream_room m) a) others
     with_first r true a others = refl
     with_first r false a others = refl
 
-    at_reply : (r : Option (List ℕ))
+    at_reply : (r : Option Reply)
         → messages_step (after i at stream_room m) at conn fault (ms ++ ns) ≡ going_on (messages_step (after i at stream_room m) at conn None ms).stays (messages_step (after i at stream_room m) at conn None ms) (messages_step (messages_step (after i at stream_room m) at conn None ms).issuing at conn fault ns)
         → reply_then conn r (after i at stream_room m) (messages_step (after i at stream_room m) at conn fault (ms ++ ns))
         ≡ going_on (reply_then conn r (after i at stream_room m) (messages_step (after i at stream_room m) at conn None ms)).stays (reply_then conn r (after i at stream_room m) (messages_step (after i at stream_room m) at conn None ms))
@@ -48,11 +49,11 @@ unfolding messages_step
 faulty_closes i at conn fault [] = refl
 faulty_closes i at conn fault (m ∷ ms) = at_reply (reply_of i at stream_room m) (faulty_closes (after i at stream_room m) at conn fault ms)
   where
-    at_reply : (r : Option (List ℕ)) → (messages_step (after i at stream_room m) at conn (Some fault) ms).stays ≡ false → (reply_then conn r (after i at stream_room m) (messages_step (after i at stream_room m) at conn (Some fault) ms)).stays ≡ false
+    at_reply : (r : Option Reply) → (messages_step (after i at stream_room m) at conn (Some fault) ms).stays ≡ false → (reply_then conn r (after i at stream_room m) (messages_step (after i at stream_room m) at conn (Some fault) ms)).stays ≡ false
     at_reply (Some r) e = e
     at_reply None e = refl
 
--- a splitter that told a fault hands out that fault alone
+-- a splitter that returned a fault hands out that fault alone
 fault_alone : (o : Option FrameFault) (g : ℕ) (b q : List ℕ) (fault : FrameFault) → o ≡ Some fault → handed_out (fed (record { greatest = g; bytes = b; fault = o }) q) ≡ only_rest b (Some fault)
 fault_alone None g b q fault e = absurd cc
 fault_alone (Some other) g b q fault e = ap (only_rest b) e

@@ -1,10 +1,9 @@
 -- A history is one run.
-use Rattle.std.proofs.Common.{◌≡◌, ℕ, zero, suc, Bool, true, false, List, [], ◌∷◌, ◌++◌, length, map as map_list, take, Option, Some, None, if◌then◌else◌, refl, sym, ap, subst, ◌∙◌}
-use Rattle.std.specs.Prelude.{ℤ, ⊤, nat_lt}
+use Rattle.std.proofs.Common.{◌≡◌, ℕ, zero, suc, Bool, true, false, List, [], ◌∷◌, ◌++◌, length, map as map_list, take, Option, Some, None, if◌then◌else◌, refl, sym, ap, subst, ◌∙◌, append_assoc}
+use Rattle.std.specs.Prelude.{ℤ, ⊤, nat_lt, IsTrue, option_map}
 use Rattle.std.specs.FinMap as map
 use Rattle.std.specs.List.{AllByRecursion, flat_map}
 use Rattle.std.proofs.lemmas.List.{take-map}
-use Rattle.std.specs.declared.net.SocketAddr.{SocketAddr}
 use Rattle.framing.specs.declared.fault.FrameFault.{FrameFault}
 use Rattle.framing.specs.Splitting.{Splitting, fed, handed_out, left, started}
 use Rattle.krb_fields.specs.declared.moment.Moment.{Moment}
@@ -13,27 +12,87 @@ use Rattle.replay.specs.Run.{OneForEach, with_any}
 use Rattle.kdc_state.specs.declared.state.State.{State}
 use Rattle.kdc_core.proofs.Isolation.{isolation, unaffected as unaffected_run}
 use Rattle.kdc_core.proofs.Tickets.{one_ticket}
+use Rattle.kdc_core.proofs.Unseen.{tidies_unseen}
 use Rattle.kdc_core.proofs.Runs.{replies_append, run_append}
+use Rattle.kdc_core.specs.Account.{Account, account, account_to}
+use Rattle.kdc_core.specs.AccountLaws.{unanswered}
+use Rattle.kdc_core.specs.Answer.{answer, answer_to}
 use Rattle.kdc_core.specs.Run.{after_event, event_reply, replies, run}
-use Rattle.kdc_core.specs.Struck.{AgreesFor, is_request, is_request_of, replies_to, strike}
+use Rattle.kdc_core.specs.View.{View, view}
+use Rattle.kdc_core.specs.declared.account.Account.TheVariants.{NoRequest}
+use Rattle.kdc_core.specs.Struck.{AgreesFor, is_request, is_request_of, replies_to}
 use Rattle.kdc_core.specs.Tickets.{RestartsFollow, RestartsFrom, ticket_to, tickets_to}
 use Rattle.kdc_core.specs.declared.run.Event.{Event as KdcEvent}
-use Rattle.kdc_core.specs.declared.run.Event.TheVariants.{Request, Change, Replace, Restart, Reopen}
+use Rattle.kdc_core.specs.declared.run.Event.TheVariants.{Request, Change, Replace, Tidy, Restart, Reopen}
 use Rattle.kdc_hub.specs.declared.event.Action.{Action}
-use Rattle.kdc_hub.specs.declared.event.Action.TheVariants.{SendTo, Write, Close}
+use Rattle.kdc_hub.specs.declared.event.Action.TheVariants.{Write, Close}
+use Rattle.kdc_hub.specs.declared.event.CloseReason.TheVariants.{BadLength, Full}
 use Rattle.kdc_hub.specs.declared.event.Event.{Event}
 use Rattle.kdc_hub.specs.declared.event.Event.TheVariants.{Datagram, Opened, Bytes, Closed}
-use Rattle.kdc_hub.specs.Issuing.{Issuing, after, reply_of, too_long}
+use Rattle.kdc_hub.specs.declared.event.Peer.{Peer}
+use Rattle.kdc_hub.specs.declared.reply.Reply.{Reply}
+use Rattle.kdc_hub.specs.Issuing.{Issuing, after, kept_account, reply_by, reply_of, too_long}
 use Rattle.kdc_hub.specs.StreamStep.{StreamStep, action_for, after_reply, after_some, messages_step, reply_then, stream_room, stream_step}
 use Rattle.kdc_hub.specs.Hub.{Standing, Step, brings, datagram_room, greatest_request, hub_step, kept, most_connections, nothing, opened, requests_of as messages_of, sent, stopped}
 use Rattle.kdc_hub.specs.Logged.{Entry, Stop, logged, step_by, step_of}
-use Rattle.kdc_hub.specs.History.{AnswersWhoAsked, Begins, IsOfOneProcess, IsOneRun, OneTicketInProcess, OneTicketSent, ServesAlike, Turn, Unaffected, Stepped, Replaced, Reopened, after_turn, after_turns, answers, asked, chosen, event_requests, events_in, others_after, piece_requests, replies_by, replies_in, reply_in, requests_by, requests_of, stopped_requests, stream_requests, tickets_among, turn_events, turn_replies}
+use Rattle.kdc_hub.specs.History.{AnswersWhoAsked, Begins, IsOfOneProcess, IsOneRun, KeepsAccounts, account_in, accounts, accounts_in, entry_replies, event_accounts, octets_of, turn_accounts, OneTicketInProcess, OneTicketSent, ServesAlike, TidiesUnseen, Turn, Unaffected, Stepped, Replaced, Tidied, Reopened, after_turn, after_turns, answers, asked, chosen, event_requests, events_in, others_after, piece_requests, replies_by, reply_in, requests_by, stopped_requests, stream_requests, tickets_among, turn_events, turn_replies}
 
 -- ---- one request
 
-asked_reply : (i : Issuing) (at : Moment) (room : ℕ) (request : List ℕ) → event_reply i.kdc (asked i at room request) ≡ reply_of i at room request
+-- the reply to an event of a run, with an account where accounts are kept
+abbrev event_given : Bool → State → KdcEvent → Option Reply
+event_given kept state (Request at random room request) = reply_by kept (view state request) at random room request
+event_given kept state (Change change) = None
+event_given kept state (Replace database) = None
+event_given kept state (Tidy at) = None
+event_given kept state (Restart at) = None
+event_given kept state (Reopen database limits at) = None
+
+abbrev given : Bool → State → List KdcEvent → List (Option Reply)
+given kept state [] = []
+given kept state (event ∷ events) = event_given kept state event ∷ given kept (after_event state event) events
+
+octets_given : (kept : Bool) (v : View) (at : Moment) (random : List ℕ) (room : ℕ) (request : List ℕ)
+    → octets_of (reply_by kept v at random room request) ≡ (answer v at random room request).reply
+unfolding reply_by
+octets_given kept v at random room request = by_reply (answer v at random room request).reply
+  where
+    by_reply : (o : Option (List ℕ))
+        → octets_of (option_map (λ message. record { message = message; account = kept_account kept (account v at random room request) }) o) ≡ o
+    by_reply (Some octets) = refl
+    by_reply None = refl
+
+event_octets : (kept : Bool) (state : State) (event : KdcEvent) → octets_of (event_given kept state event) ≡ event_reply state event
+event_octets kept state (Request at random room request) = octets_given kept (view state request) at random room request
+event_octets kept state (Change change) = refl
+event_octets kept state (Replace database) = refl
+event_octets kept state (Tidy at) = refl
+event_octets kept state (Restart at) = refl
+event_octets kept state (Reopen database limits at) = refl
+
+replies_given : (kept : Bool) (state : State) (events : List KdcEvent) → map_list octets_of (given kept state events) ≡ replies state events
+replies_given kept state [] = refl
+replies_given kept state (event ∷ events) = λ k. event_octets kept state event k ∷ replies_given kept (after_event state event) events k
+
+account_given : (v : View) (at : Moment) (random : List ℕ) (room : ℕ) (request : List ℕ)
+    → account_in (reply_by true v at random room request) ≡ Some (account v at random room request)
+unfolding reply_by
+account_given v at random room request =
+    by_reply (answer v at random room request).reply (unanswered v (record { at = at; random = random; room = room; octets = request }))
+  where
+    by_reply : (o : Option (List ℕ)) → (o ≡ None → account v at random room request ≡ NoRequest)
+        → account_in (option_map (λ message. record { message = message; account = kept_account true (account v at random room request) }) o)
+        ≡ Some (account v at random room request)
+    by_reply (Some octets) none = refl
+    by_reply None none = ap Some (sym (none refl))
+
+asked_reply : (i : Issuing) (at : Moment) (room : ℕ) (request : List ℕ) → event_given i.accounts i.kdc (asked i at room request) ≡ reply_of i at room request
 unfolding reply_of
 asked_reply i at room request = refl
+
+asked_accounts : (i : Issuing) (at : Moment) (room : ℕ) (request : List ℕ) → (after i at room request).accounts ≡ i.accounts
+unfolding after
+asked_accounts i at room request = refl
 
 asked_after : (i : Issuing) (at : Moment) (room : ℕ) (request : List ℕ) → after_event i.kdc (asked i at room request) ≡ (after i at room request).kdc
 unfolding after
@@ -45,7 +104,7 @@ no_reply : (actions : List Action) → replies_by 0 actions ≡ []
 unfolding replies_by
 no_reply actions = refl
 
-sent_reply : (peer : SocketAddr) (reply : Option (List ℕ)) → replies_by 1 (sent peer reply) ≡ reply ∷ []
+sent_reply : (peer : Peer) (reply : Option Reply) → replies_by 1 (sent peer reply) ≡ reply ∷ []
 unfolding replies_by
 sent_reply peer (Some reply) = refl
 sent_reply peer None = refl
@@ -63,36 +122,40 @@ first_replies (suc n) (request ∷ requests) [] = ap (λ l. None ∷ l) (first_r
     first_replies_none (suc n) (request ∷ requests) = ap (λ l. None ∷ l) (first_replies_none n requests)
 first_replies (suc n) (request ∷ requests) (action ∷ actions) = ap (λ l. reply_in action ∷ l) (first_replies n requests actions)
 
-first_of_run : (n : ℕ) (state : State) (events : List KdcEvent) → take n (replies state events) ≡ replies state (take n events)
-first_of_run zero state events = refl
-first_of_run (suc n) state [] = refl
-first_of_run (suc n) state (event ∷ events) = ap (λ l. event_reply state event ∷ l) (first_of_run n (after_event state event) events)
+first_of_run : (n : ℕ) (kept : Bool) (state : State) (events : List KdcEvent) → take n (given kept state events) ≡ given kept state (take n events)
+first_of_run zero kept state events = refl
+first_of_run (suc n) kept state [] = refl
+first_of_run (suc n) kept state (event ∷ events) = ap (λ l. event_given kept state event ∷ l) (first_of_run n kept (after_event state event) events)
 
 -- ---- the messages of a stream
 
 module _ (at : Moment) (conn : ℕ) (fault : Option FrameFault) where
   record AreStepped (i : Issuing) (requests : List KdcEvent) (r : StreamStep) : Type 0 where
-    pub sent : replies_by (length requests) r.actions ≡ replies i.kdc requests
+    pub sent : replies_by (length requests) r.actions ≡ given i.accounts i.kdc requests
     pub kdc : r.issuing.kdc ≡ run i.kdc requests
+    pub accounts : r.issuing.accounts ≡ i.accounts
     pub begins : Begins (map_list (action_for conn) (replies_by (length requests) r.actions)) r.actions
 
   none_left : (i : Issuing) (fault : Option FrameFault) → AreStepped i [] (messages_step i at conn fault [])
   unfolding messages_step replies_by
-  none_left i None = record { sent = refl; kdc = refl; begins = record { others = []; is = refl } }
-  none_left i (Some fault) = record { sent = refl; kdc = refl; begins = record { others = Write conn (too_long i.kdc at) ∷ Close conn ∷ []; is = refl } }
+  none_left i None = record { sent = refl; kdc = refl; accounts = refl; begins = record { others = []; is = refl } }
+  none_left i (Some fault) = record { sent = refl; kdc = refl; accounts = refl; begins = record { others = Write conn (too_long i.kdc at) ∷ Close conn BadLength ∷ []; is = refl } }
 
-  one_asked : (i : Issuing) (message : List ℕ) (reply : Option (List ℕ)) → reply_of i at stream_room message ≡ reply → (requests : List KdcEvent) (others : StreamStep)
+  one_asked : (i : Issuing) (message : List ℕ) (reply : Option Reply) → reply_of i at stream_room message ≡ reply → (requests : List KdcEvent) (others : StreamStep)
       → AreStepped (after i at stream_room message) requests others
       → AreStepped i (asked i at stream_room message ∷ others_after reply requests) (reply_then conn reply (after i at stream_room message) others)
   unfolding replies_by
   one_asked i message (Some reply) is requests others rest = record {
-    sent = (λ k. sym (asked_reply i at stream_room message ∙ is) k ∷ (rest.sent ∙ ap (λ s. replies s requests) (sym (asked_after i at stream_room message))) k);
+    sent = (λ k. sym (asked_reply i at stream_room message ∙ is) k
+        ∷ (rest.sent ∙ (λ j. given (asked_accounts i at stream_room message j) (sym (asked_after i at stream_room message) j) requests)) k);
     kdc = rest.kdc ∙ ap (λ s. run s requests) (sym (asked_after i at stream_room message));
+    accounts = rest.accounts ∙ asked_accounts i at stream_room message;
     begins = record { others = rest.begins.others; is = ap (λ l. Write conn reply ∷ l) rest.begins.is };
   }
   one_asked i message None is requests others rest = record {
     sent = ap (λ r. r ∷ []) (sym (asked_reply i at stream_room message ∙ is));
     kdc = sym (asked_after i at stream_room message);
+    accounts = asked_accounts i at stream_room message;
     begins = record { others = []; is = refl };
   }
 
@@ -103,8 +166,8 @@ module _ (at : Moment) (conn : ℕ) (fault : Option FrameFault) where
       one_asked i message (reply_of i at stream_room message) refl (stream_requests (after i at stream_room message) at messages) (messages_step (after i at stream_room message) at conn fault messages)
       (messages_stepped (after i at stream_room message) messages)
 
--- where memory is wanting
-one_before : (i : Issuing) (at : Moment) (message : List ℕ) (reply : Option (List ℕ)) (n : ℕ) (requests : List KdcEvent) (others : Issuing)
+-- where memory runs out
+one_before : (i : Issuing) (at : Moment) (message : List ℕ) (reply : Option Reply) (n : ℕ) (requests : List KdcEvent) (others : Issuing)
     → others.kdc ≡ run (after i at stream_room message).kdc (take n requests)
     → (after_reply reply (after i at stream_room message) others).kdc ≡ run (after_event i.kdc (asked i at stream_room message)) (take n (others_after reply requests))
 one_before i at message (Some reply) n requests others rest = rest ∙ ap (λ s. run s (take n requests)) (sym (asked_after i at stream_room message))
@@ -126,72 +189,77 @@ nobody_before (suc n) i at = refl
 
 -- ---- one entry
 
-record IsStepped (hub : Standing) (requests : List KdcEvent) (actions : List Action) (new : State) : Type 0 where
-  pub sent : replies_by (length requests) actions ≡ replies hub.issuing.kdc requests
-  pub kdc : new ≡ run hub.issuing.kdc requests
+record IsStepped (hub : Standing) (requests : List KdcEvent) (actions : List Action) (new : Issuing) : Type 0 where
+  pub sent : replies_by (length requests) actions ≡ given hub.issuing.accounts hub.issuing.kdc requests
+  pub kdc : new.kdc ≡ run hub.issuing.kdc requests
+  pub accounts : new.accounts ≡ hub.issuing.accounts
 
 module _ (hub : Standing) where
   abbrev opened_by : ℕ → Bool → Bool → Step
   opened_by conn there place =
       if there then nothing hub
       else if place then record { actions = []; hub = record hub { connections = map.insert hub.connections conn (started greatest_request) } }
-      else record { actions = Close conn ∷ []; hub = hub }
+      else record { actions = Close conn Full ∷ []; hub = hub }
 
-  opened_kdc : (conn : ℕ) (there place : Bool) → (opened_by conn there place).hub.issuing.kdc ≡ hub.issuing.kdc
+  opened_kdc : (conn : ℕ) (there place : Bool) → (opened_by conn there place).hub.issuing ≡ hub.issuing
   opened_kdc conn true place = refl
   opened_kdc conn false true = refl
   opened_kdc conn false false = refl
 
-  kept_kdc : (stays : Bool) (conn : ℕ) (s : Splitting) (i : Issuing) → (kept stays hub conn s i).issuing.kdc ≡ i.kdc
+  kept_kdc : (stays : Bool) (conn : ℕ) (s : Splitting) (i : Issuing) → (kept stays hub conn s i).issuing ≡ i
   kept_kdc true conn s i = refl
   kept_kdc false conn s i = refl
 
   module _ (at : Moment) where
-    piece_stepped : (conn : ℕ) (piece : List ℕ) (o : Option Splitting) → IsStepped hub (piece_requests hub.issuing at piece o) (brings hub at conn piece o).actions (brings hub at conn piece o).hub.issuing.kdc
+    piece_stepped : (conn : ℕ) (piece : List ℕ) (o : Option Splitting) → IsStepped hub (piece_requests hub.issuing at piece o) (brings hub at conn piece o).actions (brings hub at conn piece o).hub.issuing
     piece_stepped conn piece (Some s) =
         let r = messages_stepped at conn (handed_out (fed s piece)).fault hub.issuing (handed_out (fed s piece)).messages in
         let step = stream_step hub.issuing at conn (fed s piece) in
-        record { sent = r.sent; kdc = kept_kdc step.stays conn (left (fed s piece)) step.issuing ∙ r.kdc }
-    piece_stepped conn piece None = record { sent = no_reply []; kdc = refl }
+        let same = kept_kdc step.stays conn (left (fed s piece)) step.issuing in
+        record { sent = r.sent; kdc = ap (λ (i : Issuing). i.kdc) same ∙ r.kdc; accounts = ap (λ (i : Issuing). i.accounts) same ∙ r.accounts }
+    piece_stepped conn piece None = record { sent = no_reply []; kdc = refl; accounts = refl }
 
-    event_stepped : (event : Event) → IsStepped hub (event_requests hub at event) (hub_step hub at event).actions (hub_step hub at event).hub.issuing.kdc
+    event_stepped : (event : Event) → IsStepped hub (event_requests hub at event) (hub_step hub at event).actions (hub_step hub at event).hub.issuing
     event_stepped (Datagram peer request) = record {
       sent = sent_reply peer (reply_of hub.issuing at datagram_room request) ∙ ap (λ r. r ∷ []) (sym (asked_reply hub.issuing at datagram_room request));
       kdc = sym (asked_after hub.issuing at datagram_room request);
+      accounts = asked_accounts hub.issuing at datagram_room request;
     }
     event_stepped (Opened conn) = record {
       sent = no_reply _;
-      kdc = opened_kdc conn (map.contains_key hub.connections conn) (nat_lt (map.len hub.connections) most_connections);
+      kdc = ap (λ (i : Issuing). i.kdc) (opened_kdc conn (map.contains_key hub.connections conn) (nat_lt (map.len hub.connections) most_connections));
+      accounts = ap (λ (i : Issuing). i.accounts) (opened_kdc conn (map.contains_key hub.connections conn) (nat_lt (map.len hub.connections) most_connections));
     }
     event_stepped (Bytes conn piece) = piece_stepped conn piece (map.get hub.connections conn)
-    event_stepped (Closed conn) = record { sent = no_reply _; kdc = refl }
+    event_stepped (Closed conn) = record { sent = no_reply _; kdc = refl; accounts = refl }
 
     piece_before : (piece : List ℕ) (o : Option Splitting) (done : ℕ) → (after_some done hub.issuing at (messages_of piece o)).kdc ≡ run hub.issuing.kdc (take done (piece_requests hub.issuing at piece o))
     piece_before piece (Some s) done = some_before done hub.issuing at (handed_out (fed s piece)).messages
     piece_before piece None zero = nobody_before 0 hub.issuing at
     piece_before piece None (suc done) = nobody_before (suc done) hub.issuing at
 
-    stopped_stepped : (event : Event) (done draws : ℕ) → IsStepped hub (stopped_requests hub at event done) (stopped hub at event done draws).actions (stopped hub at event done draws).hub.issuing.kdc
-    stopped_stepped (Datagram peer request) done draws = record { sent = no_reply _; kdc = nobody_before done hub.issuing at }
-    stopped_stepped (Opened conn) done draws = record { sent = no_reply _; kdc = nobody_before done hub.issuing at }
+    stopped_stepped : (event : Event) (done draws : ℕ) → IsStepped hub (stopped_requests hub at event done) (stopped hub at event done draws).actions (stopped hub at event done draws).hub.issuing
+    stopped_stepped (Datagram peer request) done draws = record { sent = no_reply _; kdc = nobody_before done hub.issuing at; accounts = refl }
+    stopped_stepped (Opened conn) done draws = record { sent = no_reply _; kdc = nobody_before done hub.issuing at; accounts = refl }
     stopped_stepped (Bytes conn piece) done draws =
         let o = map.get hub.connections conn in
         let requests = piece_requests hub.issuing at piece o in
         record {
           sent = first_replies done requests (brings hub at conn piece o).actions
               ∙ ap (take done) (piece_stepped conn piece o).sent
-              ∙ first_of_run done hub.issuing.kdc requests;
+              ∙ first_of_run done hub.issuing.accounts hub.issuing.kdc requests;
           kdc = piece_before piece o done;
+          accounts = refl;
         }
-    stopped_stepped (Closed conn) done draws = record { sent = no_reply _; kdc = refl }
+    stopped_stepped (Closed conn) done draws = record { sent = no_reply _; kdc = refl; accounts = refl }
 
-    entry_stepped : (stop : Option Stop) (event : Event) → IsStepped hub (requests_by stop hub at event) (step_by stop hub at event).actions (step_by stop hub at event).hub.issuing.kdc
+    entry_stepped : (stop : Option Stop) (event : Event) → IsStepped hub (requests_by stop hub at event) (step_by stop hub at event).actions (step_by stop hub at event).hub.issuing
     entry_stepped None event = event_stepped event
     entry_stepped (Some stop) event = stopped_stepped event stop.done stop.draws
 
 -- ---- who is answered
 
-sent_begins : (peer : SocketAddr) (reply : Option (List ℕ)) → Begins (flat_map (sent peer) (replies_by 1 (sent peer reply))) (sent peer reply)
+sent_begins : (peer : Peer) (reply : Option Reply) → Begins (flat_map (sent peer) (replies_by 1 (sent peer reply))) (sent peer reply)
 unfolding replies_by
 sent_begins peer (Some reply) = record { others = []; is = refl }
 sent_begins peer None = record { others = []; is = refl }
@@ -200,7 +268,7 @@ nothing_begins : (conn : ℕ) (actions : List Action) → Begins (map_list (acti
 unfolding replies_by
 nothing_begins conn actions = record { others = actions; is = refl }
 
-nobody_begins : (peer : SocketAddr) → Begins (flat_map (sent peer) (replies_by 0 [])) []
+nobody_begins : (peer : Peer) → Begins (flat_map (sent peer) (replies_by 0 [])) []
 unfolding replies_by
 nobody_begins peer = record { others = []; is = refl }
 
@@ -245,27 +313,103 @@ module _ (hub : Standing) (at : Moment) where
 pub who_asked : AnswersWhoAsked
 who_asked hub entry = answers_who_asked hub entry.at entry.stop entry.event
 
+-- ---- an entry's events are requests
+
+abbrev IsAsked : KdcEvent → Type 0
+IsAsked (Request at random room request) = ⊤
+IsAsked (Change change) = ⊥
+IsAsked (Replace database) = ⊥
+IsAsked (Tidy at) = ⊥
+IsAsked (Restart at) = ⊥
+IsAsked (Reopen database limits at) = ⊥
+
+abbrev AreAsked : List KdcEvent → Type 0
+AreAsked = AllByRecursion IsAsked
+
+some_asked : (n : ℕ) (events : List KdcEvent) → AreAsked events → AreAsked (take n events)
+some_asked zero events a = tt
+some_asked (suc n) [] a = tt
+some_asked (suc n) (event ∷ events) a = (a.0, some_asked n events a.1)
+
+others_asked : (reply : Option Reply) (others : List KdcEvent) → AreAsked others → AreAsked (others_after reply others)
+others_asked (Some reply) others a = a
+others_asked None others a = tt
+
+stream_asks : (i : Issuing) (at : Moment) (messages : List (List ℕ)) → AreAsked (stream_requests i at messages)
+unfolding stream_requests
+stream_asks i at [] = tt
+stream_asks i at (message ∷ messages) =
+    (tt, others_asked (reply_of i at stream_room message) (stream_requests (after i at stream_room message) at messages) (stream_asks (after i at stream_room message) at messages))
+
+piece_asks : (i : Issuing) (at : Moment) (piece : List ℕ) (o : Option Splitting) → AreAsked (piece_requests i at piece o)
+piece_asks i at piece (Some s) = stream_asks i at (handed_out (fed s piece)).messages
+piece_asks i at piece None = tt
+
+entry_asks : (hub : Standing) (at : Moment) (stop : Option Stop) (event : Event) → AreAsked (requests_by stop hub at event)
+entry_asks hub at None (Datagram peer request) = (tt, tt)
+entry_asks hub at None (Opened conn) = tt
+entry_asks hub at None (Bytes conn piece) = piece_asks hub.issuing at piece (map.get hub.connections conn)
+entry_asks hub at None (Closed conn) = tt
+entry_asks hub at (Some stop) (Datagram peer request) = tt
+entry_asks hub at (Some stop) (Opened conn) = tt
+entry_asks hub at (Some stop) (Bytes conn piece) = some_asked stop.done _ (piece_asks hub.issuing at piece (map.get hub.connections conn))
+entry_asks hub at (Some stop) (Closed conn) = tt
+
+-- where accounts are kept, each request has one
+accounts_given : (kept : Bool) → IsTrue kept → (state : State) (events : List KdcEvent) → AreAsked events
+    → map_list account_in (given kept state events) ≡ accounts state events
+accounts_given kept is state [] asked = refl
+accounts_given kept is state (Request at random room request ∷ events) asked =
+    let one : account_in (reply_by kept (view state request) at random room request) ≡ Some (account (view state request) at random room request)
+    = subst (λ b. account_in (reply_by b (view state request) at random room request) ≡ Some (account (view state request) at random room request)) (sym is)
+    (account_given (view state request) at random room request) in
+    λ k. one k ∷ accounts_given kept is (after_event state (Request at random room request)) events asked.1 k
+accounts_given kept is state (Change change ∷ events) asked = absurd asked.0
+accounts_given kept is state (Replace database ∷ events) asked = absurd asked.0
+accounts_given kept is state (Tidy at ∷ events) asked = absurd asked.0
+accounts_given kept is state (Restart at ∷ events) asked = absurd asked.0
+accounts_given kept is state (Reopen database limits at ∷ events) asked = absurd asked.0
+
+accounts_append : (state : State) (events others : List KdcEvent) → accounts state (events ++ others) ≡ accounts state events ++ accounts (run state events) others
+accounts_append state [] others = refl
+accounts_append state (event ∷ events) others =
+    ap (λ l. event_accounts state event ++ l) (accounts_append (after_event state event) events others)
+    ∙ sym (append_assoc (event_accounts state event) (accounts (after_event state event) events) (accounts (run (after_event state event) events) others))
+
 -- ---- histories
 
 record IsTurned (hub : Standing) (turn : Turn) : Type 0 where
   pub sent : turn_replies hub turn ≡ replies hub.issuing.kdc (turn_events hub turn)
+  pub accounts_are : IsTrue hub.issuing.accounts → turn_accounts hub turn ≡ accounts hub.issuing.kdc (turn_events hub turn)
+  pub keeps : IsTrue hub.issuing.accounts → KeepsAccounts turn → IsTrue (after_turn hub turn).issuing.accounts
   pub kdc : (after_turn hub turn).issuing.kdc ≡ run hub.issuing.kdc (turn_events hub turn)
 
 turned : (hub : Standing) (turn : Turn) → IsTurned hub turn
 turned hub (Stepped entry) =
     let step = entry_stepped hub entry.at entry.stop entry.event in
-    record { sent = step.sent; kdc = step.kdc }
-turned hub (Replaced database) = record { sent = refl; kdc = refl }
-turned hub (Reopened database limits at random) = record { sent = refl; kdc = refl }
+    let requests = requests_by entry.stop hub entry.at entry.event in
+    record {
+      sent = ap (map_list octets_of) step.sent ∙ replies_given hub.issuing.accounts hub.issuing.kdc requests;
+      accounts_are = λ kept. ap (map_list account_in) step.sent
+          ∙ accounts_given hub.issuing.accounts kept hub.issuing.kdc requests (entry_asks hub entry.at entry.stop entry.event);
+      keeps = λ kept all. step.accounts ∙ kept;
+      kdc = step.kdc;
+    }
+turned hub (Replaced database) = record { sent = refl; accounts_are = λ kept. refl; keeps = λ kept all. kept; kdc = refl }
+turned hub (Tidied at) = record { sent = refl; accounts_are = λ kept. refl; keeps = λ kept all. kept; kdc = refl }
+turned hub (Reopened database limits at random kept) = record { sent = refl; accounts_are = λ before. refl; keeps = λ before all. all; kdc = refl }
 
 pub one_run : (start : Standing) (turns : List Turn) → IsOneRun start turns
-one_run start [] = record { replies_are = refl; kdc_is = refl }
+one_run start [] = record { replies_are = refl; accounts_are = λ kept all. refl; kdc_is = refl }
 one_run start (turn ∷ turns) =
     let first = turned start turn in
     let rest = one_run (after_turn start turn) turns in
     let later = events_in (after_turn start turn) turns in
     record {
       replies_are = (λ k. first.sent k ++ (rest.replies_are ∙ ap (λ s. replies s later) first.kdc) k) ∙ sym (replies_append start.issuing.kdc (turn_events start turn) later);
+      accounts_are = λ kept all.
+          (λ k. first.accounts_are kept k ++ (rest.accounts_are (first.keeps kept all.0) all.1 ∙ ap (λ s. accounts s later) first.kdc) k)
+          ∙ sym (accounts_append start.issuing.kdc (turn_events start turn) later);
       kdc_is = rest.kdc_is ∙ ap (λ s. run s later) first.kdc ∙ sym (run_append start.issuing.kdc (turn_events start turn) later);
     }
 
@@ -319,6 +463,13 @@ unaffected start turns other others c S granter within within_other a same =
           (subst (λ s. AgreesFor c S (run k (events_in start turns)) s) (sym there.kdc_is) gets.afterwards);
     }
 
+pub unseen : TidiesUnseen
+unseen start turns follow =
+    let k = start.issuing.kdc in
+    ap (chosen is_request k (events_in start turns)) (one_run start turns).replies_are
+    ∙ chosen_of_run is_request k (events_in start turns)
+    ∙ tidies_unseen k (events_in start turns) follow
+
 tickets_are : (c : Components) (state : State) (events : List KdcEvent) → tickets_among c state events (replies state events) ≡ tickets_to c state events
 tickets_are c state [] = refl
 tickets_are c state (event ∷ events) = ap (with_any (ticket_to c state event)) (tickets_are c (after_event state event) events)
@@ -335,6 +486,7 @@ abbrev GoesOn : KdcEvent → Type 0
 GoesOn (Request at random room request) = ⊤
 GoesOn (Change change) = ⊥
 GoesOn (Replace database) = ⊤
+GoesOn (Tidy at) = ⊤
 GoesOn (Restart at) = ⊥
 GoesOn (Reopen database limits at) = ⊥
 
@@ -345,39 +497,23 @@ both_go_on : (events others : List KdcEvent) → AllGoOn events → AllGoOn othe
 both_go_on [] others a b = b
 both_go_on (event ∷ events) others a b = (a.0, both_go_on events others a.1 b)
 
-some_go_on : (n : ℕ) (events : List KdcEvent) → AllGoOn events → AllGoOn (take n events)
-some_go_on zero events a = tt
-some_go_on (suc n) [] a = tt
-some_go_on (suc n) (event ∷ events) a = (a.0, some_go_on n events a.1)
+goes_on_asked : (event : KdcEvent) → IsAsked event → GoesOn event
+goes_on_asked (Request at random room request) a = tt
+goes_on_asked (Change change) a = a
+goes_on_asked (Replace database) a = tt
+goes_on_asked (Tidy at) a = tt
+goes_on_asked (Restart at) a = a
+goes_on_asked (Reopen database limits at) a = a
 
-others_go_on : (reply : Option (List ℕ)) (others : List KdcEvent) → AllGoOn others → AllGoOn (others_after reply others)
-others_go_on (Some reply) others a = a
-others_go_on None others a = tt
-
-stream_asks : (i : Issuing) (at : Moment) (messages : List (List ℕ)) → AllGoOn (stream_requests i at messages)
-unfolding stream_requests
-stream_asks i at [] = tt
-stream_asks i at (message ∷ messages) =
-    (tt, others_go_on (reply_of i at stream_room message) (stream_requests (after i at stream_room message) at messages) (stream_asks (after i at stream_room message) at messages))
-
-piece_asks : (i : Issuing) (at : Moment) (piece : List ℕ) (o : Option Splitting) → AllGoOn (piece_requests i at piece o)
-piece_asks i at piece (Some s) = stream_asks i at (handed_out (fed s piece)).messages
-piece_asks i at piece None = tt
-
-entry_asks : (hub : Standing) (at : Moment) (stop : Option Stop) (event : Event) → AllGoOn (requests_by stop hub at event)
-entry_asks hub at None (Datagram peer request) = (tt, tt)
-entry_asks hub at None (Opened conn) = tt
-entry_asks hub at None (Bytes conn piece) = piece_asks hub.issuing at piece (map.get hub.connections conn)
-entry_asks hub at None (Closed conn) = tt
-entry_asks hub at (Some stop) (Datagram peer request) = tt
-entry_asks hub at (Some stop) (Opened conn) = tt
-entry_asks hub at (Some stop) (Bytes conn piece) = some_go_on stop.done _ (piece_asks hub.issuing at piece (map.get hub.connections conn))
-entry_asks hub at (Some stop) (Closed conn) = tt
+all_go_on : (events : List KdcEvent) → AreAsked events → AllGoOn events
+all_go_on [] a = tt
+all_go_on (event ∷ events) a = (goes_on_asked event a.0, all_go_on events a.1)
 
 turn_asks : (hub : Standing) (turn : Turn) → IsOfOneProcess turn → AllGoOn (turn_events hub turn)
-turn_asks hub (Stepped entry) one = entry_asks hub entry.at entry.stop entry.event
+turn_asks hub (Stepped entry) one = all_go_on _ (entry_asks hub entry.at entry.stop entry.event)
 turn_asks hub (Replaced database) one = (tt, tt)
-turn_asks hub (Reopened database limits at random) one = absurd one
+turn_asks hub (Tidied at) one = (tt, tt)
+turn_asks hub (Reopened database limits at random kept) one = absurd one
 
 turns_ask : (start : Standing) (turns : List Turn) → AllByRecursion IsOfOneProcess turns → AllGoOn (events_in start turns)
 turns_ask start [] one = tt
@@ -388,6 +524,7 @@ from_any now [] a = tt
 from_any now (Request at random room request ∷ events) a = from_any now events a.1
 from_any now (Change change ∷ events) a = absurd a.0
 from_any now (Replace database ∷ events) a = from_any now events a.1
+from_any now (Tidy at ∷ events) a = from_any now events a.1
 from_any now (Restart at ∷ events) a = absurd a.0
 from_any now (Reopen database limits at ∷ events) a = absurd a.0
 
@@ -396,6 +533,7 @@ follow_any [] a = tt
 follow_any (Request at random room request ∷ events) a = (from_any at.sec events a.1, follow_any events a.1)
 follow_any (Change change ∷ events) a = absurd a.0
 follow_any (Replace database ∷ events) a = follow_any events a.1
+follow_any (Tidy at ∷ events) a = follow_any events a.1
 follow_any (Restart at ∷ events) a = absurd a.0
 follow_any (Reopen database limits at ∷ events) a = absurd a.0
 

@@ -10,6 +10,7 @@ use Rattle.framing.specs.Splitting.{Splitting, fed, handed_out, left}
 use Rattle.krb_fields.specs.declared.moment.Moment.{Moment}
 use Rattle.kdc_hub.specs.declared.event.Action.{Action}
 use Rattle.kdc_hub.specs.declared.event.Action.TheVariants.{Close}
+use Rattle.kdc_hub.specs.declared.event.CloseReason.TheVariants.{Full}
 use Rattle.kdc_hub.specs.declared.event.Event.TheVariants.{Opened}
 use Rattle.kdc_hub.specs.declared.event.HubFault.{HubFault}
 use Rattle.kdc_state.specs.declared.state.State.{State}
@@ -21,17 +22,17 @@ use Rattle.kdc_hub.proofs.Tables.{set_anew, taken_out}
 abbrev pub Table : Type 0
 Table = map.FinMap nat_cmp Splitting
 
-pub same_issuing : (k l : State) (r s : Stream) → k ≡ l → r ≡ s → (let x : Issuing = record { kdc = k; random = r } in x) ≡ record { kdc = l; random = s }
-same_issuing k l r s e h = rw (e, h) refl
+pub same_issuing : (k l : State) (r s : Stream) (a b : Bool) → k ≡ l → r ≡ s → a ≡ b → (let x : Issuing = record { kdc = k; random = r; accounts = a } in x) ≡ record { kdc = l; random = s; accounts = b }
+same_issuing k l r s a b e h f = λ i. record { kdc = e i; random = h i; accounts = f i }
 
 -- nothing was answered, and nothing drawn, or 64 octets
 pub stopped_before : (n draws : ℕ) (i : Issuing) (at : Moment) (requests : List (List ℕ)) → n ≡ 0 → draws ≡ 0 → i ≡ stopped_issuing i at requests n draws
 unfolding after_some drawn
 stopped_before n draws i at requests e d = rw (e, d) refl
 
-pub stopped_drawn : (n draws : ℕ) (i i' : Issuing) (at : Moment) (requests : List (List ℕ)) → n ≡ 0 → draws ≡ 1 → i'.kdc ≡ i.kdc → i'.random ≡ (fill_bytes 64 i.random).1 → i' ≡ stopped_issuing i at requests n draws
+pub stopped_drawn : (n draws : ℕ) (i i' : Issuing) (at : Moment) (requests : List (List ℕ)) → n ≡ 0 → draws ≡ 1 → i'.kdc ≡ i.kdc → i'.random ≡ (fill_bytes 64 i.random).1 → i'.accounts ≡ i.accounts → i' ≡ stopped_issuing i at requests n draws
 unfolding after_some drawn
-stopped_drawn n draws i i' at requests e d kdc random = rw (e, d) (same_issuing i'.kdc i.kdc i'.random _ kdc random)
+stopped_drawn n draws i i' at requests e d kdc random accounts = rw (e, d) (same_issuing i'.kdc i.kdc i'.random _ i'.accounts i.accounts kdc random accounts)
 
 pub same_standing : (i j : Issuing) (c d : Table) → i ≡ j → c ≡ d → (let s : Standing = record { issuing = i; connections = c } in s) ≡ record { issuing = j; connections = d }
 same_standing i j c d e h = rw (e, h) refl
@@ -72,17 +73,17 @@ module _ (hub : Standing) (at : Moment) (conn : ℕ) (piece : List ℕ) (o : Opt
         ∙ kept_hub false (sym closed ∙ e),
   )
 
-  -- memory is wanting
+  -- memory ran out
   pub is_stopped : (done : List Action) (i : Issuing) (draws : ℕ) (place : Splitting) (table table' : Table)
-      → done ≡ take (length done) (stream_step hub.issuing at conn f).actions → i.kdc ≡ (after_some (length done) hub.issuing at (handed_out f).messages).kdc → i.random ≡ drawn draws hub.issuing.random
+      → done ≡ take (length done) (stream_step hub.issuing at conn f).actions → i.kdc ≡ (after_some (length done) hub.issuing at (handed_out f).messages).kdc → i.random ≡ drawn draws hub.issuing.random → i.accounts ≡ hub.issuing.accounts
       → table ≡ map.insert hub.connections conn place → table' ≡ map.remove table conn
       → (done ≡ take (length done) (brings hub at conn piece o).actions)
       × ((let x : Standing = record { issuing = i; connections = table' } in x) ≡ record { issuing = stopped_issuing hub.issuing at (requests_of piece o) (length done) draws; connections = map.remove hub.connections conn })
   unfolding full
-  is_stopped done i draws place table table' acts kdc random first then = (
+  is_stopped done i draws place table table' acts kdc random accounts first then = (
     acts ∙ ap (take (length done)) taken_actions,
     same_standing i _ table' (map.remove hub.connections conn)
-        (same_issuing i.kdc _ i.random _ kdc random ∙ ap (λ x. stopped_issuing hub.issuing at (handed_out x).messages (length done) draws) feed ∙ sym (ap (λ x. stopped_issuing hub.issuing at (requests_of piece x) (length done) draws) is))
+        (same_issuing i.kdc _ i.random _ i.accounts hub.issuing.accounts kdc random accounts ∙ ap (λ x. stopped_issuing hub.issuing at (handed_out x).messages (length done) draws) feed ∙ sym (ap (λ x. stopped_issuing hub.issuing at (requests_of piece x) (length done) draws) is))
         (then ∙ ap (λ m. map.remove m conn) first ∙ taken_out hub.connections conn place),
   )
 
@@ -94,13 +95,13 @@ pub not_fed : (hub : Standing) (at : Moment) (conn : ℕ) (piece : List ℕ) (o 
 not_fed hub at conn piece o done draws place table table' e d first then =
     (rw e refl, same_standing hub.issuing _ table' _ (stopped_before (length done) draws hub.issuing at (requests_of piece o) (ap length e) d) (then ∙ ap (λ m. map.remove m conn) first ∙ taken_out hub.connections conn place))
 
-full_there : (hub : Standing) (conn : ℕ) → map.contains_key hub.connections conn ≡ false → nat_lt (map.len hub.connections) most_connections ≡ false → opened hub conn ≡ record { actions = Close conn ∷ []; hub = hub }
+full_there : (hub : Standing) (conn : ℕ) → map.contains_key hub.connections conn ≡ false → nat_lt (map.len hub.connections) most_connections ≡ false → opened hub conn ≡ record { actions = Close conn Full ∷ []; hub = hub }
 full_there hub conn e h = rw (e, h) refl
 
 -- a connection for which there is no place
 pub table_full : (hub : Standing) (at : Moment) (conn : ℕ) (there : Bool) (n : ℕ) (r : Result (Vec Action Global) HubFault)
     → there ≡ map.contains_key hub.connections conn → there ≡ false → n ≡ map.len hub.connections → most_connections ≤ n
-    → IfOk r (λ actions. actions.items ≡ Close conn ∷ []) → IfErr r (λ fault. fault.done.items ≡ []) → IfErr r (λ fault. fault.conn ≡ Some conn) → IfErr r (λ fault. fault.draws ≡ 0)
+    → IfOk r (λ actions. actions.items ≡ Close conn Full ∷ []) → IfErr r (λ fault. fault.done.items ≡ []) → IfErr r (λ fault. fault.conn ≡ Some conn) → IfErr r (λ fault. fault.draws ≡ 0)
     → Steps hub at (Opened conn) r hub
 table_full hub at conn there n (Ok actions) is no_one len le ok done at_conn draws =
     let e = full_there hub conn (sym is ∙ no_one) (le-ltb (map.len hub.connections) most_connections (omega (arith, len, le))) in

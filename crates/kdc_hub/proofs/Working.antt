@@ -15,6 +15,8 @@ use Rattle.kdc_hub.specs.declared.event.Action.{Action}
 use Rattle.kdc_hub.specs.declared.event.Action.TheVariants.{Write, Close}
 use Rattle.kdc_hub.specs.declared.event.Event.{Event}
 use Rattle.kdc_hub.specs.declared.event.Event.TheVariants.{Datagram, Opened, Bytes, Closed}
+use Rattle.kdc_hub.specs.declared.reply.Reply.{Reply}
+use Rattle.kdc_hub.specs.declared.event.CloseReason.TheVariants.{NoRequest, BadLength, Full}
 use Rattle.kdc_hub.specs.Issuing.{Issuing, after, reply_of, too_long}
 use Rattle.kdc_hub.specs.StreamStep.{StreamStep, reply_then, messages_step, stream_step, stream_room, action_for}
 use Rattle.kdc_hub.specs.Hub.{Standing, Step, brings, kept, hub_step, opened, sent, datagram_room, most_connections, greatest_request}
@@ -68,7 +70,7 @@ pub record Place : Type 0 where
   pub issuing : Issuing
   pub table : Table
 
-abbrev pub table_after : Option (List ℕ) → Table → ℕ → Table
+abbrev pub table_after : Option Reply → Table → ℕ → Table
 table_after (Some reply) table conn = table
 table_after None table conn = map.remove table conn
 
@@ -82,7 +84,7 @@ abbrev pub come_actions : Place → ℕ → List Action
 come_actions p conn =
     if map.contains_key p.table conn then []
     else if nat_lt (map.len p.table) most_connections then []
-    else Close conn ∷ []
+    else Close conn Full ∷ []
 
 abbrev pub goes_to : Place → Moment → Work → Place
 goes_to p at (Asked peer request) = record p { issuing = after p.issuing at datagram_room request }
@@ -94,7 +96,7 @@ goes_to p at (Went conn) = record p { table = map.remove p.table conn }
 abbrev pub acts : Place → Moment → Work → List Action
 acts p at (Asked peer request) = sent peer (reply_of p.issuing at datagram_room request)
 acts p at (Requested conn request) = action_for conn (reply_of p.issuing at stream_room request) ∷ []
-acts p at (Faulted conn) = Write conn (too_long p.issuing.kdc at) ∷ Close conn ∷ []
+acts p at (Faulted conn) = Write conn (too_long p.issuing.kdc at) ∷ Close conn BadLength ∷ []
 acts p at (Came conn) = come_actions p conn
 acts p at (Went conn) = []
 
@@ -132,10 +134,10 @@ stream_worked i at conn None [] table = record { actions = refl; place = refl }
 stream_worked i at conn (Some fault) [] table = record { actions = refl; place = refl }
 stream_worked i at conn fault (m ∷ ms) table = at_reply (reply_of i at stream_room m) refl (stream_worked (after i at stream_room m) at conn fault ms table)
   where
-    next : Option (List ℕ) → Place
+    next : Option Reply → Place
     next x = record { issuing = after i at stream_room m; table = table_after x table conn }
 
-    at_reply : (r : Option (List ℕ)) → reply_of i at stream_room m ≡ r → IsStreamWorked (after i at stream_room m) at conn fault ms table → IsStreamWorked i at conn fault (m ∷ ms) table
+    at_reply : (r : Option Reply) → reply_of i at stream_room m ≡ r → IsStreamWorked (after i at stream_room m) at conn fault ms table → IsStreamWorked i at conn fault (m ∷ ms) table
     at_reply (Some r) e others = record {
       actions =
           ap (λ x. action_for conn x ∷ all_acts (next x) (others_if x (stream_works (after i at stream_room m) at conn fault ms))) e

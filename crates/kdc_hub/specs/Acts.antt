@@ -11,7 +11,7 @@ use Rattle.kdc_hub.specs.declared.wires.Did.{Did}
 use Rattle.kdc_hub.specs.declared.wires.Did.TheVariants.{Acted, Failed}
 use Rattle.kdc_hub.specs.Hub.{Standing, hub_step}
 use Rattle.kdc_hub.specs.Logged.{Stop, logged}
-use Rattle.kdc_hub.specs.Wire.{Tells, is_fault}
+use Rattle.kdc_hub.specs.Wire.{Records, is_fault}
 use Rattle.kdc_hub.specs.Rounds.{IsRound, Took, Tried, Tries, action_connection, ending, entries_of, is_refused}
 
 abbrev pub faults_by : ActOutcome → ℕ
@@ -21,11 +21,11 @@ faults_by Ended = 1
 
 -- what one act leaves
 abbrev pub IsAct : ActOutcome → Option (List Did) → Standing → Moment → Action → Option (List Did) → Standing → Type 0
-IsAct Done before hub at action after new = Tells before (Acted action ∷ []) after × (new ≡ hub)
+IsAct Done before hub at action after new = Records before (Acted action ∷ []) after × (new ≡ hub)
 IsAct Dropped before hub at action after new =
-    Tells before (Failed action ∷ []) after × (action_connection action ≡ None) × (new ≡ hub)
+    Records before (Failed action ∷ []) after × (action_connection action ≡ None) × (new ≡ hub)
 IsAct Ended before hub at action after new =
-    (conn : ℕ) × Tells before (Failed action ∷ []) after × (action_connection action ≡ Some conn)
+    (conn : ℕ) × Records before (Failed action ∷ []) after × (action_connection action ≡ Some conn)
     × (new ≡ (hub_step hub at (Closed conn)).hub)
 
 -- what the acts of a list of actions leave
@@ -34,7 +34,7 @@ pub record AreActs (before : Option (List Did)) (start : Standing) (at : Moment)
   pub did : List Did
   pub lost : Option ℕ
   pub tries : Tries actions did lost
-  pub told : Tells before did after
+  pub recorded : Records before did after
   pub hub : new ≡ (logged start (ending at lost)).hub
   pub faults : failed ≡ count_by is_fault did
 
@@ -45,9 +45,10 @@ pub record IsTaken (before : Option (List Did)) (start : Standing) (at : Moment)
   pub acts : Tried
   pub close : Tried
   pub is : IsRound start (Took (record { at = at; event = event; stop = stop }) acts close)
-  pub told : Tells before (acts.did ++ close.did) after
+  pub recorded : Records before (acts.did ++ close.did) after
   pub hub : new ≡ (logged start (entries_of (Took (record { at = at; event = event; stop = stop }) acts close))).hub
   pub events : served.events ≡ 1
   pub faults : served.faults ≡ count_by is_fault (acts.did ++ close.did)
   pub refused : served.refused
       ≡ count_by is_refused (entries_of (Took (record { at = at; event = event; stop = stop }) acts close))
+  pub last : served.last ≡ Some at

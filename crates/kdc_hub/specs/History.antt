@@ -1,6 +1,6 @@
 -- What a server lives through, and what that is in the one run of its key distribution centre.
 use Rattle.std.specs.Prelude.{◌≡◌, ℕ, ⊤, zero, suc, Bool, List, [], ◌∷◌, ◌++◌, length, map as map_list, take, Option}
-use Rattle.std.specs.Prelude.{Some, None, if◌then◌else◌, IsTrue}
+use Rattle.std.specs.Prelude.{Some, None, if◌then◌else◌, IsTrue, option_map}
 use Rattle.std.specs.FinMap as map
 use Rattle.std.specs.List.{AllByRecursion, flat_map}
 use Rattle.rand_core.specs.Stream.{Stream, fill_bytes}
@@ -12,18 +12,24 @@ use Rattle.principals.specs.Database.{Principals, ticket_granter}
 use Rattle.replay.specs.declared.opening.Opening.TheVariants.{Restart}
 use Rattle.replay.specs.Run.{OneForEach, with_any}
 use Rattle.replay.specs.Stamp.{Stamp}
-use Rattle.kdc_state.specs.State.{opened_state}
+use Rattle.kdc_state.specs.State.{opened_state, tidied_state}
 use Rattle.kdc_state.specs.declared.state.State.{State}
+use Rattle.kdc_core.specs.Account.{Account, account}
 use Rattle.kdc_core.specs.Run.{after_event, replaced, replies, run}
-use Rattle.kdc_core.specs.Struck.{AgreesFor, Names, ServicesWithin, is_request, is_request_of, strike}
+use Rattle.kdc_core.specs.Struck.{AgreesFor, Names, ServicesWithin, is_request, is_request_of, replies_to, strike}
 use Rattle.kdc_core.specs.Tickets.{RestartsFollow, ticket_for}
+use Rattle.kdc_core.specs.Unaffected.{AreAlike}
+use Rattle.kdc_core.specs.Unseen.{RequestsFollow, untidied}
+use Rattle.kdc_core.specs.View.{view}
+use Rattle.kdc_core.specs.declared.account.Account.TheVariants.{NoRequest}
 use Rattle.kdc_core.specs.declared.run.Event.{Event as KdcEvent}
-use Rattle.kdc_core.specs.declared.run.Event.TheVariants.{Request, Replace, Reopen}
+use Rattle.kdc_core.specs.declared.run.Event.TheVariants.{Request, Change, Replace, Tidy, Restart as Restarts, Reopen}
 use Rattle.kdc_hub.specs.declared.event.Action.{Action}
-use Rattle.kdc_hub.specs.declared.event.Action.TheVariants.{SendTo, Write, Close}
+use Rattle.kdc_hub.specs.declared.event.Action.TheVariants.{SendTo, Pass, Write, Close}
 use Rattle.kdc_hub.specs.declared.event.Event.{Event}
 use Rattle.kdc_hub.specs.declared.event.Event.TheVariants.{Datagram, Opened, Bytes, Closed}
-use Rattle.kdc_hub.specs.Issuing.{Issuing, after, reply_of}
+use Rattle.kdc_hub.specs.declared.reply.Reply.{Reply}
+use Rattle.kdc_hub.specs.Issuing.{Issuing, after, reply_by, reply_of}
 use Rattle.kdc_hub.specs.StreamStep.{action_for, stream_room}
 use Rattle.kdc_hub.specs.Hub.{Standing, datagram_room, sent}
 use Rattle.kdc_hub.specs.Logged.{Entry, Stop, step_of}
@@ -35,7 +41,7 @@ abbrev pub asked : Issuing → Moment → ℕ → List ℕ → KdcEvent
 asked i at room request = Request at (fill_bytes 64 i.random).0 room request
 
 -- after a request without a reply a connection brings no others
-abbrev pub others_after : Option (List ℕ) → List KdcEvent → List KdcEvent
+abbrev pub others_after : Option Reply → List KdcEvent → List KdcEvent
 others_after (Some reply) others = others
 others_after None others = []
 
@@ -55,7 +61,7 @@ event_requests hub at (Opened conn) = []
 event_requests hub at (Bytes conn piece) = piece_requests hub.issuing at piece (map.get hub.connections conn)
 event_requests hub at (Closed conn) = []
 
--- where memory is wanting, those that were answered before
+-- where memory runs out, those that were answered before
 abbrev pub stopped_requests : Standing → Moment → Event → ℕ → List KdcEvent
 stopped_requests hub at (Datagram peer request) done = []
 stopped_requests hub at (Opened conn) done = []
@@ -72,20 +78,28 @@ requests_of hub entry = requests_by entry.stop hub entry.at entry.event
 
 -- ---- the replies that actions send
 
-abbrev pub reply_in : Action → Option (List ℕ)
-reply_in (SendTo peer message) = Some message
-reply_in (Write conn message) = Some message
-reply_in (Close conn) = None
+abbrev pub reply_in : Action → Option Reply
+reply_in (SendTo peer reply) = Some reply
+reply_in (Pass peer) = None
+reply_in (Write conn reply) = Some reply
+reply_in (Close conn reason) = None
 
--- the replies to so many requests: each action sends one or none, in order,
--- and a request for which there is no action has none
-unfoldable pub replies_by : ℕ → List Action → List (Option (List ℕ))
+-- the replies to so many requests: each action sends one or none, in order
+unfoldable pub replies_by : ℕ → List Action → List (Option Reply)
 replies_by zero actions = []
 replies_by (suc n) [] = None ∷ replies_by n []
 replies_by (suc n) (action ∷ actions) = reply_in action ∷ replies_by n actions
 
--- the actions that send replies to who asked
-abbrev pub answers : Event → List (Option (List ℕ)) → List Action
+abbrev pub octets_of : Option Reply → Option (List ℕ)
+octets_of reply = option_map (λ (r : Reply). r.message) reply
+
+-- what is said of a request: the account that its reply bears; without a reply, that it was no request
+abbrev pub account_in : Option Reply → Option Account
+account_in (Some reply) = reply.account
+account_in None = Some NoRequest
+
+-- the actions that send replies to the peer or connection that asked
+abbrev pub answers : Event → List (Option Reply) → List Action
 answers (Datagram peer request) replies = flat_map (sent peer) replies
 answers (Opened conn) replies = []
 answers (Bytes conn piece) replies = map_list (action_for conn) replies
@@ -93,20 +107,26 @@ answers (Closed conn) replies = []
 
 -- ---- histories
 
--- an event's step; another database; or the end of the process,
--- and the beginning of another, with a generator of its own
+-- an event's step; another database; what can't come again is forgotten; or the end of the process,
+-- and the beginning of another, with a generator of its own, which keeps accounts or not
 pub data Turn : Type 0 where
   Stepped : Entry → Turn
   Replaced : Principals → Turn
-  Reopened : Principals → Limits → Moment → Stream → Turn
+  Tidied : Moment → Turn
+  Reopened : Principals → Limits → Moment → Stream → Bool → Turn
 
 -- the hub afterwards
 abbrev pub after_turn : Standing → Turn → Standing
 after_turn hub (Stepped entry) = (step_of hub entry).hub
 after_turn hub (Replaced database) =
     record hub { issuing = record hub.issuing { kdc = replaced hub.issuing.kdc database } }
-after_turn hub (Reopened database limits at random) = record {
-  issuing = record { kdc = opened_state database limits (Restart at); random = random };
+after_turn hub (Tidied at) = record hub { issuing = record hub.issuing { kdc = tidied_state hub.issuing.kdc at } }
+after_turn hub (Reopened database limits at random kept) = record {
+  issuing = record {
+    kdc = opened_state database limits (Restart at);
+    random = random;
+    accounts = kept;
+  };
   connections = map.empty;
 }
 
@@ -114,13 +134,19 @@ after_turn hub (Reopened database limits at random) = record {
 abbrev pub turn_events : Standing → Turn → List KdcEvent
 turn_events hub (Stepped entry) = requests_of hub entry
 turn_events hub (Replaced database) = Replace database ∷ []
-turn_events hub (Reopened database limits at random) = Reopen database limits at ∷ []
+turn_events hub (Tidied at) = Tidy at ∷ []
+turn_events hub (Reopened database limits at random kept) = Reopen database limits at ∷ []
+
+-- the replies that are sent to the requests of an entry, with their accounts
+abbrev pub entry_replies : Standing → Entry → List (Option Reply)
+entry_replies hub entry = replies_by (length (requests_of hub entry)) (step_of hub entry).actions
 
 -- the replies that are sent
 abbrev pub turn_replies : Standing → Turn → List (Option (List ℕ))
-turn_replies hub (Stepped entry) = replies_by (length (requests_of hub entry)) (step_of hub entry).actions
+turn_replies hub (Stepped entry) = map_list octets_of (entry_replies hub entry)
 turn_replies hub (Replaced database) = None ∷ []
-turn_replies hub (Reopened database limits at random) = None ∷ []
+turn_replies hub (Tidied at) = None ∷ []
+turn_replies hub (Reopened database limits at random kept) = None ∷ []
 
 abbrev pub after_turns : Standing → List Turn → Standing
 after_turns hub [] = hub
@@ -134,20 +160,54 @@ abbrev pub replies_in : Standing → List Turn → List (Option (List ℕ))
 replies_in hub [] = []
 replies_in hub (turn ∷ turns) = turn_replies hub turn ++ replies_in (after_turn hub turn) turns
 
+-- the accounts of the requests, in order, each in the action that answers it
+abbrev pub turn_accounts : Standing → Turn → List (Option Account)
+turn_accounts hub (Stepped entry) = map_list account_in (entry_replies hub entry)
+turn_accounts hub (Replaced database) = []
+turn_accounts hub (Tidied at) = []
+turn_accounts hub (Reopened database limits at random kept) = []
+
+abbrev pub accounts_in : Standing → List Turn → List (Option Account)
+accounts_in hub [] = []
+accounts_in hub (turn ∷ turns) = turn_accounts hub turn ++ accounts_in (after_turn hub turn) turns
+
+-- the accounts of a run's requests, in order
+abbrev pub event_accounts : State → KdcEvent → List (Option Account)
+event_accounts state (Request at random room request) = Some (account (view state request) at random room request) ∷ []
+event_accounts state (Change change) = []
+event_accounts state (Replace database) = []
+event_accounts state (Tidy at) = []
+event_accounts state (Restarts at) = []
+event_accounts state (Reopen database limits at) = []
+
+abbrev pub accounts : State → List KdcEvent → List (Option Account)
+accounts state [] = []
+accounts state (event ∷ events) = event_accounts state event ++ accounts (after_event state event) events
+
+-- where the process that begins keeps accounts
+abbrev pub KeepsAccounts : Turn → Type 0
+KeepsAccounts (Stepped entry) = ⊤
+KeepsAccounts (Replaced database) = ⊤
+KeepsAccounts (Tidied at) = ⊤
+KeepsAccounts (Reopened database limits at random kept) = IsTrue kept
+
 -- a list is the front of another
 pub record Begins {X : Type 0} (front whole : List X) : Type 0 where
   pub others : List X
   pub is : whole ≡ front ++ others
 
--- The first actions of a step send its replies, in order, each to who asked.
+-- The first actions of a step send its replies, in order, each to the peer or connection that asked.
 abbrev pub AnswersWhoAsked : Type 0
 AnswersWhoAsked = (hub : Standing) (entry : Entry)
-    → Begins (answers entry.event (turn_replies hub (Stepped entry))) (step_of hub entry).actions
+    → Begins (answers entry.event (entry_replies hub entry)) (step_of hub entry).actions
 
 -- The replies that a hub sends, and its key distribution centre in the end, are those of one run over the requests that
--- came whole, the replacements and the restarts, in their order.
+-- came whole, the replacements, the tidyings and the restarts, in their order.
 pub record IsOneRun (start : Standing) (turns : List Turn) : Type 0 where
   pub replies_are : replies_in start turns ≡ replies start.issuing.kdc (events_in start turns)
+  -- where accounts are kept, each request has one, which is that of the run
+  pub accounts_are : IsTrue start.issuing.accounts → AllByRecursion KeepsAccounts turns
+      → accounts_in start turns ≡ accounts start.issuing.kdc (events_in start turns)
   pub kdc_is : (after_turns start turns).issuing.kdc ≡ run start.issuing.kdc (events_in start turns)
 
 -- of the replies to a run's events, those to the events that pass a test at their places
@@ -169,7 +229,7 @@ pub record AreServedAlike (c : Components) (S : Names) (start other : Standing) 
 
 -- What others send, over whatever connections and cut however, never changes what a client gets. In a second history
 -- nothing comes whole but the requests of c, each at its moment and with its draw, whoever brings it and however it is
--- cut; the replacements and restarts are the same. Then c's requests get the same replies there, in order.
+-- cut; the replacements, tidyings and restarts are the same. Then c's requests get the same replies there, in order.
 abbrev pub ServesAlikeFrom : Standing → List Turn → Type 0
 ServesAlikeFrom start turns = (other : Standing) (others : List Turn) (c : Components) (S : Names)
     → IsTrue (S (ticket_granter start.issuing.kdc.database.realm))
@@ -185,18 +245,29 @@ pub record GetsTheSame (c : Components) (S : Names) (start other : Standing) (tu
   pub afterwards : AgreesFor c S (after_turns start turns).issuing.kdc (after_turns other others).issuing.kdc
 
 -- The same of two histories in either of which others send what they like: c's requests in them are the same, each at
--- its moment and with its draw, and so are the replacements and restarts.
+-- its moment and with its draw, and so are the replacements, tidyings and restarts, but for the rows of others in the
+-- databases that take a place.
 abbrev pub UnaffectedFrom : Standing → List Turn → Type 0
 UnaffectedFrom start turns = (other : Standing) (others : List Turn) (c : Components) (S : Names)
     → IsTrue (S (ticket_granter start.issuing.kdc.database.realm))
     → ServicesWithin c S start.issuing.kdc (events_in start turns)
     → ServicesWithin c S other.issuing.kdc (events_in other others)
     → AgreesFor c S start.issuing.kdc other.issuing.kdc
-    → strike c S other.issuing.kdc (events_in other others) ≡ strike c S start.issuing.kdc (events_in start turns)
+    → AreAlike c S (strike c S start.issuing.kdc (events_in start turns))
+    (strike c S other.issuing.kdc (events_in other others))
     → GetsTheSame c S start other turns others
 
 abbrev pub Unaffected : Type 0
 Unaffected = (start : Standing) (turns : List Turn) → UnaffectedFrom start turns
+
+-- Where no request is before a tidying that came earlier, what is sent to the requests is what they get in the run in
+-- which nothing is tidied.
+abbrev pub TidiesUnseenFrom : Standing → List Turn → Type 0
+TidiesUnseenFrom start turns = RequestsFollow (events_in start turns)
+    → sent_to is_request start turns ≡ replies_to is_request start.issuing.kdc (untidied (events_in start turns))
+
+abbrev pub TidiesUnseen : Type 0
+TidiesUnseen = (start : Standing) (turns : List Turn) → TidiesUnseenFrom start turns
 
 -- the tickets that replies to a run's events bring to the client c,
 -- each with the time of the authenticator that bought it
@@ -220,7 +291,8 @@ OneTicketSent = (start : Standing) (turns : List Turn) → RestartsFollow (event
 abbrev pub IsOfOneProcess : Turn → Type 0
 IsOfOneProcess (Stepped entry) = ⊤
 IsOfOneProcess (Replaced database) = ⊤
-IsOfOneProcess (Reopened database limits at random) = ⊥
+IsOfOneProcess (Tidied at) = ⊤
+IsOfOneProcess (Reopened database limits at random kept) = ⊥
 
 -- While one process serves, nothing is asked of moments.
 abbrev pub OneTicketInProcess : Type 0

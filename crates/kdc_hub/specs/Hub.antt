@@ -4,16 +4,18 @@ use Rattle.std.specs.Prelude.{Result, Ok, Err, nat_lt, if◌then◌else◌, Vec}
 use Rattle.std.specs.Global.{Global}
 use Rattle.std.specs.Ordering.{nat_cmp}
 use Rattle.std.specs.FinMap as map
-use Rattle.std.specs.declared.net.SocketAddr.{SocketAddr}
 use Rattle.rand_core.specs.Stream.{Stream}
 use Rattle.framing.specs.Splitting.{Splitting, fed, started, handed_out, left}
 use Rattle.krb_fields.specs.declared.moment.Moment.{Moment}
 use Rattle.kdc_hub.specs.declared.event.Action.{Action}
-use Rattle.kdc_hub.specs.declared.event.Action.TheVariants.{SendTo, Close}
+use Rattle.kdc_hub.specs.declared.event.Action.TheVariants.{SendTo, Pass, Close}
+use Rattle.kdc_hub.specs.declared.event.CloseReason.TheVariants.{Full}
 use Rattle.kdc_hub.specs.declared.event.Event.{Event}
 use Rattle.kdc_hub.specs.declared.event.Event.TheVariants.{Datagram, Opened, Bytes, Closed}
 use Rattle.kdc_hub.specs.declared.event.HubFault.{HubFault}
+use Rattle.kdc_hub.specs.declared.event.Peer.{Peer}
 use Rattle.kdc_hub.specs.declared.hub.Hub.{Hub}
+use Rattle.kdc_hub.specs.declared.reply.Reply.{Reply}
 use Rattle.kdc_hub.specs.Issuing.{Issuing, after, issuing, reply_of}
 use Rattle.kdc_hub.specs.StreamStep.{StreamStep, after_some, drawn, stream_step}
 
@@ -43,10 +45,10 @@ datagram_room = 1400
 abbrev pub most_connections : ℕ
 most_connections = 256
 
--- a reply goes to who asked
-abbrev pub sent : SocketAddr → Option (List ℕ) → List Action
+-- a reply goes to the peer that asked, and a datagram that is no request gets none
+abbrev pub sent : Peer → Option Reply → List Action
 sent peer (Some reply) = SendTo peer reply ∷ []
-sent peer None = []
+sent peer None = Pass peer ∷ []
 
 -- a connection that is there already changes nothing, also where the table is full
 abbrev pub opened : Standing → ℕ → Step
@@ -57,7 +59,7 @@ opened hub conn =
       actions = [];
       hub = record hub { connections = map.insert hub.connections conn (started greatest_request) };
     }
-    else record { actions = Close conn ∷ []; hub = hub }
+    else record { actions = Close conn Full ∷ []; hub = hub }
 
 -- a connection that stays keeps what is left of its stream
 abbrev pub kept : Bool → Standing → ℕ → Splitting → Issuing → Standing
@@ -84,7 +86,7 @@ hub_step hub at (Closed conn) = record {
   hub = record hub { connections = map.remove hub.connections conn };
 }
 
--- Want of memory: the step ends after so many actions and draws, and its connection is taken out.
+-- Memory ran out: the step ends after so many actions and draws, and its connection is taken out.
 
 abbrev pub requests_of : List ℕ → Option Splitting → List (List ℕ)
 requests_of piece (Some s) = (handed_out (fed s piece)).messages
@@ -94,6 +96,7 @@ abbrev pub stopped_issuing : Issuing → Moment → List (List ℕ) → ℕ → 
 stopped_issuing i at requests done draws = record {
   kdc = (after_some done i at requests).kdc;
   random = drawn draws i.random;
+  accounts = i.accounts;
 }
 
 abbrev pub stopped : Standing → Moment → Event → ℕ → ℕ → Step

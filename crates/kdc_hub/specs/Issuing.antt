@@ -1,31 +1,58 @@
--- A key distribution centre, and the generator of the random octets for its answers.
-use Rattle.std.specs.Prelude.{ℕ, List, Option}
+-- A key distribution centre, the generator of the random octets for its answers, and whether accounts are kept.
+use Rattle.std.specs.Prelude.{ℕ, Bool, true, false, List, Option, Some, None, option_map}
 use Rattle.rand_core.specs.Stream.{Stream, fill_bytes}
 use Rattle.krb_fields.specs.declared.moment.Moment.{Moment}
 use Rattle.krb_fields.specs.declared.code.Code.TheVariants.{KrbErrFieldToolong}
 use Rattle.kdc_state.specs.declared.state.State.{State}
-use Rattle.kdc_core.specs.View.{view}
+use Rattle.kdc_core.specs.Account.{Account, account, names_in, with_names}
 use Rattle.kdc_core.specs.Answer.{answer, error_octets, after_request}
+use Rattle.kdc_core.specs.Request.{request_of}
+use Rattle.kdc_core.specs.View.{View, view}
+use Rattle.kdc_core.specs.declared.account.RequestNames.{RequestNames}
 use Rattle.kdc_hub.specs.declared.issuer.Issuer.{Issuer}
+use Rattle.kdc_hub.specs.declared.reply.Reply.{Reply}
 
--- the state, and all that the generator will give
+-- the state, all that the generator will give, and whether replies bear accounts
 pub record Issuing : Type 0 where
   pub kdc : State
   pub random : Stream
+  pub accounts : Bool
 
 abbrev pub issuing : {R : Type 0} → (R → Stream) → Issuer R → Issuing
-issuing stream issuer = record { kdc = issuer.kdc; random = stream issuer.rng }
+issuing stream issuer = record { kdc = issuer.kdc; random = stream issuer.rng; accounts = issuer.keeps_accounts }
+
+-- the names of a request, where its account is kept
+abbrev pub names_kept : Bool → List ℕ → Option RequestNames
+names_kept true request = Some (names_in (request_of request))
+names_kept false request = None
+
+-- a reply, and an account with these names, if there are any
+abbrev pub reply_with : Option (List ℕ) → Account → Option RequestNames → Option Reply
+reply_with octets account names =
+    option_map (λ message. record { message = message; account = option_map (λ n. with_names n account) names }) octets
+
+abbrev pub kept_account : Bool → Account → Option Account
+kept_account true account = Some account
+kept_account false account = None
+
+-- the reply to a request, with its account where accounts are kept
+unfoldable pub reply_by : Bool → View → Moment → List ℕ → ℕ → List ℕ → Option Reply
+reply_by accounts v at random room request =
+    option_map
+    (λ message. record { message = message; account = kept_account accounts (account v at random room request) })
+    (answer v at random room request).reply
 
 -- the reply to a request is made with the next 64 octets
-unfoldable pub reply_of : Issuing → Moment → ℕ → List ℕ → Option (List ℕ)
-reply_of i at room request = (answer (view i.kdc request) at (fill_bytes 64 i.random).0 room request).reply
+unfoldable pub reply_of : Issuing → Moment → ℕ → List ℕ → Option Reply
+reply_of i at room request = reply_by i.accounts (view i.kdc request) at (fill_bytes 64 i.random).0 room request
 
 unfoldable pub after : Issuing → Moment → ℕ → List ℕ → Issuing
 after i at room request = record {
   kdc = after_request i.kdc at (fill_bytes 64 i.random).0 room request;
   random = (fill_bytes 64 i.random).1;
+  accounts = i.accounts;
 }
 
 -- the error for a faulty length
-unfoldable pub too_long : State → Moment → List ℕ
-too_long kdc at = error_octets kdc at KrbErrFieldToolong
+unfoldable pub too_long : State → Moment → Reply
+too_long kdc at = record { message = error_octets kdc at KrbErrFieldToolong; account = None }

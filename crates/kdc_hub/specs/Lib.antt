@@ -6,5 +6,6 @@ pub mod Works
 pub mod Cutting
 pub mod Wire
 pub mod Rounds
+pub mod Accounts
 pub mod Acts
 pub mod History

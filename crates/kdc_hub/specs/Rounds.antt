@@ -1,10 +1,11 @@
 -- What a run of `serve` is: rounds, each with its one poll.
 use Rattle.std.specs.Prelude.{◌≡◌, ◌⊎◌, ℕ, Bool, ⊤, List, [], ◌∷◌, ◌++◌, length, count_by, Option, Some, None}
 use Rattle.std.specs.List.{flat_map}
-use Rattle.std.specs.Option.{is_some}
+use Rattle.std.specs.Option.{is_some, option_or}
 use Rattle.krb_fields.specs.declared.moment.Moment.{Moment}
 use Rattle.kdc_hub.specs.declared.event.Action.{Action}
-use Rattle.kdc_hub.specs.declared.event.Action.TheVariants.{SendTo, Write, Close}
+use Rattle.kdc_hub.specs.declared.event.Action.TheVariants.{SendTo, Pass, Write, Close}
+use Rattle.kdc_hub.specs.declared.event.CloseReason.TheVariants.{OutOfMemory}
 use Rattle.kdc_hub.specs.declared.event.Event.{Event}
 use Rattle.kdc_hub.specs.declared.event.Event.TheVariants.{Closed}
 use Rattle.kdc_hub.specs.declared.server.Served.{Served}
@@ -12,12 +13,13 @@ use Rattle.kdc_hub.specs.declared.wires.Did.{Did}
 use Rattle.kdc_hub.specs.declared.wires.Did.TheVariants.{Polled, Waited, Missed, Acted, Failed}
 use Rattle.kdc_hub.specs.Hub.{Standing, event_connection}
 use Rattle.kdc_hub.specs.Logged.{Entry, Stop, logged, step_of}
-use Rattle.kdc_hub.specs.Wire.{Tells, is_event, is_fault}
+use Rattle.kdc_hub.specs.Wire.{Records, is_event, is_fault}
 
 abbrev pub action_connection : Action → Option ℕ
-action_connection (SendTo peer message) = None
-action_connection (Write conn message) = Some conn
-action_connection (Close conn) = Some conn
+action_connection (SendTo peer reply) = None
+action_connection (Pass peer) = None
+action_connection (Write conn reply) = Some conn
+action_connection (Close conn reason) = Some conn
 
 -- after a failed act the next ones follow; on a connection, which is then lost, none
 abbrev pub after_failure : Option ℕ → Type 0 → List Did → Option ℕ → Type 0
@@ -36,17 +38,17 @@ pub record Tried : Type 0 where
   pub did : List Did
   pub lost : Option ℕ
 
--- the poll failed, or nothing came, or an event came: then its actions were tried, and after want of memory a Close
+-- the poll failed, or nothing came, or an event came: then its actions were tried, and after memory ran out a Close
 pub data Round : Type 0 where
   PollFailed : Round
   NothingCame : Round
   Took : Entry → Tried → Tried → Round
 
 abbrev pub close_of : Option ℕ → List Action
-close_of (Some conn) = Close conn ∷ []
+close_of (Some conn) = Close conn OutOfMemory ∷ []
 close_of None = []
 
--- after want of memory the event's connection, if any, is closed
+-- after memory ran out the event's connection, if any, is closed
 abbrev pub closing : Option Stop → Event → List Action
 closing (Some stop) event = close_of (event_connection event)
 closing None event = []
@@ -68,6 +70,17 @@ did_in PollFailed = Missed ∷ []
 did_in NothingCame = Waited ∷ []
 did_in (Took entry acts close) = Polled entry.at entry.event ∷ acts.did ++ close.did
 
+-- when the event came that it took, if it took one
+abbrev pub moment_in : Round → Option Moment
+moment_in PollFailed = None
+moment_in NothingCame = None
+moment_in (Took entry acts close) = Some entry.at
+
+-- when the last event came
+abbrev pub last_moment : List Round → Option Moment
+last_moment [] = None
+last_moment (round ∷ rounds) = option_or (last_moment rounds) (moment_in round)
+
 abbrev pub IsRound : Standing → Round → Type 0
 IsRound hub PollFailed = ⊤
 IsRound hub NothingCame = ⊤
@@ -83,7 +96,7 @@ AreRounds hub (round ∷ rounds) = IsRound hub round × AreRounds (logged hub (e
 abbrev pub is_refused : Entry → Bool
 is_refused entry = is_some entry.stop
 
--- A run of so many rounds: what the Wire told before and afterwards, the hub before and afterwards,
+-- A run of so many rounds: the Wire's record before and afterwards, the hub before and afterwards,
 -- and what was counted.
 pub record IsRun (before : Option (List Did)) (start : Standing) (n : ℕ) (served : Served) (after : Option (List Did))
     (new : Standing) : Type 0 where
@@ -91,9 +104,10 @@ pub record IsRun (before : Option (List Did)) (start : Standing) (n : ℕ) (serv
   pub each : AreRounds start rounds
   pub many : length rounds ≡ n
   -- the Wire did this and nothing else
-  pub told : Tells before (flat_map did_in rounds) after
+  pub recorded : Records before (flat_map did_in rounds) after
   -- the events polled and the ends that were added are one run of the log
   pub hub : new ≡ (logged start (flat_map entries_of rounds)).hub
   pub events : served.events ≡ count_by is_event (flat_map did_in rounds)
   pub faults : served.faults ≡ count_by is_fault (flat_map did_in rounds)
   pub refused : served.refused ≡ count_by is_refused (flat_map entries_of rounds)
+  pub last : served.last ≡ last_moment rounds

@@ -6,6 +6,8 @@ use Rattle.framing.specs.Splitting.{Splitting, handed_out}
 use Rattle.krb_fields.specs.declared.moment.Moment.{Moment}
 use Rattle.kdc_hub.specs.declared.event.Action.{Action}
 use Rattle.kdc_hub.specs.declared.event.Action.TheVariants.{Write, Close}
+use Rattle.kdc_hub.specs.declared.event.CloseReason.TheVariants.{NoRequest, BadLength}
+use Rattle.kdc_hub.specs.declared.reply.Reply.{Reply}
 use Rattle.kdc_hub.specs.Issuing.{Issuing, after, reply_of, too_long}
 
 -- the actions, what issues afterwards, and whether the connection stays open
@@ -22,15 +24,15 @@ stream_room = 131072
 abbrev pub ending_step : Issuing → Moment → ℕ → Option FrameFault → StreamStep
 ending_step i at conn None = record { actions = []; issuing = i; stays = true }
 ending_step i at conn (Some fault) = record {
-  actions = Write conn (too_long i.kdc at) ∷ Close conn ∷ [];
+  actions = Write conn (too_long i.kdc at) ∷ Close conn BadLength ∷ [];
   issuing = i;
   stays = false;
 }
 
 -- a request without a reply ends the connection
-abbrev pub reply_then : ℕ → Option (List ℕ) → Issuing → StreamStep → StreamStep
+abbrev pub reply_then : ℕ → Option Reply → Issuing → StreamStep → StreamStep
 reply_then conn (Some reply) i others = record others { actions = Write conn reply ∷ others.actions }
-reply_then conn None i others = record { actions = Close conn ∷ []; issuing = i; stays = false }
+reply_then conn None i others = record { actions = Close conn NoRequest ∷ []; issuing = i; stays = false }
 
 unfoldable pub messages_step : Issuing → Moment → ℕ → Option FrameFault → List (List ℕ) → StreamStep
 messages_step i at conn fault [] = ending_step i at conn fault
@@ -39,16 +41,16 @@ messages_step i at conn fault (request ∷ requests) =
     (messages_step (after i at stream_room request) at conn fault requests)
 
 -- what answers one request
-abbrev pub action_for : ℕ → Option (List ℕ) → Action
+abbrev pub action_for : ℕ → Option Reply → Action
 action_for conn (Some reply) = Write conn reply
-action_for conn None = Close conn
+action_for conn None = Close conn NoRequest
 
 -- all that a stream has ready
 abbrev pub stream_step : Issuing → Moment → ℕ → Splitting → StreamStep
 stream_step i at conn s = messages_step i at conn (handed_out s).fault (handed_out s).messages
 
 -- what issues after so many of the requests, up to the first that gets no reply
-abbrev pub after_reply : Option (List ℕ) → Issuing → Issuing → Issuing
+abbrev pub after_reply : Option Reply → Issuing → Issuing → Issuing
 after_reply (Some reply) i others = others
 after_reply None i others = i
 

@@ -1,12 +1,13 @@
 -- What events complete, however the pieces are cut.
 use Rattle.std.specs.Prelude.{ℕ, List, [], ◌∷◌, ◌++◌, Option, Some, None}
 use Rattle.std.specs.FinMap as map
-use Rattle.std.specs.declared.net.SocketAddr.{SocketAddr}
 use Rattle.framing.specs.declared.fault.FrameFault.{FrameFault}
 use Rattle.framing.specs.Splitting.{Splitting, fed, handed_out}
 use Rattle.krb_fields.specs.declared.moment.Moment.{Moment}
 use Rattle.kdc_hub.specs.declared.event.Event.{Event}
 use Rattle.kdc_hub.specs.declared.event.Event.TheVariants.{Datagram, Opened, Bytes, Closed}
+use Rattle.kdc_hub.specs.declared.event.Peer.{Peer}
+use Rattle.kdc_hub.specs.declared.reply.Reply.{Reply}
 use Rattle.kdc_hub.specs.Issuing.{Issuing, after, reply_of}
 use Rattle.kdc_hub.specs.StreamStep.{stream_room}
 use Rattle.kdc_hub.specs.Hub.{Standing, hub_step}
@@ -14,7 +15,7 @@ use Rattle.kdc_hub.specs.Logged.{Entry}
 
 -- a request, a faulty length, or the beginning or the end of a connection
 pub data Work : Type 0 where
-  Asked : SocketAddr → List ℕ → Work
+  Asked : Peer → List ℕ → Work
   Requested : ℕ → List ℕ → Work
   Faulted : ℕ → Work
   Came : ℕ → Work
@@ -29,7 +30,7 @@ abbrev pub fault_works : Moment → ℕ → Option FrameFault → List Timed
 fault_works at conn (Some fault) = record { at = at; work = Faulted conn } ∷ []
 fault_works at conn None = []
 
-abbrev pub others_if : Option (List ℕ) → List Timed → List Timed
+abbrev pub others_if : Option Reply → List Timed → List Timed
 others_if (Some reply) others = others
 others_if None others = []
 

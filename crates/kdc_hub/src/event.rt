@@ -1,16 +1,25 @@
 //! What happens to a hub, and what it does.
-ghost use Rattle.std.specs.Prelude.{◌≡◌, IfOk};
+ghost use Rattle.std.specs.Prelude.{◌≡◌, IfOk, option_copied};
 ghost use Rattle.kdc_hub.specs.Rounds.{action_connection};
 
+use crate::reply::Reply;
 use krb_elements::Octets;
 use std::alloc::{AllocError, Global};
 use std::net::SocketAddr;
 
+/// Where a datagram came from, and by which of the server's sockets. The reply goes back the same way.
+#[derive(Clone, Copy, Debug, PartialEq, Eq)]
+pub struct Peer {
+    pub address: SocketAddr,
+    /// The number of the socket among those that take datagrams.
+    pub socket: u64,
+}
+
 /// What happens to a hub. A connection has a number that no other has had.
-#[derive(Debug, Drop)]
+#[derive(Drop)]
 pub enum Event {
     /// A request comes in a datagram.
-    Datagram { peer: SocketAddr, request: Octets },
+    Datagram { peer: Peer, request: Octets },
     /// A connection is opened.
     Opened { conn: u64 },
     /// The next piece of what comes on a connection.
@@ -38,15 +47,30 @@ impl Event {
     }
 }
 
-/// What a hub does.
-#[derive(Debug, Drop)]
+/// Why a hub ends a connection.
+#[derive(Clone, Copy, Debug, PartialEq, Eq)]
+pub enum CloseReason {
+    /// What came on it is no request, and gets no reply.
+    NoRequest,
+    /// A length that came on it is too large. An error was written before (RFC 4120, section 7.2.2).
+    BadLength,
+    /// As many connections are open as the hub takes.
+    Full,
+    /// Memory ran out.
+    OutOfMemory,
+}
+
+/// What a hub does. Each request has one action, which bears its reply, or says that it gets none.
+#[derive(Drop)]
 pub enum Action {
     /// Sends a reply in a datagram.
-    SendTo { peer: SocketAddr, message: Octets },
+    SendTo { peer: Peer, reply: Reply },
+    /// Sends nothing: the datagram is no request.
+    Pass { peer: Peer },
     /// Writes a reply to a connection, behind its length.
-    Write { conn: u64, message: Octets },
+    Write { conn: u64, reply: Reply },
     /// Ends a connection.
-    Close { conn: u64 },
+    Close { conn: u64, reason: CloseReason },
 }
 
 impl Action {
@@ -55,9 +79,8 @@ impl Action {
         ensures { result ≡ action_connection self.now }
     {
         match self {
-            Action::SendTo { .. } => None,
-            Action::Write { conn, .. } => Some(*conn),
-            Action::Close { conn } => Some(*conn),
+            Action::SendTo { .. } | Action::Pass { .. } => None,
+            Action::Write { conn, .. } | Action::Close { conn, .. } => Some(*conn),
         }
     }
 
@@ -65,23 +88,27 @@ impl Action {
         ensures { IfOk result (λ action. action ≡ self.now) }
     {
         Ok(match self {
-            Action::SendTo { peer, message } => Action::SendTo {
+            Action::SendTo { peer, reply } => Action::SendTo {
                 peer: *peer,
-                message: message.copy(alloc)?,
+                reply: reply.copy(alloc)?,
             },
-            Action::Write { conn, message } => Action::Write {
+            Action::Pass { peer } => Action::Pass { peer: *peer },
+            Action::Write { conn, reply } => Action::Write {
                 conn: *conn,
-                message: message.copy(alloc)?,
+                reply: reply.copy(alloc)?,
             },
-            Action::Close { conn } => Action::Close { conn: *conn },
+            Action::Close { conn, reason } => Action::Close {
+                conn: *conn,
+                reason: *reason,
+            },
         })
     }
 }
 
-/// Want of memory, in the midst of an event.
-#[derive(Debug, Drop)]
+/// Memory ran out in the midst of an event.
+#[derive(Drop)]
 pub struct HubFault {
-    /// What is to be done all the same.
+    /// The actions completed before that.
     pub done: Vec<Action>,
     /// The connection that was taken out, and is to be closed.
     pub conn: Option<u64>,

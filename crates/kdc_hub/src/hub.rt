@@ -1,7 +1,7 @@
 //! One key distribution centre behind many peers and connections.
 ghost use Rattle.std.specs.Prelude.{◌≡◌, ◌↔◌, ℕ, List, ◌∷◌, [], Some, IfOk, IfErr, IsOk, OnErr};
 ghost use Rattle.std.specs.FinMap as map;
-ghost use Rattle.kdc_hub.specs.History.{Reopened, Replaced, after_turn};
+ghost use Rattle.kdc_hub.specs.History.{Reopened, Replaced, Tidied, after_turn};
 ghost use Rattle.kdc_state.specs.State.{opened_state};
 ghost use Rattle.krb_fields.specs.declared.moment.Moment as moments;
 ghost use Rattle.principal_rows.specs.declared.limits.Limits.{Limits};
@@ -9,11 +9,13 @@ ghost use Rattle.principals.specs.Database.{Principals};
 ghost use Rattle.replay.specs.declared.opening.Opening.TheVariants.{Restart};
 ghost use Rattle.kdc_hub.specs.Hub.{AreDraws, Standing, Steps, standing};
 ghost use Rattle.kdc_hub.specs.Logged.{Entry, LogsNext, logged};
+ghost use Rattle.kdc_hub.specs.Accounts.{AccountsHold};
 ghost use Rattle.kdc_hub.specs.declared.event.Action.TheVariants.{Close};
+ghost use Rattle.kdc_hub.specs.declared.event.CloseReason.TheVariants.{Full};
 ghost use Rattle.kdc_hub.specs.declared.event.Event.TheVariants.{Datagram, Opened, Bytes, Closed};
 
 use crate::connections::Connections;
-use crate::event::{Action, Event, HubFault};
+use crate::event::{Action, CloseReason, Event, HubFault, Peer};
 use crate::issuer::Issuer;
 use crate::stream::answer_stream;
 use framing::Splitter;
@@ -22,7 +24,6 @@ use krb_fields::Moment;
 use principals::Database;
 use rand_core::Rng;
 use std::alloc::Global;
-use std::net::SocketAddr;
 
 /// The most octets of a request on a connection.
 const GREATEST_REQUEST: u32 = 65_535;
@@ -34,25 +35,32 @@ const DATAGRAM_ROOM: u32 = 1_400;
 const MOST_CONNECTIONS: usize = 256;
 
 /// A key distribution centre with the generator of its random octets, and the connections that are open.
-#[derive(Debug, Drop)]
+#[derive(Drop)]
 pub struct Hub<R> {
     issuer: Issuer<R>,
     connections: Connections,
 }
 
 impl<R: Rng> Hub<R> {
-    /// A hub with no connections. It takes no memory yet.
-    pub fn new(alloc: Global, kdc: Kdc, rng: R) -> Hub<R>
+    /// A hub with no connections, whose replies bear the accounts of their requests if it keeps accounts. It allocates
+    /// nothing yet.
+    pub fn new(alloc: Global, kdc: Kdc, rng: R, keeps_accounts: bool) -> Hub<R>
         ensures kdc { (standing R.stream result).issuing.kdc ≡ kdc }
         ensures random { (standing R.stream result).issuing.random ≡ R.stream rng }
+        ensures accounts { (standing R.stream result).issuing.accounts ≡ keeps_accounts }
         ensures connections { (standing R.stream result).connections ≡ map.empty }
         // Over a centre that opens again it is the hub of a process that begins, whatever there was before.
         ensures reopened { (before : Standing) (database : Principals) (limits : Limits) (at : moments.Moment)
             → kdc ≡ opened_state database limits (Restart at)
-            → standing R.stream result ≡ after_turn before (Reopened database limits at (R.stream rng)) }
+            → standing R.stream result
+            ≡ after_turn before (Reopened database limits at (R.stream rng) keeps_accounts) }
     {
         Hub {
-            issuer: Issuer { kdc, rng },
+            issuer: Issuer {
+                kdc,
+                rng,
+                keeps_accounts,
+            },
             connections: Connections::new(alloc),
         }
     }
@@ -67,8 +75,16 @@ impl<R: Rng> Hub<R> {
         self.issuer.kdc.replace(database)
     }
 
+    /// Forgets of every client what is too old to come again at this moment; connections and generator stay. It takes
+    /// no memory.
+    pub fn tidy(&mut self, at: Moment)
+        ensures turn { standing R.stream self.new ≡ after_turn (standing R.stream self.old) (Tidied at) }
+    {
+        self.issuer.kdc.tidy(at);
+    }
+
     /// What an event asks for: the actions, in order. A connection is served until a request gets no reply, or a length
-    /// is at fault; then it is closed, and what else came on it is dropped. Where memory is wanting, the step ends
+    /// is too large; then it is closed, and what else came on it is dropped. Where memory runs out, the step ends
     /// after the actions that are done, and the event's connection is taken out.
     pub fn step(&mut self, alloc: Global, at: Moment, event: Event) -> Result<Vec<Action>, HubFault>
         // What the step returns is what the log has next, and the hub then stands where the log leaves it.
@@ -77,6 +93,8 @@ impl<R: Rng> Hub<R> {
             → LogsNext start entries at event result (standing R.stream self.new) }
         ensures step { Steps (standing R.stream self.old) at event result (standing R.stream self.new) }
         ensures draws { IfErr result AreDraws }
+        // The account of each request that it answers is true of the reply, at the state before that request.
+        ensures accounts { AccountsHold (standing R.stream self.old) at event result }
         // The end of a connection takes no memory.
         ensures closed { (conn : ℕ) → event ≡ Closed conn → IsOk result }
     {
@@ -87,6 +105,7 @@ impl<R: Rng> Hub<R> {
     fn take(&mut self, alloc: Global, at: Moment, event: Event) -> Result<Vec<Action>, HubFault>
         ensures step { Steps (standing R.stream self.old) at event result (standing R.stream self.new) }
         ensures draws { IfErr result AreDraws }
+        ensures accounts { AccountsHold (standing R.stream self.old) at event result }
         ensures closed { (conn : ℕ) → event ≡ Closed conn → IsOk result }
     {
         match event {
@@ -106,22 +125,26 @@ impl<R: Rng> Hub<R> {
         &mut self,
         alloc: Global,
         at: Moment,
-        peer: SocketAddr,
+        peer: Peer,
         request: &[u8],
     ) -> Result<Vec<Action>, HubFault>
         ensures step { Steps (standing R.stream self.old) at (Datagram peer request.now) result
             (standing R.stream self.new) }
         ensures draws { IfErr result AreDraws }
+        ensures accounts { AccountsHold (standing R.stream self.old) at (Datagram peer request.now) result }
     {
         let Ok(mut actions) = Vec::with_capacity(alloc, 1) else {
             return Err(nothing_done(alloc, None, 0));
         };
         match self.issuer.answer(alloc, at, DATAGRAM_ROOM, request) {
-            Ok(Some(message)) => {
-                actions.push_reserved(Action::SendTo { peer, message });
+            Ok(Some(reply)) => {
+                actions.push_reserved(Action::SendTo { peer, reply });
                 Ok(actions)
             }
-            Ok(None) => Ok(actions),
+            Ok(None) => {
+                actions.push_reserved(Action::Pass { peer });
+                Ok(actions)
+            }
             Err(_) => Err(nothing_done(alloc, None, 1)),
         }
     }
@@ -155,6 +178,7 @@ impl<R: Rng> Hub<R> {
         ensures step { Steps (standing R.stream self.old) at (Bytes conn piece.now) result
             (standing R.stream self.new) }
         ensures draws { IfErr result AreDraws }
+        ensures accounts { AccountsHold (standing R.stream self.old) at (Bytes conn piece.now) result }
     {
         let place = Splitter::new(alloc, GREATEST_REQUEST);
         let Some(mut stream) = self.connections.replace(conn, place) else {
@@ -181,7 +205,7 @@ impl<R: Rng> Hub<R> {
     }
 }
 
-/// Want of memory before any action.
+/// Memory ran out before any action.
 fn nothing_done(alloc: Global, conn: Option<u64>, draws: usize) -> HubFault
     ensures done { result.done.items ≡ [] }
     ensures conn { result.conn ≡ conn }
@@ -196,7 +220,7 @@ fn nothing_done(alloc: Global, conn: Option<u64>, draws: usize) -> HubFault
 
 /// Closes a connection for which there is no place.
 fn refuse_connection(alloc: Global, conn: u64) -> Result<Vec<Action>, HubFault>
-    ensures ok { IfOk result (λ actions. actions.items ≡ Close conn ∷ []) }
+    ensures ok { IfOk result (λ actions. actions.items ≡ Close conn Full ∷ []) }
     ensures done { IfErr result (λ fault. fault.done.items ≡ []) }
     ensures conn { IfErr result (λ fault. fault.conn ≡ Some conn) }
     ensures draws { IfErr result (λ fault. fault.draws ≡ 0) }
@@ -204,6 +228,9 @@ fn refuse_connection(alloc: Global, conn: u64) -> Result<Vec<Action>, HubFault>
     let Ok(mut actions) = Vec::with_capacity(alloc, 1) else {
         return Err(nothing_done(alloc, Some(conn), 0));
     };
-    actions.push_reserved(Action::Close { conn });
+    actions.push_reserved(Action::Close {
+        conn,
+        reason: CloseReason::Full,
+    });
     Ok(actions)
 }

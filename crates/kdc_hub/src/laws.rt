@@ -2,7 +2,7 @@
 ghost use Rattle.std.specs.Prelude.{◌≡◌, ◌++◌, List, map};
 ghost use Rattle.kdc_hub.specs.Cutting.{IsSameInTwoPieces, RepliesAreSame};
 ghost use Rattle.kdc_hub.specs.History.{AnswersWhoAsked, IsOneRun, OneTicketInProcess, OneTicketSent, ServesAlike};
-ghost use Rattle.kdc_hub.specs.History.{Stepped, Turn, Unaffected, after_turns};
+ghost use Rattle.kdc_hub.specs.History.{Stepped, TidiesUnseen, Turn, Unaffected, after_turns};
 ghost use Rattle.kdc_hub.specs.Hub.{Standing};
 ghost use Rattle.kdc_hub.specs.Logged.{Entry, logged};
 
@@ -32,6 +32,8 @@ pub fn one_run()
     ensures isolation { ServesAlike }
     // In two histories in which a client asks the same it gets the same, whatever others send in either.
     ensures unaffected { Unaffected }
+    // As long as no request is before a tidying that came earlier, what is sent is what is sent where nothing is tidied.
+    ensures unseen { TidiesUnseen }
     // No authenticator buys two different tickets, through replacements and restarts too;
     // of one process nothing is asked.
     ensures one_ticket { OneTicketSent }

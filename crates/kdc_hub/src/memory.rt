@@ -9,8 +9,8 @@ use krb_fields::Moment;
 use std::alloc::Global;
 use std::collections::VecDeque;
 
-/// A Wire that gives the events that it was handed, and tells what it does.
-#[derive(Debug, Drop)]
+/// A Wire that gives the events that it was handed, and keeps a record of what it does.
+#[derive(Drop)]
 pub struct MemoryWire {
     coming: VecDeque<(Moment, Event)>,
     diary: Diary,
@@ -66,7 +66,7 @@ impl MemoryWire {
 impl Wire for MemoryWire {
     ghost use Rattle.kdc_hub.specs.Wire.{kept};
 
-    ghost told = { λ w. kept w.diary.is_whole w.diary.did.items };
+    ghost recorded = { λ w. kept w.diary.is_whole w.diary.did.items };
 
     ghost fault_count = { λ w. w.faults };
 

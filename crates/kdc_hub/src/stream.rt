@@ -5,9 +5,13 @@ ghost use Rattle.framing.specs.Splitting.{handed_out, left};
 ghost use Rattle.kdc_hub.specs.Hub.{AreDraws};
 ghost use Rattle.kdc_hub.specs.Issuing.{after, issuing, reply_of, too_long};
 ghost use Rattle.kdc_hub.specs.StreamStep.{after_some, drawn, stream_step, stream_room, action_for};
+ghost use Rattle.kdc_hub.specs.Accounts.{FirstHold, ReplyHolds};
+ghost use Rattle.kdc_core.specs.View.{view};
+ghost use Rattle.rand_core.specs.Stream.{fill_bytes};
 ghost use Rattle.kdc_hub.specs.declared.event.Action.TheVariants.{Write, Close};
+ghost use Rattle.kdc_hub.specs.declared.event.CloseReason.TheVariants.{BadLength};
 
-use crate::event::{Action, HubFault};
+use crate::event::{Action, CloseReason, HubFault};
 use crate::issuer::Issuer;
 use framing::{FrameFault, Splitter};
 use krb_fields::Moment;
@@ -18,7 +22,7 @@ use std::alloc::{AllocError, Global};
 const ROOM: u32 = 131_072;
 
 /// What came of the messages of a connection.
-#[derive(Debug, Drop)]
+#[derive(Drop)]
 pub struct StreamStep {
     pub actions: Vec<Action>,
     /// Whether the connection stays open.
@@ -48,6 +52,11 @@ pub fn answer_stream<R: Rng>(
         (handed_out stream.old).messages).kdc) }
     ensures drawn { IfErr result (λ fault. R.stream issuer.new.rng ≡ drawn fault.draws (R.stream issuer.old.rng)) }
     ensures draws { IfErr result AreDraws }
+    ensures keeps { issuer.new.keeps_accounts ≡ issuer.old.keeps_accounts }
+    ensures accounts { IfOk result (λ s.
+        FirstHold (length s.actions.items) (issuing R.stream issuer.old) at stream_room (handed_out stream.old).messages) }
+    ensures accounts_done { IfErr result (λ fault.
+        FirstHold (length fault.done.items) (issuing R.stream issuer.old) at stream_room (handed_out stream.old).messages) }
 {
     let mut actions = Vec::new(alloc);
     loop {
@@ -61,7 +70,7 @@ pub fn answer_stream<R: Rng>(
                             stays: false,
                         });
                     }
-                    Err(drawn) => return Err(want_of_memory(actions, conn, drawn)),
+                    Err(drawn) => return Err(out_of_memory(actions, conn, drawn)),
                 }
             }
             Ok(None) => {
@@ -72,7 +81,7 @@ pub fn answer_stream<R: Rng>(
             }
             Err(fault) => {
                 return match fault {
-                    FrameFault::Memory => Err(want_of_memory(actions, conn, false)),
+                    FrameFault::Memory => Err(out_of_memory(actions, conn, false)),
                     _ => refuse_length(alloc, issuer, at, conn, actions),
                 };
             }
@@ -80,8 +89,8 @@ pub fn answer_stream<R: Rng>(
     }
 }
 
-/// Want of memory after these replies, and after one draw more or none.
-fn want_of_memory(done: Vec<Action>, conn: u64, drawn: bool) -> HubFault
+/// Memory ran out after these replies, and after one draw more or none.
+fn out_of_memory(done: Vec<Action>, conn: u64, drawn: bool) -> HubFault
     ensures done { result.done ≡ done }
     ensures conn { result.conn ≡ Some conn }
     ensures draws { result.draws ≡ length done.items + (if drawn then 1 else 0) }
@@ -111,7 +120,11 @@ fn answer_request<R: Rng>(
         (issuing R.stream issuer.new ≡ after (issuing R.stream issuer.old) at stream_room request.now) }
     ensures stays { IfOk result
         (λ stays. stays ≡ is_some (reply_of (issuing R.stream issuer.old) at stream_room request.now)) }
+    ensures holds { OnOk result
+        (ReplyHolds (view issuer.old.kdc request.now) at (fill_bytes 64 (R.stream issuer.old.rng)).0 request.now
+        (reply_of (issuing R.stream issuer.old) at stream_room request.now)) }
     ensures err { OnErr result ((actions.new.items ≡ actions.old.items) × (issuer.new.kdc ≡ issuer.old.kdc)) }
+    ensures accounts { issuer.new.keeps_accounts ≡ issuer.old.keeps_accounts }
     ensures drawn { IfErr result
         (λ one. R.stream issuer.new.rng ≡ drawn (if one then 1 else 0) (R.stream issuer.old.rng)) }
 {
@@ -119,19 +132,22 @@ fn answer_request<R: Rng>(
         return Err(false);
     }
     match issuer.answer(alloc, at, ROOM, request) {
-        Ok(Some(message)) => {
-            actions.push_reserved(Action::Write { conn, message });
+        Ok(Some(reply)) => {
+            actions.push_reserved(Action::Write { conn, reply });
             Ok(true)
         }
         Ok(None) => {
-            actions.push_reserved(Action::Close { conn });
+            actions.push_reserved(Action::Close {
+                conn,
+                reason: CloseReason::NoRequest,
+            });
             Ok(false)
         }
         Err(_) => Err(true),
     }
 }
 
-/// Answers a faulty length, and ends the connection.
+/// Answers a length that is too large, and ends the connection.
 fn refuse_length<R: Rng>(
     alloc: Global,
     issuer: &Issuer<R>,
@@ -140,7 +156,7 @@ fn refuse_length<R: Rng>(
     mut actions: Vec<Action>,
 ) -> Result<StreamStep, HubFault>
     ensures actions { IfOk result
-        (λ s. s.actions.items ≡ actions.items ++ Write conn (too_long issuer.now.kdc at) ∷ Close conn ∷ []) }
+        (λ s. s.actions.items ≡ actions.items ++ Write conn (too_long issuer.now.kdc at) ∷ Close conn BadLength ∷ []) }
     ensures stays { IfOk result (λ s. s.stays ≡ false) }
     ensures conn { IfErr result (λ fault. fault.conn ≡ Some conn) }
     ensures done { IfErr result (λ fault. fault.done.items ≡ actions.items) }
@@ -151,7 +167,7 @@ fn refuse_length<R: Rng>(
             actions,
             stays: false,
         }),
-        Err(_) => Err(want_of_memory(actions, conn, false)),
+        Err(_) => Err(out_of_memory(actions, conn, false)),
     }
 }
 
@@ -163,12 +179,15 @@ fn push_refusal<R: Rng>(
     actions: &mut Vec<Action>,
 ) -> Result<(), AllocError>
     ensures ok { OnOk result
-        (actions.new.items ≡ actions.old.items ++ Write conn (too_long issuer.now.kdc at) ∷ Close conn ∷ []) }
+        (actions.new.items ≡ actions.old.items ++ Write conn (too_long issuer.now.kdc at) ∷ Close conn BadLength ∷ []) }
     ensures err { OnErr result (actions.new.items ≡ actions.old.items) }
 {
     actions.reserve(2)?;
-    let message = issuer.too_long(alloc, at)?;
-    actions.push_reserved(Action::Write { conn, message });
-    actions.push_reserved(Action::Close { conn });
+    let reply = issuer.too_long(alloc, at)?;
+    actions.push_reserved(Action::Write { conn, reply });
+    actions.push_reserved(Action::Close {
+        conn,
+        reason: CloseReason::BadLength,
+    });
     Ok(())
 }

@@ -1,7 +1,7 @@
 //! What a hub hears and speaks through.
 ghost use Rattle.std.specs.Prelude.{◌≡◌, ◌∷◌, [], ℕ, List, Option};
 ghost use Rattle.kdc_hub.specs.declared.wires.Did.{Did};
-ghost use Rattle.kdc_hub.specs.Wire.{IsCounted, Tells, acted, polled, told_by};
+ghost use Rattle.kdc_hub.specs.Wire.{IsCounted, Records, acted, polled, faults_of};
 
 use crate::event::{Action, Event};
 use krb_fields::Moment;
@@ -22,7 +22,7 @@ impl fmt::Display for WireFault {
 impl Error for WireFault {}
 
 /// A call of a Wire, with its outcome.
-#[derive(Debug, Drop)]
+#[derive(Drop)]
 pub enum Did {
     /// A poll gave an event.
     Polled { at: Moment, event: Event },
@@ -36,23 +36,23 @@ pub enum Did {
     Failed { action: Action },
 }
 
-/// Where events come from and actions go to. A Wire may tell its record, for contracts alone.
+/// Where events come from and actions go to. A Wire may keep a record, for contracts alone.
 pub trait Wire {
-    // The polls and acts so far with their outcomes, in order, where the Wire tells them.
-    ghost told: { Self → Option (List Did) };
+    // The polls and acts so far with their outcomes, in order, if the Wire keeps a record.
+    ghost recorded: { Self → Option (List Did) };
 
     // How often a call has failed.
     ghost fault_count: { Self → ℕ };
 
     /// The next event with its moment, or none where none has come after a while.
     fn poll(&mut self, alloc: Global) -> Result<Option<(Moment, Event)>, WireFault>
-        ensures tells { Tells (told self.old) (polled result ∷ []) (told self.new) }
-        ensures counted { IsCounted (fault_count self.old) (told_by result) (fault_count self.new) };
+        ensures records { Records (recorded self.old) (polled result ∷ []) (recorded self.new) }
+        ensures counted { IsCounted (fault_count self.old) (faults_of result) (fault_count self.new) };
 
     /// Does an action. A `Write` puts the message's length before it (RFC 4120, section 7.2.2).
     fn act(&mut self, alloc: Global, action: &Action) -> Result<(), WireFault>
-        ensures tells { Tells (told self.old) (acted action.now result ∷ []) (told self.new) }
-        ensures counted { IsCounted (fault_count self.old) (told_by result) (fault_count self.new) };
+        ensures records { Records (recorded self.old) (acted action.now result ∷ []) (recorded self.new) }
+        ensures counted { IsCounted (fault_count self.old) (faults_of result) (fault_count self.new) };
 
     /// How often a poll or an act has failed. The count stops at the greatest `u64`.
     fn faults(&self) -> u64

@@ -1,8 +1,8 @@
 -- The messages of short realms and names have encodings.
-use Rattle.std.proofs.Common.{◌≡◌, ℕ, ℤ, ◌*◌, ◌^◌, ◌<◌, ◌≤◌, List, [], ◌∷◌, length, Option, Some, None, refl, ap, arith}
+use Rattle.std.proofs.Common.{◌≡◌, ℕ, ℤ, ◌^◌, ◌<◌, ◌≤◌, List, length, Option, Some, None, refl, ap, arith}
 use Rattle.std.specs.Prelude.{IfSome}
 use Rattle.krb_elements.specs.Codec.{measured, list_of, octets, string}
-use Rattle.krb_elements.specs.TextLengthLaws.{most_items, most_maybe}
+use Rattle.krb_elements.specs.TextLengthLaws.{most_maybe}
 use Rattle.krb_fields.specs.declared.code.Code.{Code}
 use Rattle.krb_fields.specs.declared.moment.Moment.{Moment}
 use Rattle.krb_fields.specs.EncryptedData.{encrypted_data, encrypted_data_form}

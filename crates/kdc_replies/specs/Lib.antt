@@ -5,6 +5,8 @@ pub mod Standing
 pub mod Grant
 pub mod Reply
 pub mod Issue
+pub mod Granted
+pub mod Accounts
 -- laws that proofs cite: no reader of a contract needs them
 pub mod ServiceTermsLaws
 pub mod GrantLaws

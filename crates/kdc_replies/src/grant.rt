@@ -14,7 +14,7 @@ use std::alloc::{AllocError, Global};
 use ticket_times::Times;
 
 /// A session of a client with a service, to which a ticket is issued.
-#[derive(Debug, Drop)]
+#[derive(Drop)]
 pub struct Grant<'a> {
     /// The realm of both.
     pub realm: KerberosStringRef<'a>,

@@ -4,7 +4,7 @@ use sealed_parts::ReadyKeys;
 use std::marker::Model;
 
 /// A request as it comes in, and what its answer takes beside what is known.
-#[derive(Debug, Drop)]
+#[derive(Drop)]
 pub struct Incoming<'a> {
     /// When it comes.
     pub at: Moment,

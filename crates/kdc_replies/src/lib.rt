@@ -3,6 +3,7 @@
 
 mod errors;
 mod grant;
+mod granted;
 mod incoming;
 mod replies;
 mod sent_names;
@@ -13,6 +14,7 @@ mod tickets;
 
 pub use errors::{error_reply, too_big};
 pub use grant::Grant;
+pub use granted::Granted;
 pub use incoming::Incoming;
 pub use replies::{ReplyInputs, ReplyKey, ticket_reply};
 pub use services::{ServiceTerms, service_terms};

@@ -22,7 +22,7 @@ use std::alloc::{AllocError, Global};
 
 /// The key under which the client reads its part of a reply, what that use of it is, and its version where the reply
 /// says it.
-#[derive(Debug, Clone, Copy)]
+#[derive(Clone, Copy)]
 pub struct ReplyKey {
     pub key: Key,
     pub usage: KeyUsage,
@@ -30,7 +30,7 @@ pub struct ReplyKey {
 }
 
 /// What a reply repeats of its request, when it is made, by which random octets, and which keys are ready.
-#[derive(Debug, Clone, Copy)]
+#[derive(Clone, Copy)]
 pub struct ReplyInputs<'r> {
     pub nonce: UInt32,
     pub time: KTime,

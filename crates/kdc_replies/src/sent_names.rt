@@ -11,7 +11,7 @@ use std::alloc::AllocError;
 use std::marker::Model;
 
 /// The components of a name where it stands, in their place in a message that is written.
-#[derive(Debug, Drop)]
+#[derive(Drop)]
 pub(crate) struct SentComponents<'a> {
     components: SeqRef<'a, KerberosStringRef<'a>>,
 }

@@ -11,7 +11,7 @@ use principal_rows::{Policy, Row};
 use std::alloc::{AllocError, Global};
 
 /// A service that has a current key of a type asked for.
-#[derive(Debug, Drop)]
+#[derive(Drop)]
 pub struct ServiceTerms {
     pub name: Name,
     pub policy: Policy,

@@ -16,7 +16,7 @@ use sealed_parts::ReadyKeys;
 use std::alloc::{AllocError, Global};
 
 /// A key of a service, under which its tickets are sealed, and the number of its version.
-#[derive(Debug, Clone, Copy)]
+#[derive(Clone, Copy)]
 pub struct ServiceKey {
     pub key: Key,
     pub version: u32,

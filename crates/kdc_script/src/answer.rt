@@ -9,7 +9,7 @@ use std::io;
 use std::io::Write;
 
 /// What a line prints.
-#[derive(Debug, Drop)]
+#[derive(Drop)]
 pub(crate) enum Answer {
     Done,
     Refused(ChangeFault),

@@ -35,7 +35,7 @@ pub const FAULT: u8 = 1;
 pub const FAILED: u8 = 3;
 
 /// Why a run ends before its input does.
-#[derive(Clone, Copy, Debug, PartialEq, Eq)]
+#[derive(Clone, Copy, PartialEq, Eq)]
 pub(crate) enum Stop {
     /// The line that was read last has another form, or is beyond a limit.
     Fault,
@@ -275,13 +275,15 @@ fn handle(alloc: Global, kdc: &mut Option<Kdc>, request: &Request) -> Result<Ans
     let Some(kdc) = kdc else {
         return Err(Stop::Fault);
     };
-    match kdc.handle(
+    let answer = kdc.handle(
         alloc,
         request.at,
         &request.random,
         request.room,
         &request.octets,
-    )? {
+    )?;
+    let reply = answer.reply;
+    match reply {
         Some(reply) => Ok(Answer::Reply(reply)),
         None => Ok(Answer::NoReply),
     }

@@ -1,24 +1,26 @@
 -- Periods one after the other.
-use Rattle.std.proofs.Common.{rules, true, false, ◌≡◌, ◌≤◌, ◌+◌, ◌-◌, ◌^◌, ℕ, arith, List, [], ◌∷◌, ◌++◌, length, map, count_by, Option, refl, sym, ap, subst, ◌∙◌}
-use Rattle.std.specs.Prelude.{◌<◌, cond, min, nat_le, replicate, Bool}
+use Rattle.std.proofs.Common.{rules, true, false, ◌≡◌, ◌≤◌, ◌+◌, ◌-◌, ◌^◌, ℕ, arith, List, [], ◌∷◌, ◌++◌, length, map, count_by, Option, Some, None, refl, sym, ap, subst, ◌∙◌}
+use Rattle.std.specs.Prelude.{cond, min, nat_le, replicate, Bool}
 use Rattle.std.proofs.Math.Nat.{min-eq_left, min-eq_right, min-le_left}
 use Rattle.std.specs.List.{AllByRecursion, flat_map}
+use Rattle.std.specs.Option.{option_or}
 use Rattle.std.proofs.lemmas.List.{append-nil, map-append, replicate-append-replicate}
 use Rattle.std.proofs.lemmas.List.Concat.{flat_map-cons}
 use Rattle.std.proofs.lemmas.List.Sums.{sum_by-append}
 use Rattle.std.proofs.lemmas.Grind.{flat_map-append}
+use Rattle.krb_fields.specs.declared.moment.Moment.{Moment}
 use Rattle.kdc_hub.specs.declared.server.Served.{Served}
 use Rattle.kdc_hub.specs.declared.wires.Did.{Did}
 use Rattle.kdc_hub.specs.Hub.{Standing}
-use Rattle.kdc_hub.specs.History.{IsOfOneProcess, IsOneRun, OneTicketInProcess, ServesAlike, Stepped, Turn, Unaffected, after_turns}
+use Rattle.kdc_hub.specs.History.{IsOfOneProcess, IsOneRun, OneTicketInProcess, ServesAlike, Stepped, TidiesUnseen, Turn, Unaffected, after_turns}
 use Rattle.kdc_hub.specs.Logged.{Entry, logged}
-use Rattle.kdc_hub.specs.Rounds.{AreRounds, Round, did_in, entries_of, is_refused}
-use Rattle.kdc_hub.specs.Wire.{IsCounted, Tells, is_event, is_fault}
-use Rattle.kdc_hub.proofs.Rounds.{tells_nothing, tells_on}
+use Rattle.kdc_hub.specs.Rounds.{AreRounds, did_in, entries_of, is_refused, last_moment}
+use Rattle.kdc_hub.specs.Wire.{IsCounted, Records, is_event, is_fault}
+use Rattle.kdc_hub.proofs.Rounds.{records_nothing, records_on}
 use Rattle.kdc_serving.specs.declared.rows.Look.{Look}
 use Rattle.kdc_serving.specs.declared.rows.Look.TheVariants.{Unchanged, Changed, Failed}
 use Rattle.kdc_serving.specs.declared.totals.Totals.{Totals}
-use Rattle.kdc_serving.specs.Life.{ArePeriods, IsLife, IsLived, IsPeriod, Period, replacement, rounds_in, turns_of}
+use Rattle.kdc_serving.specs.Life.{ArePeriods, IsLife, IsLived, IsPeriod, Period, due, replacement, rounds_in, tidied_by, tidying, turns_of}
 
 flat_map-one : {X A : Type 0} (f : X → List A) (xs : List X) (x : X) → flat_map f (xs ++ x ∷ []) ≡ flat_map f xs ++ f x
 flat_map-one f xs x = flat_map-append f xs (x ∷ []) ∙ ap (λ l. flat_map f xs ++ l) (flat_map-cons f x [] ∙ append-nil (f x))
@@ -38,38 +40,58 @@ saturated a b m = by_order (nat_le a m) refl
         let other : m ≤ a + b = omega (arith, lt) in
         ap (λ k. min (k + b) m) (min-eq_right lt) ∙ min-eq_right one ∙ sym (min-eq_right other)
 
+-- what was lived so far, and when was tidied last
+pub record LivesOn (wire : Option (List Did)) (source : Option (List Look)) (start : Standing) (lengths : List ℕ) (totals : Totals) (wire_after : Option (List Did)) (source_after : Option (List Look)) (new : Standing) (tidied : Option Moment) : Type 0 where
+  pub lived : IsLived wire source start lengths totals wire_after source_after new
+  pub last : tidied ≡ tidied_by None lived.periods
+
+tidied_on : (tidied : Option Moment) (ps : List Period) (p : Period) → tidied_by tidied (ps ++ p ∷ []) ≡ option_or p.tidied (tidied_by tidied ps)
+tidied_on tidied [] p = refl
+tidied_on tidied (q ∷ ps) p = tidied_on (option_or q.tidied tidied) ps p
+
 pub none_lived : (wire : Option (List Did)) (source : Option (List Look)) (start : Standing) (totals : Totals) → totals.events ≡ 0 → totals.faults ≡ 0 → totals.refused ≡ 0
-    → IsLived wire source start [] totals wire source start
+    → LivesOn wire source start [] totals wire source start None
 unfolding ArePeriods
 none_lived wire source start totals events faults refused = record {
-  periods = [];
-  each = tt;
-  many = refl;
-  did = tells_nothing wire;
-  found = tells_nothing source;
-  hub = refl;
-  events = events;
-  faults = faults;
-  refused = refused;
+  lived = record {
+    periods = [];
+    each = tt;
+    many = refl;
+    did = records_nothing wire;
+    found = records_nothing source;
+    hub = refl;
+    events = events;
+    faults = faults;
+    refused = refused;
+  };
+  last = refl;
 }
 
 -- a history goes on where it stands, and a log is one
 module _ (goes_on : (start : Standing) (turns later : List Turn) → after_turns start (turns ++ later) ≡ after_turns (after_turns start turns) later)
     (log : (start : Standing) (entries : List Entry) → after_turns start (map Stepped entries) ≡ (logged start entries).hub) where
-  periods_on : (hub : Standing) (ps : List Period) (p : Period) → ArePeriods hub ps → AreRounds (after_turns (after_turns hub (flat_map turns_of ps)) (replacement p.look)) p.rounds → ArePeriods hub (ps ++ p ∷ [])
+  periods_on : (tidied : Option Moment) (hub : Standing) (ps : List Period) (p : Period) → ArePeriods tidied hub ps → AreRounds (after_turns (after_turns hub (flat_map turns_of ps)) (replacement p.look)) p.rounds
+      → p.tidied ≡ due (tidied_by tidied ps) (last_moment p.rounds) → ArePeriods tidied hub (ps ++ p ∷ [])
   unfolding ArePeriods
-  periods_on hub [] p t r = (r, tt)
-  periods_on hub (q ∷ ps) p t r = (
+  periods_on tidied hub [] p t r d = (r, d, tt)
+  periods_on tidied hub (q ∷ ps) p t r d = (
     t.0,
-    periods_on (after_turns hub (turns_of q)) ps p t.1
-        (subst (λ (h : Standing). AreRounds (after_turns h (replacement p.look)) p.rounds) (ap (after_turns hub) (flat_map-cons turns_of q ps) ∙ goes_on hub (turns_of q) (flat_map turns_of ps)) r),
+    t.1,
+    periods_on (option_or q.tidied tidied) (after_turns hub (turns_of q)) ps p t.2
+        (subst (λ (h : Standing). AreRounds (after_turns h (replacement p.look)) p.rounds) (ap (after_turns hub) (flat_map-cons turns_of q ps) ∙ goes_on hub (turns_of q) (flat_map turns_of ps)) r) d,
   )
 
-  module _ (wire : Option (List Did)) (source : Option (List Look)) (start : Standing) (lengths : List ℕ) (totals : Totals) (wire_then : Option (List Did)) (source_then : Option (List Look)) (hub : Standing)
-      (a : IsLived wire source start lengths totals wire_then source_then hub)
-      (n : ℕ) (served : Served) (wire_after : Option (List Did)) (source_after : Option (List Look)) (new : Standing) (b : IsPeriod wire_then source_then hub n served wire_after source_after new) where
+  module _ (wire : Option (List Did)) (source : Option (List Look)) (start : Standing) (lengths : List ℕ) (totals : Totals) (wire_then : Option (List Did)) (source_then : Option (List Look)) (hub : Standing) (tidied : Option Moment)
+      (so_far : LivesOn wire source start lengths totals wire_then source_then hub tidied)
+      (n : ℕ) (served : Served) (wire_after : Option (List Did)) (source_after : Option (List Look)) (new : Standing) (tidied_after : Option Moment) (b : IsPeriod wire_then source_then hub tidied n served wire_after source_after new tidied_after) where
+    abbrev a : IsLived wire source start lengths totals wire_then source_then hub
+    a = so_far.lived
+
     abbrev last : Period
-    last = record { look = b.look; rounds = b.run.rounds }
+    last = record { look = b.look; rounds = b.run.rounds; tidied = due tidied served.last }
+
+    is_due : due tidied served.last ≡ due (tidied_by None a.periods) (last_moment b.run.rounds)
+    is_due = λ i. due (so_far.last i) (b.run.last i)
 
     more_rounds : rounds_in (a.periods ++ last ∷ []) ≡ rounds_in a.periods ++ b.run.rounds
     more_rounds = flat_map-one (λ period. period.rounds) a.periods last
@@ -91,35 +113,41 @@ module _ (goes_on : (start : Standing) (turns later : List Turn) → after_turns
 
     stands : new ≡ after_turns start (flat_map turns_of (a.periods ++ last ∷ []))
     stands =
-        b.run.hub
-        ∙ sym (log (after_turns hub (replacement b.look)) (flat_map entries_of b.run.rounds))
-        ∙ sym (goes_on hub (replacement b.look) (map Stepped (flat_map entries_of b.run.rounds)))
+        let looked = after_turns hub (replacement b.look) in
+        let steps = map Stepped (flat_map entries_of b.run.rounds) in
+        b.tidies.hub
+        ∙ ap (λ (h : Standing). after_turns h (tidying (due tidied served.last))) (b.run.hub ∙ sym (log looked (flat_map entries_of b.run.rounds)))
+        ∙ sym (goes_on looked steps (tidying (due tidied served.last)))
+        ∙ sym (goes_on hub (replacement b.look) (steps ++ tidying (due tidied served.last)))
         ∙ ap (λ (h : Standing). after_turns h (turns_of last)) a.hub
         ∙ sym (goes_on start (flat_map turns_of a.periods) (turns_of last))
         ∙ ap (after_turns start) (sym (flat_map-one turns_of a.periods last))
 
     pub one_more : (u : Totals) → u.events ≡ totals.events + served.events → u.faults ≡ min (totals.faults + served.faults) (2 ^ 64 - 1) → u.refused ≡ totals.refused + served.refused
-        → IsLived wire source start (lengths ++ n ∷ []) u wire_after source_after new
+        → LivesOn wire source start (lengths ++ n ∷ []) u wire_after source_after new tidied_after
     one_more u events faults refused = record {
-      periods = a.periods ++ last ∷ [];
-      each = periods_on start a.periods last a.each (subst (λ (h : Standing). AreRounds (after_turns h (replacement b.look)) b.run.rounds) a.hub b.run.each);
-      many = map-append (λ period. length period.rounds) a.periods (last ∷ []) ∙ (λ i. a.many i ++ b.run.many i ∷ []);
-      did = subst (λ l. Tells wire l wire_after) (sym more_did) (tells_on wire _ wire_then _ wire_after a.did b.run.told);
-      found = subst (λ l. Tells source l source_after) (sym (map-append (λ period. period.look) a.periods (last ∷ []))) (tells_on source _ source_then _ source_after a.found b.found);
-      hub = stands;
-      events = events ∙ (let e = a.events in let f = b.run.events in omega (arith, e, f, more_events));
-      faults = faults
-          ∙ (λ i. min (a.faults i + b.run.faults i) (2 ^ 64 - 1))
-          ∙ saturated (count_by is_fault (flat_map did_in (rounds_in a.periods))) (count_by is_fault (flat_map did_in b.run.rounds)) (2 ^ 64 - 1)
-          ∙ ap (λ (k : ℕ). min k (2 ^ 64 - 1)) (sym more_faults);
-      refused = refused ∙ (let e = a.refused in let f = b.run.refused in omega (arith, e, f, more_refused));
+      lived = record {
+        periods = a.periods ++ last ∷ [];
+        each = periods_on None start a.periods last a.each (subst (λ (h : Standing). AreRounds (after_turns h (replacement b.look)) b.run.rounds) a.hub b.run.each) is_due;
+        many = map-append (λ period. length period.rounds) a.periods (last ∷ []) ∙ (λ i. a.many i ++ b.run.many i ∷ []);
+        did = subst (λ l. Records wire l wire_after) (sym more_did) (records_on wire _ wire_then _ wire_after a.did b.run.recorded);
+        found = subst (λ l. Records source l source_after) (sym (map-append (λ period. period.look) a.periods (last ∷ []))) (records_on source _ source_then _ source_after a.found b.found);
+        hub = stands;
+        events = events ∙ (let e = a.events in let f = b.run.events in omega (arith, e, f, more_events));
+        faults = faults
+            ∙ (λ i. min (a.faults i + b.run.faults i) (2 ^ 64 - 1))
+            ∙ saturated (count_by is_fault (flat_map did_in (rounds_in a.periods))) (count_by is_fault (flat_map did_in b.run.rounds)) (2 ^ 64 - 1)
+            ∙ ap (λ (k : ℕ). min k (2 ^ 64 - 1)) (sym more_faults);
+        refused = refused ∙ (let e = a.refused in let f = b.run.refused in omega (arith, e, f, more_refused));
+      };
+      last = b.tidies.after ∙ ap (option_or (due tidied served.last)) so_far.last ∙ sym (tidied_on None a.periods last);
     }
 
 -- one more of the same
 pub replicate-one : (n x : ℕ) → replicate n x ++ x ∷ [] ≡ replicate (n + 1) x
 replicate-one n x = replicate-append-replicate n 1 x
 
--- what is counted may stop short of what was told
+-- what is counted may stop short of what was recorded
 pub counted_less : (a k m b : ℕ) → k ≡ min m (2 ^ 64 - 1) → IsCounted a m b → IsCounted a k b
 counted_less a k m b e s = record {
   later = s.later;
@@ -137,6 +165,10 @@ look_goes_on Unchanged = tt
 look_goes_on (Changed database) = (tt, tt)
 look_goes_on Failed = tt
 
+tidying_goes_on : (tidied : Option Moment) → AllByRecursion IsOfOneProcess (tidying tidied)
+tidying_goes_on (Some at) = (tt, tt)
+tidying_goes_on None = tt
+
 steps_go_on : (entries : List Entry) → AllByRecursion IsOfOneProcess (map Stepped entries)
 steps_go_on [] = tt
 steps_go_on (entry ∷ entries) = (tt, steps_go_on entries)
@@ -146,19 +178,21 @@ periods_go_on [] = tt
 periods_go_on (p ∷ ps) =
     subst (AllByRecursion IsOfOneProcess) (sym (flat_map-cons turns_of p ps))
     (both_go_on (turns_of p) (flat_map turns_of ps)
-    (both_go_on (replacement p.look) (map Stepped (flat_map entries_of p.rounds)) (look_goes_on p.look) (steps_go_on (flat_map entries_of p.rounds)))
+    (both_go_on (replacement p.look) (map Stepped (flat_map entries_of p.rounds) ++ tidying p.tidied) (look_goes_on p.look)
+    (both_go_on (map Stepped (flat_map entries_of p.rounds)) (tidying p.tidied) (steps_go_on (flat_map entries_of p.rounds)) (tidying_goes_on p.tidied)))
     (periods_go_on ps))
 
 -- with the laws of all histories
-pub is_life : ((start : Standing) (turns : List Turn) → IsOneRun start turns) → ServesAlike → Unaffected → OneTicketInProcess
+pub is_life : ((start : Standing) (turns : List Turn) → IsOneRun start turns) → ServesAlike → Unaffected → TidiesUnseen → OneTicketInProcess
     → (wire : Option (List Did)) (source : Option (List Look)) (start : Standing) (lengths : List ℕ) (totals : Totals) (wire_after : Option (List Did)) (source_after : Option (List Look)) (new : Standing)
     → IsLived wire source start lengths totals wire_after source_after new → IsLife wire source start lengths totals wire_after source_after new
-is_life one_run alike unaffected one_ticket wire source start lengths totals wire_after source_after new lived =
+is_life one_run alike unaffected unseen one_ticket wire source start lengths totals wire_after source_after new lived =
     let turns = flat_map turns_of lived.periods in
     record {
       lived = lived;
       one_run = one_run start turns;
       isolation = alike start turns;
       unaffected = unaffected start turns;
+      unseen = unseen start turns;
       one_ticket = one_ticket start turns (periods_go_on lived.periods);
     }

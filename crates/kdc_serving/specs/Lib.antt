@@ -1,2 +1,2 @@
 pub mod Life
-pub mod Told
+pub mod Recorded

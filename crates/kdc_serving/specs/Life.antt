@@ -1,16 +1,18 @@
--- The life of a server: looks at a source of rows, and rounds between them.
-use Rattle.std.specs.Prelude.{◌≡◌, ◌≤◌, ◌+◌, ◌*◌, ◌/◌, ◌%◌, ◌^◌, ◌-◌, ℕ, ⊤, List, [], ◌∷◌, ◌++◌, length, map, min}
-use Rattle.std.specs.Prelude.{replicate, count_by, Option}
+-- The life of a server: looks at a source of rows, rounds between them, and a tidying once in a minute.
+use Rattle.std.specs.Prelude.{◌≡◌, ◌/◌, ◌%◌, ◌^◌, ◌-◌, ℕ, ⊤, List, [], ◌∷◌, ◌++◌, length, map, min}
+use Rattle.std.specs.Prelude.{pos, ◌+ℤ◌, int_lt, if◌then◌else◌, replicate, count_by, Option, Some, None}
 use Rattle.std.specs.List.{flat_map}
+use Rattle.std.specs.Option.{option_or}
 use Rattle.krb_fields.specs.Name.{Components}
+use Rattle.krb_fields.specs.declared.moment.Moment.{Moment}
 use Rattle.replay.specs.Run.{OneForEach}
 use Rattle.kdc_hub.specs.declared.server.Served.{Served}
 use Rattle.kdc_hub.specs.declared.wires.Did.{Did}
 use Rattle.kdc_hub.specs.Hub.{Standing}
-use Rattle.kdc_hub.specs.History.{IsOneRun, Replaced, ServesAlikeFrom, Stepped, Turn, UnaffectedFrom, after_turns}
-use Rattle.kdc_hub.specs.History.{tickets_sent}
-use Rattle.kdc_hub.specs.Rounds.{AreRounds, IsRun, Round, did_in, entries_of, is_refused}
-use Rattle.kdc_hub.specs.Wire.{Tells, is_event, is_fault}
+use Rattle.kdc_hub.specs.History.{IsOneRun, Replaced, ServesAlikeFrom, Stepped, Tidied, TidiesUnseenFrom, Turn}
+use Rattle.kdc_hub.specs.History.{UnaffectedFrom, after_turns, tickets_sent}
+use Rattle.kdc_hub.specs.Rounds.{AreRounds, IsRun, Round, did_in, entries_of, is_refused, last_moment}
+use Rattle.kdc_hub.specs.Wire.{Records, is_event, is_fault}
 use Rattle.kdc_serving.specs.declared.rows.Look.{Look}
 use Rattle.kdc_serving.specs.declared.rows.Look.TheVariants.{Unchanged, Changed, Failed}
 use Rattle.kdc_serving.specs.declared.totals.Totals.{Totals}
@@ -21,41 +23,61 @@ replacement Unchanged = []
 replacement (Changed database) = Replaced database ∷ []
 replacement Failed = []
 
--- a look, and the rounds up to the next one
+-- When is to be tidied, by when it was tidied last and when the last event came: at that event's moment, where none was
+-- before, or a minute before it or earlier.
+abbrev pub due : Option Moment → Option Moment → Option Moment
+due tidied None = None
+due None (Some at) = Some at
+due (Some before) (Some at) = if int_lt at.sec (before.sec +ℤ pos 60) then None else Some at
+
+abbrev pub tidying : Option Moment → List Turn
+tidying None = []
+tidying (Some at) = Tidied at ∷ []
+
+-- a look, the rounds up to the next one, and when was tidied behind them, if it was
 pub record Period : Type 0 where
   pub look : Look
   pub rounds : List Round
+  pub tidied : Option Moment
 
--- the history of a period: the rows are replaced before its first round, and never within it
+-- the history of a period: the rows are replaced before its first round, and what can't come again is forgotten behind
+-- its last one
 abbrev pub turns_of : Period → List Turn
-turns_of period = replacement period.look ++ map Stepped (flat_map entries_of period.rounds)
+turns_of period =
+    replacement period.look ++ (map Stepped (flat_map entries_of period.rounds) ++ tidying period.tidied)
+
+-- when was tidied last, behind these periods
+abbrev pub tidied_by : Option Moment → List Period → Option Moment
+tidied_by tidied [] = tidied
+tidied_by tidied (period ∷ periods) = tidied_by (option_or period.tidied tidied) periods
 
 abbrev pub rounds_in : List Period → List Round
 rounds_in periods = flat_map (λ period. period.rounds) periods
 
--- each period begins where the ones before it leave the hub
-unfoldable pub ArePeriods : Standing → List Period → Type 0
-ArePeriods hub [] = ⊤
-ArePeriods hub (period ∷ periods) =
+-- each period begins where the ones before it leave the hub; it is tidied where that is due since it last was
+unfoldable pub ArePeriods : Option Moment → Standing → List Period → Type 0
+ArePeriods tidied hub [] = ⊤
+ArePeriods tidied hub (period ∷ periods) =
     AreRounds (after_turns hub (replacement period.look)) period.rounds
-    × ArePeriods (after_turns hub (turns_of period)) periods
+    × (period.tidied ≡ due tidied (last_moment period.rounds))
+    × ArePeriods (option_or period.tidied tidied) (after_turns hub (turns_of period)) periods
 
 -- how many rounds each period has: 16, and the last one the rest
 abbrev pub periods_of : ℕ → List ℕ
 periods_of rounds = replicate (rounds / 16) 16 ++ rounds % 16 ∷ []
 
--- What the Wire and the source told before and afterwards, the hub before and afterwards, and what was counted.
+-- What the Wire and the source recorded before and afterwards, the hub before and afterwards, and what was counted.
 pub record IsLived (wire : Option (List Did)) (source : Option (List Look)) (start : Standing) (lengths : List ℕ)
     (totals : Totals) (wire_after : Option (List Did)) (source_after : Option (List Look))
     (new : Standing) : Type 0 where
   pub periods : List Period
-  pub each : ArePeriods start periods
+  pub each : ArePeriods None start periods
   pub many : map (λ period. length period.rounds) periods ≡ lengths
   -- the Wire did this and nothing else
-  pub did : Tells wire (flat_map did_in (rounds_in periods)) wire_after
+  pub did : Records wire (flat_map did_in (rounds_in periods)) wire_after
   -- the source was looked at so often, and found this
-  pub found : Tells source (map (λ period. period.look) periods) source_after
-  -- the rows that were found and the events polled, with the ends that were added, are one history
+  pub found : Records source (map (λ period. period.look) periods) source_after
+  -- the rows that were found, the events polled, with the ends that were added, and the tidyings are one history
   pub hub : new ≡ after_turns start (flat_map turns_of periods)
   pub events : totals.events ≡ count_by is_event (flat_map did_in (rounds_in periods))
   pub faults : totals.faults ≡ min (count_by is_fault (flat_map did_in (rounds_in periods))) (2 ^ 64 - 1)
@@ -69,19 +91,28 @@ pub record IsLife (wire : Option (List Did)) (source : Option (List Look)) (star
   pub one_run : IsOneRun start (flat_map turns_of lived.periods)
   pub isolation : ServesAlikeFrom start (flat_map turns_of lived.periods)
   pub unaffected : UnaffectedFrom start (flat_map turns_of lived.periods)
+  pub unseen : TidiesUnseenFrom start (flat_map turns_of lived.periods)
   pub one_ticket : (c : Components) → OneForEach (tickets_sent c start (flat_map turns_of lived.periods))
 
 -- what a look leaves
 pub record HasLooked (source : Option (List Look)) (start : Standing) (source_after : Option (List Look))
     (new : Standing) : Type 0 where
   pub look : Look
-  pub found : Tells source (look ∷ []) source_after
+  pub found : Records source (look ∷ []) source_after
   pub hub : new ≡ after_turns start (replacement look)
 
--- what a look, and a run of so many rounds after it, leave
-pub record IsPeriod (wire : Option (List Did)) (source : Option (List Look)) (start : Standing) (n : ℕ)
-    (served : Served) (wire_after : Option (List Did)) (source_after : Option (List Look))
-    (new : Standing) : Type 0 where
+-- what is tidied, and when it was last then
+pub record HasTidied (start : Standing) (tidied last : Option Moment) (new : Standing)
+    (tidied_after : Option Moment) : Type 0 where
+  pub hub : new ≡ after_turns start (tidying (due tidied last))
+  pub after : tidied_after ≡ option_or (due tidied last) tidied
+
+-- what a look, a run of so many rounds after it, and perhaps a tidying leave
+pub record IsPeriod (wire : Option (List Did)) (source : Option (List Look)) (start : Standing)
+    (tidied : Option Moment) (n : ℕ) (served : Served) (wire_after : Option (List Did))
+    (source_after : Option (List Look)) (new : Standing) (tidied_after : Option Moment) : Type 0 where
   pub look : Look
-  pub found : Tells source (look ∷ []) source_after
-  pub run : IsRun wire (after_turns start (replacement look)) n served wire_after new
+  pub middle : Standing
+  pub found : Records source (look ∷ []) source_after
+  pub run : IsRun wire (after_turns start (replacement look)) n served wire_after middle
+  pub tidies : HasTidied middle tidied served.last new tidied_after

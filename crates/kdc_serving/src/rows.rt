@@ -1,7 +1,7 @@
 //! Where the rows of a realm come from while it is served.
 ghost use Rattle.std.specs.Prelude.{◌≡◌, ◌∷◌, [], List, Option};
-ghost use Rattle.kdc_hub.specs.Wire.{Tells};
-ghost use Rattle.kdc_serving.specs.Told.{told_by_any};
+ghost use Rattle.kdc_hub.specs.Wire.{Records};
+ghost use Rattle.kdc_serving.specs.Recorded.{recorded_by_any};
 ghost use Rattle.kdc_serving.specs.declared.rows.Look.{Look};
 
 use kdc_hub::OtherRealm;
@@ -9,7 +9,7 @@ use principals::Database;
 use std::alloc::Global;
 
 /// What a look at a source of rows finds.
-#[derive(Debug, Drop)]
+#[derive(Drop)]
 pub enum Look {
     /// The rows are those that were given last.
     Unchanged,
@@ -22,20 +22,20 @@ pub enum Look {
 /// Where the rows of a realm come from while it is served. A source may tell its record, for contracts alone.
 pub trait RowSource {
     // What the looks so far have found, in order, where the source tells it.
-    ghost told: { Self → Option (List Look) };
+    ghost recorded: { Self → Option (List Look) };
 
     /// Looks whether there are other rows than those that were given last.
     fn look(&mut self, alloc: Global) -> Look
-        ensures tells { Tells (told self.old) (result ∷ []) (told self.new) };
+        ensures records { Records (recorded self.old) (result ∷ []) (recorded self.new) };
 
     /// Hears that the rows of the last look are not served.
     fn refuse(&mut self, fault: OtherRealm)
-        ensures tells { told self.new ≡ told self.old };
+        ensures records { recorded self.new ≡ recorded self.old };
 }
 
 /// Where there is no source, the rows are never others.
 impl<S: RowSource> RowSource for Option<S> {
-    ghost told = { told_by_any S.told };
+    ghost recorded = { recorded_by_any S.recorded };
 
     fn look(&mut self, alloc: Global) -> Look {
         match self {

@@ -1,4 +1,5 @@
--- The state that opens, and the memory of each client in it.
+-- The state that opens, the memory of each client in it, and what is lost and tidied.
+use Rattle.std.specs.Prelude.{not}
 use Rattle.std.specs.Option.{unwrap_or}
 use Rattle.std.specs.FinMap as map
 use Rattle.krb_fields.specs.Name.{Components}
@@ -9,16 +10,19 @@ use Rattle.replay.specs.declared.keep.Kept.{Kept}
 use Rattle.replay.specs.declared.memory.Memory.{Memory}
 use Rattle.replay.specs.declared.opening.Opening.{Opening}
 use Rattle.replay.specs.declared.opening.Opening.TheVariants.{Restart}
+use Rattle.sorted_entries.specs.Changed.{change_values}
+use Rattle.sorted_entries.specs.Values.{retain_values}
 use Rattle.kdc_state.specs.declared.state.State.{State}
-use Rattle.replay.specs.Opening.{opened_memory}
+use Rattle.replay.specs.Opening.{opening_floor}
+use Rattle.replay.specs.Tidied.{empty_memory, floor_on, is_empty, tidied}
 
 abbrev pub opened_state : Principals → Limits → Opening → State
 opened_state database limits opening =
-    record { database = database; limits = limits; opening = opening; memories = map.empty }
+    record { database = database; limits = limits; floor = opening_floor opening; memories = map.empty }
 
--- a name that has no memory stored has that of the opening
+-- of a name that has no memory stored nothing is remembered, and it has the floor of the state
 abbrev pub memory_of : State → Components → Memory Kept
-memory_of state name = unwrap_or (map.get state.memories name) (opened_memory state.opening)
+memory_of state name = unwrap_or (map.get state.memories name) (empty_memory state.floor)
 
 -- the state with this memory stored for a name
 abbrev pub with_memory : State → Components → Memory Kept → State
@@ -26,4 +30,13 @@ with_memory state name memory = record state { memories = map.insert state.memor
 
 -- after what was remembered is lost, each name has the memory of a restart at this moment
 abbrev pub restarted : State → Moment → State
-restarted state at = record state { opening = Restart at; memories = map.empty }
+restarted state at = record state { floor = opening_floor (Restart at); memories = map.empty }
+
+-- Each memory is tidied at this moment, and the floor raised likewise. A memory that then is that of a name which has
+-- none stored is let go.
+abbrev pub tidied_state : State → Moment → State
+tidied_state state at = record state {
+  floor = floor_on state.floor at.sec;
+  memories = retain_values (change_values state.memories (λ m. tidied m at.sec))
+      (λ m. not (is_empty (floor_on state.floor at.sec) m));
+}

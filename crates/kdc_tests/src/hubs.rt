@@ -6,7 +6,9 @@ use crate::given::{BASIC, CLIENT_UNKNOWN};
 use crate::realm::{Realm, kdc};
 use crate::service_tickets::REQUEST;
 use framing::frame;
-use kdc_hub::{Action, Did, Event, Hub, HubFault, MemoryWire, Served, Wire, serve};
+use kdc_hub::{
+    Action, CloseReason, Did, Event, Hub, HubFault, MemoryWire, Peer, Served, Wire, serve,
+};
 use krb_elements::Octets;
 use krb_fields::Moment;
 use rand_chacha::ChaCha20Rng;
@@ -63,7 +65,7 @@ impl Scenario {
 
 fn run(alloc: Global, scenario: Scenario) -> Result<bool, Fail> {
     let kdc = kdc(alloc, scenario.realm())?;
-    let mut hub = Hub::new(alloc, kdc, ChaCha20Rng::from_seed([0; 32]));
+    let mut hub = Hub::new(alloc, kdc, ChaCha20Rng::from_seed([0; 32]), true);
     play(alloc, &mut hub, scenario)
 }
 
@@ -141,7 +143,9 @@ fn two_requests(alloc: Global) -> Result<Vec<u8>, Fail> {
 fn is_write(alloc: Global, action: &Action, to: u64, digits: &str) -> Result<bool, Fail> {
     let wanted = given::octets(alloc, digits)?;
     Ok(match action {
-        Action::Write { conn, message } => *conn == to && message.as_slice() == wanted.as_slice(),
+        Action::Write { conn, reply } => {
+            *conn == to && reply.message.as_slice() == wanted.as_slice()
+        }
         _ => false,
     })
 }
@@ -294,7 +298,13 @@ fn a_step_that_is_refused_memory_ends_its_connection_alone(rt: HostRuntime) -> R
 fn is_refused(alloc: Global, hub: &mut TestHub) -> Result<bool, Fail> {
     let actions = bring(alloc, hub, 7, &[0x80, 0, 0, 0])?;
     Ok(match actions.as_slice() {
-        [refusal, Action::Close { conn: 7 }] => is_write(alloc, refusal, 7, TOO_LONG)?,
+        [
+            refusal,
+            Action::Close {
+                conn: 7,
+                reason: CloseReason::BadLength,
+            },
+        ] => is_write(alloc, refusal, 7, TOO_LONG)?,
         _ => false,
     })
 }
@@ -337,7 +347,13 @@ fn fill(alloc: Global, hub: &mut TestHub) -> Result<bool, Fail> {
 
 fn is_closed_at_once(alloc: Global, hub: &mut TestHub) -> Result<bool, Fail> {
     let actions = step(alloc, hub, Event::Opened { conn: 256 })?;
-    Ok(matches!(actions.as_slice(), [Action::Close { conn: 256 }]))
+    Ok(matches!(
+        actions.as_slice(),
+        [Action::Close {
+            conn: 256,
+            reason: CloseReason::Full
+        }]
+    ))
 }
 
 fn a_table_is_full(alloc: Global, hub: &mut TestHub) -> Result<bool, Fail> {
@@ -354,8 +370,11 @@ fn a_full_table_closes_what_comes_new(rt: HostRuntime) -> Result<(), Fail> {
     expect(rt.alloc(), Scenario::FullTable)
 }
 
-fn peer(port: u16) -> SocketAddr {
-    SocketAddr::from((Ipv4Addr::LOCALHOST, port))
+fn peer(port: u16) -> Peer {
+    Peer {
+        address: SocketAddr::from((Ipv4Addr::LOCALHOST, port)),
+        socket: 0,
+    }
 }
 
 /// What comes, and when.
@@ -406,9 +425,9 @@ fn replies(did: &[Did], port: u16, number: u64) -> u64 {
             continue;
         };
         let is_one = match action {
-            Action::SendTo { peer, .. } => peer.port() == port,
+            Action::SendTo { peer, .. } => peer.address.port() == port,
             Action::Write { conn, .. } => *conn == number,
-            Action::Close { .. } => false,
+            Action::Pass { .. } | Action::Close { .. } => false,
         };
         if is_one {
             replies = replies.saturating_add(1);
@@ -511,8 +530,8 @@ fn written(
     let _ = step(alloc, hub, Event::Opened { conn })?;
     let actions = bring(alloc, hub, conn, stream)?;
     match actions.as_slice() {
-        [Action::Write { conn: to, message }] if *to == conn => {
-            Ok(Some(Vec::from_slice(alloc, message.as_slice())?))
+        [Action::Write { conn: to, reply }] if *to == conn => {
+            Ok(Some(Vec::from_slice(alloc, reply.message.as_slice())?))
         }
         _ => Ok(None),
     }

@@ -1,6 +1,6 @@
 //! A key distribution centre (`kdc_core`): requests and the replies to them, changes of rows, and runs.
 use crate::given::{BASIC, CLIENT_UNKNOWN};
-use crate::realm::{Altered, Case, Exchange, Happening, NOTHING, Realm, Told, expect};
+use crate::realm::{Altered, Case, Exchange, Happening, NOTHING, Realm, Step, expect};
 use std::test::Fail;
 
 /// The basic request with its first length spelled in two octets.
@@ -237,7 +237,7 @@ fn asks_for_preauthentication(rt: HostRuntime) -> Result<(), Fail> {
 }
 
 #[test]
-fn what_a_client_is_told_of_its_keys_is_told_again(rt: HostRuntime) -> Result<(), Fail> {
+fn key_hints_are_the_same_again(rt: HostRuntime) -> Result<(), Fail> {
     const TOLD: Exchange = Exchange {
         request: BASIC,
         reply: Some(PREAUTH_REQUIRED),
@@ -270,7 +270,7 @@ fn a_ticket_without_memory_is_issued_when_asked_again(rt: HostRuntime) -> Result
 // Passes whichever allocation of the first run is refused.
 #[test]
 fn a_run_goes_on_where_it_stopped(rt: HostRuntime) -> Result<(), Fail> {
-    const RUN: &[Told] = &[
+    const RUN: &[Step] = &[
         (Happening::Noise, None),
         (Happening::AddsUser, None),
         (Happening::AddsUser, None),
@@ -283,7 +283,7 @@ fn a_run_goes_on_where_it_stopped(rt: HostRuntime) -> Result<(), Fail> {
 
 #[test]
 fn rows_of_the_same_realm_take_the_place_of_the_others(rt: HostRuntime) -> Result<(), Fail> {
-    const RUN: &[Told] = &[
+    const RUN: &[Step] = &[
         (Happening::Asks(b'u'), Some(CLIENT_UNKNOWN)),
         (Happening::Replaces(b"A.B"), None),
         (Happening::Asks(b'u'), Some(PREAUTH_REQUIRED)),
@@ -293,7 +293,7 @@ fn rows_of_the_same_realm_take_the_place_of_the_others(rt: HostRuntime) -> Resul
 
 #[test]
 fn rows_of_another_realm_change_nothing(rt: HostRuntime) -> Result<(), Fail> {
-    const RUN: &[Told] = &[
+    const RUN: &[Step] = &[
         (Happening::Asks(b'u'), Some(CLIENT_UNKNOWN)),
         (Happening::Replaces(b"A.C"), None),
         (Happening::Asks(b'u'), Some(CLIENT_UNKNOWN)),
@@ -303,7 +303,7 @@ fn rows_of_another_realm_change_nothing(rt: HostRuntime) -> Result<(), Fail> {
 
 #[test]
 fn opens_again_with_other_rows(rt: HostRuntime) -> Result<(), Fail> {
-    const RUN: &[Told] = &[
+    const RUN: &[Step] = &[
         (Happening::Asks(b'u'), Some(CLIENT_UNKNOWN)),
         (Happening::Reopens, None),
         (Happening::Asks(b'u'), Some(PREAUTH_REQUIRED)),

@@ -145,6 +145,37 @@ fn what_is_forgotten_is_too_old_where_the_clock_goes_back(rt: HostRuntime) -> Re
 }
 
 #[test]
+fn what_can_come_again_is_remembered_by_tidying(rt: HostRuntime) -> Result<(), Fail> {
+    const TIDY: Step = Step {
+        act: Act::Tidy,
+        client: b' ',
+        at: 300,
+        ..ADD
+    };
+    const AGAIN: Step = Step { at: 300, ..ASK };
+    const TIDY_LATER: Step = Step { at: 301, ..TIDY };
+    const LATER: Step = Step {
+        at: 301,
+        stamp: 301,
+        ..ASK
+    };
+    const STEPS: &[Told] = &[
+        (ADD, Outcome::Nothing),
+        (ADD_OTHER, Outcome::Nothing),
+        (ASK, Outcome::Ticket),
+        (TIDY, Outcome::Nothing),
+        (AGAIN, Outcome::Ticket),
+        (TIDY_LATER, Outcome::Nothing),
+        // It was forgotten, and is too old from then on.
+        (AGAIN, Outcome::Refusal(37)),
+        // Of this client nothing was.
+        (ASK_OTHER, Outcome::Ticket),
+        (LATER, Outcome::Ticket),
+    ];
+    expect(rt.alloc(), 64, STEPS)
+}
+
+#[test]
 fn a_client_that_is_removed_is_remembered(rt: HostRuntime) -> Result<(), Fail> {
     const REMOVE: Step = Step {
         act: Act::Change(Changed::Remove),

@@ -2,12 +2,16 @@
 //! take long for each place.
 use crate::given::{BASIC, name, octets};
 use enctypes::{Etype, Key};
-use kdc_core::{Event, Kdc, Opening, RunFault};
+use kdc_core::{
+    Account, Answer, AsOutcome, AsRefusal, Bears, Event, Granted, Kdc, Opening, RunFault,
+    TgsOutcome, TgsRefusal,
+};
 use krb_elements::Octets;
-use krb_fields::Moment;
+use krb_fields::{Moment, Name, NameRef};
 use principal_rows::{KeyList, Limits, Policy};
 use principals::{Change, ChangeFault, Database, RowChange};
 use std::alloc::{AllocError, Global};
+use std::cmp::Ordering;
 use std::test::Fail;
 
 const MIDNIGHT: i64 = 1_704_067_200;
@@ -208,8 +212,12 @@ impl<'a> Asked<'a> {
         })
     }
 
-    fn reply(self, alloc: Global, kdc: &mut Kdc) -> Result<Option<Vec<u8>>, AllocError> {
+    fn answer(self, alloc: Global, kdc: &mut Kdc) -> Result<Answer<'a>, AllocError> {
         kdc.handle(alloc, self.at, &self.random, self.room, self.request)
+    }
+
+    fn reply(self, alloc: Global, kdc: &mut Kdc) -> Result<Option<Vec<u8>>, AllocError> {
+        Ok(self.answer(alloc, kdc)?.reply)
     }
 }
 
@@ -324,9 +332,9 @@ fn event(alloc: Global, happening: Happening) -> Result<Event, Fail> {
 }
 
 /// What happens, with the reply to it, if any, in hexadecimal digits.
-pub type Told = (Happening, Option<&'static str>);
+pub type Step = (Happening, Option<&'static str>);
 
-fn push_events(alloc: Global, events: &mut Vec<Event>, run: &[Told]) -> Result<(), Fail> {
+fn push_events(alloc: Global, events: &mut Vec<Event>, run: &[Step]) -> Result<(), Fail> {
     for (happening, _) in run {
         events.push(event(alloc, *happening)?)?;
     }
@@ -345,7 +353,7 @@ fn ran(alloc: Global, kdc: &mut Kdc, events: &[Event]) -> (usize, Vec<Option<Vec
 fn are_replies(
     alloc: Global,
     replies: &[Option<Vec<u8>>],
-    part: Option<&[Told]>,
+    part: Option<&[Step]>,
 ) -> Result<bool, Fail> {
     let part = part.ok_or("a part")?;
     for ((_, wanted), reply) in part.iter().zip(replies) {
@@ -358,7 +366,7 @@ fn are_replies(
 
 /// Whether the replies to the events are those of the run, also where it goes on behind the event at which it stopped
 /// first.
-fn goes_on(alloc: Global, kdc: &mut Kdc, events: &[Event], run: &[Told]) -> Result<bool, Fail> {
+fn goes_on(alloc: Global, kdc: &mut Kdc, events: &[Event], run: &[Step]) -> Result<bool, Fail> {
     let (done, first) = ran(alloc, kdc, events);
     let later = events.get(done..).ok_or("later events")?;
     let (_, rest) = ran(alloc, kdc, later);
@@ -366,7 +374,7 @@ fn goes_on(alloc: Global, kdc: &mut Kdc, events: &[Event], run: &[Told]) -> Resu
 }
 
 /// Whether the run has the replies that it should. It passes whichever allocation of the first run is refused.
-fn is_run(alloc: Global, kdc: &mut Kdc, run: &[Told]) -> Result<bool, Fail> {
+fn is_run(alloc: Global, kdc: &mut Kdc, run: &[Step]) -> Result<bool, Fail> {
     let mut events = Vec::new(alloc);
     push_events(alloc, &mut events, run)?;
     goes_on(alloc, kdc, &events, run)
@@ -398,6 +406,139 @@ fn has_code(alloc: Global, kdc: &mut Kdc, altered: Altered) -> Result<bool, Fail
     Ok(reply.get(42) == Some(&altered.code))
 }
 
+/// What came of a request.
+#[derive(Clone, Copy, PartialEq, Eq)]
+pub enum Came {
+    NoRequest,
+    LoginRefused(AsRefusal),
+    Refused(TgsRefusal),
+    /// A ticket from midnight on, which ends after so many seconds, not renewable, all of whose keys are of type 18.
+    Issued { seconds: i64, flags: u32 },
+    Resent(Bears),
+    TooBig,
+}
+
+/// A request, in which one octet may be changed, and the account that it should get.
+#[derive(Clone, Copy)]
+pub struct AccountRow {
+    pub asked: Exchange,
+    /// The place of the octet whose last bit is changed.
+    pub octet: Option<usize>,
+    pub client: Option<&'static [&'static [u8]]>,
+    pub service: Option<&'static [&'static [u8]]>,
+    pub came: Came,
+}
+
+/// A ticket of which this cannot be said counts as one of no seconds.
+fn issued(granted: &Granted) -> Came {
+    let aes = Etype::Aes256CtsHmacSha1_96;
+    let types = [
+        granted.reply_type,
+        granted.ticket_type,
+        granted.session_type,
+    ];
+    let times = &granted.times;
+    let is_said = types == [aes; 3]
+        && times.start.seconds() == MIDNIGHT
+        && granted.authtime.seconds() <= MIDNIGHT
+        && times.renew_till.is_none();
+    Came::Issued {
+        seconds: if is_said {
+            times.end.seconds().saturating_sub(MIDNIGHT)
+        } else {
+            0
+        },
+        flags: granted.flags.bits(),
+    }
+}
+
+fn came_of(account: &Account<NameRef<'_>>) -> Came {
+    match account {
+        Account::NoRequest => Came::NoRequest,
+        Account::As { outcome, .. } => match outcome {
+            AsOutcome::Refused(refusal) => Came::LoginRefused(*refusal),
+            AsOutcome::Issued(granted) => issued(granted),
+            AsOutcome::TooBig => Came::TooBig,
+        },
+        Account::Tgs { outcome, .. } => match outcome {
+            TgsOutcome::Refused(refusal) => Came::Refused(*refusal),
+            TgsOutcome::Issued(granted) => issued(granted),
+            TgsOutcome::Resent(bears) => Came::Resent(*bears),
+            TgsOutcome::TooBig => Came::TooBig,
+        },
+    }
+}
+
+/// Whether a name has these components.
+fn is_lent(
+    alloc: Global,
+    found: &Option<NameRef<'_>>,
+    wanted: Option<&[&[u8]]>,
+) -> Result<bool, Fail> {
+    match (found, wanted) {
+        (Some(found), Some(wanted)) => { Ok(found.order(&name(alloc, wanted)?) == Ordering::Equal) }
+        (None, None) => Ok(true),
+        _ => Ok(false),
+    }
+}
+
+fn is_owned(alloc: Global, found: &Option<Name>, wanted: Option<&[&[u8]]>) -> Result<bool, Fail> {
+    match (found, wanted) {
+        (Some(found), Some(wanted)) => Ok(found.is_same(&name(alloc, wanted)?)),
+        (None, None) => Ok(true),
+        _ => Ok(false),
+    }
+}
+
+/// Whether the names are those of the row.
+fn names_both(
+    alloc: Global,
+    account: &Account<NameRef<'_>>,
+    row: AccountRow,
+) -> Result<bool, Fail> {
+    let AccountRow {
+        client,
+        service,
+        ..
+    } = row;
+    match account {
+        Account::NoRequest => Ok(client.is_none() && service.is_none()),
+        Account::As {
+            client: found,
+            service: other,
+            ..
+        } => Ok(is_lent(alloc, found, client)? && is_lent(alloc, other, service)?),
+        Account::Tgs {
+            client: found,
+            service: other,
+            ..
+        } => Ok(is_owned(alloc, found, client)? && is_lent(alloc, other, service)?),
+    }
+}
+
+fn is_accounted(alloc: Global, kdc: &mut Kdc, row: AccountRow) -> Result<bool, Fail> {
+    let mut request = octets(alloc, row.asked.request)?;
+    if let Some(place) = row.octet {
+        *request.get_mut(place).ok_or("a place")? ^= 1;
+    }
+    let answer = Asked::new(alloc, row.asked, &request)?.answer(alloc, kdc)?;
+    let is_named = names_both(alloc, &answer.account, row)?;
+    Ok(is_named && came_of(&answer.account) == row.came)
+}
+
+fn first_other_account(
+    alloc: Global,
+    kdc: &mut Kdc,
+    rows: &[AccountRow],
+) -> Result<Option<usize>, Fail> {
+    for (place, row) in rows.iter().enumerate() {
+        if !is_accounted(alloc, kdc, *row)? {
+            return Ok(Some(place));
+        }
+    }
+    Ok(None)
+}
+
 /// What a test does with a KDC.
 #[derive(Clone, Copy)]
 pub enum Case {
@@ -405,6 +546,8 @@ pub enum Case {
     Exchanges(&'static [Exchange]),
     /// A request gets the reply beside it the second time, whichever allocation of the first time is refused.
     Again(Exchange),
+    /// Each request gets this account.
+    Accounts(&'static [AccountRow]),
     /// No beginning of these octets gets a reply.
     Beginnings(&'static str),
     /// Each change of the basic request gets the error code beside it.
@@ -414,7 +557,7 @@ pub enum Case {
     /// A timestamp of a million octets, behind this and before this, gets this reply.
     Million(&'static str, &'static str, &'static str),
     /// The replies to what happens are these, also where it goes on after want of memory.
-    Run(&'static [Told]),
+    Run(&'static [Step]),
     /// `krbtgt/A.B` has a row, and `u` has none.
     Rows,
     /// `u` is there, and is not added.
@@ -538,6 +681,7 @@ fn first_of_one(is_so: bool) -> Option<usize> {
 fn first_wrong(alloc: Global, kdc: &mut Kdc, case: Case) -> Result<Option<usize>, Fail> {
     let is_right = match case {
         Case::Exchanges(exchanges) => return first_other(alloc, kdc, exchanges),
+        Case::Accounts(rows) => return first_other_account(alloc, kdc, rows),
         Case::Beginnings(digits) => return first_answered(alloc, kdc, digits),
         Case::Altered(changes) => return first_other_code(alloc, kdc, changes),
         Case::Unspoilt(reply) => return first_spoilt(alloc, kdc, reply),

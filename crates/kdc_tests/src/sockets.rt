@@ -94,7 +94,7 @@ fn open(rt: &HostRuntime) -> Result<Server, Fail> {
     let kdc = kdc(rt.alloc(), Realm::Granter)?;
     Ok(Server {
         wire,
-        hub: Hub::new(rt.alloc(), kdc, ChaCha20Rng::from_seed([0; 32])),
+        hub: Hub::new(rt.alloc(), kdc, ChaCha20Rng::from_seed([0; 32]), true),
         addresses,
     })
 }

@@ -25,6 +25,8 @@ pub enum Act {
     GranterKeys,
     /// `h` gets new keys.
     ServiceKeys,
+    /// What can't come again is forgotten.
+    Tidy,
     Restart,
 }
 
@@ -75,7 +77,7 @@ impl Step {
     pub fn is_left(self, client: u8) -> bool {
         match self.act {
             Act::Ask(_) | Act::Change(_) => self.client == client,
-            Act::GranterKeys | Act::ServiceKeys | Act::Restart => true,
+            Act::GranterKeys | Act::ServiceKeys | Act::Tidy | Act::Restart => true,
         }
     }
 }
@@ -176,6 +178,7 @@ fn event(alloc: Global, step: Step) -> Result<Event, Fail> {
         }),
         Act::GranterKeys => new_service_keys(alloc, &[b"krbtgt", b"A.B"], step.octet),
         Act::ServiceKeys => new_service_keys(alloc, &[b"h"], step.octet),
+        Act::Tidy => Ok(Event::Tidy { at }),
         Act::Restart => Ok(Event::Restart { at }),
     }
 }

@@ -142,7 +142,8 @@ impl Draws {
             238..=245 => Act::Change(Changed::Free),
             246..=247 => Act::Change(Changed::Disable),
             248..=249 => Act::Change(Changed::Revoke),
-            250..=252 => Act::GranterKeys,
+            250..=251 => Act::GranterKeys,
+            252 => Act::Tidy,
             253..=254 => Act::ServiceKeys,
             255 => Act::Restart,
         }

@@ -3,7 +3,7 @@ use crate::bind_fault::BindFault;
 use crate::connections::{Connections, MOST_CONNECTIONS};
 use crate::moment::now;
 use crate::ports::Ports;
-use kdc_hub::{Action, Event};
+use kdc_hub::{Action, Event, Peer};
 use krb_elements::Octets;
 use krb_fields::Moment;
 use std::alloc::{AllocError, Global};
@@ -27,7 +27,7 @@ const LONGEST_DATAGRAM: usize = 65_535;
 const LONGEST_PIECE: usize = 2_048;
 
 /// Who is asked next. The three kinds take turns, so that none keeps another waiting.
-#[derive(Clone, Copy, Debug)]
+#[derive(Clone, Copy)]
 enum Turn {
     Datagrams,
     Newcomers,
@@ -46,8 +46,6 @@ pub struct Sockets<C> {
     ready: Ready,
     /// How many calls there were since the sockets were last looked at.
     unlooked: u32,
-    /// The socket that the last datagram came on, from which its reply is sent.
-    answering: usize,
     /// The second in which no connection could be taken, though one may have been there.
     refused_at: Option<i64>,
     buffers: Buffers,
@@ -126,7 +124,6 @@ impl<C: Clock + Drop> Sockets<C> {
             turn: Turn::Datagrams,
             ready,
             unlooked: 0,
-            answering: 0,
             refused_at: None,
             buffers,
         })
@@ -240,9 +237,12 @@ impl<C: Clock + Drop> Sockets<C> {
             return Ok(None);
         }
         self.ready.datagrams.push_back(place)?;
-        let (len, peer) = received?;
-        self.answering = place as usize;
+        let (len, address) = received?;
         let request = Octets::from_slice(alloc, &self.buffers.datagram[..len])?;
+        let peer = Peer {
+            address,
+            socket: place,
+        };
         Ok(Some(Event::Datagram { peer, request }))
     }
 
@@ -293,14 +293,19 @@ impl<C: Clock + Drop> Sockets<C> {
         }
     }
 
-    /// Does an action. The socket that the last datagram came on sends its reply.
+    /// Does an action. A reply to a datagram leaves by the socket that the datagram came by.
     pub fn act(&mut self, action: &Action) -> io::Result<()> {
         match action {
-            Action::SendTo { peer, message } => {
-                self.ports.send(self.answering, *peer, message.as_slice())
+            Action::SendTo { peer, reply } => {
+                let socket = peer.socket as usize;
+                self.ports
+                    .send(socket, peer.address, reply.message.as_slice())
             }
-            Action::Write { conn, message } => self.connections.write(*conn, message.as_slice()),
-            Action::Close { conn } => {
+            Action::Pass { .. } => Ok(()),
+            Action::Write { conn, reply } => {
+                self.connections.write(*conn, reply.message.as_slice())
+            }
+            Action::Close { conn, .. } => {
                 self.connections.close(*conn);
                 Ok(())
             }

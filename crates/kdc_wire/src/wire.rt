@@ -1,9 +1,8 @@
 //! The wire over sockets.
 use crate::bind_fault::BindFault;
 use crate::sockets::Sockets;
-use kdc_hub::{Action, Event, Wire, WireFault};
+use kdc_hub::{Action, Event, Peers, Wire, WireFault};
 use krb_fields::Moment;
-use observed_wire::Peers;
 use std::alloc::Global;
 use std::io;
 use std::net::{Net, SocketAddr};
@@ -11,7 +10,7 @@ use std::rt::Clock;
 use std::time::Duration;
 
 /// A wire over sockets for datagrams and sockets that take connections, each at an address of
-/// its own. It tells no record.
+/// its own. It keeps no record.
 #[derive(Drop)]
 pub struct SocketWire<C> {
     sockets: Sockets<C>,
@@ -54,7 +53,7 @@ impl<C: Clock + Drop> Peers for SocketWire<C> {
 impl<C: Clock + Drop> Wire for SocketWire<C> {
     ghost use Rattle.std.specs.Prelude.{None};
 
-    ghost told = { λ _. None };
+    ghost recorded = { λ _. None };
 
     ghost fault_count = { λ w. w.faults };
 

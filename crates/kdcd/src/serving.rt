@@ -3,8 +3,9 @@ use kdc_core::{Kdc, Opening};
 use kdc_hub::Hub;
 use kdc_serving::serve_life;
 use kdc_wire::{BindFault, SocketWire, now};
-use kdcd_start::{FileFault, RequestLines, RowsFile, ServeOptions, Started, read_at_most, seed_of};
-use observed_wire::Observed;
+use kdcd_start::{
+    FileFault, LoggedWire, RequestLines, RowsFile, ServeOptions, Started, read_at_most, seed_of,
+};
 use rand_chacha::ChaCha20Rng;
 use rand_core::SeedableRng;
 use ready_writer::{ReadyWriter, SharedWriter};
@@ -79,8 +80,8 @@ impl StartFault<'_> {
 /// Standard error, whose reader may stop reading while the server goes on. All that write to it hold the same one.
 type Errors = SharedWriter<Stderr>;
 
-/// The sockets, and the log of what comes and goes through them.
-type ServerWire = Observed<SocketWire<HostRuntime>, RequestLines<Errors>>;
+/// The sockets, and the log of the requests that are answered through them.
+type ServerWire = LoggedWire<SocketWire<HostRuntime>, RequestLines<Errors>>;
 
 /// A server that listens.
 #[derive(Drop)]
@@ -147,7 +148,7 @@ fn say_start(
 
 /// Says how many lines of the log were lost, if any.
 fn say_lost(errors: &mut Errors, wire: &ServerWire) {
-    let lost = wire.observer().map_or(0, |log| log.untold());
+    let lost = wire.log().map_or(0, |log| log.unreported());
     if lost > 0 {
         say(errors, &format_args!("kdcd: log: {lost} lines are lost\n"));
     }
@@ -206,11 +207,10 @@ fn open_log<'a>(
     options: &ServeOptions<'_>,
     errors: &Errors,
 ) -> Result<Option<RequestLines<Errors>>, StartFault<'a>> {
-    if !options.logs {
+    let Some(format) = options.log else {
         return Ok(None);
-    }
-    let lines = RequestLines::new(errors.share()?, options.limits.greatest_life);
-    Ok(Some(lines))
+    };
+    Ok(Some(RequestLines::new(errors.share()?, format)))
 }
 
 fn open_wire(
@@ -227,7 +227,7 @@ fn open_wire(
         &options.tcp,
         wait,
     )?;
-    Ok(Observed::new(rt.alloc(), sockets, log))
+    Ok(LoggedWire::new(sockets, log))
 }
 
 /// A hub over the rows, and how many there are.
@@ -244,7 +244,10 @@ fn open_hub<'a>(
     let rng = ChaCha20Rng::from_seed(seed(rt, options.seed)?);
     let opening = opening(rt, options.is_first)?;
     let kdc = Kdc::open(rt.alloc(), database, options.limits, opening)?;
-    Ok((Hub::new(rt.alloc(), kdc, rng), row_count))
+    Ok((
+        Hub::new(rt.alloc(), kdc, rng, options.log.is_some()),
+        row_count,
+    ))
 }
 
 /// The seed that a file holds, or one that the system gives.

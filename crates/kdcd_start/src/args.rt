@@ -1,4 +1,5 @@
 //! The words of a command line.
+use crate::request_lines::LogFormat;
 use clap::error::Error;
 use clap::{ArgMatches, Command};
 use command_options::{FlagRow, OptionRow, SubcommandRow, Times, subcommand, with_subcommands};
@@ -25,8 +26,8 @@ pub struct ServeOptions<'a> {
     pub is_first: bool,
     /// Whether the database is read once, and never looked at again.
     pub is_fixed: bool,
-    /// Whether each request is a line on standard error.
-    pub logs: bool,
+    /// How each request is written to standard error, if it is.
+    pub log: Option<LogFormat>,
 }
 
 /// Why the words behind `serve` are not taken.
@@ -63,8 +64,9 @@ then on; all that is remembered stays. A file that can't be read, is refused, or
 the rows as they are. Standard error says so once, and the file is looked at again when it changes again.
 
 Once it listens it says so on standard error: the addresses, the database with its rows, and the limits. A port 0 is
-one that the system gives. With --log each request is a line there: the moment in UTC, who asked, udp or tcp, as or tgs,
-the client, the service, and what came of it. A line that can't be written is lost.
+one that the system gives. With --log each request is a line there: the time in UTC, the peer, udp or tcp, as or tgs, the
+client, the service, and what became of it: `ticket` with its lifetime, or `refused` with the error's code and a word for
+it; then rule=NAME for a refusal, and etype=, flags=, until= and renew= for a ticket. A line that can't be written is lost.
 
 Status: 0 after the last round; 1 where a file is refused (`refused NAME`: NotJson, BadVersion, BadRow,
 NoTicketGranter, ShortSeed, LongFile); 2 for these words; 3 where a file, a socket, the clock or memory failed
@@ -134,6 +136,12 @@ const SERVE: SubcommandRow = SubcommandRow {
             help: "For how many seconds a ticket is renewed at most; else 604800",
             times: Times::AtMostOnce,
         },
+        OptionRow {
+            name: "log-format",
+            shape: "FORMAT",
+            help: "Each request is a line on standard error, as text, or as an object of JSON with json",
+            times: Times::AtMostOnce,
+        },
     ],
     flags: &[
         FlagRow {
@@ -147,7 +155,7 @@ const SERVE: SubcommandRow = SubcommandRow {
         },
         FlagRow {
             name: "log",
-            help: "Each request is a line on standard error",
+            help: "The same as --log-format text",
         },
     ],
 };
@@ -201,6 +209,7 @@ fn with_addresses<'a>(
         .ok_or(ArgsFault::Amiss("--db is missing"))?;
     let rounds = rounds(args)?;
     let limits = limits(args)?;
+    let log = log_format(args)?;
     Ok(ServeOptions {
         db,
         udp,
@@ -210,8 +219,19 @@ fn with_addresses<'a>(
         limits,
         is_first: args.get_flag("first"),
         is_fixed: args.get_flag("fixed"),
-        logs: args.get_flag("log"),
+        log,
     })
+}
+
+/// How the log is written, if there is to be one.
+fn log_format(args: &ArgMatches<'_>) -> Result<Option<LogFormat>, ArgsFault> {
+    match args.get_str("log-format") {
+        Some("text") => Ok(Some(LogFormat::Text)),
+        Some("json") => Ok(Some(LogFormat::Json)),
+        Some(_) => Err(ArgsFault::Amiss("--log-format takes text or json")),
+        None if args.get_flag("log") => Ok(Some(LogFormat::Text)),
+        None => Ok(None),
+    }
 }
 
 /// The addresses that stand behind an option, each time that it stands there.

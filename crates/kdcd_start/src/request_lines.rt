@@ -1,30 +1,49 @@
 //! The lines of a server's log.
+ghost use Rattle.std.specs.Prelude.{◌≡◌, IfOk, option_copied};
+ghost use Rattle.kdcd_start.specs.Log.{line_of, written};
+
+use crate::logged_wire::LogWriter;
+use kdc_hub::Account;
 use krb_fields::Moment;
-use request_log::{Asker, Observer, request_line};
-use std::alloc::Global;
+use request_log::{Asker, Field, Transport, entry, json_line, text_line};
+use std::alloc::{AllocError, Global};
 use std::io;
 use std::io::Write;
+use std::net::SocketAddr;
+
+/// How the lines of a log are written.
+#[derive(Clone, Copy, Debug, PartialEq, Eq)]
+pub enum LogFormat {
+    /// As fields with a space between two of them.
+    Text,
+    /// As one JSON object each.
+    Json,
+}
 
 /// A log that has a line for each request. A line that can't be made or written is lost, and counted; the next one that
-/// is taken has a line in front of it that tells how many were lost.
-#[derive(Debug, Drop)]
+/// is written has a line in front of it that says how many were lost.
+#[derive(Drop)]
 pub struct RequestLines<W> {
     lines: W,
-    /// How long a ticket of the realm lives at most, in seconds.
-    greatest_life: u32,
+    format: LogFormat,
     lost: u64,
-    /// How many of these no line tells of.
-    untold: u64,
+    /// How many of these no line has reported yet.
+    unreported: u64,
 }
 
 impl<W: Write + Drop> RequestLines<W> {
-    pub fn new(lines: W, greatest_life: u32) -> RequestLines<W> {
+    pub fn new(lines: W, format: LogFormat) -> RequestLines<W> {
         RequestLines {
             lines,
-            greatest_life,
+            format,
             lost: 0,
-            untold: 0,
+            unreported: 0,
         }
+    }
+
+    /// Where the lines are written to.
+    pub fn lines(&self) -> &W {
+        &self.lines
     }
 
     /// How many lines were lost. The count stops at the greatest `u64`.
@@ -32,39 +51,77 @@ impl<W: Write + Drop> RequestLines<W> {
         self.lost
     }
 
-    /// How many of these no line tells of.
-    pub fn untold(&self) -> u64 {
-        self.untold
+    /// How many of these no line has reported yet.
+    pub fn unreported(&self) -> u64 {
+        self.unreported
     }
 }
 
 impl<W: Write> RequestLines<W> {
     /// Writes a line, and in front of it how many were lost before it.
     fn write_line(&mut self, line: &[u8]) -> io::Result<()> {
-        if self.untold > 0 {
-            writeln!(self.lines, "kdcd: log: {} lines are lost", self.untold)?;
-            self.untold = 0;
+        if self.unreported > 0 {
+            writeln!(self.lines, "kdcd: log: {} lines are lost", self.unreported)?;
+            self.unreported = 0;
         }
         self.lines.write_all(line)
     }
 }
 
-impl<W: Write> Observer for RequestLines<W> {
-    fn answered(
-        &mut self,
-        alloc: Global,
-        asker: Asker,
-        at: Moment,
-        request: &[u8],
-        reply: Option<&[u8]>,
-    ) {
-        let is_written = match request_line(alloc, asker, at, self.greatest_life, request, reply) {
+impl<W: Write> LogWriter for RequestLines<W> {
+    fn write_entry(&mut self, alloc: Global, at: Moment, asker: Asker, account: Option<&Account>) {
+        let is_written = match asked_line(alloc, self.format, at, asker, account) {
             Ok(line) => self.write_line(&line).is_ok(),
             Err(_) => false,
         };
         if !is_written {
             self.lost = self.lost.saturating_add(1);
-            self.untold = self.untold.saturating_add(1);
+            self.unreported = self.unreported.saturating_add(1);
         }
+    }
+}
+
+/// The line for a request of this asker.
+fn asked_line(
+    alloc: Global,
+    format: LogFormat,
+    at: Moment,
+    asker: Asker,
+    account: Option<&Account>,
+) -> Result<Vec<u8>, AllocError> {
+    let peer = address_text(alloc, asker.peer)?;
+    line_of(alloc, format, at, peer.as_bytes(), asker.transport, account)
+}
+
+fn address_text(alloc: Global, peer: Option<SocketAddr>) -> Result<String, AllocError> {
+    match peer {
+        Some(peer) => format!(in alloc; "{peer}"),
+        None => format!(in alloc; "-"),
+    }
+}
+
+/// The line for a request that came at a moment from a peer, whose address is given as text.
+pub fn line_of(
+    alloc: Global,
+    format: LogFormat,
+    at: Moment,
+    peer: &[u8],
+    transport: Transport,
+    account: Option<&Account>,
+) -> Result<Vec<u8>, AllocError>
+    ensures { IfOk result (λ line.
+        line.items ≡ line_of format at peer.now transport (option_copied account.entry)) }
+{
+    let fields = entry(alloc, at, peer, transport, account)?;
+    written(alloc, format, &fields)
+}
+
+/// An entry's line.
+fn written(alloc: Global, format: LogFormat, fields: &[Field]) -> Result<Vec<u8>, AllocError>
+    ensures { IfOk result (λ line. line.items ≡ written format fields.now) }
+{
+    match format {
+        LogFormat::Text => text_line(alloc, fields),
+        LogFormat::Json => json_line(alloc, fields),
     }
 }

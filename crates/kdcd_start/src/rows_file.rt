@@ -12,7 +12,7 @@ use std::rt::Files;
 use std::{fmt, fs};
 
 /// What tells a file from the one that was there before.
-#[derive(Clone, Copy, Debug, PartialEq, Eq)]
+#[derive(Clone, Copy, PartialEq, Eq)]
 struct Stamp {
     node: u64,
     /// When its octets, its owner or its mode were changed last: seconds since 1970, and nanoseconds.
@@ -84,7 +84,7 @@ impl<'a, F: Files, W: Write + Drop> RowsFile<'a, F, W> {
 }
 
 impl<F: Files, W: Write + Drop> RowSource for RowsFile<'_, F, W> {
-    ghost told = { λ _. None };
+    ghost recorded = { λ _. None };
 
     fn look(&mut self, alloc: Global) -> Look {
         match self.changed_rows(alloc) {

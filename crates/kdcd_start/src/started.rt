@@ -4,7 +4,7 @@ use std::fmt;
 use std::net::SocketAddr;
 
 /// A server that listens. Its text is a line with the addresses, one with the database, and one with the limits.
-#[derive(Clone, Copy, Debug)]
+#[derive(Clone, Copy)]
 pub struct Started<'a> {
     pub udp: &'a [SocketAddr],
     pub tcp: &'a [SocketAddr],

@@ -28,7 +28,7 @@ module _ (v : View) (at : Moment) (random : List ℕ) where
   replied : (incoming : Incoming) (held : Contents) → (answer_of v incoming held).reply ≡ None → issued_of v at random held ≡ None
   replied incoming NoRequest none = refl
   replied incoming (AsReq message) none = absurd cc
-  replied incoming (RefusedTgsReq message refusal) none = refl
+  replied incoming (RefusedTgsReq message rejected) none = refl
   replied incoming (TgsReq message p) none = absurd cc
 
   pub none_issued : (room : ℕ) (bytes : List ℕ) (request : Option Request)

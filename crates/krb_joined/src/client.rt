@@ -4,7 +4,7 @@ use crate::reading::Reader;
 use client_core::{Asked, ServiceAsked};
 
 /// What a client does on a ticket's way: how it reads the KDC's reply, and how it presents the ticket.
-#[derive(Debug, Drop)]
+#[derive(Drop)]
 pub struct Client {
     /// What the reply has to answer.
     pub asked: Asked,

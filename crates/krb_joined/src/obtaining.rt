@@ -1,6 +1,6 @@
 //! From a request to the credential that its client takes from the reply.
-ghost use Rattle.std.specs.Prelude.{◌≡◌, ◌≤◌, ℕ, List, length, Some, IfOk, IfErr, IfSome};
-ghost use Rattle.kdc_core.specs.Answer.{after_request, answer};
+ghost use Rattle.std.specs.Prelude.{◌≡◌, ◌≤◌, ℕ, List, length, Some, IfOk, IfErr, IfSome, OnOk, OnErr, option_map};
+ghost use Rattle.kdc_core.specs.Answer.{after_request, answer, OneTicketTwoKeys};
 ghost use Rattle.kdc_core.specs.Issued.{issued};
 ghost use Rattle.kdc_core.specs.Request.{request_of};
 ghost use Rattle.kdc_core.specs.View.{view};
@@ -16,10 +16,10 @@ use client_core::Asked;
 use cred_files::Credential;
 use kdc_core::Kdc;
 use krb_fields::Moment;
-use std::alloc::Global;
+use std::alloc::{AllocError, Global};
 
 /// When a KDC answers, by which random octets, and how many octets a reply with a ticket may have.
-#[derive(Debug, Clone, Copy)]
+#[derive(Clone, Copy)]
 pub struct Issuing {
     pub at: Moment,
     pub random: [u8; 64],
@@ -57,7 +57,7 @@ pub fn obtain(
     ensures kept { IsKept kdc.old kdc.new
         (after_request kdc.old issuing.now.at issuing.now.random issuing.now.room request.now) result }
 {
-    let reply = kdc.handle(alloc, issuing.at, &issuing.random, issuing.room, request)?;
+    let reply = replied(alloc, kdc, issuing, request)?;
     let Some(octets) = reply else {
         return Err(JoinedFault::NoReply);
     };
@@ -66,6 +66,27 @@ pub fn obtain(
         Ok(credential) => Ok(credential),
         Err(fault) => Err(JoinedFault::NotTaken(fault)),
     }
+}
+
+/// What the KDC replies.
+fn replied(
+    alloc: Global,
+    kdc: &mut Kdc,
+    issuing: &Issuing,
+    request: &[u8],
+) -> Result<Option<Vec<u8>>, AllocError>
+    ensures reply { IfOk result (λ reply.
+        option_map (λ octets. octets.items) reply
+        ≡ (answer (view kdc.old request.now) issuing.now.at issuing.now.random issuing.now.room request.now).reply) }
+    ensures keys { IfOk result (λ reply.
+        OneTicketTwoKeys (view kdc.old request.now) issuing.now.at issuing.now.random (request_of request.now)
+        (option_map (λ octets. octets.items) reply)) }
+    ensures state { OnOk result (kdc.new
+        ≡ after_request kdc.old issuing.now.at issuing.now.random issuing.now.room request.now) }
+    ensures err { OnErr result (kdc.new ≡ kdc.old) }
+{
+    let answer = kdc.handle(alloc, issuing.at, &issuing.random, issuing.room, request)?;
+    Ok(answer.reply)
 }
 
 /// Looks at random octets, of which there are enough for a session key, and at a reply's octets.

@@ -18,7 +18,7 @@ use std::alloc::Global;
 
 /// When somebody seals something, and by which 16 random octets: the client its authenticator, or the service its
 /// AP-REP.
-#[derive(Debug, Clone, Copy)]
+#[derive(Clone, Copy)]
 pub struct Sealing {
     pub at: Moment,
     pub confounder: [u8; 16],

@@ -13,7 +13,7 @@ use std::alloc::Global;
 
 /// By which key a client reads a reply, and when. A client's own key is that of an AS-REP, the others are those of a
 /// TGS-REP.
-#[derive(Debug, Clone, Copy)]
+#[derive(Clone, Copy)]
 pub struct Reader {
     pub role: KeyRole,
     pub key: Key,

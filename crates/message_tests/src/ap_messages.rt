@@ -198,7 +198,7 @@ fn request_again(alloc: Global, octets: &[u8]) -> Result<Vec<u8>, Fault> {
         return Ok(Vec::new(alloc));
     }
     let request = decode_ap_req(alloc, octets)?;
-    Ok(encode_ap_req(alloc, &request)?)
+    encode_ap_req(alloc, &request).map_err(Fault::from)
 }
 
 #[test]
@@ -268,7 +268,7 @@ fn reply_again(alloc: Global, octets: &[u8]) -> Result<Vec<u8>, Fault> {
         return Ok(Vec::new(alloc));
     }
     let reply = decode_ap_rep(alloc, octets)?;
-    Ok(encode_ap_rep(alloc, &reply)?)
+    encode_ap_rep(alloc, &reply).map_err(Fault::from)
 }
 
 #[test]

@@ -125,7 +125,7 @@ fn ticket_part_again(alloc: Global, octets: &[u8]) -> Result<Vec<u8>, Fault> {
         return Ok(Vec::new(alloc));
     }
     let part = short_ticket_part(alloc, octets)?;
-    Ok(encode_enc_ticket_part(alloc, &part)?)
+    encode_enc_ticket_part(alloc, &part).map_err(Fault::from)
 }
 
 #[test]
@@ -216,7 +216,7 @@ fn authenticator_again(alloc: Global, octets: &[u8]) -> Result<Vec<u8>, Fault> {
         return Ok(Vec::new(alloc));
     }
     let found = short_authenticator(alloc, octets)?;
-    Ok(encode_authenticator(alloc, &found)?)
+    encode_authenticator(alloc, &found).map_err(Fault::from)
 }
 
 #[test]
@@ -294,7 +294,7 @@ fn service_answer_again(alloc: Global, octets: &[u8]) -> Result<Vec<u8>, Fault> 
         return Ok(Vec::new(alloc));
     }
     let part = short_service_answer(alloc, octets)?;
-    Ok(encode_enc_ap_rep_part(alloc, &part)?)
+    encode_enc_ap_rep_part(alloc, &part).map_err(Fault::from)
 }
 
 #[test]

@@ -331,7 +331,7 @@ fn error_again(alloc: Global, octets: &[u8]) -> Result<Vec<u8>, Fault> {
         return Ok(Vec::new(alloc));
     }
     let error = decode_krb_error(alloc, octets)?;
-    Ok(encode_krb_error(alloc, &error)?)
+    encode_krb_error(alloc, &error).map_err(Fault::from)
 }
 
 /// `AS_REQ` as a TGS-REQ.

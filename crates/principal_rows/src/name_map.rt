@@ -7,6 +7,7 @@ ghost use Rattle.std.specs.Prelude.{option_map, slice_get};
 ghost use Rattle.std.specs.FinMap as map;
 ghost use Rattle.krb_fields.specs.Name.{Components, name_cmp};
 ghost use Rattle.sorted_entries.specs.Entries.{IsAt, IsGap};
+ghost use Rattle.sorted_entries.specs.Changed.{change_values};
 ghost use Rattle.sorted_entries.specs.Values.{retain_values};
 ghost use Rattle.principal_rows.specs.NameMap.{name_of, pairs};
 
@@ -48,15 +49,23 @@ pub trait ValueTest<V> {
         ensures { result ≡ passes self.now value.now };
 }
 
+/// A change of values, which a map makes of all that it has.
+pub trait ValueChange<V> {
+    ghost changed: { Self → V → V };
+
+    fn change(&self, value: &mut V)
+        ensures { value.new ≡ changed self.now value.old };
+}
+
 /// A name and its value.
-#[derive(Debug, Drop)]
+#[derive(Drop)]
 pub struct Entry<V> {
     pub name: Name,
     pub value: V,
 }
 
 /// A map from names to values, kept in the order of the names and searched by halving.
-#[derive(Debug, Drop)]
+#[derive(Drop)]
 pub struct NameMap<V> {
     entries: Vec<Entry<V>>,
 }
@@ -177,6 +186,15 @@ impl<V: Drop> NameMap<V> {
         ensures { self.new ≡ retain_values self.old (P.passes test.now) }
     {
         self.entries.retain(|entry| test.passes(&entry.value));
+    }
+
+    /// Changes each value where it is: one walk over all of them. It takes no memory.
+    pub fn change_values<C: ValueChange<V>>(&mut self, change: &C)
+        ensures { self.new ≡ change_values self.old (C.changed change.now) }
+    {
+        for entry in self.entries.iter_mut() {
+            change.change(&mut entry.value);
+        }
     }
 
     /// Forgets all names.

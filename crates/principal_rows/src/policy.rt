@@ -2,7 +2,7 @@
 use krb_fields::Second;
 
 /// What a principal may do, as a client and as a service.
-#[derive(Debug, Clone, Copy, PartialEq, Eq)]
+#[derive(Clone, Copy, PartialEq, Eq)]
 pub struct Policy {
     /// Whether it is refused as a client and as a service.
     pub disabled: bool,

@@ -8,7 +8,7 @@ use std::alloc::{AllocError, Global};
 use std::marker::Model;
 
 /// One version of a principal's keys.
-#[derive(Debug, Drop)]
+#[derive(Drop)]
 pub struct KeyVersion {
     /// The key version number (kvno), from 1 on.
     pub number: u32,
@@ -16,7 +16,7 @@ pub struct KeyVersion {
 }
 
 /// The versions of a principal's keys, the current one first: at least one, and their numbers fall.
-#[derive(Debug, Drop)]
+#[derive(Drop)]
 pub struct Versions {
     versions: Vec<KeyVersion>,
 }
@@ -160,7 +160,7 @@ fn are_versions(versions: &[KeyVersion]) -> bool
 }
 
 /// A principal of the realm.
-#[derive(Debug, Drop)]
+#[derive(Drop)]
 pub struct Row {
     pub versions: Versions,
     pub policy: Policy,

@@ -9,7 +9,7 @@ use std::error::Error;
 use std::fmt;
 
 /// A change of one principal's row.
-#[derive(Debug, Drop)]
+#[derive(Drop)]
 pub struct Change {
     /// Whose row: the name counts by its components.
     pub name: Name,
@@ -17,7 +17,7 @@ pub struct Change {
 }
 
 /// What becomes of a row.
-#[derive(Debug, Drop)]
+#[derive(Drop)]
 pub enum RowChange {
     /// It is a new principal's, with these keys as version 1 and the default policy.
     Add(KeyList),

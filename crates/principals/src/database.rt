@@ -25,7 +25,7 @@ use std::marker::Model;
 const NT_SRV_INST: i32 = 2;
 
 /// The principals of one realm, the ticket-granting service `krbtgt/REALM` always among them.
-#[derive(Debug, Drop)]
+#[derive(Drop)]
 pub struct Database {
     pub(crate) realm: KerberosString,
     pub(crate) rows: NameMap<Row>,

@@ -13,7 +13,7 @@ use std::cmp::Ordering;
 const KRBTGT: &[u8; 6] = b"krbtgt";
 
 /// The name of a realm's ticket-granting service, as a key of maps from names, for which no name is made.
-#[derive(Debug, Drop)]
+#[derive(Drop)]
 pub struct GranterOf<'a> {
     pub realm: &'a [u8],
 }

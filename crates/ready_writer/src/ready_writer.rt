@@ -10,7 +10,7 @@ use std::net::Net;
 use std::os::fd::AsFd;
 
 /// What stands at the end of what was written.
-#[derive(Clone, Copy, Debug, PartialEq, Eq)]
+#[derive(Clone, Copy, PartialEq, Eq)]
 enum LineState {
     /// The end of a line, or nothing.
     Ended,

@@ -130,6 +130,55 @@ fn is_forgotten(rt: &impl Abort, memory: &Memory<()>) {
 }
 
 #[test]
+fn a_memory_that_is_tidied_forgets_what_is_too_old(rt: HostRuntime) {
+    let mut memory = Memory::first(rt.alloc());
+    same(&rt, &0, &accept(&mut memory, at(0), T, 0, ()), &Ok(true));
+    memory.tidy(at(300));
+    same(
+        &rt,
+        &"it may come again",
+        &memory.check(at(300), T, 0, 64),
+        &Verdict::Repeat(&()),
+    );
+    memory.tidy(at(301));
+    // It stays so at an earlier moment.
+    memory.tidy(at(0));
+    is_empty(&rt, &memory);
+}
+
+#[test]
+fn a_clock_that_is_ahead_refuses_nothing_later(rt: HostRuntime) {
+    let mut memory = Memory::first(rt.alloc());
+    same(&rt, &0, &accept(&mut memory, at(0), T, 0, ()), &Ok(true));
+    memory.tidy(at(60_000));
+    is_empty(&rt, &memory);
+    same(
+        &rt,
+        &1,
+        &accept(&mut memory, at(1), T + 1, 0, ()),
+        &Ok(true),
+    );
+    // The floor is a day before.
+    memory.tidy(Moment {
+        sec: T + 86_410,
+        usec: 0,
+    });
+    holds(&rt, memory.is_empty(T + 10), "the floor is another");
+}
+
+/// Nothing is remembered, and the floor is above the second T.
+fn is_empty(rt: &impl Abort, memory: &Memory<()>) {
+    same(
+        rt,
+        &"below the floor",
+        &memory.check(at(0), T, 0, 64),
+        &Verdict::Skew,
+    );
+    holds(rt, memory.is_empty(T + 1), "no pair is left");
+    holds(rt, !memory.is_empty(T), "the floor is another");
+}
+
+#[test]
 fn a_restart_refuses_what_may_have_come_before(rt: HostRuntime) {
     let mut memory: Memory<()> = Memory::restarted(rt.alloc(), at(0));
     same(

@@ -1,18 +1,30 @@
 //! How what is remembered begins.
 ghost use Rattle.std.specs.Prelude.{◌≡◌};
-ghost use Rattle.replay.specs.Opening.{opened_memory};
+ghost use Rattle.replay.specs.Opening.{opened_memory, opening_floor};
 
 use crate::keep::Keep;
 use crate::memory::Memory;
-use krb_fields::Moment;
+use krb_fields::{Moment, SKEW};
 use std::alloc::Global;
 
 /// Whether a server opens for the first time, or again after it had answered requests.
-#[derive(Clone, Copy, Debug, PartialEq, Eq)]
+#[derive(Clone, Copy, PartialEq, Eq)]
 pub enum Opening {
     First,
     /// At this moment.
     Restart(Moment),
+}
+
+impl Opening {
+    /// The second since 1970 below which a time is too old, where nothing has come since the opening.
+    pub fn floor(self) -> i64
+        ensures { result ≡ opening_floor self }
+    {
+        match self {
+            Opening::First => -SKEW,
+            Opening::Restart(at) => at.sec + SKEW + 1,
+        }
+    }
 }
 
 impl<T: Keep> Memory<T> {

@@ -1,1 +1,1 @@
-pub mod Printable
+pub mod Shown

@@ -1,1 +1,5 @@
-pub mod Line
+pub mod Field
+pub mod Words
+pub mod Times
+pub mod Entry
+pub mod Lines

@@ -1,17 +1,22 @@
-//! The log of a KDC's requests: who is told of what was asked and answered, and the line that says it.
+//! The log of a KDC's requests: from the account of a request to a line.
 //!
-//! A line is made of the octets of a request and of its reply, as they came and went. It needs no key.
+//! An entry of the log is a list of fields, made of an account and of who asked. A line is those fields as text, or as one
+//! JSON object. So a line says what the KDC decided, and nothing is read a second time.
 #![tactic(auto)]
 
-mod code_words;
-mod fields;
-mod life;
-mod line;
-mod lines;
-mod messages;
+mod asker;
+mod entries;
+mod field;
+mod json_lines;
 mod names;
-mod observer;
+mod outcome;
+mod text_lines;
+mod times;
+mod words;
 
-pub use crate::code_words::code_word;
-pub use crate::lines::request_line;
-pub use crate::observer::{Asker, Observer, Transport};
+pub use crate::asker::{Asker, Transport};
+pub use crate::entries::entry;
+pub use crate::field::{Field, FieldName};
+pub use crate::json_lines::json_line;
+pub use crate::text_lines::text_line;
+pub use crate::words::{as_rule_name, code_word, tgs_rule_name};

@@ -1,63 +1,50 @@
-//! Names on a line.
-use crate::line::Line;
-use krb_fields::{NameRef, component_to_text};
+//! Names in the log.
+ghost use Rattle.std.specs.Prelude.{◌≡◌, IfOk};
+ghost use Rattle.request_log.specs.Entry.{cut, name_value, or_dash};
+
+use krb_elements::Octets;
+use krb_fields::Name;
 use std::alloc::{AllocError, Global};
 
-/// The most characters of a name.
+/// The most octets of a name.
 const MOST_OF_NAME: usize = 200;
 
-/// What a name ends with that was cut.
-const CUT: &[u8] = b"...";
+/// How many octets are kept of a longer one, in front of three full stops.
+const KEPT: usize = 197;
 
-/// What stands for a name that is not there.
-const ABSENT: &[u8] = b"-";
+/// What stands for what is not there.
+pub(crate) const ABSENT: &[u8] = b"-";
 
-/// Adds a name as a field: its text, in which no space and no line feed stands, cut to 200 characters.
-pub fn add_name(
-    alloc: Global,
-    line: &mut Line,
-    name: Option<&NameRef<'_>>,
-) -> Result<(), AllocError> {
-    line.begin_field()?;
-    if let Some(name) = name {
-        add_beginning(alloc, line, name)?;
-    }
-    if line.field_len() > MOST_OF_NAME {
-        line.cut_field(MOST_OF_NAME - CUT.len());
-        return line.add(CUT);
-    }
-    if line.field_len() == 0 {
-        return line.add(ABSENT);
-    }
-    Ok(())
+/// The text of a name, of at most 200 octets, in which no space and no line feed stands.
+pub(crate) fn name_value(alloc: Global, name: &Option<Name>) -> Result<Octets, AllocError>
+    ensures { IfOk result (λ value. value ≡ name_value name.now) }
+{
+    let Some(name) = name else {
+        return Octets::from_slice(alloc, ABSENT);
+    };
+    let text = cut(alloc, name.to_text(alloc)?.as_bytes())?;
+    or_dash(alloc, text)
 }
 
-/// Adds the text of a name, or of its first components, if these have more than 200 characters.
-fn add_beginning(alloc: Global, line: &mut Line, name: &NameRef<'_>) -> Result<(), AllocError> {
-    let mut separator: &[u8] = b"";
-    for component in name.components.iter() {
-        if line.field_len() > MOST_OF_NAME {
-            break;
+fn cut(alloc: Global, text: &[u8]) -> Result<Vec<u8>, AllocError>
+    ensures { IfOk result (λ short. short.items ≡ cut text.now) }
+{
+    match text.get(..KEPT) {
+        Some(kept) if text.len() > MOST_OF_NAME => {
+            let mut short = Vec::from_slice(alloc, kept)?;
+            short.extend_from_slice(b"...")?;
+            Ok(short)
         }
-        line.add(separator)?;
-        add_component(alloc, line, component.as_slice())?;
-        separator = b"/";
+        _ => Vec::from_slice(alloc, text),
     }
-    Ok(())
 }
 
-/// Adds the text of a component, or of its first 201 octets, each of which has a character or three.
-fn add_component(alloc: Global, line: &mut Line, component: &[u8]) -> Result<(), AllocError> {
-    let first = component.get(..=MOST_OF_NAME).unwrap_or(component);
-    if is_its_text(first) {
-        return line.add(first);
+/// A value, or `-` in the place of an empty one.
+pub(crate) fn or_dash(alloc: Global, value: Vec<u8>) -> Result<Octets, AllocError>
+    ensures { IfOk result (λ shown. shown ≡ or_dash value.items) }
+{
+    if value.is_empty() {
+        return Octets::from_slice(alloc, ABSENT);
     }
-    line.add(component_to_text(alloc, first)?.as_bytes())
-}
-
-/// Whether a component has octets alone that are written as they are. So it is with most names, and no text of them
-/// has to be made then.
-fn is_its_text(component: &[u8]) -> bool {
-    component.iter().all(|octet| octet.is_ascii_alphanumeric()
-        || matches!(octet, b'.' | b'-' | b'_'))
+    Ok(Octets::new(value))
 }

@@ -1,223 +1,553 @@
-//! The line of a request (`request_log`), and the log that lines go to (`kdcd_start`). The octets are those of an
-//! encoder in Python, of the realm `A.B`, and the moment is the first second of 2024.
-use kdcd_start::RequestLines;
-use krb_fields::Moment;
-use request_log::{Asker, Observer, Transport, request_line};
+//! The lines of a log (`request_log`, `kdcd_start`), for each rule and each outcome. Rules are named as in
+//! `docs/PROTOCOL.md`, and their codes are those of RFC 4120, section 7.5.9. The moment is the first second of 2024.
+use enctypes::Etype;
+use kdc_core::{Account, AsOutcome, AsRefusal, Bears, Granted, TgsOutcome, TgsRefusal};
+use kdcd_start::{LogFormat, LogWriter, RequestLines, line_of};
+use krb_der::KTime;
+use krb_fields::{Flags, Moment, Name};
+use request_log::{Asker, Transport};
 use std::alloc::Global;
 use std::net::{Ipv4Addr, Ipv6Addr, SocketAddr};
+use std::str;
 use std::test::Fail;
+use ticket_times::Times;
 
-/// An AS-REQ of `u` for `krbtgt/A.B`, till ten hours after the moment.
-const AS_REQ: &str = "\
-        6a693067a103020105a20302010aa45b3059a00703050000000000a10e300ca003020101a10530031b0175a2051b03412e42\
-        a3183016a003020102a10f300d1b066b72627467741b03412e42a511180f32303234303130313130303030305aa703020101\
-        a8053003020112";
+/// The first second of 2024.
+const MIDNIGHT: i64 = 1_704_067_200;
 
-/// An AS-REP to `u` for it, of which nothing sealed is more than two octets.
-const AS_REP: &str = "\
-        6b6d306ba003020105a10302010ba3051b03412e42a40e300ca003020101a10530031b0175a53961373035a003020105a105\
-        1b03412e42a2183016a003020102a10f300d1b066b72627467741b03412e42a30d300ba003020112a20404020102a60d300b\
-        a003020112a20404020102";
+/// What became of a request.
+#[derive(Clone, Copy)]
+enum Became {
+    NoRequest,
+    Unanswered,
+    LoginRefused(AsRefusal),
+    LoginTooBig,
+    Refused(TgsRefusal),
+    TooBig,
+    Resent(Bears),
+    /// A ticket of these flags, for so many seconds, that can be renewed for so many.
+    Login(u32, i64, Option<i64>),
+    Ticket(u32, i64, Option<i64>),
+}
 
-/// The same request from an hour after the moment, for seven hours and a half.
-const AS_REQ_LATER: &str = "\
-        6a7c307aa103020105a20302010aa46e306ca00703050000000000a10e300ca003020101a10530031b0175a2051b03412e42\
-        a3183016a003020102a10f300d1b066b72627467741b03412e42a411180f32303234303130313031303030305aa511180f32\
-        303234303130313038333030305aa703020101a8053003020112";
+/// What became of a request of `u` for `krbtgt/A.B`, and what stands on its line behind the asker.
+type Case = (Became, &'static str);
 
-/// The same till five seconds before the moment.
-const AS_REQ_PAST: &str = "\
-        6a693067a103020105a20302010aa45b3059a00703050000000000a10e300ca003020101a10530031b0175a2051b03412e42\
-        a3183016a003020102a10f300d1b066b72627467741b03412e42a511180f32303233313233313233353935355aa703020101\
-        a8053003020112";
-
-/// The same till zero, of a client whose name would go on with a line of its own.
-const AS_REQ_FORGED: &str = "\
-        6a818e30818ba103020105a20302010aa47f307da00703050000000000a1323030a003020101a12930271b2275206b726274\
-        67742f412e42207469636b6574203130680a323032342d30312d30311b01ffa2051b03412e42a3183016a003020102a10f30\
-        0d1b066b72627467741b03412e42a511180f31393730303130313030303030305aa703020101a8053003020112";
-
-/// The same of a client of 255 octets ff and `u`.
-const AS_REQ_LONG: &str = "\
-        6a82017930820175a103020105a20302010aa482016730820163a00703050000000000a182011630820112a003020101a182\
-        0109308201051b81ffffffffffffffffffffffffffffffffffffffffffffffffffffffffffffffffffffffffffffffffffff\
-        ffffffffffffffffffffffffffffffffffffffffffffffffffffffffffffffffffffffffffffffffffffffffffffffffffff\
-        ffffffffffffffffffffffffffffffffffffffffffffffffffffffffffffffffffffffffffffffffffffffffffffffffffff\
-        ffffffffffffffffffffffffffffffffffffffffffffffffffffffffffffffffffffffffffffffffffffffffffffffffffff\
-        ffffffffffffffffffffffffffffffffffffffffffffffffffffffffffffffffffffffffffffffffffffffffffffffffffff\
-        ffffffffffffffffffffffffffff1b0175a2051b03412e42a3183016a003020102a10f300d1b066b72627467741b03412e42\
-        a511180f31393730303130313030303030305aa703020101a8053003020112";
-
-/// The same of the client `a-b_c.d`, `x@y`, `/`, `Z9`.
-const AS_REQ_PARTS: &str = "\
-        6a7b3079a103020105a20302010aa46d306ba00703050000000000a120301ea003020101a11730151b07612d625f632e641b\
-        037840791b012f1b025a39a2051b03412e42a3183016a003020102a10f300d1b066b72627467741b03412e42a511180f3139\
-        3730303130313030303030305aa703020101a8053003020112";
-
-/// The same of a client of 100 `a` and 99 `b`, whose text has 200 characters.
-const AS_REQ_WHOLE: &str = "\
-        6a82013b30820137a103020105a20302010aa482012930820125a00703050000000000a181d93081d6a003020101a181ce30\
-        81cb1b6461616161616161616161616161616161616161616161616161616161616161616161616161616161616161616161\
-        6161616161616161616161616161616161616161616161616161616161616161616161616161616161616161616161616161\
-        616161611b636262626262626262626262626262626262626262626262626262626262626262626262626262626262626262\
-        6262626262626262626262626262626262626262626262626262626262626262626262626262626262626262626262626262\
-        6262626262a2051b03412e42a3183016a003020102a10f300d1b066b72627467741b03412e42a511180f3139373030313031\
-        3030303030305aa703020101a8053003020112";
-
-/// The same with one `b` more.
-const AS_REQ_CUT: &str = "\
-        6a82013c30820138a103020105a20302010aa482012a30820126a00703050000000000a181da3081d7a003020101a181cf30\
-        81cc1b6461616161616161616161616161616161616161616161616161616161616161616161616161616161616161616161\
-        6161616161616161616161616161616161616161616161616161616161616161616161616161616161616161616161616161\
-        616161611b646262626262626262626262626262626262626262626262626262626262626262626262626262626262626262\
-        6262626262626262626262626262626262626262626262626262626262626262626262626262626262626262626262626262\
-        626262626262a2051b03412e42a3183016a003020102a10f300d1b066b72627467741b03412e42a511180f31393730303130\
-        313030303030305aa703020101a8053003020112";
-
-/// The same without a client and a service.
-const AS_REQ_NAMELESS: &str = "\
-        6a3f303da103020105a20302010aa431302fa00703050000000000a2051b03412e42a511180f313937303031303130303030\
-        30305aa703020101a8053003020112";
-
-/// The KRB-ERROR of code 6 for `krbtgt/A.B`.
-const UNKNOWN: &str = "\
-        7e4a3048a003020105a10302011ea411180f32303234303130313030303030305aa503020100a603020106a9051b03412e42\
-        aa183016a003020102a10f300d1b066b72627467741b03412e42";
-
-/// The same of code -7.
-const OTHER_ERROR: &str = "\
-        7e4a3048a003020105a10302011ea411180f32303234303130313030303030305aa503020100a6030201f9a9051b03412e42\
-        aa183016a003020102a10f300d1b066b72627467741b03412e42";
-
-/// A TGS-REQ for `h/w.e` till zero. Nothing stands in its padata.
-const TGS_REQ: &str = "\
-        6c543052a103020105a20302010ca4463044a00703050000000000a2051b03412e42a3133011a003020103a10a30081b0168\
-        1b03772e65a511180f31393730303130313030303030305aa703020101a8053003020112";
-
-/// A TGS-REP to `u` for it.
-const TGS_REP: &str = "\
-        6d683066a003020105a10302010da3051b03412e42a40e300ca003020101a10530031b0175a53461323030a003020105a105\
-        1b03412e42a2133011a003020103a10a30081b01681b03772e65a30d300ba003020112a20404020102a60d300ba003020112\
-        a20404020102";
-
-/// The KRB-ERROR of code 37 for it.
-const SKEW: &str = "\
-        7e453043a003020105a10302011ea411180f32303234303130313030303030305aa503020100a603020125a9051b03412e42\
-        aa133011a003020103a10a30081b01681b03772e65";
-
-/// A request, the reply, if there is one, and what stands on their line behind the moment and the asker.
-type Case = (&'static str, Option<&'static str>, &'static str);
-
-const CASES: &[Case] = &[
-    (AS_REQ, Some(AS_REP), "as u krbtgt/A.B ticket 10h\n"),
-    (AS_REQ_LATER, Some(AS_REP), "as u krbtgt/A.B ticket 7h30m\n"),
-    (AS_REQ_PAST, Some(AS_REP), "as u krbtgt/A.B ticket 0s\n"),
+const LOGINS: &[Case] = &[
     (
-        AS_REQ,
-        Some(UNKNOWN),
-        "as u krbtgt/A.B refused 6 client-unknown\n",
+        Became::LoginRefused(AsRefusal::BadVersion),
+        "refused 3 bad-version rule=bad-version",
     ),
     (
-        AS_REQ,
-        Some(OTHER_ERROR),
-        "as u krbtgt/A.B refused -7 other\n",
-    ),
-    (AS_REQ, None, "as u krbtgt/A.B unanswered\n"),
-    // What would be a space or the end of a line is spelled. A till of zero asks for as much as the realm grants.
-    (
-        AS_REQ_FORGED,
-        Some(AS_REP),
-        "as u\\20krbtgt\\2fA.B\\20ticket\\2010h\\0a2024-01-01/\\ff krbtgt/A.B ticket 24h\n",
-    ),
-    // 200 characters: 65 octets of three each, two of the next one, and three full stops.
-    (
-        AS_REQ_LONG,
-        Some(UNKNOWN),
-        "as LONG krbtgt/A.B refused 6 client-unknown\n",
+        Became::LoginRefused(AsRefusal::BadMessageType),
+        "refused 40 bad-message-type rule=bad-message-type",
     ),
     (
-        AS_REQ_PARTS,
-        Some(UNKNOWN),
-        "as a-b_c.d/x\\40y/\\2f/Z9 krbtgt/A.B refused 6 client-unknown\n",
+        Became::LoginRefused(AsRefusal::ClientUnknown),
+        "refused 6 client-unknown rule=client-unknown",
     ),
-    (AS_REQ_WHOLE, None, "as A100/B96bbb krbtgt/A.B unanswered\n"),
-    (AS_REQ_CUT, None, "as A100/B96... krbtgt/A.B unanswered\n"),
     (
-        AS_REQ_NAMELESS,
-        Some(UNKNOWN),
-        "as - - refused 6 client-unknown\n",
+        Became::LoginRefused(AsRefusal::ServiceUnknown),
+        "refused 7 service-unknown rule=service-unknown",
     ),
-    (TGS_REQ, Some(TGS_REP), "tgs u h/w.e ticket 24h\n"),
-    (TGS_REQ, Some(SKEW), "tgs - h/w.e refused 37 clock-skew\n"),
-    (TGS_REQ, None, "tgs - h/w.e unanswered\n"),
-    ("", None, "none\n"),
-    ("6a69", None, "none\n"),
-    (UNKNOWN, None, "none\n"),
+    (
+        Became::LoginRefused(AsRefusal::ClientRevoked),
+        "refused 18 client-revoked rule=client-revoked",
+    ),
+    (
+        Became::LoginRefused(AsRefusal::ClientExpired),
+        "refused 1 client-expired rule=client-expired",
+    ),
+    (
+        Became::LoginRefused(AsRefusal::PasswordExpired),
+        "refused 23 password-expired rule=password-expired",
+    ),
+    (
+        Became::LoginRefused(AsRefusal::ServiceRevoked),
+        "refused 19 service-revoked rule=service-revoked",
+    ),
+    (
+        Became::LoginRefused(AsRefusal::ServiceExpired),
+        "refused 2 service-expired rule=service-expired",
+    ),
+    (
+        Became::LoginRefused(AsRefusal::BadOption),
+        "refused 13 bad-option rule=bad-option",
+    ),
+    (
+        Became::LoginRefused(AsRefusal::NoCommonType),
+        "refused 14 no-common-type rule=no-common-type",
+    ),
+    (
+        Became::LoginRefused(AsRefusal::PreauthFailed),
+        "refused 24 preauthentication-failed rule=preauthentication-failed",
+    ),
+    (
+        Became::LoginRefused(AsRefusal::TimestampSkewed),
+        "refused 37 clock-skew rule=timestamp-skewed",
+    ),
+    (
+        Became::LoginRefused(AsRefusal::PreauthRequired),
+        "refused 25 preauthentication-required rule=preauthentication-required",
+    ),
+    (
+        Became::LoginRefused(AsRefusal::PostdatingRefused),
+        "refused 12 policy rule=postdating-refused",
+    ),
+    (
+        Became::LoginRefused(AsRefusal::StartsTooLate),
+        "refused 10 cannot-postdate rule=starts-too-late",
+    ),
+    (
+        Became::LoginRefused(AsRefusal::NeverValid),
+        "refused 11 never-valid rule=never-valid",
+    ),
+    (Became::LoginTooBig, "refused 52 response-too-big"),
+    // INITIAL, RENEWABLE and FORWARDABLE are the bits 9, 8 and 1 (RFC 4120, section 5.3).
+    (
+        Became::Login(0x40C0_0000, 36_000, Some(604_800)),
+        "ticket 10h etype=18/20 flags=FRI until=2024-01-01T10:00:00Z renew=2024-01-08T00:00:00Z",
+    ),
+    (
+        Became::Login(0, 27_000, None),
+        "ticket 7h30m etype=18/20 flags=- until=2024-01-01T07:30:00Z",
+    ),
 ];
 
-/// A day, which the realm of these cases grants at most.
-const DAY: u32 = 86_400;
+const TICKETS: &[Case] = &[
+    (
+        Became::Refused(TgsRefusal::BadVersion),
+        "refused 3 bad-version rule=bad-version",
+    ),
+    (
+        Became::Refused(TgsRefusal::BadMessageType),
+        "refused 40 bad-message-type rule=bad-message-type",
+    ),
+    (
+        Became::Refused(TgsRefusal::NoApReq),
+        "refused 16 no-padata-type rule=no-ap-req",
+    ),
+    (
+        Became::Refused(TgsRefusal::MalformedApReq),
+        "refused 60 generic rule=malformed-ap-req",
+    ),
+    (
+        Became::Refused(TgsRefusal::BadTicketVersion),
+        "refused 39 bad-version rule=bad-ticket-version",
+    ),
+    (
+        Became::Refused(TgsRefusal::BadApMessageType),
+        "refused 40 bad-message-type rule=bad-ap-message-type",
+    ),
+    (
+        Became::Refused(TgsRefusal::SessionKeyAsked),
+        "refused 45 no-key rule=session-key-asked",
+    ),
+    (
+        Became::Refused(TgsRefusal::NotForUs),
+        "refused 35 ticket-not-for-us rule=not-for-us",
+    ),
+    (
+        Became::Refused(TgsRefusal::NoKey),
+        "refused 45 no-key rule=no-key",
+    ),
+    (
+        Became::Refused(TgsRefusal::BadKeyVersion),
+        "refused 44 no-key-of-that-version rule=bad-key-version",
+    ),
+    (
+        Became::Refused(TgsRefusal::TicketNotOpened),
+        "refused 31 bad-integrity rule=ticket-not-opened",
+    ),
+    (
+        Became::Refused(TgsRefusal::ForeignClient),
+        "refused 12 policy rule=foreign-client",
+    ),
+    (
+        Became::Refused(TgsRefusal::BoundAddress),
+        "refused 38 bad-address rule=bound-address",
+    ),
+    (
+        Became::Refused(TgsRefusal::BadSessionKey),
+        "refused 14 no-common-type rule=bad-session-key",
+    ),
+    (
+        Became::Refused(TgsRefusal::AuthenticatorNotOpened),
+        "refused 31 bad-integrity rule=authenticator-not-opened",
+    ),
+    (
+        Became::Refused(TgsRefusal::BadMatch),
+        "refused 36 ticket-mismatch rule=bad-match",
+    ),
+    (
+        Became::Refused(TgsRefusal::NoChecksum),
+        "refused 50 unfit-checksum rule=no-checksum",
+    ),
+    (
+        Became::Refused(TgsRefusal::BadChecksumType),
+        "refused 15 no-checksum-type rule=bad-checksum-type",
+    ),
+    (
+        Became::Refused(TgsRefusal::Modified),
+        "refused 41 modified rule=modified",
+    ),
+    (
+        Became::Refused(TgsRefusal::BadSubkey),
+        "refused 14 no-common-type rule=bad-subkey",
+    ),
+];
+
+const LATER_TICKETS: &[Case] = &[
+    (
+        Became::Refused(TgsRefusal::ClientUnknown),
+        "refused 6 client-unknown rule=client-unknown",
+    ),
+    (
+        Became::Refused(TgsRefusal::ClientRevoked),
+        "refused 18 client-revoked rule=client-revoked",
+    ),
+    (
+        Became::Refused(TgsRefusal::ClientExpired),
+        "refused 1 client-expired rule=client-expired",
+    ),
+    (
+        Became::Refused(TgsRefusal::TicketRevoked),
+        "refused 20 ticket-revoked rule=ticket-revoked",
+    ),
+    (
+        Became::Refused(TgsRefusal::Skewed),
+        "refused 37 clock-skew rule=skewed",
+    ),
+    (
+        Became::Refused(TgsRefusal::Repeated),
+        "refused 34 repeat rule=repeated",
+    ),
+    (
+        Became::Refused(TgsRefusal::Full),
+        "refused 29 unavailable rule=full",
+    ),
+    (
+        Became::Refused(TgsRefusal::NotYetValid),
+        "refused 33 ticket-not-yet-valid rule=not-yet-valid",
+    ),
+    (
+        Became::Refused(TgsRefusal::TicketExpired),
+        "refused 32 ticket-expired rule=ticket-expired",
+    ),
+    (
+        Became::Refused(TgsRefusal::ServiceUnknown),
+        "refused 7 service-unknown rule=service-unknown",
+    ),
+    (
+        Became::Refused(TgsRefusal::ServiceRevoked),
+        "refused 19 service-revoked rule=service-revoked",
+    ),
+    (
+        Became::Refused(TgsRefusal::ServiceExpired),
+        "refused 2 service-expired rule=service-expired",
+    ),
+    (
+        Became::Refused(TgsRefusal::OtherService),
+        "refused 26 service-mismatch rule=other-service",
+    ),
+    (
+        Became::Refused(TgsRefusal::AuthorizationData),
+        "refused 12 policy rule=authorization-data",
+    ),
+    (
+        Became::Refused(TgsRefusal::BadOption),
+        "refused 13 bad-option rule=bad-option",
+    ),
+    (
+        Became::Refused(TgsRefusal::NothingToValidate),
+        "refused 12 policy rule=nothing-to-validate",
+    ),
+    (
+        Became::Refused(TgsRefusal::ValidatedTooEarly),
+        "refused 33 ticket-not-yet-valid rule=validated-too-early",
+    ),
+    (
+        Became::Refused(TgsRefusal::RenewedTooLate),
+        "refused 32 ticket-expired rule=renewed-too-late",
+    ),
+    (
+        Became::Refused(TgsRefusal::NoCommonType),
+        "refused 14 no-common-type rule=no-common-type",
+    ),
+    (
+        Became::Refused(TgsRefusal::StartsTooLate),
+        "refused 10 cannot-postdate rule=starts-too-late",
+    ),
+    (
+        Became::Refused(TgsRefusal::NeverValid),
+        "refused 11 never-valid rule=never-valid",
+    ),
+    (Became::TooBig, "refused 52 response-too-big"),
+    (Became::Resent(Bears::Ticket), "ticket - repeat=yes"),
+    (Became::Resent(Bears::Error), "refused - - repeat=yes"),
+    // All flags but the reserved one, 1 to 13.
+    (
+        Became::Ticket(0x7FFC_0000, 59, None),
+        "ticket 1m etype=18/20 flags=FfPpDdiRIHATO until=2024-01-01T00:00:59Z",
+    ),
+    (
+        Became::Ticket(0x0020_0000, 29, None),
+        "ticket 29s etype=18/20 flags=A until=2024-01-01T00:00:29Z",
+    ),
+];
 
 fn now() -> Result<Moment, Fail> {
-    Ok(Moment::new(1_704_067_200, 999_999).ok_or("a moment")?)
+    Ok(Moment::new(MIDNIGHT, 999_999).ok_or("a moment")?)
 }
 
-fn asker(transport: Transport, peer: SocketAddr) -> Asker {
-    Asker {
-        transport,
-        peer: Some(peer),
-    }
+fn time(later: i64) -> Result<KTime, Fail> {
+    Ok(KTime::new(MIDNIGHT.saturating_add(later)).ok_or("a time")?)
 }
 
-fn line_of(alloc: Global, asker: Asker, case: &Case) -> Result<String, Fail> {
-    let request = hex::decode(alloc, case.0.as_bytes())?;
-    let line = match case.1 {
-        Some(digits) => {
-            let reply = hex::decode(alloc, digits.as_bytes())?;
-            request_line(alloc, asker, now()?, DAY, &request, Some(&reply))?
-        }
-        None => request_line(alloc, asker, now()?, DAY, &request, None)?,
+fn granted(flags: u32, life: i64, renewable: Option<i64>) -> Result<Granted, Fail> {
+    let renew_till = match renewable {
+        Some(later) => Some(time(later)?),
+        None => None,
     };
+    Ok(Granted {
+        reply_type: Etype::Aes128CtsHmacSha1_96,
+        ticket_type: Etype::Aes256CtsHmacSha384_192,
+        session_type: Etype::Aes256CtsHmacSha1_96,
+        flags: Flags::from_bits(flags),
+        authtime: time(0)?,
+        times: Times {
+            start: time(0)?,
+            end: time(life)?,
+            renew_till,
+        },
+    })
+}
+
+fn login(client: Option<Name>, service: Option<Name>, outcome: AsOutcome) -> Option<Account> {
+    Some(Account::As {
+        client,
+        service,
+        outcome,
+    })
+}
+
+fn ticket(client: Option<Name>, service: Option<Name>, outcome: TgsOutcome) -> Option<Account> {
+    Some(Account::Tgs {
+        client,
+        service,
+        outcome,
+    })
+}
+
+fn account(
+    client: Option<Name>,
+    service: Option<Name>,
+    became: Became,
+) -> Result<Option<Account>, Fail> {
+    Ok(match became {
+        Became::Unanswered => None,
+        Became::NoRequest => Some(Account::NoRequest),
+        Became::LoginRefused(rule) => login(client, service, AsOutcome::Refused(rule)),
+        Became::LoginTooBig => login(client, service, AsOutcome::TooBig),
+        Became::Login(flags, life, renewable) => {
+            let outcome = AsOutcome::Issued(granted(flags, life, renewable)?);
+            login(client, service, outcome)
+        }
+        Became::Refused(rule) => ticket(client, service, TgsOutcome::Refused(rule)),
+        Became::TooBig => ticket(client, service, TgsOutcome::TooBig),
+        Became::Resent(bears) => ticket(client, service, TgsOutcome::Resent(bears)),
+        Became::Ticket(flags, life, renewable) => {
+            let outcome = TgsOutcome::Issued(granted(flags, life, renewable)?);
+            ticket(client, service, outcome)
+        }
+    })
+}
+
+/// The line of a request from `192.0.2.7:53122` by UDP.
+fn line(
+    alloc: Global,
+    format: LogFormat,
+    client: Option<Name>,
+    service: Option<Name>,
+    became: Became,
+) -> Result<String, Fail> {
+    let account = account(client, service, became)?;
+    let peer = b"192.0.2.7:53122";
+    let line = line_of(
+        alloc,
+        format,
+        now()?,
+        peer,
+        Transport::Udp,
+        account.as_ref(),
+    )?;
     Ok(String::from_utf8(line)?)
 }
 
-#[test]
-fn a_request_and_its_reply_are_one_line(rt: HostRuntime) -> Result<(), Fail> {
-    let alloc = rt.alloc();
-    let peer = SocketAddr::from((Ipv4Addr::new(192, 0, 2, 7), 53_122));
-    for case in CASES {
-        let line = line_of(alloc, asker(Transport::Udp, peer), case)?;
-        let name = format!(in alloc; "{}\\f...", "\\ff".repeat(alloc, 65)?)?;
-        let wanted = case.2.replace(alloc, "LONG", &name)?;
-        let wanted = wanted.replace(alloc, "A100", &"a".repeat(alloc, 100)?)?;
-        let wanted = wanted.replace(alloc, "B96", &"b".repeat(alloc, 96)?)?;
-        let wanted = format!(in alloc; "2024-01-01T00:00:00Z 192.0.2.7:53122 udp {wanted}")?;
-        assert_eq!(rt; line, wanted);
+/// The place of the first case whose line is another one.
+fn first_other(alloc: Global, exchange: &str, cases: &[Case]) -> Result<Option<usize>, Fail> {
+    for (place, (became, wanted)) in cases.iter().enumerate() {
+        let client = Some(Name::from_text(alloc, "u")?);
+        let service = Some(Name::from_text(alloc, "krbtgt/A.B")?);
+        let line = line(alloc, LogFormat::Text, client, service, *became)?;
+        let wanted = format!(in alloc;
+            "2024-01-01T00:00:00Z 192.0.2.7:53122 udp {exchange} u krbtgt/A.B {wanted}\n"
+        )?;
+        if line != wanted {
+            return Ok(Some(place));
+        }
     }
+    Ok(None)
+}
+
+#[test]
+fn each_outcome_of_a_login_has_its_line(rt: HostRuntime) -> Result<(), Fail> {
+    assert_eq!(rt; first_other(rt.alloc(), "as", LOGINS)?, None);
     Ok(())
 }
 
 #[test]
-fn a_line_says_who_asked(rt: HostRuntime) -> Result<(), Fail> {
+fn each_outcome_of_a_ticket_request_has_its_line(rt: HostRuntime) -> Result<(), Fail> {
+    assert_eq!(rt; first_other(rt.alloc(), "tgs", TICKETS)?, None);
+    assert_eq!(rt; first_other(rt.alloc(), "tgs", LATER_TICKETS)?, None);
+    Ok(())
+}
+
+/// The line of a request that has no names, behind the asker.
+fn nameless(alloc: Global, became: Became) -> Result<String, Fail> {
+    let line = line(alloc, LogFormat::Text, None, None, became)?;
+    let front = "2024-01-01T00:00:00Z 192.0.2.7:53122 udp ";
+    Ok(line.replace(alloc, front, "")?)
+}
+
+#[test]
+fn what_has_no_name_shows_a_dash(rt: HostRuntime) -> Result<(), Fail> {
     let alloc = rt.alloc();
-    let peer = SocketAddr::from((Ipv6Addr::LOCALHOST, 88));
-    let line = line_of(alloc, asker(Transport::Tcp, peer), &("", None, ""))?;
-    assert_eq!(rt; line.as_str(), "2024-01-01T00:00:00Z [::1]:88 tcp none\n");
+    let refused = Became::LoginRefused(AsRefusal::ClientUnknown);
+    assert_eq!(rt; nameless(alloc, Became::NoRequest)?.as_str(), "none\n");
+    assert_eq!(rt;
+        nameless(alloc, Became::Unanswered)?.as_str(),
+        "unanswered\n"
+    );
+    assert_eq!(rt;
+        nameless(alloc, refused)?.as_str(),
+        "as - - refused 6 client-unknown rule=client-unknown\n"
+    );
+    Ok(())
+}
+
+/// The client of a line, whose name has these components.
+fn client_on_line(alloc: Global, components: &[&[u8]]) -> Result<String, Fail> {
+    let name = Name::new(alloc, 1, components)?;
+    let refused = Became::LoginRefused(AsRefusal::ClientUnknown);
+    let line = line(alloc, LogFormat::Text, Some(name), None, refused)?;
+    let front = "2024-01-01T00:00:00Z 192.0.2.7:53122 udp as ";
+    let line = line.replace(alloc, front, "")?;
+    Ok(line.replace(
+        alloc,
+        " - refused 6 client-unknown rule=client-unknown\n",
+        "",
+    )?)
+}
+
+#[test]
+fn no_name_forges_a_line(rt: HostRuntime) -> Result<(), Fail> {
+    let alloc = rt.alloc();
+    let forged = client_on_line(alloc, &[b"u krbtgt/A.B ticket 10h\n2024-01-01", b"\xff"])?;
+    assert_eq!(rt;
+        forged.as_str(),
+        "u\\20krbtgt\\2fA.B\\20ticket\\2010h\\0a2024-01-01/\\ff"
+    );
+    let parts = client_on_line(alloc, &[b"a-b_c.d", b"x@y", b"/", b"Z9"])?;
+    assert_eq!(rt; parts.as_str(), "a-b_c.d/x\\40y/\\2f/Z9");
+    Ok(())
+}
+
+#[test]
+fn a_long_name_is_cut_to_200_characters(rt: HostRuntime) -> Result<(), Fail> {
+    let alloc = rt.alloc();
+    let a = "a".repeat(alloc, 100)?;
+    let b = "b".repeat(alloc, 100)?;
+    let whole = client_on_line(alloc, &[a.as_bytes(), &b.as_bytes()[..99]])?;
+    assert_eq!(rt; whole, format!(in alloc; "{a}/{}", "b".repeat(alloc, 99)?)?);
+    let cut = client_on_line(alloc, &[a.as_bytes(), b.as_bytes()])?;
+    assert_eq!(rt;
+        cut,
+        format!(in alloc; "{a}/{}...", "b".repeat(alloc, 96)?)?
+    );
+    let octets = "\u{7f}".repeat(alloc, 255)?;
+    let spelled = client_on_line(alloc, &[octets.as_bytes()])?;
+    assert_eq!(rt;
+        spelled,
+        format!(in alloc; "{}\\7...", "\\7f".repeat(alloc, 65)?)?
+    );
+    Ok(())
+}
+
+#[test]
+fn a_line_of_json_has_the_same_fields(rt: HostRuntime) -> Result<(), Fail> {
+    let alloc = rt.alloc();
+    let client = Some(Name::new(alloc, 1, &[b"a\"b\\c"])?);
+    let service = Some(Name::from_text(alloc, "krbtgt/A.B")?);
+    let issued = Became::Login(0x40C0_0000, 36_000, Some(604_800));
+    let ticket = line(alloc, LogFormat::Json, client, service, issued)?;
+    assert_eq!(rt;
+        ticket.as_str(),
+        "\
+        {\"time\":\"2024-01-01T00:00:00Z\",\"peer\":\"192.0.2.7:53122\",\"transport\":\"udp\",\
+        \"exchange\":\"as\",\"client\":\"a\\\"b\\\\5cc\",\"service\":\"krbtgt/A.B\",\
+        \"outcome\":\"ticket\",\"lifetime\":\"10h\",\"etype\":\"18/20\",\"flags\":\"FRI\",\
+        \"until\":\"2024-01-01T10:00:00Z\",\"renew\":\"2024-01-08T00:00:00Z\"}\n"
+    );
+    let refused = Became::Refused(TgsRefusal::BadMatch);
+    let refused = line(alloc, LogFormat::Json, None, None, refused)?;
+    assert_eq!(rt;
+        refused.as_str(),
+        "\
+        {\"time\":\"2024-01-01T00:00:00Z\",\"peer\":\"192.0.2.7:53122\",\"transport\":\"udp\",\
+        \"exchange\":\"tgs\",\"client\":\"-\",\"service\":\"-\",\"outcome\":\"refused\",\
+        \"code\":\"36\",\"reason\":\"ticket-mismatch\",\"rule\":\"bad-match\"}\n"
+    );
+    Ok(())
+}
+
+/// What a log writes for octets that are no request.
+fn written(alloc: Global, asker: Asker) -> Result<String, Fail> {
+    let mut log = RequestLines::new(Vec::new(alloc), LogFormat::Text);
+    log.write_entry(alloc, now()?, asker, Some(&Account::NoRequest));
+    Ok(str::from_utf8(log.lines())?.to_string(alloc)?)
+}
+
+#[test]
+fn a_line_says_who_asked(rt: HostRuntime) -> Result<(), Fail> {
+    let known = Asker {
+        transport: Transport::Tcp,
+        peer: Some(SocketAddr::from((Ipv6Addr::LOCALHOST, 88))),
+    };
     let nobody = Asker {
         transport: Transport::Tcp,
         peer: None,
     };
-    let line = line_of(alloc, nobody, &("", None, ""))?;
-    assert_eq!(rt; line.as_str(), "2024-01-01T00:00:00Z - tcp none\n");
+    assert_eq!(rt;
+        written(rt.alloc(), known)?.as_str(),
+        "2024-01-01T00:00:00Z [::1]:88 tcp none\n"
+    );
+    assert_eq!(rt;
+        written(rt.alloc(), nobody)?.as_str(),
+        "2024-01-01T00:00:00Z - tcp none\n"
+    );
     Ok(())
 }
 
 /// How many of three lines are lost, with place for so many octets.
 fn lost_of_three(alloc: Global, place: &mut [u8]) -> Result<u64, Fail> {
-    let peer = SocketAddr::from((Ipv4Addr::LOCALHOST, 88));
-    let mut log = RequestLines::new(place, DAY);
+    let asker = Asker {
+        transport: Transport::Udp,
+        peer: Some(SocketAddr::from((Ipv4Addr::LOCALHOST, 88))),
+    };
+    let mut log = RequestLines::new(place, LogFormat::Text);
     for _ in 0..3u32 {
-        log.answered(alloc, asker(Transport::Udp, peer), now()?, &[], None);
+        log.write_entry(alloc, now()?, asker, Some(&Account::NoRequest));
     }
     Ok(log.lost())
 }

@@ -10,7 +10,7 @@ use crate::rows::{
     RowOf, SERVICE, USER, database,
 };
 use kdc_core::{Kdc, Opening};
-use kdc_hub::{Action, Did, Event, Hub, MemoryWire};
+use kdc_hub::{Action, Did, Event, Hub, MemoryWire, Peer};
 use kdc_serving::{Look, OtherRealm, RowSource, Totals, serve_life};
 use krb_elements::Octets;
 use krb_fields::Moment;
@@ -31,7 +31,7 @@ struct ListedLooks {
 }
 
 impl RowSource for ListedLooks {
-    ghost told = { λ _. None };
+    ghost recorded = { λ _. None };
 
     fn look(&mut self, _alloc: Global) -> Look {
         match self.looks.pop_front() {
@@ -46,7 +46,7 @@ impl RowSource for ListedLooks {
 }
 
 /// What a look finds.
-#[derive(Clone, Copy, Debug)]
+#[derive(Clone, Copy)]
 enum Found {
     Same,
     Rows(&'static [RowOf]),
@@ -112,12 +112,16 @@ fn source(alloc: Global) -> Result<ListedLooks, Fail> {
     Ok(ListedLooks { looks, refused: 0 })
 }
 
-fn now() -> Result<Moment, Fail> {
-    Ok(Moment::new(1_704_067_200, 0).ok_or("a moment")?)
+/// So many seconds after the requests.
+fn at(later: u16) -> Result<Moment, Fail> {
+    Ok(Moment::new(1_704_067_200 + i64::from(later), 0).ok_or("a moment")?)
 }
 
-fn peer(port: u16) -> SocketAddr {
-    SocketAddr::from((Ipv4Addr::LOCALHOST, port))
+fn peer(port: u16) -> Peer {
+    Peer {
+        address: SocketAddr::from((Ipv4Addr::LOCALHOST, port)),
+        socket: 0,
+    }
 }
 
 /// The requests, each from a peer of its own, and behind each 15 events that ask for nothing: 16 rounds.
@@ -126,9 +130,9 @@ fn wire(alloc: Global) -> Result<MemoryWire, Fail> {
     for (port, (_, request, _)) in (0..).zip(LIFE) {
         let request = Octets::new(hex::decode(alloc, request)?);
         let peer = peer(port);
-        events.push_back((now()?, Event::Datagram { peer, request }))?;
+        events.push_back((at(0)?, Event::Datagram { peer, request }))?;
         for _ in 0..15u32 {
-            events.push_back((now()?, Event::Closed { conn: 0 }))?;
+            events.push_back((at(0)?, Event::Closed { conn: 0 }))?;
         }
     }
     Ok(MemoryWire::new(alloc, events, None))
@@ -138,7 +142,7 @@ fn hub(alloc: Global) -> Result<Hub<ChaCha20Rng>, Fail> {
     let limits = Limits::new(64, 0, 0, 36_000, 0).ok_or("limits")?;
     let rows = database(alloc, "A.B", FIRST_ROWS)?;
     let kdc = Kdc::open(alloc, rows, limits, Opening::First)?;
-    Ok(Hub::new(alloc, kdc, ChaCha20Rng::from_seed([0; 32])))
+    Ok(Hub::new(alloc, kdc, ChaCha20Rng::from_seed([0; 32]), false))
 }
 
 fn serve_rounds(
@@ -155,11 +159,11 @@ fn serve_rounds(
 fn reply_to(did: &[Did], port: u16) -> Option<&[u8]> {
     for call in did {
         if let Did::Acted {
-            action: Action::SendTo { peer, message },
+            action: Action::SendTo { peer, reply },
         } = call
         {
-            if peer.port() == port {
-                return Some(message.as_slice());
+            if peer.address.port() == port {
+                return Some(reply.message.as_slice());
             }
         }
     }
@@ -189,5 +193,45 @@ fn rows_that_change_are_served_and_nothing_is_forgotten(rt: HostRuntime) -> Resu
     // The same request gets the very reply that it got before the rows were replaced.
     let first = reply_to(did, 4);
     assert!(rt; reply_to(did, 6) == first && reply_to(did, 9) == first);
+    Ok(())
+}
+
+/// A request from a peer of its own, and behind it 15 events that ask for nothing, at a later moment: 16 rounds. Then
+/// the same again.
+fn asked_twice(alloc: Global, later: u16) -> Result<MemoryWire, Fail> {
+    let mut events = VecDeque::new(alloc);
+    for port in 0..2u16 {
+        let request = Octets::new(hex::decode(alloc, FOR_SERVICE)?);
+        let peer = peer(port);
+        events.push_back((at(0)?, Event::Datagram { peer, request }))?;
+        for _ in 0..15u32 {
+            events.push_back((at(later)?, Event::Closed { conn: 0 }))?;
+        }
+    }
+    Ok(MemoryWire::new(alloc, events, None))
+}
+
+/// Whether the second request gets the reply of the first, and what stands where an error has its code.
+fn second_reply(alloc: Global, later: u16) -> Result<(bool, Option<u8>), Fail> {
+    let mut wire = asked_twice(alloc, later)?;
+    let mut source = ListedLooks {
+        looks: VecDeque::new(alloc),
+        refused: 0,
+    };
+    let totals = serve_rounds(alloc, &mut wire, &mut source, 32)?;
+    let did = wire.did().ok_or("memory")?;
+    let first = reply_to(did, 0).ok_or("a reply")?;
+    let second = reply_to(did, 1).ok_or("a reply")?;
+    let is_same = second == first && totals.events == 32;
+    Ok((is_same, second.get(42).copied()))
+}
+
+#[test]
+fn what_is_too_old_to_come_again_is_forgotten(rt: HostRuntime) -> Result<(), Fail> {
+    let (is_same, _) = second_reply(rt.alloc(), 300)?;
+    assert!(rt; is_same);
+    // Its authenticator was forgotten 301 seconds later, and is too old since then, also where the clock goes back.
+    let (_, code) = second_reply(rt.alloc(), 301)?;
+    assert!(rt; code == Some(37), "{code:?}");
     Ok(())
 }

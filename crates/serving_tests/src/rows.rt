@@ -4,7 +4,7 @@ use std::alloc::{AllocError, Global};
 use std::test::Fail;
 
 /// What rows differ in. The rest is the policy of a new principal.
-#[derive(Clone, Copy, Debug)]
+#[derive(Clone, Copy)]
 pub struct RowOf {
     name: &'static str,
     /// The keys' digits, of type 18, with the numbers of their versions, the current one first.

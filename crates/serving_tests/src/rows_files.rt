@@ -16,7 +16,7 @@ const ROWS: &[RowOf] = &[SERVICE, GRANTER, USER];
 const MORE_ROWS: &[RowOf] = &[SERVICE, GRANTER, USER, NEW_USER];
 
 /// What is done at the path.
-#[derive(Clone, Copy, Debug)]
+#[derive(Clone, Copy)]
 enum Deed {
     /// A file with these rows is put in the place of what is there.
     Replace(&'static [RowOf]),
@@ -27,7 +27,7 @@ enum Deed {
     Nothing,
 }
 
-#[derive(Clone, Copy, Debug, PartialEq, Eq)]
+#[derive(Clone, Copy, PartialEq, Eq)]
 enum Seen {
     Unchanged,
     Changed,

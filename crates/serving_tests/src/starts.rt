@@ -124,35 +124,35 @@ const OPTIONS: &[(&str, &str)] = &[
             ServeOptions { db: \"d\", udp: [127.0.0.1:88, [::1]:89], \
             tcp: [[2001:db8::1]:90, 192.0.2.1:91, [::]:92], rounds: Some(7), seed: Some(\"s\"), \
             limits: Limits { remembered: 1, lock_after: 2, lock_seconds: 3, greatest_life: 4, \
-            greatest_renewable: 5 }, is_first: true, is_fixed: true, logs: true }",
+            greatest_renewable: 5 }, is_first: true, is_fixed: true, log: Some(Text) }",
     ),
     (
         "--db d --udp [::]:88",
         "\
             ServeOptions { db: \"d\", udp: [[::]:88], tcp: [], rounds: None, seed: None, \
             limits: Limits { remembered: 1024, lock_after: 0, lock_seconds: 0, greatest_life: 36000, \
-            greatest_renewable: 604800 }, is_first: false, is_fixed: false, logs: false }",
+            greatest_renewable: 604800 }, is_first: false, is_fixed: false, log: None }",
     ),
     (
         "--db d --tcp [::]:88 --first",
         "\
             ServeOptions { db: \"d\", udp: [], tcp: [[::]:88], rounds: None, seed: None, \
             limits: Limits { remembered: 1024, lock_after: 0, lock_seconds: 0, greatest_life: 36000, \
-            greatest_renewable: 604800 }, is_first: true, is_fixed: false, logs: false }",
+            greatest_renewable: 604800 }, is_first: true, is_fixed: false, log: None }",
     ),
     (
         "--db d --tcp [::]:88 --fixed",
         "\
             ServeOptions { db: \"d\", udp: [], tcp: [[::]:88], rounds: None, seed: None, \
             limits: Limits { remembered: 1024, lock_after: 0, lock_seconds: 0, greatest_life: 36000, \
-            greatest_renewable: 604800 }, is_first: false, is_fixed: true, logs: false }",
+            greatest_renewable: 604800 }, is_first: false, is_fixed: true, log: None }",
     ),
     (
         "--db d --tcp [::]:88 --log",
         "\
             ServeOptions { db: \"d\", udp: [], tcp: [[::]:88], rounds: None, seed: None, \
             limits: Limits { remembered: 1024, lock_after: 0, lock_seconds: 0, greatest_life: 36000, \
-            greatest_renewable: 604800 }, is_first: false, is_fixed: false, logs: true }",
+            greatest_renewable: 604800 }, is_first: false, is_fixed: false, log: Some(Text) }",
     ),
 ];
 

@@ -1,9 +1,10 @@
 //! A log that nobody reads (`ready_writer`, `kdcd_start`): over a pipe, which is full at last, over one whose reader is
 //! gone, over a file, which takes all, and over a file on a disk that is full for one write.
-use kdcd_start::RequestLines;
+use kdc_core::Account;
+use kdcd_start::{LogFormat, LogWriter, RequestLines};
 use krb_fields::Moment;
 use ready_writer::{ReadyWriter, SharedWriter};
-use request_log::{Asker, Observer, Transport};
+use request_log::{Asker, Transport};
 use std::alloc::{AllocError, Global};
 use std::fs::File;
 use std::io::{Error, ErrorKind, PipeReader, PipeWriter, Read, Write};
@@ -20,8 +21,8 @@ const LINE: &str = "2024-01-01T00:00:00Z [2001:db8:1111:2222:3333:4444:5555:6666
 /// More of these lines than a pipe holds, which is 65,536 octets.
 const MANY: u64 = 1_000;
 
-/// Has a log tell of so many requests.
-fn tell<W: Write + Drop>(
+/// Writes the entries of so many requests to a log.
+fn write_entries<W: Write + Drop>(
     alloc: Global,
     log: &mut RequestLines<W>,
     requests: u64,
@@ -32,15 +33,15 @@ fn tell<W: Write + Drop>(
     };
     let now = Moment::new(1_704_067_200, 0).ok_or("a moment")?;
     for _ in 0..requests {
-        log.answered(alloc, asker, now, &[], None);
+        log.write_entry(alloc, now, asker, Some(&Account::NoRequest));
     }
     Ok(())
 }
 
-/// Has a log tell of many requests, and gives how many lines it lost.
+/// Writes the entries of many requests to a log, and returns how many lines it lost.
 fn lost_of_many<W: Write + Drop>(alloc: Global, lines: W) -> Result<u64, Fail> {
-    let mut log = RequestLines::new(lines, 86_400);
-    tell(alloc, &mut log, MANY)?;
+    let mut log = RequestLines::new(lines, LogFormat::Text);
+    write_entries(alloc, &mut log, MANY)?;
     Ok(log.lost())
 }
 
@@ -205,8 +206,8 @@ fn left_of_three(rt: &HostRuntime, path: &str, room: usize) -> Result<String, Fa
         file: File::create(rt, path)?,
         room: Some(room),
     };
-    let mut log = RequestLines::new(ReadyWriter::new(alloc, rt, disk)?, 86_400);
-    tell(alloc, &mut log, 3)?;
+    let mut log = RequestLines::new(ReadyWriter::new(alloc, rt, disk)?, LogFormat::Text);
+    write_entries(alloc, &mut log, 3)?;
     let text = fs::read_to_string(rt, path)?;
     fs::remove_file(rt, path)?;
     Ok(text)

@@ -3,3 +3,4 @@ pub mod Exchanges
 pub mod Removed
 pub mod Ordered
 pub mod Values
+pub mod Changed

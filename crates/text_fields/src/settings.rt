@@ -20,7 +20,7 @@ use principal_rows::Policy;
 use std::fmt;
 
 /// A field that holds or doesn't.
-#[derive(Clone, Copy, Debug, PartialEq, Eq)]
+#[derive(Clone, Copy, PartialEq, Eq)]
 pub enum FlagField {
     Disabled,
     Preauth,
@@ -31,14 +31,14 @@ pub enum FlagField {
 }
 
 /// A field of so many seconds.
-#[derive(Clone, Copy, Debug, PartialEq, Eq)]
+#[derive(Clone, Copy, PartialEq, Eq)]
 pub enum LifeField {
     GreatestLife,
     GreatestRenewable,
 }
 
 /// A field of a second, or of none.
-#[derive(Clone, Copy, Debug, PartialEq, Eq)]
+#[derive(Clone, Copy, PartialEq, Eq)]
 pub enum TimeField {
     Expires,
     PasswordExpires,
@@ -49,7 +49,7 @@ pub enum TimeField {
 pub const SETTINGS: usize = 11;
 
 /// A field of a policy with its value.
-#[derive(Clone, Copy, Debug, PartialEq, Eq)]
+#[derive(Clone, Copy, PartialEq, Eq)]
 pub enum Setting {
     Flag(FlagField, bool),
     Life(LifeField, u32),

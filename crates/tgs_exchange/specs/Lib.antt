@@ -6,7 +6,10 @@ pub mod Issue
 pub mod Decision
 pub mod Answer
 pub mod Issued
+pub mod Outcome
 -- what private clauses and proofs cite: no reader of a public contract needs it
 pub mod NamedLaws
 pub mod DecisionLaws
 pub mod IssuedLaws
+pub mod AskedLaws
+pub mod OutcomeLaws

@@ -29,7 +29,7 @@ pub record IsNamed (p : Presented) (service_row : Option Row) (t : Terms) : Type
   pub service_key : key_named service_row (number t.service.key.key.etype)
       (Some (pos t.service.key.version)) ≡ Some t.service.key.key
 
-admitted_terms : (o : Option Terms) (times : Option Times) (a : Admission) → admission_of o times ≡ Some a
+pub admitted_terms : (o : Option Terms) (times : Option Times) (a : Admission) → admission_of o times ≡ Some a
     → o ≡ Some a.terms
 admitted_terms (Some t) (Some times) a e = ap (λ (o : Option Admission). again o) e
   where
@@ -39,7 +39,7 @@ admitted_terms (Some t) (Some times) a e = ap (λ (o : Option Admission). again 
 admitted_terms (Some t) None a e = absurd cc
 admitted_terms None times a e = absurd cc
 
-found_by : (client : Row) (service : Option ServiceTerms) (t : Terms) → terms_by client service ≡ Some t
+pub found_by : (client : Row) (service : Option ServiceTerms) (t : Terms) → terms_by client service ≡ Some t
     → service ≡ Some t.service
 found_by client None t e = absurd cc
 found_by client (Some s) t e = ap (λ (o : Option Terms). Some (unwrap_or o t).service) e

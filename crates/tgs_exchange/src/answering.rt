@@ -1,22 +1,28 @@
-//! From a TGS-REQ and what it presents to its reply, and to what is kept of both.
-ghost use Rattle.std.specs.Prelude.{◌≡◌, ◌⊎◌, ◌<◌, ◌≤◌, false, None, length, IfOk, IfSome};
+//! From a TGS-REQ and what it presents to its reply, to what came of it, and to what is kept.
+ghost use Rattle.std.specs.Prelude.{◌≡◌, ◌⊎◌, ◌<◌, ◌≤◌, ℕ, List, false, None, Some, length, IfOk, IfSome};
 ghost use Rattle.std.specs.FinMap as map;
 ghost use Rattle.kdc_replies.specs.ErrorReply.{too_big};
 ghost use Rattle.krb_elements.specs.Codec.{written};
 ghost use Rattle.krb_fields.specs.PrincipalName.{name};
 ghost use Rattle.krb_types.specs.KrbError.{krb_error};
 ghost use Rattle.replay.specs.Stamp.{is_untimely};
+ghost use Rattle.replay.specs.declared.keep.Bears.TheVariants.{Error};
 ghost use Rattle.tgs_exchange.specs.Answer.{answer_by, is_ticket, kept_reply, remembering, repeated, refused};
-ghost use Rattle.tgs_exchange.specs.Answer.{tgs_answer, tgs_error, within_room};
+ghost use Rattle.tgs_exchange.specs.Answer.{refused_room, tgs_answer, tgs_error};
 ghost use Rattle.tgs_exchange.specs.Answer.{Opens, OpensBy, RepeatSpelled, Spelled, SpelledBy};
 ghost use Rattle.tgs_exchange.specs.Decision.{decision_copied, stamp_of, IfIssued};
 ghost use Rattle.tgs_exchange.specs.Known.{IsKnown};
 ghost use Rattle.tgs_exchange.specs.NamedLaws.{IsNamed};
+ghost use Rattle.tgs_exchange.specs.Outcome.{outcome_by, repeated_outcome, resent_within, tgs_outcome, OutcomeSpelled, OutcomeSpelledBy};
+ghost use Rattle.tgs_exchange.specs.declared.decision.Decision.TheVariants as decisions;
+ghost use Rattle.tgs_exchange.specs.declared.outcome.TgsOutcome.TheVariants as outcomes;
 
 use crate::deciding::decision;
 use crate::decision::Decision;
 use crate::errors::tgs_error;
-use crate::issuing::tgs_rep;
+use crate::issuing::{granted_of, tgs_rep};
+use crate::outcome::TgsOutcome;
+use crate::terms::Admission;
 use crate::view::TgsView;
 use kdc_replies::{Incoming, too_big};
 use krb_elements::Octets;
@@ -26,10 +32,12 @@ use replay::{Bears, Kept};
 use std::alloc::{AllocError, Global};
 use tgs_opening::{Presented, TgsRefusal};
 
-/// The reply to a TGS-REQ, and what is to be remembered with its authenticator: `None` where nothing is.
-#[derive(Debug, Drop)]
+/// The reply to a TGS-REQ, what came of it, and what is to be remembered with its authenticator: `None` where nothing
+/// is.
+#[derive(Drop)]
 pub struct TgsAnswer {
     pub reply: Vec<u8>,
+    pub outcome: TgsOutcome,
     pub kept: Option<Kept>,
 }
 
@@ -46,9 +54,16 @@ pub fn tgs_answer(
         answer.reply.items ≡ (tgs_answer view.now incoming.now body.now presented.now).reply) }
     ensures kept { IfOk result (λ answer.
         answer.kept ≡ (tgs_answer view.now incoming.now body.now presented.now).kept) }
+    // What came of it is what was decided, and whether the reply had room.
+    ensures outcome { IfOk result (λ answer.
+        answer.outcome ≡ tgs_outcome view.now incoming.now body.now presented.now) }
     // The octets spell the message that the rules say, or are the reply that is kept.
     ensures spelled { IfOk result (λ answer.
         Spelled view.now incoming.now.at incoming.now.random body.now presented.now answer.reply.items) }
+    // They are what that says.
+    ensures outcome_spelled { IfOk result (λ answer.
+        OutcomeSpelled view.now incoming.now.at incoming.now.random body.now presented.now answer.outcome
+        answer.reply.items) }
     // Where a ticket is issued, the reply key and the service's key find the same inside.
     ensures same { IfOk result (λ answer. Opens view.now incoming.now.at incoming.now.random body.now presented.now) }
     // What is to be remembered is neither skewed nor a repeat.
@@ -78,23 +93,23 @@ fn answer_by(
         (decision_copied decision.now)).reply) }
     ensures kept { IfOk result (λ answer.
         answer.kept ≡ (answer_by view.now incoming.now body.now presented.now (decision_copied decision.now)).kept) }
+    ensures outcome { IfOk result (λ answer.
+        answer.outcome
+        ≡ outcome_by view.now incoming.now body.now presented.now (decision_copied decision.now)) }
     ensures spelled { IfOk result (λ answer.
         SpelledBy view.now incoming.now.at incoming.now.random body.now presented.now
+        (decision_copied decision.now) answer.reply.items) }
+    ensures outcome_spelled { IfOk result (λ answer.
+        OutcomeSpelledBy view.now incoming.now.at incoming.now.random body.now presented.now answer.outcome
         (decision_copied decision.now) answer.reply.items) }
     ensures same { IfOk result (λ answer.
         OpensBy view.now incoming.now.at incoming.now.random body.now presented.now (decision_copied decision.now)) }
 {
     match decision {
         Decision::Refuses(refusal) => refused(alloc, view, incoming.at, body, *refusal),
-        Decision::Remembers(refusal) => {
-            let reply = tgs_error(alloc, view.realm, incoming.at, body, *refusal)?;
-            remembering(alloc, incoming.octets, Bears::Error, reply)
-        }
+        Decision::Remembers(refusal) => remembers(alloc, view, incoming, body, *refusal),
         Decision::Repeats(kept) => repeated(alloc, view, incoming, body, kept),
-        Decision::Issues(admission) => {
-            let reply = tgs_rep(alloc, view, incoming, body, presented, admission)?;
-            within_room(alloc, view, incoming, body, reply)
-        }
+        Decision::Issues(admission) => issued(alloc, view, incoming, body, presented, admission),
     }
 }
 
@@ -110,12 +125,47 @@ fn refused(
     requires sname { IfSome body.now.sname (λ n. length (name.text n) < 2147483648) }
     ensures reply { IfOk result (λ answer. answer.reply.items ≡ (refused view.now at body.now refusal).reply) }
     ensures kept { IfOk result (λ answer. answer.kept ≡ None) }
+    ensures outcome { IfOk result (λ answer. answer.outcome ≡ outcomes.Refused refusal) }
     ensures spelled { IfOk result (λ answer.
         krb_error.Spells (tgs_error view.now.realm at body.now refusal) answer.reply.items) }
+    ensures outcome_spelled { (random : List ℕ) (p : Presented) (decided : Decision Kept) → IfOk result (λ answer.
+        OutcomeSpelledBy view.now at random body.now p answer.outcome decided answer.reply.items) }
 {
     Ok(TgsAnswer {
         reply: tgs_error(alloc, view.realm, at, body, refusal)?,
+        outcome: TgsOutcome::Refused(refusal),
         kept: None,
+    })
+}
+
+/// An error that is remembered.
+fn remembers(
+    alloc: Global,
+    view: &TgsView<'_>,
+    incoming: &Incoming<'_>,
+    body: &ReqBodyRef<'_>,
+    refusal: TgsRefusal,
+) -> Result<TgsAnswer, AllocError>
+    requires realm { length view.now.realm ≤ 255 }
+    requires sname { IfSome body.now.sname (λ n. length (name.text n) < 2147483648) }
+    ensures reply { IfOk result (λ answer.
+        answer.reply.items ≡ written krb_error (tgs_error view.now.realm incoming.now.at body.now refusal)) }
+    ensures kept { IfOk result (λ answer.
+        answer.kept
+        ≡ (remembering incoming.now.octets Error
+        (written krb_error (tgs_error view.now.realm incoming.now.at body.now refusal))).kept) }
+    ensures outcome { IfOk result (λ answer. answer.outcome ≡ outcomes.Refused refusal) }
+    ensures spelled { IfOk result (λ answer.
+        krb_error.Spells (tgs_error view.now.realm incoming.now.at body.now refusal) answer.reply.items) }
+    ensures outcome_spelled { (random : List ℕ) (p : Presented) (decided : Decision Kept) → IfOk result (λ answer.
+        OutcomeSpelledBy view.now incoming.now.at random body.now p answer.outcome decided answer.reply.items) }
+{
+    let reply = tgs_error(alloc, view.realm, incoming.at, body, refusal)?;
+    let kept = kept_of(alloc, incoming.octets, Bears::Error, &reply)?;
+    Ok(TgsAnswer {
+        reply,
+        outcome: TgsOutcome::Refused(refusal),
+        kept: Some(kept),
     })
 }
 
@@ -132,36 +182,49 @@ fn repeated(
     ensures reply { IfOk result (λ answer.
         answer.reply.items ≡ (repeated view.now incoming.now body.now kept.now).reply) }
     ensures kept { IfOk result (λ answer. answer.kept ≡ None) }
+    ensures outcome { IfOk result (λ answer. answer.outcome ≡ repeated_outcome incoming.now kept.now) }
     ensures spelled { IfOk result (λ answer.
         RepeatSpelled view.now incoming.now.at body.now kept.now answer.reply.items) }
+    ensures outcome_spelled { (random : List ℕ) (p : Presented) → IfOk result (λ answer.
+        OutcomeSpelledBy view.now incoming.now.at random body.now p answer.outcome (decisions.Repeats kept.now)
+        answer.reply.items) }
 {
     if incoming.octets != kept.request.as_slice() {
         return refused(alloc, view, incoming.at, body, TgsRefusal::Repeated);
     }
-    let reply = kept_reply(alloc, view, incoming, body, kept)?;
-    Ok(TgsAnswer { reply, kept: None })
+    resent(alloc, view, incoming, body, kept)
 }
 
 /// The reply that is kept, or an error in its place where it bears a ticket and is longer than the room.
-fn kept_reply(
+fn resent(
     alloc: Global,
     view: &TgsView<'_>,
     incoming: &Incoming<'_>,
     body: &ReqBodyRef<'_>,
     kept: &Kept,
-) -> Result<Vec<u8>, AllocError>
+) -> Result<TgsAnswer, AllocError>
     requires realm { length view.now.realm ≤ 255 }
     requires sname { IfSome body.now.sname (λ n. length (name.text n) < 2147483648) }
-    ensures reply { IfOk result (λ reply. reply.items ≡ (kept_reply view.now incoming.now body.now kept.now).reply) }
-    ensures spelled { IfOk result (λ reply.
-        (reply.items ≡ kept.now.reply)
-        ⊎ krb_error.Spells (too_big view.now.realm incoming.now.at body.now) reply.items) }
+    ensures reply { IfOk result (λ answer.
+        answer.reply.items ≡ (kept_reply view.now incoming.now body.now kept.now).reply) }
+    ensures kept { IfOk result (λ answer. answer.kept ≡ None) }
+    ensures outcome { IfOk result (λ answer. answer.outcome ≡ resent_within incoming.now kept.now) }
+    ensures spelled { IfOk result (λ answer.
+        (answer.reply.items ≡ kept.now.reply)
+        ⊎ krb_error.Spells (too_big view.now.realm incoming.now.at body.now) answer.reply.items) }
+    ensures outcome_spelled { (random : List ℕ) (p : Presented) → IfOk result (λ answer.
+        OutcomeSpelledBy view.now incoming.now.at random body.now p answer.outcome (decisions.Repeats kept.now)
+        answer.reply.items) }
 {
     let octets = kept.reply.as_slice();
     if is_ticket(kept.bears) && octets.len() > incoming.room as usize {
-        return too_big(alloc, view.realm, incoming.at, body);
+        return refused_room(alloc, view, incoming.at, body);
     }
-    Vec::from_slice(alloc, octets)
+    Ok(TgsAnswer {
+        reply: Vec::from_slice(alloc, octets)?,
+        outcome: TgsOutcome::Resent(kept.bears),
+        kept: None,
+    })
 }
 
 fn is_ticket(bears: Bears) -> bool
@@ -170,49 +233,79 @@ fn is_ticket(bears: Bears) -> bool
     matches!(bears, Bears::Ticket)
 }
 
-/// The reply with a ticket, or an error in its place where it is longer than the room.
-fn within_room(
+/// The error in place of a reply that is longer than the room.
+fn refused_room(
+    alloc: Global,
+    view: &TgsView<'_>,
+    at: Moment,
+    body: &ReqBodyRef<'_>,
+) -> Result<TgsAnswer, AllocError>
+    requires realm { length view.now.realm ≤ 255 }
+    requires sname { IfSome body.now.sname (λ n. length (name.text n) < 2147483648) }
+    ensures reply { IfOk result (λ answer. answer.reply.items ≡ (refused_room view.now at body.now).reply) }
+    ensures kept { IfOk result (λ answer. answer.kept ≡ None) }
+    ensures outcome { IfOk result (λ answer. answer.outcome ≡ outcomes.TooBig) }
+    ensures spelled { IfOk result (λ answer.
+        krb_error.Spells (too_big view.now.realm at body.now) answer.reply.items) }
+    ensures outcome_spelled { (random : List ℕ) (p : Presented) (decided : Decision Kept) → IfOk result (λ answer.
+        OutcomeSpelledBy view.now at random body.now p answer.outcome decided answer.reply.items) }
+{
+    Ok(TgsAnswer {
+        reply: too_big(alloc, view.realm, at, body)?,
+        outcome: TgsOutcome::TooBig,
+        kept: None,
+    })
+}
+
+/// The reply with a ticket, which is remembered, or an error in its place where it is longer than the room.
+fn issued(
     alloc: Global,
     view: &TgsView<'_>,
     incoming: &Incoming<'_>,
     body: &ReqBodyRef<'_>,
-    reply: Vec<u8>,
+    presented: &Presented,
+    admission: &Admission,
 ) -> Result<TgsAnswer, AllocError>
-    requires realm { length view.now.realm ≤ 255 }
-    requires sname { IfSome body.now.sname (λ n. length (name.text n) < 2147483648) }
+    requires known { IsKnown view.now body.now presented.now }
+    requires named { IsNamed presented.now view.now.service admission.now.terms }
     ensures reply { IfOk result (λ answer.
-        answer.reply.items ≡ (within_room view.now incoming.now body.now reply.items).reply) }
-    ensures kept { IfOk result (λ answer. answer.kept ≡ (within_room view.now incoming.now body.now reply.items).kept) }
+        answer.reply.items
+        ≡ (answer_by view.now incoming.now body.now presented.now (decisions.Issues admission.now)).reply) }
+    ensures kept { IfOk result (λ answer.
+        answer.kept
+        ≡ (answer_by view.now incoming.now body.now presented.now (decisions.Issues admission.now)).kept) }
+    ensures outcome { IfOk result (λ answer.
+        answer.outcome
+        ≡ outcome_by view.now incoming.now body.now presented.now (decisions.Issues admission.now)) }
     ensures spelled { IfOk result (λ answer.
-        (answer.reply.items ≡ reply.items)
-        ⊎ krb_error.Spells (too_big view.now.realm incoming.now.at body.now) answer.reply.items) }
+        SpelledBy view.now incoming.now.at incoming.now.random body.now presented.now
+        (decisions.Issues admission.now) answer.reply.items) }
+    ensures outcome_spelled { IfOk result (λ answer.
+        OutcomeSpelledBy view.now incoming.now.at incoming.now.random body.now presented.now answer.outcome
+        (decisions.Issues admission.now) answer.reply.items) }
+    ensures same { IfOk result (λ answer.
+        OpensBy view.now incoming.now.at incoming.now.random body.now presented.now
+        (decisions.Issues admission.now)) }
 {
+    let reply = tgs_rep(alloc, view, incoming, body, presented, admission)?;
     if reply.len() > incoming.room as usize {
-        return Ok(TgsAnswer {
-            reply: too_big(alloc, view.realm, incoming.at, body)?,
-            kept: None,
-        });
+        return refused_room(alloc, view, incoming.at, body);
     }
-    remembering(alloc, incoming.octets, Bears::Ticket, reply)
-}
-
-/// A reply that is kept with its request.
-fn remembering(
-    alloc: Global,
-    request: &[u8],
-    bears: Bears,
-    reply: Vec<u8>,
-) -> Result<TgsAnswer, AllocError>
-    ensures reply { IfOk result (λ answer. answer.reply.items ≡ reply.items) }
-    ensures kept { IfOk result (λ answer. answer.kept ≡ (remembering request.now bears reply.items).kept) }
-{
-    let kept = Kept {
-        request: Octets::from_slice(alloc, request)?,
-        reply: Octets::from_slice(alloc, &reply)?,
-        bears,
-    };
+    let kept = kept_of(alloc, incoming.octets, Bears::Ticket, &reply)?;
     Ok(TgsAnswer {
         reply,
+        outcome: TgsOutcome::Issued(granted_of(body, presented, admission)),
         kept: Some(kept),
+    })
+}
+
+/// What is kept of a request and its reply.
+fn kept_of(alloc: Global, request: &[u8], bears: Bears, reply: &[u8]) -> Result<Kept, AllocError>
+    ensures { IfOk result (λ kept. Some kept ≡ (remembering request.now bears reply.now).kept) }
+{
+    Ok(Kept {
+        request: Octets::from_slice(alloc, request)?,
+        reply: Octets::from_slice(alloc, reply)?,
+        bears,
     })
 }

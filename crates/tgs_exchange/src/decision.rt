@@ -3,7 +3,7 @@ use crate::terms::Admission;
 use tgs_opening::TgsRefusal;
 
 /// What is decided of a request. `K` is what is kept for an authenticator.
-#[derive(Debug, Drop)]
+#[derive(Drop)]
 pub enum Decision<K> {
     /// It is refused, and nothing is remembered.
     Refuses(TgsRefusal),

@@ -5,6 +5,7 @@ ghost use Rattle.krb_replies.specs.KdcRep.{kdc_rep};
 ghost use Rattle.kdc_replies.specs.Grant.{IsShort};
 ghost use Rattle.tgs_exchange.specs.Answer.{OpensFor};
 ghost use Rattle.tgs_exchange.specs.Issue.{grant_by, reply_key_of, tgs_rep};
+ghost use Rattle.tgs_exchange.specs.Outcome.{granted_by};
 ghost use Rattle.ticket_times.specs.Flags.{tgs_flags};
 ghost use Rattle.tgs_exchange.specs.Known.{IsKnown};
 ghost use Rattle.tgs_exchange.specs.NamedLaws.{IsNamed};
@@ -13,7 +14,7 @@ ghost use Rattle.tgs_exchange.specs.Terms.{ticket_terms};
 use crate::terms::{Admission, ticket_terms};
 use crate::view::TgsView;
 use enctypes::KeyUsage;
-use kdc_replies::{Grant, Incoming, ReplyInputs, ReplyKey, session_key, ticket_reply};
+use kdc_replies::{Grant, Granted, Incoming, ReplyInputs, ReplyKey, session_key, ticket_reply};
 use krb_elements::{KerberosStringRef, Lent, Seq};
 use krb_fields::{Flags, Typed};
 use krb_types::ReqBodyRef;
@@ -108,6 +109,22 @@ fn flags_of(body: &ReqBodyRef<'_>, presented: &Presented, admission: &Admission)
         &admission.terms.service.policy,
         &admission.times,
     )
+}
+
+/// What the ticket is issued with, for the account of the request.
+pub fn granted_of(body: &ReqBodyRef<'_>, presented: &Presented, admission: &Admission) -> Granted
+    ensures { result ≡ granted_by body.now presented.now admission.now }
+{
+    let Admission { terms, times } = admission;
+    let reply_key = reply_key_of(presented);
+    Granted {
+        reply_type: reply_key.key.etype(),
+        ticket_type: terms.service.key.key.etype(),
+        session_type: terms.service.session_type,
+        flags: flags_of(body, presented, admission),
+        authtime: presented.ticket.authtime,
+        times: *times,
+    }
 }
 
 /// The key that the client chose, else the session key of the ticket that is presented.

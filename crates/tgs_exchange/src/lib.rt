@@ -7,10 +7,12 @@ mod deciding;
 mod decision;
 mod errors;
 mod issuing;
+mod outcome;
 mod rules;
 mod terms;
 mod view;
 
 pub use answering::{TgsAnswer, tgs_answer};
 pub use errors::tgs_error;
+pub use outcome::TgsOutcome;
 pub use view::TgsView;

@@ -12,14 +12,14 @@ use std::alloc::{AllocError, Global};
 use ticket_times::{TicketTerms, Times, tgs_times};
 
 /// A client that has a row, and a service that has a key of a type asked for.
-#[derive(Debug, Drop)]
+#[derive(Drop)]
 pub struct Terms {
     pub client_policy: Policy,
     pub service: ServiceTerms,
 }
 
 /// What a ticket is issued by.
-#[derive(Debug, Drop)]
+#[derive(Drop)]
 pub struct Admission {
     pub terms: Terms,
     pub times: Times,

@@ -4,7 +4,7 @@ use replay::{Kept, Memory};
 use std::marker::Model;
 
 /// What is known of the client of a ticket, and of the service that a request names.
-#[derive(Debug, Drop)]
+#[derive(Drop)]
 pub struct TgsView<'a> {
     /// The realm's octets, 1 to 255.
     pub realm: &'a [u8],

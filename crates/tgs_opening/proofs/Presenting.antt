@@ -9,10 +9,11 @@ use Rattle.krb_parts.specs.EncTicketPart.{EncTicketPart, enc_ticket_part}
 use Rattle.krb_types.specs.KdcReq.{Received}
 use Rattle.sealed_parts.specs.Parts.{IsSpelledWithin}
 use Rattle.tgs_opening.specs.Authenticators.{authenticator_of, session_key_of, subkey_of}
-use Rattle.tgs_opening.specs.Opening.{presented}
+use Rattle.tgs_opening.specs.Opening.{authenticated}
 use Rattle.tgs_opening.specs.PartLaws.{AreFew, few_data}
-use Rattle.tgs_opening.specs.Tickets.{ap_req_in, ap_req_of, request_rules, tgs_data, shown_ticket}
+use Rattle.tgs_opening.specs.Tickets.{ap_req_in, ap_req_of, request_rules, tgs_data}
 use Rattle.tgs_opening.specs.View.{TicketView}
+use Rattle.tgs_opening.specs.declared.opened.OpenedTicket.{OpenedTicket}
 use Rattle.tgs_opening.specs.declared.refusal.TgsRefusal.{TgsRefusal}
 use Rattle.tgs_opening.specs.declared.refusal.TgsRefusal.TheVariants.{MalformedApReq}
 
@@ -39,12 +40,12 @@ few_presented message ap part read few short within =
     few_data 2147483648 part ap.ticket.enc_part.cipher (cipher_short message ap read few short) within
 
 -- what the last stage refuses is refused
-pub refused_last : (v : TicketView) (message : Received) (ap_req : ApReq) (part : EncTicketPart) (key : Key)
-    (auth : Authenticator) (body : List ℕ) (refusal : TgsRefusal)
-    → ap_req_of message ≡ Ok ap_req → shown_ticket v message.body.value ap_req ≡ Ok part → session_key_of v part ≡ Ok key
-    → authenticator_of key ap_req.authenticator ≡ Ok auth → body ≡ message.body.octets
-    → subkey_of part key body auth ≡ Err refusal → presented v message ≡ Err refusal
-refused_last v message ap_req part key auth body refusal read opens keys shows same refuses =
-    let refused : subkey_of part key message.body.octets auth ≡ Err refusal =
-    ap (λ octets. subkey_of part key octets auth) (sym same) ∙ refuses in
-    rw (read, opens, keys, shows, refused) refl
+pub refused_last : (v : TicketView) (message : Received) (o : OpenedTicket) (key : Key) (auth : Authenticator)
+    (body : List ℕ) (refusal : TgsRefusal)
+    → session_key_of v o.part ≡ Ok key → authenticator_of key o.ap.authenticator ≡ Ok auth
+    → body ≡ message.body.octets → subkey_of o.part key body auth ≡ Err refusal
+    → authenticated v message o ≡ Err refusal
+refused_last v message o key auth body refusal keys shows same refuses =
+    let refused : subkey_of o.part key message.body.octets auth ≡ Err refusal =
+    ap (λ octets. subkey_of o.part key octets auth) (sym same) ∙ refuses in
+    rw (keys, shows, refused) refl

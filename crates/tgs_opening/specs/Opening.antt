@@ -1,21 +1,15 @@
 -- What a TGS-REQ presents, or the first rule by which that is refused (RFC 4120, sections 3.2.3 and 3.3.2).
-use Rattle.std.specs.Prelude.{Option, Result, Ok}
-use Rattle.enctypes.specs.declared.key.Key.{Key}
-use Rattle.krb_ap.specs.ApReq.{ApReq}
-use Rattle.krb_parts.specs.Authenticator.{Authenticator}
-use Rattle.krb_parts.specs.EncTicketPart.{EncTicketPart}
+use Rattle.std.specs.Prelude.{Some, None, Result, Ok, Err}
 use Rattle.krb_types.specs.KdcReq.{Received}
 use Rattle.refusals.specs.Stages.{◌>>=◌}
 use Rattle.tgs_opening.specs.Authenticators.{session_key_of, authenticator_of, subkey_of}
 use Rattle.tgs_opening.specs.Tickets.{ap_req_of, shown_ticket}
 use Rattle.tgs_opening.specs.View.{TicketView}
+use Rattle.tgs_opening.specs.declared.opened.Authenticated.{Authenticated}
+use Rattle.tgs_opening.specs.declared.opened.OpenedTicket.{OpenedTicket}
 use Rattle.tgs_opening.specs.declared.presented.Presented.{Presented}
 use Rattle.tgs_opening.specs.declared.refusal.TgsRefusal.{TgsRefusal}
-
--- an AP-REQ, and what its ticket holds
-pub record OpenedTicket : Type 0 where
-  pub ap : ApReq
-  pub part : EncTicketPart
+use Rattle.tgs_opening.specs.declared.rejection.Rejection.{Rejection}
 
 -- the ticket that is presented, opened
 abbrev pub opened_ticket : TicketView → Received → Result OpenedTicket TgsRefusal
@@ -24,20 +18,32 @@ opened_ticket v message = do
   part ← shown_ticket v message.body.value ap
   Ok (record { ap = ap; part = part })
 
-abbrev pub presented_as : OpenedTicket → Key → Authenticator → Option Key → Presented
-presented_as o key auth subkey = record {
-  ticket_service = o.ap.ticket.sname;
-  ticket = o.part;
-  session_key = key;
-  authenticator = auth;
-  subkey = subkey;
-}
-
--- what the request presents
-abbrev pub presented : TicketView → Received → Result Presented TgsRefusal
-presented v message = do
-  o ← opened_ticket v message
+-- what shows that who presents it has its session key
+abbrev pub authenticated : TicketView → Received → OpenedTicket → Result Authenticated TgsRefusal
+authenticated v message o = do
   key ← session_key_of v o.part
   auth ← authenticator_of key o.ap.authenticator
   subkey ← subkey_of o.part key message.body.octets auth
-  Ok (presented_as o key auth subkey)
+  Ok (record { session_key = key; authenticator = auth; subkey = subkey })
+
+abbrev pub presented_as : OpenedTicket → Authenticated → Presented
+presented_as o a = record {
+  ticket_service = o.ap.ticket.sname;
+  ticket = o.part;
+  session_key = a.session_key;
+  authenticator = a.authenticator;
+  subkey = a.subkey;
+}
+
+-- what is refused once the ticket was opened names its client
+abbrev pub by_authenticated : OpenedTicket → Result Authenticated TgsRefusal → Result Presented Rejection
+by_authenticated o (Ok a) = Ok (presented_as o a)
+by_authenticated o (Err rule) = Err (record { rule = rule; client = Some o.part.cname })
+
+abbrev pub by_ticket : TicketView → Received → Result OpenedTicket TgsRefusal → Result Presented Rejection
+by_ticket v message (Ok o) = by_authenticated o (authenticated v message o)
+by_ticket v message (Err rule) = Err (record { rule = rule; client = None })
+
+-- what the request presents
+abbrev pub presented : TicketView → Received → Result Presented Rejection
+presented v message = by_ticket v message (opened_ticket v message)

@@ -1,37 +1,55 @@
--- What is presented has the ticket that was opened.
-use Rattle.std.proofs.Common.{◌≡◌, Option, Result, Ok}
-use Rattle.enctypes.specs.declared.key.Key.{Key}
-use Rattle.krb_parts.specs.Authenticator.{Authenticator}
+-- What is presented has the ticket that was opened, and so has what is rejected, where one was opened.
+use Rattle.std.proofs.Common.{◌≡◌, Option, Some, None, Result, Ok, Err, refl, ap}
+use Rattle.krb_fields.specs.PrincipalName.{Name}
 use Rattle.krb_types.specs.KdcReq.{Received}
-use Rattle.refusals.specs.Stages.{◌>>=◌}
-use Rattle.refusals.specs.StageLaws.{ok_is, stage_ok}
-use Rattle.tgs_opening.specs.Authenticators.{session_key_of, authenticator_of, subkey_of}
-use Rattle.tgs_opening.specs.Opening.{OpenedTicket, opened_ticket, presented, presented_as}
+use Rattle.refusals.specs.StageLaws.{ok_is}
+use Rattle.tgs_opening.specs.Opening.{authenticated, by_authenticated, by_ticket, opened_ticket, presented}
+use Rattle.tgs_opening.specs.Opening.{presented_as}
 use Rattle.tgs_opening.specs.View.{TicketView}
+use Rattle.tgs_opening.specs.declared.opened.Authenticated.{Authenticated}
+use Rattle.tgs_opening.specs.declared.opened.OpenedTicket.{OpenedTicket}
 use Rattle.tgs_opening.specs.declared.presented.Presented.{Presented}
 use Rattle.tgs_opening.specs.declared.refusal.TgsRefusal.{TgsRefusal}
+use Rattle.tgs_opening.specs.declared.rejection.Rejection.{Rejection}
 
-module _ (v : TicketView) (message : Received) where
-  -- what follows each stage
-  abbrev by_subkey : OpenedTicket → Key → Authenticator → Option Key → Result Presented TgsRefusal
-  by_subkey o key auth subkey = Ok (presented_as o key auth subkey)
+module _ (v : TicketView) (message : Received) (p : Presented) where
+  part_of : (o : OpenedTicket) (r : Result Authenticated TgsRefusal) → by_authenticated o r ≡ Ok p → o.part ≡ p.ticket
+  part_of o (Ok a) e = λ i. (ok_is {R = Rejection} (presented_as o a) p e i).ticket
+  part_of o (Err rule) e = absurd cc
 
-  abbrev by_authenticator : OpenedTicket → Key → Authenticator → Result Presented TgsRefusal
-  by_authenticator o key auth =
-      subkey_of o.part key message.body.octets auth >>= λ subkey. by_subkey o key auth subkey
-
-  abbrev by_session_key : OpenedTicket → Key → Result Presented TgsRefusal
-  by_session_key o key = authenticator_of key o.ap.authenticator >>= λ auth. by_authenticator o key auth
-
-  abbrev by_ticket : OpenedTicket → Result Presented TgsRefusal
-  by_ticket o = session_key_of v o.part >>= λ key. by_session_key o key
-
-  pub ticket_opened : (p : Presented) → presented v message ≡ Ok p
+  ticket_of : (r : Result OpenedTicket TgsRefusal) → opened_ticket v message ≡ r → by_ticket v message r ≡ Ok p
       → (o : OpenedTicket) × (opened_ticket v message ≡ Ok o) × (o.part ≡ p.ticket)
-  ticket_opened p e =
-      let (o, opens, keyed) = stage_ok (opened_ticket v message) by_ticket p e in
-      let (key, keys, shown) = stage_ok (session_key_of v o.part) (by_session_key o) p keyed in
-      let (auth, shows, chosen) =
-      stage_ok (authenticator_of key o.ap.authenticator) (by_authenticator o key) p shown in
-      let last = stage_ok (subkey_of o.part key message.body.octets auth) (by_subkey o key auth) p chosen in
-      (o, opens, λ i. (ok_is {R = TgsRefusal} (presented_as o key auth last.0) p last.2 i).ticket)
+  ticket_of (Ok o) opens e = (o, opens, part_of o (authenticated v message o) e)
+  ticket_of (Err rule) opens e = absurd cc
+
+  pub ticket_opened : presented v message ≡ Ok p
+      → (o : OpenedTicket) × (opened_ticket v message ≡ Ok o) × (o.part ≡ p.ticket)
+  ticket_opened e = ticket_of (opened_ticket v message) refl e
+
+-- the client of a ticket that was opened
+abbrev pub client_of : Result OpenedTicket TgsRefusal → Option Name
+client_of (Ok o) = Some o.part.cname
+client_of (Err rule) = None
+
+module _ (v : TicketView) (message : Received) (rejected : Rejection) where
+  client_shown : (o : OpenedTicket) (r : Result Authenticated TgsRefusal) → by_authenticated o r ≡ Err rejected
+      → Some o.part.cname ≡ rejected.client
+  client_shown o (Ok a) e = absurd cc
+  client_shown o (Err rule) e = ap (λ (r : Result Presented Rejection). again r) e
+    where
+      again : Result Presented Rejection → Option Name
+      again (Ok p) = None
+      again (Err r) = r.client
+
+  client_opened : (r : Result OpenedTicket TgsRefusal) → by_ticket v message r ≡ Err rejected
+      → client_of r ≡ rejected.client
+  client_opened (Ok o) e = client_shown o (authenticated v message o) e
+  client_opened (Err rule) e = ap (λ (r : Result Presented Rejection). again r) e
+    where
+      again : Result Presented Rejection → Option Name
+      again (Ok p) = None
+      again (Err r) = r.client
+
+  -- what is rejected names the client of the ticket that was opened, and none where none was
+  pub rejected_client : presented v message ≡ Err rejected → client_of (opened_ticket v message) ≡ rejected.client
+  rejected_client e = client_opened (opened_ticket v message) e

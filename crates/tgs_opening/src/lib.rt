@@ -6,15 +6,17 @@
 
 mod authenticators;
 mod fault;
+mod opened;
 mod opening;
 mod presented;
 mod refusal;
+mod rejection;
 mod tickets;
 mod view;
 
-pub use fault::TgsFault;
 pub use opening::tgs_open;
 pub use presented::Presented;
 pub use refusal::TgsRefusal;
+pub use rejection::Rejection;
 pub use tickets::is_named;
 pub use view::TicketView;

@@ -1,46 +1,135 @@
 //! What a TGS-REQ presents (RFC 4120, sections 3.2.3 and 3.3.2).
-ghost use Rattle.std.specs.Prelude.{◌≡◌, ◌<◌, length, IfOk, IfSome};
+ghost use Rattle.std.specs.Prelude.{◌≡◌, ◌<◌, length, IfOk, IfSome, Result};
 ghost use Rattle.krb_elements.specs.Codec.{list_of};
 ghost use Rattle.krb_fields.specs.Typed.{typed};
 ghost use Rattle.tgs_opening.specs.Fault.{Gives};
-ghost use Rattle.tgs_opening.specs.Opening.{presented};
+ghost use Rattle.tgs_opening.specs.Opening.{authenticated, by_authenticated, by_ticket, opened_ticket, presented};
 ghost use Rattle.tgs_opening.specs.Tickets.{tgs_data};
+ghost use Rattle.tgs_opening.specs.declared.opened.OpenedTicket as tickets;
 
 use crate::authenticators::{authenticator_of, session_key_of, subkey_of};
 use crate::fault::TgsFault;
+use crate::opened::{Authenticated, OpenedTicket};
 use crate::presented::Presented;
+use crate::refusal::TgsRefusal;
+use crate::rejection::Rejection;
 use crate::tickets::{ap_req_of, shown_ticket};
 use crate::view::TicketView;
 use krb_types::KdcReqRef;
-use std::alloc::Global;
+use std::alloc::{AllocError, Global};
 
-/// What a TGS-REQ presents, or the first rule by which that is refused.
+/// What a TGS-REQ presents, or the first rule by which that is refused, with the client of the ticket where that was
+/// opened.
 ///
 /// Until the ticket is opened, it takes no more memory than names of the request and the ticket's cipher need.
 pub fn tgs_open(
     alloc: Global,
     view: &TicketView<'_>,
     message: &KdcReqRef<'_>,
-) -> Result<Presented, TgsFault>
+) -> Result<Result<Presented, Rejection>, AllocError>
     requires { IfSome (tgs_data message.now) (λ value. length value < 2147483648) }
-    ensures value { Gives result (presented view.now message.now) }
+    ensures value { IfOk result (λ found. found ≡ presented view.now message.now) }
     // The authorization data are short enough for another ticket.
-    ensures authorization { IfOk result (λ presented.
-        IfSome presented.ticket.authorization_data (λ list. length ((list_of typed).text list) < 2147483648)) }
+    ensures authorization { IfOk result (λ found. IfOk found (λ presented.
+        IfSome presented.ticket.authorization_data (λ list. length ((list_of typed).text list) < 2147483648))) }
+{
+    let ticket = open_ticket(alloc, view, message);
+    by_ticket(alloc, view, message, ticket)
+}
+
+/// The ticket that is presented, opened.
+fn open_ticket<'a>(
+    alloc: Global,
+    view: &TicketView<'_>,
+    message: &KdcReqRef<'a>,
+) -> Result<OpenedTicket<'a>, TgsFault>
+    requires { IfSome (tgs_data message.now) (λ value. length value < 2147483648) }
+    ensures value { Gives result (opened_ticket view.now message.now) }
+    ensures authorization { IfOk result (λ ticket.
+        IfSome ticket.part.authorization_data (λ list. length ((list_of typed).text list) < 2147483648)) }
 {
     let ap = ap_req_of(message)?;
-    let ticket = shown_ticket(alloc, view, &message.body.value, &ap)?;
-    let session_key = session_key_of(view, &ticket)?;
-    let authenticator = authenticator_of(alloc, view.ready, &session_key, &ap.authenticator)?;
+    let part = shown_ticket(alloc, view, &message.body.value, &ap)?;
+    Ok(OpenedTicket { ap, part })
+}
+
+/// What is presented, by what became of the ticket.
+fn by_ticket(
+    alloc: Global,
+    view: &TicketView<'_>,
+    message: &KdcReqRef<'_>,
+    ticket: Result<OpenedTicket<'_>, TgsFault>,
+) -> Result<Result<Presented, Rejection>, AllocError>
+    requires { IfOk ticket (λ ticket.
+        IfSome ticket.part.authorization_data (λ list. length ((list_of typed).text list) < 2147483648)) }
+    ensures value { (wanted : Result tickets.OpenedTicket TgsRefusal) → Gives ticket.entry wanted
+        → IfOk result (λ found. found ≡ by_ticket view.now message.now wanted) }
+    ensures authorization { IfOk result (λ found. IfOk found (λ presented.
+        IfSome presented.ticket.authorization_data (λ list. length ((list_of typed).text list) < 2147483648))) }
+{
+    match ticket {
+        Ok(ticket) => {
+            let shown = authenticated(alloc, view, message, &ticket);
+            by_authenticated(alloc, ticket, shown)
+        }
+        Err(TgsFault::Refused(rule)) => Ok(Err(Rejection { rule, client: None })),
+        Err(TgsFault::Memory) => Err(AllocError),
+    }
+}
+
+/// What shows that who presents the ticket has its session key.
+fn authenticated(
+    alloc: Global,
+    view: &TicketView<'_>,
+    message: &KdcReqRef<'_>,
+    ticket: &OpenedTicket<'_>,
+) -> Result<Authenticated, TgsFault>
+    ensures { Gives result (authenticated view.now message.now ticket.now) }
+{
+    let session_key = session_key_of(view, &ticket.part)?;
+    let authenticator = authenticator_of(
+        alloc,
+        view.ready,
+        &session_key,
+        &ticket.ap.authenticator,
+    )?;
     let body = body_octets(message);
-    let subkey = subkey_of(&ticket, &session_key, body, &authenticator)?;
-    Ok(Presented {
-        ticket_service: ap.ticket.sname.to_name(alloc)?,
-        ticket,
+    let subkey = subkey_of(&ticket.part, &session_key, body, &authenticator)?;
+    Ok(Authenticated {
         session_key,
         authenticator,
         subkey,
     })
+}
+
+/// What is presented with a ticket that was opened, by what became of its authenticator.
+fn by_authenticated(
+    alloc: Global,
+    ticket: OpenedTicket<'_>,
+    shown: Result<Authenticated, TgsFault>,
+) -> Result<Result<Presented, Rejection>, AllocError>
+    requires { IfSome ticket.part.authorization_data
+        (λ list. length ((list_of typed).text list) < 2147483648) }
+    ensures value { (wanted : Result Authenticated TgsRefusal) → Gives shown wanted
+        → IfOk result (λ found. found ≡ by_authenticated ticket.entry wanted) }
+    ensures authorization { IfOk result (λ found. IfOk found (λ presented.
+        IfSome presented.ticket.authorization_data (λ list. length ((list_of typed).text list) < 2147483648))) }
+{
+    let OpenedTicket { ap, part } = ticket;
+    match shown {
+        Ok(shown) => Ok(Ok(Presented {
+            ticket_service: ap.ticket.sname.to_name(alloc)?,
+            ticket: part,
+            session_key: shown.session_key,
+            authenticator: shown.authenticator,
+            subkey: shown.subkey,
+        })),
+        Err(TgsFault::Refused(rule)) => Ok(Err(Rejection {
+            rule,
+            client: Some(part.cname),
+        })),
+        Err(TgsFault::Memory) => Err(AllocError),
+    }
 }
 
 /// The octets of the request's body, as they were sent.

@@ -4,7 +4,7 @@ use krb_fields::Name;
 use krb_parts::{Authenticator, EncTicketPart};
 
 /// A ticket and an authenticator that fit together and to the request.
-#[derive(Debug, Drop)]
+#[derive(Drop)]
 pub struct Presented {
     /// The service that the ticket is for.
     pub ticket_service: Name,

@@ -31,7 +31,7 @@ use std::cmp::Ordering;
 use ticket_times::keeps_ticket;
 
 /// Whom a ticket is for.
-#[derive(Debug, Clone, Copy, PartialEq, Eq)]
+#[derive(Clone, Copy, PartialEq, Eq)]
 pub enum Addressee {
     /// The ticket-granting service.
     Granter,

@@ -4,7 +4,7 @@ use sealed_parts::ReadyKeys;
 use std::marker::Model;
 
 /// The rows whose keys may have sealed the ticket that a TGS-REQ presents.
-#[derive(Debug, Drop)]
+#[derive(Drop)]
 pub struct TicketView<'a> {
     /// The realm's octets, 1 to 255.
     pub realm: &'a [u8],

@@ -1,6 +1,7 @@
 use Rattle.kdc_core.proofs.Isolation.{isolation, unaffected}
 use Rattle.kdc_core.proofs.Marking.{keeps_marked}
 use Rattle.kdc_core.proofs.Tickets.{one_ticket}
+use Rattle.kdc_core.proofs.Unseen.{tidies_unseen}
 use Rattle.kdc_core.proofs.laws.any_run.Goals as goal
 
 pub returns-clause-isolation : goal.returns-clause-isolation
@@ -14,3 +15,6 @@ returns-clause-unaffected c = unaffected
 
 pub returns-clause-marked : goal.returns-clause-marked
 returns-clause-marked c = keeps_marked
+
+pub returns-clause-unseen : goal.returns-clause-unseen
+returns-clause-unseen c = tidies_unseen

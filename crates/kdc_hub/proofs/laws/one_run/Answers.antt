@@ -19,6 +19,9 @@ returns-clause-one_ticket c = histories.one_ticket_sent
 pub returns-clause-unaffected : goal.returns-clause-unaffected
 returns-clause-unaffected c = histories.unaffected
 
+pub returns-clause-unseen : goal.returns-clause-unseen
+returns-clause-unseen c = histories.unseen
+
 pub returns-clause-one_ticket_in_process : goal.returns-clause-one_ticket_in_process
 returns-clause-one_ticket_in_process c = histories.one_ticket_in_process
 

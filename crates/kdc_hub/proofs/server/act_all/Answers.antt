@@ -7,7 +7,7 @@ use Rattle.kdc_hub.proofs.server.act_all.Goals.{in-Done, in-Dropped}
 
 pub loop-action-init : goal.loop-action-init
 loop-action-init g c = record {
-  tried = none_tried (g.W.Wire.told c.args.wire.now) (standing g.R.Rng.stream c.args.hub.now);
+  tried = none_tried (g.W.Wire.recorded c.args.wire.now) (standing g.R.Rng.stream c.args.hub.now);
   counted = counted_nothing (g.W.Wire.fault_count c.args.wire.now);
   few = omega arith;
 }

@@ -6,7 +6,7 @@ use Rattle.kdc_hub.proofs.server.serve.Given as goal
 
 abbrev pub invariant-loop : goal.invariant-loop
 invariant-loop g l = record {
-  run : IsRun (g.W.Wire.told l.fn.wire) (standing g.R.Rng.stream l.fn.hub) l.counter l.served (g.W.Wire.told l.wire) (standing g.R.Rng.stream l.hub);
+  run : IsRun (g.W.Wire.recorded l.fn.wire) (standing g.R.Rng.stream l.fn.hub) l.counter l.served (g.W.Wire.recorded l.wire) (standing g.R.Rng.stream l.hub);
   counted : IsCounted (g.W.Wire.fault_count l.fn.wire) l.served.faults (g.W.Wire.fault_count l.wire);
   events : l.served.events ≤ l.counter;
   faults : l.served.faults ≤ 3 * l.counter;

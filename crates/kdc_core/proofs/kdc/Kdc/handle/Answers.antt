@@ -2,6 +2,10 @@ use Rattle.std.proofs.Common.{rules, ◌≡◌, ◌≢◌, ◌≤◌, length, So
 use Rattle.kdc_state.specs.declared.state.State.{State}
 use Rattle.kdc_state.specs.State.{memory_of}
 use Rattle.kdc_core.proofs.Frame.{database_kept, limits_kept, other_kept, of_either}
+use Rattle.std.proofs.lemmas.Result.{IfOk-weaker}
+use Rattle.kdc_replies.specs.Incoming.{Incoming}
+use Rattle.kdc_core.specs.Account.{AccountHolds, account, account_to, account_names}
+use Rattle.kdc_core.specs.AccountLaws.{names_are_named, account_holds}
 use Rattle.kdc_core.specs.AgreementLaws.{after_agrees, names_agree, view_agrees}
 use Rattle.kdc_core.specs.Answer.{OneTicketTwoKeys, answer, after_request}
 use Rattle.kdc_core.specs.Issued.{IsReplyOf, issued}
@@ -19,8 +23,8 @@ returns-clause-keys c =
     let state = c.self.inside.state in
     let bytes = c.args.request.now in
     let is : state ≡ c.args.self.now = search rules in
-    subst (λ (s : State). IfOk c.handle.result (λ reply. OneTicketTwoKeys (view s bytes) c.args.at c.args.random.now (request_of bytes) (option_map (λ octets. octets.items) reply))) is
-    (replies_sent (view state bytes) c.args.at c.args.random.now (λ reply. option_map (λ octets. octets.items) reply) (request_of bytes) c.handle.result c.handle.ensures.spelled c.handle.ensures.same)
+    subst (λ (s : State). IfOk c.handle.result (λ answer. OneTicketTwoKeys (view s bytes) c.args.at c.args.random.now (request_of bytes) (option_map (λ octets. octets.items) answer.reply))) is
+    (replies_sent (view state bytes) c.args.at c.args.random.now (λ answer. option_map (λ octets. octets.items) answer.reply) (request_of bytes) c.handle.result c.handle.ensures.spelled c.handle.ensures.same)
 
 pub returns-clause-issued : goal.returns-clause-issued
 returns-clause-issued c =
@@ -28,9 +32,30 @@ returns-clause-issued c =
     let bytes = c.args.request.now in
     let long : 32 ≤ length c.args.random.now = search rules in
     let is : state ≡ c.args.self.now = search rules in
-    subst (λ (s : State). IfOk c.handle.result (λ reply. IfSome (issued (view s bytes) c.args.at c.args.random.now (request_of bytes)) (λ issue. IsReplyOf issue (option_map (λ octets. octets.items) reply)))) is
-    (replies_issued (view state bytes) c.args.at c.args.random.now long (λ reply. option_map (λ octets. octets.items) reply) (request_of bytes) c.handle.result
-    (replies_sent (view state bytes) c.args.at c.args.random.now (λ reply. option_map (λ octets. octets.items) reply) (request_of bytes) c.handle.result c.handle.ensures.spelled c.handle.ensures.same))
+    subst (λ (s : State). IfOk c.handle.result (λ answer. IfSome (issued (view s bytes) c.args.at c.args.random.now (request_of bytes)) (λ issue. IsReplyOf issue (option_map (λ octets. octets.items) answer.reply)))) is
+    (replies_issued (view state bytes) c.args.at c.args.random.now long (λ answer. option_map (λ octets. octets.items) answer.reply) (request_of bytes) c.handle.result
+    (replies_sent (view state bytes) c.args.at c.args.random.now (λ answer. option_map (λ octets. octets.items) answer.reply) (request_of bytes) c.handle.result c.handle.ensures.spelled c.handle.ensures.same))
+
+pub returns-clause-names : goal.returns-clause-names
+returns-clause-names c =
+    let state = c.self.inside.state in
+    let bytes = c.args.request.now in
+    let incoming : Incoming = record { at = c.args.at; random = c.args.random.now; room = c.args.room; octets = bytes } in
+    let is : state ≡ c.args.self.now = search rules in
+    subst (λ (s : State). IfOk c.handle.result (λ answer. account_names answer.account ≡ named s bytes)) is
+    (IfOk-weaker c.handle.result (λ answer. answer.account ≡ account_to (view state bytes) incoming) (λ answer. account_names answer.account ≡ named state bytes)
+    (λ answer is. ap account_names is ∙ names_are_named state incoming) c.handle.ensures.account)
+
+pub returns-clause-holds : goal.returns-clause-holds
+returns-clause-holds c =
+    let state = c.self.inside.state in
+    let bytes = c.args.request.now in
+    let incoming : Incoming = record { at = c.args.at; random = c.args.random.now; room = c.args.room; octets = bytes } in
+    let long : 32 ≤ length c.args.random.now = search rules in
+    let is : state ≡ c.args.self.now = search rules in
+    subst (λ (s : State). IfOk c.handle.result (λ answer. AccountHolds (view s bytes) c.args.at c.args.random.now (request_of bytes) answer.account (option_map (λ octets. octets.items) answer.reply))) is
+    (account_holds (view state bytes) incoming long (λ answer. answer.account) (λ answer. option_map (λ octets. octets.items) answer.reply) c.handle.result
+    c.handle.ensures.account c.handle.ensures.outcome_spelled c.handle.ensures.same)
 
 pub returns-clause-database : goal.returns-clause-database
 returns-clause-database c =
@@ -62,6 +87,9 @@ returns-clause-memories c name other =
 
 pub returns-clause-agreement : goal.returns-clause-agreement
 returns-clause-agreement c other agrees = ap (λ v. answer v c.args.at c.args.random.now c.args.room c.args.request.now) (view_agrees c.args.self.now other c.args.request.now agrees)
+
+pub returns-clause-same_account : goal.returns-clause-same_account
+returns-clause-same_account c other agrees = ap (λ v. account v c.args.at c.args.random.now c.args.room c.args.request.now) (view_agrees c.args.self.now other c.args.request.now agrees)
 
 pub returns-clause-same_names : goal.returns-clause-same_names
 returns-clause-same_names c other agrees = names_agree c.args.self.now other c.args.request.now agrees

@@ -1,4 +1,9 @@
-use Rattle.std.proofs.Common.{refl, ap, length}
+use Rattle.std.proofs.Common.{refl, ap, subst, length}
+use Rattle.rand_core.specs.Stream.{fill_bytes}
+use Rattle.kdc_core.specs.View.{view}
+use Rattle.kdc_hub.specs.Accounts.{ReplyHolds}
+use Rattle.kdc_hub.specs.Hub.{datagram_room}
+use Rattle.kdc_hub.proofs.Accounting.{none_hold, one_holds, one_pushed}
 use Rattle.kdc_hub.specs.Issuing.{issuing}
 use Rattle.kdc_hub.proofs.Steps.{same_standing, stopped_before, stopped_drawn}
 use Rattle.kdc_hub.proofs.hub.Hub.answer_datagram.Goals as goal
@@ -13,6 +18,26 @@ returns-in_default-clause-step g c = (
 pub returns-in-Err-clause-step : goal.returns-in-Err-clause-step
 returns-in-Err-clause-step g c = (
   c.nothing_done-in-Err.ensures.done,
-  same_standing _ _ _ _ (stopped_drawn _ _ (issuing g.R.Rng.stream c.args.self.now.issuer) (issuing g.R.Rng.stream c.answer.new.self) c.args.at _ (ap (λ l. length l) c.nothing_done-in-Err.ensures.done) c.nothing_done-in-Err.ensures.draws c.in-Err.ensures.err c.answer.ensures.drawn) refl,
+  same_standing _ _ _ _ (stopped_drawn _ _ (issuing g.R.Rng.stream c.args.self.now.issuer) (issuing g.R.Rng.stream c.answer.new.self) c.args.at _ (ap (λ l. length l) c.nothing_done-in-Err.ensures.done) c.nothing_done-in-Err.ensures.draws c.in-Err.ensures.err c.answer.ensures.drawn c.answer.ensures.accounts) refl,
   c.nothing_done-in-Err.ensures.conn,
 )
+
+pub returns-in_default-clause-accounts : goal.returns-in_default-clause-accounts
+returns-in_default-clause-accounts g c = none_hold _ c.args.at _ _ _ (ap (λ l. length l) c.nothing_done.ensures.done)
+
+pub returns-in-Err-clause-accounts : goal.returns-in-Err-clause-accounts
+returns-in-Err-clause-accounts g c = none_hold _ c.args.at _ _ _ (ap (λ l. length l) c.nothing_done-in-Err.ensures.done)
+
+pub returns-in-Ok-Some-clause-accounts : goal.returns-in-Ok-Some-clause-accounts
+returns-in-Ok-Some-clause-accounts g c =
+    one_holds (issuing g.R.Rng.stream c.args.self.now.issuer) c.args.at datagram_room c.args.request.now _
+    (one_pushed _ _ _ c.push_reserved.ensures.items c.in-Ok.ensures.items)
+    (subst (λ reply. ReplyHolds (view c.args.self.now.issuer.kdc c.args.request.now) c.args.at (fill_bytes 64 (g.R.Rng.stream c.args.self.now.issuer.rng)).0 c.args.request.now reply)
+    c.in-Ok-Some.ensures.reply c.in-Ok-Some.ensures.holds)
+
+pub returns-in-Ok-None-clause-accounts : goal.returns-in-Ok-None-clause-accounts
+returns-in-Ok-None-clause-accounts g c =
+    one_holds (issuing g.R.Rng.stream c.args.self.now.issuer) c.args.at datagram_room c.args.request.now _
+    (one_pushed _ _ _ c.push_reserved-in-Ok-None.ensures.items c.in-Ok.ensures.items)
+    (subst (λ reply. ReplyHolds (view c.args.self.now.issuer.kdc c.args.request.now) c.args.at (fill_bytes 64 (g.R.Rng.stream c.args.self.now.issuer.rng)).0 c.args.request.now reply)
+    c.in-Ok-None.ensures.reply c.in-Ok-None.ensures.holds)

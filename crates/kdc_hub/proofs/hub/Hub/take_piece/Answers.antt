@@ -1,4 +1,5 @@
-use Rattle.std.proofs.Common.{refl, sym, ap, ◌∙◌}
+use Rattle.std.proofs.Common.{refl, sym, ap, length, ◌∙◌}
+use Rattle.kdc_hub.proofs.Accounting.{none_hold}
 use Rattle.std.specs.Option.{is_some}
 use Rattle.std.specs.FinMap as map
 use Rattle.kdc_hub.specs.Hub.{standing}
@@ -37,5 +38,11 @@ returns-clause-step g c =
     let p = is_stopped (standing g.R.Rng.stream c.args.self.now) c.args.at c.args.conn c.args.piece.now (map.get c.args.self.now.connections c.args.conn) c.in-Some.stream c.feed.new.self
     (sym c.in-Some.ensures.taken) c.in-Ok.ensures.ok
     c.in-Err.fault.done.items (issuing g.R.Rng.stream c.answer_stream.new.issuer) c.in-Err.fault.draws c.new-place.result c.replace.new.self c.remove-in-Err.new.self
-    c.in-Err.ensures.done c.in-Err.ensures.kdc c.in-Err.ensures.drawn (c.in-Some.ensures.put refl) c.remove-in-Err.ensures in
+    c.in-Err.ensures.done c.in-Err.ensures.kdc c.in-Err.ensures.drawn c.answer_stream.ensures.keeps (c.in-Some.ensures.put refl) c.remove-in-Err.ensures in
     (p.0, p.1, c.in-Err.ensures.conn)
+
+pub returns-in_default-clause-accounts : goal.returns-in_default-clause-accounts
+returns-in_default-clause-accounts g c = none_hold _ c.args.at _ _ _ (ap (λ l. length l) c.new.ensures.items)
+
+pub returns-in_default-feed-clause-accounts : goal.returns-in_default-feed-clause-accounts
+returns-in_default-feed-clause-accounts g c = none_hold _ c.args.at _ _ _ (ap (λ l. length l) c.nothing_done.ensures.done)

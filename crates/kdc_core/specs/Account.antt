@@ -1,0 +1,116 @@
+-- The account of a request, and what it says of the reply.
+use Rattle.std.specs.Prelude.{◌≡◌, ℕ, ⊤, List, Option, Some, None}
+use Rattle.std.specs.FinMap as map
+use Rattle.as_exchange.specs.Outcome.{AsOutcomeHolds, OutcomeSpelled as AsOutcomeSpelled, as_outcome}
+use Rattle.kdc_replies.specs.Incoming.{Incoming}
+use Rattle.kdc_replies.specs.Issue.{Issue}
+use Rattle.krb_fields.specs.PrincipalName.{Name}
+use Rattle.krb_fields.specs.declared.moment.Moment.{Moment}
+use Rattle.krb_types.specs.KrbError.{krb_error}
+use Rattle.replay.specs.declared.keep.Kept.{Kept}
+use Rattle.tgs_exchange.specs.Answer.{tgs_error}
+use Rattle.tgs_exchange.specs.Decision.{stamp_of}
+use Rattle.tgs_exchange.specs.Outcome.{TgsOutcomeHolds, OutcomeSpelled as TgsOutcomeSpelled, tgs_outcome}
+use Rattle.tgs_exchange.specs.declared.outcome.TgsOutcome.TheVariants.{Refused}
+use Rattle.kdc_core.specs.Contents.{contents}
+use Rattle.kdc_core.specs.Issued.{issued}
+use Rattle.kdc_core.specs.Request.{Request, request_of}
+use Rattle.kdc_core.specs.View.{Named, View, as_view, components_of, tgs_view}
+use Rattle.kdc_core.specs.declared.account.Account.{Account as AccountOf}
+use Rattle.kdc_core.specs.declared.account.Account.TheVariants.{NoRequest as NothingAsked, As, Tgs}
+use Rattle.kdc_core.specs.declared.account.RequestNames.{RequestNames}
+use Rattle.kdc_core.specs.declared.contents.Contents.{Contents}
+use Rattle.kdc_core.specs.declared.contents.Contents.TheVariants.{NoRequest, AsReq, RefusedTgsReq, TgsReq}
+
+-- ---- what it is
+
+-- an account, whether its names are borrowed or owned
+abbrev pub Account : Type 0
+Account = AccountOf Name
+
+abbrev pub account_of : View → Incoming → Contents → Account
+account_of v incoming NoRequest = NothingAsked
+account_of v incoming (AsReq message) =
+    As message.body.value.cname message.body.value.sname (as_outcome (as_view v) incoming message)
+account_of v incoming (RefusedTgsReq message rejected) =
+    Tgs rejected.client message.body.value.sname (Refused rejected.rule)
+account_of v incoming (TgsReq message p) =
+    Tgs (Some p.ticket.cname) message.body.value.sname
+    (tgs_outcome (tgs_view v) incoming message.body.value p)
+
+abbrev pub account_to : View → Incoming → Account
+account_to v incoming = account_of v incoming (contents v (request_of incoming.octets))
+
+-- as `answer` of specs/Answer.antt: the account of that answer
+abbrev pub account : View → Moment → List ℕ → ℕ → List ℕ → Account
+account v at random room octets =
+    account_to v (record { at = at; random = random; room = room; octets = octets })
+
+-- ---- whom it names
+
+abbrev pub account_names : Account → Named
+account_names NothingAsked = record { client = None; service = None }
+account_names (As client service outcome) = record {
+  client = components_of client;
+  service = components_of service;
+}
+account_names (Tgs client service outcome) = record {
+  client = components_of client;
+  service = components_of service;
+}
+
+-- ---- the names that the request gives
+
+abbrev pub names_in : Option Request → RequestNames
+names_in (Some request) = record {
+  client = request.message.body.value.cname;
+  service = request.message.body.value.sname;
+}
+names_in None = record { client = None; service = None }
+
+-- the account with these names in the place of those that the request gives
+abbrev pub with_names : RequestNames → Account → Account
+with_names names NothingAsked = NothingAsked
+with_names names (As client service outcome) = As names.client names.service outcome
+with_names names (Tgs client service outcome) = Tgs client names.service outcome
+
+-- ---- what it says of the reply that was sent
+
+-- there is a reply where there was a request, and only there
+abbrev pub AccountHoldsOf : Option Kept → Option Issue → Account → Option (List ℕ) → Type 0
+AccountHoldsOf kept issue NothingAsked (Some octets) = ⊥
+AccountHoldsOf kept issue NothingAsked None = ⊤
+AccountHoldsOf kept issue (As client service outcome) (Some octets) = AsOutcomeHolds issue client service outcome octets
+AccountHoldsOf kept issue (As client service outcome) None = ⊥
+AccountHoldsOf kept issue (Tgs client service outcome) (Some octets) = TgsOutcomeHolds kept issue client service outcome octets
+AccountHoldsOf kept issue (Tgs client service outcome) None = ⊥
+
+-- what was kept for the authenticator that is presented
+abbrev pub kept_for : View → Contents → Option Kept
+kept_for v NoRequest = None
+kept_for v (AsReq message) = None
+kept_for v (RefusedTgsReq message rejected) = None
+kept_for v (TgsReq message p) = map.get v.memory.pairs (stamp_of p)
+
+-- The account is true: of a refusal, the reply is an error with its code; of a ticket, the reply is that of a ticket of
+-- this client for this service, which the keys open to these types, flags and times; of a reply that was sent again,
+-- that it was kept for the authenticator; without a request there is no reply.
+abbrev pub AccountHolds : View → Moment → List ℕ → Option Request → Account → Option (List ℕ) → Type 0
+AccountHolds v at random request account reply =
+    AccountHoldsOf (kept_for v (contents v request)) (issued v at random request) account reply
+
+-- ---- what the octets spell, by cases on what they answer
+
+abbrev pub AccountSpelledOf : View → Incoming → Contents → List ℕ → Type 0
+AccountSpelledOf v incoming NoRequest octets = ⊥
+AccountSpelledOf v incoming (AsReq message) octets =
+    AsOutcomeSpelled (as_view v) incoming.at incoming.random message (as_outcome (as_view v) incoming message) octets
+AccountSpelledOf v incoming (RefusedTgsReq message rejected) octets =
+    krb_error.Spells (tgs_error v.realm incoming.at message.body.value rejected.rule) octets
+AccountSpelledOf v incoming (TgsReq message p) octets =
+    TgsOutcomeSpelled (tgs_view v) incoming.at incoming.random message.body.value p
+    (tgs_outcome (tgs_view v) incoming message.body.value p) octets
+
+abbrev pub AccountSpelled : View → Incoming → Option (List ℕ) → Contents → Type 0
+AccountSpelled v incoming (Some octets) held = AccountSpelledOf v incoming held octets
+AccountSpelled v incoming None held = held ≡ NoRequest

@@ -1,0 +1,70 @@
+-- Accounts that replies bear, and that they are true.
+use Rattle.std.proofs.Common.{◌≡◌, ℕ, zero, suc, Bool, true, false, List, [], ◌∷◌, ◌++◌, length, Option, Some, None, option_map, refl, sym, ap, subst, ◌∙◌}
+use Rattle.rand_core.specs.Stream.{fill_bytes}
+use Rattle.framing.specs.Splitting.{Splitting, fed, handed_out}
+use Rattle.krb_fields.specs.declared.moment.Moment.{Moment}
+use Rattle.kdc_core.specs.Account.{Account, AccountHolds, account, names_in, with_names}
+use Rattle.kdc_core.specs.AccountLaws.{names_are_given}
+use Rattle.kdc_core.specs.Answer.{answer}
+use Rattle.kdc_core.specs.Request.{request_of}
+use Rattle.kdc_core.specs.View.{View, view}
+use Rattle.kdc_core.specs.declared.account.RequestNames.{RequestNames}
+use Rattle.kdc_hub.specs.Accounts.{FirstHold, ReplyHolds, if_answered}
+use Rattle.kdc_hub.specs.Hub.{requests_of}
+use Rattle.kdc_hub.specs.Issuing.{Issuing, after, kept_account, names_kept, reply_by, reply_of, reply_with}
+use Rattle.kdc_hub.specs.declared.reply.Reply.{Reply}
+
+module _ (keeps : Bool) (v : View) (at : Moment) (random : List ℕ) (room : ℕ) (request : List ℕ) where
+  named : (b : Bool) → option_map (λ n. with_names n (account v at random room request)) (names_kept b request) ≡ kept_account b (account v at random room request)
+  named true = ap Some (names_are_given v (record { at = at; random = random; room = room; octets = request }))
+  named false = refl
+
+  -- a reply with the names that were kept is the reply with its account
+  pub made : (octets : Option (List ℕ)) (a : Account) (names : Option RequestNames) → octets ≡ (answer v at random room request).reply
+      → a ≡ account v at random room request → names ≡ names_kept keeps request → reply_with octets a names ≡ reply_by keeps v at random room request
+  unfolding reply_by
+  made octets a names octets_are is names_are =
+      (λ k. reply_with (octets_are k) (is k) (names_are k))
+      ∙ ap (λ (x : Option Account). option_map (λ (message : List ℕ). let r : Reply = record { message = message; account = x } in r) (answer v at random room request).reply) (named keeps)
+
+  true_of : (b : Bool) (o : Option (List ℕ)) (a : Account) → AccountHolds v at random (request_of request) a o
+      → ReplyHolds v at random request (option_map (λ (message : List ℕ). let r : Reply = record { message = message; account = kept_account b a } in r) o)
+  true_of true (Some octets) a h = h
+  true_of false (Some octets) a h = tt
+  true_of b None a h = tt
+
+  -- and what its account says is true
+  pub holds : (octets : Option (List ℕ)) (a : Account) → octets ≡ (answer v at random room request).reply → a ≡ account v at random room request
+      → AccountHolds v at random (request_of request) a octets → ReplyHolds v at random request (reply_by keeps v at random room request)
+  unfolding reply_by
+  holds octets a octets_are is h =
+      true_of keeps (answer v at random room request).reply (account v at random room request)
+      (subst (λ (x : Account). AccountHolds v at random (request_of request) x (answer v at random room request).reply) is
+      (subst (λ o. AccountHolds v at random (request_of request) a o) octets_are h))
+
+pub if_any : (r : Option Reply) (P : Type 0) → P → if_answered r P
+if_any (Some reply) P p = p
+if_any None P p = tt
+
+-- a request that is answered alone
+pub one_holds : (i : Issuing) (at : Moment) (room : ℕ) (request : List ℕ) (n : ℕ) → n ≡ 1
+    → ReplyHolds (view i.kdc request) at (fill_bytes 64 i.random).0 request (reply_of i at room request) → FirstHold n i at room (request ∷ [])
+unfolding FirstHold
+one_holds i at room request n e one =
+    subst (λ m. FirstHold m i at room (request ∷ [])) (sym e)
+    (one, if_any (reply_of i at room request) (FirstHold 0 (after i at room request) at room []) tt)
+
+-- where nothing was answered
+pub none_hold : (i : Issuing) (at : Moment) (room : ℕ) (requests : List (List ℕ)) (n : ℕ) → n ≡ 0 → FirstHold n i at room requests
+unfolding FirstHold
+none_hold i at room requests n e = subst (λ m. FirstHold m i at room requests) (sym e) tt
+
+-- the requests that a piece completes
+pub fed_hold : (i : Issuing) (at : Moment) (room : ℕ) (piece : List ℕ) (o : Option Splitting) (s f : Splitting) (n : ℕ) → o ≡ Some s → f ≡ fed s piece
+    → FirstHold n i at room (handed_out f).messages → FirstHold n i at room (requests_of piece o)
+fed_hold i at room piece o s f n is feed h =
+    subst (λ x. FirstHold n i at room (requests_of piece x)) (sym is) (subst (λ (x : Splitting). FirstHold n i at room (handed_out x).messages) feed h)
+
+-- what was pushed to nothing is one
+pub one_pushed : {X : Type 0} (new old : List X) (x : X) → new ≡ old ++ x ∷ [] → old ≡ [] → length new ≡ 1
+one_pushed new old x pushed none = ap (λ l. length l) (pushed ∙ ap (λ l. l ++ x ∷ []) none)

@@ -1,0 +1,50 @@
+-- What the accounts of requests say is true, each at the state before its request.
+use Rattle.std.specs.Prelude.{ℕ, zero, suc, ⊤, List, [], ◌∷◌, length, Option, Some, None, Result, Ok, Err, Vec, IfSome}
+use Rattle.std.specs.FinMap as map
+use Rattle.std.specs.Global.{Global}
+use Rattle.rand_core.specs.Stream.{fill_bytes}
+use Rattle.krb_fields.specs.declared.moment.Moment.{Moment}
+use Rattle.kdc_core.specs.Account.{AccountHolds}
+use Rattle.kdc_core.specs.Request.{request_of}
+use Rattle.kdc_core.specs.View.{View, view}
+use Rattle.kdc_core.specs.declared.account.Account.TheVariants.{NoRequest}
+use Rattle.kdc_hub.specs.declared.event.Action.{Action}
+use Rattle.kdc_hub.specs.declared.event.Event.{Event}
+use Rattle.kdc_hub.specs.declared.event.Event.TheVariants.{Datagram, Opened, Bytes, Closed}
+use Rattle.kdc_hub.specs.declared.event.HubFault.{HubFault}
+use Rattle.kdc_hub.specs.declared.reply.Reply.{Reply}
+use Rattle.kdc_hub.specs.Hub.{Standing, datagram_room, requests_of}
+use Rattle.kdc_hub.specs.Issuing.{Issuing, after, reply_of}
+use Rattle.kdc_hub.specs.StreamStep.{stream_room}
+
+-- the account that a reply bears is true of it; that there is none, where there is no request
+abbrev pub ReplyHolds : View → Moment → List ℕ → List ℕ → Option Reply → Type 0
+ReplyHolds v at random request (Some reply) =
+    IfSome reply.account (λ account. AccountHolds v at random (request_of request) account (Some reply.message))
+ReplyHolds v at random request None = AccountHolds v at random (request_of request) NoRequest None
+
+-- after a request without a reply no others are answered
+abbrev pub if_answered : Option Reply → Type 0 → Type 0
+if_answered (Some reply) others = others
+if_answered None others = ⊤
+
+-- so it is of the first of these requests, so many of them
+unfoldable pub FirstHold : ℕ → Issuing → Moment → ℕ → List (List ℕ) → Type 0
+FirstHold zero i at room requests = ⊤
+FirstHold (suc n) i at room [] = ⊤
+FirstHold (suc n) i at room (request ∷ requests) =
+    ReplyHolds (view i.kdc request) at (fill_bytes 64 i.random).0 request (reply_of i at room request)
+    × if_answered (reply_of i at room request) (FirstHold n (after i at room request) at room requests)
+
+-- and of those that an event completes
+abbrev pub EventHolds : Standing → Moment → Event → ℕ → Type 0
+EventHolds hub at (Datagram peer request) n = FirstHold n hub.issuing at datagram_room (request ∷ [])
+EventHolds hub at (Opened conn) n = ⊤
+EventHolds hub at (Bytes conn piece) n =
+    FirstHold n hub.issuing at stream_room (requests_of piece (map.get hub.connections conn))
+EventHolds hub at (Closed conn) n = ⊤
+
+-- of those that have an action
+abbrev pub AccountsHold : Standing → Moment → Event → Result (Vec Action Global) HubFault → Type 0
+AccountsHold hub at event (Ok actions) = EventHolds hub at event (length actions.items)
+AccountsHold hub at event (Err fault) = EventHolds hub at event (length fault.done.items)

@@ -1,0 +1,29 @@
+//! A reply with the account of its request.
+ghost use Rattle.std.specs.Prelude.{◌≡◌, IfOk};
+
+use kdc_core::Account;
+use krb_elements::Octets;
+use std::alloc::{AllocError, Global};
+
+/// A reply, and the account of the request that it answers.
+#[derive(Drop)]
+pub struct Reply {
+    pub message: Octets,
+    /// `None` where the hub keeps no accounts, and in the answer to a length that is too large.
+    pub account: Option<Account>,
+}
+
+impl Reply {
+    pub fn copy(&self, alloc: Global) -> Result<Reply, AllocError>
+        ensures { IfOk result (λ reply. reply ≡ self.now) }
+    {
+        let account = match &self.account {
+            Some(account) => Some(account.copy(alloc)?),
+            None => None,
+        };
+        Ok(Reply {
+            message: self.message.copy(alloc)?,
+            account,
+        })
+    }
+}

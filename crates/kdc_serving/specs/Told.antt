@@ -1,7 +1,0 @@
--- What a source tells that there may be none of.
-use Rattle.std.specs.Prelude.{List, Option, Some, None}
-use Rattle.kdc_serving.specs.declared.rows.Look.{Look}
-
-abbrev pub told_by_any : {S : Type 0} → (S → Option (List Look)) → Option S → Option (List Look)
-told_by_any told (Some source) = told source
-told_by_any told None = None

@@ -1,0 +1,118 @@
+//! The accounts of requests (`kdc_core`).
+use crate::given::BASIC;
+use crate::realm::{AccountRow, Came, Case, Exchange, NOTHING, Realm, UP_FROM_64, expect};
+use crate::service_tickets::REQUEST;
+use kdc_core::{AsRefusal, Bears, TgsRefusal};
+use std::test::Fail;
+
+/// The basic request is asked.
+const BASIC_ASKED: Exchange = Exchange {
+    request: BASIC,
+    ..NOTHING
+};
+
+/// It is of `u`, for `krbtgt/A.B`.
+const LOGIN: AccountRow = AccountRow {
+    asked: BASIC_ASKED,
+    octet: None,
+    client: Some(&[b"u"]),
+    service: Some(&[b"krbtgt", b"A.B"]),
+    came: Came::NoRequest,
+};
+
+/// The TGS-REQ of `u` for `h`.
+const SERVICE: AccountRow = AccountRow {
+    asked: Exchange {
+        random: UP_FROM_64,
+        request: REQUEST,
+        ..NOTHING
+    },
+    octet: None,
+    client: Some(&[b"u"]),
+    service: Some(&[b"h"]),
+    came: Came::NoRequest,
+};
+
+/// The place of an octet of the ticket's cipher, and of the last one of the authenticator's.
+const IN_TICKET: usize = 150;
+
+const IN_AUTHENTICATOR: usize = 441;
+
+#[test]
+fn octets_that_are_no_request_have_no_names(rt: HostRuntime) -> Result<(), Fail> {
+    const ROWS: &[AccountRow] = &[AccountRow {
+        asked: NOTHING,
+        client: None,
+        service: None,
+        ..LOGIN
+    }];
+    expect(rt.alloc(), Realm::Granter, Case::Accounts(ROWS))
+}
+
+#[test]
+fn a_refused_login_is_accounted_by_its_rule(rt: HostRuntime) -> Result<(), Fail> {
+    const ROWS: &[AccountRow] = &[AccountRow {
+        came: Came::LoginRefused(AsRefusal::PreauthRequired),
+        ..LOGIN
+    }];
+    expect(rt.alloc(), Realm::User, Case::Accounts(ROWS))
+}
+
+#[test]
+fn a_login_is_accounted_with_its_ticket(rt: HostRuntime) -> Result<(), Fail> {
+    const ROWS: &[AccountRow] = &[
+        AccountRow {
+            asked: Exchange {
+                room: 100,
+                ..BASIC_ASKED
+            },
+            came: Came::TooBig,
+            ..LOGIN
+        },
+        AccountRow {
+            // Ten hours, and the flag INITIAL (RFC 4120, section 5.3: bit 9).
+            came: Came::Issued {
+                seconds: 36_000,
+                flags: 0x0040_0000,
+            },
+            ..LOGIN
+        },
+    ];
+    expect(rt.alloc(), Realm::LenientUser, Case::Accounts(ROWS))
+}
+
+#[test]
+fn a_refused_tgs_req_is_accounted_to_the_client_of_its_ticket(rt: HostRuntime) -> Result<(), Fail> {
+    const ROWS: &[AccountRow] = &[
+        AccountRow {
+            octet: Some(IN_TICKET),
+            client: None,
+            came: Came::Refused(TgsRefusal::TicketNotOpened),
+            ..SERVICE
+        },
+        AccountRow {
+            octet: Some(IN_AUTHENTICATOR),
+            came: Came::Refused(TgsRefusal::AuthenticatorNotOpened),
+            ..SERVICE
+        },
+    ];
+    expect(rt.alloc(), Realm::Service, Case::Accounts(ROWS))
+}
+
+#[test]
+fn a_repeated_request_is_accounted_as_sent_again(rt: HostRuntime) -> Result<(), Fail> {
+    const ROWS: &[AccountRow] = &[
+        AccountRow {
+            came: Came::Issued {
+                seconds: 36_000,
+                flags: 0,
+            },
+            ..SERVICE
+        },
+        AccountRow {
+            came: Came::Resent(Bears::Ticket),
+            ..SERVICE
+        },
+    ];
+    expect(rt.alloc(), Realm::Service, Case::Accounts(ROWS))
+}

@@ -1,0 +1,69 @@
+-- The lines of a log.
+use Rattle.std.specs.Prelude.{◌≡◌, ◌≤◌, ◌&&◌, ℕ, Bool, nat_le, List, [], ◌∷◌, ◌++◌, All, codes, length, take}
+use Rattle.std.specs.Prelude.{if◌then◌else◌}
+use Rattle.json.specs.Print.{print}
+use Rattle.json.specs.Token.{Token, begin_object, end_object, key, string}
+use Rattle.request_log.specs.Field.{is_column, name_text}
+use Rattle.request_log.specs.declared.field.Field.{Field}
+
+-- ---- printable octets
+
+-- a space, or a character of ASCII that is seen
+abbrev pub IsPrintable : ℕ → Type 0
+IsPrintable o = (32 ≤ o) × (o ≤ 126)
+
+abbrev pub is_printable : ℕ → Bool
+is_printable o = nat_le 32 o && nat_le o 126
+
+-- an octet that is not printable is written as a question mark
+abbrev pub shown_octet : ℕ → ℕ
+shown_octet o = if is_printable o then o else 63
+
+-- octets, and others behind them as they are shown
+abbrev pub with_shown : List ℕ → List ℕ → List ℕ
+with_shown shown [] = shown
+with_shown shown (o ∷ octets) = with_shown (shown ++ shown_octet o ∷ []) octets
+
+abbrev pub shown : List ℕ → List ℕ
+shown octets = with_shown [] octets
+
+-- the most octets of a line, without its line feed
+abbrev pub longest : ℕ
+longest = 639
+
+-- One line: printable characters, and a line feed at the end.
+pub record IsLine (octets : List ℕ) : Type 0 where
+  pub text : List ℕ
+  pub ends : octets ≡ text ++ 10 ∷ []
+  pub printable : All IsPrintable text
+  pub short : length text ≤ longest
+
+-- ---- a line of text
+
+-- the value alone at a fixed place, or the name and the value
+abbrev pub field_text : Field → List ℕ
+field_text f = if is_column f.name then f.value else name_text f.name ++ codes "=" ++ f.value
+
+abbrev pub fields_text : List ℕ → List Field → List ℕ
+fields_text text [] = text
+fields_text text (f ∷ fields) = fields_text (text ++ codes " " ++ field_text f) fields
+
+-- the fields, with a space between two of them
+abbrev pub joined : List Field → List ℕ
+joined [] = []
+joined (f ∷ fields) = fields_text (field_text f) fields
+
+abbrev pub text_line : List Field → List ℕ
+text_line fields = shown (take longest (joined fields)) ++ 10 ∷ []
+
+-- ---- a line of JSON
+
+-- a key and a string for each field
+abbrev pub fields_tokens : List Token → List Field → List Token
+fields_tokens tokens [] = tokens
+fields_tokens tokens (f ∷ fields) =
+    fields_tokens (tokens ++ key (name_text f.name) ∷ [] ++ string (shown f.value) ∷ []) fields
+
+-- one object
+abbrev pub json_line : List Field → List ℕ
+json_line fields = print (fields_tokens (begin_object ∷ []) fields ++ end_object ∷ []) ++ 10 ∷ []

@@ -1,0 +1,88 @@
+//! A line of text.
+ghost use Rattle.std.specs.Prelude.{◌≡◌, ◌++◌, [], IfOk, OnOk};
+ghost use Rattle.request_log.specs.Lines.{IsLine, field_text, fields_text, joined, shown, shown_octet, text_line};
+ghost use Rattle.request_log.specs.Lines.{with_shown};
+
+use crate::field::Field;
+use std::alloc::{AllocError, Global};
+
+/// The most octets of a line, without its line feed.
+const LONGEST: usize = 639;
+
+/// The fields in their order, with a space between two of them: first the values that have a fixed place, then
+/// `NAME=VALUE`. An octet that is not printable becomes a question mark, and what is beyond 639 octets is left out.
+pub fn text_line(alloc: Global, fields: &[Field]) -> Result<Vec<u8>, AllocError>
+    ensures text { IfOk result (λ line. line.items ≡ text_line fields.now) }
+    // It is one line, whatever the names are.
+    ensures one { IfOk result (λ line. IsLine line.items) }
+{
+    let mut text = Vec::with_capacity(alloc, LONGEST)?;
+    push_fields(&mut text, fields)?;
+    text.truncate(LONGEST);
+    let mut line = shown(alloc, &text)?;
+    line.push(b'\n')?;
+    Ok(line)
+}
+
+fn push_fields(line: &mut Vec<u8>, fields: &[Field]) -> Result<(), AllocError>
+    requires { line.old.items ≡ [] }
+    ensures { OnOk result (line.new.items ≡ joined fields.now) }
+{
+    let Some((first, others)) = fields.split_first() else {
+        return Ok(());
+    };
+    push_field(line, first)?;
+    push_others(line, others)
+}
+
+fn push_others(line: &mut Vec<u8>, fields: &[Field]) -> Result<(), AllocError>
+    ensures { OnOk result (line.new.items ≡ fields_text line.old.items fields.now) }
+{
+    let mut rest = fields;
+    while let [field, others @ ..] = rest {
+        line.push(b' ')?;
+        push_field(line, field)?;
+        rest = others;
+    }
+    Ok(())
+}
+
+fn push_field(line: &mut Vec<u8>, field: &Field) -> Result<(), AllocError>
+    ensures { OnOk result (line.new.items ≡ line.old.items ++ field_text field.now) }
+{
+    if !field.name.is_column() {
+        line.extend_from_slice(field.name.text().as_bytes())?;
+        line.push(b'=')?;
+    }
+    line.extend_from_slice(field.value.as_slice())
+}
+
+/// The octets, with a question mark for each that is not printable.
+pub(crate) fn shown(alloc: Global, octets: &[u8]) -> Result<Vec<u8>, AllocError>
+    ensures value { IfOk result (λ text. text.items ≡ shown octets.now) }
+{
+    let mut text = Vec::new(alloc);
+    push_shown(&mut text, octets)?;
+    Ok(text)
+}
+
+fn push_shown(text: &mut Vec<u8>, octets: &[u8]) -> Result<(), AllocError>
+    ensures { OnOk result (text.new.items ≡ with_shown text.old.items octets.now) }
+{
+    let mut rest = octets;
+    while let [octet, others @ ..] = rest {
+        text.push(shown_octet(*octet))?;
+        rest = others;
+    }
+    Ok(())
+}
+
+fn shown_octet(octet: u8) -> u8
+    ensures { result ≡ shown_octet octet }
+{
+    if (b' '..=b'~').contains(&octet) {
+        octet
+    } else {
+        b'?'
+    }
+}

@@ -1,0 +1,96 @@
+//! Times and lifetimes as they are written.
+ghost use Rattle.std.specs.Prelude.{◌≡◌, ◌++◌, IfOk, OnOk, decimal};
+ghost use Rattle.request_log.specs.Times.{date_text, hours_text, life_text, marked, minutes_of, valid_seconds};
+
+use itoa::Buffer;
+use krb_der::KTime;
+use krb_elements::Octets;
+use std::alloc::{AllocError, Global};
+use ticket_times::Times;
+
+/// A second as its date and its time of day in UTC: `2026-11-23T22:46:18Z`.
+pub(crate) fn date_value(alloc: Global, time: KTime) -> Result<Octets, AllocError>
+    ensures { IfOk result (λ value. value ≡ date_text time) }
+{
+    Ok(Octets::new(marked(alloc, &time.to_octets())?))
+}
+
+/// The octets of a KerberosTime with the marks of RFC 3339 between them.
+fn marked(alloc: Global, octets: &[u8; 15]) -> Result<Vec<u8>, AllocError>
+    ensures { IfOk result (λ text. text.items ≡ marked octets.now) }
+{
+    let o = octets;
+    let text = [
+        o[0], o[1], o[2], o[3], b'-', o[4], o[5], b'-', o[6], o[7], b'T', o[8], o[9], b':', o[10],
+        o[11], b':', o[12], o[13], o[14],
+    ];
+    Vec::from_slice(alloc, &text)
+}
+
+/// How long a ticket is valid, to the nearest minute.
+pub(crate) fn life_value(alloc: Global, times: &Times) -> Result<Octets, AllocError>
+    ensures { IfOk result (λ value. value ≡ life_text (valid_seconds times.now)) }
+{
+    Ok(Octets::new(life_text(alloc, valid_seconds(times))?))
+}
+
+/// How many seconds a ticket is valid.
+fn valid_seconds(times: &Times) -> u64
+    ensures { result ≡ valid_seconds times.now }
+{
+    let end = times.end.seconds();
+    let start = times.start.seconds();
+    end.abs_diff(start)
+}
+
+/// So many seconds to the nearest minute: `10h`, `7h30m`, `5m`. Less than half a minute is written in seconds.
+fn life_text(alloc: Global, seconds: u64) -> Result<Vec<u8>, AllocError>
+    ensures { IfOk result (λ text. text.items ≡ life_text seconds) }
+{
+    let minutes = minutes_of(seconds);
+    if minutes == 0 {
+        return counted(alloc, seconds, b"s");
+    }
+    if minutes / 60 == 0 {
+        return counted(alloc, minutes % 60, b"m");
+    }
+    hours_text(alloc, minutes / 60, minutes % 60)
+}
+
+/// So many seconds, to the nearest minute.
+fn minutes_of(seconds: u64) -> u64
+    ensures { result ≡ minutes_of seconds }
+{
+    if seconds % 60 < 30 {
+        seconds / 60
+    } else {
+        seconds / 60 + 1
+    }
+}
+
+fn hours_text(alloc: Global, hours: u64, minutes: u64) -> Result<Vec<u8>, AllocError>
+    ensures { IfOk result (λ text. text.items ≡ hours_text hours minutes) }
+{
+    let mut text = counted(alloc, hours, b"h")?;
+    if minutes != 0 {
+        push_number(&mut text, minutes)?;
+        text.push(b'm')?;
+    }
+    Ok(text)
+}
+
+/// A number, and what it counts.
+fn counted(alloc: Global, count: u64, unit: &[u8]) -> Result<Vec<u8>, AllocError>
+    ensures { IfOk result (λ text. text.items ≡ decimal count ++ unit.now) }
+{
+    let mut text = Vec::new(alloc);
+    push_number(&mut text, count)?;
+    text.extend_from_slice(unit)?;
+    Ok(text)
+}
+
+fn push_number(text: &mut Vec<u8>, number: u64) -> Result<(), AllocError>
+    ensures { OnOk result (text.new.items ≡ text.old.items ++ decimal number) }
+{
+    text.extend_from_slice(Buffer::new().format(number).as_bytes())
+}
