@@ -36,7 +36,8 @@ impl Model for Acceptor {
 }
 
 impl Acceptor {
-    /// Opens with the keys of the services. It takes no memory; want of memory is the only fault that its type knows.
+    /// Returns an acceptor for the services of these keys. It allocates nothing, so it never fails; its error type is
+    /// out of memory alone.
     pub fn open(
         alloc: Global,
         keytab: Keytab,

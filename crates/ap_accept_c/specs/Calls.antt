@@ -42,7 +42,7 @@ IsAccepted status None new at confounder octets numbers = (status ≡ Closed) ×
 
 -- ---- what was accepted
 
--- the octets, if there are any, are given to the buffer, and their number told
+-- the octets, if there are any, are written to the buffer, and their number returned
 abbrev pub IsFetchedOf : Status → Option (List ℕ) → List ℕ → List ℕ → ℕ → Type 0
 IsFetchedOf NoMemory octets old new len = (new ≡ old) × (len ≡ 0)
 IsFetchedOf status (Some octets) old new len = IsGiven status octets old new × (len ≡ length octets)

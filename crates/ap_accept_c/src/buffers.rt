@@ -4,7 +4,7 @@ ghost use Rattle.ap_accept_c.specs.Buffers.{IsGiven, texted};
 
 use crate::status::Status;
 
-/// Copies octets to the front of a buffer, if it has room for them; and tells how many they are.
+/// Copies octets to the front of a buffer, if it has room for them, and returns how many they are.
 pub fn give(octets: &[u8], to: &mut [u8], len: &mut usize) -> Status
     ensures given { IsGiven result octets.now to.old to.new }
     ensures len { len.new ≡ length octets.now }
@@ -17,7 +17,7 @@ pub fn give(octets: &[u8], to: &mut [u8], len: &mut usize) -> Status
     Status::Done
 }
 
-/// Writes a text to a buffer with a NUL behind it, cut where the buffer ends, and tells how long it is.
+/// Writes a text to a buffer with a NUL behind it, cut where the buffer ends, and returns how long it is.
 pub fn give_text(text: &[u8], to: &mut [u8]) -> usize
     ensures given { to.new ≡ texted text.now to.old }
     ensures len { result ≡ length text.now }

@@ -51,7 +51,7 @@ pub extern "C" fn ap_accept_c_accept(
     calls::accept_at(holder, alloc, sec, usec, confounder, ap_req, numbers).number()
 }
 
-/// Copies octets of what was accepted last, and tells how many they are.
+/// Copies octets of what was accepted last, and returns how many they are.
 #[unsafe(no_mangle)]
 pub extern "C" fn ap_accept_c_octets(
     alloc: Global,
@@ -77,7 +77,7 @@ pub extern "C" fn ap_accept_c_close(alloc: Global, holder: &mut Holder) -> i32
     calls::close(holder, alloc).number()
 }
 
-/// Writes what a number says that a call returned, and tells how long that is.
+/// Writes the text of a status that a call returned, and returns how long it is.
 #[unsafe(no_mangle)]
 pub extern "C" fn ap_accept_c_text(number: i32, to: &mut [u8]) -> usize
     ensures { IsTextCall result to.old to.new }

@@ -40,7 +40,7 @@ use Rattle.client_core.specs.Faults.{unless_rejected}
 
 -- ---- the message
 
--- the refusal that a KRB-ERROR tells; other octets are no reply
+-- the refusal in a KRB-ERROR; other octets are no reply
 abbrev pub refusal_of : Option KrbError → ClientFault
 refusal_of (Some error) = Refused (record { code = error.error_code; e_data = error.e_data })
 refusal_of None = NotAReply

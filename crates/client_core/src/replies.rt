@@ -141,7 +141,7 @@ fn of_version<const TYPE: u8>(bytes: &[u8]) -> Option<KdcRepRef<'_, TYPE>>
     Some(reply)
 }
 
-/// The refusal that a KRB-ERROR tells; other octets are no reply.
+/// Returns the refusal in a KRB-ERROR. Other octets are no reply.
 pub fn refusal_in(alloc: Global, bytes: &[u8]) -> Result<ClientFault, AllocError>
     ensures { IfOk result (λ fault. fault ≡ refusal_in bytes.now) }
 {

@@ -2,7 +2,7 @@
 use enctypes::Key;
 use krb_fields::Typed;
 
-/// What a client asks of a service, and tells it under the session key.
+/// What a client asks of a service, and sends it under the session key.
 #[derive(Drop)]
 pub struct ServiceAsked {
     /// Whether the service is to answer with an AP-REP.

@@ -178,7 +178,7 @@ fn a_changed_cipher_is_not_opened(rt: HostRuntime) -> Result<(), Fail> {
     Ok(())
 }
 
-/// Whether the octets are refused, and not for want of memory.
+/// Checks whether the octets are refused, other than by running out of memory.
 fn is_refused(alloc: Global, key: &Key, usage: KeyUsage, sealed: &[u8]) -> bool {
     open(alloc, key, usage, sealed).is_ok_and(|opened| opened.is_none())
 }

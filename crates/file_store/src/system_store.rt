@@ -88,7 +88,7 @@ impl<'a, R: Files> FileStore<'a, R> {
         if file.metadata()?.len() > most as u64 {
             return Ok(None);
         }
-        // one octet past the limit is asked for, to see a file that grows, or that tells no length
+        // reads one octet past the limit, to notice a file that grows or whose length is not known
         let mut octets = Vec::new(alloc);
         file.take((most as u64).saturating_add(1))
             .read_to_end(&mut octets)?;

@@ -110,7 +110,7 @@ same_in_pieces g pieces =
     let settled : IsSettled (started g) = messages-ending g [] None (front_nil g) in
     record { same_messages = same_messages (started g) pieces settled; same_fault = same_fault (started g) pieces settled }
 
--- What is handed out next, where no fault was told.
+-- What is returned next, where no fault was returned before.
 
 pub hands_message : (s t : Splitting) (m : List ℕ) → s.fault ≡ None → front s.greatest s.bytes ≡ Ok (Some m) → t ≡ record s { bytes = drop (4 + length m) s.bytes } → handed_out s ≡ message_then m (handed_out t)
 hands_message s t m none e is = rw (is, none) (messages-message s.greatest s.bytes m e)

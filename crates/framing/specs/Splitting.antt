@@ -4,7 +4,7 @@ use Rattle.framing.specs.declared.fault.FrameFault.{FrameFault}
 use Rattle.framing.specs.Messages.{Cutting, messages, only_rest}
 
 -- what a splitter stands for: the greatest length, the octets that came and were not yet handed out, and the fault that
--- was told, if any
+-- was returned, if any
 pub record Splitting : Type 0 where
   pub greatest : ℕ
   pub bytes : List ℕ
@@ -13,7 +13,7 @@ pub record Splitting : Type 0 where
 abbrev pub started : ℕ → Splitting
 started greatest = record { greatest = greatest; bytes = []; fault = None }
 
--- a piece goes behind what came before, and nowhere once a fault was told
+-- a piece goes behind what came before, and nowhere once a fault was returned
 abbrev pub fed_by : Option FrameFault → Splitting → List ℕ → Splitting
 fed_by None s piece = record s { bytes = s.bytes ++ piece }
 fed_by (Some fault) s piece = s
@@ -21,7 +21,7 @@ fed_by (Some fault) s piece = s
 abbrev pub fed : Splitting → List ℕ → Splitting
 fed s piece = fed_by s.fault s piece
 
--- what is handed out until there is no whole message, and what ends it. A fault that was told is told again
+-- what is handed out until there is no whole message, and what ends it. A fault is returned again
 abbrev pub handed_out_by : Option FrameFault → Splitting → Cutting
 handed_out_by None s = messages s.greatest s.bytes
 handed_out_by (Some fault) s = only_rest s.bytes (Some fault)

@@ -16,7 +16,7 @@ pub struct Splitter {
     bytes: Vec<u8>,
     /// Where the octets begin that were not yet handed out.
     start: usize,
-    /// The fault that was told, if any. It is never `Memory`.
+    /// The fault that was returned, if any. It is never `Memory`.
     fault: Option<FrameFault>,
 }
 
@@ -45,7 +45,7 @@ impl Splitter {
         }
     }
 
-    /// Takes in the next piece of the stream; nothing, once a fault was told. An `Err` changes nothing.
+    /// Adds the next piece of the stream, or nothing after a fault. An `Err` changes nothing.
     pub fn feed(&mut self, piece: &[u8]) -> Result<(), AllocError>
         ensures ok { OnOk result (self.new ≡ fed self.old piece.now) }
         ensures err { OnErr result (self.new ≡ self.old) }
@@ -77,8 +77,8 @@ impl Splitter {
         }
     }
 
-    /// Hands out the next message, if it is there whole. A length at fault is told from then on. Want of memory changes
-    /// nothing.
+    /// Returns the next message once all of it is there. After a bad length every call returns the same error. Running
+    /// out of memory changes nothing.
     pub fn next(&mut self, alloc: Global) -> Result<Option<Vec<u8>>, FrameFault>
         // A message is the first of those that are there.
         ensures message { IfOk result (λ found. IfSome found
@@ -92,7 +92,7 @@ impl Splitter {
 
         ensures fault { IfErr result (λ fault. fault ≢ Memory
             → handed_out self.old ≡ only_rest self.old.bytes (Some fault)) }
-        ensures told { IfErr result (λ fault. fault ≢ Memory → self.new ≡ record self.old { fault = Some fault }) }
+        ensures again { IfErr result (λ fault. fault ≢ Memory → self.new ≡ record self.old { fault = Some fault }) }
         // Memory is wanted for a message alone.
         ensures memory { result ≡ Err Memory → self.new ≡ self.old }
         ensures wanted { result ≡ Err Memory → (handed_out self.old).messages ≢ [] }

@@ -264,7 +264,7 @@ impl Short {
         Ok(end_of(&found))
     }
 
-    /// How it ends where it is gone again after want of memory. What the service has accepted it has, heard or not.
+    /// Returns how it ends if it goes on after running out of memory. The service keeps what it accepted.
     fn last_end(&self, alloc: Global, realm: &mut Realm) -> Result<End, Fail> {
         match self.end(alloc, realm)? {
             End::Memory => self.end(alloc, realm),

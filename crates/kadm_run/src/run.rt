@@ -27,7 +27,7 @@ pub const REFUSED: u8 = 1;
 /// The status of a fault of the command line.
 pub const USAGE: u8 = 2;
 
-/// The status of a command that a file, or want of memory, failed.
+/// The status of a command that failed on a file, or ran out of memory.
 pub const FAILED: u8 = 3;
 
 /// Does what a command line says, the program's name in front. What came of it goes to `writer`; what refused or failed

@@ -64,7 +64,7 @@ impl Model for Kdc {
 }
 
 impl Kdc {
-    /// Opens with a database. Want of memory is the only fault.
+    /// Starts with a database. Fails only if memory runs out.
     pub fn open(
         alloc: Global,
         database: Database,

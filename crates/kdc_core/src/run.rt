@@ -53,7 +53,7 @@ pub enum Event {
     },
 }
 
-/// Want of memory, in the midst of a run. The KDC stands after the events that are done.
+/// Out of memory during a run. The KDC stands after the events that are done.
 #[derive(Debug, Drop)]
 pub struct RunFault {
     /// How many events are done.
@@ -74,7 +74,7 @@ impl Kdc {
     /// Handles the requests, makes the changes, replacements and restarts, and tidies, in their order. It gives the reply,
     /// or none, of each event: a request alone has one, and a change that is refused leaves everything as it was.
     ///
-    /// Want of memory alone ends a run early. It can go on at the first event that is not done.
+    /// A run ends early only if memory runs out. It can go on at the first event that is not done.
     pub fn run(&mut self, alloc: Global, events: &[Event]) -> Result<Vec<Option<Vec<u8>>>, RunFault>
         // The replies are those that the rules say, each from the state that the events before it left.
         ensures replies { IfOk result (λ r.

@@ -31,7 +31,7 @@ pub const DONE: u8 = 0;
 /// The status of a run that a line of another form ended.
 pub const FAULT: u8 = 1;
 
-/// The status of a run that a failed read or write, or want of memory, ended.
+/// The status of a run that ended at a failed read or write, or out of memory.
 pub const FAILED: u8 = 3;
 
 /// Why a run ends before its input does.
@@ -39,7 +39,7 @@ pub const FAILED: u8 = 3;
 pub(crate) enum Stop {
     /// The line that was read last has another form, or is beyond a limit.
     Fault,
-    /// A failed read or write, or want of memory.
+    /// A failed read or write, or out of memory.
     Failed,
 }
 

@@ -556,7 +556,7 @@ pub enum Case {
     Unspoilt(&'static str),
     /// A timestamp of a million octets, behind this and before this, gets this reply.
     Million(&'static str, &'static str, &'static str),
-    /// The replies to what happens are these, also where it goes on after want of memory.
+    /// The replies to what happens are these, also if it goes on after running out of memory.
     Run(&'static [Step]),
     /// `krbtgt/A.B` has a row, and `u` has none.
     Rows,

@@ -74,8 +74,8 @@ fn a_length_at_fault_ends_the_stream(rt: HostRuntime) -> Result<(), Fail> {
     Ok(())
 }
 
-/// One allocation may be refused, by `rt try --test --fail-alloc N`: the answer is then want of memory and nothing
-/// else, and the next call succeeds.
+/// One allocation may be refused, by `rt try --test --fail-alloc N`: the call then fails
+/// because memory ran out, and the next call succeeds.
 #[test]
 fn want_of_memory_is_answered(rt: HostRuntime) -> Result<(), Fail> {
     let alloc = rt.alloc();

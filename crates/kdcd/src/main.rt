@@ -27,7 +27,7 @@ fn main(rt: HostRuntime) -> ExitCode {
     }
 }
 
-/// The status of the program; an error is a failed write, or want of memory.
+/// Returns the status of the program. Fails if a write fails or memory runs out.
 fn run(rt: &HostRuntime) -> io::Result<u8> {
     let alloc = rt.alloc();
     let args: Vec<String> = match env::args(rt) {

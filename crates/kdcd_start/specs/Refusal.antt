@@ -12,7 +12,7 @@ refusal ShortSeed = Some (codes "ShortSeed")
 refusal (Database fault) = read_refusal fault
 refusal (Failed error) = None
 
--- Why octets are taken for no database: they are no UTF-8, or their text is at fault, or memory is wanting.
+-- Why octets are not taken for a database: they are not UTF-8, their text is wrong, or memory runs out.
 abbrev pub RefusesDatabase : List ℕ → FileFault → Type 0
 RefusesDatabase octets (Database fault) =
     (IsUtf8 octets → fault ≢ Memory → text_database octets ≡ Err fault) × (¬ (IsUtf8 octets) → fault ≡ NotJson)

@@ -44,7 +44,7 @@ ok_same x y r e f = let k = sym e ∙ f in cc
 some_same : {A : Type 0} (x y : A) → Some x ≡ Some y → x ≡ y
 some_same x y e = cc
 
--- what the client would read of the AP-REP, it reads, but for want of memory
+-- what the client would read of the AP-REP, it reads unless memory runs out
 unread : (fault : ClientFault) (part : EncApRepPart) (r : Result EncApRepPart ClientFault) → r ≡ Ok part → Fails fault r → fault ≡ client_faults.Memory
 unread client_faults.Memory part r e h = refl
 unread client_faults.NotAReply part r e h = absurd (let k = sym h ∙ e in cc)
@@ -94,7 +94,7 @@ module _ (issue : Issue) (state : State) (credential : Credential) (sent at : Mo
   ruled : (accepts state at own octets).answer ≡ Ok (accepted own asked.mutual_required (p issue state sent asked confounder))
   ruled = answer_is issue state sent asked confounder at may own octets read opened
 
-  -- the service refuses it for want of memory alone
+  -- the service refuses it only if memory runs out
   pub refused_so : (fault : ApFault) → IsAnswer (Err fault) (accepts state at own octets).answer → fault ≡ ap_faults.Memory
   refused_so ap_faults.NotAnApReq h = absurd (let k = sym h ∙ ruled in cc)
   refused_so (ap_faults.Refused refusal) h = absurd (let k = sym h ∙ ruled in cc)

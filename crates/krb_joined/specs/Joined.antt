@@ -68,7 +68,7 @@ pub record IsAccepted (issue : Issue) (wanted : ServiceAsked) (sent : Moment) (a
   pub replied : is_some accepted.ap_rep ≡ wanted.mutual_required
   pub heard : IfSome accepted.ap_rep (λ octets. reads_ap issue.grant.session_key sent octets ≡ Ok (moment_part sent))
 
--- The service doesn't refuse the client, nor the client the service's reply, but for want of memory. Else it ended
+-- The service doesn't refuse the client, nor the client the service's reply, unless memory runs out. Else it ended
 -- before the service was asked: the client didn't take the reply (`IsEnded` says when), or what it took can't be
 -- presented.
 abbrev pub IsJoined : Issue → ServiceAsked → Moment → Result Accepted JoinedFault → Type 0
@@ -80,7 +80,7 @@ IsJoined issue wanted sent (Err (NotTaken fault)) = ⊤
 IsJoined issue wanted sent (Err NotPresentable) = is_presentable (issued_credential issue) ≡ false
 IsJoined issue wanted sent (Err Memory) = ⊤
 
--- the client's rules don't take the reply, for this fault or for want of memory
+-- the client's rules don't take the reply, with this fault or because memory runs out
 abbrev pub IsUntaken : Option (List ℕ) → Asked → Reader → ClientFault → Type 0
 IsUntaken (Some octets) asked reader fault = Fails fault (reads_reply reader asked octets)
 IsUntaken None asked reader fault = ⊥

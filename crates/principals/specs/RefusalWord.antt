@@ -4,7 +4,7 @@ use Rattle.principals.specs.declared.read_fault.ReadFault.{ReadFault}
 use Rattle.principals.specs.declared.read_fault.ReadFault.TheVariants.{NotJson, BadVersion, BadRow}
 use Rattle.principals.specs.declared.read_fault.ReadFault.TheVariants.{NoTicketGranter, Memory}
 
--- a fault's word; want of memory has none, since it refuses nothing
+-- a fault's word; running out of memory has none, since it refuses nothing
 abbrev pub read_refusal : ReadFault → Option (List ℕ)
 read_refusal NotJson = Some (codes "NotJson")
 read_refusal BadVersion = Some (codes "BadVersion")

@@ -22,7 +22,7 @@ pub enum ReadFault {
 }
 
 impl ReadFault {
-    /// The word that commands print where a text is refused. Want of memory has none: it refuses nothing.
+    /// Returns the word that commands print if a text is refused. Out of memory has none: it refuses nothing.
     pub fn refusal(self) -> Option<&'static str>
         ensures { option_map (λ word. word.now) result ≡ read_refusal self }
     {

@@ -31,7 +31,7 @@ pub struct ReadyWriter<W> {
 }
 
 impl<W: Write + AsFd + Drop> ReadyWriter<W> {
-    /// A stream to which nothing has been written. An error is that the system has no poll left, or want of memory.
+    /// Returns a stream to which nothing has been written. Fails if the system has no poll left, or memory runs out.
     pub fn new(alloc: Global, net: &impl Net, stream: W) -> io::Result<ReadyWriter<W>> {
         let readiness = Readiness::of(alloc, net, &stream)?;
         Ok(ReadyWriter {
