@@ -1,5 +1,5 @@
 -- The account of a request, and what it says of the reply.
-use Rattle.std.specs.Prelude.{◌≡◌, ℕ, ⊤, List, Option, Some, None}
+use Rattle.std.specs.Prelude.{◌≡◌, ℕ, ⊤, List, Option, Some, None, option_map}
 use Rattle.std.specs.FinMap as map
 use Rattle.as_exchange.specs.Outcome.{AsOutcomeHolds, OutcomeSpelled as AsOutcomeSpelled, as_outcome}
 use Rattle.kdc_replies.specs.Incoming.{Incoming}
@@ -7,6 +7,8 @@ use Rattle.kdc_replies.specs.Issue.{Issue}
 use Rattle.krb_fields.specs.PrincipalName.{Name}
 use Rattle.krb_fields.specs.declared.moment.Moment.{Moment}
 use Rattle.krb_types.specs.KrbError.{krb_error}
+use Rattle.krb_types.specs.declared.kdc_req.Exchange.{Exchange}
+use Rattle.krb_types.specs.declared.kdc_req.Exchange.TheVariants.{As as OfAs, Tgs as OfTgs}
 use Rattle.replay.specs.declared.keep.Kept.{Kept}
 use Rattle.tgs_exchange.specs.Answer.{tgs_error}
 use Rattle.tgs_exchange.specs.Decision.{stamp_of}
@@ -92,12 +94,22 @@ kept_for v (AsReq message) = None
 kept_for v (RefusedTgsReq message rejected) = None
 kept_for v (TgsReq message p) = map.get v.memory.pairs (stamp_of p)
 
--- The account is true: of a refusal, the reply is an error with its code; of a ticket, the reply is that of a ticket of
+-- the exchange that a request, or an account, is of
+abbrev pub exchange_in : Option Request → Option Exchange
+exchange_in request = option_map (λ (r : Request). r.exchange) request
+
+abbrev pub account_exchange : Account → Option Exchange
+account_exchange NothingAsked = None
+account_exchange (As client service outcome) = Some OfAs
+account_exchange (Tgs client service outcome) = Some OfTgs
+
+-- The account is true. It is of the request's exchange, or of none where the octets are no request. Of a refusal, the reply is an error with its code; of a ticket, the reply is that of a ticket of
 -- this client for this service, which the keys open to these types, flags and times; of a reply that was sent again,
 -- that it was kept for the authenticator; without a request there is no reply.
 abbrev pub AccountHolds : View → Moment → List ℕ → Option Request → Account → Option (List ℕ) → Type 0
 AccountHolds v at random request account reply =
-    AccountHoldsOf (kept_for v (contents v request)) (issued v at random request) account reply
+    (account_exchange account ≡ exchange_in request)
+    × AccountHoldsOf (kept_for v (contents v request)) (issued v at random request) account reply
 
 -- ---- what the octets spell, by cases on what they answer
 

@@ -18,13 +18,14 @@ use Rattle.tgs_opening.specs.declared.presented.Presented.{Presented}
 use Rattle.tgs_opening.specs.declared.refusal.TgsRefusal.{TgsRefusal}
 use Rattle.tgs_opening.specs.declared.rejection.Rejection.{Rejection}
 use Rattle.kdc_state.specs.declared.state.State.{State}
-use Rattle.kdc_core.specs.Account.{Account, AccountHolds, AccountSpelled, AccountHoldsOf, AccountSpelledOf, account_of, account_to, kept_for, account_names, names_in, with_names}
+use Rattle.kdc_core.specs.Account.{Account, AccountHolds, AccountSpelled, AccountHoldsOf, AccountSpelledOf, account_of, account_to, kept_for}
+use Rattle.kdc_core.specs.Account.{account_exchange, account_names, exchange_in, names_in, with_names}
 use Rattle.kdc_core.specs.Answer.{OpensOf, ReplyOpens, answer_of, answer_to}
 use Rattle.kdc_core.specs.Contents.{contents, contents_in, names_answered, tgs_contents}
 use Rattle.kdc_core.specs.ContentsLaws.{AreNamesOf, are_names_of, if_ok}
 use Rattle.kdc_core.specs.Issued.{issued_of}
 use Rattle.kdc_core.specs.Request.{Request, request_of}
-use Rattle.kdc_core.specs.View.{Named, View, as_view, client_of, components_of, named, named_by, named_in}
+use Rattle.kdc_core.specs.View.{Named, View, as_view, client_of, components_of, named, named_by, named_in, opening_view}
 use Rattle.kdc_core.specs.View.{tgs_view, ticket_view, view, view_in, view_of}
 use Rattle.kdc_core.specs.declared.account.Account.TheVariants.{NoRequest as NothingAsked}
 use Rattle.kdc_core.specs.declared.contents.Contents.{Contents}
@@ -115,6 +116,20 @@ module _ (v : View) (incoming : Incoming) (long : 32 ≤ length incoming.random)
       (tgs_outcome (tgs_view v) incoming message.body.value p) spelled opens
   holds_of (TgsReq message p) None nothing opens = absurd cc
 
+  exchange_of : (request : Option Request) → account_exchange (account_of v incoming (contents v request)) ≡ exchange_in request
+  exchange_of None = refl
+  exchange_of (Some request) = by_exchange request.exchange request.message
+    where
+      presented_by : (message : Received) (r : Result Presented Rejection)
+          → account_exchange (account_of v incoming (tgs_contents message r)) ≡ Some OfTgs
+      presented_by message (Ok p) = refl
+      presented_by message (Err rejected) = refl
+
+      by_exchange : (exchange : Exchange) (message : Received)
+          → account_exchange (account_of v incoming (contents_in v exchange message)) ≡ Some exchange
+      by_exchange OfAs message = refl
+      by_exchange OfTgs message = presented_by message (presented (opening_view v) message)
+
   -- the account that a call gives is true of its reply
   pub account_holds : {A E : Type 0} (account : A → Account) (octets : A → Option (List ℕ)) (r : Result A E)
       → IfOk r (λ a. account a ≡ account_to v incoming)
@@ -123,8 +138,11 @@ module _ (v : View) (incoming : Incoming) (long : 32 ≤ length incoming.random)
       → IfOk r (λ a. AccountHolds v incoming.at incoming.random (request_of incoming.octets) (account a) (octets a))
   account_holds account octets (Ok a) is spelled opens =
       let held = contents v (request_of incoming.octets) in
-      subst (λ (x : Account). AccountHoldsOf (kept_for v held) (issued_of v incoming.at incoming.random held) x (octets a))
-      (sym is) (holds_of held (octets a) spelled opens)
+      (
+        ap account_exchange is ∙ exchange_of (request_of incoming.octets),
+        subst (λ (x : Account). AccountHoldsOf (kept_for v held) (issued_of v incoming.at incoming.random held) x (octets a))
+        (sym is) (holds_of held (octets a) spelled opens),
+      )
   account_holds account octets (Err e) is spelled opens = tt
 
 -- ---- it names whom the request names

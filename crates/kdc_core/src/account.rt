@@ -10,7 +10,7 @@ use krb_types::read_kdc_req;
 use std::alloc::{AllocError, Global};
 use tgs_exchange::TgsOutcome;
 
-/// What became of a request, with the names that it gives. It is for logs, and never changes a reply.
+/// What became of a request, with the names that it gives. Logs are made of it. No reply depends on it.
 ///
 /// `N` is the type of the names that the request gives: borrowed from its octets ([`NameRef`]), or owned.
 #[derive(Drop)]

@@ -8,6 +8,7 @@ use Rattle.kdc_core.specs.AccountLaws.{names_are_given}
 use Rattle.kdc_core.specs.Answer.{answer}
 use Rattle.kdc_core.specs.Request.{request_of}
 use Rattle.kdc_core.specs.View.{View, view}
+use Rattle.kdc_core.specs.declared.account.Account.TheVariants.{NoRequest, As, Tgs}
 use Rattle.kdc_core.specs.declared.account.RequestNames.{RequestNames}
 use Rattle.kdc_hub.specs.Accounts.{FirstHold, ReplyHolds, if_answered}
 use Rattle.kdc_hub.specs.Hub.{requests_of}
@@ -31,7 +32,9 @@ module _ (keeps : Bool) (v : View) (at : Moment) (random : List ℕ) (room : ℕ
       → ReplyHolds v at random request (option_map (λ (message : List ℕ). let r : Reply = record { message = message; account = kept_account b a } in r) o)
   true_of true (Some octets) a h = h
   true_of false (Some octets) a h = tt
-  true_of b None a h = tt
+  true_of b None NoRequest h = h
+  true_of b None (As client service outcome) h = absurd h.1
+  true_of b None (Tgs client service outcome) h = absurd h.1
 
   -- and what its account says is true
   pub holds : (octets : Option (List ℕ)) (a : Account) → octets ≡ (answer v at random room request).reply → a ≡ account v at random room request

@@ -1,16 +1,19 @@
 -- Acts one after the other, and rounds one after the other.
-use Rattle.std.proofs.Common.{◌≡◌, ◌<◌, ◌+◌, inl, inr, ℕ, suc, arith, List, [], ◌∷◌, ◌++◌, length, take, drop, slice_index_or, count_by, Option, Some, None, refl, sym, ap, subst, ◌∙◌, append_assoc}
+use Rattle.std.proofs.Common.{rules, true, false, ◌≡◌, ◌⊎◌, ◌<◌, ◌≤◌, ◌+◌, ◌-◌, ◌^◌, inl, inr, ℕ, suc, arith, List, [], ◌∷◌, ◌++◌, length, take, slice_index_or, count_by, Option, Some, None, refl, sym, ap, subst, ◌∙◌, append_assoc}
+use Rattle.std.specs.Prelude.{Bool, min, nat_le}
+use Rattle.std.specs.Option.{option_or}
+use Rattle.std.proofs.Math.Nat.{min-eq_left, min-eq_right, min-le_left}
 use Rattle.std.proofs.Math.Seq.{take-suc}
-use Rattle.std.proofs.lemmas.List.{append-nil, take-append-drop}
+use Rattle.std.proofs.lemmas.List.{append-nil}
 use Rattle.std.proofs.lemmas.List.Sums.{sum_by-append}
 use Rattle.krb_fields.specs.declared.moment.Moment.{Moment}
 use Rattle.kdc_hub.specs.declared.event.Action.{Action}
-use Rattle.kdc_hub.specs.declared.event.Event.TheVariants.{Closed}
 use Rattle.kdc_hub.specs.declared.wires.Did.{Did}
 use Rattle.kdc_hub.specs.declared.wires.Did.TheVariants.{Acted, Failed}
-use Rattle.kdc_hub.specs.Hub.{Standing, hub_step}
+use Rattle.kdc_hub.specs.Hub.{Standing}
+use Rattle.kdc_hub.specs.Logged.{logged}
 use Rattle.kdc_hub.specs.Wire.{IsCounted, Records, is_fault}
-use Rattle.kdc_hub.specs.Rounds.{Tries, after_failure, action_connection}
+use Rattle.kdc_hub.specs.Rounds.{Tries, action_connection, ending, lost_by, lost_in}
 use Rattle.kdc_hub.specs.Acts.{AreActs}
 
 pub records_nothing : {X : Type 0} (a : Option (List X)) → Records a [] a
@@ -32,77 +35,101 @@ counted_on a b c m n s t = record {
 pub counted_nothing : (a : ℕ) → IsCounted a 0 a
 counted_nothing a = record { later = omega arith; rose = λ h. omega arith }
 
-module _ (x : Action) (xs ys : List Action) (e : List Did) (lost : Option ℕ) (more : (others : List Did) → Tries xs others None → Tries (xs ++ ys) (others ++ e) lost) where
-  after_one : (o : Option ℕ) (others : List Did) → after_failure o (Tries xs others None) others None → after_failure o (Tries (xs ++ ys) (others ++ e) lost) (others ++ e) lost
-  after_one None others h = more others h
-  after_one (Some conn) others h = absurd (cc h.1)
+pub or_none : {X : Type 0} (o : Option X) → option_or o None ≡ o
+or_none (Some x) = refl
+or_none None = refl
 
-  one_then : (d : List Did) → Tries (x ∷ xs) d None → Tries (x ∷ xs ++ ys) (d ++ e) lost
-  unfolding Tries
-  one_then d h = elim h [
-    | inl w ↦ inl (w.0 ++ e, ap (λ l. l ++ e) w.1, more w.0 w.2)
-    | inr w ↦ inr (w.0 ++ e, ap (λ l. l ++ e) w.1, after_one (action_connection x) w.0 w.2)
-  ]
+-- a sum that stops at m, of a number that stopped there
+pub saturated : (a b m : ℕ) → min (min a m + b) m ≡ min (a + b) m
+saturated a b m = by_order (nat_le a m) refl
+  where
+    by_order : (t : Bool) → nat_le a m ≡ t → min (min a m + b) m ≡ min (a + b) m
+    by_order true le = let lt : a ≤ m = search rules in ap (λ k. min (k + b) m) (min-eq_left lt)
+    by_order false gt =
+        let lt : m ≤ a = search rules in
+        let one : m ≤ m + b = omega arith in
+        let other : m ≤ a + b = omega (arith, lt) in
+        ap (λ k. min (k + b) m) (min-eq_right lt) ∙ min-eq_right one ∙ sym (min-eq_right other)
 
-pub tries_on : (xs ys : List Action) (d e : List Did) (lost : Option ℕ) → Tries xs d None → Tries ys e lost → Tries (xs ++ ys) (d ++ e) lost
+-- a sum that stops at m, of two numbers that stopped there
+pub saturated_both : (a b m : ℕ) → min (min a m + min b m) m ≡ min (a + b) m
+saturated_both a b m =
+    let swap : a + min b m ≡ min b m + a = omega arith in
+    let back : b + a ≡ a + b = omega arith in
+    saturated a (min b m) m ∙ ap (λ k. min k m) swap ∙ saturated b a m ∙ ap (λ k. min k m) back
+
+-- what is counted may stop short of what was recorded
+pub counted_less : (a k m b : ℕ) → k ≡ min m (2 ^ 64 - 1) → IsCounted a m b → IsCounted a k b
+counted_less a k m b e s = record {
+  later = s.later;
+  rose = λ h. let all = s.rose h in let less = min-le_left m (2 ^ 64 - 1) in omega (arith, all, less, e);
+}
+
+pub tries_on : (xs ys : List Action) (d e : List Did) → Tries xs d → Tries ys e → Tries (xs ++ ys) (d ++ e)
 unfolding Tries
-tries_on [] ys d e lost s t = subst (λ l. Tries ys (l ++ e) lost) (sym s.0) t
-tries_on (x ∷ xs) ys d e lost s t = one_then x xs ys e lost (λ others h. tries_on xs ys others e lost h t) d s
+tries_on [] ys d e s t = subst (λ l. Tries ys (l ++ e)) (sym s) t
+tries_on (x ∷ xs) ys d e s t = (
+  s.0 ++ e,
+  elim s.1 [
+    | inl w ↦ inl (ap (λ l. l ++ e) w)
+    | inr w ↦ inr (ap (λ l. l ++ e) w)
+  ],
+  tries_on xs ys s.0 e s.2 t,
+)
+
+-- the first connection that is lost is that of the first part, if one is lost there
+pub lost_on : (d e : List Did) → lost_in (d ++ e) ≡ option_or (lost_in d) (lost_in e)
+lost_on [] e = refl
+lost_on (x ∷ d) e = ap (option_or (lost_by x)) (lost_on d e) ∙ one_by_one (lost_by x)
+  where
+    one_by_one : (o : Option ℕ) → option_or o (option_or (lost_in d) (lost_in e)) ≡ option_or (option_or o (lost_in d)) (lost_in e)
+    one_by_one (Some conn) = refl
+    one_by_one None = refl
 
 -- one place further along a list
 pub one_further : (xs : List Action) (i : ℕ) (x : Action) → i < length xs → x ≡ slice_index_or xs i x → take (i + 1) xs ≡ take i xs ++ x ∷ []
 one_further xs i x lt is = (let e : i + 1 ≡ suc i = omega arith in ap (λ k. take k xs) e) ∙ take-suc xs i x lt ∙ ap (λ y. take i xs ++ y ∷ []) (sym is)
 
-pub from_there : (xs : List Action) (i : ℕ) (x : Action) → i < length xs → x ≡ slice_index_or xs i x → take i xs ++ x ∷ drop (i + 1) xs ≡ xs
-from_there xs i x lt is = sym (append_assoc (take i xs) (x ∷ []) (drop (i + 1) xs)) ∙ ap (λ l. l ++ drop (i + 1) xs) (sym (one_further xs i x lt is)) ∙ take-append-drop (i + 1) xs
-
--- the acts so far, none of which lost a connection
-pub record AreTried (before : Option (List Did)) (start : Standing) (actions : List Action) (failed : ℕ) (after : Option (List Did)) (new : Standing) : Type 0 where
+-- the acts so far, and the connection that they lost
+pub record AreTried (before : Option (List Did)) (start : Standing) (actions : List Action) (failed : ℕ) (lost : Option ℕ) (after : Option (List Did)) (new : Standing) : Type 0 where
   pub did : List Did
-  pub tries : Tries actions did None
+  pub tries : Tries actions did
   pub recorded : Records before did after
   pub hub : new ≡ start
   pub faults : failed ≡ count_by is_fault did
+  pub loses : lost ≡ lost_in did
 
-pub none_tried : (before : Option (List Did)) (start : Standing) → AreTried before start [] 0 before start
+pub none_tried : (before : Option (List Did)) (start : Standing) → AreTried before start [] 0 None before start
 unfolding Tries
-none_tried before start = record { did = []; tries = (refl, refl); recorded = records_nothing before; hub = refl; faults = refl }
+none_tried before start = record { did = []; tries = refl; recorded = records_nothing before; hub = refl; faults = refl; loses = refl }
 
-module _ (before : Option (List Did)) (start : Standing) (actions : List Action) (i n : ℕ) (middle : Option (List Did)) (hub : Standing) (so_far : AreTried before start (take i actions) n middle hub)
-    (x : Action) (lt : i < length actions) (is : x ≡ slice_index_or actions i x) (after : Option (List Did)) (new : Standing) (m : ℕ) where
-  pub one_done : Records middle (Acted x ∷ []) after × (new ≡ hub) → m ≡ n → AreTried before start (take (i + 1) actions) m after new
+module _ (before : Option (List Did)) (start : Standing) (actions : List Action) (i n : ℕ) (lost : Option ℕ) (middle : Option (List Did)) (hub : Standing) (so_far : AreTried before start (take i actions) n lost middle hub)
+    (x : Action) (lt : i < length actions) (is : x ≡ slice_index_or actions i x) (after : Option (List Did)) (new : Standing) (m : ℕ) (more : Option ℕ) where
+  one_tried : (did : Did) → (did ≡ Acted x) ⊎ (did ≡ Failed x) → Records middle (did ∷ []) after → new ≡ hub → m ≡ n + count_by is_fault (did ∷ []) → more ≡ option_or lost (lost_by did)
+      → AreTried before start (take (i + 1) actions) m more after new
   unfolding Tries
-  one_done act e = record {
-    did = so_far.did ++ Acted x ∷ [];
-    tries = subst (λ l. Tries l (so_far.did ++ Acted x ∷ []) None) (sym (one_further actions i x lt is)) (tries_on (take i actions) (x ∷ []) so_far.did (Acted x ∷ []) None so_far.tries (inl ([], refl, (refl, refl))));
-    recorded = records_on before so_far.did middle (Acted x ∷ []) after so_far.recorded act.0;
-    hub = act.1 ∙ so_far.hub;
-    faults = e ∙ so_far.faults ∙ sym (sum_by-append _ so_far.did (Acted x ∷ []) ∙ omega arith);
+  one_tried did tried recorded same failed lost_then = record {
+    did = so_far.did ++ did ∷ [];
+    tries = subst (λ l. Tries l (so_far.did ++ did ∷ [])) (sym (one_further actions i x lt is))
+        (tries_on (take i actions) (x ∷ []) so_far.did (did ∷ []) so_far.tries ([], elim tried [ | inl e ↦ inl (ap (λ d. d ∷ []) e) | inr e ↦ inr (ap (λ d. d ∷ []) e) ], refl));
+    recorded = records_on before so_far.did middle (did ∷ []) after so_far.recorded recorded;
+    hub = same ∙ so_far.hub;
+    faults = failed ∙ ap (λ k. k + count_by is_fault (did ∷ [])) so_far.faults ∙ sym (sum_by-append _ so_far.did (did ∷ []));
+    loses = lost_then ∙ ap (λ o. option_or o (lost_by did)) so_far.loses ∙ ap (option_or (lost_in so_far.did)) (sym (or_none (lost_by did))) ∙ sym (lost_on so_far.did (did ∷ []));
   }
 
-  pub one_dropped : Records middle (Failed x ∷ []) after × (action_connection x ≡ None) × (new ≡ hub) → m ≡ n + 1 → AreTried before start (take (i + 1) actions) m after new
-  unfolding Tries
-  one_dropped act e = record {
-    did = so_far.did ++ Failed x ∷ [];
-    tries = subst (λ l. Tries l (so_far.did ++ Failed x ∷ []) None) (sym (one_further actions i x lt is))
-        (tries_on (take i actions) (x ∷ []) so_far.did (Failed x ∷ []) None so_far.tries (inr ([], refl, subst (λ o. after_failure o (Tries [] [] None) [] None) (sym act.1) (refl, refl))));
-    recorded = records_on before so_far.did middle (Failed x ∷ []) after so_far.recorded act.0;
-    hub = act.2 ∙ so_far.hub;
-    faults = e ∙ ap (λ k. k + 1) so_far.faults ∙ sym (sum_by-append _ so_far.did (Failed x ∷ []));
-  }
+  pub one_done : Records middle (Acted x ∷ []) after → new ≡ hub → m ≡ n → more ≡ lost → AreTried before start (take (i + 1) actions) m more after new
+  one_done recorded same failed lost_then = one_tried (Acted x) (inl refl) recorded same (failed ∙ omega arith) (lost_then ∙ sym (or_none lost))
 
-  pub one_lost : (at : Moment) → ((conn : ℕ) × Records middle (Failed x ∷ []) after × (action_connection x ≡ Some conn) × (new ≡ (hub_step hub at (Closed conn)).hub)) → m ≡ n + 1 → AreActs before start at actions m after new
-  unfolding Tries
-  one_lost at act e = record {
-    did = so_far.did ++ Failed x ∷ [];
-    lost = Some act.0;
-    tries = subst (λ l. Tries l (so_far.did ++ Failed x ∷ []) (Some act.0)) (from_there actions i x lt is)
-        (tries_on (take i actions) (x ∷ drop (i + 1) actions) so_far.did (Failed x ∷ []) (Some act.0) so_far.tries
-        (inr ([], refl, subst (λ o. after_failure o (Tries (drop (i + 1) actions) [] (Some act.0)) [] (Some act.0)) (sym act.2) (refl, refl))));
-    recorded = records_on before so_far.did middle (Failed x ∷ []) after so_far.recorded act.1;
-    hub = act.3 ∙ ap (λ (h : Standing). (hub_step h at (Closed act.0)).hub) so_far.hub;
-    faults = e ∙ ap (λ k. k + 1) so_far.faults ∙ sym (sum_by-append _ so_far.did (Failed x ∷ []));
-  }
+  pub one_failed : Records middle (Failed x ∷ []) after → new ≡ hub → m ≡ n + 1 → more ≡ option_or lost (action_connection x) → AreTried before start (take (i + 1) actions) m more after new
+  one_failed recorded same failed lost_then = one_tried (Failed x) (inr refl) recorded same failed lost_then
 
-pub all_tried : (before : Option (List Did)) (start : Standing) (at : Moment) (xs : List Action) (n : ℕ) (after : Option (List Did)) (new : Standing) → AreTried before start xs n after new → AreActs before start at xs n after new
-all_tried before start at xs n after new h = record { did = h.did; lost = None; tries = h.tries; recorded = h.recorded; hub = h.hub; faults = h.faults }
+pub all_tried : (before : Option (List Did)) (start : Standing) (at : Moment) (xs : List Action) (n : ℕ) (lost : Option ℕ) (after : Option (List Did)) (hub new : Standing)
+    → AreTried before start xs n lost after hub → new ≡ (logged hub (ending at lost)).hub → AreActs before start at xs n after new
+all_tried before start at xs n lost after hub new h ended = record {
+  did = h.did;
+  tries = h.tries;
+  recorded = h.recorded;
+  hub = ended ∙ (λ i. (logged (h.hub i) (ending at (h.loses i))).hub);
+  faults = h.faults;
+}

@@ -1,5 +1,5 @@
 -- What a run of `serve` is: rounds, each with its one poll.
-use Rattle.std.specs.Prelude.{◌≡◌, ◌⊎◌, ℕ, Bool, ⊤, List, [], ◌∷◌, ◌++◌, length, count_by, Option, Some, None}
+use Rattle.std.specs.Prelude.{◌≡◌, ◌⊎◌, ◌^◌, ◌-◌, ℕ, min, Bool, ⊤, List, [], ◌∷◌, ◌++◌, length, count_by, Option, Some, None}
 use Rattle.std.specs.List.{flat_map}
 use Rattle.std.specs.Option.{is_some, option_or}
 use Rattle.krb_fields.specs.declared.moment.Moment.{Moment}
@@ -21,28 +21,30 @@ action_connection (Pass peer) = None
 action_connection (Write conn reply) = Some conn
 action_connection (Close conn reason) = Some conn
 
--- after a failed act the next ones follow; on a connection, which is then lost, none
-abbrev pub after_failure : Option ℕ → Type 0 → List Did → Option ℕ → Type 0
-after_failure None others did lost = others
-after_failure (Some conn) others did lost = (did ≡ []) × (lost ≡ Some conn)
+-- each of these actions was tried, in order: it was done, or it failed
+unfoldable pub Tries : List Action → List Did → Type 0
+Tries [] did = did ≡ []
+Tries (action ∷ actions) did =
+    (others : List Did) × ((did ≡ Acted action ∷ others) ⊎ (did ≡ Failed action ∷ others)) × Tries actions others
 
--- the acts that these actions led to, and the connection that was lost, if any
-unfoldable pub Tries : List Action → List Did → Option ℕ → Type 0
-Tries [] did lost = (did ≡ []) × (lost ≡ None)
-Tries (action ∷ actions) did lost =
-    ((others : List Did) × (did ≡ Acted action ∷ others) × Tries actions others lost)
-    ⊎ ((others : List Did) × (did ≡ Failed action ∷ others)
-    × after_failure (action_connection action) (Tries actions others lost) others lost)
+-- the connection that an act failed on
+abbrev pub lost_by : Did → Option ℕ
+lost_by (Polled at event) = None
+lost_by Waited = None
+lost_by Missed = None
+lost_by (Acted action) = None
+lost_by (Failed action) = action_connection action
 
-pub record Tried : Type 0 where
-  pub did : List Did
-  pub lost : Option ℕ
+-- the connection of the first act that failed on one, which is lost
+abbrev pub lost_in : List Did → Option ℕ
+lost_in [] = None
+lost_in (did ∷ others) = option_or (lost_by did) (lost_in others)
 
--- the poll failed, or nothing came, or an event came: then its actions were tried, and after memory ran out a Close
+-- the poll failed, or nothing came, or an event came: then each of its actions was tried, and after memory ran out a Close
 pub data Round : Type 0 where
   PollFailed : Round
   NothingCame : Round
-  Took : Entry → Tried → Tried → Round
+  Took : Entry → List Did → List Did → Round
 
 abbrev pub close_of : Option ℕ → List Action
 close_of (Some conn) = Close conn OutOfMemory ∷ []
@@ -62,13 +64,13 @@ ending at None = []
 abbrev pub entries_of : Round → List Entry
 entries_of PollFailed = []
 entries_of NothingCame = []
-entries_of (Took entry acts close) = entry ∷ ending entry.at acts.lost ++ ending entry.at close.lost
+entries_of (Took entry acts close) = entry ∷ ending entry.at (lost_in acts) ++ ending entry.at (lost_in close)
 
 -- what the Wire does in a round
 abbrev pub did_in : Round → List Did
 did_in PollFailed = Missed ∷ []
 did_in NothingCame = Waited ∷ []
-did_in (Took entry acts close) = Polled entry.at entry.event ∷ acts.did ++ close.did
+did_in (Took entry acts close) = Polled entry.at entry.event ∷ acts ++ close
 
 -- when the event came that it took, if it took one
 abbrev pub moment_in : Round → Option Moment
@@ -85,8 +87,7 @@ abbrev pub IsRound : Standing → Round → Type 0
 IsRound hub PollFailed = ⊤
 IsRound hub NothingCame = ⊤
 IsRound hub (Took entry acts close) =
-    Tries (step_of hub entry).actions acts.did acts.lost
-    × Tries (closing entry.stop entry.event) close.did close.lost
+    Tries (step_of hub entry).actions acts × Tries (closing entry.stop entry.event) close
 
 -- rounds from this hub on, each where the log of the earlier ones leaves the hub
 unfoldable pub AreRounds : Standing → List Round → Type 0
@@ -95,6 +96,10 @@ AreRounds hub (round ∷ rounds) = IsRound hub round × AreRounds (logged hub (e
 
 abbrev pub is_refused : Entry → Bool
 is_refused entry = is_some entry.stop
+
+-- how many calls failed; the count stops at the greatest 64-bit number
+abbrev pub fault_total : List Did → ℕ
+fault_total did = min (count_by is_fault did) (2 ^ 64 - 1)
 
 -- A run of so many rounds: the Wire's record before and afterwards, the hub before and afterwards,
 -- and what was counted.
@@ -108,6 +113,6 @@ pub record IsRun (before : Option (List Did)) (start : Standing) (n : ℕ) (serv
   -- the events polled and the ends that were added are one run of the log
   pub hub : new ≡ (logged start (flat_map entries_of rounds)).hub
   pub events : served.events ≡ count_by is_event (flat_map did_in rounds)
-  pub faults : served.faults ≡ count_by is_fault (flat_map did_in rounds)
+  pub faults : served.faults ≡ fault_total (flat_map did_in rounds)
   pub refused : served.refused ≡ count_by is_refused (flat_map entries_of rounds)
   pub last : served.last ≡ last_moment rounds

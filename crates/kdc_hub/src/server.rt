@@ -1,14 +1,14 @@
 //! Serving what comes to a Wire.
-ghost use Rattle.std.specs.Prelude.{◌≡◌, ◌≤◌, ◌∷◌, [], length, None};
-ghost use Rattle.kdc_hub.specs.Acts.{AreActs, IsAct, IsTaken, faults_by};
-ghost use Rattle.kdc_hub.specs.Hub.{Steps, hub_step, standing};
-ghost use Rattle.kdc_hub.specs.Rounds.{IsRun, close_of};
+ghost use Rattle.std.specs.Prelude.{◌≡◌, ◌≤◌, ◌<◌, ◌^◌, ◌∷◌, [], length, None};
+ghost use Rattle.kdc_hub.specs.Acts.{AreActs, IsTaken};
+ghost use Rattle.kdc_hub.specs.Hub.{Steps, standing};
+ghost use Rattle.kdc_hub.specs.Logged.{logged};
+ghost use Rattle.kdc_hub.specs.Rounds.{IsRun, close_of, ending};
 ghost use Rattle.kdc_hub.specs.Wire.{IsCounted};
-ghost use Rattle.kdc_hub.specs.declared.event.Event.TheVariants.{Closed};
 
 use crate::event::{Action, CloseReason, Event};
 use crate::hub::Hub;
-use crate::wires::Wire;
+use crate::wires::{Wire, WireFault};
 use krb_fields::Moment;
 use rand_core::Rng;
 use std::alloc::Global;
@@ -18,7 +18,7 @@ use std::alloc::Global;
 pub struct Served {
     /// Events that came.
     pub events: u32,
-    /// Calls of the Wire that failed.
+    /// Calls of the Wire that failed. The count stops at the greatest `u64`.
     pub faults: u64,
     /// Events that were refused memory.
     pub refused: u32,
@@ -41,18 +41,8 @@ fn nothing_served(faults: u64) -> Served
     }
 }
 
-/// What became of an action.
-#[derive(Clone, Copy)]
-enum ActOutcome {
-    Done,
-    /// It failed, and others follow.
-    Dropped,
-    /// It failed, and its connection is at its end.
-    Ended,
-}
-
-/// Serves for so many rounds, with one poll in each. A failed poll ends its round. A connection on which an act fails
-/// is at its end, and what else the event asked for is dropped; a datagram that isn't sent is dropped alone.
+/// Serves for so many rounds, with one poll in each. A failed poll ends its round. Every action that an event asks for
+/// is tried, also after one that failed. A connection on which one failed is at its end.
 pub fn serve<W: Wire, R: Rng>(alloc: Global, wire: &mut W, hub: &mut Hub<R>, rounds: u32) -> Served
     ensures run { IsRun (W.recorded wire.old) (standing R.stream hub.old) rounds result (W.recorded wire.new)
         (standing R.stream hub.new) }
@@ -66,7 +56,7 @@ pub fn serve<W: Wire, R: Rng>(alloc: Global, wire: &mut W, hub: &mut Hub<R>, rou
         let round = serve_round(alloc, wire, hub);
         served = Served {
             events: served.events + round.events,
-            faults: served.faults + round.faults,
+            faults: served.faults.saturating_add(round.faults),
             refused: served.refused + round.refused,
             last: round.last.or(served.last),
         };
@@ -79,7 +69,6 @@ fn serve_round<W: Wire, R: Rng>(alloc: Global, wire: &mut W, hub: &mut Hub<R>) -
         (standing R.stream hub.new) }
     ensures counted { IsCounted (W.fault_count wire.old) result.faults (W.fault_count wire.new) }
     ensures one_event { result.events ≤ 1 }
-    ensures few_faults { result.faults ≤ 3 }
     ensures one_refused { result.refused ≤ 1 }
 {
     match wire.poll(alloc) {
@@ -100,6 +89,7 @@ fn take_event<W: Wire, R: Rng>(
     ensures taken { IsTaken (W.recorded wire.old) (standing R.stream hub.old) at event result (W.recorded wire.new)
         (standing R.stream hub.new) }
     ensures counted { IsCounted (W.fault_count wire.old) result.faults (W.fault_count wire.new) }
+    ensures counts { result.faults < 2 ^ 64 }
 {
     match hub.step(alloc, at, event) {
         Ok(actions) => {
@@ -124,7 +114,7 @@ fn take_event<W: Wire, R: Rng>(
     }
 }
 
-/// Acts in order, up to the first failure on a connection. It says how many acts failed.
+/// Tries each action, in order. If one fails on a connection, the connection is then at its end. Returns how many failed.
 fn act_all<W: Wire, R: Rng>(
     alloc: Global,
     wire: &mut W,
@@ -138,13 +128,17 @@ fn act_all<W: Wire, R: Rng>(
     ensures few { result ≤ length actions.now }
 {
     let mut faults = 0;
+    let mut lost = None;
     for action in actions {
-        match act(alloc, wire, hub, at, action) {
-            ActOutcome::Done => {}
-            ActOutcome::Dropped => faults += 1,
-            ActOutcome::Ended => return faults + 1,
+        match wire.act(alloc, action) {
+            Ok(()) => {}
+            Err(WireFault) => {
+                faults += 1;
+                lost = lost.or(action.connection());
+            }
         }
     }
+    end_lost(alloc, hub, at, lost);
     faults
 }
 
@@ -170,30 +164,11 @@ fn close<W: Wire, R: Rng>(
     }
 }
 
-/// Acts. Where that fails on a connection, the connection is at its end.
-fn act<W: Wire, R: Rng>(
-    alloc: Global,
-    wire: &mut W,
-    hub: &mut Hub<R>,
-    at: Moment,
-    action: &Action,
-) -> ActOutcome
-    ensures act { IsAct result (W.recorded wire.old) (standing R.stream hub.old) at action.now (W.recorded wire.new)
-        (standing R.stream hub.new) }
-    ensures counted { IsCounted (W.fault_count wire.old) (faults_by result) (W.fault_count wire.new) }
+/// Has a connection that was lost be at its end.
+fn end_lost<R: Rng>(alloc: Global, hub: &mut Hub<R>, at: Moment, lost: Option<u64>)
+    ensures { standing R.stream hub.new ≡ (logged (standing R.stream hub.old) (ending at lost)).hub }
 {
-    let Err(_) = wire.act(alloc, action) else {
-        return ActOutcome::Done;
-    };
-    let Some(conn) = action.connection() else {
-        return ActOutcome::Dropped;
-    };
-    end_connection(alloc, hub, at, conn);
-    ActOutcome::Ended
-}
-
-fn end_connection<R: Rng>(alloc: Global, hub: &mut Hub<R>, at: Moment, conn: u64)
-    ensures { standing R.stream hub.new ≡ (hub_step (standing R.stream hub.old) at (Closed conn)).hub }
-{
-    let _ = hub.step(alloc, at, Event::Closed { conn });
+    if let Some(conn) = lost {
+        let _ = hub.step(alloc, at, Event::Closed { conn });
+    }
 }

@@ -1,7 +1,6 @@
 -- Periods one after the other.
-use Rattle.std.proofs.Common.{rules, true, false, ◌≡◌, ◌≤◌, ◌+◌, ◌-◌, ◌^◌, ℕ, arith, List, [], ◌∷◌, ◌++◌, length, map, count_by, Option, Some, None, refl, sym, ap, subst, ◌∙◌}
-use Rattle.std.specs.Prelude.{cond, min, nat_le, replicate, Bool}
-use Rattle.std.proofs.Math.Nat.{min-eq_left, min-eq_right, min-le_left}
+use Rattle.std.proofs.Common.{◌≡◌, ◌+◌, ◌-◌, ◌^◌, ℕ, arith, List, [], ◌∷◌, ◌++◌, length, map, count_by, Option, Some, None, refl, sym, ap, subst, ◌∙◌}
+use Rattle.std.specs.Prelude.{cond, min, replicate, Bool}
 use Rattle.std.specs.List.{AllByRecursion, flat_map}
 use Rattle.std.specs.Option.{option_or}
 use Rattle.std.proofs.lemmas.List.{append-nil, map-append, replicate-append-replicate}
@@ -15,8 +14,8 @@ use Rattle.kdc_hub.specs.Hub.{Standing}
 use Rattle.kdc_hub.specs.History.{IsOfOneProcess, IsOneRun, OneTicketInProcess, ServesAlike, Stepped, TidiesUnseen, Turn, Unaffected, after_turns}
 use Rattle.kdc_hub.specs.Logged.{Entry, logged}
 use Rattle.kdc_hub.specs.Rounds.{AreRounds, did_in, entries_of, is_refused, last_moment}
-use Rattle.kdc_hub.specs.Wire.{IsCounted, Records, is_event, is_fault}
-use Rattle.kdc_hub.proofs.Rounds.{records_nothing, records_on}
+use Rattle.kdc_hub.specs.Wire.{Records, is_event, is_fault}
+use Rattle.kdc_hub.proofs.Rounds.{records_nothing, records_on, saturated_both}
 use Rattle.kdc_serving.specs.declared.rows.Look.{Look}
 use Rattle.kdc_serving.specs.declared.rows.Look.TheVariants.{Unchanged, Changed, Failed}
 use Rattle.kdc_serving.specs.declared.totals.Totals.{Totals}
@@ -27,18 +26,6 @@ flat_map-one f xs x = flat_map-append f xs (x ∷ []) ∙ ap (λ l. flat_map f x
 
 count_on : {X : Type 0} (p : X → Bool) (xs ys : List X) → count_by p (xs ++ ys) ≡ count_by p xs + count_by p ys
 count_on p xs ys = sum_by-append (λ x. cond (p x) 1 0) xs ys
-
--- a sum that stops at m, of a number that stopped there
-saturated : (a b m : ℕ) → min (min a m + b) m ≡ min (a + b) m
-saturated a b m = by_order (nat_le a m) refl
-  where
-    by_order : (t : Bool) → nat_le a m ≡ t → min (min a m + b) m ≡ min (a + b) m
-    by_order true le = let lt : a ≤ m = search rules in ap (λ k. min (k + b) m) (min-eq_left lt)
-    by_order false gt =
-        let lt : m ≤ a = search rules in
-        let one : m ≤ m + b = omega arith in
-        let other : m ≤ a + b = omega (arith, lt) in
-        ap (λ k. min (k + b) m) (min-eq_right lt) ∙ min-eq_right one ∙ sym (min-eq_right other)
 
 -- what was lived so far, and when was tidied last
 pub record LivesOn (wire : Option (List Did)) (source : Option (List Look)) (start : Standing) (lengths : List ℕ) (totals : Totals) (wire_after : Option (List Did)) (source_after : Option (List Look)) (new : Standing) (tidied : Option Moment) : Type 0 where
@@ -136,7 +123,7 @@ module _ (goes_on : (start : Standing) (turns later : List Turn) → after_turns
         events = events ∙ (let e = a.events in let f = b.run.events in omega (arith, e, f, more_events));
         faults = faults
             ∙ (λ i. min (a.faults i + b.run.faults i) (2 ^ 64 - 1))
-            ∙ saturated (count_by is_fault (flat_map did_in (rounds_in a.periods))) (count_by is_fault (flat_map did_in b.run.rounds)) (2 ^ 64 - 1)
+            ∙ saturated_both (count_by is_fault (flat_map did_in (rounds_in a.periods))) (count_by is_fault (flat_map did_in b.run.rounds)) (2 ^ 64 - 1)
             ∙ ap (λ (k : ℕ). min k (2 ^ 64 - 1)) (sym more_faults);
         refused = refused ∙ (let e = a.refused in let f = b.run.refused in omega (arith, e, f, more_refused));
       };
@@ -146,13 +133,6 @@ module _ (goes_on : (start : Standing) (turns later : List Turn) → after_turns
 -- one more of the same
 pub replicate-one : (n x : ℕ) → replicate n x ++ x ∷ [] ≡ replicate (n + 1) x
 replicate-one n x = replicate-append-replicate n 1 x
-
--- what is counted may stop short of what was recorded
-pub counted_less : (a k m b : ℕ) → k ≡ min m (2 ^ 64 - 1) → IsCounted a m b → IsCounted a k b
-counted_less a k m b e s = record {
-  later = s.later;
-  rose = λ h. let all = s.rose h in let less = min-le_left m (2 ^ 64 - 1) in omega (arith, all, less, e);
-}
 
 -- ---- one process
 

@@ -1,5 +1,5 @@
 -- The life of a server: looks at a source of rows, rounds between them, and a tidying once in a minute.
-use Rattle.std.specs.Prelude.{◌≡◌, ◌/◌, ◌%◌, ◌^◌, ◌-◌, ℕ, ⊤, List, [], ◌∷◌, ◌++◌, length, map, min}
+use Rattle.std.specs.Prelude.{◌≡◌, ◌/◌, ◌%◌, ℕ, ⊤, List, [], ◌∷◌, ◌++◌, length, map}
 use Rattle.std.specs.Prelude.{pos, ◌+ℤ◌, int_lt, if◌then◌else◌, replicate, count_by, Option, Some, None}
 use Rattle.std.specs.List.{flat_map}
 use Rattle.std.specs.Option.{option_or}
@@ -11,8 +11,8 @@ use Rattle.kdc_hub.specs.declared.wires.Did.{Did}
 use Rattle.kdc_hub.specs.Hub.{Standing}
 use Rattle.kdc_hub.specs.History.{IsOneRun, Replaced, ServesAlikeFrom, Stepped, Tidied, TidiesUnseenFrom, Turn}
 use Rattle.kdc_hub.specs.History.{UnaffectedFrom, after_turns, tickets_sent}
-use Rattle.kdc_hub.specs.Rounds.{AreRounds, IsRun, Round, did_in, entries_of, is_refused, last_moment}
-use Rattle.kdc_hub.specs.Wire.{Records, is_event, is_fault}
+use Rattle.kdc_hub.specs.Rounds.{AreRounds, IsRun, Round, did_in, entries_of, fault_total, is_refused, last_moment}
+use Rattle.kdc_hub.specs.Wire.{Records, is_event}
 use Rattle.kdc_serving.specs.declared.rows.Look.{Look}
 use Rattle.kdc_serving.specs.declared.rows.Look.TheVariants.{Unchanged, Changed, Failed}
 use Rattle.kdc_serving.specs.declared.totals.Totals.{Totals}
@@ -80,7 +80,7 @@ pub record IsLived (wire : Option (List Did)) (source : Option (List Look)) (sta
   -- the rows that were found, the events polled, with the ends that were added, and the tidyings are one history
   pub hub : new ≡ after_turns start (flat_map turns_of periods)
   pub events : totals.events ≡ count_by is_event (flat_map did_in (rounds_in periods))
-  pub faults : totals.faults ≡ min (count_by is_fault (flat_map did_in (rounds_in periods))) (2 ^ 64 - 1)
+  pub faults : totals.faults ≡ fault_total (flat_map did_in (rounds_in periods))
   pub refused : totals.refused ≡ count_by is_refused (flat_map entries_of (rounds_in periods))
 
 -- It is a history of one process, of which the laws of all histories hold.

@@ -1,13 +1,29 @@
 //! A Wire with a log.
+ghost use Rattle.std.specs.Prelude.{◌≡◌, ◌∷◌, [], option_copied};
+ghost use Rattle.kdc_hub.specs.Wire.{IsCounted, Records, acted, faults_of};
+ghost use Rattle.kdcd_start.specs.Log.{LogEntry, LogsAll, LogsWhere, asker_of, entries_of};
+
 use kdc_hub::{Account, Action, CloseReason, Event, Peers, Wire, WireFault};
 use krb_fields::Moment;
 use request_log::{Asker, Transport};
 use std::alloc::Global;
+use std::net::SocketAddr;
 
 /// Takes the entries of a log.
 pub trait LogWriter {
+    // What the writer becomes by an entry.
+    ghost Logs: { Self → LogEntry → Self → Type 0 };
+
     /// Writes the entry for a request. There is no account where memory ran out.
-    fn write_entry(&mut self, alloc: Global, at: Moment, asker: Asker, account: Option<&Account>);
+    fn write_entry(&mut self, alloc: Global, at: Moment, asker: Asker, account: Option<&Account>)
+        ensures { Logs self.old (record { at = at; asker = asker; account = option_copied account.entry }) self.new };
+}
+
+/// When an event came, and the address that it came from, if it came on a connection whose peer is known.
+#[derive(Clone, Copy)]
+pub struct Came {
+    pub at: Moment,
+    pub source: Option<SocketAddr>,
 }
 
 /// A Wire that writes an entry to a log for each request, after the request was answered. Every call is forwarded to the
@@ -16,8 +32,8 @@ pub trait LogWriter {
 pub struct LoggedWire<W, L> {
     wire: W,
     log: Option<L>,
-    /// When the last event came.
-    at: Option<Moment>,
+    /// The last event.
+    came: Option<Came>,
 }
 
 impl<W: Drop, L: Drop> LoggedWire<W, L> {
@@ -26,7 +42,7 @@ impl<W: Drop, L: Drop> LoggedWire<W, L> {
         LoggedWire {
             wire,
             log,
-            at: None,
+            came: None,
         }
     }
 
@@ -46,20 +62,17 @@ impl<W: Wire + Peers, L: LogWriter> Wire for LoggedWire<W, L> {
 
     fn poll(&mut self, alloc: Global) -> Result<Option<(Moment, Event)>, WireFault> {
         let polled = self.wire.poll(alloc);
-        if let Ok(Some((at, _))) = &polled {
-            self.at = Some(*at);
+        if let Ok(Some((at, event))) = &polled {
+            self.came = Some(Came {
+                at: *at,
+                source: source_of(&self.wire, event),
+            });
         }
         polled
     }
 
     fn act(&mut self, alloc: Global, action: &Action) -> Result<(), WireFault> {
-        // A connection that the act ends is not known afterwards.
-        let asker = asker_of(&self.wire, action);
-        let outcome = self.wire.act(alloc, action);
-        if let (Some(log), Some(at)) = (&mut self.log, self.at) {
-            write_action(log, alloc, at, asker, action);
-        }
-        outcome
+        self.act_and_log(alloc, action)
     }
 
     fn faults(&self) -> u64 {
@@ -67,28 +80,38 @@ impl<W: Wire + Peers, L: LogWriter> Wire for LoggedWire<W, L> {
     }
 }
 
-/// Who sent the request that an action answers.
-fn asker_of(peers: &impl Peers, action: &Action) -> Asker {
-    match action {
-        Action::SendTo { peer, .. } | Action::Pass { peer } => Asker {
-            transport: Transport::Udp,
-            peer: Some(peer.address),
-        },
-        Action::Write { conn, .. } | Action::Close { conn, .. } => Asker {
-            transport: Transport::Tcp,
-            peer: peers.peer(*conn),
-        },
+impl<W: Wire, L: LogWriter> LoggedWire<W, L> {
+    /// Does an action, and then writes the entry for the request that it answers, if it answers one.
+    fn act_and_log(&mut self, alloc: Global, action: &Action) -> Result<(), WireFault>
+        ensures records { Records (W.recorded self.old.wire) (acted action.now result ∷ []) (W.recorded self.new.wire) }
+        ensures counted { IsCounted (W.fault_count self.old.wire) (faults_of result) (W.fault_count self.new.wire) }
+        ensures logs { LogsWhere L.Logs self.old.log self.old.came action.now self.new.log }
+        ensures came { self.new.came ≡ self.old.came }
+    {
+        let outcome = self.wire.act(alloc, action);
+        if let (Some(log), Some(came)) = (&mut self.log, &self.came) {
+            log_action(alloc, log, *came, action);
+        }
+        outcome
+    }
+}
+
+/// Returns the address that the connection of an event came from, if it is known.
+fn source_of(peers: &impl Peers, event: &Event) -> Option<SocketAddr> {
+    match event {
+        Event::Opened { conn } | Event::Bytes { conn, .. } | Event::Closed { conn } => {
+            peers.peer(*conn)
+        }
+        Event::Datagram { .. } => None,
     }
 }
 
 /// Writes the entry for the request that an action answers, if it answers one.
-fn write_action(
-    log: &mut impl LogWriter,
-    alloc: Global,
-    at: Moment,
-    asker: Asker,
-    action: &Action,
-) {
+fn log_action<L: LogWriter>(alloc: Global, log: &mut L, came: Came, action: &Action)
+    ensures { LogsAll L.Logs log.old (entries_of came action.now) log.new }
+{
+    let at = came.at;
+    let asker = asker_of(came.source, action);
     match action {
         Action::SendTo { reply, .. } | Action::Write { reply, .. } => {
             if let Some(account) = &reply.account {
@@ -102,6 +125,22 @@ fn write_action(
             }
             CloseReason::OutOfMemory => log.write_entry(alloc, at, asker, None),
             CloseReason::Full => {}
+        },
+    }
+}
+
+/// Returns who sent the request that an action answers, by the address that its connection came from.
+fn asker_of(source: Option<SocketAddr>, action: &Action) -> Asker
+    ensures { result ≡ asker_of source action.now }
+{
+    match action {
+        Action::SendTo { peer, .. } | Action::Pass { peer } => Asker {
+            transport: Transport::Udp,
+            peer: Some(peer.address),
+        },
+        Action::Write { .. } | Action::Close { .. } => Asker {
+            transport: Transport::Tcp,
+            peer: source,
         },
     }
 }

@@ -1,6 +1,6 @@
 //! The lines of a server's log.
 ghost use Rattle.std.specs.Prelude.{◌≡◌, IfOk, option_copied};
-ghost use Rattle.kdcd_start.specs.Log.{line_of, written};
+ghost use Rattle.kdcd_start.specs.Log.{LogsLine, TriesLine, entry_line, line_of, peer_text, written};
 
 use crate::logged_wire::LogWriter;
 use kdc_hub::Account;
@@ -58,49 +58,62 @@ impl<W: Write + Drop> RequestLines<W> {
 }
 
 impl<W: Write> RequestLines<W> {
-    /// Writes a line, and in front of it how many were lost before it.
-    fn write_line(&mut self, line: &[u8]) -> io::Result<()> {
+    /// Writes the line of an entry, and in front of it how many were lost before it.
+    fn try_entry(
+        &mut self,
+        alloc: Global,
+        at: Moment,
+        asker: Asker,
+        account: Option<&Account>,
+    ) -> io::Result<()>
+        ensures { TriesLine W.contents self.old self.new (entry_line self.old.format
+            (record { at = at; asker = asker; account = option_copied account.entry })) result }
+    {
+        let line = asked_line(alloc, self.format, at, asker, account)?;
         if self.unreported > 0 {
             writeln!(self.lines, "kdcd: log: {} lines are lost", self.unreported)?;
             self.unreported = 0;
         }
-        self.lines.write_all(line)
+        self.lines.write_all(&line)
     }
 }
 
 impl<W: Write> LogWriter for RequestLines<W> {
+    ghost Logs = { LogsLine W.contents };
+
     fn write_entry(&mut self, alloc: Global, at: Moment, asker: Asker, account: Option<&Account>) {
-        let is_written = match asked_line(alloc, self.format, at, asker, account) {
-            Ok(line) => self.write_line(&line).is_ok(),
-            Err(_) => false,
-        };
-        if !is_written {
+        if self.try_entry(alloc, at, asker, account).is_err() {
             self.lost = self.lost.saturating_add(1);
             self.unreported = self.unreported.saturating_add(1);
         }
     }
 }
 
-/// The line for a request of this asker.
+/// Returns the line for a request of this asker.
 fn asked_line(
     alloc: Global,
     format: LogFormat,
     at: Moment,
     asker: Asker,
     account: Option<&Account>,
-) -> Result<Vec<u8>, AllocError> {
-    let peer = address_text(alloc, asker.peer)?;
+) -> Result<Vec<u8>, AllocError>
+    ensures { IfOk result (λ line. line.items ≡ entry_line format
+        (record { at = at; asker = asker; account = option_copied account.entry })) }
+{
+    let peer = peer_text(alloc, asker.peer)?;
     line_of(alloc, format, at, peer.as_bytes(), asker.transport, account)
 }
 
-fn address_text(alloc: Global, peer: Option<SocketAddr>) -> Result<String, AllocError> {
+fn peer_text(alloc: Global, peer: Option<SocketAddr>) -> Result<String, AllocError>
+    ensures { IfOk result (λ text. text.items ≡ peer_text peer) }
+{
     match peer {
         Some(peer) => format!(in alloc; "{peer}"),
         None => format!(in alloc; "-"),
     }
 }
 
-/// The line for a request that came at a moment from a peer, whose address is given as text.
+/// Returns the line for a request that came at a moment from a peer, whose address is given as text.
 pub fn line_of(
     alloc: Global,
     format: LogFormat,
@@ -116,7 +129,7 @@ pub fn line_of(
     written(alloc, format, &fields)
 }
 
-/// An entry's line.
+/// Returns the line of an entry.
 fn written(alloc: Global, format: LogFormat, fields: &[Field]) -> Result<Vec<u8>, AllocError>
     ensures { IfOk result (λ line. line.items ≡ written format fields.now) }
 {

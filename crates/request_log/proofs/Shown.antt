@@ -11,7 +11,7 @@ use Rattle.std.proofs.lemmas.Str.{IsAscii-append, IsUtf8-from_ascii}
 use Rattle.std.proofs.lemmas.Str.Ascii.{IsAscii-nil}
 use Rattle.request_log.specs.Lines.{IsLine, IsPrintable, is_printable, longest, shown, shown_octet, with_shown}
 
-one_decides : (o : ℕ) → Decides (is_printable o) (IsPrintable o)
+pub one_decides : (o : ℕ) → Decides (is_printable o) (IsPrintable o)
 one_decides o = Decides-and _ _ (leb-true 32 o, le-leb 32 o) (leb-true o 126, le-leb o 126)
 
 by_test : (o : ℕ) (b : Bool) → is_printable o ≡ b → IsPrintable (if b then o else 63)
@@ -30,14 +30,20 @@ length_shown text [] = omega arith
 length_shown text (o ∷ octets) =
     length_shown (text ++ shown_octet o ∷ []) octets ∙ (let e = length-append text (shown_octet o ∷ []) in omega (arith, e))
 
+pub all_shown : (octets : List ℕ) → All IsPrintable (shown octets)
+all_shown octets = all_printable [] octets (All-nil IsPrintable)
+
 -- what is shown of the first octets is one line
 pub is_line : (octets : List ℕ) → IsLine (shown (take longest octets) ++ 10 ∷ [])
-is_line octets = record {
-  text = shown (take longest octets);
-  ends = refl;
-  printable = all_printable [] (take longest octets) (All-nil IsPrintable);
-  short = let e = length_shown [] (take longest octets) in let n = length-take longest octets in omega (arith, e, n);
-}
+is_line octets = record { text = shown (take longest octets); ends = refl; printable = all_shown (take longest octets) }
+
+-- and a short one
+pub is_short : (octets : List ℕ) → length (shown (take longest octets) ++ 10 ∷ []) ≤ longest + 1
+is_short octets =
+    let e = length_shown [] (take longest octets) in
+    let n = length-take longest octets in
+    let all = length-append (shown (take longest octets)) (10 ∷ []) in
+    omega (arith, e, n, all)
 
 one_ascii : (o : ℕ) → IsPrintable o → IsAscii (o ∷ [])
 one_ascii o p zero = omega (arith, p.1)

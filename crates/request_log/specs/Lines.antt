@@ -36,7 +36,6 @@ pub record IsLine (octets : List ℕ) : Type 0 where
   pub text : List ℕ
   pub ends : octets ≡ text ++ 10 ∷ []
   pub printable : All IsPrintable text
-  pub short : length text ≤ longest
 
 -- ---- a line of text
 

@@ -4,7 +4,7 @@ ghost use Rattle.json.specs.Print.{print};
 ghost use Rattle.json.specs.Token.{begin_object, end_object, key, string};
 ghost use Rattle.std.specs.Str.{IsUtf8};
 ghost use Rattle.request_log.specs.Field.{name_text};
-ghost use Rattle.request_log.specs.Lines.{fields_tokens, json_line, shown};
+ghost use Rattle.request_log.specs.Lines.{IsLine, fields_tokens, json_line, shown};
 
 use crate::field::Field;
 use crate::text_lines::shown;
@@ -15,7 +15,9 @@ use std::str;
 /// The fields as one JSON object (RFC 8259), each a string under its name, and a line feed. An octet that is not printable
 /// becomes a question mark.
 pub fn json_line(alloc: Global, fields: &[Field]) -> Result<Vec<u8>, AllocError>
-    ensures { IfOk result (λ line. line.items ≡ json_line fields.now) }
+    ensures text { IfOk result (λ line. line.items ≡ json_line fields.now) }
+    // It is one line, whatever the names are.
+    ensures one { IfOk result (λ line. IsLine line.items) }
 {
     let mut out = Writer::new(Vec::new(alloc));
     out.begin_object()?;

@@ -1,7 +1,7 @@
 //! The log of a KDC's requests: from the account of a request to a line.
 //!
 //! An entry of the log is a list of fields, made of an account and of who asked. A line is those fields as text, or as one
-//! JSON object. So a line says what the KDC decided, and nothing is read a second time.
+//! JSON object. So a line says what the KDC decided; neither request nor reply is parsed for it.
 #![tactic(auto)]
 
 mod asker;

@@ -1,7 +1,7 @@
 //! A line of text.
-ghost use Rattle.std.specs.Prelude.{◌≡◌, ◌++◌, [], IfOk, OnOk};
+ghost use Rattle.std.specs.Prelude.{◌≡◌, ◌≤◌, ◌+◌, ◌++◌, [], length, IfOk, OnOk};
 ghost use Rattle.request_log.specs.Lines.{IsLine, field_text, fields_text, joined, shown, shown_octet, text_line};
-ghost use Rattle.request_log.specs.Lines.{with_shown};
+ghost use Rattle.request_log.specs.Lines.{longest, with_shown};
 
 use crate::field::Field;
 use std::alloc::{AllocError, Global};
@@ -15,6 +15,7 @@ pub fn text_line(alloc: Global, fields: &[Field]) -> Result<Vec<u8>, AllocError>
     ensures text { IfOk result (λ line. line.items ≡ text_line fields.now) }
     // It is one line, whatever the names are.
     ensures one { IfOk result (λ line. IsLine line.items) }
+    ensures short { IfOk result (λ line. length line.items ≤ longest + 1) }
 {
     let mut text = Vec::with_capacity(alloc, LONGEST)?;
     push_fields(&mut text, fields)?;

@@ -1,4 +1,4 @@
-use Rattle.std.proofs.Common.{◌≤◌, ◌*◌}
+use Rattle.std.proofs.Common.{◌≤◌}
 use Rattle.kdc_hub.specs.Hub.{standing}
 use Rattle.kdc_hub.specs.Wire.{IsCounted}
 use Rattle.kdc_hub.specs.Rounds.{IsRun}
@@ -9,6 +9,5 @@ invariant-loop g l = record {
   run : IsRun (g.W.Wire.recorded l.fn.wire) (standing g.R.Rng.stream l.fn.hub) l.counter l.served (g.W.Wire.recorded l.wire) (standing g.R.Rng.stream l.hub);
   counted : IsCounted (g.W.Wire.fault_count l.fn.wire) l.served.faults (g.W.Wire.fault_count l.wire);
   events : l.served.events ≤ l.counter;
-  faults : l.served.faults ≤ 3 * l.counter;
   refused : l.served.refused ≤ l.counter;
 }

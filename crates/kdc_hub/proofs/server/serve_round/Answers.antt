@@ -2,14 +2,11 @@ use Rattle.std.proofs.Common.{◌∷◌, [], Ok, refl, subst}
 use Rattle.kdc_hub.specs.Hub.{standing}
 use Rattle.kdc_hub.specs.Wire.{Records, polled}
 use Rattle.kdc_hub.specs.Rounds.{PollFailed, NothingCame}
-use Rattle.kdc_hub.proofs.Runs.{few_in_taken, refused_in_taken, one_round, taken_round}
+use Rattle.kdc_hub.proofs.Runs.{refused_in_taken, one_round, taken_round}
 use Rattle.kdc_hub.proofs.server.serve_round.Goals as goal
 
 pub returns-in-Ok-Some-clause-run : goal.returns-in-Ok-Some-clause-run
-returns-in-Ok-Some-clause-run g c = taken_round _ _ _ _ _ _ _ _ (subst (λ o. Records (g.W.Wire.recorded c.args.wire.now) (polled (Ok o) ∷ []) (g.W.Wire.recorded c.poll.new.self)) c.in-Ok-Some.field-0-is c.in-Ok-Some.ensures.records) c.take_event.ensures.taken
-
-pub returns-in-Ok-Some-clause-few_faults : goal.returns-in-Ok-Some-clause-few_faults
-returns-in-Ok-Some-clause-few_faults g c = few_in_taken _ _ _ _ _ _ _ c.take_event.ensures.taken
+returns-in-Ok-Some-clause-run g c = taken_round _ _ _ _ _ _ _ _ (subst (λ o. Records (g.W.Wire.recorded c.args.wire.now) (polled (Ok o) ∷ []) (g.W.Wire.recorded c.poll.new.self)) c.in-Ok-Some.field-0-is c.in-Ok-Some.ensures.records) c.take_event.ensures.taken c.take_event.ensures.counts
 
 pub returns-in-Ok-Some-clause-one_refused : goal.returns-in-Ok-Some-clause-one_refused
 returns-in-Ok-Some-clause-one_refused g c = refused_in_taken _ _ _ _ _ _ _ c.take_event.ensures.taken

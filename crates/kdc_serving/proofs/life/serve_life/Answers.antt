@@ -2,9 +2,9 @@ use Rattle.std.proofs.Common.{◌≡◌, ◌/◌, ◌%◌, arith, [], ◌∷◌,
 use Rattle.std.specs.Prelude.{replicate}
 use Rattle.kdc_hub.specs.Hub.{standing}
 use Rattle.kdc_hub.specs.Wire.{IsCounted}
-use Rattle.kdc_hub.proofs.Rounds.{counted_nothing, counted_on}
+use Rattle.kdc_hub.proofs.Rounds.{counted_less, counted_nothing, counted_on}
 use Rattle.kdc_serving.specs.Life.{IsLife}
-use Rattle.kdc_serving.proofs.Lives.{LivesOn, counted_less, is_life, none_lived, one_more, replicate-one}
+use Rattle.kdc_serving.proofs.Lives.{LivesOn, is_life, none_lived, one_more, replicate-one}
 use Rattle.kdc_serving.proofs.life.serve_life.Goals as goal
 
 pub loop-init : goal.loop-init
