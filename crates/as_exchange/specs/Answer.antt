@@ -31,7 +31,7 @@ use Rattle.as_exchange.specs.declared.decision.Decision.{Decision}
 use Rattle.as_exchange.specs.declared.decision.Decision.TheVariants.{Refuses, Issues}
 use Rattle.as_exchange.specs.declared.refusal.AsRefusal.{AsRefusal}
 use Rattle.as_exchange.specs.declared.refusal.AsRefusal.TheVariants.{BadVersion, BadMessageType, ClientUnknown}
-use Rattle.as_exchange.specs.declared.refusal.AsRefusal.TheVariants.{ServiceUnknown}
+use Rattle.as_exchange.specs.declared.refusal.AsRefusal.TheVariants.{ServiceUnknown, ServiceDenied}
 use Rattle.as_exchange.specs.declared.refusal.AsRefusal.TheVariants.{ClientRevoked, ClientExpired, PasswordExpired}
 use Rattle.as_exchange.specs.declared.refusal.AsRefusal.TheVariants.{ServiceRevoked, ServiceExpired, BadOption}
 use Rattle.as_exchange.specs.declared.refusal.AsRefusal.TheVariants.{NoCommonType}
@@ -53,6 +53,7 @@ sequel_of BadVersion = Nothing
 sequel_of BadMessageType = Nothing
 sequel_of ClientUnknown = Nothing
 sequel_of ServiceUnknown = Nothing
+sequel_of ServiceDenied = Nothing
 sequel_of ClientRevoked = Nothing
 sequel_of ClientExpired = Nothing
 sequel_of PasswordExpired = Nothing

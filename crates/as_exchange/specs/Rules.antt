@@ -6,7 +6,7 @@ use Rattle.std.specs.Ordering.{int_eq}
 use Rattle.std.specs.Cmp.Lexicographic.{pointwise}
 use Rattle.refusals.specs.Optional.{holds_of}
 use Rattle.refusals.specs.Refusals.{Rule, decided}
-use Rattle.kdc_replies.specs.Standing.{has_come, is_disabled, is_expired}
+use Rattle.kdc_replies.specs.Standing.{has_come, is_disabled, is_expired, is_service_denied}
 use Rattle.krb_fields.specs.declared.code.Code.{Code}
 use Rattle.krb_fields.specs.declared.code.Code as codes
 use Rattle.krb_fields.specs.declared.kdc_option.KdcOption.TheVariants.{Forwarded, Proxy, AllowPostdate, Postdated}
@@ -25,10 +25,10 @@ use Rattle.ticket_times.specs.declared.times.Times.{Times}
 use Rattle.as_exchange.specs.Terms.{terms, admission_of, times_of}
 use Rattle.as_exchange.specs.declared.refusal.AsRefusal.{AsRefusal}
 use Rattle.as_exchange.specs.declared.refusal.AsRefusal.TheVariants.{BadVersion, BadMessageType, ClientUnknown}
-use Rattle.as_exchange.specs.declared.refusal.AsRefusal.TheVariants.{ServiceUnknown, ClientRevoked, ClientExpired}
-use Rattle.as_exchange.specs.declared.refusal.AsRefusal.TheVariants.{PasswordExpired, ServiceRevoked, ServiceExpired}
-use Rattle.as_exchange.specs.declared.refusal.AsRefusal.TheVariants.{BadOption, NoCommonType, PreauthFailed}
-use Rattle.as_exchange.specs.declared.refusal.AsRefusal.TheVariants.{TimestampSkewed, PreauthRequired}
+use Rattle.as_exchange.specs.declared.refusal.AsRefusal.TheVariants.{ServiceUnknown, ServiceDenied, ClientRevoked}
+use Rattle.as_exchange.specs.declared.refusal.AsRefusal.TheVariants.{ClientExpired, PasswordExpired, ServiceRevoked}
+use Rattle.as_exchange.specs.declared.refusal.AsRefusal.TheVariants.{ServiceExpired, BadOption, NoCommonType}
+use Rattle.as_exchange.specs.declared.refusal.AsRefusal.TheVariants.{PreauthFailed, TimestampSkewed, PreauthRequired}
 use Rattle.as_exchange.specs.declared.refusal.AsRefusal.TheVariants.{PostdatingRefused, StartsTooLate, NeverValid}
 use Rattle.as_exchange.specs.declared.terms.Admission.{Admission}
 use Rattle.as_exchange.specs.declared.terms.Terms.{Terms}
@@ -108,6 +108,7 @@ rules_by v now message timestamp found times =
     ∷ (is_bad_message_type message, BadMessageType)  -- 3.1.2, 5.4.1
     ∷ (is_client_unknown v message.body.value, ClientUnknown)  -- 3.1.3
     ∷ (is_service_unknown v message.body.value, ServiceUnknown)  -- 3.1.3
+    ∷ (is_service_denied v.service, ServiceDenied)  -- 3.1.3
     ∷ (is_client_revoked v now, ClientRevoked)  -- 3.1.3
     ∷ (is_expired v.client now, ClientExpired)  -- 3.1.3
     ∷ (has_expired_password v.client now, PasswordExpired)  -- 3.1.3
@@ -141,6 +142,7 @@ code_of BadVersion = codes.TheVariants.KdcErrBadPvno
 code_of BadMessageType = codes.TheVariants.KrbApErrMsgType
 code_of ClientUnknown = codes.TheVariants.KdcErrCPrincipalUnknown
 code_of ServiceUnknown = codes.TheVariants.KdcErrSPrincipalUnknown
+code_of ServiceDenied = codes.TheVariants.KdcErrSPrincipalUnknown
 code_of ClientRevoked = codes.TheVariants.KdcErrClientRevoked
 code_of ClientExpired = codes.TheVariants.KdcErrNameExp
 code_of PasswordExpired = codes.TheVariants.KdcErrKeyExpired

@@ -10,7 +10,7 @@ ghost use Rattle.as_exchange.specs.Rules.{rules_by, admitted_by};
 use crate::refusal::AsRefusal;
 use crate::terms::{Admission, Terms, admission_of, times_of};
 use crate::view::AsView;
-use kdc_replies::{has_come, is_disabled, is_expired};
+use kdc_replies::{has_come, is_disabled, is_expired, is_service_denied};
 use krb_fields::{KdcOption, Moment};
 use krb_types::{AS_REQ, KdcReqRef, PVNO, ReqBodyRef};
 use preauth::{Outcome, check_timestamp, is_locked};
@@ -44,7 +44,7 @@ fn rules_by(
     timestamp: Outcome,
     terms: &Option<Terms>,
     times: &Option<Times>,
-) -> [(bool, AsRefusal); 17]
+) -> [(bool, AsRefusal); 18]
     ensures { result ≡ rules_by view.now at.sec message.now timestamp terms.now times.now }
 {
     let body = &message.body.value;
@@ -53,6 +53,7 @@ fn rules_by(
         (is_bad_message_type(message), AsRefusal::BadMessageType),
         (is_client_unknown(view, body), AsRefusal::ClientUnknown),
         (is_service_unknown(view, body), AsRefusal::ServiceUnknown),
+        (is_service_denied(view.service), AsRefusal::ServiceDenied),
         (is_client_revoked(view, at), AsRefusal::ClientRevoked),
         (is_expired(view.client, at), AsRefusal::ClientExpired),
         (

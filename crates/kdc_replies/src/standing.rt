@@ -1,6 +1,6 @@
 //! What the row of a principal says of its standing, where it has a row.
 ghost use Rattle.std.specs.Prelude.{◌≡◌, option_copied};
-ghost use Rattle.kdc_replies.specs.Standing.{has_come, is_disabled, is_expired};
+ghost use Rattle.kdc_replies.specs.Standing.{has_come, is_disabled, is_expired, is_service_denied};
 
 use krb_fields::{Moment, Second};
 use principal_rows::Row;
@@ -21,6 +21,16 @@ pub fn is_expired(row: Option<&Row>, at: Moment) -> bool
 {
     match row {
         Some(row) => has_come(row.policy.expires, at),
+        None => false,
+    }
+}
+
+/// Checks whether no tickets may be sealed for it.
+pub fn is_service_denied(row: Option<&Row>) -> bool
+    ensures { result ≡ is_service_denied (option_copied row.entry) }
+{
+    match row {
+        Some(row) => !row.policy.service,
         None => false,
     }
 }

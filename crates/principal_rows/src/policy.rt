@@ -26,6 +26,8 @@ pub struct Policy {
     pub postdate: bool,
     /// Whether tickets for it have the flag OK-AS-DELEGATE.
     pub ok_as_delegate: bool,
+    /// Whether tickets may be sealed for it.
+    pub service: bool,
 }
 
 impl Default for Policy {
@@ -48,6 +50,7 @@ impl Default for Policy {
             proxiable: true,
             postdate: false,
             ok_as_delegate: false,
+            service: true,
         }
     }
 }

@@ -24,7 +24,7 @@ use Rattle.text_fields.specs.declared.settings.Setting.TheVariants.{Flag, Life, 
 use Rattle.text_fields.specs.Settings.{settings_of}
 use Rattle.principals.specs.ReadBack.{IsTime, IsFitting}
 use Rattle.principals.specs.RowWritten.{time_value, key_value, keys_value, version_value, versions_value}
-use Rattle.principals.specs.Format.{before_keys}
+use Rattle.principals.specs.Format.{before_keys, newest_number}
 use Rattle.principals.specs.RowWritten.{setting_value, setting_members, row_members, row_value}
 use Rattle.principals.specs.Tokens.{IsKept, data_tokens}
 use Rattle.principals.specs.Written.{with_rows, database_value}
@@ -119,4 +119,4 @@ pub database_kept : (p : Principals) (es : List (Entry Row)) → pairs es ≡ en
 unfolding IsKept
 database_kept p es are all =
     let rows = rows_kept no_members (entries p.rows) tt tt (subst AreRowsKept are (each_kept es all)) in
-    object_kept _ (refl, (refl, (tt, tt))) (object_kept (with_rows no_members (entries p.rows)) rows.0 rows.1, (refl, (number_kept 2 (omega arith), tt)))
+    object_kept _ (refl, (refl, (tt, tt))) (object_kept (with_rows no_members (entries p.rows)) rows.0 rows.1, (refl, (number_kept newest_number (omega arith), tt)))

@@ -46,12 +46,12 @@ row_more text d entry found es made named rowed before is =
 string_next : (depth : ℕ) (s : List ℕ) (r : List Token) → value_at depth (Token.string s ∷ r) ≡ Some (string s, r)
 string_next depth s r = ap (converted of_json) (value_is depth (Token.string s ∷ r))
 
-two : number_of newest_text ≡ Some (unsigned newest_number)
+newest_is : number_of newest_text ≡ Some (unsigned newest_number)
 unfolding serde_json_on_literals
-two = refl
+newest_is = refl
 
 number_next : (depth : ℕ) (r : List Token) → value_at depth (Token.number newest_text ∷ r) ≡ Some (number (unsigned newest_number), r)
-number_next depth r = ap (converted of_json) (value_is depth (Token.number newest_text ∷ r)) ∙ rw two refl
+number_next depth r = ap (converted of_json) (value_is depth (Token.number newest_text ∷ r)) ∙ rw newest_is refl
 
 -- the parts of a text, one after the other
 pub parts_hold : (ts t1 s1 t2 r1 s2 r2 s3 r3 : List Token) (rows : Members) (text realm : List ℕ) (es : List (Entry Row))

@@ -1,35 +1,41 @@
 -- The versions of the text of a database, and how their rows differ.
 use Rattle.std.specs.Prelude.{ℕ, suc, ◌==◌, length, Bool, true, false, List, codes, if◌then◌else◌, Option, Some, None}
 use Rattle.principal_rows.specs.Policy.{default_policy}
+use Rattle.text_fields.specs.declared.settings.FlagField.TheVariants.{Service}
 use Rattle.text_fields.specs.declared.settings.Setting.{Setting}
-use Rattle.text_fields.specs.declared.settings.Setting.TheVariants.{Time}
+use Rattle.text_fields.specs.declared.settings.Setting.TheVariants.{Flag, Time}
 use Rattle.text_fields.specs.declared.settings.TimeField.TheVariants.{RevokedBefore}
 use Rattle.text_fields.specs.Settings.{settings_of}
 use Rattle.principals.specs.declared.format.Format.{Format}
-use Rattle.principals.specs.declared.format.Format.TheVariants.{Version1, Version2}
+use Rattle.principals.specs.declared.format.Format.TheVariants.{Version1, Version2, Version3}
 
 abbrev pub format_of : ℕ → Option Format
-format_of n = if n == 1 then Some Version1 else if n == 2 then Some Version2 else None
+format_of n =
+    if n == 1 then Some Version1 else if n == 2 then Some Version2 else if n == 3 then Some Version3 else None
 
 -- the version that is written, its number, and the text of that
 abbrev pub newest : Format
-newest = Version2
+newest = Version3
 
 abbrev pub newest_number : ℕ
-newest_number = 2
+newest_number = 3
 
 abbrev pub newest_text : List ℕ
-newest_text = codes "2"
+newest_text = codes "3"
 
--- whether rows of a version have no member for a field: those of version 1 say nothing of revoked tickets
+-- whether rows of a version have no member for a field: those of version 1 say nothing of revoked tickets, and those of
+-- versions 1 and 2 nothing of whom tickets may be for
 abbrev pub lacks : Format → Setting → Bool
 lacks Version1 (Time RevokedBefore _) = true
+lacks Version1 (Flag Service _) = true
+lacks Version2 (Flag Service _) = true
 lacks _ _ = false
 
 -- how many members a row has
 abbrev pub row_members : Format → ℕ
 row_members Version1 = 11
-row_members Version2 = suc (length (settings_of default_policy))
+row_members Version2 = 12
+row_members Version3 = suc (length (settings_of default_policy))
 
 -- how many settings stand before the keys
 abbrev pub before_keys : ℕ

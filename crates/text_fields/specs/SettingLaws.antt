@@ -6,7 +6,7 @@ use Rattle.std.proofs.lemmas.List.{take_all, length-map, length-set}
 use Rattle.std.proofs.lemmas.Grind.{take-set_at}
 use Rattle.principal_rows.specs.declared.policy.Policy.{Policy}
 use Rattle.text_fields.specs.declared.settings.FlagField.TheVariants.{Disabled, Preauth, Forwardable, Proxiable}
-use Rattle.text_fields.specs.declared.settings.FlagField.TheVariants.{Postdate, OkAsDelegate}
+use Rattle.text_fields.specs.declared.settings.FlagField.TheVariants.{Postdate, OkAsDelegate, Service}
 use Rattle.text_fields.specs.declared.settings.LifeField.TheVariants.{GreatestLife, GreatestRenewable}
 use Rattle.text_fields.specs.declared.settings.Setting.{Setting}
 use Rattle.text_fields.specs.declared.settings.Setting.TheVariants.{Flag, Life, Time}
@@ -21,6 +21,7 @@ placed (Flag Forwardable on) p = refl
 placed (Flag Proxiable on) p = refl
 placed (Flag Postdate on) p = refl
 placed (Flag OkAsDelegate on) p = refl
+placed (Flag Service on) p = refl
 placed (Life GreatestLife life) p = refl
 placed (Life GreatestRenewable life) p = refl
 placed (Time Expires time) p = refl
@@ -55,6 +56,6 @@ in_order (s ∷ ss) all n long are =
 pub made : (settings : List Setting) (p : Policy) → map place settings ≡ map place (settings_of p)
     → settings_of (with_settings settings p) ≡ settings
 made settings p are =
-    let many : length settings ≡ 11 = sym (length-map settings place) ∙ ap length are in
+    let many : length settings ≡ 12 = sym (length-map settings place) ∙ ap length are in
     all_placed settings p
     ∙ in_order settings (settings_of p) 0 (omega (arith, many)) (are ∙ ap (upwards 0) (sym many))

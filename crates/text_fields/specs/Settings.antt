@@ -7,7 +7,7 @@ use Rattle.krb_fields.specs.Moment.{IsSecond}
 use Rattle.principal_rows.specs.declared.policy.Policy.{Policy}
 use Rattle.text_fields.specs.declared.settings.FlagField.{FlagField}
 use Rattle.text_fields.specs.declared.settings.FlagField.TheVariants.{Disabled, Preauth, Forwardable, Proxiable}
-use Rattle.text_fields.specs.declared.settings.FlagField.TheVariants.{Postdate, OkAsDelegate}
+use Rattle.text_fields.specs.declared.settings.FlagField.TheVariants.{Postdate, OkAsDelegate, Service}
 use Rattle.text_fields.specs.declared.settings.LifeField.{LifeField}
 use Rattle.text_fields.specs.declared.settings.LifeField.TheVariants.{GreatestLife, GreatestRenewable}
 use Rattle.text_fields.specs.declared.settings.TimeField.{TimeField}
@@ -25,6 +25,7 @@ flag_name Forwardable = codes "forwardable"
 flag_name Proxiable = codes "proxiable"
 flag_name Postdate = codes "postdate"
 flag_name OkAsDelegate = codes "ok_as_delegate"
+flag_name Service = codes "service"
 
 abbrev pub life_name : LifeField → List ℕ
 life_name GreatestLife = codes "greatest_life"
@@ -49,6 +50,7 @@ flag_of name =
     else if bytes_eq name (codes "proxiable") then Some Proxiable
     else if bytes_eq name (codes "postdate") then Some Postdate
     else if bytes_eq name (codes "ok_as_delegate") then Some OkAsDelegate
+    else if bytes_eq name (codes "service") then Some Service
     else None
 
 abbrev pub life_of : List ℕ → Option LifeField
@@ -98,6 +100,7 @@ with_setting (Flag Forwardable on) policy = record policy { forwardable = on }
 with_setting (Flag Proxiable on) policy = record policy { proxiable = on }
 with_setting (Flag Postdate on) policy = record policy { postdate = on }
 with_setting (Flag OkAsDelegate on) policy = record policy { ok_as_delegate = on }
+with_setting (Flag Service on) policy = record policy { service = on }
 with_setting (Life GreatestLife life) policy = record policy { greatest_life = life }
 with_setting (Life GreatestRenewable life) policy = record policy { greatest_renewable = life }
 with_setting (Time Expires time) policy = record policy { expires = time }
@@ -120,6 +123,7 @@ settings_of policy =
     ∷ Flag Preauth policy.preauth
     ∷ Flag Proxiable policy.proxiable
     ∷ Time RevokedBefore policy.revoked_before
+    ∷ Flag Service policy.service
     ∷ []
 
 -- where a setting stands among them
@@ -135,6 +139,7 @@ place (Flag Postdate on) = 7
 place (Flag Preauth on) = 8
 place (Flag Proxiable on) = 9
 place (Time RevokedBefore time) = 10
+place (Flag Service on) = 11
 
 -- the policy with all of these set, one after the other
 abbrev pub with_settings : List Setting → Policy → Policy

@@ -28,6 +28,7 @@ pub enum FlagField {
     Proxiable,
     Postdate,
     OkAsDelegate,
+    Service,
 }
 
 /// A field of so many seconds.
@@ -46,7 +47,7 @@ pub enum TimeField {
 }
 
 /// How many fields a policy has.
-pub const SETTINGS: usize = 11;
+pub const SETTINGS: usize = 12;
 
 /// A field of a policy with its value.
 #[derive(Clone, Copy, PartialEq, Eq)]
@@ -69,6 +70,7 @@ impl FlagField {
             FlagField::Proxiable => "proxiable",
             FlagField::Postdate => "postdate",
             FlagField::OkAsDelegate => "ok_as_delegate",
+            FlagField::Service => "service",
         }
     }
 }
@@ -162,6 +164,7 @@ impl Setting {
             Setting::Flag(FlagField::Preauth, policy.preauth),
             Setting::Flag(FlagField::Proxiable, policy.proxiable),
             Setting::Time(TimeField::RevokedBefore, policy.revoked_before),
+            Setting::Flag(FlagField::Service, policy.service),
         ]
     }
 
@@ -177,6 +180,7 @@ impl Setting {
             Setting::Flag(FlagField::Proxiable, on) => policy.proxiable = on,
             Setting::Flag(FlagField::Postdate, on) => policy.postdate = on,
             Setting::Flag(FlagField::OkAsDelegate, on) => policy.ok_as_delegate = on,
+            Setting::Flag(FlagField::Service, on) => policy.service = on,
             Setting::Life(LifeField::GreatestLife, life) => policy.greatest_life = life,
             Setting::Life(LifeField::GreatestRenewable, life) => policy.greatest_renewable = life,
             Setting::Time(TimeField::Expires, time) => policy.expires = time,
@@ -240,6 +244,8 @@ fn flag_field(name: &str) -> Option<FlagField>
         Some(FlagField::Postdate)
     } else if name == "ok_as_delegate" {
         Some(FlagField::OkAsDelegate)
+    } else if name == "service" {
+        Some(FlagField::Service)
     } else {
         None
     }
