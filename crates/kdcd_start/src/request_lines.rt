@@ -105,7 +105,7 @@ fn asked_line(
 }
 
 fn peer_text(alloc: Global, peer: Option<SocketAddr>) -> Result<String, AllocError>
-    ensures { IfOk result (λ text. text.items ≡ peer_text peer) }
+    ensures { IfOk result (λ text. text.bytes.items ≡ peer_text peer) }
 {
     match peer {
         Some(peer) => format!(in alloc; "{peer}"),
