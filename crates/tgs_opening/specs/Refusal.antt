@@ -12,11 +12,11 @@ use Rattle.tgs_opening.specs.declared.refusal.TgsRefusal.TheVariants.{BadChecksu
 use Rattle.tgs_opening.specs.declared.refusal.TgsRefusal.TheVariants.{ClientUnknown, ClientRevoked, ClientExpired}
 use Rattle.tgs_opening.specs.declared.refusal.TgsRefusal.TheVariants.{TicketRevoked, Skewed, Repeated, Full}
 use Rattle.tgs_opening.specs.declared.refusal.TgsRefusal.TheVariants.{NotYetValid}
-use Rattle.tgs_opening.specs.declared.refusal.TgsRefusal.TheVariants.{TicketExpired, ServiceUnknown, ServiceRevoked}
-use Rattle.tgs_opening.specs.declared.refusal.TgsRefusal.TheVariants.{ServiceExpired, OtherService, AuthorizationData}
-use Rattle.tgs_opening.specs.declared.refusal.TgsRefusal.TheVariants.{BadOption, NothingToValidate, ValidatedTooEarly}
-use Rattle.tgs_opening.specs.declared.refusal.TgsRefusal.TheVariants.{RenewedTooLate, NoCommonType, StartsTooLate}
-use Rattle.tgs_opening.specs.declared.refusal.TgsRefusal.TheVariants.{NeverValid}
+use Rattle.tgs_opening.specs.declared.refusal.TgsRefusal.TheVariants.{TicketExpired, ServiceUnknown, ServiceDenied}
+use Rattle.tgs_opening.specs.declared.refusal.TgsRefusal.TheVariants.{ServiceRevoked, ServiceExpired, OtherService}
+use Rattle.tgs_opening.specs.declared.refusal.TgsRefusal.TheVariants.{AuthorizationData, BadOption, NothingToValidate}
+use Rattle.tgs_opening.specs.declared.refusal.TgsRefusal.TheVariants.{ValidatedTooEarly, RenewedTooLate, NoCommonType}
+use Rattle.tgs_opening.specs.declared.refusal.TgsRefusal.TheVariants.{StartsTooLate, NeverValid}
 
 abbrev pub code_of : TgsRefusal → Code
 code_of BadVersion = codes.TheVariants.KdcErrBadPvno
@@ -49,6 +49,7 @@ code_of Full = codes.TheVariants.KdcErrSvcUnavailable
 code_of NotYetValid = codes.TheVariants.KrbApErrTktNyv
 code_of TicketExpired = codes.TheVariants.KrbApErrTktExpired
 code_of ServiceUnknown = codes.TheVariants.KdcErrSPrincipalUnknown
+code_of ServiceDenied = codes.TheVariants.KdcErrSPrincipalUnknown
 code_of ServiceRevoked = codes.TheVariants.KdcErrServiceRevoked
 code_of ServiceExpired = codes.TheVariants.KdcErrServiceExp
 code_of OtherService = codes.TheVariants.KdcErrServerNomatch
