@@ -14,7 +14,7 @@ use Rattle.krb_fields.specs.declared.ticket_flag.TicketFlag.{TicketFlag}
 use Rattle.krb_fields.specs.declared.ticket_flag.TicketFlag.TheVariants.{Forwardable, Proxiable, MayPostdate, Invalid}
 use Rattle.krb_fields.specs.declared.ticket_flag.TicketFlag.TheVariants.{Renewable}
 use Rattle.krb_types.specs.ReqBody.{ReqBody}
-use Rattle.kdc_replies.specs.Standing.{is_disabled, is_expired}
+use Rattle.kdc_replies.specs.Standing.{is_disabled, is_expired, is_service_denied}
 use Rattle.principal_rows.specs.declared.row.Row.{Row}
 use Rattle.ticket_times.specs.Asked.{asks, keeps_ticket}
 use Rattle.ticket_times.specs.TicketTerms.{has_flag, start_of_ticket, renewal_of_ticket}
@@ -26,8 +26,8 @@ use Rattle.tgs_opening.specs.declared.refusal.TgsRefusal.{TgsRefusal}
 use Rattle.tgs_opening.specs.declared.refusal.TgsRefusal.TheVariants.{ClientUnknown, ClientRevoked, ClientExpired}
 use Rattle.tgs_opening.specs.declared.refusal.TgsRefusal.TheVariants.{TicketRevoked}
 use Rattle.tgs_opening.specs.declared.refusal.TgsRefusal.TheVariants.{NotYetValid, TicketExpired, ServiceUnknown}
-use Rattle.tgs_opening.specs.declared.refusal.TgsRefusal.TheVariants.{ServiceRevoked, ServiceExpired, OtherService}
-use Rattle.tgs_opening.specs.declared.refusal.TgsRefusal.TheVariants.{AuthorizationData}
+use Rattle.tgs_opening.specs.declared.refusal.TgsRefusal.TheVariants.{ServiceDenied, ServiceRevoked, ServiceExpired}
+use Rattle.tgs_opening.specs.declared.refusal.TgsRefusal.TheVariants.{OtherService, AuthorizationData}
 use Rattle.tgs_opening.specs.declared.refusal.TgsRefusal.TheVariants.{BadOption, NothingToValidate, ValidatedTooEarly}
 use Rattle.tgs_opening.specs.declared.refusal.TgsRefusal.TheVariants.{RenewedTooLate, NoCommonType, StartsTooLate}
 use Rattle.tgs_opening.specs.declared.refusal.TgsRefusal.TheVariants.{NeverValid}
@@ -122,6 +122,7 @@ rules_by v now body p found times =
     (is_not_yet_valid ticket now body, NotYetValid)  -- 3.2.3
     ∷ (has_ended ticket now, TicketExpired)  -- 3.2.3
     ∷ (is_service_unknown v body, ServiceUnknown)  -- 3.3.3
+    ∷ (is_service_denied v.service, ServiceDenied)  -- 3.3.3
     ∷ (is_disabled v.service, ServiceRevoked)  -- 3.3.3
     ∷ (is_expired v.service now, ServiceExpired)  -- 3.3.3
     ∷ (is_for_other_service body p.ticket_service, OtherService)  -- 3.3.2

@@ -10,7 +10,7 @@ ghost use Rattle.tgs_exchange.specs.Rules.{starts_late};
 
 use crate::terms::{Admission, Terms, admission_of, ticket_terms, times_of};
 use crate::view::TgsView;
-use kdc_replies::{is_disabled, is_expired};
+use kdc_replies::{is_disabled, is_expired, is_service_denied};
 use krb_fields::{KdcOption, Moment, Name, SKEW, Second, TicketFlag};
 use krb_types::ReqBodyRef;
 use principal_rows::Row;
@@ -60,7 +60,7 @@ fn rules_by(
     presented: &Presented,
     terms: &Option<Terms>,
     times: &Option<Times>,
-) -> [(bool, TgsRefusal); 14]
+) -> [(bool, TgsRefusal); 15]
     ensures { result ≡ rules_by view.now at.sec body.now presented.now terms.now times.now }
 {
     let ticket = &ticket_terms(&presented.ticket);
@@ -68,6 +68,7 @@ fn rules_by(
         (is_not_yet_valid(ticket, at, body), TgsRefusal::NotYetValid),
         (has_ended(ticket, at), TgsRefusal::TicketExpired),
         (is_service_unknown(view, body), TgsRefusal::ServiceUnknown),
+        (is_service_denied(view.service), TgsRefusal::ServiceDenied),
         (is_disabled(view.service), TgsRefusal::ServiceRevoked),
         (is_expired(view.service, at), TgsRefusal::ServiceExpired),
         (
