@@ -53,15 +53,16 @@ asker_of source (Pass peer) = record { transport = Udp; peer = Some peer.address
 asker_of source (Write conn reply) = record { transport = Tcp; peer = source }
 asker_of source (Close conn reason) = record { transport = Tcp; peer = source }
 
-abbrev pub entry_of : Came → Action → Option Account → LogEntry
-entry_of came action account = record { at = came.at; asker = asker_of came.source action; account = account }
+-- one entry for each
+abbrev pub entries_by : Moment → Asker → List (Option Account) → List LogEntry
+entries_by at asker accounts = map (λ account. record { at = at; asker = asker; account = account }) accounts
 
 -- an action has one entry for the request that it answers, if it answers one
 abbrev pub entries_of : Came → Action → List LogEntry
-entries_of came action = map (entry_of came action) (reported action)
+entries_of came action = entries_by came.at (asker_of came.source action) (reported action)
 
 -- entries written one after another
-pub LogsAll : {L : Type 0} → (L → LogEntry → L → Type 0) → L → List LogEntry → L → Type 0
+abbrev pub LogsAll : {L : Type 0} → (L → LogEntry → L → Type 0) → L → List LogEntry → L → Type 0
 LogsAll {L} Logs log [] new = new ≡ log
 LogsAll {L} Logs log (entry ∷ entries) new = (middle : L) × Logs log entry middle × LogsAll Logs middle entries new
 
@@ -110,11 +111,22 @@ module _ {W : Type 0} (contents : W → Option (List ℕ)) (log : RequestLines W
     pub lost : new.lost ≡ min (log.lost + 1) (2 ^ 64 - 1)
     pub unreported : (new.unreported ≡ min (log.unreported + 1) (2 ^ 64 - 1)) ⊎ (new.unreported ≡ 1)
 
+  -- it is reported how many lines were lost, if any were
+  pub record ReportsLost : Type 0 where
+    pub appends : Appends (contents log.lines) (contents new.lines) (lost_text log.unreported)
+    pub format : new.format ≡ log.format
+    pub lost : new.lost ≡ log.lost
+    pub unreported : new.unreported ≡ 0
+
   -- the line was not written. That others were lost may have been reported
   pub record FailsLine : Type 0 where
     pub format : new.format ≡ log.format
     pub lost : new.lost ≡ log.lost
     pub unreported : (new.unreported ≡ log.unreported) ⊎ (new.unreported ≡ 0)
+
+  abbrev pub TriesLost : {T E : Type 0} → Result T E → Type 0
+  TriesLost (Ok done) = ReportsLost
+  TriesLost (Err error) = FailsLine
 
   abbrev pub TriesLine : {T E : Type 0} → List ℕ → Result T E → Type 0
   TriesLine line (Ok done) = WritesLine line

@@ -1,9 +1,10 @@
 //! A Wire with a log.
 ghost use Rattle.std.specs.Prelude.{◌≡◌, ◌∷◌, [], option_copied};
 ghost use Rattle.kdc_hub.specs.Wire.{IsCounted, Records, acted, faults_of};
-ghost use Rattle.kdcd_start.specs.Log.{LogEntry, LogsAll, LogsWhere, asker_of, entries_of};
+ghost use Rattle.kdcd_start.specs.Log.{LogEntry, LogsAll, LogsWhere, asker_of, closing_reports, entries_by};
+ghost use Rattle.kdcd_start.specs.Log.{entries_of, reports};
 
-use kdc_hub::{Account, Action, CloseReason, Event, Peers, Wire, WireFault};
+use kdc_hub::{Account, Action, CloseReason, Event, Peers, Reply, Wire, WireFault};
 use krb_fields::Moment;
 use request_log::{Asker, Transport};
 use std::alloc::Global;
@@ -113,19 +114,38 @@ fn log_action<L: LogWriter>(alloc: Global, log: &mut L, came: Came, action: &Act
     let at = came.at;
     let asker = asker_of(came.source, action);
     match action {
-        Action::SendTo { reply, .. } | Action::Write { reply, .. } => {
-            if let Some(account) = &reply.account {
-                log.write_entry(alloc, at, asker, Some(account));
-            }
-        }
+        Action::SendTo { reply, .. } => log_reply(alloc, log, at, asker, reply),
         Action::Pass { .. } => log.write_entry(alloc, at, asker, Some(&Account::NoRequest)),
-        Action::Close { reason, .. } => match reason {
-            CloseReason::NoRequest | CloseReason::BadLength => {
-                log.write_entry(alloc, at, asker, Some(&Account::NoRequest));
-            }
-            CloseReason::OutOfMemory => log.write_entry(alloc, at, asker, None),
-            CloseReason::Full => {}
-        },
+        Action::Write { reply, .. } => log_reply(alloc, log, at, asker, reply),
+        Action::Close { reason, .. } => log_close(alloc, log, at, asker, *reason),
+    }
+}
+
+/// Writes the entry for the request that a reply answers. Without an account it answers no request.
+fn log_reply<L: LogWriter>(alloc: Global, log: &mut L, at: Moment, asker: Asker, reply: &Reply)
+    ensures { LogsAll L.Logs log.old (entries_by at asker (reports reply.now.account)) log.new }
+{
+    match &reply.account {
+        Some(account) => log.write_entry(alloc, at, asker, Some(account)),
+        None => {}
+    }
+}
+
+/// Writes the entry for the request for which a connection is closed, if it is closed for one.
+fn log_close<L: LogWriter>(
+    alloc: Global,
+    log: &mut L,
+    at: Moment,
+    asker: Asker,
+    reason: CloseReason,
+)
+    ensures { LogsAll L.Logs log.old (entries_by at asker (closing_reports reason)) log.new }
+{
+    match reason {
+        CloseReason::NoRequest => log.write_entry(alloc, at, asker, Some(&Account::NoRequest)),
+        CloseReason::BadLength => log.write_entry(alloc, at, asker, Some(&Account::NoRequest)),
+        CloseReason::Full => {}
+        CloseReason::OutOfMemory => log.write_entry(alloc, at, asker, None),
     }
 }
 

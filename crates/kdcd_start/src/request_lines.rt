@@ -1,6 +1,7 @@
 //! The lines of a server's log.
-ghost use Rattle.std.specs.Prelude.{◌≡◌, IfOk, option_copied};
-ghost use Rattle.kdcd_start.specs.Log.{LogsLine, TriesLine, entry_line, line_of, peer_text, written};
+ghost use Rattle.std.specs.Prelude.{◌≡◌, IfOk, OnOk, option_copied};
+ghost use Rattle.std.specs.Io.KnownBytes.{Appends};
+ghost use Rattle.kdcd_start.specs.Log.{LogsLine, TriesLine, TriesLost, entry_line, line_of, peer_text, written};
 
 use crate::logged_wire::LogWriter;
 use kdc_hub::Account;
@@ -70,11 +71,27 @@ impl<W: Write> RequestLines<W> {
             (record { at = at; asker = asker; account = option_copied account.entry })) result }
     {
         let line = asked_line(alloc, self.format, at, asker, account)?;
-        if self.unreported > 0 {
-            writeln!(self.lines, "kdcd: log: {} lines are lost", self.unreported)?;
-            self.unreported = 0;
+        self.report_lost()?;
+        self.write_line(&line)
+    }
+
+    /// Writes how many lines were lost, if any were since it last did.
+    fn report_lost(&mut self) -> io::Result<()>
+        ensures { TriesLost W.contents self.old self.new result }
+    {
+        if self.unreported == 0 {
+            return Ok(());
         }
-        self.lines.write_all(&line)
+        writeln!(self.lines, "kdcd: log: {} lines are lost", self.unreported)?;
+        self.unreported = 0;
+        Ok(())
+    }
+
+    fn write_line(&mut self, line: &[u8]) -> io::Result<()>
+        ensures lines { OnOk result (Appends (W.contents self.old.lines) (W.contents self.new.lines) line.now) }
+        ensures others { self.new ≡ record self.old { lines = self.new.lines } }
+    {
+        self.lines.write_all(line)
     }
 }
 
