@@ -4,7 +4,7 @@ use Rattle.as_exchange.specs.declared.refusal.AsRefusal.{AsRefusal}
 use Rattle.as_exchange.specs.declared.refusal.AsRefusal.TheVariants.{BadVersion as AsBadVersion, BadMessageType as AsBadMessageType, ClientUnknown as AsClientUnknown, ServiceUnknown as AsServiceUnknown, ClientRevoked as AsClientRevoked}
 use Rattle.as_exchange.specs.declared.refusal.AsRefusal.TheVariants.{ClientExpired as AsClientExpired, PasswordExpired, ServiceRevoked as AsServiceRevoked, ServiceExpired as AsServiceExpired, BadOption as AsBadOption}
 use Rattle.as_exchange.specs.declared.refusal.AsRefusal.TheVariants.{NoCommonType as AsNoCommonType, PreauthFailed, TimestampSkewed, PreauthRequired, PostdatingRefused}
-use Rattle.as_exchange.specs.declared.refusal.AsRefusal.TheVariants.{StartsTooLate as AsStartsTooLate, NeverValid as AsNeverValid}
+use Rattle.as_exchange.specs.declared.refusal.AsRefusal.TheVariants.{StartsTooLate as AsStartsTooLate, NeverValid as AsNeverValid, ServiceDenied as AsServiceDenied}
 use Rattle.tgs_opening.specs.declared.refusal.TgsRefusal.{TgsRefusal}
 use Rattle.tgs_opening.specs.declared.refusal.TgsRefusal.TheVariants.{BadVersion as TgsBadVersion, BadMessageType as TgsBadMessageType, NoApReq, MalformedApReq, BadTicketVersion}
 use Rattle.tgs_opening.specs.declared.refusal.TgsRefusal.TheVariants.{BadApMessageType, SessionKeyAsked, NotForUs, NoKey, BadKeyVersion}
@@ -14,7 +14,7 @@ use Rattle.tgs_opening.specs.declared.refusal.TgsRefusal.TheVariants.{ClientUnkn
 use Rattle.tgs_opening.specs.declared.refusal.TgsRefusal.TheVariants.{Repeated, Full, NotYetValid, TicketExpired, ServiceUnknown as TgsServiceUnknown}
 use Rattle.tgs_opening.specs.declared.refusal.TgsRefusal.TheVariants.{ServiceRevoked as TgsServiceRevoked, ServiceExpired as TgsServiceExpired, OtherService, AuthorizationData, BadOption as TgsBadOption}
 use Rattle.tgs_opening.specs.declared.refusal.TgsRefusal.TheVariants.{NothingToValidate, ValidatedTooEarly, RenewedTooLate, NoCommonType as TgsNoCommonType, StartsTooLate as TgsStartsTooLate}
-use Rattle.tgs_opening.specs.declared.refusal.TgsRefusal.TheVariants.{NeverValid as TgsNeverValid}
+use Rattle.tgs_opening.specs.declared.refusal.TgsRefusal.TheVariants.{NeverValid as TgsNeverValid, ServiceDenied as TgsServiceDenied}
 use Rattle.krb_fields.specs.declared.code.Code.{Code}
 use Rattle.krb_fields.specs.declared.code.Code.TheVariants.{KdcErrNameExp, KdcErrServiceExp, KdcErrBadPvno, KdcErrCPrincipalUnknown, KdcErrSPrincipalUnknown}
 use Rattle.krb_fields.specs.declared.code.Code.TheVariants.{KdcErrCannotPostdate, KdcErrNeverValid, KdcErrPolicy, KdcErrBadoption, KdcErrEtypeNosupp}
@@ -31,6 +31,7 @@ as_rule_name AsBadVersion = codes "bad-version"
 as_rule_name AsBadMessageType = codes "bad-message-type"
 as_rule_name AsClientUnknown = codes "client-unknown"
 as_rule_name AsServiceUnknown = codes "service-unknown"
+as_rule_name AsServiceDenied = codes "service-denied"
 as_rule_name AsClientRevoked = codes "client-revoked"
 as_rule_name AsClientExpired = codes "client-expired"
 as_rule_name PasswordExpired = codes "password-expired"
@@ -77,6 +78,7 @@ tgs_rule_name Full = codes "full"
 tgs_rule_name NotYetValid = codes "not-yet-valid"
 tgs_rule_name TicketExpired = codes "ticket-expired"
 tgs_rule_name TgsServiceUnknown = codes "service-unknown"
+tgs_rule_name TgsServiceDenied = codes "service-denied"
 tgs_rule_name TgsServiceRevoked = codes "service-revoked"
 tgs_rule_name TgsServiceExpired = codes "service-expired"
 tgs_rule_name OtherService = codes "other-service"
