@@ -33,7 +33,7 @@ def database_text(rows):
         known[name]["keys"] = [{"keys": [
             {"etype": etype, "key": source.randbytes(size).hex()} for etype, size in ((18, 32), (17, 16), (20, 32), (19, 16))
         ], "version": 1}]
-    return json.dumps({"principals": known, "realm": REALM.decode(), "version": 2}, separators=(",", ":"))
+    return json.dumps({"principals": known, "realm": REALM.decode(), "version": 3}, separators=(",", ":"))
 
 
 class RealmServer(Server):

@@ -42,12 +42,12 @@ def row(key, preauth=True):
         "disabled": False, "expires": None, "forwardable": True, "greatest_life": 4294967295,
         "greatest_renewable": 4294967295, "keys": [{"keys": [{"etype": 18, "key": key}], "version": 1}],
         "ok_as_delegate": False, "password_expires": None, "postdate": False, "preauth": preauth, "proxiable": True,
-        "revoked_before": None,
+        "revoked_before": None, "service": True,
     }
 
 
 def database_text(rows):
-    return json.dumps({"principals": rows, "realm": REALM.decode(), "version": 2})
+    return json.dumps({"principals": rows, "realm": REALM.decode(), "version": 3})
 
 
 class Server:

@@ -146,7 +146,7 @@ def kdcd(programs, folder, realm, principals, port, log=False, errors=None):
             kadm("random", "--name", each.name, *types)
         else:
             (folder / "password").write_text(each.password + "\n")
-            kadm("add", "--name", each.name, "--password-file", folder / "password", *types)
+            kadm("add", "--name", each.name, "--password-file", folder / "password", "--service", *types)
         if not each.preauth:
             kadm("policy", "--name", each.name, "--field", "preauth", "--value", "false")
     address = f"127.0.0.1:{port}"

@@ -66,7 +66,7 @@ GOOD = {
 # The options of each command: `!` has to stand there, `*` may stand more than once, and `-` has no value.
 COMMANDS = {
     "kadm init": "db! realm! seed",
-    "kadm add": "db! name! password-file types random- any-password-",
+    "kadm add": "db! name! password-file types random- service- any-password-",
     "kadm passwd": "db! name! password-file types replace- any-password-",
     "kadm random": "db! name! seed types replace-",
     "kadm drop": "db! name! version older-",
@@ -75,7 +75,7 @@ COMMANDS = {
     "kadm list": "db! like long-",
     "kadm show": "db! name!",
     "kadm keytab": "db! name! out! append-",
-    "kadm migrate": "db!",
+    "kadm migrate": "db! users-are-no-services-",
     "kdcd serve": "db! udp!* tcp* log- log-format first- fixed- seed rounds remembered lock-after lock-seconds greatest-life "
     "greatest-renewable",
     "kclient kinit": "kdc* realm name! password-file keytab cache! service seed life start least-count renewable- "
@@ -83,7 +83,7 @@ COMMANDS = {
     "kclient kvno": "kdc* cache! name!* keytab seed fresh- tcp-",
     "kclient klist": "cache! keytab",
 }
-FLAGS = ("disabled", "preauth", "forwardable", "proxiable", "postdate", "ok_as_delegate")
+FLAGS = ("disabled", "preauth", "forwardable", "proxiable", "postdate", "ok_as_delegate", "service")
 TIMES = ("expires", "password_expires", "revoked_before")
 SPANS = ("greatest_life", "greatest_renewable")
 # Values of the fields of a policy, good and bad.
@@ -172,7 +172,7 @@ def try_kadm(trial):
         kadm add --db database --name x <<<  -> 1 =refused BadPassword
         kadm add --db database --name x --random --password-file pw -> 2 --random
         kadm drop --db database --name s --older --version 1 -> 2 --older
-        kadm list --db database --like t --long -> 0 =t 2 17 never never false 1
+        kadm list --db database --like t --long -> 0 =t 2 17 never never false 1 true
         kadm remove --db database --name s -> 0 =ok
         kadm remove --db database --name t -> 0 =ok
         kadm --version -> 0 kadm 
@@ -180,6 +180,12 @@ def try_kadm(trial):
         kadm keytab --db database --name b --out a.keytab --append -> 0 =ok
         kadm remove --db database --name b -> 0 =ok
         kadm migrate --db database -> 0 =ok
+        kadm list --db database --like c --long -> 0 =c 2 18,17,20,19 never never false 2 false
+        kadm add --db database --name d --password-file pw --service --types 18 -> 0 =ok
+        kadm list --db database --like d --long -> 0 =d 1 18 never never false 1 true
+        kadm migrate --db database --users-are-no-services -> 0 =ok
+        kadm list --db database --like d --long -> 0 =d 1 18 never never false 1 false
+        kadm remove --db database --name d -> 0 =ok
     """)
     every, rows = "1 18,17,20,19", ["a 2 20,18", "c 2 18,17,20,19"]
     rows += [f"h {every}", f"host/n {every}", f"krbtgt/{REALM} {every}", "r 2 19,17", f"u {every}", f"v {every}"]

@@ -1,5 +1,5 @@
 -- What a command did, from what each of its calls did.
-use Rattle.std.proofs.Common.{◌≡◌, ◌∙◌, ℕ, List, Option, Result, Ok, Err, OnOk, map, option_map, ap, subst}
+use Rattle.std.proofs.Common.{◌≡◌, ◌∙◌, ℕ, Bool, List, Option, Result, Ok, Err, OnOk, map, option_map, ap, subst}
 use Rattle.enctypes.specs.declared.etype.Etype.{Etype}
 use Rattle.file_store.specs.World.{World, with_file, HasSeed}
 use Rattle.krb_fields.specs.Name.{Components}
@@ -7,6 +7,7 @@ use Rattle.krb_fields.specs.NameText.{IsNameText}
 use Rattle.krb_fields.specs.Salt.{default_salt}
 use Rattle.principal_keys.specs.Keys.{drawn_keys, password_key, seeded}
 use Rattle.principals.specs.Database.{Principals}
+use Rattle.kadm_run.specs.Denying.{migrated_rows}
 use Rattle.kadm_run.specs.Granting.{IsChanged, IsCleared, granted}
 use Rattle.kadm_run.specs.Worlds.{Changed, GavePassword, GaveRandom, HoldsDatabase, IsPasswordOf, Migrated, WroteFile, WroteKeytab, path_of, with_database}
 use Rattle.kadm_run.specs.declared.order.ChangeArgs.{ChangeArgs}
@@ -14,11 +15,15 @@ use Rattle.kadm_run.specs.declared.order.KeytabOrder.{KeytabOrder}
 use Rattle.kadm_run.specs.declared.order.PasswordGrant.{PasswordGrant}
 use Rattle.kadm_run.specs.declared.order.RandomGrant.{RandomGrant}
 
-pub migrated : {T E : Type 0} (r : Result T E) (before opened after : Option World) (db : List ℕ) (p : Principals)
-    → opened ≡ before → HoldsDatabase before db p → OnOk r (after ≡ with_database db p opened) → OnOk r (Migrated before db after)
-migrated (Ok x) before opened after db p kept read written =
-    record { old = p; read = read; written = written ∙ ap (λ world. with_database db p world) kept }
-migrated (Err e) before opened after db p kept read written = tt
+pub migrated : {T E : Type 0} (r : Result T E) (before opened after : Option World) (db : List ℕ) (none : Bool) (p q : Principals)
+    → opened ≡ before → HoldsDatabase before db p → q ≡ migrated_rows none p → OnOk r (after ≡ with_database db q opened)
+    → OnOk r (Migrated before db none after)
+migrated (Ok x) before opened after db none p q kept read made written = record {
+  old = p;
+  read = read;
+  written = written ∙ ap (λ world. with_database db q world) kept ∙ ap (λ new. with_database db new before) made;
+}
+migrated (Err e) before opened after db none p q kept read made written = tt
 
 pub changed : {T E : Type 0} (r : Result T E) (before opened after : Option World) (db name : List ℕ) (how : ChangeArgs) (who : Components) (p q : Principals)
     → opened ≡ before → IsNameText who name → HoldsDatabase before db p → IsChanged how who p q → OnOk r (after ≡ with_database db q opened)

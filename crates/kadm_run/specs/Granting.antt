@@ -12,11 +12,12 @@ use Rattle.principals.specs.declared.change.RowChange.TheVariants as row_changes
 use Rattle.text_fields.specs.Settings.{IsDateOf, IsSettingOf, life_of, time_of, with_setting}
 use Rattle.text_fields.specs.declared.settings.Setting.{Setting}
 use Rattle.text_fields.specs.declared.settings.Setting.TheVariants as settings
+use Rattle.kadm_run.specs.Denying.{denied}
 use Rattle.kadm_run.specs.Spans.{IsSpanText}
 use Rattle.kadm_run.specs.declared.order.ChangeArgs.{ChangeArgs}
 use Rattle.kadm_run.specs.declared.order.ChangeArgs.TheVariants.{Drop, DropOlder, Policy, Remove}
 use Rattle.kadm_run.specs.declared.order.Grant.{Grant}
-use Rattle.kadm_run.specs.declared.order.Grant.TheVariants.{New, Next, Replace, Either, EitherReplace}
+use Rattle.kadm_run.specs.declared.order.Grant.TheVariants.{New, NewUser, Next, Replace, Either, EitherReplace}
 use Rattle.kadm_run.specs.declared.order.KeyChange.{KeyChange}
 use Rattle.kadm_run.specs.declared.order.KeyChange.TheVariants as changes
 
@@ -40,6 +41,9 @@ without_older who (Some row) p = dropped who (older_numbers row.versions) p
 abbrev pub added : Components → List ProtocolKey → Principals → Principals
 added who keys p = row_changed p who (row_changes.Add keys)
 
+abbrev pub added_user : Components → List ProtocolKey → Principals → Principals
+added_user who keys p = denied who (added who keys p)
+
 abbrev pub renewed : Components → List ProtocolKey → Principals → Principals
 renewed who keys p = row_changed p who (row_changes.NewKeys keys)
 
@@ -49,6 +53,7 @@ replaced who keys p = let new = renewed who keys p in without_older who (get new
 -- what is done for a principal that is there, or is not
 abbrev pub key_change : Grant → Bool → KeyChange
 key_change New there = changes.New
+key_change NewUser there = changes.NewUser
 key_change Next there = changes.Next
 key_change Replace there = changes.Replace
 key_change Either there = if there then changes.Next else changes.New
@@ -56,6 +61,7 @@ key_change EitherReplace there = if there then changes.Replace else changes.New
 
 abbrev pub with_keys_by : KeyChange → Components → List ProtocolKey → Principals → Principals
 with_keys_by changes.New who keys p = added who keys p
+with_keys_by changes.NewUser who keys p = added_user who keys p
 with_keys_by changes.Next who keys p = renewed who keys p
 with_keys_by changes.Replace who keys p = replaced who keys p
 

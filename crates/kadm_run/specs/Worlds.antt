@@ -1,5 +1,5 @@
 -- What a command leaves of the files.
-use Rattle.std.specs.Prelude.{◌≡◌, ℕ, false, List, map, Option, Some, None, option_map, Ok}
+use Rattle.std.specs.Prelude.{◌≡◌, ℕ, Bool, false, List, map, Option, Some, None, option_map, Ok}
 use Rattle.std.specs.Borrow.{Bor}
 use Rattle.serde_json.specs.Written.{compact_text}
 use Rattle.enctypes.specs.declared.etype.Etype.{Etype}
@@ -11,6 +11,7 @@ use Rattle.principals.specs.Database.{Principals, first_database}
 use Rattle.principals.specs.Value.{text_database}
 use Rattle.principals.specs.Written.{database_value}
 use Rattle.file_store.specs.World.{World, with_file, HasFirstLine, HasSeed, IsRead, IsThere}
+use Rattle.kadm_run.specs.Denying.{migrated_rows}
 use Rattle.kadm_run.specs.Granting.{IsChanged, IsCleared, granted}
 use Rattle.kadm_run.specs.declared.order.ChangeArgs.{ChangeArgs}
 use Rattle.kadm_run.specs.declared.order.KeytabOrder.{KeytabOrder}
@@ -79,10 +80,10 @@ pub record Changed (before : Option World) (db : List ℕ) (name : List ℕ) (ho
   pub changed : IsChanged how who old new
   pub written : after ≡ with_database db new before
 
-pub record Migrated (before : Option World) (db : List ℕ) (after : Option World) : Type 0 where
+pub record Migrated (before : Option World) (db : List ℕ) (users_are_no_services : Bool) (after : Option World) : Type 0 where
   pub old : Principals
   pub read : HoldsDatabase before db old
-  pub written : after ≡ with_database db old before
+  pub written : after ≡ with_database db (migrated_rows users_are_no_services old) before
 
 -- some octets are written at a path; every other path has what it had
 abbrev pub WroteFile : Option World → List ℕ → Option World → Type 0
@@ -98,7 +99,7 @@ Did before db etypes (Password to) after = GavePassword before db etypes to afte
 Did before db etypes (Random to) after = GaveRandom before db etypes to after
 Did before db etypes (Change name how) after = Changed before db name.now how after
 Did before db etypes (Keytab to) after = WroteKeytab before db to after
-Did before db etypes Migrate after = Migrated before db after
+Did before db etypes (Migrate users_are_no_services) after = Migrated before db users_are_no_services after
 
 -- some one of these was done
 abbrev pub DidSome : Option World → Option World → Type 0

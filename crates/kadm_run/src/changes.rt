@@ -2,10 +2,12 @@
 ghost use Rattle.std.specs.Prelude.{◌≡◌, IfOk, OnOk, OnErr};
 ghost use Rattle.principals.specs.Change.{row_changed};
 ghost use Rattle.principals.specs.declared.change.RowChange.TheVariants as row_changes;
+ghost use Rattle.kadm_run.specs.Denying.{migrated_rows};
 ghost use Rattle.kadm_run.specs.Granting.{IsChanged, IsPolicySet, IsValueOf};
 ghost use Rattle.kadm_run.specs.Worlds.{Changed, MadeNew, MadeRealm, Migrated, path_of};
 
 use crate::databases::{apply, lock_database, open_database, write_database};
+use crate::denying::deny_users;
 use crate::granting::drop_older;
 use crate::order::{ChangeArgs, Order};
 use crate::reason::Reason;
@@ -160,10 +162,28 @@ pub(crate) fn migrate<'p, T: Store, E: Write>(
     order: &Order<'p>,
     store: &mut T,
     errors: &mut E,
+    users_are_no_services: bool,
 ) -> Result<(), Stop<'p>>
-    ensures done { OnOk result (Migrated (T.world store.old) order.now.db.now (T.world store.new)) }
+    ensures done { OnOk result
+        (Migrated (T.world store.old) order.now.db.now users_are_no_services (T.world store.new)) }
     ensures kept { OnErr result (T.world store.new ≡ T.world store.old) }
 {
-    let database = open_database(alloc, order, store, errors)?;
+    let mut database = open_database(alloc, order, store, errors)?;
+    migrate_rows(alloc, &mut database, users_are_no_services)?;
     write_database(alloc, store, order.db, &database)
+}
+
+/// Gives rows what older versions of the text do not say: whether tickets may be for users.
+fn migrate_rows(
+    alloc: Global,
+    database: &mut Database,
+    users_are_no_services: bool,
+) -> Result<(), ChangeFault>
+    ensures { OnOk result (database.new ≡ migrated_rows users_are_no_services database.old) }
+{
+    if users_are_no_services {
+        deny_users(alloc, database)
+    } else {
+        Ok(())
+    }
 }

@@ -4,10 +4,12 @@ ghost use Rattle.std.specs.FinMap as finite;
 ghost use Rattle.krb_fields.specs.Salt.{default_salt};
 ghost use Rattle.principal_keys.specs.Keys.{password_key};
 ghost use Rattle.principal_rows.specs.declared.row.Row as rows;
-ghost use Rattle.kadm_run.specs.Granting.{IsCleared, added, granted, older_numbers, renewed, replaced, without_older};
+ghost use Rattle.kadm_run.specs.Granting.{IsCleared, added, added_user, granted, older_numbers, renewed, replaced};
+ghost use Rattle.kadm_run.specs.Granting.{without_older};
 ghost use Rattle.kadm_run.specs.Worlds.{GavePassword, GaveRandom};
 
 use crate::databases::{apply, open_database, write_database};
+use crate::denying::deny_service;
 use crate::order::{Grant, KeyChange, Order, PasswordGrant, RandomGrant};
 use crate::passwords::new_password;
 use crate::stop::Stop;
@@ -93,6 +95,7 @@ fn give(
 {
     match grant.key_change(is_there(database, who)) {
         KeyChange::New => add(alloc, database, who, keys),
+        KeyChange::NewUser => add_user(alloc, database, who, keys),
         KeyChange::Next => renew(alloc, database, who, keys),
         KeyChange::Replace => replace(alloc, database, who, keys),
     }
@@ -112,6 +115,19 @@ fn add(alloc: Global, database: &mut Database, who: &Name, keys: KeyList) -> Res
     ensures { OnOk result (database.new ≡ added who.now.components keys database.old) }
 {
     apply(alloc, database, who, RowChange::Add(keys))
+}
+
+/// Adds a principal for whom there are to be no tickets.
+fn add_user(
+    alloc: Global,
+    database: &mut Database,
+    who: &Name,
+    keys: KeyList,
+) -> Result<(), ChangeFault>
+    ensures { OnOk result (database.new ≡ added_user who.now.components keys database.old) }
+{
+    add(alloc, database, who, keys)?;
+    deny_service(alloc, database, who)
 }
 
 fn renew(
@@ -237,7 +253,7 @@ fn tell_version<E: Write>(errors: &mut E, to: RandomGrant<'_>, database: &Databa
     let number = row.versions.current().number;
     let name = to.name;
     let _ = match to.grant {
-        Grant::New => Ok(()),
+        Grant::New | Grant::NewUser => Ok(()),
         _ if number == 1 => writeln!(errors, "kadm: {name}: made, with keys of version 1"),
         Grant::Replace | Grant::EitherReplace => {
             writeln!(

@@ -5,6 +5,7 @@
 
 mod changes;
 mod databases;
+mod denying;
 mod granting;
 mod joining;
 mod keytabs;

@@ -14,7 +14,7 @@ use std::io::Write;
 use text_fields::{Setting, UtcDate};
 
 /// Prints `NAME VERSION TYPES` for each principal whose name fits, in the order of the names' texts. A long line goes on
-/// with `EXPIRES PASSWORD_EXPIRES DISABLED VERSIONS`.
+/// with `EXPIRES PASSWORD_EXPIRES DISABLED VERSIONS SERVICE`.
 pub(crate) fn print_list<'p, T: Store, W: Write>(
     alloc: Global,
     db: &'p str,
@@ -90,7 +90,11 @@ fn push_columns(line: &mut String, row: &Row) -> Result<(), AllocError> {
     push_time(line, row.policy.expires)?;
     push_time(line, row.policy.password_expires)?;
     let versions = row.versions.as_slice().len();
-    write!(line, " {} {versions}", row.policy.disabled)?;
+    write!(
+        line,
+        " {} {versions} {}",
+        row.policy.disabled, row.policy.service
+    )?;
     Ok(())
 }
 

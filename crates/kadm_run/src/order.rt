@@ -66,7 +66,9 @@ pub(crate) enum Work<'a> {
         how: ChangeArgs<'a>,
     },
     Keytab(KeytabOrder<'a>),
-    Migrate,
+    Migrate {
+        users_are_no_services: bool,
+    },
 }
 
 /// Who gets keys of a password.
@@ -107,6 +109,8 @@ pub(crate) struct PasswordArgs<'a> {
 pub(crate) enum Grant {
     /// To a new principal.
     New,
+    /// To a new principal, for whom there are to be no tickets.
+    NewUser,
     /// To a principal that is there, as a new version beside the older ones.
     Next,
     /// The same, and the older versions are dropped.
@@ -121,6 +125,7 @@ pub(crate) enum Grant {
 #[derive(Clone, Copy)]
 pub(crate) enum KeyChange {
     New,
+    NewUser,
     Next,
     Replace,
 }
@@ -132,6 +137,7 @@ impl Grant {
     {
         match (self, there) {
             (Grant::New, _) | (Grant::Either | Grant::EitherReplace, false) => KeyChange::New,
+            (Grant::NewUser, _) => KeyChange::NewUser,
             (Grant::Next, _) | (Grant::Either, true) => KeyChange::Next,
             (Grant::Replace, _) | (Grant::EitherReplace, true) => KeyChange::Replace,
         }
@@ -163,8 +169,8 @@ Names are components joined by `/`. Octets but 21 to 7e, and `/`, `\\` and `@` i
 two lower case hexadecimal digits.";
 
 const FIELDS: &str = "\
-disabled, preauth, forwardable, proxiable, postdate, ok_as_delegate; expires, password_expires, revoked_before; \
-greatest_life, greatest_renewable";
+disabled, preauth, forwardable, proxiable, postdate, ok_as_delegate, service; expires, password_expires, \
+revoked_before; greatest_life, greatest_renewable";
 
 const VALUES: &str = "\
 true or false; a second since 1970, a date (2027-01-01, 2027-01-01T12:00:00Z), a time from now (10h, 7d) or never; \
@@ -290,12 +296,11 @@ fn work_on<'a>(sub: &str, name: &'a str, args: &ArgMatches<'a>) -> Option<Work<'
 /// A principal that is added; `None` where random keys are to be of a password.
 fn added<'a>(name: &'a str, args: &ArgMatches<'a>) -> Option<Work<'a>> {
     let password = password_args(args);
-    let grant = Grant::New;
     if !args.get_flag(RANDOM) {
         return Some(Work::Password(PasswordGrant {
             name,
             password,
-            grant,
+            grant: new_grant(args),
         }));
     }
     if password.any || password.file.is_some() {
@@ -304,8 +309,17 @@ fn added<'a>(name: &'a str, args: &ArgMatches<'a>) -> Option<Work<'a>> {
     Some(Work::Random(RandomGrant {
         name,
         seed: None,
-        grant,
+        grant: Grant::New,
     }))
+}
+
+/// A principal with a password is a user, unless it is to be a service.
+fn new_grant(args: &ArgMatches<'_>) -> Grant {
+    if args.get_flag(SERVICE) {
+        Grant::New
+    } else {
+        Grant::NewUser
+    }
 }
 
 fn password_args<'a>(args: &ArgMatches<'a>) -> PasswordArgs<'a> {
@@ -371,7 +385,9 @@ fn task_on_all<'a>(sub: &str, args: &ArgMatches<'a>) -> Option<Task<'a>> {
             like: args.get_str("like"),
             long: args.get_flag(LONG),
         })),
-        "migrate" => Some(Task::Write(Work::Migrate)),
+        "migrate" => Some(Task::Write(Work::Migrate {
+            users_are_no_services: args.get_flag(NO_SERVICES),
+        })),
         _ => None,
     }
 }
@@ -483,6 +499,20 @@ const RANDOMS: FlagRow = FlagRow {
     help: "Gives it random keys, and asks for no password",
 };
 
+const SERVICE: &str = "service";
+
+const SERVICES: FlagRow = FlagRow {
+    name: SERVICE,
+    help: "Allows tickets for it, although its keys are made of a password",
+};
+
+const NO_SERVICES: &str = "users-are-no-services";
+
+const NO_SERVICES_ROW: FlagRow = FlagRow {
+    name: NO_SERVICES,
+    help: "Allows no tickets for users: for each principal whose name has one component, as alice",
+};
+
 const REPLACE: &str = "replace";
 
 const REPLACES: FlagRow = FlagRow {
@@ -501,7 +531,7 @@ const LONG: &str = "long";
 
 const LONGS: FlagRow = FlagRow {
     name: LONG,
-    help: "Prints also: expires, password_expires, disabled, and how many versions there are",
+    help: "Prints also: expires, password_expires, disabled, how many versions there are, and service",
 };
 
 const ANY_PASSWORD: &str = "any-password";
@@ -522,7 +552,7 @@ const SUBCOMMANDS: &[SubcommandRow] = &[
         name: "add",
         about: "Adds a principal, whose keys are made of a password, or random",
         options: &[DB, NAME, PASSWORD, TYPES],
-        flags: &[RANDOMS, ANY_PASSWORDS],
+        flags: &[RANDOMS, SERVICES, ANY_PASSWORDS],
     },
     SubcommandRow {
         name: "passwd",
@@ -568,9 +598,9 @@ const SUBCOMMANDS: &[SubcommandRow] = &[
     },
     SubcommandRow {
         name: "migrate",
-        about: "Writes a database of version 1 or 2 as version 2",
+        about: "Writes a database of version 1 or 2 as version 3",
         options: &[DB],
-        flags: &[],
+        flags: &[NO_SERVICES_ROW],
     },
     SubcommandRow {
         name: "keytab",

@@ -192,6 +192,8 @@ fn run_work<'a, T: Store, E: Write>(
         Work::Random(to) => grant_random(alloc, order, store, errors, to),
         Work::Change { name, how } => change(alloc, order, store, errors, name, how),
         Work::Keytab(to) => write_keytab(alloc, order, store, errors, to),
-        Work::Migrate => migrate(alloc, order, store, errors),
+        Work::Migrate {
+            users_are_no_services,
+        } => migrate(alloc, order, store, errors, users_are_no_services),
     }
 }

@@ -348,7 +348,7 @@ fn a_fault_of_the_command_line_has_status_2_and_names_the_option(
     run(&rt, rt.alloc(), FAULTS)
 }
 
-/// The database of version 1 that is migrated, and the one of version 2 that comes of it.
+/// Databases of the older versions, and the one of version 3 that comes of each.
 const VERSION_1: &[u8] = b"\
         {\"principals\":{\"krbtgt/A.B\":{\"disabled\":false,\"expires\":null,\"forwardable\":true,\
         \"greatest_life\":4294967295,\"greatest_renewable\":4294967295,\"keys\":[{\"keys\":[{\"etype\":17,\
@@ -363,16 +363,26 @@ const VERSION_2: &[u8] = b"\
         \"password_expires\":null,\"postdate\":false,\"preauth\":true,\"proxiable\":true,\"revoked_before\":null}},\
         \"realm\":\"A.B\",\"version\":2}";
 
+const VERSION_3: &[u8] = b"\
+        {\"principals\":{\"krbtgt/A.B\":{\"disabled\":false,\"expires\":null,\"forwardable\":true,\
+        \"greatest_life\":4294967295,\"greatest_renewable\":4294967295,\"keys\":[{\"keys\":[{\"etype\":17,\
+        \"key\":\"000102030405060708090a0b0c0d0e0f\"}],\"version\":1}],\"ok_as_delegate\":false,\
+        \"password_expires\":null,\"postdate\":false,\"preauth\":true,\"proxiable\":true,\"revoked_before\":null,\
+        \"service\":true}},\"realm\":\"A.B\",\"version\":3}";
+
 const MIGRATIONS: &[Step] = &[
     Put("db", VERSION_1),
     Run("kadm migrate --db db", "ok\n", DONE),
-    Holds("db", VERSION_2),
+    Holds("db", VERSION_3),
     Run("kadm migrate --db db", "ok\n", DONE),
-    Holds("db", VERSION_2),
+    Holds("db", VERSION_3),
+    Put("db", VERSION_2),
+    Run("kadm migrate --db db --users-are-no-services", "ok\n", DONE),
+    Holds("db", VERSION_3),
 ];
 
 #[test]
-fn a_database_of_version_1_is_migrated(rt: HostRuntime) -> io::Result<()> {
+fn a_database_of_an_older_version_is_migrated(rt: HostRuntime) -> io::Result<()> {
     run(&rt, rt.alloc(), MIGRATIONS)
 }
 

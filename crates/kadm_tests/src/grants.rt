@@ -37,6 +37,91 @@ fn random_keys_make_a_principal_or_its_next_version(rt: HostRuntime) -> io::Resu
     run(&rt, rt.alloc(), RANDOMS)
 }
 
+/// For a principal with a password there are to be no tickets, unless it is said to be a service.
+const SERVICES: &[Step] = &[
+    Run(INIT, "ok\n", DONE),
+    Run(
+        "kadm add --db db --name user --password-file pass --types 18",
+        "ok\n",
+        DONE,
+    ),
+    Run(
+        "kadm add --db db --name own --password-file pass --types 18 --service",
+        "ok\n",
+        DONE,
+    ),
+    Run(
+        "kadm add --db db --name host/www --random --types 18",
+        "ok\n",
+        DONE,
+    ),
+    Run(RANDOM, "ok\n", DONE),
+    Run(
+        LONG,
+        "\
+h 1 18 never never false 1 true
+host/www 1 18 never never false 1 true
+krbtgt/A.B 1 18,17,20,19 never never false 1 true
+own 1 18 never never false 1 true
+user 1 18 never never false 1 false
+",
+        DONE,
+    ),
+    Run(
+        "kadm passwd --db db --name h --password-file pass --types 18 --replace",
+        "ok\n",
+        DONE,
+    ),
+    Run(
+        "kadm random --db db --name user --seed seed --types 18 --replace",
+        "ok\n",
+        DONE,
+    ),
+    Run(
+        "kadm policy --db db --name own --field service --value false",
+        "ok\n",
+        DONE,
+    ),
+    Run(
+        LONG,
+        "\
+h 2 18 never never false 1 true
+host/www 1 18 never never false 1 true
+krbtgt/A.B 1 18,17,20,19 never never false 1 true
+own 1 18 never never false 1 false
+user 2 18 never never false 1 false
+",
+        DONE,
+    ),
+    Run("kadm migrate --db db --users-are-no-services", "ok\n", DONE),
+    Run(
+        LONG,
+        "\
+h 2 18 never never false 1 false
+host/www 1 18 never never false 1 true
+krbtgt/A.B 1 18,17,20,19 never never false 1 true
+own 1 18 never never false 1 false
+user 2 18 never never false 1 false
+",
+        DONE,
+    ),
+    Run(
+        "kadm policy --db db --name user --field service --value true",
+        "ok\n",
+        DONE,
+    ),
+    Run(
+        "kadm list --db db --long --like user",
+        "user 2 18 never never false 1 true\n",
+        DONE,
+    ),
+];
+
+#[test]
+fn users_are_no_services(rt: HostRuntime) -> io::Result<()> {
+    run(&rt, rt.alloc(), SERVICES)
+}
+
 /// Keys that are replaced are those that new keys and `drop --older` leave.
 const REPLACED: &[Step] = &[
     Run(INIT, "ok\n", DONE),
@@ -46,13 +131,13 @@ const REPLACED: &[Step] = &[
     Run(RANDOM, "ok\n", DONE),
     Run(
         LONG,
-        "h 3 18 never never false 3\nkrbtgt/A.B 1 18,17,20,19 never never false 1\n",
+        "h 3 18 never never false 3 true\nkrbtgt/A.B 1 18,17,20,19 never never false 1 true\n",
         DONE,
     ),
     Run("kadm drop --db db --name h --older", "ok\n", DONE),
     Run(
         LONG,
-        "h 3 18 never never false 1\nkrbtgt/A.B 1 18,17,20,19 never never false 1\n",
+        "h 3 18 never never false 1 true\nkrbtgt/A.B 1 18,17,20,19 never never false 1 true\n",
         DONE,
     ),
     Copy("db", "before"),
@@ -103,7 +188,7 @@ const EXPIRED: &[Step] = &[
     Tells(PASSWD, ""),
     Run(
         "kadm list --db db --long --like u",
-        "u 2 18 never 2027-01-01T00:00:00Z false 2\n",
+        "u 2 18 never 2027-01-01T00:00:00Z false 2 false\n",
         DONE,
     ),
     Clock(1_798_761_600),
@@ -113,7 +198,7 @@ const EXPIRED: &[Step] = &[
     ),
     Run(
         "kadm list --db db --long --like u",
-        "u 3 18 never never false 1\n",
+        "u 3 18 never never false 1 false\n",
         DONE,
     ),
 ];
@@ -201,6 +286,7 @@ postdate false
 preauth true
 proxiable true
 revoked_before 1798761600 2027-01-01T00:00:00Z
+service true
 version 1 18,17,20,19
 ",
         DONE,

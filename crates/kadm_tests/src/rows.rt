@@ -26,6 +26,7 @@ postdate false
 preauth false
 proxiable true
 revoked_before 951827696 2000-02-29T12:34:56Z
+service false
 version 1 18,17,20,19
 ";
 
@@ -41,6 +42,7 @@ postdate false
 preauth true
 proxiable true
 revoked_before never
+service false
 version 3 20,17
 version 2 19
 version 1 18,20

@@ -73,14 +73,14 @@ pub fn open(alloc: Global) -> Result<Kdc, Fail> {
     Ok(Kdc::open(alloc, database, limits, Opening::First)?)
 }
 
-/// The database, as its format spells it (`docs/FORMATS.md`, version 2).
+/// The database, as its format spells it (`docs/FORMATS.md`, version 3).
 fn database_text(alloc: Global) -> Result<String, AllocError> {
     let mut texts = Vec::new(alloc);
     for row in ROWS {
         texts.push(row_text(alloc, row)?)?;
     }
     let rows = texts.join(alloc, ",")?;
-    format!(in alloc; "{{\"principals\":{{{rows}}},\"realm\":\"A.B\",\"version\":2}}")
+    format!(in alloc; "{{\"principals\":{{{rows}}},\"realm\":\"A.B\",\"version\":3}}")
 }
 
 fn row_text(alloc: Global, row: &Row) -> Result<String, AllocError> {
@@ -88,7 +88,7 @@ fn row_text(alloc: Global, row: &Row) -> Result<String, AllocError> {
     format!(in alloc;
         r#""{}":{{"disabled":false,"expires":null,"forwardable":true,"greatest_life":4294967295,
         "greatest_renewable":4294967295,"keys":[{{"keys":[{keys}],"version":1}}],"ok_as_delegate":false,
-        "password_expires":null,"postdate":true,"preauth":{},"proxiable":true,"revoked_before":null}}"#,
+        "password_expires":null,"postdate":true,"preauth":{},"proxiable":true,"revoked_before":null,"service":true}}"#,
         row.name, row.preauth
     )
 }

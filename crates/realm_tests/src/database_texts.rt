@@ -16,6 +16,12 @@ const VERSION_2: &str = "{\"principals\":{\"krbtgt/A.B\":{\"disabled\":false,\"e
     \"ok_as_delegate\":false,\"password_expires\":null,\"postdate\":false,\"preauth\":true,\
     \"proxiable\":true,\"revoked_before\":null}},\"realm\":\"A.B\",\"version\":2}";
 
+const VERSION_3: &str = "{\"principals\":{\"krbtgt/A.B\":{\"disabled\":false,\"expires\":null,\
+    \"forwardable\":true,\"greatest_life\":4294967295,\"greatest_renewable\":4294967295,\
+    \"keys\":[{\"keys\":[{\"etype\":17,\"key\":\"000102030405060708090a0b0c0d0e0f\"}],\"version\":1}],\
+    \"ok_as_delegate\":false,\"password_expires\":null,\"postdate\":false,\"preauth\":true,\
+    \"proxiable\":true,\"revoked_before\":null,\"service\":true}},\"realm\":\"A.B\",\"version\":3}";
+
 /// The keys in it, and the versions that have them.
 const KEYS: &str = "[{\"etype\":17,\"key\":\"000102030405060708090a0b0c0d0e0f\"}]";
 
@@ -30,7 +36,7 @@ const AND_VERSION_2: &str =
     "1},{\"keys\":[{\"etype\":17,\"key\":\"000102030405060708090a0b0c0d0e0f\"}],\"version\":2}],";
 
 #[test]
-fn a_text_is_read_and_written_in_version_2(rt: HostRuntime) {
+fn a_text_is_read_and_written_in_version_3(rt: HostRuntime) {
     same(
         &rt,
         &"version 1",
@@ -43,30 +49,48 @@ fn a_text_is_read_and_written_in_version_2(rt: HostRuntime) {
         &read_as(rt.alloc(), VERSION_2),
         &Ok((true, true)),
     );
+    same(
+        &rt,
+        &"version 3",
+        &read_as(rt.alloc(), VERSION_3),
+        &Ok((true, true)),
+    );
 }
 
-/// Whether the database of the text, and a copy of it, are that of `VERSION_2`.
+#[test]
+fn a_principal_that_is_no_service_is_none_in_the_text(rt: HostRuntime) {
+    same(&rt, &"service", &is_no_service_kept(rt.alloc()), &Ok(true));
+}
+
+/// Whether a text of a principal for whom there are to be no tickets is written as it is read.
+fn is_no_service_kept(alloc: Global) -> Result<bool, ReadFault> {
+    let text = VERSION_3.replace(alloc, "\"service\":true", "\"service\":false")?;
+    let database = Database::read(alloc, text.as_str())?;
+    Ok(database.write(alloc)?.as_str() == text.as_str())
+}
+
+/// Whether the database of the text, and a copy of it, are that of `VERSION_3`.
 fn read_as(alloc: Global, text: &str) -> Result<(bool, bool), ReadFault> {
     let database = Database::read(alloc, text)?;
-    let is_that = is_that_of_version_2(alloc, &database)?;
+    let is_that = is_that_of_version_3(alloc, &database)?;
     Ok((is_that, is_copied(alloc, &database)?))
 }
 
-/// Whether the database has one row, and is written as `VERSION_2`.
-fn is_that_of_version_2(alloc: Global, database: &Database) -> Result<bool, AllocError> {
-    Ok(database.len() == 1 && database.write(alloc)?.as_str() == VERSION_2)
+/// Whether the database has one row, and is written as `VERSION_3`.
+fn is_that_of_version_3(alloc: Global, database: &Database) -> Result<bool, AllocError> {
+    Ok(database.len() == 1 && database.write(alloc)?.as_str() == VERSION_3)
 }
 
 fn is_copied(alloc: Global, database: &Database) -> Result<bool, AllocError> {
-    is_that_of_version_2(alloc, &database.copy(alloc)?)
+    is_that_of_version_3(alloc, &database.copy(alloc)?)
 }
 
 // Passes whichever allocation is refused.
 #[test]
 fn a_text_without_memory_is_read_and_written_when_it_comes_again(rt: HostRuntime) {
-    let mut found = read_as(rt.alloc(), VERSION_2);
+    let mut found = read_as(rt.alloc(), VERSION_3);
     if found == Err(ReadFault::Memory) {
-        found = read_as(rt.alloc(), VERSION_2);
+        found = read_as(rt.alloc(), VERSION_3);
     }
     same(&rt, &"the next call", &found, &Ok((true, true)));
 }
@@ -78,10 +102,13 @@ fn refused(rt: &impl Abort, alloc: Global, text: &str, fault: ReadFault) {
 
 /// What stands in the place of what, and the fault that this makes.
 const FAULTS: &[(&str, &str, ReadFault)] = &[
-    ("\"version\":2}", "\"version\":3}", ReadFault::BadVersion),
-    ("\"version\":2}", "\"version\":2.0}", ReadFault::BadVersion),
-    (",\"version\":2}", "}", ReadFault::BadVersion),
-    ("\"version\":2}", "\"version\":1}", ReadFault::BadRow),
+    ("\"version\":3}", "\"version\":4}", ReadFault::BadVersion),
+    ("\"version\":3}", "\"version\":3.0}", ReadFault::BadVersion),
+    (",\"version\":3}", "}", ReadFault::BadVersion),
+    ("\"version\":3}", "\"version\":2}", ReadFault::BadRow),
+    ("\"version\":3}", "\"version\":1}", ReadFault::BadRow),
+    (",\"service\":true", "", ReadFault::BadRow),
+    ("\"service\":true", "\"service\":null", ReadFault::BadRow),
     ("krbtgt/A.B", "krbtgt/A.C", ReadFault::NoTicketGranter),
     ("krbtgt/A.B", "krbtgt/", ReadFault::BadRow),
     ("\"A.B\"", "\"A/B\"", ReadFault::BadRow),
@@ -120,16 +147,16 @@ fn a_text_is_refused_by_its_first_fault(rt: HostRuntime) {
     refused(&rt, rt.alloc(), "[]", ReadFault::NotJson);
 }
 
-/// The same of `VERSION_2` with something in the place of what was there.
+/// The same of `VERSION_3` with something in the place of what was there.
 fn read_with(alloc: Global, old: &str, new: &str) -> Result<(bool, bool), ReadFault> {
-    let text = VERSION_2.replace(alloc, old, new)?;
+    let text = VERSION_3.replace(alloc, old, new)?;
     read_as(alloc, text.as_str())
 }
 
 #[test]
 fn every_front_of_a_text_is_no_json(rt: HostRuntime) {
-    for end in 0..VERSION_2.len() {
-        if let Some(front) = VERSION_2.get(..end) {
+    for end in 0..VERSION_3.len() {
+        if let Some(front) = VERSION_3.get(..end) {
             refused(&rt, rt.alloc(), front, ReadFault::NotJson);
         }
     }
@@ -151,7 +178,7 @@ fn with_realm(alloc: Global, quote: &str, fill: char, count: usize) -> Result<St
         realm.push(fill)?;
     }
     realm.push_str(quote)?;
-    VERSION_2.replace(alloc, "\"A.B\"", realm.as_str())
+    VERSION_3.replace(alloc, "\"A.B\"", realm.as_str())
 }
 
 #[test]

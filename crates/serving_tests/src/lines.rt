@@ -51,6 +51,10 @@ const LOGINS: &[Case] = &[
         "refused 7 service-unknown rule=service-unknown",
     ),
     (
+        Became::LoginRefused(AsRefusal::ServiceDenied),
+        "refused 7 service-unknown rule=service-denied",
+    ),
+    (
         Became::LoginRefused(AsRefusal::ClientRevoked),
         "refused 18 client-revoked rule=client-revoked",
     ),
@@ -237,6 +241,10 @@ const LATER_TICKETS: &[Case] = &[
     (
         Became::Refused(TgsRefusal::ServiceUnknown),
         "refused 7 service-unknown rule=service-unknown",
+    ),
+    (
+        Became::Refused(TgsRefusal::ServiceDenied),
+        "refused 7 service-unknown rule=service-denied",
     ),
     (
         Became::Refused(TgsRefusal::ServiceRevoked),

@@ -106,7 +106,7 @@ pub fn text_of(alloc: Global, realm: &str, rows: &[RowOf]) -> Result<String, All
         texts.push(row_text(alloc, *row)?)?;
     }
     let rows = texts.join(alloc, ",")?;
-    format!(in alloc; "{{\"principals\":{{{rows}}},\"realm\":\"{realm}\",\"version\":2}}")
+    format!(in alloc; "{{\"principals\":{{{rows}}},\"realm\":\"{realm}\",\"version\":3}}")
 }
 
 fn row_text(alloc: Global, row: RowOf) -> Result<String, AllocError> {
@@ -114,7 +114,7 @@ fn row_text(alloc: Global, row: RowOf) -> Result<String, AllocError> {
     format!(in alloc;
         r#""{}":{{"disabled":{},"expires":null,"forwardable":true,"greatest_life":4294967295,
         "greatest_renewable":4294967295,"keys":[{versions}],"ok_as_delegate":false,"password_expires":null,
-        "postdate":false,"preauth":{},"proxiable":true,"revoked_before":null}}"#,
+        "postdate":false,"preauth":{},"proxiable":true,"revoked_before":null,"service":true}}"#,
         row.name, row.disabled, row.preauth
     )
 }

@@ -243,10 +243,10 @@ fn a_database_is_taken_or_refused_by_name(rt: HostRuntime) -> Result<(), Fail> {
     for (octets, refusal) in [
         (b"{\"realm\":\"\xff\"}".as_slice(), "NotJson"),
         (b"[]".as_slice(), "NotJson"),
-        (b"{\"version\":3}".as_slice(), "BadVersion"),
-        (b"{\"principals\":{},\"version\":2}".as_slice(), "BadRow"),
+        (b"{\"version\":4}".as_slice(), "BadVersion"),
+        (b"{\"principals\":{},\"version\":3}".as_slice(), "BadRow"),
         (
-            b"{\"principals\":{},\"realm\":\"A.B\",\"version\":2}".as_slice(),
+            b"{\"principals\":{},\"realm\":\"A.B\",\"version\":3}".as_slice(),
             "NoTicketGranter",
         ),
     ] {

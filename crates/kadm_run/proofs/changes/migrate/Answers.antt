@@ -4,4 +4,6 @@ use Rattle.kadm_run.proofs.changes.migrate.Goals as goal
 
 pub returns-clause-done : goal.returns-clause-done
 returns-clause-done g c =
-    migrated c.write_database.result _ _ _ _ c.in_ok-database.database c.in_ok-database.ensures.kept c.in_ok-database.ensures.read (search rules)
+    migrated c.write_database.result _ _ _ _ c.args.users_are_no_services c.in_ok-database.database
+    c.migrate_rows.new.database c.in_ok-database.ensures.kept c.in_ok-database.ensures.read (search rules)
+    (search rules)
