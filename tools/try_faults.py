@@ -9,6 +9,7 @@ The folder is that of the programs, or that of the crates, which have each at NA
 refused, one in a run. It prints a line for each thing that it tried, with `ok` or what was wrong, and ends with status 1 if anything was."""
 
 import argparse
+import contextlib
 import json
 import pathlib
 import random
@@ -19,11 +20,13 @@ import subprocess
 import tempfile
 import time
 
-from kerberos import key_of, tgs_req, ticket_in
+from kerberos import body, field, integer, key_of, sequence, tgs_req, ticket_in, tlv
 from trial import PATIENCE, REALM, SLOWNESS, Server, Trial, answer, ask_tcp, ask_udp, datagrams, ending, login, place_of, programs_in
 
-# How many connections are served at once (docs/OPERATIONS.md, 'Limits').
-CONNECTIONS = 256
+# How many connections are served at once (docs/OPERATIONS.md, 'Limits'), and how many of a server's files are no connections.
+CONNECTIONS, OTHER_FILES = 256, 16
+# For how many seconds a connection may be without a complete request.
+LONGEST_IDLE = 30
 # How many octets a peer may send that reads no reply, at the most: what is kept for it, and the buffers of the system.
 UNREAD = 1 << 26
 # How many datagrams are sent one after another, and how many authenticators of a client are remembered.
@@ -103,15 +106,72 @@ def full(server):
 
 
 def idle(server):
-    """As many connections as are served at once, which send nothing: datagrams are answered, and connections once these are closed."""
-    peers = [connected(server) for _ in range(CONNECTIONS)]
-    found = server.answer("v")
-    for peer in peers:
-        peer.close()
-    end = time.monotonic() + 10 * SLOWNESS
-    while is_served(server) and time.monotonic() < end:
-        time.sleep(0.05)
-    return is_served(server) if found == "ticket" else f"beside them a datagram gets {found}"
+    """Connections that send nothing and are never closed by their peers, more than twice as many as are served at once: a datagram and a
+    new connection are answered, and the server holds no more than twice as many."""
+    with contextlib.ExitStack() as stack:
+        for _ in range(2 * CONNECTIONS + 88):
+            stack.enter_context(connected(server))
+        fault = is_served(server)
+        held = len(list(pathlib.Path(f"/proc/{server.process.pid}/fd").iterdir()))
+    return fault or f"the server has {held} files open" * (held > 2 * CONNECTIONS + OTHER_FILES)
+
+
+def long_login():
+    """A login for a service that is not there. Its name has 60,000 octets, and the error names it."""
+    parts = field(1, integer(5)), field(2, integer(10)), field(4, body(REALM.encode(), (b"a" * 60_000,), b"v"))
+    return tlv(0x6A, sequence(*parts))
+
+
+def reads_little(server):
+    """A connection whose peer's system takes few octets until the peer reads them."""
+    peer = socket.socket()
+    peer.setsockopt(socket.SOL_SOCKET, socket.SO_RCVBUF, 4096)
+    peer.setsockopt(socket.IPPROTO_TCP, socket.TCP_MAXSEG, 536)
+    peer.settimeout(10 * SLOWNESS)
+    peer.connect(place_of(server.addresses[1][1]))
+    return peer
+
+
+def waiting(server):
+    """How many octets wait in the system's buffers, of all connections of this server."""
+    port = place_of(server.addresses[1][1])[1]
+    lines = [line.split() for line in pathlib.Path("/proc/net/tcp").read_text().splitlines()[1:]]
+    ends = [line for line in lines if port in (int(each.rpartition(":")[2], 16) for each in line[1:3])]
+    return sum(int(part, 16) for line in ends if line[3] != "0A" for part in line[4].split(":"))
+
+
+def unread(server, ends):
+    """What is wrong unless a peer gets three long replies, of which it reads nothing before `ends`, and then the end."""
+    with reads_little(server) as peer:
+        for _ in range(3):
+            peer.sendall(framed(long_login()))
+            time.sleep(1)
+        if (known := waiting(server)) > 3 * 60_000:
+            return f"all of it waits in the system's buffers, {known} octets"
+        ends(peer)
+        found = [answer(read_reply(peer)) for _ in range(3)]
+        rest = peer.recv(1)
+    return f"three requests get {found}, then {rest!r}" if found != ["7"] * 3 or rest else ""
+
+
+def written_in_part(server):
+    """A reply that is written in part is finished after the peer closed its half."""
+    return unread(server, lambda peer: peer.shutdown(socket.SHUT_WR)) or is_served(server)
+
+
+def without_request(server):
+    """A connection without a complete request for 30 seconds is closed, and what its peer has not read still comes."""
+    with connected(server) as silent, connected(server) as half:
+        half.sendall(framed(login("v"))[:20])
+        fault = unread(server, lambda _: time.sleep(LONGEST_IDLE + 3))
+        ended = [peer.recv(1) for peer in (silent, half)]
+    with connected(server) as silent:
+        # Within its time it is answered.
+        time.sleep(LONGEST_IDLE / 3)
+        silent.sendall(framed(login("v")))
+        found = answer(read_reply(silent))
+    faults = [fault, f"they end with {ended}" * (ended != [b"", b""]), f"one that asks late gets {found}" * (found != "ticket")]
+    return "; ".join(filter(None, faults)) or is_served(server)
 
 
 def odd_lengths(server):
@@ -146,8 +206,9 @@ def try_sockets(trial):
     server = trial.serve()
     for what, tried in {
         "a peer that closes its half of a connection": half_closed, "a peer that sends and reads an octet at a time": slow,
-        "a peer that reads no reply": full, f"{CONNECTIONS} idle connections": idle, "lengths that are none": odd_lengths,
-        "datagrams that are no requests": nonsense,
+        "a peer that reads no reply": full, f"more idle connections than {CONNECTIONS}": idle, "lengths that are none": odd_lengths,
+        "datagrams that are no requests": nonsense, "replies that are written in part, before the peer's end": written_in_part,
+        f"connections without a complete request for {LONGEST_IDLE} seconds": without_request,
     }.items():
         try:
             fault = tried(server)

@@ -5,6 +5,7 @@ use kdc_hub::{Hub, Served, serve};
 use kdc_wire::SocketWire;
 use rand_chacha::ChaCha20Rng;
 use rand_core::SeedableRng;
+use std::cell::Cell;
 use std::io::{ErrorKind, Read, Write};
 use std::net::{Ipv4Addr, SocketAddr, TcpStream, UdpSocket};
 use std::rt::Clock;
@@ -36,13 +37,28 @@ const BEFORE_LONG_SERVICE: &[u8] = b"\
 
 const AFTER_LONG_SERVICE: &[u8] = b"a511180f31393730303130313030303030305aa703020101a8053003020112";
 
-/// A clock that always shows the first second of 2024.
-#[derive(Clone, Copy)]
-struct Stopped;
+/// A clock that shows the first second of 2024, while the monotonic clock shows what a test sets.
+#[derive(Drop)]
+struct SetClock {
+    since_start: Cell<u64>,
+}
 
-impl Clock for Stopped {
+impl SetClock {
+    fn new() -> SetClock {
+        SetClock {
+            since_start: Cell::new(0),
+        }
+    }
+
+    /// Sets the seconds since the start.
+    fn set(&self, seconds: u64) {
+        self.since_start.set(seconds);
+    }
+}
+
+impl Clock for SetClock {
     fn monotonic(&self) -> std::io::Result<Duration> {
-        Ok(Duration::ZERO)
+        Ok(Duration::from_secs(self.since_start.get()))
     }
 
     fn since_1970(&self) -> std::io::Result<Duration> {
@@ -50,7 +66,7 @@ impl Clock for Stopped {
     }
 }
 
-type TestWire = SocketWire<Stopped>;
+type TestWire<'a> = SocketWire<&'a SetClock>;
 
 /// The two addresses of each kind that a server listens on.
 #[derive(Clone, Copy)]
@@ -59,18 +75,19 @@ struct Addresses {
     tcp: [SocketAddr; 2],
 }
 
-/// A server, and its addresses.
+/// A server, its clock and its addresses.
 #[derive(Drop)]
-struct Server {
-    wire: TestWire,
+struct Server<'a> {
+    clock: &'a SetClock,
+    wire: TestWire<'a>,
     hub: Hub<ChaCha20Rng>,
     addresses: Addresses,
 }
 
-fn bind(rt: &HostRuntime) -> Result<TestWire, Fail> {
+fn bind<'a>(rt: &HostRuntime, clock: &'a SetClock) -> Result<TestWire<'a>, Fail> {
     let here = SocketAddr::from((Ipv4Addr::LOCALHOST, 0));
     let wait = Duration::from_millis(1);
-    Ok(SocketWire::bind(rt.alloc(), Stopped, rt, &[here, here], &[here, here], wait)?)
+    Ok(SocketWire::bind(rt.alloc(), clock, rt, &[here, here], &[here, here], wait)?)
 }
 
 fn two(addresses: &[SocketAddr]) -> Result<[SocketAddr; 2], Fail> {
@@ -80,7 +97,7 @@ fn two(addresses: &[SocketAddr]) -> Result<[SocketAddr; 2], Fail> {
     }
 }
 
-fn ask_addresses(rt: &HostRuntime, wire: &TestWire) -> Result<Addresses, Fail> {
+fn ask_addresses(rt: &HostRuntime, wire: &TestWire<'_>) -> Result<Addresses, Fail> {
     Ok(Addresses {
         udp: two(&wire.udp_addresses(rt.alloc())?)?,
         tcp: two(&wire.tcp_addresses(rt.alloc())?)?,
@@ -88,11 +105,12 @@ fn ask_addresses(rt: &HostRuntime, wire: &TestWire) -> Result<Addresses, Fail> {
 }
 
 /// The hub is made last, since proofs about its end take long for each place.
-fn open(rt: &HostRuntime) -> Result<Server, Fail> {
-    let wire = bind(rt)?;
+fn open<'a>(rt: &HostRuntime, clock: &'a SetClock) -> Result<Server<'a>, Fail> {
+    let wire = bind(rt, clock)?;
     let addresses = ask_addresses(rt, &wire)?;
     let kdc = kdc(rt.alloc(), Realm::Granter)?;
     Ok(Server {
+        clock,
         wire,
         hub: Hub::new(rt.alloc(), kdc, ChaCha20Rng::from_seed([0; 32]), true),
         addresses,
@@ -115,15 +133,18 @@ enum Scenario {
     KeptOpen,
     ManyConnections,
     IdleConnections,
+    NoRequest,
+    ClosingConnections,
     UnreadReplies,
 }
 
 fn run(rt: &HostRuntime, scenario: Scenario) -> Result<bool, Fail> {
-    let mut server = open(rt)?;
+    let clock = SetClock::new();
+    let mut server = open(rt, &clock)?;
     play(rt, &mut server, scenario)
 }
 
-fn play(rt: &HostRuntime, server: &mut Server, scenario: Scenario) -> Result<bool, Fail> {
+fn play(rt: &HostRuntime, server: &mut Server<'_>, scenario: Scenario) -> Result<bool, Fail> {
     match scenario {
         Scenario::OwnReplies => each_gets_its_own(rt, server),
         Scenario::OneByOne => octets_come_one_by_one(rt, server),
@@ -132,6 +153,8 @@ fn play(rt: &HostRuntime, server: &mut Server, scenario: Scenario) -> Result<boo
         Scenario::KeptOpen => a_closed_connection_is_kept_open(rt, server),
         Scenario::ManyConnections => connections_come_and_go(rt, server),
         Scenario::IdleConnections => connections_are_idle(rt, server),
+        Scenario::NoRequest => no_request_comes(rt, server),
+        Scenario::ClosingConnections => closed_connections_are_kept_open(rt, server),
         Scenario::UnreadReplies => replies_are_not_read(rt, server),
     }
 }
@@ -145,12 +168,12 @@ fn expect(rt: &HostRuntime, scenario: Scenario) -> Result<(), Fail> {
     }
 }
 
-fn serve_rounds(rt: &HostRuntime, server: &mut Server, rounds: u32) -> Served {
+fn serve_rounds(rt: &HostRuntime, server: &mut Server<'_>, rounds: u32) -> Served {
     serve(rt.alloc(), &mut server.wire, &mut server.hub, rounds)
 }
 
 /// Serves for so many rounds, and gives how many events came. No call may fail.
-fn rounds(rt: &HostRuntime, server: &mut Server, rounds: u32) -> Result<u32, Fail> {
+fn rounds(rt: &HostRuntime, server: &mut Server<'_>, rounds: u32) -> Result<u32, Fail> {
     let served = serve_rounds(rt, server, rounds);
     if served.faults != 0 || served.refused != 0 {
         Err("a fault")?;
@@ -174,14 +197,14 @@ fn framed(rt: &HostRuntime, octets: &[u8]) -> Result<Vec<u8>, Fail> {
 }
 
 /// A peer of the address of this place. It takes replies from there alone.
-fn peer(rt: &HostRuntime, server: &Server, place: usize) -> Result<UdpSocket, Fail> {
+fn peer(rt: &HostRuntime, server: &Server<'_>, place: usize) -> Result<UdpSocket, Fail> {
     let peer = UdpSocket::bind(rt, SocketAddr::from((Ipv4Addr::LOCALHOST, 0)))?;
     peer.connect(address(&server.addresses.udp, place)?)?;
     peer.set_nonblocking(true)?;
     Ok(peer)
 }
 
-fn connection(rt: &HostRuntime, server: &Server, place: usize) -> Result<TcpStream, Fail> {
+fn connection(rt: &HostRuntime, server: &Server<'_>, place: usize) -> Result<TcpStream, Fail> {
     let connection = TcpStream::connect(rt, address(&server.addresses.tcp, place)?)?;
     connection.set_nonblocking(true)?;
     Ok(connection)
@@ -226,7 +249,7 @@ fn has_come_for(rt: &HostRuntime, connection: &mut TcpStream, service: u8) -> Re
     has_come(connection, &framed(rt, &reply)?)
 }
 
-fn each_gets_its_own(rt: &HostRuntime, server: &mut Server) -> Result<bool, Fail> {
+fn each_gets_its_own(rt: &HostRuntime, server: &mut Server<'_>) -> Result<bool, Fail> {
     let (first, second) = (peer(rt, server, 0)?, peer(rt, server, 1)?);
     let (mut third, mut fourth) = (connection(rt, server, 0)?, connection(rt, server, 1)?);
     ask(rt, &first, b'a')?;
@@ -248,7 +271,7 @@ fn each_peer_and_connection_gets_its_own_reply(rt: HostRuntime) -> Result<(), Fa
     expect(&rt, Scenario::OwnReplies)
 }
 
-fn octets_come_one_by_one(rt: &HostRuntime, server: &mut Server) -> Result<bool, Fail> {
+fn octets_come_one_by_one(rt: &HostRuntime, server: &mut Server<'_>) -> Result<bool, Fail> {
     let mut client = connection(rt, server, 0)?;
     let request = framed(rt, &for_service(rt, REQUEST, b'a')?)?;
     for octet in &request {
@@ -264,7 +287,7 @@ fn octets_that_come_one_by_one_are_one_request(rt: HostRuntime) -> Result<(), Fa
 }
 
 /// In each round a datagram has come.
-fn datagrams_keep_coming(rt: &HostRuntime, server: &mut Server) -> Result<bool, Fail> {
+fn datagrams_keep_coming(rt: &HostRuntime, server: &mut Server<'_>) -> Result<bool, Fail> {
     let peer = peer(rt, server, 0)?;
     let mut client = connection(rt, server, 0)?;
     ask_over(rt, &mut client, b'c')?;
@@ -281,7 +304,7 @@ fn datagrams_that_keep_coming_hold_up_no_connection(rt: HostRuntime) -> Result<(
 }
 
 /// More comes than the server reads before it closes the connection.
-fn a_length_is_at_fault(rt: &HostRuntime, server: &mut Server) -> Result<bool, Fail> {
+fn a_length_is_at_fault(rt: &HostRuntime, server: &mut Server<'_>) -> Result<bool, Fail> {
     let mut client = connection(rt, server, 0)?;
     client.write_all(&[0x80; 5000])?;
     rounds(rt, server, 16)?;
@@ -296,7 +319,10 @@ fn a_length_at_fault_is_answered_before_the_end(rt: HostRuntime) -> Result<(), F
 }
 
 /// The peer keeps its side open after the server closed its own. Rounds with nothing to do wait, each a millisecond.
-fn a_closed_connection_is_kept_open(rt: &HostRuntime, server: &mut Server) -> Result<bool, Fail> {
+fn a_closed_connection_is_kept_open(
+    rt: &HostRuntime,
+    server: &mut Server<'_>,
+) -> Result<bool, Fail> {
     let mut client = connection(rt, server, 0)?;
     client.write_all(&[0x80; 4])?;
     rounds(rt, server, 8)?;
@@ -311,7 +337,7 @@ fn a_closed_connection_keeps_nobody_busy(rt: HostRuntime) -> Result<(), Fail> {
 }
 
 /// A hub has place for 256 connections.
-fn connections_come_and_go(rt: &HostRuntime, server: &mut Server) -> Result<bool, Fail> {
+fn connections_come_and_go(rt: &HostRuntime, server: &mut Server<'_>) -> Result<bool, Fail> {
     for _ in 0..300u32 {
         if !connection_is_answered(rt, server)? {
             return Ok(false);
@@ -320,7 +346,7 @@ fn connections_come_and_go(rt: &HostRuntime, server: &mut Server) -> Result<bool
     Ok(true)
 }
 
-fn connection_is_answered(rt: &HostRuntime, server: &mut Server) -> Result<bool, Fail> {
+fn connection_is_answered(rt: &HostRuntime, server: &mut Server<'_>) -> Result<bool, Fail> {
     let mut client = connection(rt, server, 0)?;
     ask_over(rt, &mut client, b'a')?;
     rounds(rt, server, 4)?;
@@ -332,29 +358,114 @@ fn connections_that_end_make_place(rt: HostRuntime) -> Result<(), Fail> {
     expect(&rt, Scenario::ManyConnections)
 }
 
-fn peer_is_answered(rt: &HostRuntime, server: &mut Server) -> Result<bool, Fail> {
+fn peer_is_answered(rt: &HostRuntime, server: &mut Server<'_>) -> Result<bool, Fail> {
     let peer = peer(rt, server, 0)?;
     ask(rt, &peer, b'b')?;
     rounds(rt, server, 4)?;
     has_reply(rt, &peer, b'b')
 }
 
-/// The hub's table is full, and one more connection comes.
-fn connections_are_idle(rt: &HostRuntime, server: &mut Server) -> Result<bool, Fail> {
-    let mut idle = Vec::new(rt.alloc());
-    for _ in 0..256u32 {
-        idle.push(connection(rt, server, 0)?)?;
+/// Opens so many connections one after another, and serves each. They stay open on this side.
+fn open_many(
+    rt: &HostRuntime,
+    server: &mut Server<'_>,
+    count: u32,
+) -> Result<Vec<TcpStream>, Fail> {
+    let mut opened = Vec::new(rt.alloc());
+    for _ in 0..count {
+        opened.push(connection(rt, server, 0)?)?;
+        rounds(rt, server, 4)?;
     }
-    if rounds(rt, server, 300)? != 256 {
-        return Ok(false);
-    }
-    let mut next = connection(rt, server, 0)?;
-    Ok(peer_is_answered(rt, server)? && next.read(&mut [0; 1])? == 0)
+    Ok(opened)
+}
+
+/// Whether each of these connections was closed by the server.
+fn are_closed(connections: &mut [TcpStream]) -> bool {
+    connections
+        .iter_mut()
+        .all(|connection| matches!(connection.read(&mut [0; 1]), Ok(0)))
+}
+
+/// Whether each of these connections is open, and nothing came on it.
+fn are_open(connections: &mut [TcpStream]) -> bool {
+    connections
+        .iter_mut()
+        .all(|connection| is_waiting(connection.read(&mut [0; 1])))
+}
+
+/// The hub's table is full, and 44 more connections come, and one that asks. The first connection asked later than the
+/// others were opened.
+fn connections_are_idle(rt: &HostRuntime, server: &mut Server<'_>) -> Result<bool, Fail> {
+    let mut idle = open_many(rt, server, 256)?;
+    server.clock.set(1);
+    ask_over(rt, idle.first_mut().ok_or("a connection")?, b'a')?;
+    rounds(rt, server, 4)?;
+    let mut later = open_many(rt, server, 44)?;
+    let asked_late = connection_is_answered(rt, server)?;
+    let first = has_come_for(rt, idle.first_mut().ok_or("a connection")?, b'a')?;
+    Ok(
+        asked_late
+            && first
+            && are_closed(&mut idle[1..46])
+            && are_open(&mut idle[46..])
+            && are_open(&mut later)
+            && peer_is_answered(rt, server)?,
+    )
 }
 
 #[test]
-fn idle_connections_hold_up_nobody_but_the_next(rt: HostRuntime) -> Result<(), Fail> {
+fn the_connection_idle_for_longest_makes_place(rt: HostRuntime) -> Result<(), Fail> {
     expect(&rt, Scenario::IdleConnections)
+}
+
+/// Of three connections one sends nothing, one half a request after 20 seconds, and one a whole request then.
+fn no_request_comes(rt: &HostRuntime, server: &mut Server<'_>) -> Result<bool, Fail> {
+    let mut silent = open_many(rt, server, 1)?;
+    let mut slow = open_many(rt, server, 1)?;
+    let mut asking = open_many(rt, server, 1)?;
+    server.clock.set(20);
+    slow.first_mut().ok_or("a connection")?.write_all(&[0, 0])?;
+    let client = asking.first_mut().ok_or("a connection")?;
+    ask_over(rt, client, b'a')?;
+    rounds(rt, server, 8)?;
+    let answered = has_come_for(rt, client, b'a')?;
+    server.clock.set(29);
+    rounds(rt, server, 8)?;
+    let before = are_open(&mut silent) && are_open(&mut slow) && are_open(&mut asking);
+    server.clock.set(30);
+    rounds(rt, server, 8)?;
+    let after = are_closed(&mut silent) && are_closed(&mut slow) && are_open(&mut asking);
+    server.clock.set(50);
+    rounds(rt, server, 8)?;
+    Ok(answered && before && after && are_closed(&mut asking) && peer_is_answered(rt, server)?)
+}
+
+#[test]
+fn a_connection_without_a_request_is_closed_after_30_seconds(rt: HostRuntime) -> Result<(), Fail> {
+    expect(&rt, Scenario::NoRequest)
+}
+
+/// The server closes 600 connections, and their peers keep their sides open. A request is answered beside them, and
+/// after 30 seconds none of them is left.
+fn closed_connections_are_kept_open(
+    rt: &HostRuntime,
+    server: &mut Server<'_>,
+) -> Result<bool, Fail> {
+    let mut closed = Vec::new(rt.alloc());
+    for _ in 0..600u32 {
+        let mut client = connection(rt, server, 0)?;
+        client.write_all(&[0, 0, 0, 0])?;
+        rounds(rt, server, 4)?;
+        closed.push(client)?;
+    }
+    server.clock.set(30);
+    rounds(rt, server, 8)?;
+    Ok(are_closed(&mut closed) && connection_is_answered(rt, server)?)
+}
+
+#[test]
+fn connections_that_peers_keep_open_hold_up_nobody(rt: HostRuntime) -> Result<(), Fail> {
+    expect(&rt, Scenario::ClosingConnections)
 }
 
 /// A request for a service whose name has 60,000 octets, behind its length. Its reply is as long.
@@ -377,7 +488,7 @@ fn send_some(client: &mut TcpStream, octets: &[u8], place: usize) -> Option<usiz
 }
 
 /// A peer sends long requests without end, and reads nothing.
-fn replies_are_not_read(rt: &HostRuntime, server: &mut Server) -> Result<bool, Fail> {
+fn replies_are_not_read(rt: &HostRuntime, server: &mut Server<'_>) -> Result<bool, Fail> {
     let mut client = connection(rt, server, 0)?;
     let request = long_request(rt)?;
     let mut place = 0usize;

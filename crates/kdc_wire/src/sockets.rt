@@ -12,13 +12,16 @@ use std::io;
 use std::io::ErrorKind;
 use std::net::{Net, SocketAddr};
 use std::rt::Clock;
-use std::time::Duration;
+use std::time::{Duration, Instant};
 
 /// The most turns of one call, of which each may find nothing.
 const MOST_TURNS: u32 = 64;
 
 /// The most calls between two looks at the sockets, while some are known to be ready.
 const MOST_UNLOOKED: u32 = 15;
+
+/// How many seconds after a look for idle connections the next one comes.
+const BETWEEN_LOOKS: u64 = 1;
 
 /// The longest datagram.
 const LONGEST_DATAGRAM: usize = 65_535;
@@ -42,6 +45,12 @@ pub struct Sockets<C> {
     ports: Ports,
     /// The poll counts on with them behind the ports.
     connections: Connections,
+    /// When the clock was last read.
+    at: Instant,
+    /// When no connection was idle for too long.
+    none_idle_at: Instant,
+    /// A connection that was taken, of which the caller is still to be told: another one had to be closed for it first.
+    newcomer: Option<u64>,
     turn: Turn,
     ready: Ready,
     /// How many calls there were since the sockets were last looked at.
@@ -116,11 +125,15 @@ impl<C: Clock + Drop> Sockets<C> {
         let ready = Ready::new(alloc, udp.len(), tcp.len())?;
         let buffers = Buffers::new(alloc)?;
         let ports = Ports::bind(alloc, net, udp, tcp)?;
+        let at = Instant::now(&clock)?;
         Ok(Sockets {
             clock,
             wait,
             ports,
             connections: Connections::new(alloc, (udp.len() + tcp.len()) as u64),
+            at,
+            none_idle_at: at,
+            newcomer: None,
             turn: Turn::Datagrams,
             ready,
             unlooked: 0,
@@ -160,7 +173,11 @@ impl<C: Clock + Drop> Sockets<C> {
     /// The next event of the sockets that are known to be ready.
     fn next_known(&mut self, alloc: Global) -> io::Result<Option<(Moment, Event)>> {
         let at = now(&self.clock)?;
+        self.at = Instant::now(&self.clock)?;
         self.retry(at)?;
+        if let Some(event) = self.take_newcomer().or_else(|| self.close_idle()) {
+            return Ok(Some((at, event)));
+        }
         for _ in 0..MOST_TURNS {
             if self.ready.is_empty() {
                 break;
@@ -170,6 +187,24 @@ impl<C: Clock + Drop> Sockets<C> {
             }
         }
         Ok(None)
+    }
+
+    /// The connection for which another one was closed.
+    fn take_newcomer(&mut self) -> Option<Event> {
+        let conn = self.newcomer.take()?;
+        Some(Event::Opened { conn })
+    }
+
+    /// Closes a connection that has been idle for too long, if there is one. It looks once a second.
+    fn close_idle(&mut self) -> Option<Event> {
+        if self.at.duration_since(self.none_idle_at).as_secs() < BETWEEN_LOOKS {
+            return None;
+        }
+        let closed = self.connections.close_idle(self.at);
+        if closed.is_none() {
+            self.none_idle_at = self.at;
+        }
+        closed
     }
 
     /// Looks which sockets are ready, and waits for one where none was.
@@ -186,7 +221,7 @@ impl<C: Clock + Drop> Sockets<C> {
         for event in &self.ports.events {
             let token = event.token().0 as u64;
             // No connection has the number of a port.
-            self.connections.flush(token);
+            self.connections.flush(token, self.at);
             self.ready.note(token, first_newcomers, first_connection)?;
         }
         Ok(())
@@ -258,8 +293,16 @@ impl<C: Clock + Drop> Sockets<C> {
             Ok((stream, peer)) => {
                 self.ready.newcomers.push_back(place)?;
                 let registry = self.ports.poll.registry();
-                let conn = self.connections.hold(alloc, registry, stream, peer)?;
-                Ok(Some(Event::Opened { conn }))
+                let conn = self
+                    .connections
+                    .hold(alloc, registry, stream, peer, self.at)?;
+                match self.connections.evict(self.at) {
+                    Some(closed) => {
+                        self.newcomer = Some(conn);
+                        Ok(Some(closed))
+                    }
+                    None => Ok(Some(Event::Opened { conn })),
+                }
             }
             Err(error) if error.kind() == ErrorKind::WouldBlock => Ok(None),
             Err(error) => {
@@ -276,7 +319,7 @@ impl<C: Clock + Drop> Sockets<C> {
         };
         let is_closing = connection.is_closing();
         match connection.read(&mut self.buffers.piece) {
-            Ok(0) => Ok(self.connections.end(conn)),
+            Ok(0) => Ok(self.connections.end(conn, self.at)),
             Ok(len) => {
                 self.ready.connections.push_back(conn)?;
                 if is_closing {
@@ -303,10 +346,11 @@ impl<C: Clock + Drop> Sockets<C> {
             }
             Action::Pass { .. } => Ok(()),
             Action::Write { conn, reply } => {
-                self.connections.write(*conn, reply.message.as_slice())
+                self.connections
+                    .write(*conn, reply.message.as_slice(), self.at)
             }
             Action::Close { conn, .. } => {
-                self.connections.close(*conn);
+                self.connections.close(*conn, self.at);
                 Ok(())
             }
         }
