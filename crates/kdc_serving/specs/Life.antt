@@ -1,6 +1,6 @@
 -- The life of a server: looks at a source of rows, rounds between them, and a tidying once in a minute.
 use Rattle.std.specs.Prelude.{◌≡◌, ◌/◌, ◌%◌, ◌^◌, ◌-◌, ℕ, ⊤, List, [], ◌∷◌, ◌++◌, length, map, min}
-use Rattle.std.specs.Prelude.{pos, ◌+ℤ◌, int_lt, if◌then◌else◌, replicate, count_by, Option, Some, None}
+use Rattle.std.specs.Prelude.{pos, ◌+ℤ◌, int_lt, not, ◌&&◌, if◌then◌else◌, replicate, count_by, Option, Some, None}
 use Rattle.std.specs.List.{flat_map}
 use Rattle.std.specs.Option.{option_or}
 use Rattle.krb_fields.specs.Name.{Components}
@@ -23,12 +23,13 @@ replacement Unchanged = []
 replacement (Changed database) = Replaced database ∷ []
 replacement Failed = []
 
--- When is to be tidied, by when it was tidied last and when the last event came: at that event's moment, where none was
--- before, or a minute before it or earlier.
+-- When is to be tidied, by when it was tidied last and when the last event came: at that event's moment, unless it was
+-- within the minute from the last time on. So a clock that went back keeps nothing from being forgotten.
 abbrev pub due : Option Moment → Option Moment → Option Moment
 due tidied None = None
 due None (Some at) = Some at
-due (Some before) (Some at) = if int_lt at.sec (before.sec +ℤ pos 60) then None else Some at
+due (Some before) (Some at) =
+    if not (int_lt at.sec before.sec) && int_lt at.sec (before.sec +ℤ pos 60) then None else Some at
 
 abbrev pub tidying : Option Moment → List Turn
 tidying None = []

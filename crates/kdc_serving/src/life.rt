@@ -64,7 +64,7 @@ fn serve_period<W: Wire, S: RowSource, R: Rng>(
     served
 }
 
-/// Forgets what can't come again, where the last event came a minute after the last time or later.
+/// Forgets what can't come again, where the last event came a minute after the last time or later, or before it.
 fn tidy_if_due<R: Rng>(hub: &mut Hub<R>, tidied: &mut Option<Moment>, last: &Option<Moment>)
     ensures { HasTidied (standing R.stream hub.old) tidied.old last.now (standing R.stream hub.new) tidied.new }
 {
@@ -82,7 +82,7 @@ fn due(tidied: &Option<Moment>, last: &Option<Moment>) -> Option<Moment>
         (_, None) => None,
         (None, Some(at)) => Some(*at),
         (Some(before), Some(at)) => {
-            if at.sec < before.sec + MINUTE {
+            if before.sec <= at.sec && at.sec < before.sec + MINUTE {
                 None
             } else {
                 Some(*at)
@@ -98,9 +98,8 @@ fn take_rows<S: RowSource, R: Rng>(alloc: Global, source: &mut S, hub: &mut Hub<
 {
     match source.look(alloc) {
         Look::Changed(database) => {
-            if let Err(fault) = hub.replace(database) {
-                source.refuse(fault);
-            }
+            let taken = hub.replace(database);
+            source.hear(taken);
         }
         Look::Unchanged | Look::Failed => {}
     }

@@ -28,8 +28,8 @@ pub trait RowSource {
     fn look(&mut self, alloc: Global) -> Look
         ensures records { Records (recorded self.old) (result ∷ []) (recorded self.new) };
 
-    /// Hears that the rows of the last look are not served.
-    fn refuse(&mut self, fault: OtherRealm)
+    /// Hears whether the rows of the last look are served from now on.
+    fn hear(&mut self, taken: Result<(), OtherRealm>)
         ensures records { recorded self.new ≡ recorded self.old };
 }
 
@@ -44,9 +44,9 @@ impl<S: RowSource> RowSource for Option<S> {
         }
     }
 
-    fn refuse(&mut self, fault: OtherRealm) {
+    fn hear(&mut self, taken: Result<(), OtherRealm>) {
         if let Some(source) = self {
-            source.refuse(fault);
+            source.hear(taken);
         }
     }
 }

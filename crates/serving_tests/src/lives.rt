@@ -40,8 +40,10 @@ impl RowSource for ListedLooks {
         }
     }
 
-    fn refuse(&mut self, _fault: OtherRealm) {
-        self.refused = self.refused.saturating_add(1);
+    fn hear(&mut self, taken: Result<(), OtherRealm>) {
+        if taken.is_err() {
+            self.refused = self.refused.saturating_add(1);
+        }
     }
 }
 
