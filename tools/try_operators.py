@@ -11,12 +11,14 @@ each thing that it tried, with `ok` or what was wrong, and ends with status 1 if
 import argparse
 import collections
 import fcntl
+import itertools
 import json
 import math
 import os
 import pathlib
 import pty
 import re
+import resource
 import shlex
 import shutil
 import socket
@@ -37,6 +39,8 @@ SHORT_LOCK_SECONDS = math.ceil(6 * SLOWNESS)
 AHEAD = math.ceil(3 * SLOWNESS)
 # For how many seconds `kadm` waits for another one, and within how many a server has what is changed.
 KADM_WAITS, SERVED_WITHIN = 10, 2 * SLOWNESS
+# How many seconds after a read that failed a server reads the database again.
+RETRIED_AFTER = 5
 
 # Values that are none, by the options that take them.
 NUMBERS = ("", "-1", "+1", "1.5", "0x10", "ten", " 1", "1 ", "\u0661", str(MOST + 1), "18446744073709551617")
@@ -497,6 +501,9 @@ def try_change(trial):
     change("kadm policy --db database --name w --field disabled --value false", "ticket")
     change("kadm policy --db database --name w --field expires --value 2020-01-01", "1")
     change("kadm remove --db database --name w", "6")
+    lines = [f"kdcd: database database with {rows} rows\n" for rows in (6, 5)]
+    is_said = served.wait(lambda: served.said().endswith(lines[1]), 4) and lines[0] in served.said()
+    trial.note("each database that is taken has a line", "" if is_said else served.said())
     trial.cases("KINIT u --password-file pw -> 0 =ok\nKVNO h -> 0 =h kvno 1")
     trial.run("kadm passwd --db database --name u --password-file other")
     trial.run("kadm random --db database --name h")
@@ -521,8 +528,27 @@ def try_change(trial):
     change("kadm add --db database --name w --password-file pw", "25")
     found = fixed.answer("w")
     trial.note("--fixed: no change is served", "" if found == "6" else found)
+    try_without_files(trial, served)
     served.end()
     fixed.end()
+
+
+def try_without_files(trial, served):
+    """A database that the system fails to open is opened again some seconds later; the failure is said once, and then the rows."""
+    pid = served.process.pid
+    hard = resource.prlimit(pid, resource.RLIMIT_NOFILE)[1]
+    used = {int(each.name) for each in pathlib.Path(f"/proc/{pid}/fd").iterdir()}
+    free = next(number for number in itertools.count() if number not in used)
+    resource.prlimit(pid, resource.RLIMIT_NOFILE, (free, hard))
+    failed, taken = "kdcd: database: Too many open files (os error 24); the rows before it stay\n", "database with 7 rows\n"
+    trial.expect("kadm add --db database --name x --password-file pw", 0, "=ok")
+    is_said = served.wait(lambda: failed in served.said(), 4)
+    trial.note("a database that cannot be opened, since descriptors ran out", "" if is_said else served.said())
+    time.sleep(SERVED_WITHIN + RETRIED_AFTER)
+    trial.note("that is said once", "" if served.said().count(failed) == 1 and taken not in served.said() else served.said())
+    resource.prlimit(pid, resource.RLIMIT_NOFILE, (hard, hard))
+    is_taken = served.wait(lambda: taken in served.said(), SERVED_WITHIN + RETRIED_AFTER)
+    trial.note("it is opened again, and that is said", "" if is_taken and served.answer("x") == "25" else served.said())
 
 
 def odd_lines(text):

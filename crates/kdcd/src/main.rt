@@ -2,6 +2,7 @@
 //! a realm over UDP and TCP.
 #![tactic(auto)]
 
+mod host;
 mod serving;
 
 use crate::serving::serve_realm;

@@ -1,19 +1,16 @@
 //! Serving a realm: `kdcd serve`.
-use kdc_core::{Kdc, Opening};
+use crate::host::SystemHost;
+use kdc_core::Opening;
 use kdc_hub::Hub;
 use kdc_serving::serve_life;
-use kdc_wire::{BindFault, SocketWire, now};
+use kdc_wire::{BindFault, SocketWire};
 use kdcd_start::{
-    FileFault, LoggedWire, RequestLines, RowsFile, ServeOptions, Started, read_at_most, seed_of,
+    ClockWatch, LoggedWire, ReadyServer, RequestLines, RowsFile, ServeOptions, Started,
+    WatchedWire, start_server,
 };
 use rand_chacha::ChaCha20Rng;
-use rand_core::SeedableRng;
 use ready_writer::{ReadyWriter, SharedWriter};
-use std::alloc::AllocError;
-use std::fs::File;
 use std::io::{Stderr, Write};
-use std::random::RandomSource;
-use std::time::Duration;
 use std::{fmt, io};
 
 /// The status of a run that served all its rounds.
@@ -28,66 +25,22 @@ const FAILED: u8 = 3;
 /// As many rounds as no process serves.
 const ENDLESS: u64 = u64::MAX;
 
-/// How many milliseconds a round waits where nothing comes.
-const WAIT: u64 = 100;
-
-/// The most octets of the file of a seed, of which the first 32 count.
-const LONGEST_SEED: usize = 16_777_216;
-
 /// Why a server did not start.
-#[derive(Debug, Drop)]
-enum StartFault<'a> {
-    /// The file of this path.
-    File(&'a str, FileFault),
-    /// The system's source of random octets.
-    Random(io::Error),
-    /// Standard error.
-    Errors(io::Error),
-    Clock(io::Error),
-    Sockets(BindFault),
-    Memory,
-}
-
-impl fmt::Display for StartFault<'_> {
-    fn fmt<W: fmt::Write>(&self, f: &mut fmt::Formatter<W>) -> fmt::Result {
-        match self {
-            StartFault::File(path, fault) => write!(f, "{path}: {fault}"),
-            StartFault::Random(error) => write!(f, "random octets: {error}"),
-            StartFault::Errors(error) => write!(f, "standard error: {error}"),
-            StartFault::Clock(error) => write!(f, "the clock: {error}"),
-            StartFault::Sockets(fault) => write!(f, "{fault}"),
-            StartFault::Memory => f.write_str("out of memory"),
-        }
-    }
-}
-
-impl From<AllocError> for StartFault<'_> {
-    fn from(_: AllocError) -> Self {
-        StartFault::Memory
-    }
-}
-
-impl StartFault<'_> {
-    /// The word for it, where a file was read and is refused.
-    fn refusal(&self) -> Option<&'static str> {
-        match self {
-            StartFault::File(_, fault) => fault.refusal(),
-            _ => None,
-        }
-    }
-}
+type StartFault<'a> = kdcd_start::StartFault<'a, BindFault>;
 
 /// Standard error, whose reader may stop reading while the server goes on. All that write to it hold the same one.
 type Errors = SharedWriter<Stderr>;
 
-/// The sockets, and the log of the requests that are answered through them.
-type ServerWire = LoggedWire<SocketWire<HostRuntime>, RequestLines<Errors>>;
+/// The sockets, the log of the requests that are answered through them, and the lines about a clock that went back.
+type ServerWire = WatchedWire<LoggedWire<SocketWire<HostRuntime>, RequestLines<Errors>>, Errors>;
 
 /// A server that listens.
 #[derive(Drop)]
 struct Server<'a> {
     hub: Hub<ChaCha20Rng>,
     wire: ServerWire,
+    /// How its KDC was opened.
+    opening: Opening,
     /// How many rows it starts with.
     row_count: usize,
     /// Where its rows come from, unless they are fixed.
@@ -132,7 +85,7 @@ fn say_start(
     server: &mut Server<'_>,
     options: &ServeOptions<'_>,
 ) -> io::Result<()> {
-    let sockets = server.wire.wire();
+    let sockets = server.wire.wire().wire();
     let udp = sockets.udp_addresses(rt.alloc())?;
     let tcp = sockets.tcp_addresses(rt.alloc())?;
     let started = Started {
@@ -140,6 +93,7 @@ fn say_start(
         tcp: &tcp,
         db: options.db,
         rows: server.row_count,
+        opening: server.opening,
         limits: options.limits,
     };
     say(&mut server.errors, &started);
@@ -148,7 +102,7 @@ fn say_start(
 
 /// Says how many lines of the log were lost, if any.
 fn say_lost(errors: &mut Errors, wire: &ServerWire) {
-    let lost = wire.log().map_or(0, |log| log.unreported());
+    let lost = wire.wire().log().map_or(0, |log| log.unreported());
     if lost > 0 {
         say(errors, &format_args!("kdcd: log: {lost} lines are lost\n"));
     }
@@ -174,25 +128,33 @@ fn report(rt: &HostRuntime, fault: &StartFault<'_>) -> io::Result<u8> {
     }
 }
 
-/// Reads the files in the order of their options, and then opens the sockets.
+/// Starts a server that writes to standard error.
 fn start<'a>(
     rt: &'a HostRuntime,
     options: &ServeOptions<'a>,
 ) -> Result<Server<'a>, StartFault<'a>> {
     let errors = errors_of(rt)?;
-    let rows = RowsFile::new(rt, options.db, errors.share()?);
     let log = open_log(options, &errors)?;
-    let (hub, row_count) = open_hub(rt, options, &rows)?;
-    match open_wire(rt, options, log) {
-        Ok(wire) => Ok(Server {
-            hub,
-            wire,
-            row_count,
-            rows: (!options.is_fixed).then_some(rows),
-            errors,
-        }),
-        Err(fault) => Err(StartFault::Sockets(fault)),
-    }
+    let rows = RowsFile::new(rt, options.db, errors.share()?);
+    let mut host = SystemHost { rt, rows };
+    let ReadyServer {
+        hub,
+        sockets,
+        opening,
+        row_count,
+    } = start_server(rt.alloc(), &mut host, options)?;
+    Ok(Server {
+        hub,
+        wire: WatchedWire::new(
+            LoggedWire::new(sockets, log),
+            ClockWatch::new(opening),
+            errors.share()?,
+        ),
+        opening,
+        row_count,
+        rows: (!options.is_fixed).then_some(host.rows),
+        errors,
+    })
 }
 
 fn errors_of<'a>(rt: &HostRuntime) -> Result<Errors, StartFault<'a>> {
@@ -211,75 +173,4 @@ fn open_log<'a>(
         return Ok(None);
     };
     Ok(Some(RequestLines::new(errors.share()?, format)))
-}
-
-fn open_wire(
-    rt: &HostRuntime,
-    options: &ServeOptions<'_>,
-    log: Option<RequestLines<Errors>>,
-) -> Result<ServerWire, BindFault> {
-    let wait = Duration::from_millis(WAIT);
-    let sockets = SocketWire::bind(
-        rt.alloc(),
-        rt.clone()?,
-        rt,
-        &options.udp,
-        &options.tcp,
-        wait,
-    )?;
-    Ok(LoggedWire::new(sockets, log))
-}
-
-/// A hub over the rows, and how many there are.
-fn open_hub<'a>(
-    rt: &HostRuntime,
-    options: &ServeOptions<'a>,
-    rows: &RowsFile<'_, HostRuntime, Errors>,
-) -> Result<(Hub<ChaCha20Rng>, usize), StartFault<'a>> {
-    let database = match rows.read(rt.alloc()) {
-        Ok(database) => database,
-        Err(fault) => return Err(StartFault::File(options.db, fault)),
-    };
-    let row_count = database.len();
-    let rng = ChaCha20Rng::from_seed(seed(rt, options.seed)?);
-    let opening = opening(rt, options.is_first)?;
-    let kdc = Kdc::open(rt.alloc(), database, options.limits, opening)?;
-    Ok((
-        Hub::new(rt.alloc(), kdc, rng, options.log.is_some()),
-        row_count,
-    ))
-}
-
-/// The seed that a file holds, or one that the system gives.
-fn seed<'a>(rt: &HostRuntime, path: Option<&'a str>) -> Result<[u8; 32], StartFault<'a>> {
-    let Some(path) = path else {
-        return system_seed(rt);
-    };
-    match read_seed(rt, path) {
-        Ok(seed) => Ok(seed),
-        Err(fault) => Err(StartFault::File(path, fault)),
-    }
-}
-
-fn system_seed<'a>(rt: &HostRuntime) -> Result<[u8; 32], StartFault<'a>> {
-    let mut seed = [0; 32];
-    match rt.fill_bytes(&mut seed) {
-        Ok(()) => Ok(seed),
-        Err(error) => Err(StartFault::Random(error)),
-    }
-}
-
-fn read_seed(rt: &HostRuntime, path: &str) -> Result<[u8; 32], FileFault> {
-    let octets = read_at_most(rt.alloc(), File::open(rt, path)?, LONGEST_SEED)?;
-    seed_of(&octets)
-}
-
-fn opening<'a>(rt: &HostRuntime, is_first: bool) -> Result<Opening, StartFault<'a>> {
-    if is_first {
-        return Ok(Opening::First);
-    }
-    match now(rt) {
-        Ok(at) => Ok(Opening::Restart(at)),
-        Err(error) => Err(StartFault::Clock(error)),
-    }
 }

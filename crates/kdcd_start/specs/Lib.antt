@@ -1,2 +1,4 @@
 pub mod Refusal
 pub mod Log
+pub mod Starting
+pub mod Clocks

@@ -61,10 +61,12 @@ memory. With --rounds 0 it opens everything, and ends.
 
 The file of the database is looked at before each 16 rounds. If it was changed it is read, and its rows are served from
 then on; all that is remembered stays. A file that can't be read, is refused, or is of another realm (OtherRealm) leaves
-the rows as they are. Standard error says so once, and the file is looked at again when it changes again.
+the rows as they are. Standard error says so once, and the file is looked at again when it changes again; one that the
+system failed to read is read again after five seconds.
 
-Once it listens it says so on standard error: the addresses, the database with its rows, and the limits. A port 0 is
-one that the system gives. With --log each request is a line there: the time in UTC, the peer, udp or tcp, as or tgs, the
+Once it listens it says so on standard error: the addresses, the database with its rows, until when TGS-REQs are refused,
+and the limits. A port 0 is one that the system gives. While the clock shows an earlier time than before, a line a minute
+says which TGS-REQs are refused for that, and until when. With --log each request is a line there: the time in UTC, the peer, udp or tcp, as or tgs, the
 client, the service, and what became of it: `ticket` with its lifetime, or `refused` with the error's code and a word for
 it; then rule=NAME for a refusal, and etype=, flags=, until= and renew= for a ticket. A line that can't be written is lost.
 

@@ -2,15 +2,23 @@
 #![tactic(auto)]
 
 mod args;
+mod clock_watch;
 mod files;
+mod host;
 mod logged_wire;
 mod request_lines;
 mod rows_file;
 mod started;
+mod starting;
+mod watched_wire;
 
 pub use crate::args::{ArgsFault, ServeOptions, read_args, serve_options};
+pub use crate::clock_watch::{ClockWatch, Refused, refused_at_start};
 pub use crate::files::{FileFault, database_of, read_at_most, read_whole, seed_of};
+pub use crate::host::Host;
 pub use crate::logged_wire::{LogWriter, LoggedWire};
 pub use crate::request_lines::{LogFormat, RequestLines, line_of};
 pub use crate::rows_file::RowsFile;
 pub use crate::started::Started;
+pub use crate::starting::{ReadyServer, StartFault, start_server};
+pub use crate::watched_wire::WatchedWire;

@@ -8,8 +8,12 @@ use std::alloc::Global;
 use std::fs::{File, Metadata};
 use std::io::{Error, ErrorKind, Write};
 use std::os::unix::fs::MetadataExt;
-use std::rt::Files;
-use std::{fmt, fs};
+use std::rt::{Clock, Files};
+use std::time::Instant;
+use std::{fmt, fs, io};
+
+/// How many seconds after a read that failed the file is read again.
+const BETWEEN_READS: u64 = 5;
 
 /// What tells a file from the one that was there before.
 #[derive(Clone, Copy, PartialEq, Eq)]
@@ -21,19 +25,35 @@ struct Stamp {
     len: u64,
 }
 
-/// The file of a database, and where its faults are said. It tells no record.
+/// What became of the file's last change.
+#[derive(Drop)]
+enum News {
+    /// So many rows are served from it.
+    Taken(usize),
+    /// It was not taken.
+    Faulty(FileFault),
+    OtherRealm,
+}
+
+/// The file of a database, and where its changes and faults are logged. It keeps no record.
 #[derive(Drop)]
 pub struct RowsFile<'a, F, W> {
     files: &'a F,
     path: &'a str,
-    faults: W,
+    lines: W,
     /// What was there at the last look, if that could be seen.
     seen: Option<Stamp>,
+    /// When the system last failed to read what is there.
+    failed_at: Option<Instant>,
+    /// How many rows the last look found.
+    row_count: usize,
+    /// What is still to be logged.
+    unsaid: Option<News>,
 }
 
-impl<'a, F: Files, W: Write + Drop> RowsFile<'a, F, W> {
+impl<'a, F: Files + Clock, W: Write + Drop> RowsFile<'a, F, W> {
     /// The file at this path. It is read after this, so that no change is missed.
-    pub fn new(files: &'a F, path: &'a str, faults: W) -> RowsFile<'a, F, W> {
+    pub fn new(files: &'a F, path: &'a str, lines: W) -> RowsFile<'a, F, W> {
         let seen = match fs::metadata(files, path) {
             Ok(metadata) => Some(stamp_of(&metadata)),
             Err(_) => None,
@@ -41,18 +61,21 @@ impl<'a, F: Files, W: Write + Drop> RowsFile<'a, F, W> {
         RowsFile {
             files,
             path,
-            faults,
+            lines,
             seen,
+            failed_at: None,
+            row_count: 0,
+            unsaid: None,
         }
     }
 
-    /// The rows that the file has.
+    /// Reads the rows that the file has.
     pub fn read(&self, alloc: Global) -> Result<Database, FileFault> {
         let octets = read_whole(alloc, File::open(self.files, self.path)?)?;
         database_of(alloc, &octets)
     }
 
-    /// The rows that the file has, if it is not as it was at the last look.
+    /// Returns the rows that the file has, if it is not as it was at the last look, or could not be read then.
     fn changed_rows(&mut self, alloc: Global) -> Result<Option<Database>, FileFault> {
         let seen = self.seen.take();
         let metadata = match fs::metadata(self.files, self.path) {
@@ -64,45 +87,111 @@ impl<'a, F: Files, W: Write + Drop> RowsFile<'a, F, W> {
         let stamp = stamp_of(&metadata);
         self.seen = Some(stamp);
         if seen == Some(stamp) {
-            return Ok(None);
+            return self.retried_rows(alloc);
         }
+        self.failed_at = None;
         if !metadata.is_file() {
             // A pipe might have to be waited for.
             let fault = Error::new(ErrorKind::InvalidInput, "it is no file");
             return Err(FileFault::Failed(fault));
         }
-        Ok(Some(self.read(alloc)?))
+        Ok(Some(self.read_or_note(alloc)?))
     }
 
-    /// Says why the rows are those from before. If that fails, there is nobody to be told.
-    fn say(&mut self, fault: &impl fmt::Display) {
-        let _ = writeln!(
-            self.faults,
-            "kdcd: database: {fault}; the rows before it stay"
-        );
+    /// Reads the rows again, some seconds after the system failed to. That it fails once more is not said.
+    fn retried_rows(&mut self, alloc: Global) -> Result<Option<Database>, FileFault> {
+        if !self.is_retry_due() {
+            return Ok(None);
+        }
+        match self.read_or_note(alloc) {
+            Ok(database) => Ok(Some(database)),
+            Err(fault) if is_of_system(&fault) => Ok(None),
+            Err(fault) => Err(fault),
+        }
+    }
+
+    fn is_retry_due(&self) -> bool {
+        let Some(failed_at) = self.failed_at else {
+            return false;
+        };
+        match failed_at.elapsed(self.files) {
+            Ok(passed) => passed.as_secs() >= BETWEEN_READS,
+            Err(_) => false,
+        }
+    }
+
+    /// Reads the rows, and notes when the system fails to.
+    fn read_or_note(&mut self, alloc: Global) -> Result<Database, FileFault> {
+        let read = self.read(alloc);
+        self.failed_at = match &read {
+            Err(fault) if is_of_system(fault) => Instant::now(self.files).ok(),
+            _ => None,
+        };
+        read
+    }
+
+    /// Logs these news, in place of older ones that could not be logged yet.
+    fn tell(&mut self, news: News) {
+        self.unsaid = Some(news);
+        self.say();
+    }
+
+    /// Logs what is still to be logged. A line that is lost comes again at the next look.
+    fn say(&mut self) {
+        if let Some(news) = self.unsaid.take() {
+            if write_news(&mut self.lines, self.path, &news).is_err() {
+                self.unsaid = Some(news);
+            }
+        }
     }
 }
 
-impl<F: Files, W: Write + Drop> RowSource for RowsFile<'_, F, W> {
+impl<F: Files + Clock, W: Write + Drop> RowSource for RowsFile<'_, F, W> {
     ghost recorded = { λ _. None };
 
     fn look(&mut self, alloc: Global) -> Look {
+        self.say();
         match self.changed_rows(alloc) {
-            Ok(Some(database)) => Look::Changed(database),
+            Ok(Some(database)) => {
+                self.row_count = database.len();
+                Look::Changed(database)
+            }
             Ok(None) => Look::Unchanged,
             Err(fault) => {
-                match fault.refusal() {
-                    Some(word) => self.say(&word),
-                    None => self.say(&fault),
-                }
+                self.tell(News::Faulty(fault));
                 Look::Failed
             }
         }
     }
 
-    fn refuse(&mut self, _fault: OtherRealm) {
-        self.say(&"OtherRealm");
+    fn hear(&mut self, taken: Result<(), OtherRealm>) {
+        let news = match taken {
+            Ok(()) => News::Taken(self.row_count),
+            Err(OtherRealm) => News::OtherRealm,
+        };
+        self.tell(news);
     }
+}
+
+/// Checks whether the system failed, and the file itself may be good.
+fn is_of_system(fault: &FileFault) -> bool {
+    fault.refusal().is_none()
+}
+
+fn write_news(lines: &mut impl Write, path: &str, news: &News) -> io::Result<()> {
+    match news {
+        News::Taken(rows) => writeln!(lines, "kdcd: database {path} with {rows} rows"),
+        News::Faulty(fault) => match fault.refusal() {
+            Some(word) => write_kept(lines, &word),
+            None => write_kept(lines, fault),
+        },
+        News::OtherRealm => write_kept(lines, &"OtherRealm"),
+    }
+}
+
+/// Writes why the rows are those from before.
+fn write_kept(lines: &mut impl Write, why: &impl fmt::Display) -> io::Result<()> {
+    writeln!(lines, "kdcd: database: {why}; the rows before it stay")
 }
 
 fn stamp_of(metadata: &Metadata) -> Stamp {

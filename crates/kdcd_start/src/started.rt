@@ -1,9 +1,12 @@
 //! What a server says once it listens.
+use crate::clock_watch::refused_at_start;
+use kdc_core::Opening;
 use principal_rows::Limits;
 use std::fmt;
 use std::net::SocketAddr;
 
-/// A server that listens. Its text is a line with the addresses, one with the database, and one with the limits.
+/// A server that listens. Its text is a line with the addresses, one with the database, one with what is refused after
+/// a restart, and one with the limits.
 #[derive(Clone, Copy)]
 pub struct Started<'a> {
     pub udp: &'a [SocketAddr],
@@ -12,6 +15,7 @@ pub struct Started<'a> {
     pub db: &'a str,
     /// How many rows it has.
     pub rows: usize,
+    pub opening: Opening,
     pub limits: Limits,
 }
 
@@ -20,6 +24,9 @@ impl fmt::Display for Started<'_> {
         f.write_str("kdcd: serving on ")?;
         write_addresses(f, self.udp, self.tcp)?;
         writeln!(f, "\nkdcd: database {} with {} rows", self.db, self.rows)?;
+        if let Some(refused) = refused_at_start(self.opening) {
+            writeln!(f, "kdcd: restart: {refused}")?;
+        }
         write_limits(f, &self.limits)
     }
 }

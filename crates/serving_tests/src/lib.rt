@@ -4,6 +4,10 @@
 #![tactic(auto)]
 
 #[cfg(test)]
+mod clocks;
+#[cfg(test)]
+mod hosts;
+#[cfg(test)]
 mod lines;
 #[cfg(test)]
 mod lives;

@@ -3,8 +3,9 @@ use crate::rows::{GRANTER, NEW_USER, RowOf, SERVICE, USER, text_of};
 use kdc_serving::{Look, OtherRealm, RowSource};
 use kdcd_start::RowsFile;
 use std::alloc::Global;
-use std::fs;
+use std::io::{ErrorKind, Write};
 use std::test::Fail;
+use std::{fs, io};
 
 const PATH: &str = "tested.database";
 
@@ -54,13 +55,19 @@ const DEEDS: &[(Deed, Seen)] = &[
 
 /// What is said of them, and then of another realm.
 const SAID: &str = "\
+kdcd: database tested.database with 4 rows
 kdcd: database: NotJson; the rows before it stay
 kdcd: database: BadVersion; the rows before it stay
+kdcd: database tested.database with 3 rows
 kdcd: database: No such file or directory (os error 2); the rows before it stay
 kdcd: database: it is no file; the rows before it stay
 kdcd: database: No such file or directory (os error 2); the rows before it stay
+kdcd: database tested.database with 3 rows
 kdcd: database: OtherRealm; the rows before it stay
 ";
+
+/// What is said at the second look, where the first line was lost.
+const LATER: &str = "kdcd: database tested.database with 4 rows\n";
 
 fn replace(rt: &HostRuntime, rows: &[RowOf]) -> Result<(), Fail> {
     let text = text_of(rt.alloc(), "A.B", rows)?;
@@ -82,7 +89,10 @@ fn do_deed(rt: &HostRuntime, deed: Deed) -> Result<(), Fail> {
 fn look(alloc: Global, source: &mut impl RowSource) -> Seen {
     match source.look(alloc) {
         Look::Unchanged => Seen::Unchanged,
-        Look::Changed(_) => Seen::Changed,
+        Look::Changed(_) => {
+            source.hear(Ok(()));
+            Seen::Changed
+        }
         Look::Failed => Seen::Failed,
     }
 }
@@ -98,12 +108,51 @@ fn first_odd(rt: &HostRuntime, source: &mut impl RowSource) -> Result<Option<usi
     Ok(None)
 }
 
+/// A stream of lines whose first write fails.
+#[derive(Drop)]
+struct FailingOnce<'a> {
+    said: &'a mut Vec<u8>,
+    has_failed: bool,
+}
+
+impl Write for FailingOnce<'_> {
+    fn write(&mut self, octets: &[u8]) -> io::Result<usize> {
+        if self.has_failed {
+            return self.said.write(octets);
+        }
+        self.has_failed = true;
+        Err(io::Error::from(ErrorKind::WouldBlock))
+    }
+
+    fn flush(&mut self) -> io::Result<()> {
+        Ok(())
+    }
+}
+
+/// What is said of a file that is replaced, where the first line is lost.
+fn said_later(rt: &HostRuntime) -> Result<Vec<u8>, Fail> {
+    let mut said = Vec::new(rt.alloc());
+    let lines = FailingOnce {
+        said: &mut said,
+        has_failed: false,
+    };
+    let mut source = RowsFile::new(rt, PATH, lines);
+    replace(rt, MORE_ROWS)?;
+    for wanted in [Seen::Changed, Seen::Unchanged, Seen::Unchanged] {
+        if look(rt.alloc(), &mut source) != wanted {
+            Err("an odd look")?;
+        }
+    }
+    drop(source);
+    Ok(said)
+}
+
 /// What is said, where each look finds what it should.
 fn said(rt: &HostRuntime) -> Result<Vec<u8>, Fail> {
     let mut said = Vec::new(rt.alloc());
     let mut source = RowsFile::new(rt, PATH, &mut said);
     let odd = first_odd(rt, &mut source)?;
-    source.refuse(OtherRealm);
+    source.hear(Err(OtherRealm));
     match odd {
         Some(_) => Err("an odd look")?,
         None => Ok(said),
@@ -116,7 +165,9 @@ fn a_file_is_read_when_it_changes_and_its_faults_are_said_once(
 ) -> Result<(), Fail> {
     replace(&rt, ROWS)?;
     let said = said(&rt)?;
+    let later = said_later(&rt)?;
     fs::remove_file(&rt, PATH)?;
     assert!(rt; said.as_slice() == SAID.as_bytes());
+    assert!(rt; later.as_slice() == LATER.as_bytes());
     Ok(())
 }

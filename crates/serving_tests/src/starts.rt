@@ -1,9 +1,11 @@
 //! What the words of `kdcd serve` stand for, and which files are taken (`kdcd_start`).
 use crate::rows::{GRANTER, text_of};
 use clap::ArgMatches;
+use kdc_core::Opening;
 use kdcd_start::{
     ArgsFault, FileFault, Started, database_of, read_args, read_at_most, seed_of, serve_options,
 };
+use krb_fields::Moment;
 use principal_rows::Limits;
 use std::alloc::{AllocError, Global};
 use std::io::Read;
@@ -205,6 +207,7 @@ fn options_are_those_of_the_args(rt: HostRuntime) -> Result<(), Fail> {
 const STARTED: &str = "\
 kdcd: serving on udp 192.0.2.1:88, udp [2001:db8::1]:88 and tcp 192.0.2.1:88
 kdcd: database /var/lib/kdcd/database with 3 rows
+kdcd: restart: all TGS-REQs are refused until 2024-01-01T00:05:01Z
 kdcd: limits: remembered 1, lock-after 2, lock-seconds 3, greatest-life 4, greatest-renewable 5
 ";
 
@@ -216,6 +219,7 @@ fn a_server_says_what_it_serves(rt: HostRuntime) -> Result<(), Fail> {
         tcp: &["192.0.2.1:88".parse()?],
         db: "/var/lib/kdcd/database",
         rows: 3,
+        opening: Opening::Restart(Moment::new(1_704_067_200, 0).ok_or("a moment")?),
         limits,
     };
     let text = format!(in rt.alloc(); "{started}")?;

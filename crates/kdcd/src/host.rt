@@ -1,0 +1,63 @@
+//! The system as a host of a server.
+ghost use Rattle.std.specs.Prelude.{None};
+
+use kdc_wire::{BindFault, SocketWire, now};
+use kdcd_start::{FileFault, Host, RowsFile, read_at_most};
+use krb_fields::Moment;
+use principals::Database;
+use std::alloc::Global;
+use std::fs::File;
+use std::io;
+use std::io::Write;
+use std::net::SocketAddr;
+use std::random::RandomSource;
+use std::time::Duration;
+
+/// How many milliseconds a round waits where nothing comes.
+const WAIT: u64 = 100;
+
+/// The most octets of the file of a seed, of which the first 32 count.
+const LONGEST_SEED: usize = 16_777_216;
+
+/// The system, with the file of the database. It keeps no record.
+#[derive(Drop)]
+pub struct SystemHost<'a, W> {
+    pub rt: &'a HostRuntime,
+    pub rows: RowsFile<'a, HostRuntime, W>,
+}
+
+impl<W: Write + Drop> Host for SystemHost<'_, W> {
+    type Sockets = SocketWire<HostRuntime>;
+
+    type SocketFault = BindFault;
+
+    ghost recorded = { λ _. None };
+
+    fn read_rows(&mut self, alloc: Global) -> Result<Database, FileFault> {
+        self.rows.read(alloc)
+    }
+
+    fn read_seed(&mut self, alloc: Global, path: &str) -> Result<Vec<u8>, FileFault> {
+        read_at_most(alloc, File::open(self.rt, path)?, LONGEST_SEED)
+    }
+
+    fn draw(&mut self) -> io::Result<[u8; 32]> {
+        let mut octets = [0; 32];
+        self.rt.fill_bytes(&mut octets)?;
+        Ok(octets)
+    }
+
+    fn hold(
+        &mut self,
+        alloc: Global,
+        udp: &[SocketAddr],
+        tcp: &[SocketAddr],
+    ) -> Result<SocketWire<HostRuntime>, BindFault> {
+        let wait = Duration::from_millis(WAIT);
+        SocketWire::bind(alloc, self.rt.clone()?, self.rt, udp, tcp, wait)
+    }
+
+    fn now(&mut self) -> io::Result<Moment> {
+        now(self.rt)
+    }
+}

@@ -1,0 +1,50 @@
+//! What a server is started from.
+ghost use Rattle.std.specs.Prelude.{◌∷◌, [], List, Option, IfOk};
+ghost use Rattle.kdc_hub.specs.Wire.{Records};
+ghost use Rattle.kdcd_start.specs.Starting.{HostDid, ReadRows, ReadSeed, Drew, Held, Showed};
+
+use crate::files::FileFault;
+use krb_fields::Moment;
+use principals::Database;
+use std::alloc::Global;
+use std::io;
+use std::net::SocketAddr;
+
+/// What a server is started from: a database, random octets, sockets and a clock. A host may keep a record, for
+/// contracts alone.
+pub trait Host {
+    /// Sockets that are held.
+    type Sockets: Drop;
+
+    /// Why sockets could not be opened.
+    type SocketFault: Drop;
+
+    // The calls so far that succeeded, with their outcomes, in order, if the host keeps a record.
+    ghost recorded: { Self → Option (List HostDid) };
+
+    /// Reads the rows of the database.
+    fn read_rows(&mut self, alloc: Global) -> Result<Database, FileFault>
+        ensures { IfOk result (λ rows. Records (recorded self.old) (ReadRows rows ∷ []) (recorded self.new)) };
+
+    /// Reads the file of a seed.
+    fn read_seed(&mut self, alloc: Global, path: &str) -> Result<Vec<u8>, FileFault>
+        ensures { IfOk result (λ octets.
+            Records (recorded self.old) (ReadSeed path.now octets.items ∷ []) (recorded self.new)) };
+
+    /// Draws random octets from the system.
+    fn draw(&mut self) -> io::Result<[u8; 32]>
+        ensures { IfOk result (λ octets. Records (recorded self.old) (Drew octets ∷ []) (recorded self.new)) };
+
+    /// Opens a socket at each address, and holds them: no other process takes what comes to them from then on.
+    fn hold(
+        &mut self,
+        alloc: Global,
+        udp: &[SocketAddr],
+        tcp: &[SocketAddr],
+    ) -> Result<Self::Sockets, Self::SocketFault>
+        ensures { IfOk result (λ _. Records (recorded self.old) (Held udp.now tcp.now ∷ []) (recorded self.new)) };
+
+    /// Returns the moment that the clock shows.
+    fn now(&mut self) -> io::Result<Moment>
+        ensures { IfOk result (λ at. Records (recorded self.old) (Showed at ∷ []) (recorded self.new)) };
+}

@@ -1,0 +1,160 @@
+//! Starting a server from a host in memory (`kdcd_start`): which calls it makes, and what a call that fails stops.
+use crate::rows::{GRANTER, text_of};
+use kdcd_start::{FileFault, Host, database_of, read_args, serve_options, start_server};
+use krb_fields::Moment;
+use principals::Database;
+use std::alloc::Global;
+use std::io;
+use std::io::{Error, ErrorKind};
+use std::net::SocketAddr;
+use std::test::Fail;
+
+/// A call of a host.
+#[derive(Clone, Copy, Debug, PartialEq, Eq)]
+enum Call {
+    ReadRows,
+    ReadSeed,
+    Draw,
+    Hold,
+    Now,
+}
+
+/// What stands behind `kdcd serve`, and the calls that it takes.
+const STARTS: &[(&str, &[Call])] = &[
+    (
+        "--db d --udp 127.0.0.1:88",
+        &[Call::ReadRows, Call::Draw, Call::Hold, Call::Now],
+    ),
+    (
+        "--db d --udp 127.0.0.1:88 --first",
+        &[Call::ReadRows, Call::Draw, Call::Hold],
+    ),
+    (
+        "--db d --udp 127.0.0.1:88 --seed s",
+        &[Call::ReadRows, Call::ReadSeed, Call::Hold, Call::Now],
+    ),
+];
+
+/// A call that fails, and what is said of it.
+const FAULTS: &[(Call, &str)] = &[
+    (Call::ReadRows, "d: it has more octets than are taken"),
+    (Call::ReadSeed, "s: it has fewer than 32 octets"),
+    (Call::Hold, "no socket"),
+    (Call::Now, "the clock: unsupported"),
+];
+
+/// A host in memory, one of whose calls may fail.
+#[derive(Drop)]
+struct ListedHost {
+    calls: Vec<Call>,
+    failing: Option<Call>,
+}
+
+impl ListedHost {
+    /// Notes a call. Returns whether it fails.
+    fn fails(&mut self, call: Call) -> bool {
+        let is_noted = self.calls.push(call).is_ok();
+        !is_noted || self.failing == Some(call)
+    }
+}
+
+impl Host for ListedHost {
+    ghost use Rattle.std.specs.Prelude.{None};
+
+    type Sockets = ();
+
+    type SocketFault = &'static str;
+
+    ghost recorded = { λ _. None };
+
+    fn read_rows(&mut self, alloc: Global) -> Result<Database, FileFault> {
+        if self.fails(Call::ReadRows) {
+            return Err(FileFault::LongFile);
+        }
+        let text = text_of(alloc, "A.B", &[GRANTER])?;
+        database_of(alloc, text.as_bytes())
+    }
+
+    fn read_seed(&mut self, alloc: Global, _path: &str) -> Result<Vec<u8>, FileFault> {
+        let len = if self.fails(Call::ReadSeed) { 31 } else { 33 };
+        Ok(Vec::from_elem(alloc, 7, len)?)
+    }
+
+    fn draw(&mut self) -> io::Result<[u8; 32]> {
+        if self.fails(Call::Draw) {
+            return Err(Error::from(ErrorKind::Unsupported));
+        }
+        Ok([7; 32])
+    }
+
+    fn hold(
+        &mut self,
+        _alloc: Global,
+        _udp: &[SocketAddr],
+        _tcp: &[SocketAddr],
+    ) -> Result<(), &'static str> {
+        if self.fails(Call::Hold) {
+            return Err("no socket");
+        }
+        Ok(())
+    }
+
+    fn now(&mut self) -> io::Result<Moment> {
+        if self.fails(Call::Now) {
+            return Err(Error::from(ErrorKind::Unsupported));
+        }
+        Moment::new(1_704_067_200, 0).ok_or(Error::from(ErrorKind::InvalidData))
+    }
+}
+
+/// The calls of a start with these words, and why it failed, if it did.
+fn start(
+    alloc: Global,
+    words: &str,
+    failing: Option<Call>,
+) -> Result<(Vec<Call>, Option<String>), Fail> {
+    let mut args = Vec::new(alloc);
+    for word in words.split(' ') {
+        args.push(String::from_str(alloc, word)?)?;
+    }
+    let Ok(matches) = read_args(alloc, &args) else {
+        return Err(Fail::from("the words"));
+    };
+    let (_, serve) = matches.subcommand().ok_or("serve")?;
+    let Ok(options) = serve_options(alloc, serve) else {
+        return Err(Fail::from("the options"));
+    };
+    let mut host = ListedHost {
+        calls: Vec::new(alloc),
+        failing,
+    };
+    let fault = match start_server(alloc, &mut host, &options) {
+        Ok(ready) if ready.row_count == 1 => None,
+        Ok(_) => Err("the rows")?,
+        Err(fault) => Some(format!(in alloc; "{fault}")?),
+    };
+    Ok((host.calls, fault))
+}
+
+#[test]
+fn a_server_holds_its_sockets_before_it_looks_at_the_clock(rt: HostRuntime) -> Result<(), Fail> {
+    let alloc = rt.alloc();
+    for (words, wanted) in STARTS {
+        let words = format!(in alloc; "kdcd serve {words}")?;
+        let (calls, fault) = start(alloc, &words, None)?;
+        assert!(rt; calls.as_slice() == *wanted && fault.is_none(), "{words}");
+    }
+    Ok(())
+}
+
+#[test]
+fn a_call_that_fails_stops_the_start(rt: HostRuntime) -> Result<(), Fail> {
+    let alloc = rt.alloc();
+    for (call, wanted) in FAULTS {
+        let words = "kdcd serve --db d --udp 127.0.0.1:88 --seed s";
+        let (calls, fault) = start(alloc, words, Some(*call))?;
+        assert_eq!(rt; calls.last(), Some(call));
+        assert_eq!(rt; fault.as_deref(), Some(*wanted));
+    }
+    Ok(())
+}
