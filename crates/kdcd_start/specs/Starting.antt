@@ -1,6 +1,7 @@
 -- How a server starts: what it asks of its host, in which order, and the hub that it makes of it.
 use Rattle.std.specs.Prelude.{◌≡◌, ℕ, Bool, true, false, List, [], ◌∷◌, take, Option, Some, None, is_some}
 use Rattle.std.specs.FinMap as map
+use Rattle.std.specs.Option.{option_copied}
 use Rattle.std.specs.declared.net.socket_addr.SocketAddr.{SocketAddr}
 use Rattle.rand_core.specs.Stream.{Stream}
 use Rattle.rand_core.specs.Steps.{steps_u32, stream_of}
@@ -60,10 +61,11 @@ pub record IsReady (options : ServeOptions) (before after : Option (List HostDid
   pub rows : Principals
   pub octets : List ℕ
   pub did : Records before
-      (ReadRows rows ∷ seeding options.seed octets ∷ Held options.udp.items options.tcp.items ∷ looks opening) after
+      (ReadRows rows ∷ seeding (option_copied options.seed) octets ∷ Held options.udp.items options.tcp.items
+      ∷ looks opening) after
   pub first : is_first opening ≡ options.is_first
   pub kdc : hub.issuing.kdc ≡ opened_state rows options.limits opening
-  pub random : hub.issuing.random ≡ seeded (seed_by options.seed octets)
+  pub random : hub.issuing.random ≡ seeded (seed_by (option_copied options.seed) octets)
   pub accounts : hub.issuing.accounts ≡ is_some options.log
   pub connections : hub.connections ≡ map.empty
   pub count : row_count ≡ map.len rows.rows

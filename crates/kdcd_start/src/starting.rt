@@ -109,7 +109,7 @@ fn take_seed<'a, H: Host>(
     host: &mut H,
     path: Option<&'a str>,
 ) -> Result<[u8; 32], StartFault<'a, H::SocketFault>>
-    ensures { IfOk result (λ seed. IsSeed (option_copied path) (H.recorded host.old) (H.recorded host.new) seed) }
+    ensures { IfOk result (λ seed. IsSeed (option_copied path.entry) (H.recorded host.old) (H.recorded host.new) seed) }
 {
     let Some(path) = path else {
         return match host.draw() {
