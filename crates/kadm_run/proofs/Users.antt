@@ -4,13 +4,17 @@ use Rattle.std.proofs.Common.{Option, Some, None, refl, sym, ap, ◌∙◌}
 use Rattle.std.specs.Prelude.{cond}
 use Rattle.std.specs.List.{filter}
 
+with_first : {K : Type 0} (b : Bool) (k e : K) (l m : List K) → l ≡ m ++ e ∷ [] → cond b (k ∷ l) l ≡ cond b (k ∷ m) m ++ e ∷ []
+with_first true k e l m is = ap (λ t. k ∷ t) is
+with_first false k e l m is = is
+
+same_first : {K : Type 0} (b : Bool) (k : K) (l m : List K) → l ≡ m → cond b (k ∷ l) l ≡ cond b (k ∷ m) m
+same_first true k l m is = ap (λ t. k ∷ t) is
+same_first false k l m is = is
+
 module _ {K V : Type 0} (test : K → Bool) where
   abbrev pub passing : List (K × V) → List K
   passing es = filter test (map (λ e. e.0) es)
-
-  with_first : (b : Bool) (k e : K) (l m : List K) → l ≡ m ++ e ∷ [] → cond b (k ∷ l) l ≡ cond b (k ∷ m) m ++ e ∷ []
-  with_first true k e l m is = ap (λ t. k ∷ t) is
-  with_first false k e l m is = is
 
   -- an entry that passes is one more
   one_passes : (es : List (K × V)) (i : ℕ) (e : K × V) → slice_get es i ≡ Some e → test e.0 ≡ true
@@ -21,10 +25,6 @@ module _ {K V : Type 0} (test : K → Bool) where
       let first : test x.0 ≡ true = ap (λ y. test y.0) is ∙ passes in rw first (ap (λ y. y.0 ∷ []) is)
   one_passes (x ∷ es) (suc i) e at passes =
       with_first (test x.0) x.0 e.0 (passing (take (suc i) es)) (passing (take i es)) (one_passes es i e at passes)
-
-  same_first : (b : Bool) (k : K) (l m : List K) → l ≡ m → cond b (k ∷ l) l ≡ cond b (k ∷ m) m
-  same_first true k l m is = ap (λ t. k ∷ t) is
-  same_first false k l m is = is
 
   -- one that does not is none
   none_passes : (es : List (K × V)) (i : ℕ) (e : K × V) → slice_get es i ≡ Some e → test e.0 ≡ false
@@ -38,7 +38,8 @@ module _ {K V : Type 0} (test : K → Bool) where
 
   -- nothing stands there
   past_all : (es : List (K × V)) (i : ℕ) → slice_get es i ≡ None → passing (take (suc i) es) ≡ passing (take i es)
-  past_all [] i at = refl
+  past_all [] zero at = refl
+  past_all [] (suc i) at = refl
   past_all (x ∷ es) zero at = absurd cc
   past_all (x ∷ es) (suc i) at =
       same_first (test x.0) x.0 (passing (take (suc i) es)) (passing (take i es)) (past_all es i at)
