@@ -27,14 +27,6 @@ impl<W: Drop, E: Write + Drop> WatchedWire<W, E> {
     pub fn wire(&self) -> &W {
         &self.wire
     }
-
-    /// Says which requests are refused at a moment, if that has to be said. A line that is lost comes again in a
-    /// minute.
-    fn say_refused(&mut self, at: Moment) {
-        if let Some(refused) = self.clock.take(at) {
-            let _ = writeln!(self.errors, "kdcd: the clock went back: {refused}");
-        }
-    }
 }
 
 impl<W: Wire + Drop, E: Write + Drop> Wire for WatchedWire<W, E> {
@@ -45,7 +37,7 @@ impl<W: Wire + Drop, E: Write + Drop> Wire for WatchedWire<W, E> {
     fn poll(&mut self, alloc: Global) -> Result<Option<(Moment, Event)>, WireFault> {
         let polled = self.wire.poll(alloc);
         if let Ok(Some((at, _))) = &polled {
-            self.say_refused(*at);
+            say_refused(&mut self.clock, &mut self.errors, *at);
         }
         polled
     }
@@ -56,5 +48,12 @@ impl<W: Wire + Drop, E: Write + Drop> Wire for WatchedWire<W, E> {
 
     fn faults(&self) -> u64 {
         self.wire.faults()
+    }
+}
+
+/// Says which requests are refused at a moment, if that has to be said. A line that is lost comes again in a minute.
+fn say_refused<E: Write>(clock: &mut ClockWatch, errors: &mut E, at: Moment) {
+    if let Some(refused) = clock.take(at) {
+        let _ = writeln!(errors, "kdcd: the clock went back: {refused}");
     }
 }
