@@ -1,0 +1,126 @@
+#!/usr/bin/env python3
+"""Checks the English of the repository as far as a script can: phrases that a reader of Kerberos has to translate back, in pages, code and
+tools, and lines of pages that are too wide. It checks the manual pages with `mandoc -Tlint`, if that is on the path.
+
+    python3 tools/try_words.py
+
+PHRASES says how often each phrase still stands. A number may only fall: lower it when a line `lower` says so. The tool prints a line for
+each check, with `ok` or where a phrase stands, and ends with status 1 if anything is wrong."""
+
+import argparse
+import pathlib
+import re
+import shutil
+import subprocess
+
+from trial import Notes
+
+TOP = pathlib.Path(__file__).resolve().parent.parent
+# Where people read, by the names of the columns of PHRASES.
+KINDS = {
+    "pages": ("README.md", "docs/*.md", "docs/man/*"),
+    "code": ("crates/*/src/**/*.rt", "crates/*/specs/**/*.antt", "crates/*/proofs/**/*.antt"),
+    "tools": ("tools/*.py", "tools/*.c", "tools/bench/*", "docs/*.h"),
+}
+# A phrase, where a space may be the end of a line; what to write instead; and how often it still stands in pages, code and tools.
+PHRASES = (
+    ("wants? of memory|memory is wanting|refused memory|handed no allocator", "out of memory", 1, 11, 1),
+    ("tickets? for tickets", "TGT", 0, 0, 0),
+    ("ticket granters?", "ticket-granting service", 0, 0, 0),
+    ("untimely|as skewed", "clock skew, refused with 37", 0, 1, 0),
+    ("the memories|(?:is|are) remembered", "replay cache, records", 41, 77, 13),
+    ("lets? go|letting go", "drops, evicts, frees, closes", 6, 31, 4),
+    ("(?:is|are) at fault|a fault of", "fails with, returns an error", 17, 18, 2),
+    ("whoever|who asks", "the caller, the peer, the client", 12, 9, 0),
+    ("of which|of whom|that which", "two sentences", 38, 72, 14),
+    ("what it is that|in vain|all the same", "a verb", 0, 0, 1),
+    ("where there (?:is|are) none", "if it is absent", 4, 7, 3),
+    ("so many", "N, this many", 3, 92, 10),
+    ("tells?|told", "returns, logs, records", 53, 112, 42),
+)
+# A space of a phrase: in comments the next line begins with the comment's own sign.
+GAP = r"(?:[ \t]+|[ \t]*\n[ \t]*(?:///?|//!|--|\*|#)?[ \t]*)"
+# The widest line of a page, but for rows of tables, which can't be broken.
+WIDEST, WIDEST_OF_README, MOST_LINES_OF_README = 120, 100, 100
+# Wide lines that have to stay: a program prints them as one.
+KEPT = (
+    "    accepted u@A.B session-key-type 18 flags 00890000 authtime 1795549090 endtime 1795585090 renew-till 1796153890 ap-rep 6f53..",
+)
+# How many wide lines a page still has. A number may only fall.
+WIDE = {
+    "docs/ADMINISTRATION.md": 68,
+    "docs/CLIENT.md": 83,
+    "docs/CLIENT_LIBRARY.md": 17,
+    "docs/DECISIONS.md": 259,
+    "docs/FORMATS.md": 32,
+    "docs/MAP.md": 71,
+    "docs/NOTES-ON-PROOFS.md": 263,
+    "docs/OPERATIONS.md": 134,
+    "docs/PROMISES.md": 97,
+    "docs/PROTOCOL.md": 85,
+}
+
+
+def files(kind):
+    return sorted(path for pattern in KINDS[kind] for path in TOP.glob(pattern) if path != pathlib.Path(__file__).resolve())
+
+
+def places(paths):
+    """For each phrase where it stands in these files, as PATH:LINE."""
+    either = "|".join(f"({phrase})" for phrase, *_ in PHRASES)
+    pattern, found = re.compile(rf"\b(?:{either.replace(' ', GAP)})\b", re.I), [[] for _ in PHRASES]
+    for path in paths:
+        text = path.read_text()
+        for each in pattern.finditer(text):
+            found[each.lastindex - 1].append(f"{path.relative_to(TOP)}:{text.count(chr(10), 0, each.start()) + 1}")
+    return found
+
+
+def check_count(notes, what, found, most):
+    """Notes whether these places are as few as they may be."""
+    notes.note(what, f"{len(found)} times, and {most} at most: {', '.join(found)}" * (len(found) > most))
+    if len(found) < most:
+        print(f"lower {what}: {len(found)}, where {most} stands")
+
+
+def check_phrases(notes):
+    found = {kind: places(files(kind)) for kind in KINDS}
+    for index, (phrase, better, *most) in enumerate(PHRASES):
+        for kind, number in zip(KINDS, most):
+            check_count(notes, f"{kind}: {phrase!r} ({better})", found[kind][index], number)
+
+
+def wide_lines(page, widest):
+    lines = enumerate(page.read_text().splitlines(), 1)
+    return [f"line {number}" for number, line in lines if len(line) > widest and not line.startswith("|") and line not in KEPT]
+
+
+def check_widths(notes):
+    readme = TOP / "README.md"
+    for page in (readme, *sorted(TOP.glob("docs/*.md"))):
+        widest, name = WIDEST_OF_README if page == readme else WIDEST, str(page.relative_to(TOP))
+        check_count(notes, f"{name}: lines of more than {widest} columns", wide_lines(page, widest), WIDE.get(name, 0))
+    count = len(readme.read_text().splitlines())
+    notes.note("README.md: its length", f"{count} lines, and {MOST_LINES_OF_README} at most" * (count > MOST_LINES_OF_README))
+
+
+def check_manuals(notes):
+    if not shutil.which("mandoc"):
+        return notes.leave("mandoc -Tlint of the manual pages: mandoc is not on the path")
+    folder = TOP / "docs" / "man"
+    names = sorted(page.name for page in folder.iterdir())
+    ran = subprocess.run(["mandoc", "-Tlint", *names], capture_output=True, text=True, cwd=folder)
+    notes.note("mandoc -Tlint of the manual pages", " ".join(ran.stdout.split()))
+
+
+def main():
+    argparse.ArgumentParser(description=__doc__, formatter_class=argparse.RawDescriptionHelpFormatter).parse_args()
+    notes = Notes()
+    check_phrases(notes)
+    check_widths(notes)
+    check_manuals(notes)
+    notes.end()
+
+
+if __name__ == "__main__":
+    main()
