@@ -42,10 +42,8 @@ PHRASES = (
 GAP = r"(?:[ \t]+|[ \t]*\n[ \t]*(?:///?|//!|--|\*|#)?[ \t]*)"
 # The widest line of a page, but for rows of tables, which can't be broken.
 WIDEST, WIDEST_OF_README, MOST_LINES_OF_README = 120, 100, 100
-# Wide lines that have to stay: a program prints them as one.
-KEPT = (
-    "    accepted u@A.B session-key-type 18 flags 00890000 authtime 1795549090 endtime 1795585090 renew-till 1796153890 ap-rep 6f53..",
-)
+# How wide lines begin that have to stay: a program prints them as one.
+KEPT = ("    accepted u@A.B", "    2026-11-23T22:46:18Z", '    {"time":', "    krbtgt/A.B@A.B from")
 # How many wide lines a page still has. A number may only fall.
 WIDE = {
     "docs/ADMINISTRATION.md": 68,
@@ -92,7 +90,7 @@ def check_phrases(notes):
 
 def wide_lines(page, widest):
     lines = enumerate(page.read_text().splitlines(), 1)
-    return [f"line {number}" for number, line in lines if len(line) > widest and not line.startswith("|") and line not in KEPT]
+    return [f"line {number}" for number, line in lines if len(line) > widest and not line.startswith(("|", *KEPT))]
 
 
 def check_widths(notes):
