@@ -28,13 +28,13 @@ PHRASES = (
     ("tickets? for tickets", "TGT", 0, 0, 0),
     ("ticket granters?", "ticket-granting service", 0, 0, 0),
     ("untimely|as skewed", "clock skew, refused with 37", 0, 1, 0),
-    ("the memories|(?:is|are) remembered", "replay cache, records", 41, 77, 13),
-    ("lets? go|letting go", "drops, evicts, frees, closes", 6, 31, 4),
+    ("the memories|(?:is|are) remembered", "replay cache, records", 41, 77, 11),
+    ("lets? go|letting go", "drops, evicts, frees, closes", 6, 31, 3),
     ("(?:is|are) at fault|a fault of", "fails with, returns an error", 17, 18, 2),
     ("whoever|who asks", "the caller, the peer, the client", 12, 9, 0),
     ("of which|of whom|that which", "two sentences", 38, 72, 14),
     ("what it is that|in vain|all the same", "a verb", 0, 0, 1),
-    ("where there (?:is|are) none", "if it is absent", 4, 7, 3),
+    ("where there (?:is|are) none", "if it is absent", 4, 7, 1),
     ("so many", "N, this many", 3, 92, 10),
     ("tells?|told", "returns, logs, records", 53, 112, 42),
 )
@@ -47,13 +47,13 @@ KEPT = ("    accepted u@A.B", "    2026-11-23T22:46:18Z", '    {"time":', "    k
 # How many wide lines a page still has. A number may only fall.
 WIDE = {
     "docs/ADMINISTRATION.md": 68,
-    "docs/CLIENT.md": 83,
+    "docs/CLIENT.md": 82,
     "docs/CLIENT_LIBRARY.md": 17,
     "docs/DECISIONS.md": 259,
     "docs/FORMATS.md": 32,
     "docs/MAP.md": 71,
     "docs/NOTES-ON-PROOFS.md": 263,
-    "docs/OPERATIONS.md": 134,
+    "docs/OPERATIONS.md": 132,
     "docs/PROMISES.md": 97,
     "docs/PROTOCOL.md": 85,
 }
