@@ -1,6 +1,7 @@
 #!/usr/bin/env python3
 """Checks the English of the repository as far as a script can: phrases that a reader of Kerberos has to translate back, in pages, code and
-tools, and lines of pages that are too wide. It checks the manual pages with `mandoc -Tlint`, if that is on the path.
+tools, and lines of pages that are too wide. It compares the manual pages with the options of the programs, and checks them with `mandoc -Tlint`,
+if that is on the path.
 
     python3 tools/try_words.py
 
@@ -58,6 +59,11 @@ WIDE = {
     "docs/PROTOCOL.md": 85,
 }
 
+# The manual pages, and where each program has its commands and options.
+MANUALS = {"kdcd.8": "kdcd_start/src/args.rt", "kadm.8": "kadm_run/src/order.rt", "kclient.1": "kclient_run/src/options.rt"}
+# Options that each program has from the library of command lines.
+GENERAL = {"help", "version"}
+
 
 def files(kind):
     return sorted(path for pattern in KINDS[kind] for path in TOP.glob(pattern) if path != pathlib.Path(__file__).resolve())
@@ -102,6 +108,16 @@ def check_widths(notes):
     notes.note("README.md: its length", f"{count} lines, and {MOST_LINES_OF_README} at most" * (count > MOST_LINES_OF_README))
 
 
+def check_options(notes):
+    for name, source in MANUALS.items():
+        page, code = (TOP / "docs" / "man" / name).read_text(), (TOP / "crates" / source).read_text()
+        described = set(re.findall(r"\b(?:Fl -|Cm )([a-z-]+)", page))
+        known = set(re.findall(r'(?:name: |const [A-Z_]+: &str = )"([a-z-]+)"', code))
+        faults = [f"it lacks {word}" for word in sorted(known - described)]
+        faults += [f"{word} is not in {source}" for word in sorted(described - known - GENERAL)]
+        notes.note(f"{name}: its commands and options", "; ".join(faults))
+
+
 def check_manuals(notes):
     if not shutil.which("mandoc"):
         return notes.leave("mandoc -Tlint of the manual pages: mandoc is not on the path")
@@ -116,6 +132,7 @@ def main():
     notes = Notes()
     check_phrases(notes)
     check_widths(notes)
+    check_options(notes)
     check_manuals(notes)
     notes.end()
 
