@@ -5,7 +5,7 @@
  *
  * It listens on 127.0.0.1, takes an AP-REQ on each connection, prints who sent it or why it is refused, and answers with the AP-REP
  * where the client asks for one. It ends after so many CONNECTIONS, or when a signal ends it. With the word first it never ran
- * before: else all clients are refused for 301 seconds (docs/SERVICES.md, 'Opening, and restarts').
+ * before: else all clients are refused for 301 seconds (docs/SERVICES.md, 'Starts and restarts').
  *
  * A connection is messages, each behind its length in four octets, the most significant first, as MIT's library writes them
  * (krb5_write_message). The client sends an AP-REQ and gets an AP-REP, or an empty message where it asked for none; or it speaks

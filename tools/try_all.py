@@ -1,7 +1,8 @@
 #!/usr/bin/env python3
 """Tries the built programs, as `.ci/run` does after `rt ci`: the realm of README.md, each option and limit, our client against our server and
 against MIT's and Heimdal's, stock clients against our server, the whole way to a service in Rattle and in C, hostile peers and servers, a
-`kadm` that is killed, and memory that is refused. Linux and Python 3 are needed; a C compiler for some of it.
+`kadm` that is killed, and memory that is refused. It also checks the words of pages and comments. Linux and Python 3 are needed; a C compiler
+for some of it.
 
     python3 tools/try_all.py [--only PART ..] [--stock FOLDER] [--all-lines]
 
@@ -238,6 +239,7 @@ def parts(stock):
         Part("the whole way", script("whole_way.py")),
         Part("the whole way by MIT's library", script("whole_way.py", "--mk-req", made["mk_req"]), lambda: stock.with_krb5("mk_req")),
         Part("README.md", script("try_readme.py")),
+        Part("words of pages and comments", script("try_words.py")),
     ]
 
 

@@ -1,6 +1,7 @@
 #!/usr/bin/env python3
 """Does what README.md says of a first realm, by its own lines: in an empty folder, with the built programs on the path. Then our client
-logs in and gets the ticket, and where MIT's clients are on the path they do, and print what README.md has.
+logs in and gets the ticket, and where MIT's clients are on the path they do, and print what README.md has. Its lines of Rust have to stand
+as they are in the programs that it names, which the gate builds.
 
     python3 tools/try_readme.py [--programs FOLDER]
 
@@ -20,14 +21,25 @@ from trial import PATIENCE, Trial, ending, free_port, programs_in
 
 TOP = pathlib.Path(__file__).resolve().parent.parent
 PORT = "8888"
+# The programs whose code README.md shows.
+EXAMPLES = ("ap_whois", "krb_login")
 
 
-def blocks():
-    """The indented blocks of the section, as lists of lines."""
-    section = (TOP / "README.md").read_text().partition("## A first realm\n")[2].partition("\n## ")[0]
+def blocks(title):
+    """The indented blocks of the section with this title, as lists of lines."""
+    section = (TOP / "README.md").read_text().partition(f"## {title}\n")[2].partition("\n## ")[0]
     indented = re.findall(r"(?:^(?:    .*)?\n)+", section, re.M)
     found = [[line[4:] for line in block.strip("\n").splitlines()] for block in indented]
     return [lines for lines in found if any(lines)]
+
+
+def check_code(trial):
+    """Each block of Rust stands, line by line, in one of the programs."""
+    stripped = lambda lines: "\n".join(map(str.strip, lines))
+    programs = [stripped((TOP / "crates" / name / "src" / "main.rt").read_text().splitlines()) for name in EXAMPLES]
+    for lines in blocks("In your own program"):
+        is_there = any(f"\n{stripped(lines)}\n" in program for program in programs)
+        trial.note(f"the code that begins with {lines[0]}", "" if is_there else f"it is in no program of {', '.join(EXAMPLES)}")
 
 
 def make_realm(trial, lines, port):
@@ -59,13 +71,14 @@ def main():
     words = argparse.ArgumentParser(description=__doc__, formatter_class=argparse.RawDescriptionHelpFormatter)
     words.add_argument("--programs", default=TOP / "crates")
     words = words.parse_args()
-    realm, clients = [lines for lines in blocks() if "kadm init" in lines[1] or lines[0].startswith("$")]
+    realm, clients = [lines for lines in blocks("A first realm") if "kadm init" in lines[1] or lines[0].startswith("$")]
     with tempfile.TemporaryDirectory() as folder, ending():
         trial = Trial(programs_in(words.programs), pathlib.Path(folder))
         trial.folder = pathlib.Path(folder, "realm")
         trial.folder.mkdir()
         places = [os.path.dirname(each) for each in trial.programs.values()]
         trial.environment["PATH"] = ":".join([*places, trial.environment["PATH"]])
+        check_code(trial)
         make_realm(trial, realm, str(free_port()))
         trial.expect("kclient kinit --name alice --cache cc", 0, "=ok", given="a password\n")
         trial.expect("kclient kvno --name host/www.example.com --cache cc", 0, "=host/www.example.com kvno 1")

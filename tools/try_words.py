@@ -1,0 +1,130 @@
+#!/usr/bin/env python3
+"""Checks the English of the repository as far as a script can: phrases that a reader of Kerberos has to translate back, in pages, code and
+tools, and lines of pages that are too wide. It compares the manual pages with the options of the programs, and checks them with `mandoc -Tlint`,
+if that is on the path.
+
+    python3 tools/try_words.py
+
+PHRASES says how often each phrase still stands. A number may only fall: lower it when a line `lower` says so. The tool prints a line for
+each check, with `ok` or where a phrase stands, and ends with status 1 if anything is wrong."""
+
+import argparse
+import pathlib
+import re
+import shutil
+import subprocess
+
+from trial import Notes
+
+TOP = pathlib.Path(__file__).resolve().parent.parent
+# Where people read, by the names of the columns of PHRASES.
+KINDS = {
+    "pages": ("README.md", "docs/*.md", "docs/man/*"),
+    "code": ("crates/*/src/**/*.rt", "crates/*/specs/**/*.antt", "crates/*/proofs/**/*.antt"),
+    "tools": ("tools/*.py", "tools/*.c", "tools/bench/*", "docs/*.h"),
+}
+# A phrase, where a space may be the end of a line; what to write instead; and how often it still stands in pages, code and tools.
+PHRASES = (
+    ("wants? of memory|memory is wanting|refused memory|handed no allocator", "out of memory", 0, 11, 1),
+    ("tickets? for tickets", "TGT", 0, 0, 0),
+    ("ticket granters?", "ticket-granting service", 0, 0, 0),
+    ("untimely|as skewed", "clock skew, refused with 37", 0, 1, 0),
+    ("the memories|(?:is|are) remembered", "replay cache, records", 0, 77, 11),
+    ("lets? go|letting go", "drops, evicts, frees, closes", 0, 31, 3),
+    ("(?:is|are) at fault|a fault of", "fails with, returns an error", 0, 18, 2),
+    ("whoever|who asks", "the caller, the peer, the client", 0, 9, 0),
+    ("of which|of whom|that which", "two sentences", 0, 73, 15),
+    ("what it is that|in vain|all the same", "a verb", 0, 1, 1),
+    ("where there (?:is|are) none", "if it is absent", 0, 7, 1),
+    ("so many", "N, this many", 0, 94, 10),
+    ("tells?|told", "returns, logs, records", 4, 114, 42),
+)
+# A space of a phrase: in comments the next line begins with the comment's own sign.
+GAP = r"(?:[ \t]+|[ \t]*\n[ \t]*(?:///?|//!|--|\*|#)?[ \t]*)"
+# The widest line of a page, but for rows of tables, which can't be broken.
+WIDEST, WIDEST_OF_README, MOST_LINES_OF_README = 120, 100, 100
+# How wide lines begin that have to stay: a program prints them as one.
+KEPT = ("    accepted u@A.B", "    2026-11-23T22:46:18Z", '    {"time":', "    krbtgt/A.B@A.B from", "    kdcd: the clock went back")
+# How many wide lines a page still has. A number may only fall.
+WIDE = {}
+
+# The manual pages, and where each program has its commands and options.
+MANUALS = {"kdcd.8": "kdcd_start/src/args.rt", "kadm.8": "kadm_run/src/order.rt", "kclient.1": "kclient_run/src/options.rt"}
+# Options that each program has from the library of command lines.
+GENERAL = {"help", "version"}
+
+
+def files(kind):
+    return sorted(path for pattern in KINDS[kind] for path in TOP.glob(pattern) if path != pathlib.Path(__file__).resolve())
+
+
+def places(paths):
+    """For each phrase where it stands in these files, as PATH:LINE."""
+    either = "|".join(f"({phrase})" for phrase, *_ in PHRASES)
+    pattern, found = re.compile(rf"\b(?:{either.replace(' ', GAP)})\b", re.I), [[] for _ in PHRASES]
+    for path in paths:
+        text = path.read_text()
+        for each in pattern.finditer(text):
+            found[each.lastindex - 1].append(f"{path.relative_to(TOP)}:{text.count(chr(10), 0, each.start()) + 1}")
+    return found
+
+
+def check_count(notes, what, found, most):
+    """Notes whether these places are as few as they may be."""
+    notes.note(what, f"{len(found)} times, and {most} at most: {', '.join(found)}" * (len(found) > most))
+    if len(found) < most:
+        print(f"lower {what}: {len(found)}, where {most} stands")
+
+
+def check_phrases(notes):
+    found = {kind: places(files(kind)) for kind in KINDS}
+    for index, (phrase, better, *most) in enumerate(PHRASES):
+        for kind, number in zip(KINDS, most):
+            check_count(notes, f"{kind}: {phrase!r} ({better})", found[kind][index], number)
+
+
+def wide_lines(page, widest):
+    lines = enumerate(page.read_text().splitlines(), 1)
+    return [f"line {number}" for number, line in lines if len(line) > widest and not line.startswith(("|", *KEPT))]
+
+
+def check_widths(notes):
+    readme = TOP / "README.md"
+    for page in (readme, *sorted(TOP.glob("docs/*.md"))):
+        widest, name = WIDEST_OF_README if page == readme else WIDEST, str(page.relative_to(TOP))
+        check_count(notes, f"{name}: lines of more than {widest} columns", wide_lines(page, widest), WIDE.get(name, 0))
+    count = len(readme.read_text().splitlines())
+    notes.note("README.md: its length", f"{count} lines, and {MOST_LINES_OF_README} at most" * (count > MOST_LINES_OF_README))
+
+
+def check_options(notes):
+    for name, source in MANUALS.items():
+        page, code = (TOP / "docs" / "man" / name).read_text(), (TOP / "crates" / source).read_text()
+        described = set(re.findall(r"\b(?:Fl -|Cm )([a-z-]+)", page))
+        known = set(re.findall(r'(?:name: |const [A-Z_]+: &str = )"([a-z-]+)"', code))
+        faults = [f"it lacks {word}" for word in sorted(known - described)]
+        faults += [f"{word} is not in {source}" for word in sorted(described - known - GENERAL)]
+        notes.note(f"{name}: its commands and options", "; ".join(faults))
+
+
+def check_manuals(notes):
+    if not shutil.which("mandoc"):
+        return notes.leave("mandoc -Tlint of the manual pages: mandoc is not on the path")
+    folder = TOP / "docs" / "man"
+    names = sorted(page.name for page in folder.iterdir())
+    ran = subprocess.run(["mandoc", "-Tlint", *names], capture_output=True, text=True, cwd=folder)
+    notes.note("mandoc -Tlint of the manual pages", " ".join(ran.stdout.split()))
+
+
+def main():
+    argparse.ArgumentParser(description=__doc__, formatter_class=argparse.RawDescriptionHelpFormatter).parse_args()
+    notes = Notes()
+    check_phrases(notes)
+    check_widths(notes)
+    check_options(notes)
+    check_manuals(notes)
+    notes.end()
+
+
+if __name__ == "__main__":
+    main()
