@@ -100,7 +100,7 @@ def check_widths(notes):
 def check_options(notes):
     for name, source in MANUALS.items():
         page, code = (TOP / "docs" / "man" / name).read_text(), (TOP / "crates" / source).read_text()
-        described = set(re.findall(r"\b(?:Fl -|Cm )([a-z-]+)", page))
+        described = set(re.findall(r"\b(?:Fl -?|Cm )([a-z-]+)", page))
         known = set(re.findall(r'(?:name: |const [A-Z_]+: &str = )"([a-z-]+)"', code))
         faults = [f"it lacks {word}" for word in sorted(known - described)]
         faults += [f"{word} is not in {source}" for word in sorted(described - known - GENERAL)]
