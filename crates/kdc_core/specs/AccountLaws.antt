@@ -137,11 +137,10 @@ module _ (v : View) (incoming : Incoming) (long : 32 ≤ length incoming.random)
       → IfOk r (λ a. ReplyOpens v incoming.at incoming.random (request_of incoming.octets))
       → IfOk r (λ a. AccountHolds v incoming.at incoming.random (request_of incoming.octets) (account a) (octets a))
   account_holds account octets (Ok a) is spelled opens =
-      let held = contents v (request_of incoming.octets) in
-      (
+      let held = contents v (request_of incoming.octets) in (
         ap account_exchange is ∙ exchange_of (request_of incoming.octets),
         subst (λ (x : Account). AccountHoldsOf (kept_for v held) (issued_of v incoming.at incoming.random held) x (octets a))
-        (sym is) (holds_of held (octets a) spelled opens),
+            (sym is) (holds_of held (octets a) spelled opens),
       )
   account_holds account octets (Err e) is spelled opens = tt
 

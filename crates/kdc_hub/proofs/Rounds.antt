@@ -111,7 +111,7 @@ module _ (before : Option (List Did)) (start : Standing) (actions : List Action)
   one_tried did tried recorded same failed lost_then = record {
     did = so_far.did ++ did ∷ [];
     tries = subst (λ l. Tries l (so_far.did ++ did ∷ [])) (sym (one_further actions i x lt is))
-        (tries_on (take i actions) (x ∷ []) so_far.did (did ∷ []) so_far.tries ([], elim tried [ | inl e ↦ inl (ap (λ d. d ∷ []) e) | inr e ↦ inr (ap (λ d. d ∷ []) e) ], refl));
+        (tries_on (take i actions) (x ∷ []) so_far.did (did ∷ []) so_far.tries ([], elim tried [ inl e ↦ inl (ap (λ d. d ∷ []) e) | inr e ↦ inr (ap (λ d. d ∷ []) e) ], refl));
     recorded = records_on before so_far.did middle (did ∷ []) after so_far.recorded recorded;
     hub = same ∙ so_far.hub;
     faults = failed ∙ ap (λ k. k + count_by is_fault (did ∷ [])) so_far.faults ∙ sym (sum_by-append _ so_far.did (did ∷ []));

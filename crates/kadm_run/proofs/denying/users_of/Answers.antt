@@ -15,16 +15,16 @@ loop-place-preserved c =
     let further = stepped is_user es c.loop-place.place (option_map (λ e. (e.0.now.components, e.1.now)) c.at.result) seen c.at.ensures c.loop-place.invariant ∙ ap (λ k. passing is_user (take k es)) more in
     elim c.match-at.branch [
       | in-Some+then-is_user+in_ok-copy+in_ok-push w ↦
-        (let test : is_user w.in-Some.name.now.components ≡ true = search rules in
-        let is : c.match-at.users.items ≡ c.loop-place.users.items ++ w.in_ok-copy.field-0 ∷ [] = search rules in
-        let pushed = ap (map (λ name. name.components)) is ∙ map-append (λ name. name.components) c.loop-place.users.items (w.in_ok-copy.field-0 ∷ []) ∙ ap (λ name. seen ++ name.components ∷ []) w.in_ok-copy.ensures in
-        pushed ∙ sym (ap (λ o. with_entry is_user (option_map (λ e. (e.0.now.components, e.1.now)) o) seen) w.in-Some.is ∙ ap (λ b. cond b (seen ++ w.in-Some.name.now.components ∷ []) seen) test) ∙ further)
+          (let test : is_user w.in-Some.name.now.components ≡ true = search rules in
+          let is : c.match-at.users.items ≡ c.loop-place.users.items ++ w.in_ok-copy.field-0 ∷ [] = search rules in
+          let pushed = ap (map (λ name. name.components)) is ∙ map-append (λ name. name.components) c.loop-place.users.items (w.in_ok-copy.field-0 ∷ []) ∙ ap (λ name. seen ++ name.components ∷ []) w.in_ok-copy.ensures in
+          pushed ∙ sym (ap (λ o. with_entry is_user (option_map (λ e. (e.0.now.components, e.1.now)) o) seen) w.in-Some.is ∙ ap (λ b. cond b (seen ++ w.in-Some.name.now.components ∷ []) seen) test) ∙ further)
       | in-Some+else-is_user w ↦
-        (let test : is_user w.in-Some.name.now.components ≡ false = search rules in
-        ap (λ u. map (λ name. name.components) u.items) w.users-is ∙ sym (ap (λ o. with_entry is_user (option_map (λ e. (e.0.now.components, e.1.now)) o) seen) w.in-Some.is ∙ ap (λ b. cond b (seen ++ w.in-Some.name.now.components ∷ []) seen) test) ∙ further)
+          (let test : is_user w.in-Some.name.now.components ≡ false = search rules in
+          ap (λ u. map (λ name. name.components) u.items) w.users-is ∙ sym (ap (λ o. with_entry is_user (option_map (λ e. (e.0.now.components, e.1.now)) o) seen) w.in-Some.is ∙ ap (λ b. cond b (seen ++ w.in-Some.name.now.components ∷ []) seen) test) ∙ further)
       | in_default w ↦
-        (let none : c.at.result ≡ None = search rules in
-        ap (λ u. map (λ name. name.components) u.items) w.users-is ∙ sym (ap (λ o. with_entry is_user (option_map (λ e. (e.0.now.components, e.1.now)) o) seen) none) ∙ further)
+          (let none : c.at.result ≡ None = search rules in
+          ap (λ u. map (λ name. name.components) u.items) w.users-is ∙ sym (ap (λ o. with_entry is_user (option_map (λ e. (e.0.now.components, e.1.now)) o) seen) none) ∙ further)
     ]
 
 pub returns : goal.returns
