@@ -403,6 +403,9 @@ fn connections_are_idle(rt: &HostRuntime, server: &mut Server<'_>) -> Result<boo
     let mut later = open_many(rt, server, 44)?;
     let asked_late = connection_is_answered(rt, server)?;
     let first = has_come_for(rt, idle.first_mut().ok_or("a connection")?, b'a')?;
+    if idle.len() < 46 {
+        Err("too few connections")?;
+    }
     Ok(
         asked_late
             && first
