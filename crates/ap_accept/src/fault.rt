@@ -1,4 +1,4 @@
-//! Why a call to accept an AP-REQ gives nothing.
+//! Errors of a call that accepts an AP-REQ.
 ghost use Rattle.std.specs.Prelude.{◌≡◌};
 ghost use Rattle.ap_accept.specs.declared.fault.ApFault.TheVariants.{Refused, Memory};
 
@@ -7,12 +7,12 @@ use std::alloc::AllocError;
 use std::error::Error;
 use std::fmt;
 
-/// Why an AP-REQ is not accepted.
+/// Why a call accepted nothing.
 #[derive(Clone, Copy, Debug, PartialEq, Eq)]
 pub enum ApFault {
-    /// The octets spell no AP-REQ.
+    /// The bytes do not encode an AP-REQ.
     NotAnApReq,
-    /// By this rule.
+    /// This rule refuses the request.
     Refused(ApRefusal),
     Memory,
 }
