@@ -20,7 +20,7 @@ pub enum ApFault {
 impl fmt::Display for ApFault {
     fn fmt<W: fmt::Write>(&self, f: &mut fmt::Formatter<W>) -> fmt::Result {
         match self {
-            ApFault::NotAnApReq => f.write_str("the octets spell no AP-REQ"),
+            ApFault::NotAnApReq => f.write_str("the bytes do not encode an AP-REQ"),
             ApFault::Refused(refusal) => write!(f, "{}", refusal.code()),
             ApFault::Memory => f.write_str("out of memory"),
         }

@@ -24,13 +24,13 @@ pub enum DerFault {
 impl fmt::Display for DerFault {
     fn fmt<W: fmt::Write>(&self, f: &mut fmt::Formatter<W>) -> fmt::Result {
         f.write_str(match self {
-            DerFault::Truncated => "the octets end too early",
-            DerFault::BadTag => "another tag stands there",
+            DerFault::Truncated => "the bytes end too early",
+            DerFault::BadTag => "the tag is not the expected one",
             DerFault::BadLength => "not a length in its shortest form",
             DerFault::BadInteger => "not an INTEGER in its range and its shortest form",
             DerFault::BadTime => "not a time of the form YYYYMMDDHHMMSSZ",
             DerFault::BadBits => "not a BIT STRING whose unused bits are zero",
-            DerFault::Trailing => "octets follow the value",
+            DerFault::Trailing => "bytes follow the value",
         })
     }
 }

@@ -1,4 +1,4 @@
-//! What a database knows of a principal: its keys by version and its policy; and maps from names.
+//! A principal in the database: its keys by version, and its policy. And maps from names.
 #![tactic(auto)]
 
 mod key_list;
