@@ -1,28 +1,28 @@
-//! What a key is used for: RFC 4120, section 7.5.1.
+//! Key usages: RFC 4120, section 7.5.1.
 ghost use Rattle.std.specs.Prelude.{◌≡◌};
 ghost use Rattle.enctypes.specs.KeyUsage.{usage_number};
 
-/// A use of a key, as this KDC, its clients and its services make of keys. Under each usage a key
-/// has other derived keys, so that the uses are kept apart.
+/// A usage for which this KDC, its clients and its services use keys. A key has different derived keys for each usage,
+/// so a message for one usage can't pass as one for another.
 #[derive(Debug, Clone, Copy, PartialEq, Eq)]
 pub enum KeyUsage {
-    /// The PA-ENC-TIMESTAMP of an AS-REQ, under the client's key.
+    /// The PA-ENC-TIMESTAMP of an AS-REQ, encrypted with the client's key.
     PaEncTimestamp,
-    /// The part of a ticket that its service reads, under the service's key.
+    /// The encrypted part of a ticket, encrypted with the service's key.
     Ticket,
-    /// The part of an AS-REP that the client reads, under the client's key.
+    /// The encrypted part of an AS-REP, encrypted with the client's key.
     AsRepEncPart,
-    /// The checksum in the authenticator of a TGS-REQ, under the ticket's session key.
+    /// The checksum in the authenticator of a TGS-REQ, with the ticket's session key.
     TgsReqAuthenticatorChecksum,
-    /// The authenticator of a TGS-REQ, under the ticket's session key.
+    /// The authenticator of a TGS-REQ, encrypted with the ticket's session key.
     TgsReqAuthenticator,
-    /// The part of a TGS-REP that the client reads, under the ticket's session key.
+    /// The encrypted part of a TGS-REP, encrypted with the ticket's session key.
     TgsRepEncPartSessionKey,
-    /// The same part under the subkey of the request's authenticator.
+    /// The same part, encrypted with the subkey of the request's authenticator.
     TgsRepEncPartSubkey,
-    /// The checksum in the authenticator of an AP-REQ, under the ticket's session key.
+    /// The checksum in the authenticator of an AP-REQ, with the ticket's session key.
     ApReqAuthenticatorChecksum,
-    /// The authenticator of an AP-REQ, under the ticket's session key.
+    /// The authenticator of an AP-REQ, encrypted with the ticket's session key.
     ApReqAuthenticator,
     /// The part of an AP-REP that the client reads, under the ticket's session key.
     ApRepEncPart,
