@@ -69,7 +69,7 @@ impl Clients {
         Ok(())
     }
 
-    /// Raises the floor, at most once an hour, and drops the clients whose caches have nothing above it.
+    /// Raises the floor, at most once an hour, and drops the clients whose caches refuse no more than an empty one.
     fn let_go(&mut self, at: Moment)
         ensures { self.new ≡ let_go at.sec self.old }
     {

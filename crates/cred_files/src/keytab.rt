@@ -244,7 +244,7 @@ impl Keytab {
     }
 
     /// Returns the service's key that an encrypted part names by its encryption type and key version (RFC 4120, section
-    /// 5.2.9). The version may be negative; without a version, it is the key with the highest.
+    /// 5.2.9). Without a version, it is the key with the highest. No key has a negative version.
     pub fn key_for(
         &self,
         realm: &[u8],

@@ -2,8 +2,8 @@
 ghost use Rattle.std.specs.Prelude.{◌≡◌};
 ghost use Rattle.enctypes.specs.KeyUsage.{usage_number};
 
-/// A usage for which this KDC, its clients and its services use keys. A key has different derived keys for each usage,
-/// so a message for one usage can't pass as one for another.
+/// A usage of keys by this KDC, its clients or its services. Each usage has derived keys of its own, which keeps the
+/// usages apart.
 #[derive(Debug, Clone, Copy, PartialEq, Eq)]
 pub enum KeyUsage {
     /// The PA-ENC-TIMESTAMP of an AS-REQ, encrypted with the client's key.
@@ -24,12 +24,12 @@ pub enum KeyUsage {
     ApReqAuthenticatorChecksum,
     /// The authenticator of an AP-REQ, encrypted with the ticket's session key.
     ApReqAuthenticator,
-    /// The part of an AP-REP that the client reads, under the ticket's session key.
+    /// The encrypted part of an AP-REP, encrypted with the ticket's session key.
     ApRepEncPart,
 }
 
 impl KeyUsage {
-    /// The usage number, which keys are derived for.
+    /// Returns the usage number, from which keys are derived.
     pub fn number(self) -> u32
         ensures { result ≡ usage_number self }
     {

@@ -15,7 +15,7 @@ pub fn is_disabled(row: Option<&Row>) -> bool
     }
 }
 
-/// Checks whether it has expired, which it does at the second of its expiry time.
+/// Checks whether it has expired. It expires at the second of its expiry time.
 pub fn is_expired(row: Option<&Row>, at: Moment) -> bool
     ensures { result ≡ is_expired (option_copied row.entry) at.sec }
 {

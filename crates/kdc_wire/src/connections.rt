@@ -24,7 +24,7 @@ pub struct Connections {
 }
 
 impl Connections {
-    /// Returns no connections. `first` is the number of the first one to come.
+    /// Returns an empty set of connections. `first` is the number that the first one gets.
     pub fn new(alloc: Global, first: u64) -> Connections {
         Connections {
             held: BTreeMap::new(alloc),

@@ -44,7 +44,7 @@ impl<W: Write + AsFd + Drop> ReadyWriter<W> {
 
 impl<W: Write> ReadyWriter<W> {
     /// Writes as many of these bytes as the stream takes at once. After an error, the rest of the current line is left
-    /// out. A write that a signal interrupted is repeated instead.
+    /// out. That doesn't apply to a write that a signal interrupted, which the caller repeats.
     fn write_now(&mut self, octets: &[u8]) -> io::Result<usize>
         ensures bound { WritesAtMost result octets.now }
     {

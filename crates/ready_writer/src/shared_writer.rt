@@ -31,7 +31,7 @@ impl<W: Write> Write for SharedWriter<W> {
     fn write(&mut self, octets: &[u8]) -> io::Result<usize> {
         match self.writer.try_borrow_mut() {
             Ok(mut writer) => writer.write(octets),
-            // No owner writes during another's write.
+            // Another owner is writing.
             Err(_) => Err(io::Error::from(ErrorKind::WouldBlock)),
         }
     }
