@@ -69,7 +69,7 @@ fn unmixed_column(key: u32, a: u8, b: u8, c: u8, d: u8) -> u32
     ((unmixing(a, 0) ^ key) ^ unmixing(b, 1)) ^ (unmixing(c, 2) ^ unmixing(d, 3))
 }
 
-/// SubBytes, ShiftRows, MixColumns and AddRoundKey.
+/// Computes SubBytes, ShiftRows, MixColumns and AddRoundKey.
 pub fn round(state: &mut [u32; 4], round_key: &[u32])
     requires { length round_key.now ≡ 4 }
     ensures { octets state.new
@@ -88,7 +88,7 @@ pub fn round(state: &mut [u32; 4], round_key: &[u32])
     ];
 }
 
-/// SubBytes, ShiftRows and AddRoundKey.
+/// Computes SubBytes, ShiftRows and AddRoundKey.
 pub fn last_round(state: &mut [u32; 4], round_key: &[u32])
     requires { length round_key.now ≡ 4 }
     ensures { octets state.new
@@ -107,7 +107,8 @@ pub fn last_round(state: &mut [u32; 4], round_key: &[u32])
     ];
 }
 
-/// InvShiftRows, InvSubBytes, InvMixColumns and AddRoundKey, with a round key that went through InvMixColumns.
+/// Computes InvShiftRows, InvSubBytes, InvMixColumns and AddRoundKey, with a round key that went through
+/// InvMixColumns.
 pub fn inverse_round(state: &mut [u32; 4], round_key: &[u32])
     requires { length round_key.now ≡ 4 }
     ensures { octets state.new
@@ -127,7 +128,7 @@ pub fn inverse_round(state: &mut [u32; 4], round_key: &[u32])
     ];
 }
 
-/// InvShiftRows, InvSubBytes and AddRoundKey.
+/// Computes InvShiftRows, InvSubBytes and AddRoundKey.
 pub fn last_inverse_round(state: &mut [u32; 4], round_key: &[u32])
     requires { length round_key.now ≡ 4 }
     ensures { octets state.new
@@ -146,7 +147,7 @@ pub fn last_inverse_round(state: &mut [u32; 4], round_key: &[u32])
     ];
 }
 
-/// AddRoundKey.
+/// Computes AddRoundKey.
 pub fn add_round_key(state: &mut [u32; 4], round_key: &[u32])
     requires { length round_key.now ≡ 4 }
     ensures { octets state.new ≡ add_round_key (octets state.old) (octets round_key.now) }

@@ -1,4 +1,4 @@
-//! Accepts or refuses the bytes of an AP-REQ, and records the authenticators that it accepts.
+//! Accepts or refuses the bytes of an AP-REQ, and records new authenticators in the replay caches.
 ghost use Rattle.std.specs.Prelude.{◌≡◌, false, None, IfOk, IfNone, IfSome, OnOk, OnErr};
 ghost use Rattle.std.specs.FinMap as map;
 ghost use Rattle.replay.specs.Memory.{verdict_copied};

@@ -36,8 +36,8 @@ impl Model for Acceptor {
 }
 
 impl Acceptor {
-    /// Returns an acceptor for the services of this keytab. It allocates nothing, so it never fails; its error type has
-    /// only out of memory.
+    /// Returns an acceptor for the services of this keytab. It allocates nothing, so it never fails. Its error type
+    /// stands for out of memory only.
     pub fn open(
         alloc: Global,
         keytab: Keytab,

@@ -47,7 +47,7 @@ impl Clients {
         }
     }
 
-    /// Records an authenticator of the client, which must be within the clock skew and new. Drops entries that can't be
+    /// Records an authenticator of the client. It must be within the clock skew and new. Drops entries that can't be
     /// replayed any more. Changes nothing if memory runs out.
     pub fn remember(
         &mut self,

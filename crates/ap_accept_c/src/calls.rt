@@ -131,7 +131,7 @@ fn accept(
     status
 }
 
-/// Copies the part with this number of the AP-REQ that was accepted last.
+/// Copies a part, given by its number, of the AP-REQ that was accepted last.
 pub fn fetch_numbered(
     holder: &mut Holder,
     alloc: Global,

@@ -6,25 +6,25 @@ ghost use Rattle.enctypes.specs.KeyUsage.{usage_number};
 /// usages apart.
 #[derive(Debug, Clone, Copy, PartialEq, Eq)]
 pub enum KeyUsage {
-    /// The PA-ENC-TIMESTAMP of an AS-REQ, encrypted with the client's key.
+    /// The PA-ENC-TIMESTAMP of an AS-REQ, under the client's key.
     PaEncTimestamp,
-    /// The encrypted part of a ticket, encrypted with the service's key.
+    /// The encrypted part of a ticket, under the service's key.
     Ticket,
-    /// The encrypted part of an AS-REP, encrypted with the client's key.
+    /// The encrypted part of an AS-REP, under the client's key.
     AsRepEncPart,
-    /// The checksum in the authenticator of a TGS-REQ, with the ticket's session key.
+    /// The checksum in the authenticator of a TGS-REQ, under the ticket's session key.
     TgsReqAuthenticatorChecksum,
-    /// The authenticator of a TGS-REQ, encrypted with the ticket's session key.
+    /// The authenticator of a TGS-REQ, under the ticket's session key.
     TgsReqAuthenticator,
-    /// The encrypted part of a TGS-REP, encrypted with the ticket's session key.
+    /// The encrypted part of a TGS-REP, under the ticket's session key.
     TgsRepEncPartSessionKey,
-    /// The same part, encrypted with the subkey of the request's authenticator.
+    /// The same part, under the subkey of the request's authenticator.
     TgsRepEncPartSubkey,
-    /// The checksum in the authenticator of an AP-REQ, with the ticket's session key.
+    /// The checksum in the authenticator of an AP-REQ, under the ticket's session key.
     ApReqAuthenticatorChecksum,
-    /// The authenticator of an AP-REQ, encrypted with the ticket's session key.
+    /// The authenticator of an AP-REQ, under the ticket's session key.
     ApReqAuthenticator,
-    /// The encrypted part of an AP-REP, encrypted with the ticket's session key.
+    /// The encrypted part of an AP-REP, under the ticket's session key.
     ApRepEncPart,
 }
 

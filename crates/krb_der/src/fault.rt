@@ -26,10 +26,11 @@ impl fmt::Display for DerFault {
         f.write_str(match self {
             DerFault::Truncated => "the bytes end too early",
             DerFault::BadTag => "the tag is not the expected one",
-            DerFault::BadLength => "not a length in its shortest form",
-            DerFault::BadInteger => "not an INTEGER in its range and its shortest form",
-            DerFault::BadTime => "not a time of the form YYYYMMDDHHMMSSZ",
-            DerFault::BadBits => "not a BIT STRING whose unused bits are zero",
+            DerFault::BadLength =>
+                "a length is not in its shortest form, or has more than four bytes",
+            DerFault::BadInteger => "an INTEGER is out of range, or not in its shortest form",
+            DerFault::BadTime => "a time is not valid, or not of the form YYYYMMDDHHMMSSZ",
+            DerFault::BadBits => "a BIT STRING is malformed, or its unused bits are not zero",
             DerFault::Trailing => "bytes follow the value",
         })
     }

@@ -33,7 +33,7 @@ pub enum NameFault {
 impl fmt::Display for NameFault {
     fn fmt<W: fmt::Write>(&self, f: &mut fmt::Formatter<W>) -> fmt::Result {
         f.write_str(match self {
-            NameFault::BadName => "not the text of a name within the limits",
+            NameFault::BadName => "the text is not a name, or the name exceeds the limits",
             NameFault::Memory => "out of memory",
         })
     }

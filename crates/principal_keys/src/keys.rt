@@ -32,8 +32,8 @@ fn password_key(alloc: Global, etype: Etype, pass: &[u8], salt: &[u8]) -> Result
     string_to_key(alloc, etype, pass, salt, etype.default_count())
 }
 
-/// Makes random keys for these encryption types: at least one, and none twice. For each key it draws 32 bytes from
-/// ChaCha20 with this seed, and takes the first of them.
+/// Makes random keys for these encryption types: at least one, and none twice. ChaCha20 with this seed yields 32 bytes
+/// for each key in turn, and the first of them are the key.
 pub fn random_keys(alloc: Global, etypes: &[Etype], seed: [u8; 32]) -> Result<KeyList, AllocError>
     ensures { IfOk result (λ keys. keys ≡ drawn_keys (seeded seed) etypes.now) }
 {

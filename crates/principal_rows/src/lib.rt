@@ -1,4 +1,4 @@
-//! A principal in the database: its keys by version, and its policy. And maps from names.
+//! Rows of the database: a principal's keys by version, and its policy. Also maps from names.
 #![tactic(auto)]
 
 mod key_list;

@@ -10,7 +10,7 @@ use std::marker::Model;
 /// One version of a principal's keys.
 #[derive(Drop)]
 pub struct KeyVersion {
-    /// The key version (kvno), from 1.
+    /// The key version (kvno), starting at 1.
     pub number: u32,
     pub keys: KeyList,
 }
