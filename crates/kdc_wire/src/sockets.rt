@@ -158,8 +158,8 @@ impl<C: Clock + Drop> Sockets<C> {
         self.connections.peer(conn)
     }
 
-    /// Returns the next event from a ready socket, in turn. If no socket has one, it waits. While some sockets are
-    /// known to be ready, it polls the others only in every sixteenth call.
+    /// The next event: of the sockets that are ready that of the one whose turn it is. Where none has anything it waits
+    /// for one. As long as some have, the others are looked at in every sixteenth call.
     pub fn next(&mut self, alloc: Global) -> io::Result<Option<(Moment, Event)>> {
         if !self.ready.is_empty() && self.unlooked < MOST_UNLOOKED {
             self.unlooked = self.unlooked.saturating_add(1);
@@ -171,7 +171,7 @@ impl<C: Clock + Drop> Sockets<C> {
         self.next_known(alloc)
     }
 
-    /// Returns the next event from the sockets that are known to be ready.
+    /// The next event of the sockets that are known to be ready.
     fn next_known(&mut self, alloc: Global) -> io::Result<Option<(Moment, Event)>> {
         let at = now(&self.clock)?;
         self.at = Instant::now(&self.clock)?;

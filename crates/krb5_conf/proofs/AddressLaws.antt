@@ -1,4 +1,4 @@
--- Addresses and their texts.
+-- Addresses and the texts that they are of.
 use Rattle.std.proofs.Common.{◌≡◌, ◌+◌, ◌<◌, ◌++◌, ◌∷◌, [], ℕ, List, length, take, map, get_or, ap, ◌∙◌, sym, subst, arith}
 use Rattle.std.proofs.lemmas.List.{take_more, get_or-map, length-map}
 use Rattle.std.proofs.lemmas.List.Elements.{filter-append}
@@ -19,7 +19,7 @@ taken f xs i d lt =
     take_more (map f xs) i (f d) (omega (arith, length-map xs f))
     ∙ ap (λ y. take i (map f xs) ++ y ∷ []) (get_or-map f xs i d (f d) lt)
 
--- one more address, from the next text
+-- one address more, of the next text
 pub one_address : {A : Type 0} (f : A → List ℕ) (xs : List A) (i : ℕ) (d : A) (old new : List SocketAddr) (address : SocketAddr)
     → i < length xs → new ≡ old ++ address ∷ [] → AreKdcs old (take i (map f xs)) → IsKdcText (f (get_or xs i d)) address
     → AreKdcs new (take (i + 1) (map f xs))
@@ -27,7 +27,7 @@ one_address f xs i d old new address lt is are of =
     subst (λ ts. AreKdcs new ts) (sym (taken f xs i d lt))
     (subst (λ l. AreKdcs l (take i (map f xs) ++ f (get_or xs i d) ∷ [])) (sym is) (one_more old (take i (map f xs)) address (f (get_or xs i d)) are of))
 
--- the next text, if it names no transport
+-- the next text, where it is plain
 pub one_text : {A : Type 0} (f : A → List ℕ) (xs : List A) (i : ℕ) (d : A) (old new : List (List ℕ))
     → i < length xs → new ≡ old ++ kdc_texts (f (get_or xs i d) ∷ []) → old ≡ kdc_texts (take i (map f xs))
     → new ≡ kdc_texts (take (i + 1) (map f xs))

@@ -1,4 +1,4 @@
--- The meaning of a line of a krb5.conf.
+-- What a line of a krb5.conf says.
 use Rattle.std.specs.Prelude.{◌==◌, ◌-◌, ℕ, List, [], ◌∷◌, length, take, drop, codes, bytes_eq, nat_lt, if◌then◌else◌}
 use Rattle.std.specs.Char.{is_ascii_whitespace}
 use Rattle.std.specs.List.{after_first, before_first, position_or_len, prefix_len, suffix_len}
@@ -7,16 +7,16 @@ use Rattle.krb5_conf.specs.declared.line.Line.TheVariants as says
 
 pub data Said : Type 0 where
   Nothing : Said
-  -- the start of a section
+  -- a section begins
   Section : List ℕ → Said
-  -- the start of a group
+  -- a group opens
   Open : List ℕ → Said
-  -- the end of the last group that was started
+  -- the group that was opened last is closed
   Close : Said
-  -- a relation: its tag and its value
+  -- a relation holds: its tag and its value
   Relation : List ℕ → List ℕ → Said
 
--- the same for the code's type, which borrows from the text
+-- the same of the code's type, whose octets stand in the text
 abbrev pub said : lines.Line → Said
 said says.Nothing = Nothing
 said (says.Section name) = Section name.now
@@ -24,11 +24,11 @@ said (says.Open name) = Open name.now
 said says.Close = Close
 said (says.Relation tag value) = Relation tag.now value.now
 
--- without leading blanks
+-- without the blanks at its start
 abbrev pub unindented : List ℕ → List ℕ
 unindented text = drop (prefix_len is_ascii_whitespace text) text
 
--- without blanks at both ends
+-- without the blanks at both ends
 unfoldable pub trimmed : List ℕ → List ℕ
 trimmed text = take (length (unindented text) - suffix_len is_ascii_whitespace (unindented text)) (unindented text)
 
@@ -44,7 +44,7 @@ relation_said text = if nat_lt (position_or_len (λ o. o == 0x3D) text) (length 
     then (if bytes_eq (value_of text) (codes "{") then Open (tag_of text) else Relation (tag_of text) (value_of text))
     else Nothing
 
--- the first byte distinguishes lines: `#`, `;`, `[` or `}`
+-- what is told by the first octet: `#`, `;`, `[` or `}`
 abbrev pub trimmed_said : List ℕ → Said
 trimmed_said [] = Nothing
 trimmed_said (first ∷ rest) =

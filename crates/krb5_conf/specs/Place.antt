@@ -1,16 +1,16 @@
--- The place of a line in a krb5.conf.
+-- Where a line of a krb5.conf stands.
 use Rattle.std.specs.Prelude.{◌==◌, ◌&&◌, ◌+◌, ◌-◌, ℕ, Bool, List, [], bytes_eq, nat_lt, if◌then◌else◌}
 use Rattle.krb5_conf.specs.Line.{Said, Nothing, Section, Open, Close, Relation}
 use Rattle.krb5_conf.specs.declared.place.Place as places
 
 pub record Place : Type 0 where
   pub section : List ℕ
-  -- the outermost open group; empty if none is open
+  -- the outermost group that is open; empty where none is
   pub group : List ℕ
   -- how many groups are open
   pub depth : ℕ
 
--- the same for the code's type
+-- the same of the code's type
 abbrev pub place_of : places.Place → Place
 place_of p = record { section = p.section.now; group = p.group.now; depth = p.depth }
 
@@ -23,7 +23,7 @@ group_place section name = record { section = section; group = name; depth = 1 }
 abbrev pub is_place : Place → Place → Bool
 is_place p q = (p.depth == q.depth) && bytes_eq p.section q.section && bytes_eq p.group q.group
 
--- inside one more group
+-- in one group more
 abbrev pub opened : Place → List ℕ → Place
 opened p name = record {
   section = p.section;
@@ -31,11 +31,11 @@ opened p name = record {
   depth = p.depth + 1;
 }
 
--- inside one group less
+-- in one group less
 abbrev pub closed : Place → Place
 closed p = if nat_lt 1 p.depth then record p { depth = p.depth - 1 } else section_place p.section
 
--- the place of the next line
+-- where the next line stands
 abbrev pub behind : Place → Said → Place
 behind p Nothing = p
 behind p (Section name) = section_place name

@@ -1,4 +1,4 @@
-//! The settings that a client looks up.
+//! The relations that a client asks for.
 ghost use Rattle.std.specs.Prelude.{◌≡◌, IfErr, IfOk};
 ghost use Rattle.std.specs.List.{slice_get};
 ghost use Rattle.std.specs.Option.{option_map};
@@ -11,7 +11,7 @@ use crate::values::values;
 use std::alloc::{AllocError, Global};
 use std::net::SocketAddr;
 
-/// Returns the default realm: the first `default_realm` of `[libdefaults]`, as written.
+/// The realm that is taken where none is named: the first `default_realm` of `[libdefaults]`, as it stands there.
 pub fn default_realm(alloc: Global, text: &[u8]) -> Result<Option<&[u8]>, AllocError>
     ensures { IfOk result (λ found. option_map (λ realm. realm.now) found ≡ slice_get (default_realms text.now) 0) }
 {
@@ -23,8 +23,8 @@ pub fn default_realm(alloc: Global, text: &[u8]) -> Result<Option<&[u8]>, AllocE
     )
 }
 
-/// Returns the addresses of a realm's KDCs, in order: each `kdc` of the realm in `[realms]`. A value is an address with
-/// an optional port (88 by default): `192.0.2.1`, `192.0.2.1:88` or `[2001:db8::1]:88`. Values with a `/`, such as
+/// The addresses of a realm's KDCs, in their order: each `kdc` of the realm in `[realms]`, which is an address with or
+/// without a port (88 where it lacks), as `192.0.2.1`, `192.0.2.1:88` or `[2001:db8::1]:88`. Values with a `/`, as
 /// `tcp/192.0.2.1`, are left out.
 pub fn kdcs<'a>(
     alloc: Global,

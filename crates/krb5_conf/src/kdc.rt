@@ -10,7 +10,7 @@ use std::net::SocketAddr;
 /// Why a realm's KDCs are not known.
 #[derive(Clone, Copy, Debug, PartialEq, Eq)]
 pub enum KdcFault<'a> {
-    /// A value for a KDC is not an address. It may be a host name, for example.
+    /// What stands for a KDC is no address, as where it is a host's name.
     NotAnAddress(&'a [u8]),
     Memory,
 }
@@ -31,7 +31,7 @@ impl<T: Drop> From<AllocFailed<T>> for KdcFault<'_> {
     }
 }
 
-/// Returns the texts except those that name a transport other than plain UDP and TCP.
+/// The texts but for those that name another way than plain UDP and TCP.
 pub(crate) fn plain_texts<'a>(
     alloc: Global,
     texts: &[&'a [u8]],
@@ -45,7 +45,7 @@ pub(crate) fn plain_texts<'a>(
     Ok(plain)
 }
 
-/// Appends a text, unless it names a transport.
+/// Appends a text, unless it names another way.
 fn push_plain<'a>(plain: &mut Vec<&'a [u8]>, text: &'a [u8]) -> Result<(), AllocError>
     ensures { OnOk result (
         map (λ t. t.now) plain.new.items ≡ map (λ t. t.now) plain.old.items ++ kdc_texts (text.now ∷ [])) }
@@ -56,7 +56,7 @@ fn push_plain<'a>(plain: &mut Vec<&'a [u8]>, text: &'a [u8]) -> Result<(), Alloc
     Ok(plain.push(text)?)
 }
 
-/// Returns the address in each text.
+/// The address of each text.
 pub(crate) fn addresses<'a>(
     alloc: Global,
     texts: &[&'a [u8]],
@@ -74,14 +74,14 @@ pub(crate) fn addresses<'a>(
     Ok(addresses)
 }
 
-/// Checks whether a text names a transport, such as `tcp/192.0.2.1` or `https://kdc.example.com/KdcProxy`.
+/// Whether a text names the way to a KDC, as `tcp/192.0.2.1` and `https://kdc.example.com/KdcProxy` do.
 fn is_other_way(text: &[u8]) -> bool
     ensures { result ≡ is_other_way text.now }
 {
     text.contains(&b'/')
 }
 
-/// Returns the address in a text. The default port is 88.
+/// The address that a text spells, where the port may lack and is then 88.
 fn address(alloc: Global, text: &[u8]) -> Result<Option<SocketAddr>, AllocError>
     ensures some { IfOk result (λ found. IfSome found (λ address. IsKdcText text.now address)) }
     ensures none { IfOk result (λ found.

@@ -1,8 +1,9 @@
-//! The settings that a client reads from `krb5.conf`: the default realm, and the addresses of a realm's KDCs.
+//! What a client takes from a `krb5.conf`: the default realm, and the addresses of a realm's KDCs.
 //!
-//! A line of the file is one of four things: the start of a section (`[realms]`), the start of a group (`EXAMPLE.COM =
-//! {`), its end (`}`), or a relation (`kdc = 192.0.2.1:88`). Blanks around a line, a name or a value are ignored. So
-//! are lines that start with `#` or `;`, and those in any other form. Included files are not read.
+//! A text is lines, and a line says one thing: a section begins (`[realms]`), a group opens (`EXAMPLE.COM = {`) or is
+//! closed (`}`), or a relation holds (`kdc = 192.0.2.1:88`). Blanks at the ends of a line, a name or a value don't
+//! count. A line that begins with `#` or `;`, and one of any other form, says nothing. Files that a text includes are
+//! not read.
 #![tactic(auto)]
 
 mod defaults;

@@ -1,24 +1,24 @@
-//! The meaning of a line.
+//! What a line says.
 ghost use Rattle.std.specs.Prelude.{◌≡◌, ◌==◌, ◌<◌, ◌≤◌, length, IfSome, IfNone};
 ghost use Rattle.std.specs.List.{after_first, before_first, position, position_or_len};
 ghost use Rattle.krb5_conf.specs.Line.{line_said, relation_said, said, trimmed};
 
-/// The meaning of a line.
+/// What a line says.
 #[derive(Clone, Copy)]
 pub(crate) enum Line<'a> {
     Nothing,
-    /// The start of a section.
+    /// A section begins.
     Section(&'a [u8]),
-    /// The start of a group.
+    /// A group opens.
     Open(&'a [u8]),
-    /// The end of the last group that was started.
+    /// The group that was opened last is closed.
     Close,
-    /// A relation: its tag and its value.
+    /// A relation holds: its tag and its value.
     Relation(&'a [u8], &'a [u8]),
 }
 
 impl<'a> Line<'a> {
-    /// Reads the bytes between two line feeds.
+    /// What the octets between two line feeds say.
     pub(crate) fn read(text: &'a [u8]) -> Line<'a>
         ensures { said result ≡ line_said text.now }
     {
@@ -35,7 +35,7 @@ impl<'a> Line<'a> {
     }
 }
 
-/// Reads a line in the form of a relation.
+/// What a line says that begins like a relation.
 fn relation(text: &[u8]) -> Line<'_>
     ensures { said result ≡ relation_said text.now }
 {
@@ -51,14 +51,14 @@ fn relation(text: &[u8]) -> Line<'_>
     }
 }
 
-/// Returns the bytes without the blanks at both ends.
+/// The octets without the blanks at both ends.
 fn trim(text: &[u8]) -> &[u8]
     ensures { result.now ≡ trimmed text.now }
 {
     text.trim_ascii()
 }
 
-/// Returns the bytes before the first such byte, or all if there is none.
+/// What stands before the first such octet, or all where there is none.
 fn before(text: &[u8], octet: u8) -> &[u8]
     ensures { result.now ≡ before_first (λ o. o == octet) text.now }
 {
@@ -68,7 +68,7 @@ fn before(text: &[u8], octet: u8) -> &[u8]
     }
 }
 
-/// Returns the bytes before the first such byte, and those after it.
+/// What stands before the first such octet, and behind it.
 fn cut(text: &[u8], octet: u8) -> Option<(&[u8], &[u8])>
     ensures some { IfSome result (λ parts. position_or_len (λ o. o == octet) text.now < length text.now) }
     ensures front { IfSome result (λ parts. parts.0.now ≡ before_first (λ o. o == octet) text.now) }
@@ -79,7 +79,7 @@ fn cut(text: &[u8], octet: u8) -> Option<(&[u8], &[u8])>
     Some((&text[..place], &text[place + 1..]))
 }
 
-/// Returns the index of the first such byte.
+/// The place of the first such octet.
 fn place_of(text: &[u8], octet: u8) -> Option<usize>
     ensures { result ≡ position (λ o. o == octet) text.now }
 {

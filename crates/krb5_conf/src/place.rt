@@ -1,22 +1,22 @@
-//! The place of a line.
+//! Where a line stands.
 ghost use Rattle.std.specs.Prelude.{◌≡◌, ◌<◌, ◌≤◌, ◌+◌, ◌-◌, ◌^◌};
 ghost use Rattle.krb5_conf.specs.Line.{said};
 ghost use Rattle.krb5_conf.specs.Place.{behind, closed, group_place, is_place, opened, place_of, section_place};
 
 use crate::line::Line;
 
-/// The place of a line.
+/// Where a line stands.
 #[derive(Clone, Copy)]
 pub(crate) struct Place<'a> {
     pub section: &'a [u8],
-    /// The outermost open group; empty if none is open.
+    /// The outermost group that is open; empty where none is.
     pub group: &'a [u8],
     /// How many groups are open.
     pub depth: usize,
 }
 
 impl<'a> Place<'a> {
-    /// Returns the place inside a section but in no group.
+    /// In a section, and in no group of it.
     pub(crate) fn of_section(section: &'a [u8]) -> Place<'a>
         ensures place { place_of result ≡ section_place section.now }
         ensures depth { result.depth ≡ 0 }
@@ -28,7 +28,7 @@ impl<'a> Place<'a> {
         }
     }
 
-    /// Returns the place inside a group of a section but in no group within that.
+    /// In a group of a section, and in no other.
     pub(crate) fn of_group(section: &'a [u8], group: &'a [u8]) -> Place<'a>
         ensures { place_of result ≡ group_place section.now group.now }
     {
@@ -45,7 +45,7 @@ impl<'a> Place<'a> {
         self.depth == other.depth && self.section == other.section && self.group == other.group
     }
 
-    /// Returns the place of the line after this one.
+    /// Where the next line stands, behind this one.
     pub(crate) fn behind(self, line: Line<'a>) -> Place<'a>
         requires { self.depth < 2 ^ 64 - 1 }
         ensures place { place_of result ≡ behind (place_of self.entry) (said line.entry) }
@@ -59,7 +59,7 @@ impl<'a> Place<'a> {
         }
     }
 
-    /// Returns the place inside one more group.
+    /// In one group more.
     fn opened(self, group: &'a [u8]) -> Place<'a>
         requires { self.depth < 2 ^ 64 - 1 }
         ensures place { place_of result ≡ opened (place_of self.entry) group.now }
@@ -73,7 +73,7 @@ impl<'a> Place<'a> {
         }
     }
 
-    /// Returns the place inside one group less.
+    /// In one group less.
     fn closed(self) -> Place<'a>
         ensures place { place_of result ≡ closed (place_of self.entry) }
         ensures depth { result.depth ≤ self.entry.depth + 1 }
