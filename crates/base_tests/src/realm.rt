@@ -1,0 +1,10 @@
+//! What a realm keeps: rows, the database, what is remembered of clients; preauthentication; and the times of tickets.
+
+mod changes;
+mod database_texts;
+mod databases;
+mod given;
+mod replays;
+mod rows;
+mod times;
+mod timestamps;
