@@ -15,6 +15,7 @@ use Rattle.krb_fields.specs.Name.{Components, name_cmp, name_total}
 use Rattle.krb_replies.specs.KdcRep.{KdcRep, kdc_rep}
 use Rattle.krb_types.specs.KrbError.{KrbError, krb_error}
 use Rattle.krb_types.specs.ReqBody.{ReqBody}
+use Rattle.kdc_state.proofs.MemoriesSeen.{memory_resumed}
 use Rattle.kdc_state.proofs.Tidied.{memory_tidied}
 use Rattle.kdc_state.specs.State.{memory_of, opened_state}
 use Rattle.kdc_state.specs.declared.state.State.{State}
@@ -22,6 +23,7 @@ use Rattle.principals.specs.Change.{changed, refusal}
 use Rattle.principals.specs.Database.{Principals}
 use Rattle.principals.specs.declared.change.Change.{Change as PrincipalChange}
 use Rattle.principals.specs.declared.change.ChangeFault.{ChangeFault}
+use Rattle.resuming.proofs.Resumed.{resumed_are}
 use Rattle.replay.proofs.Stamps.{stamp_exact, stamp_total}
 use Rattle.replay.specs.Memory.{floor_at, remembered}
 use Rattle.replay.specs.Opening.{opening_floor}
@@ -48,7 +50,7 @@ use Rattle.kdc_core.specs.View.{View, as_view, memory_named, named, tgs_view, vi
 use Rattle.kdc_core.specs.declared.contents.Contents.{Contents}
 use Rattle.kdc_core.specs.declared.contents.Contents.TheVariants.{NoRequest, AsReq, RefusedTgsReq, TgsReq}
 use Rattle.kdc_core.specs.declared.run.Event.{Event}
-use Rattle.kdc_core.specs.declared.run.Event.TheVariants.{Request, Change, Replace, Tidy, Restart, Reopen}
+use Rattle.kdc_core.specs.declared.run.Event.TheVariants.{Request, Change, Replace, Tidy, Restart, Reopen, Resume}
 
 -- ---- replies
 
@@ -193,6 +195,8 @@ module _ (state : State) (marked : AllMarked state) where
       subst AreMarked (sym (memory_tidied state at client)) (tidied_marked (memory_of state client) at.sec (marked client))
   event_marked (Restart at) client = unstored_marked (opening_floor (OpenedAgain at)) client
   event_marked (Reopen database limits at) client = unstored_marked (opening_floor (OpenedAgain at)) client
+  event_marked (Resume database limits resumption) client =
+      subst AreMarked (sym (memory_resumed client database limits resumption)) (resumed_are IsMarked refl resumption client)
 
 run_marked : (state : State) (events : List Event) → AllMarked state → AllMarked (run state events)
 run_marked state [] marked = marked

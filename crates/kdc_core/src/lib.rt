@@ -15,7 +15,7 @@ pub use account::{Account, Answer, RequestNames};
 pub use as_exchange::{AsOutcome, AsRefusal};
 pub use kdc::{Kdc, OtherRealm};
 pub use kdc_replies::Granted;
-pub use kdc_state::Opening;
+pub use kdc_state::{Opening, Resumption, Seen};
 pub use laws::any_run;
 pub use replay::Bears;
 pub use run::{Event, RunFault};

@@ -13,6 +13,8 @@ mod expect;
 #[cfg(test)]
 mod given;
 #[cfg(test)]
+mod journals;
+#[cfg(test)]
 mod replays;
 #[cfg(test)]
 mod rows;

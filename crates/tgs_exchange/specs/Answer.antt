@@ -1,6 +1,6 @@
 -- What the TGS exchange answers, and what it keeps of it.
 use Rattle.std.specs.Prelude.{ℕ, ⊤, ◌≡◌, ◌⊎◌, Bool, true, false, ◌&&◌, nat_eq, nat_lt, if◌then◌else◌}
-use Rattle.std.specs.Prelude.{List, length, Option, Some, None}
+use Rattle.std.specs.Prelude.{List, [], length, Option, Some, None}
 use Rattle.std.specs.Cmp.Lexicographic.{pointwise}
 use Rattle.enctypes.specs.KeyUsage.{usage_number}
 use Rattle.krb_elements.specs.Codec.{written}
@@ -67,11 +67,22 @@ repeated v incoming body kept =
 
 -- ---- an authenticator that is new
 
+-- what is kept where neither a request nor a reply is: no request has these octets, so one that comes again is refused
+abbrev pub nothing_kept : Kept
+nothing_kept = record { request = []; reply = []; bears = Error }
+
+-- the most octets of a request that is kept
+abbrev pub longest_kept : ℕ
+longest_kept = 4096
+
+-- a request and its reply, or nothing of a request that is longer
+abbrev pub kept_of : List ℕ → Bears → List ℕ → Kept
+kept_of request bears octets =
+    if nat_lt longest_kept (length request) then nothing_kept
+    else record { request = request; reply = octets; bears = bears }
+
 abbrev pub remembering : List ℕ → Bears → List ℕ → TgsAnswer
-remembering request bears octets = record {
-  reply = octets;
-  kept = Some (record { request = request; reply = octets; bears = bears });
-}
+remembering request bears octets = record { reply = octets; kept = Some (kept_of request bears octets) }
 
 -- a reply with a ticket that is longer than the room leaves no trace
 abbrev pub within_room : TgsView → Incoming → ReqBody → List ℕ → TgsAnswer

@@ -1,0 +1,3 @@
+pub mod Resumed
+pub mod Holding
+pub mod Machines
