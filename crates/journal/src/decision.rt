@@ -9,7 +9,7 @@ use crate::reading::Journal;
 use krb_elements::Seq;
 use krb_fields::{Moment, SKEW};
 use refusals::first_holding;
-use resuming::{Resumption, Seen};
+use replay::{Resumption, Seen};
 use std::alloc::{AllocError, Global};
 
 /// What stands where a journal is to be.

@@ -18,19 +18,19 @@ use Rattle.principals.specs.Change.{changed, refusal}
 use Rattle.principals.specs.Database.{Principals}
 use Rattle.principals.specs.declared.change.Change.{Change as PrincipalChange}
 use Rattle.principals.specs.declared.change.ChangeFault.{ChangeFault}
-use Rattle.resuming.proofs.Holding.{extended, extended_holds, last_spent, remembered_held, tidied_held}
+use Rattle.replay.proofs.Holding.{extended, extended_holds, last_spent, remembered_held, tidied_held}
 use Rattle.replay.proofs.Stamps.{stamp_total}
 use Rattle.replay.specs.Memory.{floor_at, remembered}
 use Rattle.replay.specs.Opening.{opening_floor}
-use Rattle.resuming.specs.Resumed.{Holds, is_spent, resumed_memory, stamp_seen}
+use Rattle.replay.specs.Resumed.{Holds, is_spent, resumed_memory, stamp_seen}
 use Rattle.replay.specs.Run.{with_any}
 use Rattle.replay.specs.Stamp.{is_from}
 use Rattle.replay.specs.Tidied.{empty_memory, tidied}
 use Rattle.replay.specs.declared.failures.Failures.{Failures}
 use Rattle.replay.specs.declared.keep.Kept.{Kept}
 use Rattle.replay.specs.declared.memory.Memory.{Memory}
-use Rattle.resuming.specs.declared.seen.Resumption.{Resumption}
-use Rattle.resuming.specs.declared.seen.Seen.{Seen}
+use Rattle.replay.specs.declared.seen.Resumption.{Resumption}
+use Rattle.replay.specs.declared.seen.Seen.{Seen}
 use Rattle.tgs_exchange.specs.Answer.{tgs_answer}
 use Rattle.tgs_exchange.specs.Decision.{stamp_of}
 use Rattle.tgs_opening.specs.declared.presented.Presented.{Presented}

@@ -19,8 +19,8 @@ use Rattle.replay.specs.declared.memory.Memory.{Memory}
 use Rattle.replay.specs.Opening.{opening_floor}
 use Rattle.replay.specs.Tidied.{empty_memory, tidied}
 use Rattle.principal_rows.specs.declared.limits.Limits.{Limits}
-use Rattle.resuming.specs.Resumed.{resumed_memory}
-use Rattle.resuming.specs.declared.seen.Resumption.{Resumption}
+use Rattle.replay.specs.Resumed.{resumed_memory}
+use Rattle.replay.specs.declared.seen.Resumption.{Resumption}
 use Rattle.kdc_state.proofs.MemoriesSeen.{database_resumed, limits_resumed, memory_resumed}
 use Rattle.kdc_state.proofs.Tidied.{memory_tidied}
 use Rattle.kdc_state.specs.Resumed.{resumed_state}

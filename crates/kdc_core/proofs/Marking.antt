@@ -23,7 +23,7 @@ use Rattle.principals.specs.Change.{changed, refusal}
 use Rattle.principals.specs.Database.{Principals}
 use Rattle.principals.specs.declared.change.Change.{Change as PrincipalChange}
 use Rattle.principals.specs.declared.change.ChangeFault.{ChangeFault}
-use Rattle.resuming.proofs.Resumed.{resumed_are}
+use Rattle.replay.proofs.Resumed.{resumed_are}
 use Rattle.replay.proofs.Stamps.{stamp_exact, stamp_total}
 use Rattle.replay.specs.Memory.{floor_at, remembered}
 use Rattle.replay.specs.Opening.{opening_floor}

@@ -14,12 +14,11 @@ use Rattle.krb_fields.specs.Name.{Components, name_cmp, name_total, same_name}
 use Rattle.krb_fields.specs.declared.moment.Moment.{Moment}
 use Rattle.krb_types.specs.KrbError.{KrbError, krb_error}
 use Rattle.krb_types.specs.ReqBody.{ReqBody}
-use Rattle.resuming.proofs.Resumed.{resumed_are}
-use Rattle.replay.proofs.Runs.{GivesOf}
-use Rattle.resuming.proofs.Machines.{one_for_each}
-use Rattle.replay.specs.Machine.{IsGiven, next_if}
-use Rattle.resuming.specs.Machine.{AllTakeOver, Change as MemoryChange, Happens, IsGivenBy, KeepsThrough, Resumes, TakesOver, happened, next_by}
-use Rattle.resuming.specs.Resumed.{resumed_memory}
+use Rattle.replay.proofs.Resumed.{resumed_are}
+use Rattle.replay.proofs.Runs.{GivesOf, one_for_each}
+use Rattle.replay.specs.Kept.{nothing_kept}
+use Rattle.replay.specs.Machine.{AllTakeOver, Change as MemoryChange, Happens, IsGiven, IsGivenBy, Keeps, Resumes, TakesOver, happened, next_by, next_if}
+use Rattle.replay.specs.Resumed.{resumed_memory}
 use Rattle.replay.specs.Run.{MemoryEvent, Checked, Counted, Restarted, Tidied, after_verdict, collected, with_any, RestartsFrom as MemoryFrom, RestartsFollow as MemoryFollow}
 use Rattle.replay.specs.Stamp.{Stamp}
 use Rattle.replay.specs.declared.failures.Failures.{Failures}
@@ -28,7 +27,7 @@ use Rattle.replay.specs.declared.keep.Kept.{Kept}
 use Rattle.replay.specs.declared.memory.Memory.{Memory}
 use Rattle.replay.specs.declared.verdict.Verdict.{Verdict}
 use Rattle.replay.specs.declared.verdict.Verdict.TheVariants.{Fresh, Skew, Repeat, Full as NoPlace}
-use Rattle.tgs_exchange.specs.Answer.{TgsAnswer, answer_by, is_ticket, kept_reply, refused, remembering, tgs_answer, tgs_error, within_room}
+use Rattle.tgs_exchange.specs.Answer.{TgsAnswer, answer_by, is_ticket, kept_of, kept_reply, longest_kept, refused, remembering, tgs_answer, tgs_error, within_room}
 use Rattle.tgs_exchange.specs.Decision.{decision, stamp_of, verdict_on}
 use Rattle.tgs_exchange.specs.DecisionLaws.{HasSaid, has_said}
 use Rattle.tgs_exchange.specs.View.{TgsView}
@@ -49,7 +48,7 @@ use Rattle.principals.specs.declared.change.Change.{Change as PrincipalChange}
 use Rattle.principals.specs.declared.change.ChangeFault.{ChangeFault}
 use Rattle.kdc_core.specs.Answer.{answer_of, counted, keep, after_incoming, stamped}
 use Rattle.kdc_core.specs.Contents.{contents, names_answered, presented_in}
-use Rattle.kdc_core.specs.ContentsLaws.{AreNamesOf, are_names_of, nothing_kept}
+use Rattle.kdc_core.specs.ContentsLaws.{AreNamesOf, are_names_of, nothing_kept as as_it_was}
 use Rattle.kdc_core.specs.Request.{request_of}
 use Rattle.kdc_core.specs.Run.{after_event, unless_faulty}
 use Rattle.kdc_core.specs.Struck.{is_client}
@@ -61,28 +60,29 @@ use Rattle.kdc_core.specs.declared.contents.Contents.TheVariants.{NoRequest, AsR
 use Rattle.kdc_core.specs.declared.run.Event.{Event}
 use Rattle.kdc_core.specs.declared.run.Event.TheVariants.{Request, Change, Replace, Tidy, Restart, Reopen, Resume}
 
--- ---- what a memory gives: the reply that is made, or the one that was kept, if that bears a ticket
+-- ---- what a memory gives: a fresh authenticator the reply that is made, of which what is kept has all or nothing; one
+-- ---- that comes again the reply that was kept, if that bears a ticket
 
-abbrev give : Kept → Verdict Kept → Option (List ℕ)
-give made Fresh = Some made.reply
-give made Skew = None
-give made (Repeat kept) = if bears_ticket kept.reply then Some kept.reply else None
-give made NoPlace = None
+abbrev Give : Kept → Verdict Kept → List ℕ → Type 0
+Give made Fresh octets = bears_ticket made.reply ≡ true → octets ≡ made.reply
+Give made Skew octets = ⊥
+Give made (Repeat kept) octets = (bears_ticket kept.reply ≡ true) × (octets ≡ kept.reply)
+Give made NoPlace octets = ⊥
 
-same_some : {X : Type 0} (x y : X) → Some x ≡ Some y → y ≡ x
-same_some x y e = cc
-
-same_when : {X : Type 0} (b : Bool) (x y : X) → (if b then Some x else None) ≡ Some y → y ≡ x
-same_when true x y e = cc
-same_when false x y e = absurd cc
-
-gives_kept : GivesOf give (λ kept. kept.reply)
+gives_kept : GivesOf Give
 gives_kept = record {
-  fresh = λ made x e. same_some made.reply x e;
-  repeat = λ made kept x e. same_when (bears_ticket kept.reply) kept.reply x e;
-  skew = λ made. refl;
-  full = λ made. refl;
+  fresh = λ made x given other y again. again.1 ∙ sym (given again.0);
+  repeat = λ made kept x given other y again. again.1 ∙ sym given.1;
+  skew = λ made x given. given;
+  full = λ made x given. given;
 }
+
+-- the reply with a ticket is what is kept, unless the request is too long for that
+fresh_kept : (request octets : List ℕ) (long : Bool)
+    → bears_ticket (if long then nothing_kept else record { request = request; reply = octets; bears = Ticket }).reply ≡ true
+    → octets ≡ (if long then nothing_kept else record { request = request; reply = octets; bears = Ticket }).reply
+fresh_kept request octets true bears = absurd cc
+fresh_kept request octets false bears = refl
 
 -- ---- errors bear no ticket
 
@@ -157,7 +157,7 @@ module _ (v : TgsView) (incoming : Incoming) (body : ReqBody) (p : Presented) wh
   -- ---- and what it hands out
 
   abbrev Gives : Option (MemoryEvent Kept) → Stamp × List ℕ → Type 0
-  Gives = IsGiven give v.limits.remembered v.memory
+  Gives = IsGiven Give v.limits.remembered v.memory
 
   room_gives : verdict_on v incoming.at.sec p ≡ Fresh → (octets : List ℕ) → IfSome (handed (stamp_of p) (within_room v incoming body octets).reply) (Gives (option_map asked (within_room v incoming body octets).kept))
   room_gives e octets = by_length (nat_lt incoming.room (length octets))
@@ -166,14 +166,15 @@ module _ (v : TgsView) (incoming : Incoming) (body : ReqBody) (p : Presented) wh
           → IfSome (handed (stamp_of p) (if long then too_long else remembering incoming.octets Ticket octets).reply)
           (Gives (option_map asked (if long then too_long else remembering incoming.octets Ticket octets).kept))
       by_length true = error_handed (stamp_of p) (too_big v.realm incoming.at body) _
-      by_length false = handed_where (bears_ticket octets) (stamp_of p, octets) _ (refl, ap (give (record { request = incoming.octets; reply = octets; bears = Ticket })) e)
+      by_length false = handed_where (bears_ticket octets) (stamp_of p, octets) _
+          (refl, subst (λ v. Give (kept_of incoming.octets Ticket octets) v octets) (sym e) (fresh_kept incoming.octets octets (nat_lt longest_kept (length incoming.octets))))
 
   kept_gives : (kept : Kept) → verdict_on v incoming.at.sec p ≡ Repeat kept → (long : Bool)
       → IfSome (handed (stamp_of p) (if long then too_long else no_trace kept.reply).reply) (Gives (Some (asked kept)))
   kept_gives kept e true = error_handed (stamp_of p) (too_big v.realm incoming.at body) _
   kept_gives kept e false =
       handed_if (bears_ticket kept.reply) (stamp_of p, kept.reply) _
-      (λ borne. (refl, ap (give kept) e ∙ ap (λ b. if b then Some kept.reply else None) borne))
+      (λ borne. (refl, subst (λ v. Give kept v kept.reply) (sym e) (borne, refl)))
 
   repeat_gives : (kept : Kept) → verdict_on v incoming.at.sec p ≡ Repeat kept → (same : Bool)
       → IfSome (handed (stamp_of p) (if same then kept_reply v incoming body kept else refused v incoming.at body Repeated).reply) (Gives (Some (asked kept)))
@@ -269,12 +270,12 @@ module _ (c : Components) where
       ≡ next_if state.limits.remembered (memory_of state c) (happens_of (view_of state names) incoming held)
 
   moves_of : (state : State) (incoming : Incoming) (names : Named) (held : Contents) → AreNamesOf names held → Moves state incoming names held
-  moves_of state incoming names NoRequest names_are = ap (λ s. memory_of s c) (nothing_kept state names.client)
+  moves_of state incoming names NoRequest names_are = ap (λ s. memory_of s c) (as_it_was state names.client)
   moves_of state incoming names (AsReq message) names_are =
       subst (λ (n : Named). Moves state incoming n (AsReq message)) (sym names_are)
       (as_moves state (components_of message.body.value.cname) (view_of state (names_answered (AsReq message))).memory (named_memory state (names_answered (AsReq message)))
       (as_answer (as_view (view_of state (names_answered (AsReq message)))) incoming message).failures)
-  moves_of state incoming names (RefusedTgsReq message rejected) names_are = ap (λ s. memory_of s c) (nothing_kept state names.client)
+  moves_of state incoming names (RefusedTgsReq message rejected) names_are = ap (λ s. memory_of s c) (as_it_was state names.client)
   moves_of state incoming names (TgsReq message p) names_are =
       let v = tgs_view (presented_view state message p) in
       subst (λ (n : Named). Moves state incoming n (TgsReq message p)) (sym names_are)
@@ -307,12 +308,12 @@ module _ (c : Components) where
 
   -- ---- what is handed out is given
 
-  given_for : (limit : ℕ) (state : State) (name : Components) (handed : Option (Stamp × List ℕ)) (o : Option (MemoryEvent Kept)) → IfSome handed (IsGiven give limit (memory_of state name) o)
-      → IfSome (if eq_by_cmp name_cmp c name then handed else None) (IsGiven give limit (memory_of state c) (for_name name o))
+  given_for : (limit : ℕ) (state : State) (name : Components) (handed : Option (Stamp × List ℕ)) (o : Option (MemoryEvent Kept)) → IfSome handed (IsGiven Give limit (memory_of state name) o)
+      → IfSome (if eq_by_cmp name_cmp c name then handed else None) (IsGiven Give limit (memory_of state c) (for_name name o))
   given_for limit state name handed o given = by_test (eq_by_cmp name_cmp c name) refl
     where
-      by_test : (b : Bool) → eq_by_cmp name_cmp c name ≡ b → IfSome (if b then handed else None) (IsGiven give limit (memory_of state c) (if b then o else None))
-      by_test true same = subst (λ n. IfSome handed (IsGiven give limit (memory_of state n) o)) (sym (same_name c name same)) given
+      by_test : (b : Bool) → eq_by_cmp name_cmp c name ≡ b → IfSome (if b then handed else None) (IsGiven Give limit (memory_of state c) (if b then o else None))
+      by_test true same = subst (λ n. IfSome handed (IsGiven Give limit (memory_of state n) o)) (sym (same_name c name same)) given
       by_test false apart = tt
 
   nothing_given : (b : Bool) (P : Stamp × List ℕ → Type 0) → IfSome (if b then None else None) P
@@ -322,7 +323,7 @@ module _ (c : Components) where
   abbrev HandsOut : State → Incoming → Named → Contents → Type 0
   HandsOut state incoming names held =
       IfSome (if is_client c names.client then ticket_by (presented_in held) (answer_of (view_of state names) incoming held).reply else None)
-      (IsGiven give state.limits.remembered (memory_of state c) (happens_of (view_of state names) incoming held))
+      (IsGiven Give state.limits.remembered (memory_of state c) (happens_of (view_of state names) incoming held))
 
   gives_of : (state : State) (incoming : Incoming) (names : Named) (held : Contents) → AreNamesOf names held → HandsOut state incoming names held
   gives_of state incoming names NoRequest names_are = nothing_given (is_client c names.client) _
@@ -339,7 +340,7 @@ module _ (c : Components) where
   gives_request state incoming =
       gives_of state incoming (named state incoming.octets) (contents (view state incoming.octets) (request_of incoming.octets)) (are_names_of state (request_of incoming.octets))
 
-  gives : (state : State) (event : Event) → IfSome (ticket_to c state event) (IsGivenBy give state.limits.remembered (memory_of state c) (changes state event))
+  gives : (state : State) (event : Event) → IfSome (ticket_to c state event) (IsGivenBy Give state.limits.remembered (memory_of state c) (changes state event))
   gives state (Request at random room octets) = gives_request state (record { at = at; random = random; room = room; octets = octets })
   gives state (Change change) = tt
   gives state (Replace database) = tt
@@ -433,7 +434,7 @@ module _ (c : Components) where
 
   -- ---- resuming
 
-  takes_over : (state : State) (event : Event) → ResumesWithAll state event → TakesOver give (memory_of state c) (changes state event)
+  takes_over : (state : State) (event : Event) → ResumesWithAll state event → TakesOver Give (memory_of state c) (changes state event)
   takes_over state (Request at random room request) all = tt
   takes_over state (Change change) all = tt
   takes_over state (Replace database) all = tt
@@ -441,16 +442,16 @@ module _ (c : Components) where
   takes_over state (Restart at) all = tt
   takes_over state (Reopen database limits at) all = tt
   takes_over state (Resume database limits resumption) all =
-      (all c, resumed_are (λ kept. (made : Kept) → give made (Repeat kept) ≡ None) (λ made. refl) resumption c)
+      (all c, resumed_are (λ kept. (made : Kept) (octets : List ℕ) → Give made (Repeat kept) octets → ⊥) (λ made octets given. let bears = given.0 in cc) resumption c)
 
   all_take_over : (state : State) (events : List Event) → ResumesFollow state events → AllTakeOver give after_event (λ state. memory_of state c) changes state events
   all_take_over state [] follow = tt
   all_take_over state (event ∷ events) follow = (takes_over state event follow.0, all_take_over (after_event state event) events follow.1)
 
-  keeps : KeepsThrough give (λ (state : State). state.limits.remembered) after_event (λ state. memory_of state c) changes (ticket_to c)
+  keeps : Keeps Give (λ (state : State). state.limits.remembered) after_event (λ state. memory_of state c) changes (ticket_to c)
   keeps = record { moves = moves; gives = gives }
 
 pub one_ticket : (state : State) (events : List Event) → OneTicket state events
 one_ticket state events follow resumes c =
-    one_for_each give (λ kept. kept.reply) gives_kept (λ state. state.limits.remembered) after_event (λ state. memory_of state c) (changes c) (ticket_to c) (keeps c) state events
+    one_for_each Give gives_kept (λ state. state.limits.remembered) after_event (λ state. memory_of state c) (changes c) (ticket_to c) (keeps c) state events
     (restarts_follow c state events follow) (all_take_over c state events resumes)

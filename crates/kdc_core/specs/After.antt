@@ -7,7 +7,7 @@ use Rattle.replay.specs.Memory.{remembered}
 use Rattle.replay.specs.Stamp.{is_untimely}
 use Rattle.replay.specs.declared.failures.Failures.{Failures}
 use Rattle.replay.specs.declared.keep.Kept.{Kept}
-use Rattle.resuming.specs.declared.seen.Seen.{Seen}
+use Rattle.replay.specs.declared.seen.Seen.{Seen}
 use Rattle.kdc_state.specs.declared.state.State.{State}
 use Rattle.kdc_state.specs.State.{memory_of, with_memory}
 use Rattle.tgs_opening.specs.declared.presented.Presented.{Presented}

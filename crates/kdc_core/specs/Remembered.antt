@@ -10,12 +10,12 @@ use Rattle.krb_fields.specs.declared.moment.Moment.{Moment}
 use Rattle.principal_rows.specs.declared.limits.Limits.{Limits}
 use Rattle.principals.specs.Database.{Principals}
 use Rattle.replay.specs.Opening.{opening_floor}
-use Rattle.resuming.specs.Resumed.{Holds, resumed_memory, stamp_seen}
+use Rattle.replay.specs.Resumed.{Holds, resumed_memory, stamp_seen}
 use Rattle.replay.specs.Run.{with_any}
 use Rattle.replay.specs.declared.keep.Kept.{Kept}
 use Rattle.replay.specs.declared.opening.Opening.{Opening}
-use Rattle.resuming.specs.declared.seen.Resumption.{Resumption}
-use Rattle.resuming.specs.declared.seen.Seen.{Seen}
+use Rattle.replay.specs.declared.seen.Resumption.{Resumption}
+use Rattle.replay.specs.declared.seen.Seen.{Seen}
 use Rattle.tgs_exchange.specs.Answer.{tgs_answer}
 use Rattle.tgs_opening.specs.declared.presented.Presented.{Presented}
 use Rattle.kdc_state.specs.Resumed.{resumed_state}

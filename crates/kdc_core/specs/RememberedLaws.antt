@@ -1,7 +1,7 @@
 -- What a request makes the state remember, by the names that its contents give.
 use Rattle.std.proofs.Common.{◌≡◌, List, Option, None, Result, IfOk, refl, sym, subst}
 use Rattle.kdc_replies.specs.Incoming.{Incoming}
-use Rattle.resuming.specs.declared.seen.Seen.{Seen}
+use Rattle.replay.specs.declared.seen.Seen.{Seen}
 use Rattle.kdc_state.specs.declared.state.State.{State}
 use Rattle.kdc_core.specs.Answer.{answer_of, answer_to}
 use Rattle.kdc_core.specs.Contents.{contents, names_answered}

@@ -3,8 +3,8 @@ use Rattle.std.specs.Prelude.{◌≡◌, ⊤, IsTrue, List, [], ◌∷◌}
 use Rattle.std.specs.FinMap as map
 use Rattle.krb_fields.specs.Name.{Components}
 use Rattle.principals.specs.Database.{Principals, ticket_granter}
-use Rattle.resuming.specs.Resumed.{resumed_memory}
-use Rattle.resuming.specs.declared.seen.Resumption.{Resumption}
+use Rattle.replay.specs.Resumed.{resumed_memory}
+use Rattle.replay.specs.declared.seen.Resumption.{Resumption}
 use Rattle.kdc_state.specs.declared.state.State.{State}
 use Rattle.kdc_core.specs.Run.{run}
 use Rattle.kdc_core.specs.Struck.{AgreesFor, Names, ServicesWithin, is_request_of, replies_to, strike}

@@ -17,7 +17,7 @@ ghost use Rattle.replay.specs.declared.opening.Opening.TheVariants.{Restart};
 ghost use Rattle.kdc_state.specs.Resumed.{resumed_state};
 ghost use Rattle.kdc_state.specs.State.{opened_state, memory_of, restarted, tidied_state};
 ghost use Rattle.replay.specs.Memory as memories;
-ghost use Rattle.resuming.specs.Resumed.{resumed_memory};
+ghost use Rattle.replay.specs.Resumed.{resumed_memory};
 ghost use Rattle.replay.specs.Tidied.{tidied};
 ghost use Rattle.kdc_state.specs.declared.state.State as states;
 ghost use Rattle.principals.specs.Change.{refusal, changed};

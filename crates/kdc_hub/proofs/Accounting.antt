@@ -11,7 +11,7 @@ use Rattle.kdc_core.specs.Request.{request_of}
 use Rattle.kdc_core.specs.View.{View, view}
 use Rattle.kdc_core.specs.declared.account.Account.TheVariants.{NoRequest, As, Tgs}
 use Rattle.kdc_core.specs.declared.account.RequestNames.{RequestNames}
-use Rattle.resuming.specs.declared.seen.Seen.{Seen}
+use Rattle.replay.specs.declared.seen.Seen.{Seen}
 use Rattle.kdc_hub.specs.Accounts.{FirstHold, ReplyHolds, if_answered}
 use Rattle.kdc_hub.specs.Hub.{requests_of}
 use Rattle.kdc_hub.specs.Issuing.{Issuing, after, kept_account, names_kept, reply_by, reply_of, reply_with}

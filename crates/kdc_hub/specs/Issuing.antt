@@ -3,7 +3,7 @@ use Rattle.std.specs.Prelude.{ℕ, Bool, true, false, List, Option, Some, None, 
 use Rattle.rand_core.specs.Stream.{Stream, fill_bytes}
 use Rattle.krb_fields.specs.declared.moment.Moment.{Moment}
 use Rattle.krb_fields.specs.declared.code.Code.TheVariants.{KrbErrFieldToolong}
-use Rattle.resuming.specs.declared.seen.Seen.{Seen}
+use Rattle.replay.specs.declared.seen.Seen.{Seen}
 use Rattle.kdc_state.specs.declared.state.State.{State}
 use Rattle.kdc_core.specs.Account.{Account, account, names_in, with_names}
 use Rattle.kdc_core.specs.Answer.{answer, error_octets, after_request}

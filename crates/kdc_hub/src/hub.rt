@@ -8,7 +8,7 @@ ghost use Rattle.krb_fields.specs.declared.moment.Moment as moments;
 ghost use Rattle.principal_rows.specs.declared.limits.Limits.{Limits};
 ghost use Rattle.principals.specs.Database.{Principals};
 ghost use Rattle.replay.specs.declared.opening.Opening.TheVariants.{Restart};
-ghost use Rattle.resuming.specs.declared.seen.Resumption.{Resumption};
+ghost use Rattle.replay.specs.declared.seen.Resumption.{Resumption};
 ghost use Rattle.kdc_hub.specs.Hub.{AreDraws, Standing, Steps, standing};
 ghost use Rattle.kdc_hub.specs.Logged.{Entry, LogsNext, logged};
 ghost use Rattle.kdc_hub.specs.Accounts.{AccountsHold};

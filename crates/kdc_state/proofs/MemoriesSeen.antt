@@ -9,9 +9,10 @@ use Rattle.principal_rows.specs.declared.limits.Limits.{Limits}
 use Rattle.principals.specs.Database.{Principals}
 use Rattle.replay.specs.declared.keep.Kept.{Kept}
 use Rattle.replay.specs.declared.memory.Memory.{Memory}
-use Rattle.resuming.specs.declared.seen.Resumption.{Resumption}
-use Rattle.resuming.specs.declared.seen.Seen.{Seen}
-use Rattle.resuming.specs.Resumed.{nothing_kept, resumed_memory, stamp_seen, with_all_seen, with_seen}
+use Rattle.replay.specs.declared.seen.Resumption.{Resumption}
+use Rattle.replay.specs.declared.seen.Seen.{Seen}
+use Rattle.replay.specs.Kept.{nothing_kept}
+use Rattle.replay.specs.Resumed.{resumed_memory, stamp_seen, with_all_seen, with_seen}
 use Rattle.replay.specs.Tidied.{empty_memory}
 use Rattle.kdc_state.specs.declared.state.State.{State}
 use Rattle.kdc_state.specs.Resumed.{after_all_seen, after_seen, resumed_state}

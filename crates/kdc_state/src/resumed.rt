@@ -2,7 +2,8 @@
 ghost use Rattle.std.specs.Prelude.{◌≡◌, IfOk, OnOk, OnErr};
 ghost use Rattle.std.specs.FinMap as map;
 ghost use Rattle.krb_fields.specs.Name.{Components};
-ghost use Rattle.resuming.specs.Resumed.{nothing_kept, resumed_memory};
+ghost use Rattle.replay.specs.Kept.{nothing_kept};
+ghost use Rattle.replay.specs.Resumed.{resumed_memory};
 ghost use Rattle.kdc_state.specs.Resumed.{after_all_seen, resumed_state};
 ghost use Rattle.kdc_state.specs.State.{memory_of, with_memory};
 
@@ -10,8 +11,7 @@ use crate::state::State;
 use krb_fields::Name;
 use principal_rows::{Limits, NameMap};
 use principals::Database;
-use replay::{Kept, Memory};
-use resuming::{Resumption, Seen, nothing_kept};
+use replay::{Kept, Memory, Resumption, Seen};
 use std::alloc::{AllocError, Global};
 
 impl State {
@@ -63,7 +63,7 @@ impl State {
             })) }
         ensures err { OnErr result (self.new ≡ self.old) }
     {
-        let kept = nothing_kept(alloc);
+        let kept = Kept::nothing(alloc);
         let mut memory = Memory::empty(alloc, self.floor);
         if self.memories.replace(client, &mut memory) {
             let done = keep(&mut memory, ctime, cusec, kept);

@@ -1,6 +1,6 @@
 -- What the TGS exchange answers, and what it keeps of it.
 use Rattle.std.specs.Prelude.{ℕ, ⊤, ◌≡◌, ◌⊎◌, Bool, true, false, ◌&&◌, nat_eq, nat_lt, if◌then◌else◌}
-use Rattle.std.specs.Prelude.{List, [], length, Option, Some, None}
+use Rattle.std.specs.Prelude.{List, length, Option, Some, None}
 use Rattle.std.specs.Cmp.Lexicographic.{pointwise}
 use Rattle.enctypes.specs.KeyUsage.{usage_number}
 use Rattle.krb_elements.specs.Codec.{written}
@@ -66,10 +66,6 @@ repeated v incoming body kept =
     else refused v incoming.at body Repeated
 
 -- ---- an authenticator that is new
-
--- what is kept where neither a request nor a reply is: no request has these octets, so one that comes again is refused
-abbrev pub nothing_kept : Kept
-nothing_kept = record { request = []; reply = []; bears = Error }
 
 -- the most octets of a request that is kept
 abbrev pub longest_kept : ℕ

@@ -7,7 +7,7 @@ ghost use Rattle.krb_fields.specs.PrincipalName.{name};
 ghost use Rattle.krb_types.specs.KrbError.{krb_error};
 ghost use Rattle.replay.specs.Stamp.{is_untimely};
 ghost use Rattle.replay.specs.declared.keep.Bears.TheVariants.{Error};
-ghost use Rattle.tgs_exchange.specs.Answer.{answer_by, is_ticket, kept_of, kept_reply, nothing_kept, remembering};
+ghost use Rattle.tgs_exchange.specs.Answer.{answer_by, is_ticket, kept_of, kept_reply, remembering};
 ghost use Rattle.tgs_exchange.specs.Answer.{repeated, refused};
 ghost use Rattle.tgs_exchange.specs.Answer.{refused_room, tgs_answer, tgs_error};
 ghost use Rattle.tgs_exchange.specs.Answer.{Opens, OpensBy, RepeatSpelled, Spelled, SpelledBy};
@@ -309,21 +309,11 @@ fn kept_of(alloc: Global, request: &[u8], bears: Bears, reply: &[u8]) -> Result<
     ensures { IfOk result (λ kept. kept ≡ kept_of request.now bears reply.now) }
 {
     if request.len() > LONGEST_KEPT {
-        return Ok(nothing_kept(alloc));
+        return Ok(Kept::nothing(alloc));
     }
     Ok(Kept {
         request: Octets::from_slice(alloc, request)?,
         reply: Octets::from_slice(alloc, reply)?,
         bears,
     })
-}
-
-fn nothing_kept(alloc: Global) -> Kept
-    ensures { result ≡ nothing_kept }
-{
-    Kept {
-        request: Octets::new(Vec::new(alloc)),
-        reply: Octets::new(Vec::new(alloc)),
-        bears: Bears::Error,
-    }
 }

@@ -3,7 +3,7 @@ use Rattle.std.proofs.lemmas.Int.{to_z-of_z}
 use Rattle.std.specs.FinMap as map
 use Rattle.replay.specs.declared.keep.Kept.{Kept}
 use Rattle.replay.specs.declared.memory.Memory.{Memory}
-use Rattle.resuming.specs.Resumed.{nothing_kept}
+use Rattle.replay.specs.Kept.{nothing_kept}
 use Rattle.kdc_state.proofs.Storing.{is_there, stored_ok, stored_err, stored_first}
 use Rattle.kdc_state.proofs.state.State.see.Goals as goal
 

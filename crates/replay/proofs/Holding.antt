@@ -11,13 +11,14 @@ use Rattle.std.proofs.lemmas.Int.{ints, clamps}
 use Rattle.krb_fields.specs.Name.{Components, name_cmp}
 use Rattle.krb_fields.specs.Skew.{skew}
 use Rattle.replay.specs.Memory.{floor_at, remembered}
-use Rattle.resuming.specs.Resumed.{Holds, is_spent, nothing_kept, resumed_memory, stamp_seen, with_all_seen, with_seen}
+use Rattle.replay.specs.Kept.{nothing_kept}
+use Rattle.replay.specs.Resumed.{Holds, is_spent, resumed_memory, stamp_seen, with_all_seen, with_seen}
 use Rattle.replay.specs.Stamp.{Stamp, stamp_cmp, is_from}
 use Rattle.replay.specs.Tidied.{tidied}
 use Rattle.replay.specs.declared.keep.Kept.{Kept}
 use Rattle.replay.specs.declared.memory.Memory.{Memory}
-use Rattle.resuming.specs.declared.seen.Resumption.{Resumption}
-use Rattle.resuming.specs.declared.seen.Seen.{Seen}
+use Rattle.replay.specs.declared.seen.Resumption.{Resumption}
+use Rattle.replay.specs.declared.seen.Seen.{Seen}
 use Rattle.replay.proofs.Raising.{floor_within}
 use Rattle.replay.proofs.Stamps.{stamp_total, stamp_exact}
 

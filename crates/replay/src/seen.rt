@@ -1,10 +1,8 @@
 //! Authenticators that were seen, from which a start resumes.
 ghost use Rattle.std.specs.Prelude.{◌≡◌, IfOk};
-ghost use Rattle.resuming.specs.Resumed.{nothing_kept};
 
-use krb_elements::{Octets, Seq};
+use krb_elements::Seq;
 use krb_fields::Name;
-use replay::{Bears, Kept};
 use std::alloc::{AllocError, Global};
 
 /// An authenticator that is remembered: its client, and its time.
@@ -35,16 +33,4 @@ pub struct Resumption {
     pub floor: i64,
     /// Every authenticator that is remembered and is not too old.
     pub seen: Seq<Seen>,
-}
-
-/// What is kept beside an authenticator of which neither the request nor the reply is known. No request has no octets, so
-/// whatever comes again is refused.
-pub fn nothing_kept(alloc: Global) -> Kept
-    ensures { result ≡ nothing_kept }
-{
-    Kept {
-        request: Octets::new(Vec::new(alloc)),
-        reply: Octets::new(Vec::new(alloc)),
-        bears: Bears::Error,
-    }
 }

@@ -5,9 +5,10 @@ use Rattle.std.specs.FinMap.{get-empty, get-insert}
 use Rattle.std.specs.Ordering.{eq_by_cmp}
 use Rattle.krb_fields.specs.Name.{Components, name_cmp}
 use Rattle.replay.specs.declared.keep.Kept.{Kept}
-use Rattle.resuming.specs.declared.seen.Resumption.{Resumption}
-use Rattle.resuming.specs.declared.seen.Seen.{Seen}
-use Rattle.resuming.specs.Resumed.{nothing_kept, stamp_seen, with_all_seen, with_seen}
+use Rattle.replay.specs.declared.seen.Resumption.{Resumption}
+use Rattle.replay.specs.declared.seen.Seen.{Seen}
+use Rattle.replay.specs.Kept.{nothing_kept}
+use Rattle.replay.specs.Resumed.{stamp_seen, with_all_seen, with_seen}
 use Rattle.replay.specs.Stamp.{Stamp, stamp_cmp}
 use Rattle.replay.proofs.Stamps.{stamp_total}
 

@@ -4,17 +4,13 @@ use Rattle.std.specs.FinMap as map
 use Rattle.std.specs.Option.{is_some}
 use Rattle.std.specs.Ordering.{eq_by_cmp}
 use Rattle.krb_fields.specs.Name.{Components, name_cmp}
-use Rattle.replay.specs.declared.keep.Bears.TheVariants.{Error}
 use Rattle.replay.specs.declared.keep.Kept.{Kept}
 use Rattle.replay.specs.declared.memory.Memory.{Memory}
-use Rattle.resuming.specs.declared.seen.Resumption.{Resumption}
-use Rattle.resuming.specs.declared.seen.Seen.{Seen}
+use Rattle.replay.specs.declared.seen.Resumption.{Resumption}
+use Rattle.replay.specs.declared.seen.Seen.{Seen}
 use Rattle.replay.specs.Failures.{no_failures}
+use Rattle.replay.specs.Kept.{nothing_kept}
 use Rattle.replay.specs.Stamp.{Stamp, stamp_cmp}
-
--- what is kept where neither a request nor a reply is: no request has these octets, so one that comes again is refused
-abbrev pub nothing_kept : Kept
-nothing_kept = record { request = []; reply = []; bears = Error }
 
 abbrev pub stamp_seen : Seen → Stamp
 stamp_seen seen = (seen.ctime, seen.cusec)

@@ -1,3 +1,0 @@
-pub mod Resumed
-pub mod Holding
-pub mod Machines

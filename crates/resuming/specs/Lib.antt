@@ -1,3 +1,0 @@
-pub mod Resumed
--- what proofs of upper crates cite: no reader of a public contract needs it
-pub mod Machine
