@@ -444,7 +444,7 @@ module _ (c : Components) where
   takes_over state (Resume database limits resumption) all =
       (all c, resumed_are (λ kept. (made : Kept) (octets : List ℕ) → Give made (Repeat kept) octets → ⊥) (λ made octets given. let bears = given.0 in cc) resumption c)
 
-  all_take_over : (state : State) (events : List Event) → ResumesFollow state events → AllTakeOver give after_event (λ state. memory_of state c) changes state events
+  all_take_over : (state : State) (events : List Event) → ResumesFollow state events → AllTakeOver Give after_event (λ state. memory_of state c) changes state events
   all_take_over state [] follow = tt
   all_take_over state (event ∷ events) follow = (takes_over state event follow.0, all_take_over (after_event state event) events follow.1)
 
