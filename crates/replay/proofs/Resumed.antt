@@ -1,5 +1,5 @@
 -- What is kept for each pair of a memory that resumes.
-use Rattle.std.proofs.Common.{◌≡◌, Bool, true, false, cond, if◌then◌else◌, IfSome, List, [], ◌∷◌, Option, Some, None, sym, subst}
+use Rattle.std.proofs.Common.{Bool, true, false, cond, if◌then◌else◌, IfSome, List, [], ◌∷◌, Option, Some, sym, subst}
 use Rattle.std.specs.FinMap as map
 use Rattle.std.specs.FinMap.{get-empty, get-insert}
 use Rattle.std.specs.Ordering.{eq_by_cmp}

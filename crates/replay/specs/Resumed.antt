@@ -1,5 +1,5 @@
 -- The memory of a client where a start resumes with the authenticators that were seen before it.
-use Rattle.std.specs.Prelude.{◌≡◌, Bool, ◌||◌, int_lt, IsTrue, List, [], ◌∷◌, Option, if◌then◌else◌}
+use Rattle.std.specs.Prelude.{Bool, ◌||◌, int_lt, IsTrue, List, [], ◌∷◌, if◌then◌else◌}
 use Rattle.std.specs.FinMap as map
 use Rattle.std.specs.Option.{is_some}
 use Rattle.std.specs.Ordering.{eq_by_cmp}
