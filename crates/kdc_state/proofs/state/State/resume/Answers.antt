@@ -5,4 +5,4 @@ use Rattle.kdc_state.proofs.state.State.resume.Goals as goal
 
 pub returns-clause-memories : goal.returns-clause-memories
 returns-clause-memories c name =
-    ap (λ s. memory_of s name) c.in_ok-see_all.ensures ∙ memory_resumed name c.args.database c.args.limits c.args.resumption.now
+    ap (λ s. memory_of s name) c.in_ok-state.ensures ∙ memory_resumed name c.args.database c.args.limits c.args.resumption.now
