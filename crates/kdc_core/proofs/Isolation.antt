@@ -18,7 +18,12 @@ use Rattle.replay.specs.declared.keep.Kept.{Kept}
 use Rattle.replay.specs.declared.memory.Memory.{Memory}
 use Rattle.replay.specs.Opening.{opening_floor}
 use Rattle.replay.specs.Tidied.{empty_memory, tidied}
+use Rattle.principal_rows.specs.declared.limits.Limits.{Limits}
+use Rattle.replay.specs.Resumed.{resumed_memory}
+use Rattle.replay.specs.declared.seen.Resumption.{Resumption}
+use Rattle.kdc_state.proofs.MemoriesSeen.{database_resumed, limits_resumed, memory_resumed}
 use Rattle.kdc_state.proofs.Tidied.{memory_tidied}
+use Rattle.kdc_state.specs.Resumed.{resumed_state}
 use Rattle.kdc_state.specs.State.{memory_of, restarted, tidied_state}
 use Rattle.replay.specs.declared.opening.Opening.TheVariants.{Restart as Restarted}
 use Rattle.kdc_state.specs.declared.state.State.{State}
@@ -31,7 +36,7 @@ use Rattle.kdc_core.specs.Struck.{AgreesFor, IsIsolated, Isolation, Names, Names
 use Rattle.kdc_core.specs.Unaffected.{AreAlike, HasSameRows, IsAlike, Unaffected}
 use Rattle.kdc_core.specs.View.{Agrees, named, view}
 use Rattle.kdc_core.specs.declared.run.Event.{Event}
-use Rattle.kdc_core.specs.declared.run.Event.TheVariants.{Request, Change, Replace, Tidy, Restart, Reopen}
+use Rattle.kdc_core.specs.declared.run.Event.TheVariants.{Request, Change, Replace, Tidy, Restart, Reopen, Resume}
 
 -- ---- names
 
@@ -224,6 +229,22 @@ module _ (c : Components) (S : Names) where
     rows = a.rows;
   }
 
+  -- ---- resuming
+
+  -- with the same authenticators of c, and databases that have the same rows for c and S
+  both_resumed : (database new : Principals) (limits : Limits) (r others : Resumption) → HasSameRows c S database new → resumed_memory others c ≡ resumed_memory r c
+      → AgreesFor c S (resumed_state database limits r) (resumed_state new limits others)
+  both_resumed database new limits r others same memory_is =
+      let here = database_resumed database limits r in
+      let there = database_resumed new limits others in
+      record {
+        realm = ap (λ (d : Principals). d.realm) there ∙ same.realm ∙ sym (ap (λ (d : Principals). d.realm) here);
+        limits = limits_resumed new limits others ∙ sym (limits_resumed database limits r);
+        row = ap (λ (d : Principals). map.get d.rows c) there ∙ same.row ∙ sym (ap (λ (d : Principals). map.get d.rows c) here);
+        memory = memory_resumed c new limits others ∙ memory_is ∙ sym (memory_resumed c database limits r);
+        rows = λ name within. ap (λ (d : Principals). map.get d.rows name) there ∙ same.rows name within ∙ sym (ap (λ (d : Principals). map.get d.rows name) here);
+      }
+
   -- ---- runs
 
   realm_unless : (state : State) (change : PrincipalChange) (fault : Option ChangeFault) → (unless_faulty fault state (record state { database = changed state.database change })).database.realm ≡ state.database.realm
@@ -242,6 +263,7 @@ module _ (c : Components) (S : Names) where
   still_granted state (Tidy at) within granter = granter
   still_granted state (Restart at) within granter = granter
   still_granted state (Reopen database limits at) within granter = within
+  still_granted state (Resume database limits resumption) within granter = same_granted _ _ (ap (λ (d : Principals). d.realm) (database_resumed database limits resumption)) within
 
   -- an event that is left: the second state runs it, or one alike, and gives the same reply
   record IsLeft (state other : State) (event given : Event) : Type 0 where
@@ -270,6 +292,9 @@ module _ (c : Components) (S : Names) where
   event_left state other (Reopen database limits at) given granter within a left is =
       subst (λ (e : Event). IsLeft state other (Reopen database limits at) e) (sym is.1)
       (record { reply = refl; is_own = refl; agrees = record { realm = is.2.realm; limits = refl; row = is.2.row; memory = refl; rows = is.2.rows } })
+  event_left state other (Resume database limits resumption) given granter within a left is =
+      subst (λ (e : Event). IsLeft state other (Resume database limits resumption) e) (sym is.2)
+      (record { reply = refl; is_own = refl; agrees = both_resumed database is.0 limits resumption is.1 is.3 is.4 })
 
   -- an event that is struck out: no request of c, and the first state alone runs it
   event_struck : (state other : State) (event : Event) → AgreesFor c S state other → is_left c S state event ≡ false → (is_request_of c state event ≡ false) × AgreesFor c S (after_event state event) other
@@ -280,6 +305,7 @@ module _ (c : Components) (S : Names) where
   event_struck state other (Tidy at) a struck = absurd cc
   event_struck state other (Restart at) a struck = absurd cc
   event_struck state other (Reopen database limits at) a struck = absurd cc
+  event_struck state other (Resume database limits resumption) a struck = absurd cc
 
   module _ (state other : State) (event : Event) (events : List Event) where
     with_left : (given : Event) (others : List Event) → is_left c S state event ≡ true → IsLeft state other event given
@@ -332,6 +358,7 @@ module _ (c : Components) (S : Names) where
   alike_itself (Tidy at) = refl
   alike_itself (Restart at) = refl
   alike_itself (Reopen database limits at) = (database, refl, same_rows database)
+  alike_itself (Resume database limits resumption) = (database, resumption, refl, same_rows database, refl)
 
   alike_all : (events : List Event) → AreAlike c S events events
   alike_all [] = tt

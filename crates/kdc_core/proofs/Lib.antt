@@ -6,4 +6,5 @@ pub mod Changes
 pub mod Isolation
 pub mod Marking
 pub mod Tickets
+pub mod Covering
 pub mod Unseen

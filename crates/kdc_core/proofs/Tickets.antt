@@ -14,8 +14,11 @@ use Rattle.krb_fields.specs.Name.{Components, name_cmp, name_total, same_name}
 use Rattle.krb_fields.specs.declared.moment.Moment.{Moment}
 use Rattle.krb_types.specs.KrbError.{KrbError, krb_error}
 use Rattle.krb_types.specs.ReqBody.{ReqBody}
+use Rattle.replay.proofs.Resumed.{resumed_are}
 use Rattle.replay.proofs.Runs.{GivesOf, one_for_each}
-use Rattle.replay.specs.Machine.{IsGiven, Keeps, next_if}
+use Rattle.replay.specs.Kept.{nothing_kept}
+use Rattle.replay.specs.Machine.{AllTakeOver, Change as MemoryChange, Happens, IsGiven, IsGivenBy, Keeps, Resumes, TakesOver, happened, next_by, next_if}
+use Rattle.replay.specs.Resumed.{resumed_memory}
 use Rattle.replay.specs.Run.{MemoryEvent, Checked, Counted, Restarted, Tidied, after_verdict, collected, with_any, RestartsFrom as MemoryFrom, RestartsFollow as MemoryFollow}
 use Rattle.replay.specs.Stamp.{Stamp}
 use Rattle.replay.specs.declared.failures.Failures.{Failures}
@@ -24,7 +27,7 @@ use Rattle.replay.specs.declared.keep.Kept.{Kept}
 use Rattle.replay.specs.declared.memory.Memory.{Memory}
 use Rattle.replay.specs.declared.verdict.Verdict.{Verdict}
 use Rattle.replay.specs.declared.verdict.Verdict.TheVariants.{Fresh, Skew, Repeat, Full as NoPlace}
-use Rattle.tgs_exchange.specs.Answer.{TgsAnswer, answer_by, is_ticket, kept_reply, refused, remembering, tgs_answer, tgs_error, within_room}
+use Rattle.tgs_exchange.specs.Answer.{TgsAnswer, answer_by, is_ticket, kept_of, kept_reply, longest_kept, refused, remembering, tgs_answer, tgs_error, within_room}
 use Rattle.tgs_exchange.specs.Decision.{decision, stamp_of, verdict_on}
 use Rattle.tgs_exchange.specs.DecisionLaws.{HasSaid, has_said}
 use Rattle.tgs_exchange.specs.View.{TgsView}
@@ -34,6 +37,7 @@ use Rattle.tgs_opening.specs.declared.presented.Presented.{Presented}
 use Rattle.tgs_opening.specs.declared.refusal.TgsRefusal.TheVariants.{Repeated}
 use Rattle.replay.specs.Opening.{opening_floor}
 use Rattle.replay.specs.Tidied.{empty_memory}
+use Rattle.kdc_state.proofs.MemoriesSeen.{memory_resumed}
 use Rattle.kdc_state.proofs.Tidied.{memory_tidied}
 use Rattle.kdc_state.specs.State.{memory_of}
 use Rattle.replay.specs.declared.opening.Opening.TheVariants.{Restart as OpenedAgain}
@@ -44,36 +48,41 @@ use Rattle.principals.specs.declared.change.Change.{Change as PrincipalChange}
 use Rattle.principals.specs.declared.change.ChangeFault.{ChangeFault}
 use Rattle.kdc_core.specs.Answer.{answer_of, counted, keep, after_incoming, stamped}
 use Rattle.kdc_core.specs.Contents.{contents, names_answered, presented_in}
-use Rattle.kdc_core.specs.ContentsLaws.{AreNamesOf, are_names_of, nothing_kept}
+use Rattle.kdc_core.specs.ContentsLaws.{AreNamesOf, are_names_of, nothing_kept as as_it_was}
 use Rattle.kdc_core.specs.Request.{request_of}
 use Rattle.kdc_core.specs.Run.{after_event, unless_faulty}
 use Rattle.kdc_core.specs.Struck.{is_client}
 use Rattle.kdc_core.proofs.Marking.{error_bears_none}
-use Rattle.kdc_core.specs.Tickets.{bears_ticket, OneTicket, RestartsFollow, RestartsFrom, ticket_by, ticket_to}
+use Rattle.kdc_core.specs.Tickets.{bears_ticket, OneTicket, RestartsFollow, RestartsFrom, ResumesFollow, ResumesWithAll, ticket_by, ticket_to}
 use Rattle.kdc_core.specs.View.{Named, View, as_view, components_of, memory_named, named, presented_view, tgs_view, view, view_of}
 use Rattle.kdc_core.specs.declared.contents.Contents.{Contents}
 use Rattle.kdc_core.specs.declared.contents.Contents.TheVariants.{NoRequest, AsReq, RefusedTgsReq, TgsReq}
 use Rattle.kdc_core.specs.declared.run.Event.{Event}
-use Rattle.kdc_core.specs.declared.run.Event.TheVariants.{Request, Change, Replace, Tidy, Restart, Reopen}
+use Rattle.kdc_core.specs.declared.run.Event.TheVariants.{Request, Change, Replace, Tidy, Restart, Reopen, Resume}
 
--- ---- what a memory gives: the reply that is made, or the one that was kept
+-- ---- what a memory gives: a fresh authenticator the reply that is made, of which what is kept has all or nothing; one
+-- ---- that comes again the reply that was kept, if that bears a ticket
 
-abbrev give : Kept → Verdict Kept → Option (List ℕ)
-give made Fresh = Some made.reply
-give made Skew = None
-give made (Repeat kept) = Some kept.reply
-give made NoPlace = None
+abbrev Give : Kept → Verdict Kept → List ℕ → Type 0
+Give made Fresh octets = bears_ticket made.reply ≡ true → octets ≡ made.reply
+Give made Skew octets = ⊥
+Give made (Repeat kept) octets = (bears_ticket kept.reply ≡ true) × (octets ≡ kept.reply)
+Give made NoPlace octets = ⊥
 
-same_some : {X : Type 0} (x y : X) → Some x ≡ Some y → y ≡ x
-same_some x y e = cc
-
-gives_kept : GivesOf give (λ kept. kept.reply)
+gives_kept : GivesOf Give
 gives_kept = record {
-  fresh = λ made x e. same_some made.reply x e;
-  repeat = λ made kept x e. same_some kept.reply x e;
-  skew = λ made. refl;
-  full = λ made. refl;
+  fresh = λ made x given other y again. again.1 ∙ sym (given again.0);
+  repeat = λ made kept x given other y again. again.1 ∙ sym given.1;
+  skew = λ made x given. given;
+  full = λ made x given. given;
 }
+
+-- the reply with a ticket is what is kept, unless the request is too long for that
+fresh_kept : (request octets : List ℕ) (long : Bool)
+    → bears_ticket (if long then nothing_kept else record { request = request; reply = octets; bears = Ticket }).reply ≡ true
+    → octets ≡ (if long then nothing_kept else record { request = request; reply = octets; bears = Ticket }).reply
+fresh_kept request octets true bears = absurd cc
+fresh_kept request octets false bears = refl
 
 -- ---- errors bear no ticket
 
@@ -84,6 +93,10 @@ handed stamp octets = if bears_ticket octets then Some (stamp, octets) else None
 handed_where : {X : Type 0} (b : Bool) (x : X) (P : X → Type 0) → P x → IfSome (if b then Some x else None) P
 handed_where true x P p = p
 handed_where false x P p = tt
+
+handed_if : {X : Type 0} (b : Bool) (x : X) (P : X → Type 0) → (b ≡ true → P x) → IfSome (if b then Some x else None) P
+handed_if true x P p = p refl
+handed_if false x P p = tt
 
 handed_none : {X : Type 0} (b : Bool) (x : X) (P : X → Type 0) → b ≡ false → IfSome (if b then Some x else None) P
 handed_none true x P e = absurd cc
@@ -144,7 +157,7 @@ module _ (v : TgsView) (incoming : Incoming) (body : ReqBody) (p : Presented) wh
   -- ---- and what it hands out
 
   abbrev Gives : Option (MemoryEvent Kept) → Stamp × List ℕ → Type 0
-  Gives = IsGiven give v.limits.remembered v.memory
+  Gives = IsGiven Give v.limits.remembered v.memory
 
   room_gives : verdict_on v incoming.at.sec p ≡ Fresh → (octets : List ℕ) → IfSome (handed (stamp_of p) (within_room v incoming body octets).reply) (Gives (option_map asked (within_room v incoming body octets).kept))
   room_gives e octets = by_length (nat_lt incoming.room (length octets))
@@ -153,12 +166,15 @@ module _ (v : TgsView) (incoming : Incoming) (body : ReqBody) (p : Presented) wh
           → IfSome (handed (stamp_of p) (if long then too_long else remembering incoming.octets Ticket octets).reply)
           (Gives (option_map asked (if long then too_long else remembering incoming.octets Ticket octets).kept))
       by_length true = error_handed (stamp_of p) (too_big v.realm incoming.at body) _
-      by_length false = handed_where (bears_ticket octets) (stamp_of p, octets) _ (refl, ap (give (record { request = incoming.octets; reply = octets; bears = Ticket })) e)
+      by_length false = handed_where (bears_ticket octets) (stamp_of p, octets) _
+          (refl, subst (λ v. Give (kept_of incoming.octets Ticket octets) v octets) (sym e) (fresh_kept incoming.octets octets (nat_lt longest_kept (length incoming.octets))))
 
   kept_gives : (kept : Kept) → verdict_on v incoming.at.sec p ≡ Repeat kept → (long : Bool)
       → IfSome (handed (stamp_of p) (if long then too_long else no_trace kept.reply).reply) (Gives (Some (asked kept)))
   kept_gives kept e true = error_handed (stamp_of p) (too_big v.realm incoming.at body) _
-  kept_gives kept e false = handed_where (bears_ticket kept.reply) (stamp_of p, kept.reply) _ (refl, ap (give kept) e)
+  kept_gives kept e false =
+      handed_if (bears_ticket kept.reply) (stamp_of p, kept.reply) _
+      (λ borne. (refl, subst (λ v. Give kept v kept.reply) (sym e) (borne, refl)))
 
   repeat_gives : (kept : Kept) → verdict_on v incoming.at.sec p ≡ Repeat kept → (same : Bool)
       → IfSome (handed (stamp_of p) (if same then kept_reply v incoming body kept else refused v incoming.at body Repeated).reply) (Gives (Some (asked kept)))
@@ -207,13 +223,17 @@ module _ (c : Components) where
   abbrev happens_request : State → Incoming → Option (MemoryEvent Kept)
   happens_request state incoming = happens_of (view state incoming.octets) incoming (contents (view state incoming.octets) (request_of incoming.octets))
 
+  abbrev changes : State → Event → MemoryChange Kept
+  changes state (Request at random room octets) = Happens (happens_request state (record { at = at; random = random; room = room; octets = octets }))
+  changes state (Change change) = Happens None
+  changes state (Replace database) = Happens None
+  changes state (Tidy at) = Happens (Some (Tidied at.sec))
+  changes state (Restart at) = Happens (Some (Restarted at.sec))
+  changes state (Reopen database limits at) = Happens (Some (Restarted at.sec))
+  changes state (Resume database limits resumption) = Resumes (resumed_memory resumption c)
+
   abbrev happens : State → Event → Option (MemoryEvent Kept)
-  happens state (Request at random room octets) = happens_request state (record { at = at; random = random; room = room; octets = octets })
-  happens state (Change change) = None
-  happens state (Replace database) = None
-  happens state (Tidy at) = Some (Tidied at.sec)
-  happens state (Restart at) = Some (Restarted at.sec)
-  happens state (Reopen database limits at) = Some (Restarted at.sec)
+  happens state event = happened (changes state event)
 
   -- ---- the memory moves as they say
 
@@ -236,7 +256,7 @@ module _ (c : Components) where
       (subst (λ m. unwrap_or (counted memory failures) m ≡ next_if state.limits.remembered m (option_map Counted failures)) is (counted_moves state.limits.remembered memory failures))
   as_moves state None memory is failures = refl
 
-  named_memory : (state : State) (names : Named) → IfSome names.client (λ name. (view_of state names).memory ≡ memory_of state name)
+  pub named_memory : (state : State) (names : Named) → IfSome names.client (λ name. (view_of state names).memory ≡ memory_of state name)
   named_memory state names = by_name names.client
     where
       by_name : (o : Option Components) → IfSome o (λ name. memory_named state o ≡ memory_of state name)
@@ -250,12 +270,12 @@ module _ (c : Components) where
       ≡ next_if state.limits.remembered (memory_of state c) (happens_of (view_of state names) incoming held)
 
   moves_of : (state : State) (incoming : Incoming) (names : Named) (held : Contents) → AreNamesOf names held → Moves state incoming names held
-  moves_of state incoming names NoRequest names_are = ap (λ s. memory_of s c) (nothing_kept state names.client)
+  moves_of state incoming names NoRequest names_are = ap (λ s. memory_of s c) (as_it_was state names.client)
   moves_of state incoming names (AsReq message) names_are =
       subst (λ (n : Named). Moves state incoming n (AsReq message)) (sym names_are)
       (as_moves state (components_of message.body.value.cname) (view_of state (names_answered (AsReq message))).memory (named_memory state (names_answered (AsReq message)))
       (as_answer (as_view (view_of state (names_answered (AsReq message)))) incoming message).failures)
-  moves_of state incoming names (RefusedTgsReq message rejected) names_are = ap (λ s. memory_of s c) (nothing_kept state names.client)
+  moves_of state incoming names (RefusedTgsReq message rejected) names_are = ap (λ s. memory_of s c) (as_it_was state names.client)
   moves_of state incoming names (TgsReq message p) names_are =
       let v = tgs_view (presented_view state message p) in
       subst (λ (n : Named). Moves state incoming n (TgsReq message p)) (sym names_are)
@@ -266,33 +286,34 @@ module _ (c : Components) where
   moves_request state incoming =
       moves_of state incoming (named state incoming.octets) (contents (view state incoming.octets) (request_of incoming.octets)) (are_names_of state (request_of incoming.octets))
 
-  unless_memory : (state : State) (change : PrincipalChange) (fault : Option ChangeFault) → memory_of (unless_faulty fault state (record state { database = changed state.database change })) c ≡ memory_of state c
+  pub unless_memory : (state : State) (change : PrincipalChange) (fault : Option ChangeFault) → memory_of (unless_faulty fault state (record state { database = changed state.database change })) c ≡ memory_of state c
   unless_memory state change (Some fault) = refl
   unless_memory state change None = refl
 
-  replaced_memory : (state : State) (database : Principals) (b : Bool) → memory_of (if b then record state { database = database } else state) c ≡ memory_of state c
+  pub replaced_memory : (state : State) (database : Principals) (b : Bool) → memory_of (if b then record state { database = database } else state) c ≡ memory_of state c
   replaced_memory state database true = refl
   replaced_memory state database false = refl
 
   opened_again : (at : Moment) → unwrap_or (map.get (map.empty {R = name_cmp}) c) (empty_memory {T = Kept} (opening_floor (OpenedAgain at))) ≡ empty_memory (opening_floor (OpenedAgain at))
   opened_again at = ap (λ o. unwrap_or o (empty_memory (opening_floor (OpenedAgain at)))) (get-empty name_cmp c)
 
-  moves : (state : State) (event : Event) → memory_of (after_event state event) c ≡ next_if state.limits.remembered (memory_of state c) (happens state event)
+  moves : (state : State) (event : Event) → memory_of (after_event state event) c ≡ next_by state.limits.remembered (memory_of state c) (changes state event)
   moves state (Request at random room octets) = moves_request state (record { at = at; random = random; room = room; octets = octets })
   moves state (Change change) = unless_memory state change (refusal state.database change)
   moves state (Replace database) = replaced_memory state database (pointwise nat_eq database.realm state.database.realm)
   moves state (Tidy at) = memory_tidied state at c
   moves state (Restart at) = opened_again at
   moves state (Reopen database limits at) = opened_again at
+  moves state (Resume database limits resumption) = memory_resumed c database limits resumption
 
   -- ---- what is handed out is given
 
-  given_for : (limit : ℕ) (state : State) (name : Components) (handed : Option (Stamp × List ℕ)) (o : Option (MemoryEvent Kept)) → IfSome handed (IsGiven give limit (memory_of state name) o)
-      → IfSome (if eq_by_cmp name_cmp c name then handed else None) (IsGiven give limit (memory_of state c) (for_name name o))
+  given_for : (limit : ℕ) (state : State) (name : Components) (handed : Option (Stamp × List ℕ)) (o : Option (MemoryEvent Kept)) → IfSome handed (IsGiven Give limit (memory_of state name) o)
+      → IfSome (if eq_by_cmp name_cmp c name then handed else None) (IsGiven Give limit (memory_of state c) (for_name name o))
   given_for limit state name handed o given = by_test (eq_by_cmp name_cmp c name) refl
     where
-      by_test : (b : Bool) → eq_by_cmp name_cmp c name ≡ b → IfSome (if b then handed else None) (IsGiven give limit (memory_of state c) (if b then o else None))
-      by_test true same = subst (λ n. IfSome handed (IsGiven give limit (memory_of state n) o)) (sym (same_name c name same)) given
+      by_test : (b : Bool) → eq_by_cmp name_cmp c name ≡ b → IfSome (if b then handed else None) (IsGiven Give limit (memory_of state c) (if b then o else None))
+      by_test true same = subst (λ n. IfSome handed (IsGiven Give limit (memory_of state n) o)) (sym (same_name c name same)) given
       by_test false apart = tt
 
   nothing_given : (b : Bool) (P : Stamp × List ℕ → Type 0) → IfSome (if b then None else None) P
@@ -302,7 +323,7 @@ module _ (c : Components) where
   abbrev HandsOut : State → Incoming → Named → Contents → Type 0
   HandsOut state incoming names held =
       IfSome (if is_client c names.client then ticket_by (presented_in held) (answer_of (view_of state names) incoming held).reply else None)
-      (IsGiven give state.limits.remembered (memory_of state c) (happens_of (view_of state names) incoming held))
+      (IsGiven Give state.limits.remembered (memory_of state c) (happens_of (view_of state names) incoming held))
 
   gives_of : (state : State) (incoming : Incoming) (names : Named) (held : Contents) → AreNamesOf names held → HandsOut state incoming names held
   gives_of state incoming names NoRequest names_are = nothing_given (is_client c names.client) _
@@ -319,13 +340,14 @@ module _ (c : Components) where
   gives_request state incoming =
       gives_of state incoming (named state incoming.octets) (contents (view state incoming.octets) (request_of incoming.octets)) (are_names_of state (request_of incoming.octets))
 
-  gives : (state : State) (event : Event) → IfSome (ticket_to c state event) (IsGiven give state.limits.remembered (memory_of state c) (happens state event))
+  gives : (state : State) (event : Event) → IfSome (ticket_to c state event) (IsGivenBy Give state.limits.remembered (memory_of state c) (changes state event))
   gives state (Request at random room octets) = gives_request state (record { at = at; random = random; room = room; octets = octets })
   gives state (Change change) = tt
   gives state (Replace database) = tt
   gives state (Tidy at) = tt
   gives state (Restart at) = tt
   gives state (Reopen database limits at) = tt
+  gives state (Resume database limits resumption) = tt
 
   -- ---- restarts
 
@@ -395,6 +417,7 @@ module _ (c : Components) where
   restarts_from now state (Tidy at ∷ events) from = restarts_from now (after_event state (Tidy at)) events from
   restarts_from now state (Restart at ∷ events) from = (from.0, restarts_from now (after_event state (Restart at)) events from.1)
   restarts_from now state (Reopen database limits at ∷ events) from = (from.0, restarts_from now (after_event state (Reopen database limits at)) events from.1)
+  restarts_from now state (Resume database limits resumption ∷ events) from = restarts_from now (after_event state (Resume database limits resumption)) events from
 
   restarts_follow : (state : State) (events : List Event) → RestartsFollow events → MemoryFollow (collected after_event happens state events)
   restarts_follow state [] follow = tt
@@ -407,11 +430,28 @@ module _ (c : Components) where
   restarts_follow state (Tidy at ∷ events) follow = restarts_follow (after_event state (Tidy at)) events follow
   restarts_follow state (Restart at ∷ events) follow = restarts_follow (after_event state (Restart at)) events follow
   restarts_follow state (Reopen database limits at ∷ events) follow = restarts_follow (after_event state (Reopen database limits at)) events follow
+  restarts_follow state (Resume database limits resumption ∷ events) follow = restarts_follow (after_event state (Resume database limits resumption)) events follow
 
-  keeps : Keeps give (λ (state : State). state.limits.remembered) after_event (λ state. memory_of state c) happens (ticket_to c)
+  -- ---- resuming
+
+  takes_over : (state : State) (event : Event) → ResumesWithAll state event → TakesOver Give (memory_of state c) (changes state event)
+  takes_over state (Request at random room request) all = tt
+  takes_over state (Change change) all = tt
+  takes_over state (Replace database) all = tt
+  takes_over state (Tidy at) all = tt
+  takes_over state (Restart at) all = tt
+  takes_over state (Reopen database limits at) all = tt
+  takes_over state (Resume database limits resumption) all =
+      (all c, resumed_are (λ kept. (made : Kept) (octets : List ℕ) → Give made (Repeat kept) octets → ⊥) (λ made octets given. let bears = given.0 in cc) resumption c)
+
+  all_take_over : (state : State) (events : List Event) → ResumesFollow state events → AllTakeOver Give after_event (λ state. memory_of state c) changes state events
+  all_take_over state [] follow = tt
+  all_take_over state (event ∷ events) follow = (takes_over state event follow.0, all_take_over (after_event state event) events follow.1)
+
+  keeps : Keeps Give (λ (state : State). state.limits.remembered) after_event (λ state. memory_of state c) changes (ticket_to c)
   keeps = record { moves = moves; gives = gives }
 
 pub one_ticket : (state : State) (events : List Event) → OneTicket state events
-one_ticket state events follow c =
-    one_for_each give (λ kept. kept.reply) gives_kept (λ state. state.limits.remembered) after_event (λ state. memory_of state c) (happens c) (ticket_to c) (keeps c) state events
-    (restarts_follow c state events follow)
+one_ticket state events follow resumes c =
+    one_for_each Give gives_kept (λ state. state.limits.remembered) after_event (λ state. memory_of state c) (changes c) (ticket_to c) (keeps c) state events
+    (restarts_follow c state events follow) (all_take_over c state events resumes)

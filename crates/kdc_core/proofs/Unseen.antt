@@ -49,7 +49,7 @@ use Rattle.kdc_core.specs.View.{View, as_view, memory_named, named, tgs_view, vi
 use Rattle.kdc_core.specs.declared.contents.Contents.{Contents}
 use Rattle.kdc_core.specs.declared.contents.Contents.TheVariants.{NoRequest, AsReq, RefusedTgsReq, TgsReq}
 use Rattle.kdc_core.specs.declared.run.Event.{Event}
-use Rattle.kdc_core.specs.declared.run.Event.TheVariants.{Request, Change, Replace, Tidy, Restart, Reopen}
+use Rattle.kdc_core.specs.declared.run.Event.TheVariants.{Request, Change, Replace, Tidy, Restart, Reopen, Resume}
 
 -- two memories that are alike from a second on
 abbrev AreAlike : ℤ → Memory Kept → Memory Kept → Type 0
@@ -249,6 +249,7 @@ from_both a b (Replace database ∷ events) p q = from_both a b events p q
 from_both a b (Tidy at ∷ events) p q = from_both a b events p q
 from_both a b (Restart at ∷ events) p q = from_both a b events p q
 from_both a b (Reopen database limits at ∷ events) p q = from_both a b events p q
+from_both a b (Resume database limits resumption ∷ events) p q = from_both a b events p q
 
 all_same : (second : ℤ) (events : List Event) (s t : State) → Alike second s t → RequestsFrom second events → RequestsFollow events → replies_to is_request s events ≡ replies_to is_request t (untidied events)
 all_same second [] s t alike from follow = refl
@@ -267,6 +268,8 @@ all_same second (Restart at ∷ events) s t alike from follow =
     all_same second events (restarted s at) (restarted t at) (restarted_alike second s t at alike) from follow
 all_same second (Reopen database limits at ∷ events) s t alike from follow =
     all_same second events (after_event s (Reopen database limits at)) (after_event t (Reopen database limits at)) (record { database = refl; limits = refl; memories = λ name. refl }) from follow
+all_same second (Resume database limits resumption ∷ events) s t alike from follow =
+    all_same second events (after_event s (Resume database limits resumption)) (after_event t (Resume database limits resumption)) (record { database = refl; limits = refl; memories = λ name. refl }) from follow
 
 pub tidies_unseen : TidiesUnseen
 tidies_unseen state [] follow = refl
@@ -279,3 +282,4 @@ tidies_unseen state (Tidy at ∷ events) follow =
     follow.0 follow.1
 tidies_unseen state (Restart at ∷ events) follow = tidies_unseen (after_event state (Restart at)) events follow
 tidies_unseen state (Reopen database limits at ∷ events) follow = tidies_unseen (after_event state (Reopen database limits at)) events follow
+tidies_unseen state (Resume database limits resumption ∷ events) follow = tidies_unseen (after_event state (Resume database limits resumption)) events follow

@@ -7,6 +7,7 @@ use Rattle.replay.specs.Memory.{remembered}
 use Rattle.replay.specs.Stamp.{is_untimely}
 use Rattle.replay.specs.declared.failures.Failures.{Failures}
 use Rattle.replay.specs.declared.keep.Kept.{Kept}
+use Rattle.replay.specs.declared.seen.Seen.{Seen}
 use Rattle.kdc_state.specs.declared.state.State.{State}
 use Rattle.kdc_state.specs.State.{memory_of, with_memory}
 use Rattle.tgs_opening.specs.declared.presented.Presented.{Presented}
@@ -23,6 +24,17 @@ counted_of None failures = None
 abbrev pub stamped_of : Moment → Presented → Option Kept → Option Mark
 stamped_of at p (Some kept) = Some (Stamped p.ticket.cname at p.authenticator.ctime p.authenticator.cusec kept)
 stamped_of at p None = None
+
+-- the authenticator that is remembered by it, if one is
+abbrev pub seen_in : Option Mark → Option Seen
+seen_in (Some (Counted client failures)) = None
+seen_in (Some (Stamped client at ctime cusec kept)) = Some (record { client = client; ctime = ctime; cusec = cusec })
+seen_in None = None
+
+-- where there is no reply, none is
+abbrev pub seen_left : Option (Option Mark) → Option Seen
+seen_left (Some mark) = seen_in mark
+seen_left None = None
 
 abbrev pub after_mark : State → Mark → State
 after_mark state (Counted client failures) =

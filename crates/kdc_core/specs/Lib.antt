@@ -6,6 +6,7 @@ pub mod Issued
 pub mod Account
 pub mod Run
 pub mod Struck
+pub mod Remembered
 pub mod Tickets
 pub mod Marked
 pub mod Unaffected
@@ -17,3 +18,4 @@ pub mod AgreementLaws
 pub mod RequestLaws
 pub mod IssuedLaws
 pub mod AccountLaws
+pub mod RememberedLaws

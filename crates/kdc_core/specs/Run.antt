@@ -8,13 +8,15 @@ use Rattle.principals.specs.Change.{refusal, changed}
 use Rattle.principals.specs.Database.{Principals}
 use Rattle.principals.specs.declared.change.Change.{Change as PrincipalChange}
 use Rattle.principals.specs.declared.change.ChangeFault.{ChangeFault}
+use Rattle.replay.specs.declared.seen.Resumption.{Resumption}
 use Rattle.replay.specs.declared.opening.Opening.TheVariants.{Restart as OpenedAgain}
+use Rattle.kdc_state.specs.Resumed.{resumed_state}
 use Rattle.kdc_state.specs.State.{opened_state, restarted, tidied_state}
 use Rattle.kdc_state.specs.declared.state.State.{State}
 use Rattle.kdc_core.specs.Answer.{answer, after_request}
 use Rattle.kdc_core.specs.View.{view}
 use Rattle.kdc_core.specs.declared.run.Event.{Event}
-use Rattle.kdc_core.specs.declared.run.Event.TheVariants.{Request, Change, Replace, Tidy, Restart, Reopen}
+use Rattle.kdc_core.specs.declared.run.Event.TheVariants.{Request, Change, Replace, Tidy, Restart, Reopen, Resume}
 
 -- a request alone gets a reply
 abbrev pub event_reply : State → Event → Option (List ℕ)
@@ -24,6 +26,7 @@ event_reply state (Replace database) = None
 event_reply state (Tidy at) = None
 event_reply state (Restart at) = None
 event_reply state (Reopen database limits at) = None
+event_reply state (Resume database limits resumption) = None
 
 abbrev pub unless_faulty : Option ChangeFault → State → State → State
 unless_faulty (Some fault) old new = old
@@ -46,6 +49,7 @@ after_event state (Replace database) = replaced state database
 after_event state (Tidy at) = tidied_state state at
 after_event state (Restart at) = restarted state at
 after_event state (Reopen database limits at) = opened_state database limits (OpenedAgain at)
+after_event state (Resume database limits resumption) = resumed_state database limits resumption
 
 -- the reply to each event, in order
 abbrev pub replies : State → List Event → List (Option (List ℕ))
@@ -77,6 +81,10 @@ restart_alone state at = refl
 pub reopen_alone : (state : State) (database : Principals) (limits : Limits) (at : Moment)
     → run state (Reopen database limits at ∷ []) ≡ opened_state database limits (OpenedAgain at)
 reopen_alone state database limits at = refl
+
+pub resume_alone : (state : State) (database : Principals) (limits : Limits) (resumption : Resumption)
+    → run state (Resume database limits resumption ∷ []) ≡ resumed_state database limits resumption
+resume_alone state database limits resumption = refl
 
 -- a restart opens again with what there is
 pub restart_reopens : (state : State) (at : Moment)

@@ -11,7 +11,7 @@ use Rattle.kdc_state.specs.declared.state.State.{State}
 use Rattle.kdc_core.specs.Run.{after_event, event_reply, replies, run}
 use Rattle.kdc_core.specs.View.{named}
 use Rattle.kdc_core.specs.declared.run.Event.{Event}
-use Rattle.kdc_core.specs.declared.run.Event.TheVariants.{Request, Change, Replace, Tidy, Restart, Reopen}
+use Rattle.kdc_core.specs.declared.run.Event.TheVariants.{Request, Change, Replace, Tidy, Restart, Reopen, Resume}
 
 -- a set of names, as a test
 abbrev pub Names : Type 0
@@ -29,6 +29,7 @@ is_request state (Replace database) = false
 is_request state (Tidy at) = false
 is_request state (Restart at) = false
 is_request state (Reopen database limits at) = false
+is_request state (Resume database limits resumption) = false
 
 -- a request whose named client is c
 abbrev pub is_request_of : Components → State → Event → Bool
@@ -38,6 +39,7 @@ is_request_of c state (Replace database) = false
 is_request_of c state (Tidy at) = false
 is_request_of c state (Restart at) = false
 is_request_of c state (Reopen database limits at) = false
+is_request_of c state (Resume database limits resumption) = false
 
 -- whether an event is left for the client c, where the rows of S count: a request of c, a change of c's row or of one
 -- of S, and each replacement, tidying and restart
@@ -48,6 +50,7 @@ is_left c S state (Replace database) = true
 is_left c S state (Tidy at) = true
 is_left c S state (Restart at) = true
 is_left c S state (Reopen database limits at) = true
+is_left c S state (Resume database limits resumption) = true
 
 -- the events that are left, each judged at its place in the run
 abbrev pub strike : Components → Names → State → List Event → List Event
@@ -74,6 +77,7 @@ NamesWithin c S state (Replace database) = ⊤
 NamesWithin c S state (Tidy at) = ⊤
 NamesWithin c S state (Restart at) = ⊤
 NamesWithin c S state (Reopen database limits at) = IsTrue (S (ticket_granter database.realm))
+NamesWithin c S state (Resume database limits resumption) = IsTrue (S (ticket_granter database.realm))
 
 -- each service that a request of c names at its place in the run is in S, and the ticket-granting service of each realm
 -- that is opened

@@ -8,12 +8,13 @@ use Rattle.tgs_exchange.specs.Decision.{stamp_of}
 use Rattle.tgs_opening.specs.declared.presented.Presented.{Presented}
 use Rattle.kdc_state.specs.declared.state.State.{State}
 use Rattle.kdc_core.specs.Request.{Request as Read, request_of}
+use Rattle.kdc_core.specs.Remembered.{Covers}
 use Rattle.kdc_core.specs.Run.{after_event, event_reply}
 use Rattle.kdc_core.specs.Struck.{is_client}
 use Rattle.kdc_core.specs.Contents.{contents, presented_in}
 use Rattle.kdc_core.specs.View.{named, named_by, view_of}
 use Rattle.kdc_core.specs.declared.run.Event.{Event}
-use Rattle.kdc_core.specs.declared.run.Event.TheVariants.{Request, Change, Replace, Tidy, Restart, Reopen}
+use Rattle.kdc_core.specs.declared.run.Event.TheVariants.{Request, Change, Replace, Tidy, Restart, Reopen, Resume}
 
 -- no restart is before this second
 abbrev pub RestartsFrom : ℤ → List Event → Type 0
@@ -24,6 +25,7 @@ RestartsFrom now (Replace database ∷ events) = RestartsFrom now events
 RestartsFrom now (Tidy at ∷ events) = RestartsFrom now events
 RestartsFrom now (Restart at ∷ events) = (now ≤ℤ at.sec) × RestartsFrom now events
 RestartsFrom now (Reopen database limits at ∷ events) = (now ≤ℤ at.sec) × RestartsFrom now events
+RestartsFrom now (Resume database limits resumption ∷ events) = RestartsFrom now events
 
 -- No restart is before the second of a request that came earlier. This is all that is asked, and less than that moments
 -- rise: those of requests may go back while the KDC runs, those of restarts among themselves, and tidying may be of any
@@ -36,6 +38,22 @@ RestartsFollow (Replace database ∷ events) = RestartsFollow events
 RestartsFollow (Tidy at ∷ events) = RestartsFollow events
 RestartsFollow (Restart at ∷ events) = RestartsFollow events
 RestartsFollow (Reopen database limits at ∷ events) = RestartsFollow events
+RestartsFollow (Resume database limits resumption ∷ events) = RestartsFollow events
+
+-- what is resumed with covers the state
+abbrev pub ResumesWithAll : State → Event → Type 0
+ResumesWithAll state (Request at random room request) = ⊤
+ResumesWithAll state (Change change) = ⊤
+ResumesWithAll state (Replace database) = ⊤
+ResumesWithAll state (Tidy at) = ⊤
+ResumesWithAll state (Restart at) = ⊤
+ResumesWithAll state (Reopen database limits at) = ⊤
+ResumesWithAll state (Resume database limits resumption) = Covers state resumption
+
+-- so it is at each place of a run where it resumes; nothing is asked of the moment there
+abbrev pub ResumesFollow : State → List Event → Type 0
+ResumesFollow state [] = ⊤
+ResumesFollow state (event ∷ events) = ResumesWithAll state event × ResumesFollow (after_event state event) events
 
 -- what a request presents, where it is a TGS-REQ that was opened
 abbrev pub presented_by : State → Option Read → Option Presented
@@ -60,6 +78,7 @@ ticket_for c state (Replace database) reply = None
 ticket_for c state (Tidy at) reply = None
 ticket_for c state (Restart at) reply = None
 ticket_for c state (Reopen database limits at) reply = None
+ticket_for c state (Resume database limits resumption) reply = None
 
 -- the ticket that a request of the client c gets by an authenticator
 abbrev pub ticket_to : Components → State → Event → Option (Stamp × List ℕ)
@@ -72,4 +91,5 @@ tickets_to c = collected after_event (ticket_to c)
 -- One ticket per authenticator: where two TGS-REQs of one client have authenticators with the same ctime and cusec, and
 -- both replies bear a ticket, the replies are equal.
 abbrev pub OneTicket : State → List Event → Type 0
-OneTicket state events = RestartsFollow events → (c : Components) → OneForEach (tickets_to c state events)
+OneTicket state events =
+    RestartsFollow events → ResumesFollow state events → (c : Components) → OneForEach (tickets_to c state events)

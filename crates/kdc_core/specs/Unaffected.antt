@@ -3,11 +3,13 @@ use Rattle.std.specs.Prelude.{◌≡◌, ⊤, IsTrue, List, [], ◌∷◌}
 use Rattle.std.specs.FinMap as map
 use Rattle.krb_fields.specs.Name.{Components}
 use Rattle.principals.specs.Database.{Principals, ticket_granter}
+use Rattle.replay.specs.Resumed.{resumed_memory}
+use Rattle.replay.specs.declared.seen.Resumption.{Resumption}
 use Rattle.kdc_state.specs.declared.state.State.{State}
 use Rattle.kdc_core.specs.Run.{run}
 use Rattle.kdc_core.specs.Struck.{AgreesFor, Names, ServicesWithin, is_request_of, replies_to, strike}
 use Rattle.kdc_core.specs.declared.run.Event.{Event}
-use Rattle.kdc_core.specs.declared.run.Event.TheVariants.{Request, Change, Replace, Tidy, Restart, Reopen}
+use Rattle.kdc_core.specs.declared.run.Event.TheVariants.{Request, Change, Replace, Tidy, Restart, Reopen, Resume}
 
 -- a second database of the same realm has the same row for c and the same rows for S
 pub record HasSameRows (c : Components) (S : Names) (database other : Principals) : Type 0 where
@@ -15,7 +17,8 @@ pub record HasSameRows (c : Components) (S : Names) (database other : Principals
   pub row : map.get other.rows c ≡ map.get database.rows c
   pub rows : (name : Components) → IsTrue (S name) → map.get other.rows name ≡ map.get database.rows name
 
--- the same event; a database that takes a place may have other rows for others
+-- the same event; a database that takes a place may have other rows for others, and what is resumed with may have other
+-- authenticators of others
 abbrev pub IsAlike : Components → Names → Event → Event → Type 0
 IsAlike c S (Request at random room request) other = other ≡ Request at random room request
 IsAlike c S (Change change) other = other ≡ Change change
@@ -24,6 +27,9 @@ IsAlike c S (Tidy at) other = other ≡ Tidy at
 IsAlike c S (Restart at) other = other ≡ Restart at
 IsAlike c S (Reopen database limits at) other =
     (new : Principals) × (other ≡ Reopen new limits at) × HasSameRows c S database new
+IsAlike c S (Resume database limits resumption) other =
+    (new : Principals) × (others : Resumption) × (other ≡ Resume new limits others) × HasSameRows c S database new
+    × (resumed_memory others c ≡ resumed_memory resumption c)
 
 -- one by one
 abbrev pub AreAlike : Components → Names → List Event → List Event → Type 0
@@ -37,9 +43,9 @@ pub record GetsTheSame (c : Components) (S : Names) (state other : State) (event
   pub replies : replies_to (is_request_of c) other others ≡ replies_to (is_request_of c) state events
   pub afterwards : AgreesFor c S (run state events) (run other others)
 
--- Two runs of which the same is left for c but for the rows of others in the databases that take a place, from states
--- that agree for it: for every set S of names that holds the ticket-granting service and each service that c's requests
--- name in either.
+-- Two runs of which the same is left for c but for what databases that take a place and resumptions have of others,
+-- from states that agree for it: for every set S of names that holds the ticket-granting service and each service that
+-- c's requests name in either.
 abbrev pub Unaffected : Type 0
 Unaffected = (c : Components) (S : Names) (state other : State) (events others : List Event)
     → IsTrue (S (ticket_granter state.database.realm)) → ServicesWithin c S state events

@@ -3,7 +3,7 @@ use Rattle.std.specs.Prelude.{◌≡◌, ℤ, ◌≤ℤ◌, ⊤, List, [], ◌�
 use Rattle.kdc_state.specs.declared.state.State.{State}
 use Rattle.kdc_core.specs.Struck.{is_request, replies_to}
 use Rattle.kdc_core.specs.declared.run.Event.{Event}
-use Rattle.kdc_core.specs.declared.run.Event.TheVariants.{Request, Change, Replace, Tidy, Restart, Reopen}
+use Rattle.kdc_core.specs.declared.run.Event.TheVariants.{Request, Change, Replace, Tidy, Restart, Reopen, Resume}
 
 -- no request is before this second
 abbrev pub RequestsFrom : ℤ → List Event → Type 0
@@ -14,6 +14,7 @@ RequestsFrom second (Replace database ∷ events) = RequestsFrom second events
 RequestsFrom second (Tidy at ∷ events) = RequestsFrom second events
 RequestsFrom second (Restart at ∷ events) = RequestsFrom second events
 RequestsFrom second (Reopen database limits at ∷ events) = RequestsFrom second events
+RequestsFrom second (Resume database limits resumption ∷ events) = RequestsFrom second events
 
 -- no request is before the second of a tidying that came earlier
 abbrev pub RequestsFollow : List Event → Type 0
@@ -24,6 +25,7 @@ RequestsFollow (Replace database ∷ events) = RequestsFollow events
 RequestsFollow (Tidy at ∷ events) = RequestsFrom at.sec events × RequestsFollow events
 RequestsFollow (Restart at ∷ events) = RequestsFollow events
 RequestsFollow (Reopen database limits at ∷ events) = RequestsFollow events
+RequestsFollow (Resume database limits resumption ∷ events) = RequestsFollow events
 
 -- all events but the tidyings
 abbrev pub untidied : List Event → List Event
@@ -34,6 +36,7 @@ untidied (Replace database ∷ events) = Replace database ∷ untidied events
 untidied (Tidy at ∷ events) = untidied events
 untidied (Restart at ∷ events) = Restart at ∷ untidied events
 untidied (Reopen database limits at ∷ events) = Reopen database limits at ∷ untidied events
+untidied (Resume database limits resumption ∷ events) = Resume database limits resumption ∷ untidied events
 
 -- Where no request is before a tidying that came earlier, the requests get the replies that they get where nothing is
 -- tidied.

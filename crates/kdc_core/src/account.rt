@@ -7,6 +7,7 @@ use crate::contents::GREATEST_REQUEST;
 use as_exchange::AsOutcome;
 use krb_fields::{Name, NameRef};
 use krb_types::read_kdc_req;
+use replay::Seen;
 use std::alloc::{AllocError, Global};
 use tgs_exchange::TgsOutcome;
 
@@ -31,11 +32,13 @@ pub enum Account<N = Name> {
     },
 }
 
-/// The reply to a request, if it gets one, and the account of it.
+/// The reply to a request, if it gets one, the account of it, and the authenticator that it leaves remembered, if any.
 #[derive(Drop)]
 pub struct Answer<'q> {
     pub reply: Option<Vec<u8>>,
     pub account: Account<NameRef<'q>>,
+    /// A request that is refused may leave one, too: where its authenticator was new.
+    pub remembered: Option<Seen>,
 }
 
 /// The names that a request gives: its fields cname and sname (RFC 4120, section 5.4.1).

@@ -1,9 +1,9 @@
 //! The AS exchange of a KDC.
-ghost use Rattle.std.specs.Prelude.{◌≡◌, Some, IfOk, IfSome, option_copied};
+ghost use Rattle.std.specs.Prelude.{◌≡◌, None, Some, IfOk, IfSome, option_copied};
 ghost use Rattle.as_exchange.specs.Known.{IsKnown};
 ghost use Rattle.krb_types.specs.declared.kdc_req.Exchange.TheVariants.{As};
 ghost use Rattle.kdc_core.specs.Account.{account_of, AccountSpelledOf};
-ghost use Rattle.kdc_core.specs.After.{after, counted_of, MayStay};
+ghost use Rattle.kdc_core.specs.After.{after, counted_of, seen_in, MayStay};
 ghost use Rattle.kdc_core.specs.Answer.{answer_of, keep, OpensOf, SpelledOf};
 ghost use Rattle.kdc_core.specs.Contents.{IsShortName};
 ghost use Rattle.kdc_core.specs.View.{as_view, components_of, memory_named, view_in};
@@ -39,6 +39,8 @@ pub fn as_reply<'q>(
         (answer_of (view_in state.now As message.now) incoming.now (AsReq message.now)).kept) }
     ensures account { IfOk result (λ reply.
         reply.account ≡ account_of (view_in state.now As message.now) incoming.now (AsReq message.now)) }
+    // No authenticator is remembered.
+    ensures remembered { IfOk result (λ reply. seen_in reply.mark ≡ None) }
     ensures outcome_spelled { IfOk result (λ reply.
         AccountSpelledOf (view_in state.now As message.now) incoming.now (AsReq message.now) reply.octets.items) }
     ensures spelled { IfOk result (λ reply.
@@ -100,6 +102,7 @@ fn counted_of(
     failures: Option<Failures>,
 ) -> Result<Option<Mark>, AllocError>
     ensures value { IfOk result (λ mark. mark ≡ counted_of (option_copied name.entry) failures) }
+    ensures none_seen { IfOk result (λ mark. seen_in mark ≡ None) }
     ensures stays { (state : states.State) → IfOk result (λ mark. IfSome mark (MayStay state)) }
 {
     let Some(name) = name else {

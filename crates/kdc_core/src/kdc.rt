@@ -7,14 +7,17 @@ ghost use Rattle.krb_fields.specs.Name.{Components};
 ghost use Rattle.kdc_core.specs.Account.{account, account_names, AccountHolds};
 ghost use Rattle.kdc_core.specs.Answer.{answer, after_request, error_octets, IsReply, OneTicketTwoKeys};
 ghost use Rattle.kdc_core.specs.Issued.{issued, IsReplyOf};
+ghost use Rattle.kdc_core.specs.Remembered.{remembered};
 ghost use Rattle.kdc_core.specs.Request.{Request, SpellsRequest, request_of};
 ghost use Rattle.kdc_core.specs.Run.{after_event, replaced};
 ghost use Rattle.kdc_core.specs.View.{Agrees, named, view};
-ghost use Rattle.kdc_core.specs.declared.run.Event.TheVariants.{Reopen};
+ghost use Rattle.kdc_core.specs.declared.run.Event.TheVariants.{Reopen, Resume};
 ghost use Rattle.krb_fields.specs.declared.moment.Moment as moments;
 ghost use Rattle.replay.specs.declared.opening.Opening.TheVariants.{Restart};
+ghost use Rattle.kdc_state.specs.Resumed.{resumed_state};
 ghost use Rattle.kdc_state.specs.State.{opened_state, memory_of, restarted, tidied_state};
 ghost use Rattle.replay.specs.Memory as memories;
+ghost use Rattle.replay.specs.Resumed.{resumed_memory};
 ghost use Rattle.replay.specs.Tidied.{tidied};
 ghost use Rattle.kdc_state.specs.declared.state.State as states;
 ghost use Rattle.principals.specs.Change.{refusal, changed};
@@ -26,6 +29,7 @@ use kdc_state::{Opening, State};
 use krb_fields::{Code, Moment, Name};
 use principal_rows::{Limits, Row};
 use principals::{Change, ChangeFault, Database};
+use replay::Resumption;
 use sealed_parts::ReadyKeys;
 use std::alloc::{AllocError, Global};
 use std::error::Error;
@@ -83,6 +87,27 @@ impl Kdc {
         })
     }
 
+    /// Starts with a database and with what was remembered before: each client's authenticators that were seen are
+    /// refused if they come again, and so is what is below the floor. Nothing else of the time before is.
+    pub fn resume(
+        alloc: Global,
+        database: Database,
+        limits: Limits,
+        resumption: &Resumption,
+    ) -> Result<Kdc, AllocError>
+        ensures resumed { IfOk result (λ kdc. kdc ≡ resumed_state database limits resumption.now) }
+        // It stands as a run does that goes on by it, whatever there was before.
+        ensures goes_on { (state : states.State)
+            → IfOk result (λ kdc. kdc ≡ after_event state (Resume database limits resumption.now)) }
+        // Each client has the memory of the resumption.
+        ensures memories { (name : Components)
+            → IfOk result (λ kdc. memory_of kdc name ≡ resumed_memory resumption.now name) }
+    {
+        let ready = ReadyKeys::new(alloc)?;
+        let state = State::resume(alloc, database, limits, resumption)?;
+        Ok(Kdc { state, ready })
+    }
+
     /// Answers a request, whatever its octets are: with the octets of a reply or none, and an account of the request.
     ///
     /// `at` is the moment of the request, `random` are 64 random octets, and `room` is the most octets of a
@@ -120,6 +145,9 @@ impl Kdc {
         // The account is the one that the same rules give.
         ensures account { IfOk result (λ given.
             given.account ≡ account (view self.old request.now) at random.now room request.now) }
+        // The authenticator that it leaves remembered is the one that the same rules remember: a resumption has to have it.
+        ensures remembered { IfOk result (λ given.
+            given.remembered ≡ remembered (view self.old request.now) at random.now room request.now) }
         // It names the client and the service that the request names.
         ensures names { IfOk result (λ given. account_names given.account ≡ named self.old request.now) }
         // The account is true of the reply. If it says that a ticket was issued, the octets spell the reply for a ticket

@@ -1,6 +1,7 @@
 //! What holds of every run, from whatever state: a law over the definitions that `Kdc::run` meets.
 ghost use Rattle.std.specs.Prelude.{List};
 ghost use Rattle.kdc_core.specs.Marked.{KeepsMarked};
+ghost use Rattle.kdc_core.specs.Remembered.{CanBeResumed};
 ghost use Rattle.kdc_core.specs.Struck.{Isolation};
 ghost use Rattle.kdc_core.specs.Tickets.{OneTicket};
 ghost use Rattle.kdc_core.specs.Unaffected.{Unaffected};
@@ -20,6 +21,8 @@ pub fn any_run()
     ensures one_ticket { (state : State) (events : List Event) → OneTicket state events }
     // What is kept of an authenticator says whether its reply bears a ticket, in every run that begins with an opening.
     ensures marked { KeepsMarked }
+    // What a process began with, and what it has remembered since, is enough to resume with.
+    ensures resumable { CanBeResumed }
     // As long as no request is before a tidying that came earlier, requests get what they get where nothing is tidied.
     ensures unseen { TidiesUnseen }
 {}

@@ -17,7 +17,7 @@ pub use kdc::{Kdc, OtherRealm};
 pub use kdc_replies::Granted;
 pub use kdc_state::Opening;
 pub use laws::any_run;
-pub use replay::Bears;
+pub use replay::{Bears, Resumption, Seen};
 pub use run::{Event, RunFault};
 pub use tgs_exchange::TgsOutcome;
 pub use tgs_opening::TgsRefusal;

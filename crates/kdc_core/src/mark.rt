@@ -1,10 +1,10 @@
 //! What a request leaves to be kept of its client.
-ghost use Rattle.std.specs.Prelude.{◌≡◌, OnOk, OnErr};
-ghost use Rattle.kdc_core.specs.After.{after_mark, MayStay};
+ghost use Rattle.std.specs.Prelude.{◌≡◌, IfOk, IfSome, OnOk, OnErr};
+ghost use Rattle.kdc_core.specs.After.{after, seen_in, MayStay};
 
 use kdc_state::State;
 use krb_fields::{Moment, Name};
-use replay::{Failures, Kept};
+use replay::{Failures, Kept, Seen};
 use std::alloc::{AllocError, Global};
 
 /// What changes in the memory of a client.
@@ -25,20 +25,39 @@ pub enum Mark {
     },
 }
 
-/// Keeps it. Where memory runs out, nothing changes.
-pub fn keep_mark(state: &mut State, alloc: Global, mark: Mark) -> Result<(), AllocError>
-    requires { MayStay state.old mark }
-    ensures ok { OnOk result (state.new ≡ after_mark state.old mark) }
+/// Keeps it, if there is anything to keep, and returns the authenticator that is remembered, if one is. Where memory
+/// runs out, nothing changes.
+pub fn keep_mark(
+    state: &mut State,
+    alloc: Global,
+    mark: Option<Mark>,
+) -> Result<Option<Seen>, AllocError>
+    requires { IfSome mark (MayStay state.old) }
+    ensures ok { OnOk result (state.new ≡ after state.old mark) }
+    ensures seen { IfOk result (λ seen. seen ≡ seen_in mark) }
     ensures err { OnErr result (state.new ≡ state.old) }
 {
     match mark {
-        Mark::Counted { client, failures } => state.set_failures(alloc, &client, failures),
-        Mark::Stamped {
-            client,
-            at,
-            ctime,
-            cusec,
-            kept,
-        } => state.remember(alloc, &client, at, ctime, cusec, kept),
+        None => Ok(None),
+        Some(Mark::Counted { client, failures }) => {
+            state.set_failures(alloc, &client, failures)?;
+            Ok(None)
+        }
+        Some(
+            Mark::Stamped {
+                client,
+                at,
+                ctime,
+                cusec,
+                kept,
+            },
+        ) => {
+            state.remember(alloc, &client, at, ctime, cusec, kept)?;
+            Ok(Some(Seen {
+                client,
+                ctime,
+                cusec,
+            }))
+        }
     }
 }

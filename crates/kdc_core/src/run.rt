@@ -2,6 +2,7 @@
 ghost use Rattle.std.specs.Prelude.{◌≡◌, ◌<◌, ◌++◌, ◌∷◌, [], length, map, take, IfOk, IfErr, IfSome, IsOk, OnOk, OnErr};
 ghost use Rattle.std.specs.Prelude.{option_map};
 ghost use Rattle.kdc_core.specs.Run.{after_change, after_event, event_reply, replies, run};
+ghost use Rattle.kdc_state.specs.Resumed.{resumed_state};
 ghost use Rattle.kdc_state.specs.State.{opened_state};
 ghost use Rattle.replay.specs.declared.opening.Opening.TheVariants.{Restart};
 ghost use Rattle.kdc_core.specs.Struck.{Isolation};
@@ -14,6 +15,7 @@ use krb_elements::Octets;
 use krb_fields::Moment;
 use principal_rows::Limits;
 use principals::{Change, ChangeFault, Database};
+use replay::Resumption;
 use std::alloc::{AllocError, Global};
 use std::error::Error;
 use std::fmt;
@@ -51,6 +53,12 @@ pub enum Event {
         limits: Limits,
         at: Moment,
     },
+    /// The KDC starts again with this database and these limits, and with what was remembered as far as that is known.
+    Resume {
+        database: Database,
+        limits: Limits,
+        resumption: Resumption,
+    },
 }
 
 /// Out of memory during a run. The KDC stands after the events that are done.
@@ -71,8 +79,9 @@ impl fmt::Display for RunFault {
 impl Error for RunFault {}
 
 impl Kdc {
-    /// Handles the requests, makes the changes, replacements and restarts, and tidies, in their order. It gives the reply,
-    /// or none, of each event: a request alone has one, and a change that is refused leaves everything as it was.
+    /// Handles the requests, makes the changes, replacements and restarts, resumes and tidies, in their order. It gives
+    /// the reply, or none, of each event: a request alone has one, and a change that is refused leaves everything as it
+    /// was.
     ///
     /// A run ends early only if memory runs out. It can go on at the first event that is not done.
     pub fn run(&mut self, alloc: Global, events: &[Event]) -> Result<Vec<Option<Vec<u8>>>, RunFault>
@@ -89,7 +98,8 @@ impl Kdc {
         ensures done_state { IfErr result (λ fault. self.new ≡ run self.old (take fault.done events.now)) }
         // What others ask, and what is changed of others, never changes what a client gets.
         ensures isolation { Isolation self.old events.now }
-        // No authenticator buys two different tickets, through replacements and restarts too.
+        // No authenticator buys two different tickets, through replacements and restarts too, and where what is resumed
+        // with takes over all that was remembered.
         ensures one_ticket { OneTicket self.old events.now }
         // Both hold of the events that are done, too.
         ensures done_isolation { IfErr result (λ fault. Isolation self.old (take fault.done events.now)) }
@@ -167,6 +177,14 @@ impl Kdc {
                 self.reopen(alloc, database, *limits, *at)?;
                 Ok(None)
             }
+            Event::Resume {
+                database,
+                limits,
+                resumption,
+            } => {
+                self.resume_with(alloc, database, *limits, resumption)?;
+                Ok(None)
+            }
         }
     }
 
@@ -183,6 +201,22 @@ impl Kdc {
     {
         let database = database.copy(alloc)?;
         *self = Kdc::open(alloc, database, limits, Opening::Restart(at))?;
+        Ok(())
+    }
+
+    /// Resumes with a copy of this database.
+    fn resume_with(
+        &mut self,
+        alloc: Global,
+        database: &Database,
+        limits: Limits,
+        resumption: &Resumption,
+    ) -> Result<(), AllocError>
+        ensures state { OnOk result (self.new ≡ resumed_state database.now limits resumption.now) }
+        ensures err { OnErr result (self.new ≡ self.old) }
+    {
+        let database = database.copy(alloc)?;
+        *self = Kdc::resume(alloc, database, limits, resumption)?;
         Ok(())
     }
 

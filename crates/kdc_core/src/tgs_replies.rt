@@ -6,9 +6,10 @@ ghost use Rattle.tgs_exchange.specs.Outcome.{tgs_outcome, OutcomeSpelled};
 ghost use Rattle.replay.specs.Tidied.{empty_memory};
 ghost use Rattle.kdc_state.specs.State.{memory_of};
 ghost use Rattle.kdc_core.specs.Account.{account_of, AccountSpelledOf};
-ghost use Rattle.kdc_core.specs.After.{after, stamped_of, MayStay};
+ghost use Rattle.kdc_core.specs.After.{after, seen_in, stamped_of, MayStay};
 ghost use Rattle.kdc_core.specs.Answer.{answer_of, keep, OpensOf, SpelledOf};
 ghost use Rattle.kdc_core.specs.Contents.{IsShortData, IsShortName};
+ghost use Rattle.kdc_core.specs.Remembered.{remembered_of, seen_of};
 ghost use Rattle.kdc_core.specs.View.{presented_view, tgs_view};
 ghost use Rattle.kdc_core.specs.declared.contents.Contents.TheVariants.{TgsReq};
 
@@ -46,6 +47,9 @@ pub fn tgs_reply<'q>(
     ensures account { IfOk result (λ reply.
         reply.account ≡ account_of (presented_view state.now message.now presented) incoming.now
         (TgsReq message.now presented)) }
+    ensures remembered { IfOk result (λ reply.
+        seen_in reply.mark
+        ≡ remembered_of (presented_view state.now message.now presented) incoming.now (TgsReq message.now presented)) }
     ensures outcome_spelled { IfOk result (λ reply.
         AccountSpelledOf (presented_view state.now message.now presented) incoming.now (TgsReq message.now presented)
         reply.octets.items) }
@@ -162,7 +166,8 @@ fn stamped_of(
     presented: &Presented,
     kept: Option<Kept>,
 ) -> Result<Option<Mark>, AllocError>
-    ensures { IfOk result (λ mark. mark ≡ stamped_of at presented.now kept) }
+    ensures mark { IfOk result (λ mark. mark ≡ stamped_of at presented.now kept) }
+    ensures seen { IfOk result (λ mark. seen_in mark ≡ seen_of presented.now kept) }
 {
     let Some(kept) = kept else {
         return Ok(None);

@@ -6,10 +6,12 @@ use Rattle.krb_fields.specs.declared.moment.Moment.{Moment}
 use Rattle.kdc_core.specs.Account.{Account, AccountHolds, account, names_in, with_names}
 use Rattle.kdc_core.specs.AccountLaws.{names_are_given}
 use Rattle.kdc_core.specs.Answer.{answer}
+use Rattle.kdc_core.specs.Remembered.{remembered}
 use Rattle.kdc_core.specs.Request.{request_of}
 use Rattle.kdc_core.specs.View.{View, view}
 use Rattle.kdc_core.specs.declared.account.Account.TheVariants.{NoRequest, As, Tgs}
 use Rattle.kdc_core.specs.declared.account.RequestNames.{RequestNames}
+use Rattle.replay.specs.declared.seen.Seen.{Seen}
 use Rattle.kdc_hub.specs.Accounts.{FirstHold, ReplyHolds, if_answered}
 use Rattle.kdc_hub.specs.Hub.{requests_of}
 use Rattle.kdc_hub.specs.Issuing.{Issuing, after, kept_account, names_kept, reply_by, reply_of, reply_with}
@@ -21,15 +23,16 @@ module _ (keeps : Bool) (v : View) (at : Moment) (random : List ℕ) (room : ℕ
   named false = refl
 
   -- a reply with the names that were kept is the reply with its account
-  pub made : (octets : Option (List ℕ)) (a : Account) (names : Option RequestNames) → octets ≡ (answer v at random room request).reply
-      → a ≡ account v at random room request → names ≡ names_kept keeps request → reply_with octets a names ≡ reply_by keeps v at random room request
+  pub made : (octets : Option (List ℕ)) (a : Account) (names : Option RequestNames) (seen : Option Seen) → octets ≡ (answer v at random room request).reply
+      → a ≡ account v at random room request → names ≡ names_kept keeps request → seen ≡ remembered v at random room request
+      → reply_with octets a names seen ≡ reply_by keeps v at random room request
   unfolding reply_by
-  made octets a names octets_are is names_are =
-      (λ k. reply_with (octets_are k) (is k) (names_are k))
-      ∙ ap (λ (x : Option Account). option_map (λ (message : List ℕ). let r : Reply = record { message = message; account = x } in r) (answer v at random room request).reply) (named keeps)
+  made octets a names seen octets_are is names_are seen_is =
+      (λ k. reply_with (octets_are k) (is k) (names_are k) (seen_is k))
+      ∙ ap (λ (x : Option Account). option_map (λ (message : List ℕ). let r : Reply = record { message = message; account = x; remembered = remembered v at random room request } in r) (answer v at random room request).reply) (named keeps)
 
   true_of : (b : Bool) (o : Option (List ℕ)) (a : Account) → AccountHolds v at random (request_of request) a o
-      → ReplyHolds v at random request (option_map (λ (message : List ℕ). let r : Reply = record { message = message; account = kept_account b a } in r) o)
+      → ReplyHolds v at random request (option_map (λ (message : List ℕ). let r : Reply = record { message = message; account = kept_account b a; remembered = remembered v at random room request } in r) o)
   true_of true (Some octets) a h = h
   true_of false (Some octets) a h = tt
   true_of b None NoRequest h = h

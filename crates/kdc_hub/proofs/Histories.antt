@@ -10,20 +10,23 @@ use Rattle.krb_fields.specs.declared.moment.Moment.{Moment}
 use Rattle.krb_fields.specs.Name.{Components}
 use Rattle.replay.specs.Run.{OneForEach, with_any}
 use Rattle.kdc_state.specs.declared.state.State.{State}
+use Rattle.kdc_core.proofs.Covering.{can_be_resumed as core}
 use Rattle.kdc_core.proofs.Isolation.{isolation, unaffected as unaffected_run}
 use Rattle.kdc_core.proofs.Tickets.{one_ticket}
 use Rattle.kdc_core.proofs.Unseen.{tidies_unseen}
 use Rattle.kdc_core.proofs.Runs.{replies_append, run_append}
 use Rattle.kdc_core.specs.Account.{Account, account, account_to}
 use Rattle.kdc_core.specs.AccountLaws.{unanswered}
+use Rattle.kdc_core.specs.Remembered.{Covers, event_remembers, remembered, resumption_at, run_remembers}
+use Rattle.kdc_core.specs.RememberedLaws.{unremembered}
 use Rattle.kdc_core.specs.Answer.{answer, answer_to}
 use Rattle.kdc_core.specs.Run.{after_event, event_reply, replies, run}
 use Rattle.kdc_core.specs.View.{View, view}
 use Rattle.kdc_core.specs.declared.account.Account.TheVariants.{NoRequest}
 use Rattle.kdc_core.specs.Struck.{AgreesFor, is_request, is_request_of, replies_to}
-use Rattle.kdc_core.specs.Tickets.{RestartsFollow, RestartsFrom, ticket_to, tickets_to}
+use Rattle.kdc_core.specs.Tickets.{RestartsFollow, RestartsFrom, ResumesFollow, ResumesWithAll, ticket_to, tickets_to}
 use Rattle.kdc_core.specs.declared.run.Event.{Event as KdcEvent}
-use Rattle.kdc_core.specs.declared.run.Event.TheVariants.{Request, Change, Replace, Tidy, Restart, Reopen}
+use Rattle.kdc_core.specs.declared.run.Event.TheVariants.{Request, Change, Replace, Tidy, Restart, Reopen, Resume}
 use Rattle.kdc_hub.specs.declared.event.Action.{Action}
 use Rattle.kdc_hub.specs.declared.event.Action.TheVariants.{Write, Close}
 use Rattle.kdc_hub.specs.declared.event.CloseReason.TheVariants.{BadLength, Full}
@@ -35,7 +38,7 @@ use Rattle.kdc_hub.specs.Issuing.{Issuing, after, kept_account, reply_by, reply_
 use Rattle.kdc_hub.specs.StreamStep.{StreamStep, action_for, after_reply, after_some, messages_step, reply_then, stream_room, stream_step}
 use Rattle.kdc_hub.specs.Hub.{Standing, Step, brings, datagram_room, greatest_request, hub_step, kept, most_connections, nothing, opened, requests_of as messages_of, sent, stopped}
 use Rattle.kdc_hub.specs.Logged.{Entry, Stop, logged, step_by, step_of}
-use Rattle.kdc_hub.specs.History.{AnswersWhoAsked, Begins, IsOfOneProcess, IsOneRun, KeepsAccounts, account_in, accounts, accounts_in, entry_replies, event_accounts, octets_of, turn_accounts, OneTicketInProcess, OneTicketSent, ServesAlike, TidiesUnseen, Turn, Unaffected, Stepped, Replaced, Tidied, Reopened, after_turn, after_turns, answers, asked, chosen, event_requests, events_in, others_after, piece_requests, replies_by, reply_in, requests_by, stopped_requests, stream_requests, tickets_among, turn_events, turn_replies}
+use Rattle.kdc_hub.specs.History.{AnswersWhoAsked, Begins, CanBeResumed, IsOfOneProcess, IsOneRun, KeepsAccounts, account_in, accounts, accounts_in, entry_replies, event_accounts, octets_of, turn_accounts, OneTicketInProcess, OneTicketSent, ServesAlike, TidiesUnseen, Turn, Unaffected, Stepped, Replaced, Tidied, Reopened, Resumed, after_turn, all_seen_by, seen_by, turn_remembers, after_turns, answers, asked, chosen, event_requests, events_in, others_after, piece_requests, remembered_in, replies_by, reply_in, requests_by, stopped_requests, stream_requests, tickets_among, turn_events, turn_replies}
 
 -- ---- one request
 
@@ -47,6 +50,7 @@ event_given kept state (Replace database) = None
 event_given kept state (Tidy at) = None
 event_given kept state (Restart at) = None
 event_given kept state (Reopen database limits at) = None
+event_given kept state (Resume database limits resumption) = None
 
 abbrev given : Bool → State → List KdcEvent → List (Option Reply)
 given kept state [] = []
@@ -58,7 +62,7 @@ unfolding reply_by
 octets_given kept v at random room request = by_reply (answer v at random room request).reply
   where
     by_reply : (o : Option (List ℕ))
-        → octets_of (option_map (λ message. record { message = message; account = kept_account kept (account v at random room request) }) o) ≡ o
+        → octets_of (option_map (λ message. record { message = message; account = kept_account kept (account v at random room request); remembered = remembered v at random room request }) o) ≡ o
     by_reply (Some octets) = refl
     by_reply None = refl
 
@@ -69,6 +73,7 @@ event_octets kept state (Replace database) = refl
 event_octets kept state (Tidy at) = refl
 event_octets kept state (Restart at) = refl
 event_octets kept state (Reopen database limits at) = refl
+event_octets kept state (Resume database limits resumption) = refl
 
 replies_given : (kept : Bool) (state : State) (events : List KdcEvent) → map_list octets_of (given kept state events) ≡ replies state events
 replies_given kept state [] = refl
@@ -81,10 +86,41 @@ account_given v at random room request =
     by_reply (answer v at random room request).reply (unanswered v (record { at = at; random = random; room = room; octets = request }))
   where
     by_reply : (o : Option (List ℕ)) → (o ≡ None → account v at random room request ≡ NoRequest)
-        → account_in (option_map (λ message. record { message = message; account = kept_account true (account v at random room request) }) o)
+        → account_in (option_map (λ message. record { message = message; account = kept_account true (account v at random room request); remembered = remembered v at random room request }) o)
         ≡ Some (account v at random room request)
     by_reply (Some octets) none = refl
     by_reply None none = ap Some (sym (none refl))
+
+seen_given : (kept : Bool) (v : View) (at : Moment) (random : List ℕ) (room : ℕ) (request : List ℕ)
+    → seen_by (reply_by kept v at random room request) ≡ with_any (remembered v at random room request) []
+unfolding reply_by
+seen_given kept v at random room request =
+    by_reply (answer v at random room request).reply (unremembered v (record { at = at; random = random; room = room; octets = request }))
+  where
+    by_reply : (o : Option (List ℕ)) → (o ≡ None → remembered v at random room request ≡ None)
+        → seen_by (option_map (λ message. record { message = message; account = kept_account kept (account v at random room request); remembered = remembered v at random room request }) o)
+        ≡ with_any (remembered v at random room request) []
+    by_reply (Some octets) none = refl
+    by_reply None none = ap (λ o. with_any o []) (sym (none refl))
+
+event_seen : (kept : Bool) (state : State) (event : KdcEvent) → seen_by (event_given kept state event) ≡ with_any (event_remembers state event) []
+event_seen kept state (Request at random room request) = seen_given kept (view state request) at random room request
+event_seen kept state (Change change) = refl
+event_seen kept state (Replace database) = refl
+event_seen kept state (Tidy at) = refl
+event_seen kept state (Restart at) = refl
+event_seen kept state (Reopen database limits at) = refl
+event_seen kept state (Resume database limits resumption) = refl
+
+remembers_given : (kept : Bool) (state : State) (events : List KdcEvent) → all_seen_by (given kept state events) ≡ run_remembers state events
+remembers_given kept state [] = refl
+remembers_given kept state (event ∷ events) = λ k. event_seen kept state event k ++ remembers_given kept (after_event state event) events k
+
+remembers_append : (state : State) (events others : List KdcEvent) → run_remembers state (events ++ others) ≡ run_remembers state events ++ run_remembers (run state events) others
+remembers_append state [] others = refl
+remembers_append state (event ∷ events) others =
+    ap (λ l. with_any (event_remembers state event) [] ++ l) (remembers_append (after_event state event) events others)
+    ∙ sym (append_assoc (with_any (event_remembers state event) []) (run_remembers (after_event state event) events) (run_remembers (run (after_event state event) events) others))
 
 asked_reply : (i : Issuing) (at : Moment) (room : ℕ) (request : List ℕ) → event_given i.accounts i.kdc (asked i at room request) ≡ reply_of i at room request
 unfolding reply_of
@@ -322,6 +358,7 @@ IsAsked (Replace database) = ⊥
 IsAsked (Tidy at) = ⊥
 IsAsked (Restart at) = ⊥
 IsAsked (Reopen database limits at) = ⊥
+IsAsked (Resume database limits resumption) = ⊥
 
 abbrev AreAsked : List KdcEvent → Type 0
 AreAsked = AllByRecursion IsAsked
@@ -369,6 +406,7 @@ accounts_given kept is state (Replace database ∷ events) asked = absurd asked.
 accounts_given kept is state (Tidy at ∷ events) asked = absurd asked.0
 accounts_given kept is state (Restart at ∷ events) asked = absurd asked.0
 accounts_given kept is state (Reopen database limits at ∷ events) asked = absurd asked.0
+accounts_given kept is state (Resume database limits resumption ∷ events) asked = absurd asked.0
 
 accounts_append : (state : State) (events others : List KdcEvent) → accounts state (events ++ others) ≡ accounts state events ++ accounts (run state events) others
 accounts_append state [] others = refl
@@ -382,6 +420,7 @@ record IsTurned (hub : Standing) (turn : Turn) : Type 0 where
   pub sent : turn_replies hub turn ≡ replies hub.issuing.kdc (turn_events hub turn)
   pub accounts_are : IsTrue hub.issuing.accounts → turn_accounts hub turn ≡ accounts hub.issuing.kdc (turn_events hub turn)
   pub keeps : IsTrue hub.issuing.accounts → KeepsAccounts turn → IsTrue (after_turn hub turn).issuing.accounts
+  pub seen : turn_remembers hub turn ≡ run_remembers hub.issuing.kdc (turn_events hub turn)
   pub kdc : (after_turn hub turn).issuing.kdc ≡ run hub.issuing.kdc (turn_events hub turn)
 
 turned : (hub : Standing) (turn : Turn) → IsTurned hub turn
@@ -393,14 +432,16 @@ turned hub (Stepped entry) =
       accounts_are = λ kept. ap (map_list account_in) step.sent
           ∙ accounts_given hub.issuing.accounts kept hub.issuing.kdc requests (entry_asks hub entry.at entry.stop entry.event);
       keeps = λ kept all. step.accounts ∙ kept;
+      seen = ap all_seen_by step.sent ∙ remembers_given hub.issuing.accounts hub.issuing.kdc requests;
       kdc = step.kdc;
     }
-turned hub (Replaced database) = record { sent = refl; accounts_are = λ kept. refl; keeps = λ kept all. kept; kdc = refl }
-turned hub (Tidied at) = record { sent = refl; accounts_are = λ kept. refl; keeps = λ kept all. kept; kdc = refl }
-turned hub (Reopened database limits at random kept) = record { sent = refl; accounts_are = λ before. refl; keeps = λ before all. all; kdc = refl }
+turned hub (Replaced database) = record { sent = refl; accounts_are = λ kept. refl; keeps = λ kept all. kept; seen = refl; kdc = refl }
+turned hub (Tidied at) = record { sent = refl; accounts_are = λ kept. refl; keeps = λ kept all. kept; seen = refl; kdc = refl }
+turned hub (Reopened database limits at random kept) = record { sent = refl; accounts_are = λ before. refl; keeps = λ before all. all; seen = refl; kdc = refl }
+turned hub (Resumed database limits resumption random kept) = record { sent = refl; accounts_are = λ before. refl; keeps = λ before all. all; seen = refl; kdc = refl }
 
 pub one_run : (start : Standing) (turns : List Turn) → IsOneRun start turns
-one_run start [] = record { replies_are = refl; accounts_are = λ kept all. refl; kdc_is = refl }
+one_run start [] = record { replies_are = refl; accounts_are = λ kept all. refl; remembered_are = refl; kdc_is = refl }
 one_run start (turn ∷ turns) =
     let first = turned start turn in
     let rest = one_run (after_turn start turn) turns in
@@ -410,6 +451,8 @@ one_run start (turn ∷ turns) =
       accounts_are = λ kept all.
           (λ k. first.accounts_are kept k ++ (rest.accounts_are (first.keeps kept all.0) all.1 ∙ ap (λ s. accounts s later) first.kdc) k)
           ∙ sym (accounts_append start.issuing.kdc (turn_events start turn) later);
+      remembered_are = (λ k. first.seen k ++ (rest.remembered_are ∙ ap (λ s. run_remembers s later) first.kdc) k)
+          ∙ sym (remembers_append start.issuing.kdc (turn_events start turn) later);
       kdc_is = rest.kdc_is ∙ ap (λ s. run s later) first.kdc ∙ sym (run_append start.issuing.kdc (turn_events start turn) later);
     }
 
@@ -470,15 +513,22 @@ unseen start turns follow =
     ∙ chosen_of_run is_request k (events_in start turns)
     ∙ tidies_unseen k (events_in start turns) follow
 
+pub can_be_resumed : CanBeResumed
+can_be_resumed start turns r now covers up_to =
+    let is = one_run start turns in
+    subst (λ (s : State). Covers s (resumption_at now r (remembered_in start turns))) (sym is.kdc_is)
+    (subst (λ seen. Covers (run start.issuing.kdc (events_in start turns)) (resumption_at now r seen)) (sym is.remembered_are)
+    (core.on start.issuing.kdc (events_in start turns) r now covers up_to))
+
 tickets_are : (c : Components) (state : State) (events : List KdcEvent) → tickets_among c state events (replies state events) ≡ tickets_to c state events
 tickets_are c state [] = refl
 tickets_are c state (event ∷ events) = ap (with_any (ticket_to c state event)) (tickets_are c (after_event state event) events)
 
 pub one_ticket_sent : OneTicketSent
-one_ticket_sent start turns follow c =
+one_ticket_sent start turns follow resumes c =
     let k = start.issuing.kdc in
     let events = events_in start turns in
-    subst OneForEach (sym (ap (tickets_among c k events) (one_run start turns).replies_are ∙ tickets_are c k events)) (one_ticket k events follow c)
+    subst OneForEach (sym (ap (tickets_among c k events) (one_run start turns).replies_are ∙ tickets_are c k events)) (one_ticket k events follow resumes c)
 
 -- ---- one process
 
@@ -489,6 +539,7 @@ GoesOn (Replace database) = ⊤
 GoesOn (Tidy at) = ⊤
 GoesOn (Restart at) = ⊥
 GoesOn (Reopen database limits at) = ⊥
+GoesOn (Resume database limits resumption) = ⊥
 
 abbrev AllGoOn : List KdcEvent → Type 0
 AllGoOn = AllByRecursion GoesOn
@@ -504,6 +555,7 @@ goes_on_asked (Replace database) a = tt
 goes_on_asked (Tidy at) a = tt
 goes_on_asked (Restart at) a = a
 goes_on_asked (Reopen database limits at) a = a
+goes_on_asked (Resume database limits resumption) a = a
 
 all_go_on : (events : List KdcEvent) → AreAsked events → AllGoOn events
 all_go_on [] a = tt
@@ -514,6 +566,7 @@ turn_asks hub (Stepped entry) one = all_go_on _ (entry_asks hub entry.at entry.s
 turn_asks hub (Replaced database) one = (tt, tt)
 turn_asks hub (Tidied at) one = (tt, tt)
 turn_asks hub (Reopened database limits at random kept) one = absurd one
+turn_asks hub (Resumed database limits resumption random kept) one = absurd one
 
 turns_ask : (start : Standing) (turns : List Turn) → AllByRecursion IsOfOneProcess turns → AllGoOn (events_in start turns)
 turns_ask start [] one = tt
@@ -527,6 +580,7 @@ from_any now (Replace database ∷ events) a = from_any now events a.1
 from_any now (Tidy at ∷ events) a = from_any now events a.1
 from_any now (Restart at ∷ events) a = absurd a.0
 from_any now (Reopen database limits at ∷ events) a = absurd a.0
+from_any now (Resume database limits resumption ∷ events) a = absurd a.0
 
 follow_any : (events : List KdcEvent) → AllGoOn events → RestartsFollow events
 follow_any [] a = tt
@@ -536,6 +590,21 @@ follow_any (Replace database ∷ events) a = follow_any events a.1
 follow_any (Tidy at ∷ events) a = follow_any events a.1
 follow_any (Restart at ∷ events) a = absurd a.0
 follow_any (Reopen database limits at ∷ events) a = absurd a.0
+follow_any (Resume database limits resumption ∷ events) a = absurd a.0
+
+resume_none : (state : State) (event : KdcEvent) → GoesOn event → ResumesWithAll state event
+resume_none state (Request at random room request) a = tt
+resume_none state (Change change) a = tt
+resume_none state (Replace database) a = tt
+resume_none state (Tidy at) a = tt
+resume_none state (Restart at) a = tt
+resume_none state (Reopen database limits at) a = tt
+resume_none state (Resume database limits resumption) a = absurd a
+
+resumes_any : (state : State) (events : List KdcEvent) → AllGoOn events → ResumesFollow state events
+resumes_any state [] a = tt
+resumes_any state (event ∷ events) a = (resume_none state event a.0, resumes_any (after_event state event) events a.1)
 
 pub one_ticket_in_process : OneTicketInProcess
-one_ticket_in_process start turns one c = one_ticket_sent start turns (follow_any _ (turns_ask start turns one)) c
+one_ticket_in_process start turns one c =
+    one_ticket_sent start turns (follow_any _ (turns_ask start turns one)) (resumes_any start.issuing.kdc _ (turns_ask start turns one)) c

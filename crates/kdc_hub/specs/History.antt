@@ -1,5 +1,5 @@
 -- What a server lives through, and what that is in the one run of its key distribution centre.
-use Rattle.std.specs.Prelude.{◌≡◌, ℕ, ⊤, zero, suc, Bool, List, [], ◌∷◌, ◌++◌, length, map as map_list, take, Option}
+use Rattle.std.specs.Prelude.{◌≡◌, ℕ, ℤ, ⊤, zero, suc, Bool, List, [], ◌∷◌, ◌++◌, length, map as map_list, take, Option}
 use Rattle.std.specs.Prelude.{Some, None, if◌then◌else◌, IsTrue, option_map}
 use Rattle.std.specs.FinMap as map
 use Rattle.std.specs.List.{AllByRecursion, flat_map}
@@ -12,18 +12,23 @@ use Rattle.principals.specs.Database.{Principals, ticket_granter}
 use Rattle.replay.specs.declared.opening.Opening.TheVariants.{Restart}
 use Rattle.replay.specs.Run.{OneForEach, with_any}
 use Rattle.replay.specs.Stamp.{Stamp}
+use Rattle.replay.specs.declared.seen.Resumption.{Resumption}
+use Rattle.replay.specs.declared.seen.Seen.{Seen}
+use Rattle.kdc_state.specs.Resumed.{resumed_state}
 use Rattle.kdc_state.specs.State.{opened_state, tidied_state}
 use Rattle.kdc_state.specs.declared.state.State.{State}
 use Rattle.kdc_core.specs.Account.{Account, account}
+use Rattle.kdc_core.specs.Remembered.{AreUpTo, Covers, resumption_at, run_remembers}
 use Rattle.kdc_core.specs.Run.{after_event, replaced, replies, run}
 use Rattle.kdc_core.specs.Struck.{AgreesFor, Names, ServicesWithin, is_request, is_request_of, replies_to, strike}
-use Rattle.kdc_core.specs.Tickets.{RestartsFollow, ticket_for}
+use Rattle.kdc_core.specs.Tickets.{RestartsFollow, ResumesFollow, ticket_for}
 use Rattle.kdc_core.specs.Unaffected.{AreAlike}
 use Rattle.kdc_core.specs.Unseen.{RequestsFollow, untidied}
 use Rattle.kdc_core.specs.View.{view}
 use Rattle.kdc_core.specs.declared.account.Account.TheVariants.{NoRequest}
 use Rattle.kdc_core.specs.declared.run.Event.{Event as KdcEvent}
 use Rattle.kdc_core.specs.declared.run.Event.TheVariants.{Request, Change, Replace, Tidy, Restart as Restarts, Reopen}
+use Rattle.kdc_core.specs.declared.run.Event.TheVariants.{Resume}
 use Rattle.kdc_hub.specs.declared.event.Action.{Action}
 use Rattle.kdc_hub.specs.declared.event.Action.TheVariants.{SendTo, Pass, Write, Close}
 use Rattle.kdc_hub.specs.declared.event.Event.{Event}
@@ -108,12 +113,14 @@ answers (Closed conn) replies = []
 -- ---- histories
 
 -- an event's step; another database; what can't come again is forgotten; or the end of the process,
--- and the beginning of another, with a generator of its own, which keeps accounts or not
+-- and the beginning of another, with a generator of its own, which keeps accounts or not: one that refuses what may
+-- have come before, or one that resumes with what is known of it
 pub data Turn : Type 0 where
   Stepped : Entry → Turn
   Replaced : Principals → Turn
   Tidied : Moment → Turn
   Reopened : Principals → Limits → Moment → Stream → Bool → Turn
+  Resumed : Principals → Limits → Resumption → Stream → Bool → Turn
 
 -- the hub afterwards
 abbrev pub after_turn : Standing → Turn → Standing
@@ -129,6 +136,14 @@ after_turn hub (Reopened database limits at random kept) = record {
   };
   connections = map.empty;
 }
+after_turn hub (Resumed database limits resumption random kept) = record {
+  issuing = record {
+    kdc = resumed_state database limits resumption;
+    random = random;
+    accounts = kept;
+  };
+  connections = map.empty;
+}
 
 -- what the turn is in the run of the key distribution centre
 abbrev pub turn_events : Standing → Turn → List KdcEvent
@@ -136,6 +151,7 @@ turn_events hub (Stepped entry) = requests_of hub entry
 turn_events hub (Replaced database) = Replace database ∷ []
 turn_events hub (Tidied at) = Tidy at ∷ []
 turn_events hub (Reopened database limits at random kept) = Reopen database limits at ∷ []
+turn_events hub (Resumed database limits resumption random kept) = Resume database limits resumption ∷ []
 
 -- the replies that are sent to the requests of an entry, with their accounts
 abbrev pub entry_replies : Standing → Entry → List (Option Reply)
@@ -147,6 +163,7 @@ turn_replies hub (Stepped entry) = map_list octets_of (entry_replies hub entry)
 turn_replies hub (Replaced database) = None ∷ []
 turn_replies hub (Tidied at) = None ∷ []
 turn_replies hub (Reopened database limits at random kept) = None ∷ []
+turn_replies hub (Resumed database limits resumption random kept) = None ∷ []
 
 abbrev pub after_turns : Standing → List Turn → Standing
 after_turns hub [] = hub
@@ -166,6 +183,7 @@ turn_accounts hub (Stepped entry) = map_list account_in (entry_replies hub entry
 turn_accounts hub (Replaced database) = []
 turn_accounts hub (Tidied at) = []
 turn_accounts hub (Reopened database limits at random kept) = []
+turn_accounts hub (Resumed database limits resumption random kept) = []
 
 abbrev pub accounts_in : Standing → List Turn → List (Option Account)
 accounts_in hub [] = []
@@ -179,6 +197,7 @@ event_accounts state (Replace database) = []
 event_accounts state (Tidy at) = []
 event_accounts state (Restarts at) = []
 event_accounts state (Reopen database limits at) = []
+event_accounts state (Resume database limits resumption) = []
 
 abbrev pub accounts : State → List KdcEvent → List (Option Account)
 accounts state [] = []
@@ -190,6 +209,27 @@ KeepsAccounts (Stepped entry) = ⊤
 KeepsAccounts (Replaced database) = ⊤
 KeepsAccounts (Tidied at) = ⊤
 KeepsAccounts (Reopened database limits at random kept) = IsTrue kept
+KeepsAccounts (Resumed database limits resumption random kept) = IsTrue kept
+
+-- the authenticators that are remembered by the requests that replies answer, in order
+abbrev pub seen_by : Option Reply → List Seen
+seen_by (Some reply) = with_any reply.remembered []
+seen_by None = []
+
+abbrev pub all_seen_by : List (Option Reply) → List Seen
+all_seen_by [] = []
+all_seen_by (reply ∷ replies) = seen_by reply ++ all_seen_by replies
+
+abbrev pub turn_remembers : Standing → Turn → List Seen
+turn_remembers hub (Stepped entry) = all_seen_by (entry_replies hub entry)
+turn_remembers hub (Replaced database) = []
+turn_remembers hub (Tidied at) = []
+turn_remembers hub (Reopened database limits at random kept) = []
+turn_remembers hub (Resumed database limits resumption random kept) = []
+
+abbrev pub remembered_in : Standing → List Turn → List Seen
+remembered_in hub [] = []
+remembered_in hub (turn ∷ turns) = turn_remembers hub turn ++ remembered_in (after_turn hub turn) turns
 
 -- a list is the front of another
 pub record Begins {X : Type 0} (front whole : List X) : Type 0 where
@@ -208,7 +248,19 @@ pub record IsOneRun (start : Standing) (turns : List Turn) : Type 0 where
   -- where accounts are kept, each request has one, which is that of the run
   pub accounts_are : IsTrue start.issuing.accounts → AllByRecursion KeepsAccounts turns
       → accounts_in start turns ≡ accounts start.issuing.kdc (events_in start turns)
+  -- the replies tell every authenticator that the run remembers, in order
+  pub remembered_are : remembered_in start turns ≡ run_remembers start.issuing.kdc (events_in start turns)
   pub kdc_is : (after_turns start turns).issuing.kdc ≡ run start.issuing.kdc (events_in start turns)
+
+-- A history of one process can be resumed: what covered the state that it began with, and what its replies tell since,
+-- cover the state in the end, at any second that none of its events is later than.
+abbrev pub CanBeResumedFrom : Standing → List Turn → Type 0
+CanBeResumedFrom start turns = (r : Resumption) (now : ℤ) → Covers start.issuing.kdc r
+    → AreUpTo now (events_in start turns)
+    → Covers (after_turns start turns).issuing.kdc (resumption_at now r (remembered_in start turns))
+
+abbrev pub CanBeResumed : Type 0
+CanBeResumed = (start : Standing) (turns : List Turn) → CanBeResumedFrom start turns
 
 -- of the replies to a run's events, those to the events that pass a test at their places
 abbrev pub chosen : (State → KdcEvent → Bool) → State → List KdcEvent → List (Option (List ℕ)) → List (Option (List ℕ))
@@ -282,9 +334,10 @@ abbrev pub tickets_sent : Components → Standing → List Turn → List (Stamp 
 tickets_sent c start turns = tickets_among c start.issuing.kdc (events_in start turns) (replies_in start turns)
 
 -- No authenticator buys two different tickets, over whatever connections it comes,
--- through replacements and restarts too.
+-- through replacements and restarts too, and where what is resumed with covers the state.
 abbrev pub OneTicketSent : Type 0
-OneTicketSent = (start : Standing) (turns : List Turn) → RestartsFollow (events_in start turns) → (c : Components)
+OneTicketSent = (start : Standing) (turns : List Turn) → RestartsFollow (events_in start turns)
+    → ResumesFollow start.issuing.kdc (events_in start turns) → (c : Components)
     → OneForEach (tickets_sent c start turns)
 
 -- a turn of a process that goes on
@@ -293,6 +346,7 @@ IsOfOneProcess (Stepped entry) = ⊤
 IsOfOneProcess (Replaced database) = ⊤
 IsOfOneProcess (Tidied at) = ⊤
 IsOfOneProcess (Reopened database limits at random kept) = ⊥
+IsOfOneProcess (Resumed database limits resumption random kept) = ⊥
 
 -- While one process serves, nothing is asked of moments.
 abbrev pub OneTicketInProcess : Type 0

@@ -3,9 +3,11 @@ use Rattle.std.specs.Prelude.{ℕ, Bool, true, false, List, Option, Some, None, 
 use Rattle.rand_core.specs.Stream.{Stream, fill_bytes}
 use Rattle.krb_fields.specs.declared.moment.Moment.{Moment}
 use Rattle.krb_fields.specs.declared.code.Code.TheVariants.{KrbErrFieldToolong}
+use Rattle.replay.specs.declared.seen.Seen.{Seen}
 use Rattle.kdc_state.specs.declared.state.State.{State}
 use Rattle.kdc_core.specs.Account.{Account, account, names_in, with_names}
 use Rattle.kdc_core.specs.Answer.{answer, error_octets, after_request}
+use Rattle.kdc_core.specs.Remembered.{remembered}
 use Rattle.kdc_core.specs.Request.{request_of}
 use Rattle.kdc_core.specs.View.{View, view}
 use Rattle.kdc_core.specs.declared.account.RequestNames.{RequestNames}
@@ -26,21 +28,27 @@ abbrev pub names_kept : Bool → List ℕ → Option RequestNames
 names_kept true request = Some (names_in (request_of request))
 names_kept false request = None
 
--- a reply, and an account with these names, if there are any
-abbrev pub reply_with : Option (List ℕ) → Account → Option RequestNames → Option Reply
-reply_with octets account names =
-    option_map (λ message. record { message = message; account = option_map (λ n. with_names n account) names }) octets
+-- a reply, an account with these names, if there are any, and the authenticator that is remembered by it
+abbrev pub reply_with : Option (List ℕ) → Account → Option RequestNames → Option Seen → Option Reply
+reply_with octets account names seen =
+    option_map (λ message. record {
+      message = message;
+      account = option_map (λ n. with_names n account) names;
+      remembered = seen;
+    }) octets
 
 abbrev pub kept_account : Bool → Account → Option Account
 kept_account true account = Some account
 kept_account false account = None
 
--- the reply to a request, with its account where accounts are kept
+-- the reply to a request, with its account where accounts are kept, and with the authenticator that is remembered by it
 unfoldable pub reply_by : Bool → View → Moment → List ℕ → ℕ → List ℕ → Option Reply
 reply_by accounts v at random room request =
-    option_map
-    (λ message. record { message = message; account = kept_account accounts (account v at random room request) })
-    (answer v at random room request).reply
+    option_map (λ message. record {
+      message = message;
+      account = kept_account accounts (account v at random room request);
+      remembered = remembered v at random room request;
+    }) (answer v at random room request).reply
 
 -- the reply to a request is made with the next 64 octets
 unfoldable pub reply_of : Issuing → Moment → ℕ → List ℕ → Option Reply
@@ -55,4 +63,4 @@ after i at room request = record {
 
 -- the error for a faulty length
 unfoldable pub too_long : State → Moment → Reply
-too_long kdc at = record { message = error_octets kdc at KrbErrFieldToolong; account = None }
+too_long kdc at = record { message = error_octets kdc at KrbErrFieldToolong; account = None; remembered = None }

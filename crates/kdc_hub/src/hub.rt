@@ -1,12 +1,14 @@
 //! One key distribution centre behind many peers and connections.
 ghost use Rattle.std.specs.Prelude.{◌≡◌, ◌↔◌, ℕ, List, ◌∷◌, [], Some, IfOk, IfErr, IsOk, OnErr};
 ghost use Rattle.std.specs.FinMap as map;
-ghost use Rattle.kdc_hub.specs.History.{Reopened, Replaced, Tidied, after_turn};
+ghost use Rattle.kdc_hub.specs.History.{Reopened, Replaced, Resumed, Tidied, after_turn};
+ghost use Rattle.kdc_state.specs.Resumed.{resumed_state};
 ghost use Rattle.kdc_state.specs.State.{opened_state};
 ghost use Rattle.krb_fields.specs.declared.moment.Moment as moments;
 ghost use Rattle.principal_rows.specs.declared.limits.Limits.{Limits};
 ghost use Rattle.principals.specs.Database.{Principals};
 ghost use Rattle.replay.specs.declared.opening.Opening.TheVariants.{Restart};
+ghost use Rattle.replay.specs.declared.seen.Resumption.{Resumption};
 ghost use Rattle.kdc_hub.specs.Hub.{AreDraws, Standing, Steps, standing};
 ghost use Rattle.kdc_hub.specs.Logged.{Entry, LogsNext, logged};
 ghost use Rattle.kdc_hub.specs.Accounts.{AccountsHold};
@@ -54,6 +56,11 @@ impl<R: Rng> Hub<R> {
             → kdc ≡ opened_state database limits (Restart at)
             → standing R.stream result
             ≡ after_turn before (Reopened database limits at (R.stream rng) keeps_accounts) }
+        // The same over a centre that resumes.
+        ensures resumed { (before : Standing) (database : Principals) (limits : Limits) (r : Resumption)
+            → kdc ≡ resumed_state database limits r
+            → standing R.stream result
+            ≡ after_turn before (Resumed database limits r (R.stream rng) keeps_accounts) }
     {
         Hub {
             issuer: Issuer {

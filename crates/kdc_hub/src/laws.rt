@@ -1,8 +1,8 @@
 //! What holds of every run of a hub: laws over the log that `Hub::step` meets.
 ghost use Rattle.std.specs.Prelude.{◌≡◌, ◌++◌, List, map};
 ghost use Rattle.kdc_hub.specs.Cutting.{IsSameInTwoPieces, RepliesAreSame};
-ghost use Rattle.kdc_hub.specs.History.{AnswersWhoAsked, IsOneRun, OneTicketInProcess, OneTicketSent, ServesAlike};
-ghost use Rattle.kdc_hub.specs.History.{Stepped, TidiesUnseen, Turn, Unaffected, after_turns};
+ghost use Rattle.kdc_hub.specs.History.{AnswersWhoAsked, CanBeResumed, IsOneRun, OneTicketInProcess, OneTicketSent};
+ghost use Rattle.kdc_hub.specs.History.{ServesAlike, Stepped, TidiesUnseen, Turn, Unaffected, after_turns};
 ghost use Rattle.kdc_hub.specs.Hub.{Standing};
 ghost use Rattle.kdc_hub.specs.Logged.{Entry, logged};
 
@@ -34,10 +34,12 @@ pub fn one_run()
     ensures unaffected { Unaffected }
     // As long as no request is before a tidying that came earlier, what is sent is what is sent where nothing is tidied.
     ensures unseen { TidiesUnseen }
-    // No authenticator buys two different tickets, through replacements and restarts too;
-    // of one process nothing is asked.
+    // No authenticator buys two different tickets, through replacements and restarts too, and where what is resumed
+    // with covers the state; of one process nothing is asked.
     ensures one_ticket { OneTicketSent }
     ensures one_ticket_in_process { OneTicketInProcess }
+    // What a process began with, and what its replies tell since, is enough to resume with.
+    ensures resumable { CanBeResumed }
     // The replies go to who asked.
     ensures who_asked { AnswersWhoAsked }
 {}

@@ -1,7 +1,7 @@
 //! A reply with the account of its request.
 ghost use Rattle.std.specs.Prelude.{◌≡◌, IfOk};
 
-use kdc_core::Account;
+use kdc_core::{Account, Seen};
 use krb_elements::Octets;
 use std::alloc::{AllocError, Global};
 
@@ -11,6 +11,8 @@ pub struct Reply {
     pub message: Octets,
     /// `None` where the hub keeps no accounts, and in the answer to a length that is too large.
     pub account: Option<Account>,
+    /// The authenticator that is remembered by this request, if one is. A reply that is sent again has none.
+    pub remembered: Option<Seen>,
 }
 
 impl Reply {
@@ -21,9 +23,14 @@ impl Reply {
             Some(account) => Some(account.copy(alloc)?),
             None => None,
         };
+        let remembered = match &self.remembered {
+            Some(seen) => Some(seen.copy(alloc)?),
+            None => None,
+        };
         Ok(Reply {
             message: self.message.copy(alloc)?,
             account,
+            remembered,
         })
     }
 }

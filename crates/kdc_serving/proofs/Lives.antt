@@ -11,7 +11,7 @@ use Rattle.krb_fields.specs.declared.moment.Moment.{Moment}
 use Rattle.kdc_hub.specs.declared.server.Served.{Served}
 use Rattle.kdc_hub.specs.declared.wires.Did.{Did}
 use Rattle.kdc_hub.specs.Hub.{Standing}
-use Rattle.kdc_hub.specs.History.{IsOfOneProcess, IsOneRun, OneTicketInProcess, ServesAlike, Stepped, TidiesUnseen, Turn, Unaffected, after_turns}
+use Rattle.kdc_hub.specs.History.{CanBeResumed, IsOfOneProcess, IsOneRun, OneTicketInProcess, ServesAlike, Stepped, TidiesUnseen, Turn, Unaffected, after_turns}
 use Rattle.kdc_hub.specs.Logged.{Entry, logged}
 use Rattle.kdc_hub.specs.Rounds.{AreRounds, did_in, entries_of, is_refused, last_moment}
 use Rattle.kdc_hub.specs.Wire.{Records, is_event, is_fault}
@@ -163,10 +163,10 @@ periods_go_on (p ∷ ps) =
     (periods_go_on ps))
 
 -- with the laws of all histories
-pub is_life : ((start : Standing) (turns : List Turn) → IsOneRun start turns) → ServesAlike → Unaffected → TidiesUnseen → OneTicketInProcess
+pub is_life : ((start : Standing) (turns : List Turn) → IsOneRun start turns) → ServesAlike → Unaffected → TidiesUnseen → CanBeResumed → OneTicketInProcess
     → (wire : Option (List Did)) (source : Option (List Look)) (start : Standing) (lengths : List ℕ) (totals : Totals) (wire_after : Option (List Did)) (source_after : Option (List Look)) (new : Standing)
     → IsLived wire source start lengths totals wire_after source_after new → IsLife wire source start lengths totals wire_after source_after new
-is_life one_run alike unaffected unseen one_ticket wire source start lengths totals wire_after source_after new lived =
+is_life one_run alike unaffected unseen resumable one_ticket wire source start lengths totals wire_after source_after new lived =
     let turns = flat_map turns_of lived.periods in
     record {
       lived = lived;
@@ -174,5 +174,6 @@ is_life one_run alike unaffected unseen one_ticket wire source start lengths tot
       isolation = alike start turns;
       unaffected = unaffected start turns;
       unseen = unseen start turns;
+      resumable = resumable start turns;
       one_ticket = one_ticket start turns (periods_go_on lived.periods);
     }

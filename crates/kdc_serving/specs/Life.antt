@@ -9,7 +9,8 @@ use Rattle.replay.specs.Run.{OneForEach}
 use Rattle.kdc_hub.specs.declared.server.Served.{Served}
 use Rattle.kdc_hub.specs.declared.wires.Did.{Did}
 use Rattle.kdc_hub.specs.Hub.{Standing}
-use Rattle.kdc_hub.specs.History.{IsOneRun, Replaced, ServesAlikeFrom, Stepped, Tidied, TidiesUnseenFrom, Turn}
+use Rattle.kdc_hub.specs.History.{CanBeResumedFrom, IsOneRun, Replaced, ServesAlikeFrom, Stepped, Tidied, Turn}
+use Rattle.kdc_hub.specs.History.{TidiesUnseenFrom}
 use Rattle.kdc_hub.specs.History.{UnaffectedFrom, after_turns, tickets_sent}
 use Rattle.kdc_hub.specs.Rounds.{AreRounds, IsRun, Round, did_in, entries_of, fault_total, is_refused, last_moment}
 use Rattle.kdc_hub.specs.Wire.{Records, is_event}
@@ -23,7 +24,7 @@ replacement Unchanged = []
 replacement (Changed database) = Replaced database ∷ []
 replacement Failed = []
 
--- When is to be tidied, by when it was tidied last and when the last event came: at that event's moment, unless it was
+-- When is to be tidied, by when it was tidied last and when the last poll came back: at that moment, unless it was
 -- within the minute from the last time on. So a clock that went back keeps nothing from being forgotten.
 abbrev pub due : Option Moment → Option Moment → Option Moment
 due tidied None = None
@@ -93,6 +94,7 @@ pub record IsLife (wire : Option (List Did)) (source : Option (List Look)) (star
   pub isolation : ServesAlikeFrom start (flat_map turns_of lived.periods)
   pub unaffected : UnaffectedFrom start (flat_map turns_of lived.periods)
   pub unseen : TidiesUnseenFrom start (flat_map turns_of lived.periods)
+  pub resumable : CanBeResumedFrom start (flat_map turns_of lived.periods)
   pub one_ticket : (c : Components) → OneForEach (tickets_sent c start (flat_map turns_of lived.periods))
 
 -- what a look leaves

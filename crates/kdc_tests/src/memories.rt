@@ -195,3 +195,38 @@ fn a_client_that_is_removed_is_remembered(rt: HostRuntime) -> Result<(), Fail> {
     ];
     expect(rt.alloc(), 64, STEPS)
 }
+
+#[test]
+fn what_was_seen_before_is_refused_and_nothing_else(rt: HostRuntime) -> Result<(), Fail> {
+    const RESUME: Step = Step {
+        act: Act::Resume,
+        stamp: 7,
+        at: 5,
+        ..ADD
+    };
+    const SEEN: Step = Step {
+        at: 7,
+        stamp: 7,
+        ..ASK
+    };
+    const STEPS: &[Told] = &[
+        (RESUME, Outcome::Nothing),
+        (ADD, Outcome::Nothing),
+        (ADD_OTHER, Outcome::Nothing),
+        (SEEN, Outcome::Refusal(34)),
+        (SEEN, Outcome::Refusal(34)),
+        (Step { cusec: 1, ..SEEN }, Outcome::Ticket),
+        (
+            Step {
+                client: b'w',
+                octet: b'w',
+                ..SEEN
+            },
+            Outcome::Ticket,
+        ),
+        // The floor is at 5.
+        (Step { stamp: 4, ..SEEN }, Outcome::Refusal(37)),
+        (Step { stamp: 5, ..SEEN }, Outcome::Ticket),
+    ];
+    expect(rt.alloc(), 64, STEPS)
+}

@@ -3,8 +3,8 @@
 use crate::given::{BASIC, name, octets};
 use enctypes::{Etype, Key};
 use kdc_core::{
-    Account, Answer, AsOutcome, AsRefusal, Bears, Event, Granted, Kdc, Opening, RunFault,
-    TgsOutcome, TgsRefusal,
+    Account, Answer, AsOutcome, AsRefusal, Bears, Event, Granted, Kdc, Opening, Resumption,
+    RunFault, TgsOutcome, TgsRefusal,
 };
 use krb_elements::Octets;
 use krb_fields::{Moment, Name, NameRef};
@@ -378,6 +378,20 @@ fn is_run(alloc: Global, kdc: &mut Kdc, run: &[Step]) -> Result<bool, Fail> {
     let mut events = Vec::new(alloc);
     push_events(alloc, &mut events, run)?;
     goes_on(alloc, kdc, &events, run)
+}
+
+/// What a KDC resumes with that has no clients, only the service `h`.
+pub fn resumes(alloc: Global, resumption: Resumption) -> Result<Event, Fail> {
+    let addition = addition(alloc, b"h", key_of(HOST_OCTET))?;
+    let mut database = database(alloc, b"A.B", key_of(HOST_OCTET))?;
+    match database.apply(alloc, &addition) {
+        Ok(()) => Ok(Event::Resume {
+            database,
+            limits: limits()?,
+            resumption,
+        }),
+        Err(fault) => Err(Fail::from(fault)),
+    }
 }
 
 /// The replies to these events of a KDC that has no clients, only the service `h`.

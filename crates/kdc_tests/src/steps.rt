@@ -4,8 +4,8 @@ use crate::realm;
 use crate::realm::HOST_OCTET;
 use crate::requests::{AS_HEAD, BAD_TIMESTAMP, TgsReq, as_req};
 use enctypes::{Etype, Key};
-use kdc_core::Event;
-use krb_elements::Octets;
+use kdc_core::{Event, Resumption, Seen};
+use krb_elements::{Octets, Seq};
 use krb_fields::{Moment, Second};
 use principal_rows::{KeyList, Limits, Policy};
 use principals::{Change, RowChange};
@@ -28,6 +28,9 @@ pub enum Act {
     /// What can't come again is forgotten.
     Tidy,
     Restart,
+    /// The KDC resumes, and has no clients. What is known is the authenticator of this step, and that whatever is below
+    /// the step's second was seen or is too old.
+    Resume,
 }
 
 /// What a client asks: a ticket for `krbtgt/A.B`, or one for `h` by a ticket that it has.
@@ -77,7 +80,7 @@ impl Step {
     pub fn is_left(self, client: u8) -> bool {
         match self.act {
             Act::Ask(_) | Act::Change(_) => self.client == client,
-            Act::GranterKeys | Act::ServiceKeys | Act::Tidy | Act::Restart => true,
+            Act::GranterKeys | Act::ServiceKeys | Act::Tidy | Act::Restart | Act::Resume => true,
         }
     }
 }
@@ -169,6 +172,20 @@ fn asks(alloc: Global, asked: Asked, at: Moment, step: Step) -> Result<Event, Fa
     })
 }
 
+fn resumes(alloc: Global, step: Step) -> Result<Event, Fail> {
+    let mut seen = Vec::new(alloc);
+    seen.push(Seen {
+        client: name(alloc, &[&[step.client]])?,
+        ctime: MIDNIGHT + i64::from(step.stamp),
+        cusec: u32::from(step.cusec),
+    })?;
+    let resumption = Resumption {
+        floor: MIDNIGHT + i64::from(step.at),
+        seen: Seq::from_vec(seen),
+    };
+    realm::resumes(alloc, resumption)
+}
+
 fn event(alloc: Global, step: Step) -> Result<Event, Fail> {
     let at = Moment::new(MIDNIGHT + i64::from(step.at), 0).ok_or("a moment")?;
     match step.act {
@@ -180,6 +197,7 @@ fn event(alloc: Global, step: Step) -> Result<Event, Fail> {
         Act::ServiceKeys => new_service_keys(alloc, &[b"h"], step.octet),
         Act::Tidy => Ok(Event::Tidy { at }),
         Act::Restart => Ok(Event::Restart { at }),
+        Act::Resume => resumes(alloc, step),
     }
 }
 

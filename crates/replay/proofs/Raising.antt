@@ -1,6 +1,6 @@
 -- The floor that a tidying makes: within what bounds it is, that what was forgotten is below it, and that to tidy
 -- earlier makes no difference.
-use Rattle.std.proofs.Common.{◌≡◌, ℕ, ℤ, pos, ◌+ℤ◌, ◌-ℤ◌, ◌≤ℤ◌, Bool, true, false, cond, not, T, List, [], ◌∷◌, filter, drop, length, Option, Some, None, IfSome, IfNone, Equal, refl, sym, ap, subst, ◌∙◌, arith}
+use Rattle.std.proofs.Common.{◌≡◌, ℕ, ℤ, pos, ◌+ℤ◌, ◌-ℤ◌, ◌≤ℤ◌, Bool, true, false, cond, not, T, List, [], ◌∷◌, drop, length, Option, Some, None, IfSome, IfNone, Equal, refl, sym, ap, ◌∙◌, arith}
 use Rattle.std.specs.Prelude.{int_lt, if◌then◌else◌}
 use Rattle.std.specs.Int.{int_max}
 use Rattle.std.specs.Ordering.{eq_by_cmp}

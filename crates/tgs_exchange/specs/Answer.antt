@@ -17,6 +17,7 @@ use Rattle.kdc_replies.specs.Reply.{NamesKey, OpensAlike}
 use Rattle.replay.specs.declared.keep.Bears.{Bears}
 use Rattle.replay.specs.declared.keep.Bears.TheVariants.{Ticket, Error}
 use Rattle.replay.specs.declared.keep.Kept.{Kept}
+use Rattle.replay.specs.Kept.{nothing_kept}
 use Rattle.tgs_opening.specs.Refusal.{code_of}
 use Rattle.tgs_opening.specs.declared.presented.Presented.{Presented}
 use Rattle.tgs_opening.specs.declared.refusal.TgsRefusal.{TgsRefusal}
@@ -67,11 +68,18 @@ repeated v incoming body kept =
 
 -- ---- an authenticator that is new
 
+-- the most octets of a request that is kept
+abbrev pub longest_kept : ℕ
+longest_kept = 4096
+
+-- a request and its reply, or nothing of a request that is longer
+abbrev pub kept_of : List ℕ → Bears → List ℕ → Kept
+kept_of request bears octets =
+    if nat_lt longest_kept (length request) then nothing_kept
+    else record { request = request; reply = octets; bears = bears }
+
 abbrev pub remembering : List ℕ → Bears → List ℕ → TgsAnswer
-remembering request bears octets = record {
-  reply = octets;
-  kept = Some (record { request = request; reply = octets; bears = bears });
-}
+remembering request bears octets = record { reply = octets; kept = Some (kept_of request bears octets) }
 
 -- a reply with a ticket that is longer than the room leaves no trace
 abbrev pub within_room : TgsView → Incoming → ReqBody → List ℕ → TgsAnswer

@@ -7,7 +7,8 @@ ghost use Rattle.krb_fields.specs.PrincipalName.{name};
 ghost use Rattle.krb_types.specs.KrbError.{krb_error};
 ghost use Rattle.replay.specs.Stamp.{is_untimely};
 ghost use Rattle.replay.specs.declared.keep.Bears.TheVariants.{Error};
-ghost use Rattle.tgs_exchange.specs.Answer.{answer_by, is_ticket, kept_reply, remembering, repeated, refused};
+ghost use Rattle.tgs_exchange.specs.Answer.{answer_by, is_ticket, kept_of, kept_reply, remembering};
+ghost use Rattle.tgs_exchange.specs.Answer.{repeated, refused};
 ghost use Rattle.tgs_exchange.specs.Answer.{refused_room, tgs_answer, tgs_error};
 ghost use Rattle.tgs_exchange.specs.Answer.{Opens, OpensBy, RepeatSpelled, Spelled, SpelledBy};
 ghost use Rattle.tgs_exchange.specs.Decision.{decision_copied, stamp_of, IfIssued};
@@ -31,6 +32,9 @@ use krb_types::ReqBodyRef;
 use replay::{Bears, Kept};
 use std::alloc::{AllocError, Global};
 use tgs_opening::{Presented, TgsRefusal};
+
+/// The most octets of a request that is kept with its reply.
+const LONGEST_KEPT: usize = 4_096;
 
 /// The reply to a TGS-REQ, what came of it, and what is to be remembered with its authenticator: `None` where nothing
 /// is.
@@ -299,10 +303,14 @@ fn issued(
     })
 }
 
-/// What is kept of a request and its reply.
+/// Returns what is kept of a request and its reply: nothing, if the request is longer than those that are sent as
+/// datagrams. Its authenticator is then refused where it comes again.
 fn kept_of(alloc: Global, request: &[u8], bears: Bears, reply: &[u8]) -> Result<Kept, AllocError>
-    ensures { IfOk result (λ kept. Some kept ≡ (remembering request.now bears reply.now).kept) }
+    ensures { IfOk result (λ kept. kept ≡ kept_of request.now bears reply.now) }
 {
+    if request.len() > LONGEST_KEPT {
+        return Ok(Kept::nothing(alloc));
+    }
     Ok(Kept {
         request: Octets::from_slice(alloc, request)?,
         reply: Octets::from_slice(alloc, reply)?,

@@ -1,3 +1,4 @@
+use Rattle.kdc_core.proofs.Covering.{can_be_resumed}
 use Rattle.kdc_core.proofs.Isolation.{isolation, unaffected}
 use Rattle.kdc_core.proofs.Marking.{keeps_marked}
 use Rattle.kdc_core.proofs.Tickets.{one_ticket}
@@ -18,3 +19,6 @@ returns-clause-marked c = keeps_marked
 
 pub returns-clause-unseen : goal.returns-clause-unseen
 returns-clause-unseen c = tidies_unseen
+
+pub returns-clause-resumable : goal.returns-clause-resumable
+returns-clause-resumable c = can_be_resumed

@@ -27,3 +27,6 @@ returns-clause-one_ticket_in_process c = histories.one_ticket_in_process
 
 pub returns-clause-who_asked : goal.returns-clause-who_asked
 returns-clause-who_asked c = histories.who_asked
+
+pub returns-clause-resumable : goal.returns-clause-resumable
+returns-clause-resumable c = histories.can_be_resumed

@@ -29,7 +29,7 @@ pub returns-clause-life : goal.returns-clause-life
 returns-clause-life g c =
     let all : c.loop.counter ≡ c.args.rounds / 16 = omega (arith, c.loop.auto.counter-end, c.loop-test.false) in
     subst (λ k. IsLife (g.W.Wire.recorded c.args.wire.now) (g.S.RowSource.recorded c.args.source.now) (standing g.R.Rng.stream c.args.hub.now) (replicate k 16 ++ c.args.rounds % 16 ∷ []) c.with.result (g.W.Wire.recorded c.serve_period-last.new.wire) (g.S.RowSource.recorded c.serve_period-last.new.source) (standing g.R.Rng.stream c.serve_period-last.new.hub)) all
-    (is_life c.one_run.ensures.run c.one_run.ensures.isolation c.one_run.ensures.unaffected c.one_run.ensures.unseen c.one_run.ensures.one_ticket_in_process _ _ _ _ _ _ _ _
+    (is_life c.one_run.ensures.run c.one_run.ensures.isolation c.one_run.ensures.unaffected c.one_run.ensures.unseen c.one_run.ensures.resumable c.one_run.ensures.one_ticket_in_process _ _ _ _ _ _ _ _
     (one_more c.one_run.ensures.goes_on c.one_run.ensures.log _ _ _ _ _ _ _ _ _ c.loop.invariant.lived _ _ _ _ _ _ c.serve_period-last.ensures.period c.with.result c.with.ensures.events c.with.ensures.faults c.with.ensures.refused).lived)
 
 pub returns-clause-counted : goal.returns-clause-counted

@@ -1,4 +1,4 @@
-use Rattle.std.proofs.Common.{rules, ℤ, pos, ◌-ℤ◌, arith, SFits, w64, ap, ◌∙◌}
+use Rattle.std.proofs.Common.{rules, pos, ◌-ℤ◌, arith, SFits, w64}
 use Rattle.std.proofs.lemmas.Int.{to_z-of_z, ints}
 use Rattle.krb_fields.specs.Skew.{skew}
 use Rattle.replay.proofs.Raising.{tidies}

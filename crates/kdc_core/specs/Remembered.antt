@@ -1,0 +1,129 @@
+-- The authenticators that a run remembers, and what of them a start has to resume with.
+use Rattle.std.specs.Prelude.{◌≡◌, ℕ, ℤ, pos, ◌-ℤ◌, ◌≤ℤ◌, ⊤, IsTrue, List, [], ◌∷◌, ◌++◌, Option, Some, None, IfSome}
+use Rattle.std.specs.FinMap as map
+use Rattle.std.specs.Option.{is_some}
+use Rattle.std.specs.Int.{int_max}
+use Rattle.kdc_replies.specs.Incoming.{Incoming}
+use Rattle.krb_fields.specs.Name.{Components}
+use Rattle.krb_fields.specs.Skew.{skew}
+use Rattle.krb_fields.specs.declared.moment.Moment.{Moment}
+use Rattle.principal_rows.specs.declared.limits.Limits.{Limits}
+use Rattle.principals.specs.Database.{Principals}
+use Rattle.replay.specs.Opening.{opening_floor}
+use Rattle.replay.specs.Resumed.{Holds, resumed_memory, stamp_seen}
+use Rattle.replay.specs.Run.{with_any}
+use Rattle.replay.specs.declared.keep.Kept.{Kept}
+use Rattle.replay.specs.declared.opening.Opening.{Opening}
+use Rattle.replay.specs.declared.seen.Resumption.{Resumption}
+use Rattle.replay.specs.declared.seen.Seen.{Seen}
+use Rattle.tgs_exchange.specs.Answer.{tgs_answer}
+use Rattle.tgs_opening.specs.declared.presented.Presented.{Presented}
+use Rattle.kdc_state.specs.Resumed.{resumed_state}
+use Rattle.kdc_state.specs.State.{memory_of, opened_state}
+use Rattle.kdc_state.specs.declared.state.State.{State}
+use Rattle.kdc_core.specs.Contents.{contents}
+use Rattle.kdc_core.specs.Request.{request_of}
+use Rattle.kdc_core.specs.Run.{after_event, run}
+use Rattle.kdc_core.specs.View.{View, tgs_view, view}
+use Rattle.kdc_core.specs.declared.contents.Contents.{Contents}
+use Rattle.kdc_core.specs.declared.contents.Contents.TheVariants.{NoRequest, AsReq, RefusedTgsReq, TgsReq}
+use Rattle.kdc_core.specs.declared.run.Event.{Event}
+use Rattle.kdc_core.specs.declared.run.Event.TheVariants.{Request, Change, Replace, Tidy, Restart, Reopen, Resume}
+
+-- ---- what is remembered
+
+-- the authenticator that is presented, with the client of its ticket, where something is kept for it
+abbrev pub seen_of : Presented → Option Kept → Option Seen
+seen_of p (Some kept) = Some (record {
+  client = p.ticket.cname;
+  ctime = p.authenticator.ctime;
+  cusec = p.authenticator.cusec;
+})
+seen_of p None = None
+
+abbrev pub remembered_of : View → Incoming → Contents → Option Seen
+remembered_of v incoming NoRequest = None
+remembered_of v incoming (AsReq message) = None
+remembered_of v incoming (RefusedTgsReq message rejected) = None
+remembered_of v incoming (TgsReq message p) =
+    seen_of p (tgs_answer (tgs_view v) incoming message.body.value p).kept
+
+abbrev pub remembered_to : View → Incoming → Option Seen
+remembered_to v incoming = remembered_of v incoming (contents v (request_of incoming.octets))
+
+-- as `answer` of specs/Answer.antt: what that answer makes the state remember
+abbrev pub remembered : View → Moment → List ℕ → ℕ → List ℕ → Option Seen
+remembered v at random room octets =
+    remembered_to v (record { at = at; random = random; room = room; octets = octets })
+
+-- the authenticator that an event makes the state remember, if it does
+abbrev pub event_remembers : State → Event → Option Seen
+event_remembers state (Request at random room request) = remembered (view state request) at random room request
+event_remembers state (Change change) = None
+event_remembers state (Replace database) = None
+event_remembers state (Tidy at) = None
+event_remembers state (Restart at) = None
+event_remembers state (Reopen database limits at) = None
+event_remembers state (Resume database limits resumption) = None
+
+-- all that a run remembers, in order
+abbrev pub run_remembers : State → List Event → List Seen
+run_remembers state [] = []
+run_remembers state (event ∷ events) =
+    with_any (event_remembers state event) [] ++ run_remembers (after_event state event) events
+
+-- ---- what a start has to resume with
+
+-- What is resumed with covers the state: an authenticator that is remembered of a client, or is too old, is so
+-- afterwards too.
+abbrev pub Covers : State → Resumption → Type 0
+Covers state r = (c : Components) → Holds (memory_of state c) (resumed_memory r c)
+
+-- an event of a process that goes on, which is no later than this second
+abbrev pub IsUpTo : ℤ → Event → Type 0
+IsUpTo now (Request at random room request) = at.sec ≤ℤ now
+IsUpTo now (Change change) = ⊤
+IsUpTo now (Replace database) = ⊤
+IsUpTo now (Tidy at) = at.sec ≤ℤ now
+IsUpTo now (Restart at) = ⊥
+IsUpTo now (Reopen database limits at) = ⊥
+IsUpTo now (Resume database limits resumption) = ⊥
+
+abbrev pub AreUpTo : ℤ → List Event → Type 0
+AreUpTo now [] = ⊤
+AreUpTo now (event ∷ events) = IsUpTo now event × AreUpTo now events
+
+-- with what a run remembered, at a second
+abbrev pub resumption_at : ℤ → Resumption → List Seen → Resumption
+resumption_at now r seen = record { floor = int_max r.floor (now -ℤ pos skew); seen = r.seen ++ seen }
+
+-- Whatever covers a state, with what a run from there remembers, covers the state in the end: at any second that no
+-- event of the run is later than.
+abbrev pub CoversOn : Type 0
+CoversOn = (state : State) (events : List Event) (r : Resumption) (now : ℤ) → Covers state r → AreUpTo now events
+    → Covers (run state events) (resumption_at now r (run_remembers state events))
+
+-- how a process begins
+abbrev pub opening_resumption : Opening → Resumption
+opening_resumption opening = record { floor = opening_floor opening; seen = [] }
+
+abbrev pub CoversOpened : Type 0
+CoversOpened = (database : Principals) (limits : Limits) (opening : Opening)
+    → Covers (opened_state database limits opening) (opening_resumption opening)
+
+abbrev pub CoversResumed : Type 0
+CoversResumed = (database : Principals) (limits : Limits) (r : Resumption) → Covers (resumed_state database limits r) r
+
+-- nothing else is said to be remembered: the state has the authenticator afterwards
+abbrev pub HasRemembered : Type 0
+HasRemembered = (state : State) (event : Event)
+    → IfSome (event_remembers state event) (λ seen.
+    IsTrue (is_some (map.get (memory_of (after_event state event) seen.client.components).pairs (stamp_seen seen))))
+
+-- A process that goes on from an opening, or from what another resumed with, can be resumed: what it began with and
+-- what it has remembered since cover its state.
+pub record CanBeResumed : Type 0 where
+  pub remembered : HasRemembered
+  pub on : CoversOn
+  pub opened : CoversOpened
+  pub resumed : CoversResumed

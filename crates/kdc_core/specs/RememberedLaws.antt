@@ -1,0 +1,49 @@
+-- What a request makes the state remember, by the names that its contents give.
+use Rattle.std.proofs.Common.{◌≡◌, List, Option, None, Result, IfOk, refl, sym, subst}
+use Rattle.kdc_replies.specs.Incoming.{Incoming}
+use Rattle.replay.specs.declared.seen.Seen.{Seen}
+use Rattle.kdc_state.specs.declared.state.State.{State}
+use Rattle.kdc_core.specs.Answer.{answer_of, answer_to}
+use Rattle.kdc_core.specs.Contents.{contents, names_answered}
+use Rattle.kdc_core.specs.ContentsLaws.{AreNamesOf, are_names_of}
+use Rattle.kdc_core.specs.Remembered.{remembered_of, remembered_to}
+use Rattle.kdc_core.specs.Request.{request_of}
+use Rattle.kdc_core.specs.View.{Named, View, named, view, view_of}
+use Rattle.kdc_core.specs.declared.contents.Contents.{Contents}
+use Rattle.kdc_core.specs.declared.contents.Contents.TheVariants.{NoRequest, AsReq, RefusedTgsReq, TgsReq}
+
+module _ {A E : Type 0} (state : State) (incoming : Incoming) (r : Result A E) where
+  abbrev Remembers : (A → Option Seen) → Named → Contents → Type 0
+  Remembers seen names held = IfOk r (λ a. seen a ≡ remembered_of (view_of state names) incoming held)
+
+  remembered_by : (seen : A → Option Seen) (names : Named) (held : Contents) → AreNamesOf names held
+      → Remembers seen (names_answered held) held → Remembers seen names held
+  remembered_by seen names NoRequest names_are h = h
+  remembered_by seen names (AsReq message) names_are h = h
+  remembered_by seen names (RefusedTgsReq message rejected) names_are h = h
+  remembered_by seen names (TgsReq message p) names_are h =
+      subst (λ (n : Named). Remembers seen n (TgsReq message p)) (sym names_are) h
+
+-- of what was read from the octets
+module _ {A E : Type 0} (state : State) (incoming : Incoming) (r : Result A E) (held : Contents)
+    (is : held ≡ contents (view state incoming.octets) (request_of incoming.octets)) where
+  pub remembered_answered : (seen : A → Option Seen) → Remembers state incoming r seen (names_answered held) held
+      → IfOk r (λ a. seen a ≡ remembered_to (view state incoming.octets) incoming)
+  remembered_answered seen h =
+      subst (λ (h : Contents). Remembers state incoming r seen (named state incoming.octets) h) is
+      (remembered_by state incoming r seen (named state incoming.octets) held
+      (subst (λ (h : Contents). AreNamesOf (named state incoming.octets) h) (sym is)
+      (are_names_of state (request_of incoming.octets))) h)
+
+-- ---- what gets no reply makes it remember nothing
+
+unremembered_of : (v : View) (incoming : Incoming) (held : Contents) → (answer_of v incoming held).reply ≡ None
+    → remembered_of v incoming held ≡ None
+unremembered_of v incoming NoRequest none = refl
+unremembered_of v incoming (AsReq message) none = refl
+unremembered_of v incoming (RefusedTgsReq message rejected) none = refl
+unremembered_of v incoming (TgsReq message p) none = absurd cc
+
+pub unremembered : (v : View) (incoming : Incoming) → (answer_to v incoming).reply ≡ None
+    → remembered_to v incoming ≡ None
+unremembered v incoming = unremembered_of v incoming (contents v (request_of incoming.octets))

@@ -1,0 +1,36 @@
+//! Authenticators that were seen, from which a start resumes.
+ghost use Rattle.std.specs.Prelude.{◌≡◌, IfOk};
+
+use krb_elements::Seq;
+use krb_fields::Name;
+use std::alloc::{AllocError, Global};
+
+/// An authenticator that is remembered: its client, and its time.
+#[derive(Drop)]
+pub struct Seen {
+    pub client: Name,
+    /// In seconds since 1970.
+    pub ctime: i64,
+    pub cusec: u32,
+}
+
+impl Seen {
+    pub fn copy(&self, alloc: Global) -> Result<Seen, AllocError>
+        ensures { IfOk result (λ seen. seen ≡ self.now) }
+    {
+        Ok(Seen {
+            client: self.client.copy(alloc)?,
+            ctime: self.ctime,
+            cusec: self.cusec,
+        })
+    }
+}
+
+/// What a server resumes with, instead of refusing all authenticators of the time before.
+#[derive(Drop)]
+pub struct Resumption {
+    /// The second since 1970 below which a time is too old.
+    pub floor: i64,
+    /// Every authenticator that is remembered and is not too old.
+    pub seen: Seq<Seen>,
+}
