@@ -59,7 +59,7 @@ remembering_clients state now p =
     with_memory (clients_of state p.service.components) p.ticket.cname.components
     (remembered (memory_for state p) now (stamp_of p) tt)
 
--- the state with the authenticator recorded, and without the entries that can't be replayed any more
+-- the state with the authenticator recorded and old entries dropped
 abbrev pub remembering : State → ℤ → Presented → State
 remembering state now p = with_clients state p.service.components (let_go now (remembering_clients state now p))
 

@@ -68,9 +68,9 @@ pub record IsAccepted (issue : Issue) (wanted : ServiceAsked) (sent : Moment) (a
   pub replied : is_some accepted.ap_rep ≡ wanted.mutual_required
   pub heard : IfSome accepted.ap_rep (λ octets. reads_ap issue.grant.session_key sent octets ≡ Ok (moment_part sent))
 
--- The service doesn't refuse the client, and the client doesn't reject the service's reply, unless memory runs out.
--- Otherwise the path ended before the service was asked: the client rejected the KDC's reply (see `IsEnded`), or the
--- credential in it can't be presented.
+-- If the service is asked, it doesn't refuse the client, and the client doesn't reject its reply, unless memory runs
+-- out. If it is not asked, memory ran out, the client rejected the KDC's reply (see `IsEnded`), or the credential in it
+-- can't be presented.
 abbrev pub IsJoined : Issue → ServiceAsked → Moment → Result Accepted JoinedFault → Type 0
 IsJoined issue wanted sent (Ok accepted) = IsAccepted issue wanted sent accepted
 IsJoined issue wanted sent (Err (NotAccepted fault)) = fault ≡ ap_faults.Memory
@@ -128,7 +128,7 @@ abbrev pub IsAnswered : Key → Moment → Option (List ℕ) → Type 0
 IsAnswered key sent (Some octets) = IsOk (reads_ap key sent octets)
 IsAnswered key sent None = ⊤
 
--- For any credential, whoever issued it: it can't be presented, or the client accepted the AP-REP before anything
+-- For any credential, no matter who issued it: it can't be presented, or the client accepted the AP-REP before anything
 -- counts as accepted.
 abbrev pub IsPresented : Credential → Moment → Result Accepted JoinedFault → Type 0
 IsPresented credential sent (Ok accepted) = IfSome (session_key credential) (λ key. IsAnswered key sent accepted.ap_rep)
