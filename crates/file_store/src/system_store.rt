@@ -80,6 +80,18 @@ impl<'a, R: Files> FileStore<'a, R> {
         }
     }
 
+    /// The first octet of a file, if it has one.
+    fn read_first(&self, alloc: Global, path: &str) -> io::Result<Option<u8>> {
+        if self.there(path)?.is_none() {
+            return Ok(None);
+        }
+        let mut octets = Vec::new(alloc);
+        File::open(self.files, path)?
+            .take(1)
+            .read_to_end(&mut octets)?;
+        Ok(octets.first().copied())
+    }
+
     /// The whole of a file, or `None` where it has more than so many octets.
     fn read_whole(&self, alloc: Global, path: &str, most: usize) -> io::Result<Option<Vec<u8>>>
         ensures { IfOk result (λ found. IfSome found (λ octets. vec_len octets ≤ most)) }
@@ -284,6 +296,12 @@ where
 
     fn read(&mut self, alloc: Global, path: &str, most: usize) -> io::Result<Option<Vec<u8>>> {
         let read = self.read_whole(alloc, path, most);
+        self.faults = counted(self.faults, &read);
+        read
+    }
+
+    fn first_octet(&mut self, alloc: Global, path: &str) -> io::Result<Option<u8>> {
+        let read = self.read_first(alloc, path);
         self.faults = counted(self.faults, &read);
         read
     }
