@@ -73,6 +73,13 @@ impl MemoryStore {
         None
     }
 
+    /// Removes a file. Returns whether it was there.
+    pub fn remove_file(&mut self, path: &str) -> bool {
+        let before = self.files.len();
+        self.files.retain(|file| file.path.as_str() != path);
+        self.files.len() < before
+    }
+
     /// Makes a file of these octets, in place of the one that is there.
     pub fn set(&mut self, alloc: Global, path: &str, octets: &[u8]) -> Result<(), AllocError>
         ensures written { OnOk result (world_of self.new ≡ with_file path.now octets.now (world_of self.old)) }

@@ -70,6 +70,11 @@ impl<'a, R: Files> FileStore<'a, R> {
         }
     }
 
+    /// The runtime that it reaches.
+    pub fn files(&self) -> &'a R {
+        self.files
+    }
+
     /// What is at a path, or `None` if it is free. A device or a folder is an `Err`, since neither is replaced.
     fn there(&self, path: &str) -> io::Result<Option<Metadata>> {
         match fs::metadata(self.files, path) {

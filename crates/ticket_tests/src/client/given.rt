@@ -180,7 +180,10 @@ fn three(octets: &[u8]) -> [u8; 3] {
 pub fn outcome_by(fault: &ClientFault) -> Outcome {
     match fault {
         ClientFault::NotAReply => Outcome::NotAReply,
-        ClientFault::Refused(refusal) => Outcome::Refused(refusal.code, e_data(&refusal.e_data)),
+        ClientFault::Refused(refusal) => Outcome::Refused(
+            refusal.error.code,
+            e_data(&refusal.e_data),
+        ),
         ClientFault::Mismatch(what) => Outcome::Differs(*what),
         ClientFault::CannotOpen => Outcome::CannotOpen,
         ClientFault::CountTooLarge => Outcome::CountTooLarge,

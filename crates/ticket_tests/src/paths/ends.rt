@@ -31,7 +31,7 @@ enum End {
 fn end_of_client(fault: &ClientFault) -> End {
     match fault {
         ClientFault::NotAReply => End::NotAReply,
-        ClientFault::Refused(refusal) => End::Refused(refusal.code),
+        ClientFault::Refused(refusal) => End::Refused(refusal.error.code),
         ClientFault::Mismatch(what) => End::Differs(*what),
         ClientFault::CannotOpen | ClientFault::CountTooLarge => End::NotOpened,
         ClientFault::Memory => End::Memory,
