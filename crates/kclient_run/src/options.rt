@@ -15,6 +15,9 @@ A first ticket, and one for a service:
 Without --cache it is the file that KRB5CCNAME names, or else /tmp/krb5cc_ and the user's number. Without --realm or
 --kdc it is the default realm, and the realm's KDCs, of the file that KRB5_CONFIG names, or /etc/krb5.conf.
 
+A password that `kinit` asks for at a terminal shows as you type it. To hide it:
+  stty -echo; kclient kinit --name alice; stty echo
+
 `kinit` and `kdestroy` print `ok`, and `kvno` prints for each service its name and the version of its key. Else `refused`
 is printed with a reason, or with the error code of the KDC, and the status is 1; or `failed`, with status 3, where a
 file, a socket, the clock or memory failed. A faulty command line has status 2. Standard error says in words what it
