@@ -1,6 +1,7 @@
 -- What the reading of a journal's entries has found so far.
-use Rattle.std.proofs.Common.{◌≡◌, ◌≢◌, ◌<◌, ℕ, List, [], ◌∷◌, ◌++◌, length, refl, sym, ap, subst, ◌∙◌, append_assoc, arith, Err}
-use Rattle.std.specs.Prelude.{⊤}
+use Rattle.std.proofs.Common.{◌≡◌, ◌≢◌, ◌<◌, ℕ, List, [], ◌∷◌, ◌++◌, length, refl, sym, ap, ◌∙◌, append_assoc, arith, Err, true, false}
+use Rattle.std.specs.Prelude.{◌==◌}
+use Rattle.std.proofs.lemmas.Bool.{eqb-true, false≢true}
 use Rattle.std.proofs.lemmas.List.{append-nil, length-append}
 use Rattle.krb_der.specs.Laws.{tlv_some}
 use Rattle.krb_der.specs.Spelling.{tlv}
@@ -106,3 +107,25 @@ module _ (start before : List ℕ) (es : List Entry) (rest check : List ℕ) (a 
       no_others [] has rest_is = some (rest_is ∙ none_chained check)
       no_others (o ∷ os) has rest_is =
           let parts = have_first o os has in one o (chained (check_of check (w o)) os) parts.0 (rest_is ∙ one_first check o os)
+
+-- an element is taken from the front
+pub shorter : (check element old new : List ℕ) → old ≡ checked check element ++ new → length new < length old
+shorter check element old new is =
+    let some = tlv_some 4 element in
+    let first = length-append (tlv 4 element) (tlv 4 (check_of check element)) in
+    let all = length-append (checked check element) new in
+    omega (arith, some, first, all, ap length is)
+
+pub is_some : (xs : List ℕ) → false ≡ (length xs == 0) → xs ≢ []
+is_some [] test none = absurd (false≢true test)
+is_some (x ∷ xs) test none = let zero : length (x ∷ xs) ≡ 0 = ap length none in omega (arith, zero)
+
+pub is_none : (xs : List ℕ) → true ≡ (length xs == 0) → xs ≡ []
+is_none [] test = refl
+is_none (x ∷ xs) test = let zero : length (x ∷ xs) ≡ 0 = eqb-true (length (x ∷ xs)) 0 (sym test) in absurd (omega (arith, zero))
+
+-- of a fault it is the same, whatever was to be read
+pub unless_fault : {X Y : Type 0} (fault : JournalFault) (P : X → Type 0) (Q : Y → Type 0) → UnlessMemory {X = X} (Err fault) P
+    → UnlessMemory {X = Y} (Err fault) Q
+unless_fault Broken P Q none = none
+unless_fault Memory P Q none = tt

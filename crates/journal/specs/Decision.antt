@@ -1,7 +1,8 @@
 -- What a start makes of the journals that it finds.
-use Rattle.std.specs.Prelude.{ℕ, ℤ, pos, ◌-ℤ◌, Bool, true, false, not, ◌&&◌, ◌||◌, nat_eq, int_lt, if◌then◌else◌}
+use Rattle.std.specs.Prelude.{ℤ, pos, ◌+ℤ◌, ◌-ℤ◌, Bool, false, not, ◌&&◌, ◌||◌, nat_eq, int_lt, if◌then◌else◌}
 use Rattle.std.specs.Prelude.{List, [], ◌∷◌, ◌++◌, map, Option, Some, None}
 use Rattle.std.specs.Int.{int_max}
+use Rattle.std.specs.List.{list_any}
 use Rattle.std.specs.Cmp.Lexicographic.{pointwise}
 use Rattle.krb_fields.specs.Skew.{skew}
 use Rattle.refusals.specs.Refusals.{first_holding}
@@ -20,10 +21,22 @@ use Rattle.journal.specs.declared.reading.Journal.{Journal}
 abbrev pub Place : Type 0
 Place = places.Place
 
+-- the second in which the request of an entry came
+abbrev pub came : Entry → ℤ
+came e = e.ctime +ℤ e.age
+
 -- whether one of these requests came after this second
 abbrev pub any_later : ℤ → List Entry → Bool
-any_later second [] = false
-any_later second (e ∷ es) = int_lt second e.at || any_later second es
+any_later second es = list_any (λ e. int_lt second (came e)) es
+
+-- a second above a time and not below another second
+abbrev pub above : ℤ → ℤ → ℤ
+above floor ctime = int_max floor (ctime +ℤ pos 1)
+
+-- the same for the times of all of these entries
+abbrev pub above_all : ℤ → List Entry → ℤ
+above_all floor [] = floor
+above_all floor (e ∷ es) = above_all (above floor e.ctime) es
 
 -- ---- the journal's realm, boot and moments
 

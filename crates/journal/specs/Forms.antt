@@ -1,8 +1,6 @@
 -- The header and the entries of a journal, in DER.
-use Rattle.std.proofs.Common.{ℕ, ◌+◌, ◌<◌, ◌≤◌, ◌^◌, List, length, refl, arith}
-use Rattle.krb_elements.specs.Codec.{Codec, Record, field, end, sequence, octets, time, microseconds}
-use Rattle.krb_fields.specs.NameLengthLaws.{name_most}
-use Rattle.krb_fields.specs.NameLimits.{IsWithinLimits}
+use Rattle.std.proofs.Common.{ℕ, List, refl}
+use Rattle.krb_elements.specs.Codec.{Codec, Record, field, end, sequence, octets, time, microseconds, int32}
 use Rattle.krb_fields.specs.PrincipalName.{Name, name}
 use Rattle.journal.specs.declared.entry.Entry as entries
 use Rattle.journal.specs.declared.header.Header as headers
@@ -39,13 +37,13 @@ header = header_of octets
 unfoldable pub entry_form : {N : Type 0} → Codec N → Record (entries.Entry N)
 entry_form n = record {
   fields =
-      field 0 (λ x. x.at) time
-      (field 1 (λ x. x.client) n
-      (field 2 (λ x. x.ctime) time
-      (field 3 (λ x. x.cusec) microseconds
+      field 0 (λ x. x.client) n
+      (field 1 (λ x. x.ctime) time
+      (field 2 (λ x. x.cusec) microseconds
+      (field 3 (λ x. x.age) int32
       end)));
-  to = λ (at, (client, (ctime, (cusec, _)))).
-      record { at = at; client = client; ctime = ctime; cusec = cusec };
+  to = λ (client, (ctime, (cusec, (age, _)))).
+      record { client = client; ctime = ctime; cusec = cusec; age = age };
   there = λ v. refl;
   back = λ x. refl;
   rising = refl;

@@ -1,5 +1,5 @@
 -- The text of a journal: each element with its check behind it.
-use Rattle.std.specs.Prelude.{◌≡◌, ◌<◌, ◌^◌, ℕ, ⊤, List, [], ◌∷◌, ◌++◌, length, Result, Ok, Err}
+use Rattle.std.specs.Prelude.{◌<◌, ◌^◌, ℕ, ⊤, List, [], ◌∷◌, ◌++◌, length, take, Result, Ok, Err}
 use Rattle.sha2.specs.Sha256.{sha256}
 use Rattle.krb_der.specs.Spelling.{tlv}
 use Rattle.krb_elements.specs.Codec.{written}
@@ -7,9 +7,9 @@ use Rattle.journal.specs.Forms.{Entry, Header, entry, header}
 use Rattle.journal.specs.declared.fault.JournalFault.{JournalFault}
 use Rattle.journal.specs.declared.fault.JournalFault.TheVariants.{Broken, Memory}
 
--- the check of an element: the digest of the check before it and of its octets
+-- the check of an element: the first 16 octets of the digest of the check before it and of its octets
 abbrev pub check_of : List ℕ → List ℕ → List ℕ
-check_of before element = sha256 (before ++ element)
+check_of before element = take 16 (sha256 (before ++ element))
 
 -- an element and its check, each as an OCTET STRING
 abbrev pub checked : List ℕ → List ℕ → List ℕ

@@ -1,5 +1,6 @@
 //! Elements, each with its check behind it.
 ghost use Rattle.std.specs.Prelude.{◌≡◌, ◌<◌, ◌^◌, ◌++◌, ℕ, List, length, IfOk, OnOk, IsOkAnd};
+ghost use Rattle.krb_der.specs.Spelling.{tlv};
 ghost use Rattle.journal.specs.Texts.{check_of, checked};
 
 use krb_der::{DerFault, Reader, Writer};
@@ -10,17 +11,20 @@ use std::alloc::AllocError;
 #[derive(Drop)]
 pub struct Element<'a> {
     pub octets: &'a [u8],
-    pub check: [u8; 32],
+    pub check: [u8; 16],
 }
 
 /// The check of an element.
-pub fn check_of(before: &[u8], element: &[u8]) -> [u8; 32]
+pub fn check_of(before: &[u8], element: &[u8]) -> [u8; 16]
     ensures { result ≡ check_of before.now element.now }
 {
     let mut hasher = Sha256::new();
     hasher.update(before);
     hasher.update(element);
-    hasher.finalize()
+    let digest = hasher.finalize();
+    let mut check = [0; 16];
+    check.copy_from_slice(&digest[..16]);
+    check
 }
 
 /// The element at the front, if its check stands behind it.
@@ -33,16 +37,25 @@ pub fn take_element<'a>(reader: &mut Reader<'a>, before: &[u8]) -> Result<Elemen
         → IsOkAnd result (λ e. e.octets.now ≡ element) × (reader.new ≡ rest) }
 {
     let octets = reader.read_octets()?;
-    let stated = reader.read_octets()?;
     let check = check_of(before, octets);
-    if stated != check.as_slice() {
-        return Err(DerFault::Trailing);
-    }
+    take_check(reader, &check)?;
     Ok(Element { octets, check })
 }
 
+/// Takes this check from the front.
+pub fn take_check(reader: &mut Reader<'_>, check: &[u8; 16]) -> Result<(), DerFault>
+    ensures found { OnOk result (reader.old ≡ tlv 4 check.now ++ reader.new) }
+    ensures only { (rest : List ℕ) → reader.old ≡ tlv 4 check.now ++ rest → IsOkAnd result (λ _. reader.new ≡ rest) }
+{
+    let stated = reader.read_octets()?;
+    if stated != check.as_slice() {
+        return Err(DerFault::Trailing);
+    }
+    Ok(())
+}
+
 /// Appends an element and its check, which it returns.
-pub fn put_element(out: &mut Writer, before: &[u8], element: &[u8]) -> Result<[u8; 32], AllocError>
+pub fn put_element(out: &mut Writer, before: &[u8], element: &[u8]) -> Result<[u8; 16], AllocError>
     requires { length element.now < 2 ^ 32 }
     ensures text { OnOk result (out.new ≡ out.old ++ checked before.now element.now) }
     ensures check { IfOk result (λ check. check ≡ check_of before.now element.now) }

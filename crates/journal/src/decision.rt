@@ -1,6 +1,6 @@
 //! What a start makes of the journals that it finds.
 ghost use Rattle.std.specs.Prelude.{◌≡◌, ◌++◌, map, IfOk, OnOk};
-ghost use Rattle.journal.specs.Decision.{any_later, doubt_of, entries_behind, floor_behind, is_first, is_later};
+ghost use Rattle.journal.specs.Decision.{any_later, came, doubt_of, entries_behind, floor_behind, is_first, is_later};
 ghost use Rattle.journal.specs.Decision.{is_other_boot, is_other_realm, is_unlinked, links_to, resumption_of};
 ghost use Rattle.journal.specs.Decision.{seen_of, start_by, start_of};
 
@@ -11,6 +11,7 @@ use krb_fields::{Moment, SKEW};
 use refusals::first_holding;
 use replay::{Resumption, Seen};
 use std::alloc::{AllocError, Global};
+use std::fmt;
 
 /// What stands where a journal is to be.
 #[derive(Drop)]
@@ -47,13 +48,26 @@ pub enum Doubt {
     Unlinked,
 }
 
+impl fmt::Display for Doubt {
+    fn fmt<W: fmt::Write>(&self, f: &mut fmt::Formatter<W>) -> fmt::Result {
+        f.write_str(match self {
+            Doubt::Absent => "there is none",
+            Doubt::Damaged => "it is damaged, or others may write it",
+            Doubt::OtherRealm => "it is of another realm",
+            Doubt::OtherBoot => "the system was booted since",
+            Doubt::Later => "the clock is behind it",
+            Doubt::Unlinked => "the journal that goes before it is missing",
+        })
+    }
+}
+
 /// How a server starts.
 #[derive(Drop)]
 pub enum Start {
     /// It resumes with this, and its journal goes on behind this check.
     Resumes {
         resumption: Resumption,
-        check: [u8; 32],
+        check: [u8; 16],
     },
     /// It refuses all authenticators that may have come before.
     Refuses {
@@ -138,12 +152,14 @@ fn is_later(place: &Place<'_>, journal: &Journal) -> bool
 fn any_later(second: i64, entries: &[Entry]) -> bool
     ensures { result ≡ any_later second entries.now }
 {
-    for entry in entries {
-        if second < entry.at.seconds() {
-            return true;
-        }
-    }
-    false
+    entries.iter().any(|entry| second < came(entry))
+}
+
+/// The second in which the request of an entry came.
+fn came(entry: &Entry) -> i64
+    ensures { result ≡ came entry.now }
+{
+    entry.ctime.seconds() + i64::from(entry.age)
 }
 
 /// Whether no journal goes before it.

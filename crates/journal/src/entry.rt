@@ -14,12 +14,12 @@ use std::alloc::AllocError;
 /// An authenticator that is remembered.
 #[derive(Drop)]
 pub struct Entry<N = Name> {
-    /// When its request came.
-    pub at: KTime,
     pub client: N,
     /// The authenticator's own time.
     pub ctime: KTime,
     pub cusec: Microseconds,
+    /// How many seconds after that time its request came. Below zero, the client's clock was ahead.
+    pub age: i32,
 }
 
 /// An [`Entry`] where it stands.
@@ -41,10 +41,10 @@ impl<'a, N: Decode<'a>> DecodeFields<'a> for Entry<N> {
     #[tactic(auto, unfolding(crate::specs::Forms::entry_form))]
     fn look_fields(fields: &mut Reader<'a>) -> Result<Entry<N>, DerFault> {
         Ok(Entry {
-            at: take_field(fields, 0)?,
-            client: take_field(fields, 1)?,
-            ctime: take_field(fields, 2)?,
-            cusec: take_field(fields, 3)?,
+            client: take_field(fields, 0)?,
+            ctime: take_field(fields, 1)?,
+            cusec: take_field(fields, 2)?,
+            age: take_field(fields, 3)?,
         })
     }
 }
@@ -52,9 +52,9 @@ impl<'a, N: Decode<'a>> DecodeFields<'a> for Entry<N> {
 impl<N: Encode> EncodeFields for Entry<N> {
     #[tactic(auto, unfolding(crate::specs::Forms::entry_form))]
     fn put_fields(&self, out: &mut Writer) -> Result<(), AllocError> {
-        write_field(out, 0, &self.at)?;
-        write_field(out, 1, &self.client)?;
-        write_field(out, 2, &self.ctime)?;
-        write_field(out, 3, &self.cusec)
+        write_field(out, 0, &self.client)?;
+        write_field(out, 1, &self.ctime)?;
+        write_field(out, 2, &self.cusec)?;
+        write_field(out, 3, &self.age)
     }
 }

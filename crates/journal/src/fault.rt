@@ -1,4 +1,4 @@
-//! Why a journal is not read.
+//! Why a journal is not read, and why something is not written into one.
 ghost use Rattle.std.specs.Prelude.{◌≡◌};
 ghost use Rattle.journal.specs.declared.fault.JournalFault.TheVariants as faults;
 
@@ -47,5 +47,30 @@ impl<T: Drop> From<AllocFailed<T>> for JournalFault {
 
     fn from(_error: AllocFailed<T>) -> JournalFault {
         JournalFault::Memory
+    }
+}
+
+/// Why something is not written into a journal.
+#[derive(Clone, Copy, Debug)]
+pub enum WriteFault {
+    /// A name or a number is beyond what an entry or a header has.
+    Unfit,
+    Memory,
+}
+
+impl fmt::Display for WriteFault {
+    fn fmt<W: fmt::Write>(&self, f: &mut fmt::Formatter<W>) -> fmt::Result {
+        f.write_str(match self {
+            WriteFault::Unfit => "a name or a number is too large",
+            WriteFault::Memory => "out of memory",
+        })
+    }
+}
+
+impl Error for WriteFault {}
+
+impl From<AllocError> for WriteFault {
+    fn from(_error: AllocError) -> WriteFault {
+        WriteFault::Memory
     }
 }

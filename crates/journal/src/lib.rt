@@ -9,12 +9,14 @@ mod decision;
 mod entry;
 mod fault;
 mod header;
+mod keeping;
 mod reading;
 mod writing;
 
 pub use decision::{Doubt, Found, Place, Start, start_of};
 pub use entry::{Entry, EntryRef};
-pub use fault::JournalFault;
+pub use fault::{JournalFault, WriteFault};
 pub use header::{Header, HeaderRef};
+pub use keeping::{above, above_all, write_beginning, write_seen};
 pub use reading::{Journal, read_journal};
 pub use writing::{Written, write_entry, write_header};

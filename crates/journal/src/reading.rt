@@ -1,11 +1,11 @@
 //! What a journal holds.
-ghost use Rattle.std.specs.Prelude.{◌≡◌, ◌++◌, ℕ, List, IfOk, IsOkAnd};
+ghost use Rattle.std.specs.Prelude.{◌≡◌, ◌<◌, ◌++◌, ℕ, List, length, IfOk, IsOkAnd};
 ghost use Rattle.krb_elements.specs.Codec.{written};
 ghost use Rattle.journal.specs.Forms.{Entry as Listed, Header as Headers, entry, header};
 ghost use Rattle.journal.specs.Texts.{HasElement, HasHeader, HaveElements, UnlessMemory};
 ghost use Rattle.journal.specs.Texts.{check_of, checked, chained, header_check, journal_text, last_check};
 
-use crate::checks::{check_of, take_element};
+use crate::checks::{check_of, take_check, take_element};
 use crate::entry::{Entry, EntryRef};
 use crate::fault::JournalFault;
 use crate::header::{Header, HeaderRef};
@@ -19,7 +19,7 @@ pub struct Journal {
     pub header: Header,
     pub entries: Seq<Entry>,
     /// The last check.
-    pub check: [u8; 32],
+    pub check: [u8; 16],
 }
 
 /// Reads a journal.
@@ -45,7 +45,7 @@ pub fn read_journal(alloc: Global, text: &[u8]) -> Result<Journal, JournalFault>
 #[derive(Drop)]
 struct Headed {
     header: Header,
-    check: [u8; 32],
+    check: [u8; 16],
 }
 
 /// The header at the front.
@@ -57,11 +57,8 @@ fn take_header(alloc: Global, reader: &mut Reader<'_>) -> Result<Headed, Journal
 {
     let octets = reader.read_octets()?;
     let found = header_in(octets)?;
-    let stated = reader.read_octets()?;
     let check = check_of(found.link.as_slice(), octets);
-    if stated != check.as_slice() {
-        return Err(JournalFault::Broken);
-    }
+    take_check(reader, &check)?;
     Ok(Headed {
         header: owned_header(alloc, &found)?,
         check,
@@ -92,14 +89,14 @@ fn owned_header(alloc: Global, found: &HeaderRef<'_>) -> Result<Header, AllocErr
 #[derive(Drop)]
 struct Entries {
     entries: Vec<Entry>,
-    check: [u8; 32],
+    check: [u8; 16],
 }
 
 /// The entries to the end, behind this check.
 fn take_entries(
     alloc: Global,
     reader: &mut Reader<'_>,
-    before: [u8; 32],
+    before: [u8; 16],
 ) -> Result<Entries, JournalFault>
     ensures found { IfOk result (λ t. reader.old ≡ chained before t.entries.items) }
     ensures check { IfOk result (λ t. t.check ≡ last_check before t.entries.items) }
@@ -120,20 +117,21 @@ fn take_entries(
 #[derive(Drop)]
 struct Taken {
     entry: Entry,
-    check: [u8; 32],
+    check: [u8; 16],
 }
 
 /// The entry at the front, behind this check.
 fn take_entry(
     alloc: Global,
     reader: &mut Reader<'_>,
-    before: &[u8; 32],
+    before: &[u8; 16],
 ) -> Result<Taken, JournalFault>
     ensures found { IfOk result (λ t. reader.old ≡ checked before.now (written entry t.entry) ++ reader.new) }
     ensures check { IfOk result (λ t. t.check ≡ check_of before.now (written entry t.entry)) }
     ensures only { (e : Listed) (rest : List ℕ) → HasElement e
         → reader.old ≡ checked before.now (written entry e) ++ rest
         → UnlessMemory result (λ t. (t.entry ≡ e) × (reader.new ≡ rest)) }
+    ensures shorter { IfOk result (λ _. length reader.new < length reader.old) }
 {
     let element = take_element(reader, before)?;
     let found = entry_in(element.octets)?;
@@ -155,9 +153,9 @@ fn owned_entry(alloc: Global, found: &EntryRef<'_>) -> Result<Entry, AllocError>
     ensures { IfOk result (λ entry. entry ≡ found.now) }
 {
     Ok(Entry {
-        at: found.at,
         client: found.client.to_name(alloc)?,
         ctime: found.ctime,
         cusec: found.cusec,
+        age: found.age,
     })
 }

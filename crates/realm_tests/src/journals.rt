@@ -1,75 +1,72 @@
 //! Journals (`journal`): their octets, what is read of them where they were cut or changed, and what a start makes of them.
 use crate::expect::{holds, same};
 use journal::{
-    Doubt, Entry, Found, Header, Journal, JournalFault, Place, Start, read_journal, start_of,
-    write_entry, write_header,
+    Doubt, Found, Journal, JournalFault, Place, Start, Written, read_journal, start_of,
+    write_beginning, write_seen,
 };
-use krb_der::KTime;
-use krb_elements::{Microseconds, Octets};
 use krb_fields::{Moment, Name};
+use replay::Seen;
 use std::alloc::{AllocError, Global};
 use std::test::Fail;
 
 const T: i64 = 1_704_067_200;
 
-/// A journal of the realm A.B, begun at the second T after a restart, with two authenticators of the client u: at T and 7
-/// microseconds, and at T + 300 and 999999. The octets and digests are those of Python's hashlib and a DER writer of a few
-/// lines.
+/// A journal of the realm A.B, begun at the second T after a restart, with two authenticators of the client u: one of T and
+/// 7 microseconds that came a second later, and one of T + 300 and 999999 that came 298 seconds before that.
+/// `tools/journal_vector.py` prints it.
 const TEXT: &str = "\
-043b3039a0050403412e42a1060404626f6f74a211180f32303234303130313030303030305aa311180f32303234303130313030303530315aa4020400\
-0420331b1f8157f14fd1697f80e639e0326735b5b8e1f95e924230e001017bb1080e\
-043d303ba011180f32303234303130313030303030315aa10e300ca003020101a10530031b0175a211180f32303234303130313030303030305aa30302\
-01070420e69e018390d11361a1e180f736333e794bdcf3f36a343e8423f7808cdfa4695d\
-043f303da011180f32303234303130313030303030325aa10e300ca003020101a10530031b0175a211180f32303234303130313030303530305aa30502\
-030f423f04207066057dd76ac6308735ee2a1e6ccef189098d2082c0703440e4a01bea350fed";
+043b3039a0050403412e42a1060404626f6f74a211180f32303234303130313030303030305aa311180f32303234303130313030303530315aa40204\
+000410331b1f8157f14fd1697f80e639e03267\
+042f302da00e300ca003020101a10530031b0175a111180f32303234303130313030303030305aa203020107a3030201010410eff6851b285e9db28b\
+e1c078ddb5366f\
+04323030a00e300ca003020101a10530031b0175a111180f32303234303130313030303530305aa20502030f423fa3040202fed60410af2ac58d5662\
+6dfa63d3b3062dc5cf93";
 
 /// Where the two entries begin, and the text ends.
-const FIRST: usize = 95;
+const FIRST: usize = 79;
 
-const SECOND: usize = 192;
+const SECOND: usize = 146;
 
-const END: usize = 291;
+const END: usize = 216;
 
 fn text(alloc: Global) -> Result<Vec<u8>, Fail> {
     Ok(hex::decode(alloc, TEXT)?)
 }
 
-fn time(second: i64) -> Result<KTime, Fail> {
-    Ok(KTime::new(second).ok_or("a time")?)
-}
-
-fn octets(alloc: Global, text: &[u8]) -> Result<Octets, AllocError> {
-    Octets::from_slice(alloc, text)
-}
-
 /// A journal that is begun at this second, behind these octets, with no entry.
-fn begun(alloc: Global, second: i64, link: &[u8]) -> Result<(Vec<u8>, [u8; 32]), Fail> {
-    let header = Header {
-        realm: octets(alloc, b"A.B")?,
-        boot: octets(alloc, b"boot")?,
-        at: time(second)?,
-        floor: time(T + 301)?,
-        link: octets(alloc, link)?,
+fn begun(alloc: Global, second: i64, link: &[u8]) -> Result<(Vec<u8>, [u8; 16]), Fail> {
+    let place = Place {
+        realm: b"A.B",
+        boot: b"boot",
+        at: Moment::new(second, 0).ok_or("a moment")?,
     };
-    let written = write_header(alloc, &header)?;
+    let written = write_beginning(alloc, &place, T + 301, link)?;
     Ok((written.text, written.check))
 }
 
-fn entry(alloc: Global, second: i64, ctime: i64, cusec: u32) -> Result<Entry, Fail> {
-    Ok(Entry {
-        at: time(second)?,
+/// The authenticator of the client u with this time, whose request came at this second, behind a check.
+fn entry(
+    alloc: Global,
+    check: &[u8; 16],
+    second: i64,
+    ctime: i64,
+    cusec: u32,
+) -> Result<Written, Fail> {
+    let at = Moment::new(second, 0).ok_or("a moment")?;
+    let seen = Seen {
         client: Name::new(alloc, 1, &[b"u"])?,
-        ctime: time(ctime)?,
-        cusec: Microseconds::new(cusec).ok_or("microseconds")?,
-    })
+        ctime,
+        cusec,
+    };
+    Ok(write_seen(alloc, check, at, &seen)?)
 }
 
 #[test]
 fn a_journal_has_these_octets(rt: HostRuntime) -> Result<(), Fail> {
     let alloc = rt.alloc();
     let (mut all, check) = begun(alloc, T, &[])?;
-    let first = write_entry(alloc, &check, &entry(alloc, T + 1, T, 7)?)?;
-    let second = write_entry(alloc, &first.check, &entry(alloc, T + 2, T + 300, 999_999)?)?;
+    let first = entry(alloc, &check, T + 1, T, 7)?;
+    let second = entry(alloc, &first.check, T + 2, T + 300, 999_999)?;
     all.extend_from_slice(&first.text)?;
     all.extend_from_slice(&second.text)?;
     same(&rt, &"the octets", &(all == text(alloc)?), &true);
@@ -197,7 +194,7 @@ fn a_start_resumes_or_says_why_not(rt: HostRuntime) -> Result<(), Fail> {
 }
 
 /// The last check of the journal.
-fn last_check(journal: &Found) -> Result<[u8; 32], Fail> {
+fn last_check(journal: &Found) -> Result<[u8; 16], Fail> {
     match journal {
         Found::Whole(Journal { check, .. }) => Ok(*check),
         Found::Nothing | Found::Broken => Err("a journal")?,
@@ -226,6 +223,6 @@ fn a_journal_is_behind_the_one_that_it_links_to(rt: HostRuntime) -> Result<(), F
             &wanted,
         );
     }
-    holds(&rt, &"its check", check != [0; 32]);
+    holds(&rt, &"its check", check != [0; 16]);
     Ok(())
 }
