@@ -1,5 +1,5 @@
 -- What is kept of an authenticator says rightly whether its reply bears a ticket.
-use Rattle.std.proofs.Common.{◌≡◌, ℤ, Bool, true, false, cond, ◌&&◌, if◌then◌else◌, IfSome, List, [], ◌∷◌, length}
+use Rattle.std.proofs.Common.{◌≡◌, ℕ, ℤ, Bool, true, false, cond, ◌&&◌, if◌then◌else◌, IfSome, List, [], ◌∷◌, length}
 use Rattle.std.proofs.Common.{Option, Some, None, refl, ap, sym, subst}
 use Rattle.std.specs.Prelude.{nat_eq, nat_lt}
 use Rattle.std.specs.Cmp.Lexicographic.{pointwise}
@@ -25,15 +25,18 @@ use Rattle.principals.specs.declared.change.Change.{Change as PrincipalChange}
 use Rattle.principals.specs.declared.change.ChangeFault.{ChangeFault}
 use Rattle.replay.proofs.Resumed.{resumed_are}
 use Rattle.replay.proofs.Stamps.{stamp_exact, stamp_total}
+use Rattle.replay.specs.Kept.{nothing_kept}
 use Rattle.replay.specs.Memory.{floor_at, remembered}
 use Rattle.replay.specs.Opening.{opening_floor}
 use Rattle.replay.specs.Tidied.{empty_memory, tidied}
 use Rattle.replay.specs.Stamp.{Stamp, is_from, stamp_cmp}
 use Rattle.replay.specs.declared.failures.Failures.{Failures}
+use Rattle.replay.specs.declared.keep.Bears.{Bears}
+use Rattle.replay.specs.declared.keep.Bears.TheVariants.{Ticket, Error}
 use Rattle.replay.specs.declared.keep.Kept.{Kept}
 use Rattle.replay.specs.declared.memory.Memory.{Memory}
 use Rattle.replay.specs.declared.opening.Opening.TheVariants.{First, Restart as OpenedAgain}
-use Rattle.tgs_exchange.specs.Answer.{TgsAnswer, answer_by, is_ticket, tgs_answer, tgs_error}
+use Rattle.tgs_exchange.specs.Answer.{TgsAnswer, answer_by, is_ticket, kept_of, longest_kept, tgs_answer, tgs_error}
 use Rattle.tgs_exchange.specs.Decision.{decision}
 use Rattle.tgs_exchange.specs.Issue.{tgs_rep}
 use Rattle.tgs_exchange.specs.View.{TgsView}
@@ -64,6 +67,16 @@ reply_bears_one r = refl
 
 -- ---- what the TGS exchange keeps
 
+-- a request and its reply, or nothing of a request that is too long
+kept_marked : (request : List ℕ) (bears : Bears) (octets : List ℕ) → is_ticket bears ≡ bears_ticket octets
+    → IsMarked (kept_of request bears octets)
+kept_marked request bears octets is = by_length (nat_lt longest_kept (length request))
+  where
+    by_length : (long : Bool)
+        → IsMarked (if long then nothing_kept else record { request = request; reply = octets; bears = bears })
+    by_length true = refl
+    by_length false = is
+
 module _ (v : TgsView) (incoming : Incoming) (body : ReqBody) (p : Presented) where
   -- nothing is kept by either of two answers, or what is marked
   either : (b : Bool) (x y : TgsAnswer) → IfSome x.kept IsMarked → IfSome y.kept IsMarked
@@ -73,13 +86,16 @@ module _ (v : TgsView) (incoming : Incoming) (body : ReqBody) (p : Presented) wh
 
   decision_marked : (decided : Decision Kept) → IfSome (answer_by v incoming body p decided).kept IsMarked
   decision_marked (Refuses refusal) = tt
-  decision_marked (Remembers refusal) = sym (error_bears_none (tgs_error v.realm incoming.at body refusal))
+  decision_marked (Remembers refusal) =
+      let e = tgs_error v.realm incoming.at body refusal in
+      kept_marked incoming.octets Error (written krb_error e) (sym (error_bears_none e))
   decision_marked (Repeats kept) =
       either (pointwise nat_eq incoming.octets kept.request) _ _
       (either (is_ticket kept.bears && nat_lt incoming.room (length kept.reply)) _ _ tt tt) tt
   decision_marked (Issues admission) =
       let reply = tgs_rep v incoming.at incoming.random body p admission in
-      either (nat_lt incoming.room (length (written (kdc_rep 13) reply))) _ _ tt (sym (reply_bears_one reply))
+      either (nat_lt incoming.room (length (written (kdc_rep 13) reply))) _ _ tt
+      (kept_marked incoming.octets Ticket (written (kdc_rep 13) reply) (sym (reply_bears_one reply)))
 
   tgs_marked : IfSome (tgs_answer v incoming body p).kept IsMarked
   tgs_marked = decision_marked (decision v incoming.at.sec body p)

@@ -5,9 +5,9 @@ ghost use Rattle.kdc_core.specs.Request.{request_of};
 
 use crate::contents::GREATEST_REQUEST;
 use as_exchange::AsOutcome;
-use kdc_state::Seen;
 use krb_fields::{Name, NameRef};
 use krb_types::read_kdc_req;
+use replay::Seen;
 use std::alloc::{AllocError, Global};
 use tgs_exchange::TgsOutcome;
 

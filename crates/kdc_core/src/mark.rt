@@ -2,9 +2,9 @@
 ghost use Rattle.std.specs.Prelude.{◌≡◌, IfOk, IfSome, OnOk, OnErr};
 ghost use Rattle.kdc_core.specs.After.{after, seen_in, MayStay};
 
-use kdc_state::{Seen, State};
+use kdc_state::State;
 use krb_fields::{Moment, Name};
-use replay::{Failures, Kept};
+use replay::{Failures, Kept, Seen};
 use std::alloc::{AllocError, Global};
 
 /// What changes in the memory of a client.

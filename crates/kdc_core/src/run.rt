@@ -10,11 +10,12 @@ ghost use Rattle.kdc_core.specs.Tickets.{OneTicket};
 ghost use Rattle.principals.specs.Change.{refusal};
 
 use crate::kdc::Kdc;
-use kdc_state::{Opening, Resumption};
+use kdc_state::Opening;
 use krb_elements::Octets;
 use krb_fields::Moment;
 use principal_rows::Limits;
 use principals::{Change, ChangeFault, Database};
+use replay::Resumption;
 use std::alloc::{AllocError, Global};
 use std::error::Error;
 use std::fmt;

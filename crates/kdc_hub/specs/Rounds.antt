@@ -30,7 +30,7 @@ Tries (action ∷ actions) did =
 -- the connection that an act failed on
 abbrev pub lost_by : Did → Option ℕ
 lost_by (Polled at event) = None
-lost_by Waited = None
+lost_by (Waited at) = None
 lost_by Missed = None
 lost_by (Acted action) = None
 lost_by (Failed action) = action_connection action
@@ -40,10 +40,10 @@ abbrev pub lost_in : List Did → Option ℕ
 lost_in [] = None
 lost_in (did ∷ others) = option_or (lost_by did) (lost_in others)
 
--- the poll failed, or nothing came, or an event came: then each of its actions was tried, and after memory ran out a Close
+-- the poll failed, or nothing came until a moment, or an event came: then each of its actions was tried, and after memory ran out a Close
 pub data Round : Type 0 where
   PollFailed : Round
-  NothingCame : Round
+  NothingCame : Moment → Round
   Took : Entry → List Did → List Did → Round
 
 abbrev pub close_of : Option ℕ → List Action
@@ -63,29 +63,29 @@ ending at None = []
 -- what a round steps
 abbrev pub entries_of : Round → List Entry
 entries_of PollFailed = []
-entries_of NothingCame = []
+entries_of (NothingCame at) = []
 entries_of (Took entry acts close) = entry ∷ ending entry.at (lost_in acts) ++ ending entry.at (lost_in close)
 
 -- what the Wire does in a round
 abbrev pub did_in : Round → List Did
 did_in PollFailed = Missed ∷ []
-did_in NothingCame = Waited ∷ []
+did_in (NothingCame at) = Waited at ∷ []
 did_in (Took entry acts close) = Polled entry.at entry.event ∷ acts ++ close
 
--- when the event came that it took, if it took one
+-- when its poll came back, if it did not fail
 abbrev pub moment_in : Round → Option Moment
 moment_in PollFailed = None
-moment_in NothingCame = None
+moment_in (NothingCame at) = Some at
 moment_in (Took entry acts close) = Some entry.at
 
--- when the last event came
+-- when the last poll came back that did not fail
 abbrev pub last_moment : List Round → Option Moment
 last_moment [] = None
 last_moment (round ∷ rounds) = option_or (last_moment rounds) (moment_in round)
 
 abbrev pub IsRound : Standing → Round → Type 0
 IsRound hub PollFailed = ⊤
-IsRound hub NothingCame = ⊤
+IsRound hub (NothingCame at) = ⊤
 IsRound hub (Took entry acts close) =
     Tries (step_of hub entry).actions acts × Tries (closing entry.stop entry.event) close
 

@@ -13,6 +13,8 @@ use std::collections::VecDeque;
 #[derive(Drop)]
 pub struct MemoryWire {
     coming: VecDeque<(Moment, Event)>,
+    /// When the last event came.
+    at: Moment,
     diary: Diary,
     /// How many calls succeed before the one that fails, if one is to fail.
     calls_before_fault: Option<u64>,
@@ -20,7 +22,8 @@ pub struct MemoryWire {
 }
 
 impl MemoryWire {
-    /// A Wire on which these events come. After so many polls and acts one fails, if any is to.
+    /// A Wire on which these events come, and behind them none: time stands still then. After so many polls and acts one
+    /// fails, if any is to.
     pub fn new(
         alloc: Global,
         coming: VecDeque<(Moment, Event)>,
@@ -28,6 +31,7 @@ impl MemoryWire {
     ) -> MemoryWire {
         MemoryWire {
             coming,
+            at: Moment { sec: 0, usec: 0 },
             diary: Diary::new(alloc),
             calls_before_fault,
             faults: 0,
@@ -70,18 +74,19 @@ impl Wire for MemoryWire {
 
     ghost fault_count = { λ w. w.faults };
 
-    fn poll(&mut self, alloc: Global) -> Result<Option<(Moment, Event)>, WireFault> {
+    fn poll(&mut self, alloc: Global) -> Result<(Moment, Option<Event>), WireFault> {
         if self.fails() {
             self.diary.keep(Ok(Did::Missed));
             return Err(WireFault);
         }
         let Some((at, event)) = self.coming.pop_front() else {
-            self.diary.keep(Ok(Did::Waited));
-            return Ok(None);
+            self.diary.keep(Ok(Did::Waited { at: self.at }));
+            return Ok((self.at, None));
         };
+        self.at = at;
         self.diary
             .keep(event.copy(alloc).map(|event| Did::Polled { at, event }));
-        Ok(Some((at, event)))
+        Ok((at, Some(event)))
     }
 
     fn act(&mut self, alloc: Global, action: &Action) -> Result<(), WireFault> {

@@ -22,22 +22,22 @@ pub struct Served {
     pub faults: u64,
     /// Events that were refused memory.
     pub refused: u32,
-    /// When the last event came.
+    /// When the last poll came back that did not fail.
     pub last: Option<Moment>,
 }
 
 /// Nothing came.
-fn nothing_served(faults: u64) -> Served
+fn nothing_served(faults: u64, last: Option<Moment>) -> Served
     ensures events { result.events ≡ 0 }
     ensures faults { result.faults ≡ faults }
     ensures refused { result.refused ≡ 0 }
-    ensures last { result.last ≡ None }
+    ensures last { result.last ≡ last }
 {
     Served {
         events: 0,
         faults,
         refused: 0,
-        last: None,
+        last,
     }
 }
 
@@ -51,7 +51,7 @@ pub fn serve<W: Wire, R: Rng>(alloc: Global, wire: &mut W, hub: &mut Hub<R>, rou
     ensures few_events { result.events ≤ rounds }
     ensures few_refused { result.refused ≤ rounds }
 {
-    let mut served = nothing_served(0);
+    let mut served = nothing_served(0, None);
     for _ in 0..rounds {
         let round = serve_round(alloc, wire, hub);
         served = Served {
@@ -72,9 +72,9 @@ fn serve_round<W: Wire, R: Rng>(alloc: Global, wire: &mut W, hub: &mut Hub<R>) -
     ensures one_refused { result.refused ≤ 1 }
 {
     match wire.poll(alloc) {
-        Ok(Some((at, event))) => take_event(alloc, wire, hub, at, event),
-        Ok(None) => nothing_served(0),
-        Err(_) => nothing_served(1),
+        Ok((at, Some(event))) => take_event(alloc, wire, hub, at, event),
+        Ok((at, None)) => nothing_served(0, Some(at)),
+        Err(_) => nothing_served(1, None),
     }
 }
 

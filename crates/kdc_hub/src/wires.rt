@@ -26,8 +26,8 @@ impl Error for WireFault {}
 pub enum Did {
     /// A poll gave an event.
     Polled { at: Moment, event: Event },
-    /// A poll gave none.
-    Waited,
+    /// A poll gave none until this moment.
+    Waited { at: Moment },
     /// A poll failed.
     Missed,
     /// An act was done.
@@ -44,8 +44,8 @@ pub trait Wire {
     // How often a call has failed.
     ghost fault_count: { Self → ℕ };
 
-    /// The next event with its moment, or none where none has come after a while.
-    fn poll(&mut self, alloc: Global) -> Result<Option<(Moment, Event)>, WireFault>
+    /// Returns the next event and its moment, or the moment alone if no event has come after a while.
+    fn poll(&mut self, alloc: Global) -> Result<(Moment, Option<Event>), WireFault>
         ensures records { Records (recorded self.old) (polled result ∷ []) (recorded self.new) }
         ensures counted { IsCounted (fault_count self.old) (faults_of result) (fault_count self.new) };
 

@@ -24,7 +24,7 @@ replacement Unchanged = []
 replacement (Changed database) = Replaced database ∷ []
 replacement Failed = []
 
--- When is to be tidied, by when it was tidied last and when the last event came: at that event's moment, unless it was
+-- When is to be tidied, by when it was tidied last and when the last poll came back: at that moment, unless it was
 -- within the minute from the last time on. So a clock that went back keeps nothing from being forgotten.
 abbrev pub due : Option Moment → Option Moment → Option Moment
 due tidied None = None

@@ -16,7 +16,8 @@ const MINUTE: i64 = 60;
 
 /// Serves for so many rounds. Before the first, and again after each 16, it looks whether the source has other rows;
 /// those of the same realm take the place of the ones that are served, and all that is remembered stays. Behind the
-/// rounds it forgets what can't come again, at most once in a minute, by the moment of the last event.
+/// rounds it forgets what can't come again, at most once in a minute, by the moment of the last poll: so a server that
+/// nobody asks forgets it, too.
 pub fn serve_life<W: Wire, S: RowSource, R: Rng>(
     alloc: Global,
     wire: &mut W,
@@ -64,7 +65,7 @@ fn serve_period<W: Wire, S: RowSource, R: Rng>(
     served
 }
 
-/// Forgets what can't come again, where the last event came a minute after the last time or later, or before it.
+/// Forgets what can't come again, where the last poll came back a minute after the last time or later, or before it.
 fn tidy_if_due<R: Rng>(hub: &mut Hub<R>, tidied: &mut Option<Moment>, last: &Option<Moment>)
     ensures { HasTidied (standing R.stream hub.old) tidied.old last.now (standing R.stream hub.new) tidied.new }
 {

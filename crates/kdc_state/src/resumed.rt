@@ -27,6 +27,18 @@ impl State {
         ensures memories { (name : Components)
             → IfOk result (λ state. memory_of state name ≡ resumed_memory resumption.now name) }
     {
+        let state = State::with_seen(alloc, database, limits, resumption)?;
+        Ok(state)
+    }
+
+    fn with_seen(
+        alloc: Global,
+        database: Database,
+        limits: Limits,
+        resumption: &Resumption,
+    ) -> Result<State, AllocError>
+        ensures { IfOk result (λ state. state ≡ resumed_state database limits resumption.now) }
+    {
         let mut state = State {
             database,
             limits,

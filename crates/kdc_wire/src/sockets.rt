@@ -157,13 +157,15 @@ impl<C: Clock + Drop> Sockets<C> {
         self.connections.peer(conn)
     }
 
-    /// The next event: of the sockets that are ready that of the one whose turn it is. Where none has anything it waits
-    /// for one. As long as some have, the others are looked at in every sixteenth call.
-    pub fn next(&mut self, alloc: Global) -> io::Result<Option<(Moment, Event)>> {
+    /// Returns the moment and the next event: of the sockets that are ready that of the one whose turn it is. Where none
+    /// has anything it waits for one, and returns no event if none comes. As long as some have, the others are looked at
+    /// in every sixteenth call.
+    pub fn next(&mut self, alloc: Global) -> io::Result<(Moment, Option<Event>)> {
         if !self.ready.is_empty() && self.unlooked < MOST_UNLOOKED {
             self.unlooked = self.unlooked.saturating_add(1);
-            if let Some(next) = self.next_known(alloc)? {
-                return Ok(Some(next));
+            let next = self.next_known(alloc)?;
+            if next.1.is_some() {
+                return Ok(next);
             }
         }
         self.look()?;
@@ -171,22 +173,22 @@ impl<C: Clock + Drop> Sockets<C> {
     }
 
     /// The next event of the sockets that are known to be ready.
-    fn next_known(&mut self, alloc: Global) -> io::Result<Option<(Moment, Event)>> {
+    fn next_known(&mut self, alloc: Global) -> io::Result<(Moment, Option<Event>)> {
         let at = now(&self.clock)?;
         self.at = Instant::now(&self.clock)?;
         self.retry(at)?;
         if let Some(event) = self.take_newcomer().or_else(|| self.close_idle()) {
-            return Ok(Some((at, event)));
+            return Ok((at, Some(event)));
         }
         for _ in 0..MOST_TURNS {
             if self.ready.is_empty() {
                 break;
             }
             if let Some(event) = self.take_turn(alloc, at)? {
-                return Ok(Some((at, event)));
+                return Ok((at, Some(event)));
             }
         }
-        Ok(None)
+        Ok((at, None))
     }
 
     /// The connection for which another one was closed.

@@ -57,9 +57,9 @@ impl<C: Clock + Drop> Wire for SocketWire<C> {
 
     ghost fault_count = { λ w. w.faults };
 
-    fn poll(&mut self, alloc: Global) -> Result<Option<(Moment, Event)>, WireFault> {
+    fn poll(&mut self, alloc: Global) -> Result<(Moment, Option<Event>), WireFault> {
         match self.sockets.next(alloc) {
-            Ok(event) => Ok(event),
+            Ok(next) => Ok(next),
             Err(_) => {
                 self.faults = self.faults.saturating_add(1);
                 Err(WireFault)

@@ -111,7 +111,7 @@ const SERVE: SubcommandRow = SubcommandRow {
         OptionRow {
             name: "remembered",
             shape: "N",
-            help: "How many authenticators are remembered of each client, 1 to 65536; else 1024",
+            help: "How many authenticators are remembered of each client, 1 to 65536; else 4096",
             times: Times::AtMostOnce,
         },
         OptionRow {
@@ -281,7 +281,7 @@ const REMEMBERED_FAULT: &str = "--remembered takes a number from 1 to 65536";
 
 fn limits(args: &ArgMatches<'_>) -> Result<Limits, ArgsFault> {
     let limits = Limits::new(
-        limit(args, "remembered", 1_024, REMEMBERED_FAULT)?,
+        limit(args, "remembered", 4_096, REMEMBERED_FAULT)?,
         limit(
             args,
             "lock-after",

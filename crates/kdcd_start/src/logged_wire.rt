@@ -61,9 +61,9 @@ impl<W: Wire + Peers, L: LogWriter> Wire for LoggedWire<W, L> {
 
     ghost fault_count = { λ o. W.fault_count o.wire };
 
-    fn poll(&mut self, alloc: Global) -> Result<Option<(Moment, Event)>, WireFault> {
+    fn poll(&mut self, alloc: Global) -> Result<(Moment, Option<Event>), WireFault> {
         let polled = self.wire.poll(alloc);
-        if let Ok(Some((at, event))) = &polled {
+        if let Ok((at, Some(event))) = &polled {
             self.came = Some(Came {
                 at: *at,
                 source: source_of(&self.wire, event),

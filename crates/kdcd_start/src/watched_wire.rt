@@ -34,9 +34,9 @@ impl<W: Wire + Drop, E: Write + Drop> Wire for WatchedWire<W, E> {
 
     ghost fault_count = { λ o. W.fault_count o.wire };
 
-    fn poll(&mut self, alloc: Global) -> Result<Option<(Moment, Event)>, WireFault> {
+    fn poll(&mut self, alloc: Global) -> Result<(Moment, Option<Event>), WireFault> {
         let polled = self.wire.poll(alloc);
-        if let Ok(Some((at, _))) = &polled {
+        if let Ok((at, _)) = &polled {
             say_refused(&mut self.clock, &mut self.errors, *at);
         }
         polled

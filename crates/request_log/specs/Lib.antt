@@ -3,3 +3,4 @@ pub mod Words
 pub mod Times
 pub mod Entry
 pub mod Lines
+pub mod Named

@@ -132,28 +132,28 @@ const OPTIONS: &[(&str, &str)] = &[
         "--db d --udp [::]:88",
         "\
             ServeOptions { db: \"d\", udp: [[::]:88], tcp: [], rounds: None, seed: None, \
-            limits: Limits { remembered: 1024, lock_after: 0, lock_seconds: 0, greatest_life: 36000, \
+            limits: Limits { remembered: 4096, lock_after: 0, lock_seconds: 0, greatest_life: 36000, \
             greatest_renewable: 604800 }, is_first: false, is_fixed: false, log: None }",
     ),
     (
         "--db d --tcp [::]:88 --first",
         "\
             ServeOptions { db: \"d\", udp: [], tcp: [[::]:88], rounds: None, seed: None, \
-            limits: Limits { remembered: 1024, lock_after: 0, lock_seconds: 0, greatest_life: 36000, \
+            limits: Limits { remembered: 4096, lock_after: 0, lock_seconds: 0, greatest_life: 36000, \
             greatest_renewable: 604800 }, is_first: true, is_fixed: false, log: None }",
     ),
     (
         "--db d --tcp [::]:88 --fixed",
         "\
             ServeOptions { db: \"d\", udp: [], tcp: [[::]:88], rounds: None, seed: None, \
-            limits: Limits { remembered: 1024, lock_after: 0, lock_seconds: 0, greatest_life: 36000, \
+            limits: Limits { remembered: 4096, lock_after: 0, lock_seconds: 0, greatest_life: 36000, \
             greatest_renewable: 604800 }, is_first: false, is_fixed: true, log: None }",
     ),
     (
         "--db d --tcp [::]:88 --log",
         "\
             ServeOptions { db: \"d\", udp: [], tcp: [[::]:88], rounds: None, seed: None, \
-            limits: Limits { remembered: 1024, lock_after: 0, lock_seconds: 0, greatest_life: 36000, \
+            limits: Limits { remembered: 4096, lock_after: 0, lock_seconds: 0, greatest_life: 36000, \
             greatest_renewable: 604800 }, is_first: false, is_fixed: false, log: Some(Text) }",
     ),
 ];

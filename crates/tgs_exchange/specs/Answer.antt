@@ -17,6 +17,7 @@ use Rattle.kdc_replies.specs.Reply.{NamesKey, OpensAlike}
 use Rattle.replay.specs.declared.keep.Bears.{Bears}
 use Rattle.replay.specs.declared.keep.Bears.TheVariants.{Ticket, Error}
 use Rattle.replay.specs.declared.keep.Kept.{Kept}
+use Rattle.replay.specs.Kept.{nothing_kept}
 use Rattle.tgs_opening.specs.Refusal.{code_of}
 use Rattle.tgs_opening.specs.declared.presented.Presented.{Presented}
 use Rattle.tgs_opening.specs.declared.refusal.TgsRefusal.{TgsRefusal}
