@@ -4,4 +4,5 @@ pub mod Starting
 pub mod Clocks
 pub mod Quiet
 pub mod Journal
+pub mod Handing
 pub mod Resuming

@@ -7,6 +7,7 @@ mod files;
 mod host;
 mod journal_file;
 mod journal_wire;
+mod laws;
 mod logged_wire;
 mod quiet_wire;
 mod request_lines;
@@ -22,6 +23,7 @@ pub use crate::files::{FileFault, database_of, read_at_most, read_whole, seed_of
 pub use crate::host::{Host, Journals};
 pub use crate::journal_file::{JournalBeginning, JournalFile, OpenedJournals, open_journals};
 pub use crate::journal_wire::{JournalWire, JournalWriter, NotKept};
+pub use crate::laws::every_life;
 pub use crate::logged_wire::{LogWriter, LoggedWire};
 pub use crate::quiet_wire::QuietWire;
 pub use crate::request_lines::{LogFormat, RequestLines, line_of};

@@ -9,7 +9,7 @@ use crate::args::ServeOptions;
 use crate::clock_watch::{Refused, refused_at_start};
 use crate::host::{Host, Journals};
 use crate::journal_file::{JournalBeginning, JournalFile, OpenedJournals};
-use crate::starting::{ReadyServer, StartFault, take_seed};
+use crate::starting::{ReadyServer, StartFault, keeps_accounts, take_seed};
 use journal::{Found, Place, Start, start_of};
 use kdc_core::{Kdc, Opening};
 use kdc_hub::Hub;
@@ -82,7 +82,7 @@ pub fn start_with_journal<'a, H: Host>(
     let rng = ChaCha20Rng::from_seed(seed);
     Ok(JournaledServer {
         server: ReadyServer {
-            hub: Hub::new(alloc, kdc, rng, options.log.is_some() || options.is_quiet),
+            hub: Hub::new(alloc, kdc, rng, keeps_accounts(options)),
             sockets,
             opening: opening_like(opened, &start),
             row_count,
