@@ -283,7 +283,7 @@ def try_killed(trial):
     trial.note("what is left of them is the owner's alone", "" if modes <= {0o600} else str(modes))
 
 
-# How often a server with a journal is killed, and how often it is told to end while requests come.
+# How often a server with a journal is killed, and how often it gets SIGTERM while requests come.
 JOURNAL_KILLS, JOURNAL_RESTARTS = 20, 5
 # How many octets a journal may have where the disk is full: some thirty records.
 FULL = 2048
@@ -349,7 +349,7 @@ def try_journal(trial):
 
 
 def try_restarts(trial, buyer):
-    """Told to end while requests come: each gets a ticket, if it is asked again where no reply comes."""
+    """SIGTERM while requests come: each gets a ticket, if it is asked again where no reply comes."""
     server, found = trial.serve("--journal run/journal"), []
     for _ in range(JOURNAL_RESTARTS):
         found += [buyer.buy(server) for _ in range(50)]

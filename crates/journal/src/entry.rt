@@ -11,7 +11,7 @@ use krb_elements::{
 use krb_fields::{Name, NameRef};
 use std::alloc::AllocError;
 
-/// An authenticator that is remembered.
+/// An authenticator that was seen.
 #[derive(Drop)]
 pub struct Entry<N = Name> {
     pub client: N,

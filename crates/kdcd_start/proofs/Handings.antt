@@ -79,7 +79,7 @@ module _ (at : Moment) (conn : ℕ) where
         let next = after i at stream_room message in
         replied i next message (reply_of i at stream_room message) (stream_requests next at messages) (messages_step next at conn fault messages) (messages_only next messages)
 
-    -- the same of the first so many
+    -- the same of the first d actions
     some_replied : (d : ℕ) (i j : Issuing) (message : List ℕ) (reply : Option Reply) (requests : List KdcEvent) (others : StreamStep)
         → OnlyReplies (length (take d requests)) (take d others.actions)
         → OnlyReplies (length (take (suc d) (asked i at stream_room message ∷ others_after reply requests))) (take (suc d) (reply_then conn reply j others).actions)

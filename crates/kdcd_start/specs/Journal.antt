@@ -10,7 +10,7 @@ use Rattle.kdc_hub.specs.declared.wires.Did.{Did}
 use Rattle.kdc_hub.specs.History.{reply_in, seen_by}
 use Rattle.kdc_hub.specs.Wire.{Records}
 
--- an authenticator that is remembered, with the moment of its request
+-- an authenticator that the KDC remembers, with the moment of its request
 pub record Handed : Type 0 where
   pub at : Moment
   pub seen : Seen
@@ -18,8 +18,8 @@ pub record Handed : Type 0 where
 abbrev pub handed_at : Moment → List Seen → List Handed
 handed_at at all = map (λ seen. record { at = at; seen = seen }) all
 
--- what is handed over for a reply, and for an action: the authenticator that is remembered by the request that is
--- answered, if one is
+-- what is handed over for a reply, and for an action: the authenticator that the request made the KDC remember, if it
+-- did
 abbrev pub handed_for : Option Moment → Option Reply → List Handed
 handed_for None reply = []
 handed_for (Some at) reply = handed_at at (seen_by reply)
@@ -50,7 +50,7 @@ abbrev pub may_act : {J : Type 0} → (J → Bool) → Option J → Option Momen
 may_act is_whole None at action = true
 may_act is_whole (Some journal) at action = not (has_reply action) || has_all is_whole journal at
 
--- the record of a Wire of which no action was withheld
+-- the record of a Wire, as long as no action was withheld
 abbrev pub unless_withheld : ℕ → Option (List Did) → Option (List Did)
 unless_withheld withheld did = if nat_eq withheld 0 then did else None
 

@@ -1,5 +1,5 @@
 -- How a server with a journal starts.
-use Rattle.std.specs.Prelude.{◌≡◌, ◌||◌, ℕ, ⊤, Bool, true, false, List, [], ◌∷◌, Option, Some, None, is_some}
+use Rattle.std.specs.Prelude.{◌≡◌, ◌||◌, not, ℕ, Bool, true, false, List, [], ◌∷◌, Option, Some, None, is_some}
 use Rattle.std.specs.FinMap as map
 use Rattle.std.specs.Option.{option_copied}
 use Rattle.krb_fields.specs.declared.moment.Moment.{Moment}
@@ -37,9 +37,8 @@ started_state rows limits opening (Resumes resumption check) = resumed_state row
 started_state rows limits opening (Refuses doubt) = opened_state rows limits opening
 
 -- a first start finds no journal
-abbrev pub MayBeFirst : Bool → Journals → Type 0
-MayBeFirst true journals = (is_there journals.newer ≡ false) × (is_there journals.older ≡ false)
-MayBeFirst false journals = ⊤
+abbrev pub may_be_first : Bool → Journals → Bool
+may_be_first is_first journals = not is_first || not (is_there journals.newer || is_there journals.older)
 
 -- it resumes exactly where the journals say so, by the realm of the rows, the boot and the moment
 pub record IsDecided (rows : Principals) (journals : Journals) (at : Moment) (start : Start) : Type 0 where
@@ -58,7 +57,7 @@ pub record IsJournaled (options : ServeOptions) (path : List ℕ) (before after 
   pub did : Records before
       (ReadRows rows ∷ seeding (option_copied options.seed) octets ∷ Held options.udp.items options.tcp.items
       ∷ ReadJournals path journals ∷ Showed at ∷ []) after
-  pub first : MayBeFirst options.is_first journals
+  pub first : may_be_first options.is_first journals ≡ true
   pub decided : IsDecided rows journals at start
   pub kdc : hub.issuing.kdc ≡ started_state rows options.limits (opened_by options.is_first at) start
   pub random : hub.issuing.random ≡ seeded (seed_by (option_copied options.seed) octets)

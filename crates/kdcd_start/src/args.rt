@@ -74,8 +74,8 @@ says which TGS-REQs are refused for that, and until when. With --log each reques
 client, the service, and what became of it: `ticket` with its lifetime, or `refused` with the error's code and a word for
 it; then rule=NAME for a refusal, and etype=, flags=, until= and renew= for a ticket. A line that can't be written is lost.
 
-With --journal each authenticator that is remembered is a record of FILE before its reply is sent. A start finds the
-records of the last run, remembers them, and refuses nothing else. It does so only if nothing is in doubt: the journal is
+With --journal each authenticator that enters a replay cache is a record of FILE before its reply is sent. A start finds
+the records of the last run, refuses those authenticators, and nothing else. It does so only if nothing is in doubt: the journal is
 of this realm and this boot of the system, whole, and not later than the clock. Else it starts as without a journal, and
 standard error says why. FILE and FILE.old take turns every ten minutes. While a record can't be written no reply is sent;
 standard error says so. --first is refused where there is a journal: it is for the first start alone.
@@ -151,7 +151,7 @@ const SERVE: SubcommandRow = SubcommandRow {
         OptionRow {
             name: "journal",
             shape: "FILE",
-            help: "The authenticators that are remembered, so that a restart goes on with them and refuses nothing",
+            help: "The records of the replay caches, so that a restart goes on with them and refuses nothing new",
             times: Times::AtMostOnce,
         },
         OptionRow {

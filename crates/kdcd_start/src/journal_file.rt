@@ -27,7 +27,7 @@ const OWNER_ONLY: u32 = 0o600;
 /// The bits of a mode that let others write.
 const OTHERS_WRITE: u32 = 0o022;
 
-/// A journal goes on in another file more than so many seconds after it was begun. What its first authenticator could
+/// A journal goes on in another file more than this many seconds after it was begun. What its first authenticator could
 /// still be needed for is over by then.
 const TURN: i64 = 600;
 

@@ -35,7 +35,7 @@ pub trait JournalWriter {
         ensures whole { is_whole self.new ≡ is_ok result };
 }
 
-/// A Wire that has its journal keep each authenticator that is remembered, and only then does the action with the reply.
+/// A Wire that has its journal keep each authenticator that the KDC remembers, and only then does the action with the reply.
 /// An action with a reply fails as long as the journal has not kept all. Every other call is forwarded to the inner
 /// Wire, whose record is this one's until an action is withheld.
 #[derive(Drop)]
@@ -142,7 +142,7 @@ fn keep_for<J: JournalWriter>(
     }
 }
 
-/// The same for the reply. Before an event has come nothing is remembered.
+/// The same for the reply. Before an event has come there is none.
 fn keep_reply<J: JournalWriter>(
     alloc: Global,
     journal: &mut J,

@@ -6,5 +6,4 @@ ghost use Rattle.kdcd_start.specs.Handing.{HandsAllInLife, HandsAllInRounds};
 pub fn every_life()
     ensures rounds { HandsAllInRounds }
     ensures life { HandsAllInLife }
-{
-}
+{}

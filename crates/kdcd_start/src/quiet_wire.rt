@@ -13,7 +13,7 @@ use std::net::SocketAddr;
 const SKEW_ERROR: i32 = 37;
 
 /// A Wire that withholds each refusal of a TGS-REQ with KRB_AP_ERR_SKEW up to a second, so that its client asks another
-/// KDC. Every other call is forwarded to the inner Wire. It tells no record, since an action that it withholds counts
+/// KDC. Every other call is forwarded to the inner Wire. It keeps no record, since an action that it withholds counts
 /// as done.
 #[derive(Drop)]
 pub struct QuietWire<W> {

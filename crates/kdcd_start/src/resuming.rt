@@ -3,7 +3,7 @@ ghost use Rattle.std.specs.Prelude.{◌≡◌, IfOk, true, false};
 ghost use Rattle.kdc_hub.specs.Hub.{standing};
 ghost use Rattle.rand_core.specs.Steps.{steps_u32, stream_of};
 ghost use Rattle.rand_chacha.specs.ChaCha.{next_word};
-ghost use Rattle.kdcd_start.specs.Resuming.{IsDecided, IsJournaled, MayBeFirst, is_there, opened_by, started_state};
+ghost use Rattle.kdcd_start.specs.Resuming.{IsDecided, IsJournaled, is_there, may_be_first, opened_by, started_state};
 
 use crate::args::ServeOptions;
 use crate::clock_watch::{Refused, refused_at_start};
@@ -68,7 +68,7 @@ pub fn start_with_journal<'a, H: Host>(
         Ok(journals) => journals,
         Err(fault) => return Err(StartFault::File(path, fault)),
     };
-    if options.is_first && has_any(&journals) {
+    if !may_be_first(options.is_first, &journals) {
         return Err(StartFault::NotFirst(path));
     }
     let at = match host.now() {
@@ -94,11 +94,11 @@ pub fn start_with_journal<'a, H: Host>(
     })
 }
 
-/// Whether there is a journal, whatever it is.
-fn has_any(journals: &Journals) -> bool
-    ensures { result ≡ false → MayBeFirst true journals.now }
+/// Whether a start may be the first, if it is to be: there is no journal, whatever it is.
+fn may_be_first(is_first: bool, journals: &Journals) -> bool
+    ensures { result ≡ may_be_first is_first journals.now }
 {
-    is_there(&journals.newer) || is_there(&journals.older)
+    !is_first || !(is_there(&journals.newer) || is_there(&journals.older))
 }
 
 fn is_there(found: &Found) -> bool

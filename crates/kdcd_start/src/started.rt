@@ -15,7 +15,7 @@ pub struct JournalNews<'a> {
 
 #[derive(Clone, Copy)]
 pub enum JournalFound {
-    /// It resumed with so many authenticators.
+    /// It resumed with this many authenticators.
     Resumed(usize),
     /// It could not resume.
     Doubted(Doubt),

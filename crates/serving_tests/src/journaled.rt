@@ -58,7 +58,7 @@ impl JournalWriter for ListedJournal {
 /// An action that answers a request.
 #[derive(Clone, Copy)]
 enum Answer {
-    /// A datagram, where an authenticator of this time is remembered.
+    /// A datagram, by whose request the KDC remembers an authenticator of this time.
     Remembers(i64),
     Datagram,
     Message,
