@@ -1,5 +1,5 @@
 #!/usr/bin/env python3
-"""Prints the journal that the tests of `journal` expect (`crates/realm_tests/src/journals.rt`), one element a line.
+"""Prints the journal that the tests of `journal` expect (`crates/base_tests/src/realm/journals.rt`), one element a line.
 
 It is written from docs/FORMATS.md alone: DER by a few lines, and SHA-256 of hashlib."""
 

@@ -27,11 +27,11 @@ from whole_way import OTHER, SERVICE, TYPES, Kdc, Lines, OwnRequest, Place, add_
 # How long a ticket lives that is presented past its end, and by how much a service lets it be past.
 SHORT_LIFE, LENIENCE = 20, 300
 TAKEN, GOOD, CLOSED = "taken, with no AP-REP", "taken, and the AP-REP is good", "closed"
-REPEAT = "refused 34: KRB_AP_ERR_REPEAT: the authenticator came before"
+REPEAT = "refused 34: KRB_AP_ERR_REPEAT: the authenticator was seen before"
 SKEW = "refused 37: KRB_AP_ERR_SKEW: the clocks differ too much, or the service was just restarted"
 EXPIRED = "refused 32: KRB_AP_ERR_TKT_EXPIRED: the ticket has expired"
-NOT_US = "refused 35: KRB_AP_ERR_NOT_US: the keytab has no key of the ticket's service"
-NO_AP_REQ = "refused -1: the octets spell no AP-REQ"
+NOT_US = "refused 35: KRB_AP_ERR_NOT_US: the keytab has no key for the ticket's service"
+NO_AP_REQ = "refused -1: the bytes do not encode an AP-REQ"
 
 
 def accepted(subkey=0, rest=""):

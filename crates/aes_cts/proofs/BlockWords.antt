@@ -19,7 +19,7 @@ pub sum_is : (a b : List ℕ) → add_round_key a b ≡ xor_blocks a b
 unfolding add_round_key xor_blocks
 sum_is a b = refl
 
--- the words of sixteen octets from a place on
+-- the words of the sixteen bytes from an index
 pub words_at_is : (xs : List ℕ) (at a b c d : ℕ) → to_be_bytes w32 a ≡ take 4 (drop at xs)
     → to_be_bytes w32 b ≡ take 4 (drop (at + 4) xs) → to_be_bytes w32 c ≡ take 4 (drop (at + 8) xs)
     → to_be_bytes w32 d ≡ take 4 (drop (at + 12) xs)

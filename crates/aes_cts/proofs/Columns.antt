@@ -1,4 +1,4 @@
--- The matrices of MixColumns and InvMixColumns undo one another.
+-- The matrices of MixColumns and InvMixColumns undo each other.
 use Rattle.std.proofs.Common.{◌≡◌, ℕ, ◌+◌, ◌*◌, ◌%◌, ◌<◌, ◌==◌, ◌&&◌, List, []}
 use Rattle.std.proofs.Common.{◌∷◌, ◌++◌, Bool, true, refl, sym, ap, ◌∙◌, bit_xor, get_or}
 use Rattle.std.proofs.lemmas.Bool.{eqb-true, and_parts}

@@ -1,4 +1,4 @@
--- The equivalent inverse cipher gives what the inverse cipher does: InvMixColumns is linear.
+-- The equivalent inverse cipher computes the same as the inverse cipher, because InvMixColumns is linear.
 use Rattle.std.proofs.Common.{◌≡◌, ℕ, zero, suc, ◌+◌, ◌-◌, ◌≤◌, ◌<◌, List, [], ◌∷◌}
 use Rattle.std.proofs.Common.{◌++◌, refl, sym, ap, ◌∙◌, arith, take, get_or, bit_xor, add-one}
 use Rattle.aes_cts.specs.State.{row_times, add_round_key, inverse_sub_bytes, inverse_shift_rows, inverse_mix_columns}

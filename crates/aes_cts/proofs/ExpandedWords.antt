@@ -1,4 +1,4 @@
--- The key expansion by words, against that by octets.
+-- The key expansion by words, compared with that by bytes.
 use Rattle.std.proofs.Common.{◌≡◌, ℕ, zero, suc, ◌+◌, ◌*◌, ◌<◌, List, [], ◌∷◌, ◌++◌, take, length, set, get_or}
 use Rattle.std.proofs.Common.{refl, sym, ap, ◌∙◌, arith}
 use Rattle.std.specs.Int.{w32, to_be_bytes}
@@ -7,7 +7,7 @@ use Rattle.aes_cts.specs.KeyExpansion.{word_at}
 use Rattle.aes_cts.specs.Words.{octets}
 use Rattle.aes_cts.proofs.WordLaws.{octets-take}
 
--- word i of the octets of words
+-- word i of the bytes of words
 pub word_at-octets : (w : List ℕ) (i : ℕ) → i < length w → word_at (octets w) i ≡ to_be_bytes w32 (get_or w i 0)
 word_at-octets [] i inside = absurd (omega arith)
 word_at-octets (x ∷ xs) zero inside = refl
@@ -18,7 +18,7 @@ word_at-octets (x ∷ xs) (suc i) inside =
     let fourth : 4 * suc i + 3 ≡ suc (suc (suc (suc (4 * i + 3)))) = omega arith in
     rw (second, third, fourth, first) (word_at-octets xs i (omega arith))
 
--- a word that is written behind those so far
+-- one more word, written after those so far
 pub octets-more : (w : List ℕ) (i x : ℕ) → i < length w
     → take (4 * (i + 1)) (octets (set w i x)) ≡ take (4 * i) (octets w) ++ to_be_bytes w32 x
 octets-more w i x inside =

@@ -13,7 +13,7 @@ xor_swap a b c d =
     rw (xor_assoc a b (bit_xor c d), ← xor_assoc b c d, xor_comm b c, xor_assoc c b d, ← xor_assoc a c (bit_xor b d))
     refl
 
--- a term added twice is gone
+-- a term added twice cancels
 pub xor_twice : (a b : ℕ) → bit_xor (bit_xor a b) b ≡ a
 xor_twice a b = rw (xor_assoc a b b, xor_self b) (xor_zero_r a)
 

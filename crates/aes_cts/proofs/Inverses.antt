@@ -1,4 +1,4 @@
--- The cipher and its inverse undo one another, where the schedule has octets alone.
+-- The cipher and its inverse undo each other, if the schedule consists of bytes.
 use Rattle.std.proofs.Common.{◌≡◌, ℕ, zero, suc, ◌+◌, ◌-◌, ◌*◌, ◌≤◌, List, ap, ◌∙◌, arith}
 use Rattle.aes_cts.specs.State.{sub_bytes, shift_rows, mix_columns, add_round_key}
 use Rattle.aes_cts.specs.State.{inverse_sub_bytes, inverse_shift_rows, inverse_mix_columns}
@@ -12,7 +12,7 @@ use Rattle.aes_cts.proofs.Lists.{octets-take, octets-drop}
 pub key_octets : (w : List ℕ) (r : ℕ) → AreOctets w → AreOctets (round_key w r)
 key_octets w r h = octets-take 16 _ (octets-drop (16 * r) w h)
 
--- ---- each state of the rounds is one of octets
+-- ---- each state of the rounds consists of bytes
 
 rounds-is : (w s : List ℕ) (n : ℕ) → AreOctets w → IsState s → IsState (rounds w s n)
 unfolding rounds

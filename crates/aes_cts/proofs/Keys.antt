@@ -1,4 +1,4 @@
--- The schedule of a key of octets has octets alone, so the cipher under it permutes the blocks.
+-- The schedule of a key of bytes consists of bytes, so the cipher with it permutes blocks.
 use Rattle.std.proofs.Common.{◌≡◌, ℕ, zero, suc, ◌+◌, ◌-◌, ◌*◌, ◌/◌, ◌%◌, ◌≤◌, ◌<◌, ◌==◌, ◌&&◌, true, false, List, []}
 use Rattle.std.proofs.Common.{◌∷◌, All, take, length, sym, ap, subst, ◌∙◌, arith, get_or, nat_lt, if◌then◌else◌}
 use Rattle.std.proofs.lemmas.Nat.{xor_of_8}

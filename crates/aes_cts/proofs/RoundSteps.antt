@@ -1,4 +1,4 @@
--- One round by words, against the definition.
+-- One round on words, compared with the definition.
 use Rattle.std.proofs.Common.{◌≡◌, ℕ, ◌+◌, ◌-◌, ◌*◌, List, take, drop, sym, ap, ◌∙◌}
 use Rattle.aes_cts.specs.State.{add_round_key, mix_columns, shift_rows, sub_bytes}
 use Rattle.aes_cts.specs.State.{inverse_mix_columns, inverse_shift_rows, inverse_sub_bytes}
@@ -8,7 +8,7 @@ use Rattle.aes_cts.proofs.Rounds.{rounds_more}
 use Rattle.aes_cts.proofs.Equivalent.{equivalent_more}
 use Rattle.aes_cts.proofs.WordLaws.{key_words_is}
 
--- the round behind n, under the words from a place on
+-- the round after n, with the words from an index
 pub round_step : (w s old new : List ℕ) (n at end : ℕ) → at ≡ 4 * (n + 1) → end ≡ at + 4 → old ≡ rounds (octets w) s n
     → new ≡ add_round_key (mix_columns (shift_rows (sub_bytes old))) (octets (take (end - at) (drop at w)))
     → new ≡ rounds (octets w) s (n + 1)
@@ -18,7 +18,7 @@ round_step w s old new n at end here four before is =
     ∙ ap (add_round_key (mix_columns (shift_rows (sub_bytes (rounds (octets w) s n))))) (key_words_is w at end (n + 1) here four)
     ∙ sym (rounds_more (octets w) s n)
 
--- the same of the inverse, from the last of nr rounds downwards
+-- the same for the inverse, from the last of nr rounds downwards
 pub inverse_step : (nr : ℕ) (w s old new : List ℕ) (n at end : ℕ) → at ≡ 4 * (nr - (n + 1)) → end ≡ at + 4
     → old ≡ equivalent_rounds nr (octets w) s n
     → new ≡ add_round_key (inverse_mix_columns (inverse_sub_bytes (inverse_shift_rows old))) (octets (take (end - at) (drop at w)))

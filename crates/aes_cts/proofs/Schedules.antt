@@ -1,4 +1,4 @@
--- Schedules of words: that for deciphering, and the ciphers under the schedules of a key.
+-- Schedules of words: the decryption schedule, and the ciphers with the schedules of a key.
 use Rattle.std.proofs.Common.{◌≡◌, ℕ, ◌+◌, ◌-◌, ◌*◌, ◌≤◌, ◌<◌, List, [], ◌∷◌, take}
 use Rattle.std.proofs.Common.{drop, length, refl, sym, ap, subst, ◌∙◌, arith, get_or, length-take, length-drop}
 use Rattle.std.specs.Int.{w32, to_be_bytes}
@@ -107,7 +107,7 @@ encrypted_is s key nk size h is block =
     ap (λ (l : List ℕ). cipher (nk + 6) l block) (cut_words s (nk + 6 + 1))
     ∙ aes_is (octets s) key nk (omega (arith, length-octets s)) h is block
 
--- the schedule for deciphering, that of the schedule of the key
+-- the decryption schedule, made from the schedule of the key
 pub inverse_schedule_of : (s v key : List ℕ) (nk : ℕ) → length s ≡ 60 → IsSchedule (octets s) nk
     → take (4 * nk) (octets s) ≡ key → IsInverseSchedule (octets s) (octets v) (nk + 6)
     → IsInverseSchedule (key_expansion key) (octets v) (nr_of key)

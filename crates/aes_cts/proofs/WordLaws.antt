@@ -1,4 +1,4 @@
--- Words of four octets: the tables against the field, and the product of a column with a matrix.
+-- Words of four bytes: the tables compared with the field, and the product of a column with a matrix.
 use Rattle.std.proofs.Common.{◌≡◌, ℕ, ◌+◌, ◌*◌, ◌/◌, ◌%◌, ◌^◌, ◌<◌, List, []}
 use Rattle.std.proofs.Common.{◌∷◌, ◌++◌, ◌-◌, length, take, drop, zero, suc, map, refl}
 use Rattle.std.proofs.Common.{sym, ap, ◌∙◌, arith, length-drop, get_or, bit_and, bit_xor, bit_or, nat_lt, if◌then◌else◌}
@@ -23,7 +23,7 @@ use Rattle.aes_cts.specs.KeyExpansion.{round_key}
 
 -- ---- the tables
 
--- a word twice over
+-- a word, twice
 abbrev pub twice : ℕ → ℕ
 twice w = w * 4294967296 + w
 
@@ -59,7 +59,7 @@ turned : (n high low k j : ℕ) → high < 2 ^ j → n / 2 ^ k ≡ high → n * 
     → bit_or (n / 2 ^ k) (n * 2 ^ j % 2 ^ 32) ≡ low * 2 ^ j + high
 turned n high low k j h e f = rw (e, f) (or_comm high (low * 2 ^ j) ∙ or_shifted low j high h)
 
--- a word that stands twice over, shifted by whole octets
+-- a doubled word, shifted by whole bytes
 twice_turned : (row w : ℕ) → row < 4 → w < 2 ^ 32 → twice w / 2 ^ (8 * row) % 2 ^ 32 ≡ turned_by row w
 twice_turned zero w few below = omega arith
 twice_turned (suc zero) w few below =
@@ -129,7 +129,7 @@ pub word-octets : (n : ℕ) → n < 2 ^ 32
 unfolding word
 word-octets n h = omega arith
 
--- the sum of a word of octets with another word
+-- the sum of a word of bytes and another word
 pub octets-xor : (a b c d n : ℕ) → a < 256 → b < 256 → c < 256 → d < 256 → n < 2 ^ 32
     → let key = to_be_bytes w32 n in
     to_be_bytes w32 (bit_xor (word a b c d) n) ≡ bit_xor a (get_or key 0 0) ∷ bit_xor b (get_or key 1 0) ∷ bit_xor c
@@ -236,11 +236,11 @@ turned_three p q r u a h =
 
 -- ---- rounds
 
--- octet i of word w
+-- byte i of word w
 abbrev pub at : List ℕ → ℕ → ℕ → ℕ
 at s w i = get_or (to_be_bytes w32 (get_or s w 0)) i 0
 
--- column i of a round, from the octets that its rows bring there
+-- column i of a round, from the bytes that its rows bring there
 abbrev pub round_column : ℕ → ℕ → ℕ → ℕ → (ℕ → ℕ) → ℕ → List ℕ → List ℕ → ℕ → List ℕ
 round_column p q r u f step s k i =
     mixed_cells p q r u (to_be_bytes w32 (get_or k i 0)) (f (at s i 0)) (f (at s ((i + step) % 4) 1))
@@ -255,7 +255,7 @@ last_column f step s k i =
 pub four_cells : (s : List ℕ) → length s ≡ 4 → s ≡ get_or s 0 0 ∷ get_or s 1 0 ∷ get_or s 2 0 ∷ get_or s 3 0 ∷ []
 four_cells s h = fill_by_all (λ (k : ℕ). get_or s k 0) s 4 0 h (λ k lt. refl)
 
--- what a function gives for two lists of four words, on their cells
+-- what a function returns for two lists of four words, by their cells
 on_cells : (g : List ℕ → List ℕ → List ℕ) (s k r : List ℕ) → length s ≡ 4 → length k ≡ 4
     → r ≡ g (get_or s 0 0 ∷ get_or s 1 0 ∷ get_or s 2 0 ∷ get_or s 3 0 ∷ [])
     (get_or k 0 0 ∷ get_or k 1 0 ∷ get_or k 2 0 ∷ get_or k 3 0 ∷ [])
@@ -333,7 +333,7 @@ unfolding add_round_key
 added_is s k a b c d hs hk ea eb ec ed =
     on_cells (λ s k. add_round_key (octets s) (octets k)) s k _ hs hk (columns_join _ _ _ _ _ _ _ _ ea eb ec ed)
 
--- ---- the octets of parts of lists of words
+-- ---- the bytes of parts of lists of words
 
 pub octets-drop : (n : ℕ) (w : List ℕ) → drop (4 * n) (octets w) ≡ octets (drop n w)
 octets-drop zero w = refl
@@ -380,7 +380,7 @@ unmixed_is t h0 h1 h2 h3 =
     )
     (four _ _ _ _ _ _ _ _ (xor_zero_r _) (xor_zero_r _) (xor_zero_r _) (xor_zero_r _))
 
--- ---- a list of octets, cut into words
+-- ---- a list of bytes, cut into words
 
 none_left : (w : List ℕ) → length w ≡ 0 → w ≡ []
 none_left [] h = refl

@@ -1,4 +1,4 @@
-//! The rounds of FIPS 197, sections 5.1 and 5.3.5, under a schedule of round keys of four words each.
+//! The rounds of FIPS 197, sections 5.1 and 5.3.5, with a schedule of round keys of four words each.
 
 ghost use Rattle.std.specs.Prelude.{◌≡◌, ◌≤◌, ◌<◌, ◌+◌, ◌*◌, ◌%◌, ℕ, List, length};
 ghost use Rattle.aes_cts.specs.Cipher.{cipher, rounds, equivalent_rounds, equivalent_inverse_cipher};
@@ -6,10 +6,9 @@ ghost use Rattle.aes_cts.specs.Words.{octets};
 
 use crate::words::{add_round_key, inverse_round, last_inverse_round, last_round, round};
 
-/// Cipher, in place, with 10 or 14 rounds: one, then by fours, then the last.
-// The rounds are written out: as a loop they take a fifth more instructions, for words that change
-// their registers at its end. And they stand in each loop over blocks, so that the words of a block stay
-// in registers.
+/// Encrypts the state in place (CIPHER), with 10 or 14 rounds: the first, then groups of four, then the last.
+// The rounds are unrolled: as a loop they take a fifth more instructions, because words change registers at its end.
+// They are also inlined into each loop over blocks, so that the words of a block stay in registers.
 #[inline(always)]
 pub fn cipher(state: &mut [u32; 4], schedule: &[u32], round_count: usize)
     requires some { 10 ≤ round_count }
@@ -29,8 +28,8 @@ pub fn cipher(state: &mut [u32; 4], schedule: &[u32], round_count: usize)
     last_round(state, &schedule[last..last + 4]);
 }
 
-// Four rounds, behind so many. That number is a constant, so that each four have code of their own,
-// which is called once, and becomes a part of `cipher`.
+// Computes four rounds, after `DONE` rounds. `DONE` is a constant, so each group of four has its own code, which is
+// called once and inlined into `cipher`.
 fn four_rounds<const DONE: usize>(state: &mut [u32; 4], schedule: &[u32])
     requires { 4 * DONE + 20 ≤ length schedule.now }
     ensures { (s : List ℕ) → octets state.old ≡ rounds (octets schedule.now) s DONE
@@ -42,8 +41,8 @@ fn four_rounds<const DONE: usize>(state: &mut [u32; 4], schedule: &[u32])
     round(state, &schedule[4 * DONE + 16..4 * DONE + 20]);
 }
 
-/// EqInvCipher, in place, with 10 or 14 rounds, under a schedule for deciphering. The rounds stand as
-/// in `cipher`.
+/// Decrypts the state in place (EQINVCIPHER), with 10 or 14 rounds and a decryption schedule. The rounds are unrolled
+/// as in `cipher`.
 #[inline(always)]
 pub fn inverse_cipher(state: &mut [u32; 4], schedule: &[u32], round_count: usize)
     requires some { 10 ≤ round_count }
@@ -64,7 +63,7 @@ pub fn inverse_cipher(state: &mut [u32; 4], schedule: &[u32], round_count: usize
     last_inverse_round(state, &schedule[..4]);
 }
 
-// Four rounds of so many, behind those that are done.
+// Computes four of `round_count` rounds, after `DONE` rounds.
 fn four_inverse_rounds<const DONE: usize>(
     state: &mut [u32; 4],
     schedule: &[u32],

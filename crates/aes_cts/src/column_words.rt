@@ -1,7 +1,7 @@
-//! What each octet gives to a column of the state's product with the matrix of MixColumns, or with that
-//! of InvMixColumns (FIPS 197, 5.1.3 and 5.3.3), where it stands in the column's first row.
+//! For each byte in the first row of a state's column, its contribution to the column's product with the matrix of
+//! MixColumns or of InvMixColumns (FIPS 197, 5.1.3 and 5.3.3).
 
-// For each octet, the first column of the matrix of MixColumns times the octet that stands for it.
+// For each byte, the first column of the matrix of MixColumns times the byte's substitute.
 pub(crate) const COLUMNS: [u64; 256] = [
     0xc66363a5_c66363a5,
     0xf87c7c84_f87c7c84,
@@ -261,7 +261,7 @@ pub(crate) const COLUMNS: [u64; 256] = [
     0x2c16163a_2c16163a,
 ];
 
-// For each octet, the first column of the matrix of InvMixColumns times the octet that it stands for.
+// For each byte, the first column of the matrix of InvMixColumns times the byte whose substitute it is.
 pub(crate) const INVERSE_COLUMNS: [u64; 256] = [
     0x51f4a750_51f4a750,
     0x7e416553_7e416553,

@@ -10,10 +10,10 @@ use crate::key_expansion::{expand, inverse_schedule};
 use crate::words::{octets_of, words_of};
 use std::marker::Model;
 
-/// A key of AES-128 or AES-256, with its schedule of round keys. Contracts see the key's octets.
+/// A key for AES-128 or AES-256, with its schedule of round keys. Contracts see the key's bytes.
 #[derive(Drop)]
 pub struct AesKey {
-    // What stands behind the round keys of a key of 16 octets is not used.
+    // The words after the round keys of a 16-byte key are not used.
     schedule: [u32; 60],
     key_words: usize,
 }
@@ -32,7 +32,7 @@ impl Model for AesKey {
 }
 
 impl AesKey {
-    /// The key of these octets: 16 for AES-128, 32 for AES-256, and `None` for any other length.
+    /// Returns the key with these bytes: 16 for AES-128, 32 for AES-256, and `None` for any other length.
     pub fn new(octets: &[u8]) -> Option<AesKey>
         ensures some { IsSome result ↔ ((length octets.now ≡ 16) ⊎ (length octets.now ≡ 32)) }
         ensures key { IfSome result (λ key. key ≡ octets.now) }
@@ -44,7 +44,7 @@ impl AesKey {
         }
     }
 
-    // The key of these octets, N words.
+    // Returns the key with these bytes, N words.
     fn of_words<const N: usize>(octets: &[u8]) -> AesKey
         requires some { 4 ≤ N }
         requires few { N ≤ 8 }
@@ -58,7 +58,7 @@ impl AesKey {
         }
     }
 
-    /// The block enciphered (FIPS 197, section 5.1).
+    /// Encrypts a block (FIPS 197, section 5.1).
     pub fn encrypt_block(&self, block: &[u8; 16]) -> [u8; 16]
         ensures value { result ≡ aes self.now block.now }
         ensures inverse { aes_inverse self.now result ≡ block.now }
@@ -69,7 +69,7 @@ impl AesKey {
         octets_of(&state)
     }
 
-    // Enciphers the block that has these words.
+    // Encrypts the block with these words.
     #[inline(always)]
     pub(crate) fn encipher(&self, state: &mut [u32; 4])
         ensures value { octets state.new ≡ aes self.now (octets state.old) }
@@ -79,7 +79,7 @@ impl AesKey {
         cipher(state, &self.schedule[..4 * (round_count + 1)], round_count);
     }
 
-    /// The block deciphered (FIPS 197, section 5.3).
+    /// Decrypts a block (FIPS 197, section 5.3).
     pub fn decrypt_block(&self, block: &[u8; 16]) -> [u8; 16]
         ensures value { result ≡ aes_inverse self.now block.now }
         ensures inverse { aes self.now result ≡ block.now }
@@ -88,14 +88,14 @@ impl AesKey {
         self.decrypt_under(&self.inverse_schedule(), block)
     }
 
-    // The schedule for deciphering.
+    // Returns the decryption schedule.
     pub(crate) fn inverse_schedule(&self) -> [u32; 60]
         ensures { IsInverseSchedule (key_expansion self.now) (octets result) (nr_of self.now) }
     {
         inverse_schedule(&self.schedule, self.key_words + 6)
     }
 
-    // The block deciphered under the schedule for that.
+    // Decrypts a block with the decryption schedule.
     pub(crate) fn decrypt_under(&self, inverse_schedule: &[u32; 60], block: &[u8; 16]) -> [u8; 16]
         requires { IsInverseSchedule (key_expansion self.now) (octets inverse_schedule.now) (nr_of self.now) }
         ensures value { result ≡ aes_inverse self.now block.now }
@@ -107,7 +107,7 @@ impl AesKey {
         octets_of(&state)
     }
 
-    // Deciphers the block that has these words under the schedule for that.
+    // Decrypts the block with these words, with the decryption schedule.
     #[inline(always)]
     pub(crate) fn decipher(&self, inverse_schedule: &[u32; 60], state: &mut [u32; 4])
         requires { IsInverseSchedule (key_expansion self.now) (octets inverse_schedule.now) (nr_of self.now) }

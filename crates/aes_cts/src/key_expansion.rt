@@ -10,7 +10,7 @@ ghost use Rattle.std.specs.Int.{w32, to_be_bytes};
 use crate::s_box::substitute;
 use crate::words::{added, unmixed, word_at, word_of};
 
-// The powers of x in the field, from x^0 on: the first octets of the round constants.
+// The powers of x in the field, from x^0: the first bytes of the round constants.
 const POWERS_OF_X: [u8; 14] = [
     0x01, 0x02, 0x04, 0x08, 0x10, 0x20, 0x40, 0x80, 0x1b, 0x36, 0x6c, 0xd8, 0xab, 0x4d,
 ];
@@ -22,7 +22,7 @@ fn power_of_x(exponent: usize) -> u8
     POWERS_OF_X[exponent]
 }
 
-// What the word before word i gives to word i, for a key of N words.
+// Returns what the word before word i contributes to word i, for a key of N words.
 fn passed_on<const N: usize>(word: u32, i: usize) -> u32
     requires some { 4 ≤ N }
     requires after { N ≤ i }
@@ -40,8 +40,8 @@ fn passed_on<const N: usize>(word: u32, i: usize) -> u32
     }
 }
 
-/// The schedule of a key of N words, with zeros behind it.
-// N is a constant, so that no place in the schedule is divided by it.
+/// Returns the schedule of a key of N words, padded with zeros.
+// N is a constant, so that no index into the schedule is divided by it at run time.
 pub fn expand<const N: usize>(key: &[u8]) -> [u32; 60]
     requires some { 4 ≤ N }
     requires few { N ≤ 8 }
@@ -49,7 +49,7 @@ pub fn expand<const N: usize>(key: &[u8]) -> [u32; 60]
     ensures { take (16 * (nr_of key.now + 1)) (octets result) ≡ key_expansion key.now }
 {
     let mut words = key_words::<N>(key);
-    // The last word is kept apart, so that no word waits for the one before it to be stored.
+    // The last word is kept apart, so that no word waits until the one before it is stored.
     let mut last = words[N - 1];
     for i in N..4 * (N + 7) {
         last = added(words[i - N], passed_on::<N>(last, i));
@@ -58,7 +58,7 @@ pub fn expand<const N: usize>(key: &[u8]) -> [u32; 60]
     words
 }
 
-// The words of the key, with zeros behind them.
+// Returns the words of the key, padded with zeros.
 fn key_words<const N: usize>(key: &[u8]) -> [u32; 60]
     requires few { N ≤ 8 }
     requires key { length key.now ≡ 4 * N }
@@ -71,8 +71,8 @@ fn key_words<const N: usize>(key: &[u8]) -> [u32; 60]
     words
 }
 
-/// The schedule for deciphering: each round key but the first and the last goes through InvMixColumns
-/// (FIPS 197, section 5.3.5).
+/// Returns the decryption schedule: each round key except the first and the last goes through InvMixColumns (FIPS 197,
+/// section 5.3.5).
 pub fn inverse_schedule(schedule: &[u32; 60], round_count: usize) -> [u32; 60]
     requires some { 2 ≤ round_count }
     requires few { round_count < 15 }

@@ -1,7 +1,7 @@
-//! The rounds of FIPS 197 by words: a column of the state is a word, its first octet the most
-//! significant. A table of `column_words` has what each octet gives to a column where it stands in the
-//! column's first row. The matrices are circulant, so that the same word turned right by a whole octet
-//! serves each further row; it stands there twice over, in 64 bits, so that a shift turns it.
+//! The rounds of FIPS 197 on words: a column of the state is a word, most significant byte first. A table of
+//! `column_words` has the contribution of a byte in a column's first row. The matrices are circulant, so for each
+//! further row the same word is rotated right by a byte. The table holds each word twice, in 64 bits, so that a shift
+//! rotates it.
 
 ghost use Rattle.std.specs.Prelude.{◌≡◌, ◌<◌, ◌≤◌, ◌+◌, ◌-◌, ◌↔◌, ◌++◌, IsSome, IfSome, take, drop};
 ghost use Rattle.std.specs.Prelude.{[], ◌∷◌, length, bit_xor, slice_index, if◌then◌else◌, nat_lt};
@@ -16,9 +16,9 @@ ghost use Rattle.aes_cts.specs.Cts.{xor_blocks};
 use crate::column_words::{COLUMNS, INVERSE_COLUMNS};
 use crate::s_box::{inverse_substitute, substitute};
 
-/// A word of the tables: the octets of column i of the matrix of MixColumns, each times the octet that
-/// stands for j, and from 4 on those of column i - 4 of the matrix of InvMixColumns, each times the
-/// octet that j stands for. `None` where i is above 7.
+/// Returns a word of the tables: the bytes of column i of the matrix of MixColumns, each times the substitute of j.
+/// From i = 4 on, it is column i - 4 of the matrix of InvMixColumns, each byte times the one whose substitute is j.
+/// `None` if i is above 7.
 pub fn table_word(i: usize, j: u8) -> Option<u32>
     ensures some { IsSome result ↔ (i < 8) }
     ensures word { IfSome result (λ w. to_be_bytes w32 w
@@ -37,7 +37,7 @@ pub fn table_word(i: usize, j: u8) -> Option<u32>
     }
 }
 
-// What an octet in this row gives to a column.
+// Returns the contribution of a byte in this row to a column.
 fn mixing(octet: u8, row: u32) -> u32
     requires { row < 4 }
     ensures { result ≡ turned_by row (turned_column 2 3 1 1 (s_box octet)) }
@@ -52,8 +52,8 @@ fn unmixing(octet: u8, row: u32) -> u32
     (INVERSE_COLUMNS[octet as usize] >> (8 * row) & 0xffff_ffff) as u32
 }
 
-// SubBytes and MixColumns on the column (a, b, c, d), and the sum with the key's word: as a step of its
-// own, AddRoundKey would bring the four words into one vector register (see `cipher`).
+// Computes SubBytes and MixColumns on the column (a, b, c, d), and adds the key's word. As a separate step, AddRoundKey
+// would bring the four words into one vector register (see `cipher`).
 fn mixed_column(key: u32, a: u8, b: u8, c: u8, d: u8) -> u32
     ensures { to_be_bytes w32 result
         ≡ mixed_cells 2 3 1 1 (to_be_bytes w32 key) (s_box a) (s_box b) (s_box c) (s_box d) }
@@ -61,7 +61,7 @@ fn mixed_column(key: u32, a: u8, b: u8, c: u8, d: u8) -> u32
     ((mixing(a, 0) ^ key) ^ mixing(b, 1)) ^ (mixing(c, 2) ^ mixing(d, 3))
 }
 
-// InvSubBytes and InvMixColumns on the column (a, b, c, d), and the sum with the key's word.
+// Computes InvSubBytes and InvMixColumns on the column (a, b, c, d), and adds the key's word.
 fn unmixed_column(key: u32, a: u8, b: u8, c: u8, d: u8) -> u32
     ensures { to_be_bytes w32 result ≡ mixed_cells 14 11 13 9 (to_be_bytes w32 key)
         (inverse_s_box a) (inverse_s_box b) (inverse_s_box c) (inverse_s_box d) }
@@ -69,7 +69,7 @@ fn unmixed_column(key: u32, a: u8, b: u8, c: u8, d: u8) -> u32
     ((unmixing(a, 0) ^ key) ^ unmixing(b, 1)) ^ (unmixing(c, 2) ^ unmixing(d, 3))
 }
 
-/// SubBytes, ShiftRows, MixColumns and AddRoundKey.
+/// Computes SubBytes, ShiftRows, MixColumns and AddRoundKey.
 pub fn round(state: &mut [u32; 4], round_key: &[u32])
     requires { length round_key.now ≡ 4 }
     ensures { octets state.new
@@ -88,7 +88,7 @@ pub fn round(state: &mut [u32; 4], round_key: &[u32])
     ];
 }
 
-/// SubBytes, ShiftRows and AddRoundKey.
+/// Computes SubBytes, ShiftRows and AddRoundKey.
 pub fn last_round(state: &mut [u32; 4], round_key: &[u32])
     requires { length round_key.now ≡ 4 }
     ensures { octets state.new
@@ -107,7 +107,7 @@ pub fn last_round(state: &mut [u32; 4], round_key: &[u32])
     ];
 }
 
-/// InvShiftRows, InvSubBytes, InvMixColumns and AddRoundKey, with a round key that has gone through
+/// Computes InvShiftRows, InvSubBytes, InvMixColumns and AddRoundKey, with a round key that went through
 /// InvMixColumns.
 pub fn inverse_round(state: &mut [u32; 4], round_key: &[u32])
     requires { length round_key.now ≡ 4 }
@@ -128,7 +128,7 @@ pub fn inverse_round(state: &mut [u32; 4], round_key: &[u32])
     ];
 }
 
-/// InvShiftRows, InvSubBytes and AddRoundKey.
+/// Computes InvShiftRows, InvSubBytes and AddRoundKey.
 pub fn last_inverse_round(state: &mut [u32; 4], round_key: &[u32])
     requires { length round_key.now ≡ 4 }
     ensures { octets state.new
@@ -147,7 +147,7 @@ pub fn last_inverse_round(state: &mut [u32; 4], round_key: &[u32])
     ];
 }
 
-/// AddRoundKey.
+/// Computes AddRoundKey.
 pub fn add_round_key(state: &mut [u32; 4], round_key: &[u32])
     requires { length round_key.now ≡ 4 }
     ensures { octets state.new ≡ add_round_key (octets state.old) (octets round_key.now) }
@@ -161,14 +161,14 @@ pub fn add_round_key(state: &mut [u32; 4], round_key: &[u32])
     ];
 }
 
-/// The sum of a column with the key's word.
+/// Adds the key's word to a column.
 pub fn added(column: u32, key: u32) -> u32
     ensures { to_be_bytes w32 result ≡ added_word (to_be_bytes w32 key) (to_be_bytes w32 column) }
 {
     column ^ key
 }
 
-// SubBytes on the column (a, b, c, d), and the sum with the key's word.
+// Computes SubBytes on the column (a, b, c, d), and adds the key's word.
 fn substituted_column(key: u32, a: u8, b: u8, c: u8, d: u8) -> u32
     ensures { to_be_bytes w32 result
         ≡ added_cells (to_be_bytes w32 key) (s_box a) (s_box b) (s_box c) (s_box d) }
@@ -176,7 +176,7 @@ fn substituted_column(key: u32, a: u8, b: u8, c: u8, d: u8) -> u32
     word_of(substitute(a), substitute(b), substitute(c), substitute(d)) ^ key
 }
 
-// InvSubBytes on the column (a, b, c, d), and the sum with the key's word.
+// Computes InvSubBytes on the column (a, b, c, d), and adds the key's word.
 fn inverse_substituted_column(key: u32, a: u8, b: u8, c: u8, d: u8) -> u32
     ensures { to_be_bytes w32 result ≡ added_cells (to_be_bytes w32 key)
         (inverse_s_box a) (inverse_s_box b) (inverse_s_box c) (inverse_s_box d) }
@@ -189,7 +189,7 @@ fn inverse_substituted_column(key: u32, a: u8, b: u8, c: u8, d: u8) -> u32
     ) ^ key
 }
 
-/// InvMixColumns on one column.
+/// Computes InvMixColumns on one column.
 pub fn unmixed(column: u32) -> u32
     ensures { to_be_bytes w32 result ≡ unmixed_cells (to_be_bytes w32 column) }
 {
@@ -204,8 +204,8 @@ pub fn unmixed(column: u32) -> u32
     )
 }
 
-/// The word of four octets.
-// A sum and no array: of an array that comes from a table the compiler makes a vector, and then of the whole state.
+/// Returns the word of four bytes.
+// A sum rather than an array: the compiler makes a vector of an array from a table, and then of the whole state.
 pub fn word_of(a: u8, b: u8, c: u8, d: u8) -> u32
     ensures word { result ≡ word a b c d }
     ensures octets { to_be_bytes w32 result ≡ a ∷ b ∷ c ∷ d ∷ [] }
@@ -213,7 +213,7 @@ pub fn word_of(a: u8, b: u8, c: u8, d: u8) -> u32
     ((u32::from(a) * 256 + u32::from(b)) * 256 + u32::from(c)) * 256 + u32::from(d)
 }
 
-/// The word of the four octets from a place on.
+/// Returns the word of the four bytes at an index.
 pub fn word_at(text: &[u8], at: usize) -> u32
     requires { at + 4 ≤ length text.now }
     ensures { to_be_bytes w32 result ≡ take 4 (drop at text.now) }
@@ -221,7 +221,7 @@ pub fn word_at(text: &[u8], at: usize) -> u32
     u32::from_be_bytes([text[at], text[at + 1], text[at + 2], text[at + 3]])
 }
 
-/// The words of the block that begins at a place.
+/// Returns the words of the block at an index.
 pub fn words_at(text: &[u8], at: usize) -> [u32; 4]
     requires { at + 16 ≤ length text.now }
     ensures { octets result ≡ take 16 (drop at text.now) }
@@ -234,21 +234,21 @@ pub fn words_at(text: &[u8], at: usize) -> [u32; 4]
     ]
 }
 
-/// The words of a block.
+/// Returns the words of a block.
 pub fn words_of(block: &[u8; 16]) -> [u32; 4]
     ensures { octets result ≡ block.now }
 {
     words_at(block, 0)
 }
 
-// The octets of two words. Four words that are written one by one would become a vector first (see `word_of`).
+// Returns the bytes of two words. Writing four words one by one would make them a vector first (see `word_of`).
 fn octets_of_two(a: u32, b: u32) -> [u8; 8]
     ensures { result ≡ to_be_bytes w32 a ++ to_be_bytes w32 b }
 {
     (u64::from(a) * 0x1_0000_0000 + u64::from(b)).to_be_bytes()
 }
 
-/// The octets of four words.
+/// Returns the bytes of four words.
 pub fn octets_of(words: &[u32; 4]) -> [u8; 16]
     ensures { result ≡ octets words.now }
 {
@@ -259,7 +259,7 @@ pub fn octets_of(words: &[u32; 4]) -> [u8; 16]
     octets
 }
 
-/// The sum of two blocks in the field.
+/// Adds two blocks in the field (xor).
 pub fn sum_of(a: &[u32; 4], b: &[u32; 4]) -> [u32; 4]
     ensures { octets result ≡ xor_blocks (octets a.now) (octets b.now) }
 {

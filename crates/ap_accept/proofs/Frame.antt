@@ -1,4 +1,4 @@
--- What a call leaves as it was.
+-- What a call leaves unchanged.
 use Rattle.std.proofs.Common.{◌≡◌, ◌≤ℤ◌, arith, Bool, true, false, cond, ◌&&◌, ℤ, List, ℕ, Option, Some, None, Result, Ok, Err, OnOk, OnErr, refl, ap, sym, subst, ◌∙◌}
 use Rattle.std.specs.FinMap as map
 use Rattle.std.specs.FinMap.{get-insert}
@@ -28,7 +28,7 @@ use Rattle.ap_accept.specs.declared.state.State.{State}
 use Rattle.ap_accept.proofs.LettingGo.{as_empty_on, both, let_go_keeps, Carried}
 use Rattle.ap_accept.proofs.Raised.{raised}
 
--- ---- what is stored
+-- ---- storing a client's cache
 
 pub memory_stored : (clients : Clients) (c : Components) (m : Memory ⊤) (client : Components) → memory_in (with_memory clients c m) client ≡ cond (eq_by_cmp name_cmp client c) m (memory_in clients client)
 memory_stored clients c m client = ap (λ o. unwrap_or o (empty_memory clients.floor)) (get-insert name_total clients.memories c m client) ∙ inside (eq_by_cmp name_cmp client c)
@@ -44,10 +44,10 @@ clients_stored state s clients service = ap (λ o. unwrap_or o (opened_clients s
     inside true = refl
     inside false = refl
 
--- ---- a client's memory, once an authenticator is remembered
+-- ---- a client's cache after an authenticator is recorded
 
 module _ (state : State) (now : ℤ) (p : Presented) (service client : Components) where
-  -- that of the party is the new one, and each other as it was
+  -- the party's cache is the new one; all others are unchanged
   abbrev pub next_memory : Memory ⊤
   next_memory = cond (is_party service client p) (remembered (memory_for state p) now (stamp_of p) tt) (memory_of state service client)
 
@@ -66,7 +66,7 @@ module _ (state : State) (now : ℤ) (p : Presented) (service client : Component
   abbrev pub stored_by : (Clients → Clients) → State
   stored_by go = with_clients state p.service.components (go (remembering_clients state now p))
 
-  -- P holds of the memory, where it does of the new one, and what is let go keeps it
+  -- P holds of the cache if it holds of the new one and dropping entries preserves it
   pub stored_keeps : (go : Clients → Clients) (P : Memory ⊤ → Type 0) → ((clients : Clients) → P (memory_in clients client) → P (memory_in (go clients) client)) → P next_memory → P (memory_of (stored_by go) service client)
   stored_keeps go P keeps h =
       subst (λ k. P (memory_in k client)) (sym (clients_stored state p.service.components (go (remembering_clients state now p)) service))
@@ -77,7 +77,7 @@ module _ (state : State) (now : ℤ) (p : Presented) (service client : Component
 
 -- ---- a call
 
--- what holds of the state before, and of that in which what is presented is remembered, holds of the one afterwards
+-- a property of the state before, and of the state with the authenticator recorded, holds of the state afterwards
 module _ (U : State → Type 0) (state : State) (here : U state) where
   unless_seen_keeps : (now : ℤ) (confounder : List ℕ) (wanted : Bool) (p : Presented) (r : Option ApRefusal) → U (remembering state now p) → U (unless_seen state now confounder wanted p r).state
   unless_seen_keeps now confounder wanted p (Some refusal) there = here
@@ -94,14 +94,14 @@ module _ (U : State → Type 0) (state : State) (here : U state) where
   pub accepts_keeps : (at : Moment) (confounder octets : List ℕ) → ((p : Presented) → presented_by state octets ≡ Some p → U (remembering state at.sec p)) → U (accepts state at confounder octets).state
   accepts_keeps at confounder octets there = request_keeps at.sec confounder (request_of octets) there
 
--- and of the one that the call gave
+-- and of the state that the call left
 pub call_keeps : (U : State → Type 0) (r : Result Accepted ApFault) (old new ruled : State) → IsAfter r old new ruled → U old → U ruled → U new
 call_keeps U (Ok accepted) old new ruled is here there = subst U (sym is) there
 call_keeps U (Err NotAnApReq) old new ruled is here there = subst U (sym is) there
 call_keeps U (Err (Refused refusal)) old new ruled is here there = subst U (sym is) there
 call_keeps U (Err NoMemory) old new ruled is here there = subst U (sym is) here
 
--- ---- others than those that are presented
+-- ---- all but the presented service and client
 
 at_most : (n : ℤ) → n ≤ℤ n
 at_most n = omega (arith, ints)
@@ -116,7 +116,7 @@ not_service : (service : Components) (p : Presented) → (IsService service (Som
 not_service service p other true e = absurd (other (sym (same_name service p.service.components e)))
 not_service service p other false e = refl
 
--- another service's clients stay
+-- another service's clients are unchanged
 pub others_stay : (state : State) (service : Components) (at : Moment) (confounder octets : List ℕ) → (IsService service (presented_by state octets) → ⊥) → clients_of (accepts state at confounder octets).state service ≡ clients_of state service
 others_stay state service at confounder octets other =
     accepts_keeps (λ s. clients_of s service ≡ clients_of state service) state refl at confounder octets (λ p is.
@@ -124,7 +124,7 @@ others_stay state service at confounder octets other =
     clients_stored state p.service.components k service
     ∙ ap (λ b. cond b k (clients_of state service)) (not_service service p (λ h. other (subst (IsService service) (sym is) h)) (eq_by_cmp name_cmp service p.service.components) refl))
 
--- and another client's memory is as it was from an hour before on
+-- another client's cache gives the same verdicts from an hour before on
 pub others_alike : (state : State) (service client : Components) (at : Moment) (confounder octets : List ℕ) → (IsParty service client (presented_by state octets) → ⊥)
     → raised (floor_for at.sec) (memory_of (accepts state at confounder octets).state service client) ≡ raised (floor_for at.sec) (memory_of state service client)
 others_alike state service client at confounder octets other =
@@ -135,7 +135,7 @@ others_alike state service client at confounder octets other =
     (ap (λ b. raised (floor_for at.sec) (cond b (remembered (memory_for state p) at.sec (stamp_of p) tt) (memory_of state service client)))
     (not_party service client p (λ h. other (subst (IsParty service client) (sym is) h)) (is_party service client p) refl)))
 
--- ---- a state with others' clients
+-- ---- a state in which other clients' caches changed
 
 abbrev Services : Type 0
 Services = map.FinMap name_cmp Clients

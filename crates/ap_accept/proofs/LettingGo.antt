@@ -1,4 +1,4 @@
--- What is let go: what holds of a memory, and of an empty one in place of one that doesn't last, holds of what is left.
+-- Dropping old entries preserves a property that holds of a cache, and of an empty one in place of one that is dropped.
 use Rattle.std.proofs.Common.{◌≡◌, ℕ, ℤ, pos, ◌-ℤ◌, ◌≤ℤ◌, Bool, true, false, cond, not, ◌&&◌, ◌||◌, nat_le, Option, Some, None, Equal, refl, sym, ap, subst, ◌∙◌, arith, inl, inr}
 use Rattle.std.specs.Prelude.{⊤, int_lt}
 use Rattle.std.specs.Int.{int_max}
@@ -28,7 +28,7 @@ neither false = refl
 retain_none : (p : Stamp → Bool) → ((q x : Stamp) → stamp_cmp q x ≡ Equal → p x ≡ p q) → map.retain_keys (map.empty {X = ⊤} {R = stamp_cmp}) p ≡ map.empty
 retain_none p alike = same_map stamp_total stamp_exact _ _ (λ q. get-retain_keys map.empty p q (alike q) ∙ ap (λ o. cond (p q) o None) (get-empty stamp_cmp q) ∙ neither (p q) ∙ sym (get-empty stamp_cmp q))
 
--- none is left of no pairs
+-- filtering no pairs leaves none
 none_from : (second : ℤ) → map.retain_keys (map.empty {X = ⊤} {R = stamp_cmp}) (is_from second) ≡ map.empty
 none_from second = retain_none (is_from second) (λ q x t. ap (is_from second) (sym (stamp_exact q x t)))
 
@@ -53,7 +53,7 @@ not_left true o e held = refl
 not_left false None e held = cc
 not_left false (Some x) e held = cc
 
--- ---- a memory that doesn't last
+-- ---- a cache that an empty one can replace
 
 module _ (floor : ℤ) (m : Memory ⊤) (gone : lasts floor m ≡ false) where
   abbrev parts : (int_lt floor m.floor ≡ false) × (nat_le 1 (map.len (map.retain_keys m.pairs (is_from floor))) ≡ false)
@@ -62,7 +62,7 @@ module _ (floor : ℤ) (m : Memory ⊤) (gone : lasts floor m ≡ false) where
   no_pairs : map.retain_keys m.pairs (is_from floor) ≡ map.empty
   no_pairs = empty_of_len (map.retain_keys m.pairs (is_from floor)) (no_more (map.len (map.retain_keys m.pairs (is_from floor))) parts.1)
 
-  -- is as an empty one from the floor on
+  -- it equals an empty one from the floor on
   as_empty : raised floor m ≡ raised floor (empty_memory floor)
   as_empty =
       let top : int_max m.floor floor ≡ floor = floor_of floor m.floor parts.0 in
@@ -74,7 +74,7 @@ module _ (floor : ℤ) (m : Memory ⊤) (gone : lasts floor m ≡ false) where
   as_empty_on second le =
       further_twice floor second (floor, map.empty) le ∙ ap (further second) (sym as_empty) ∙ sym (further_twice floor second (m.floor, m.pairs) le)
 
-  -- and what is settled there is too old for an empty one
+  -- what is settled in it is too old for an empty one
   pub still_settled : (s : Stamp) → IsSettled m s tt → IsSettled (empty_memory floor) s tt
   still_settled s (inl low) = inl (below_floor floor m.floor s.0 parts.0 low)
   still_settled s (inr held) =
@@ -84,7 +84,7 @@ module _ (floor : ℤ) (m : Memory ⊤) (gone : lasts floor m ≡ false) where
 
 -- ---- a service's clients
 
--- P is carried from a memory that doesn't last to an empty one
+-- P carries over from a dropped cache to an empty one
 abbrev pub Carried : ℤ → (Memory ⊤ → Type 0) → Type 0
 Carried floor P = (m : Memory ⊤) → lasts floor m ≡ false → P m → P (empty_memory floor)
 
@@ -110,7 +110,7 @@ nothing_there second = ap (nat_le 1) (ap map.len (none_from second) ∙ map.len-
 empty_gone : (old now : ℤ) → int_lt old (floor_for now -ℤ pos hour) ≡ true → lasts (floor_for now) (empty_memory old) ≡ false
 empty_gone old now due = or_false _ _ (lower old now due) (nothing_there (floor_for now))
 
--- what is so carried holds of a client's memory after what was let go
+-- such a property of a client's cache still holds after old entries are dropped
 pub let_go_keeps : (P : Memory ⊤ → Type 0) (now : ℤ) (clients : Clients) (client : Components) → Carried (floor_for now) P → P (memory_in clients client) → P (memory_in (let_go now clients) client)
 let_go_keeps P now clients client carried p = at (int_lt clients.floor (floor_for now -ℤ pos hour)) refl
   where

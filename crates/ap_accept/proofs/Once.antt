@@ -1,4 +1,4 @@
--- An acceptor accepts no authenticator of a client twice: what is accepted is settled from then on.
+-- An acceptor never accepts an authenticator of a client twice: once accepted, it is settled.
 use Rattle.std.proofs.Common.{◌≡◌, ◌≢◌, Bool, true, false, cond, if◌then◌else◌, ℕ, ℤ, List, [], ◌∷◌, Option, Some, None, Result, Ok, Err, refl, ap, sym, subst, ◌∙◌, true≢false, is_eq}
 use Rattle.std.specs.Prelude.{⊤, IfSome}
 use Rattle.std.specs.Cmp.{Equal-is, tied_itself}
@@ -29,7 +29,7 @@ use Rattle.ap_accept.specs.declared.state.State.{State}
 use Rattle.ap_accept.proofs.Frame.{accepts_keeps, next_memory, remembering_keeps}
 use Rattle.ap_accept.proofs.LettingGo.{both, still_settled}
 
--- ---- a machine that accepts only what is not settled, and settles it
+-- ---- a machine that accepts only what is not settled, and then settles it
 
 module _ {S E : Type 0} (step : S → E → S) (settled : S → Stamp → Type 0) (accepted : S → E → Option Stamp) (stays : (s : S) (e : E) (x : Stamp) → settled s x → settled (step s e) x) (settles : (s : S) (e : E) → IfSome (accepted s e) (λ x. (settled s x → ⊥) × settled (step s e) x)) where
   one_apart : (s t : S) (x : Stamp) (h : Option Stamp) (xs : List Stamp) → settled s x → IfSome h (λ y. (settled s y → ⊥) × settled t y) → AllByRecursion (λ y. y ≢ x) xs → AllByRecursion (λ y. y ≢ x) (with_any h xs)
@@ -48,18 +48,18 @@ module _ {S E : Type 0} (step : S → E → S) (settled : S → Stamp → Type 0
   each_once s [] = tt
   each_once s (e ∷ es) = one_more s (step s e) (accepted s e) (collected step accepted (step s e) es) (settles s e) (all_apart (step s e) es) (each_once (step s e) es)
 
--- ---- the memory of a service and a client
+-- ---- the replay cache of a service and a client
 
 same_stamp : (a b : Stamp) → a ≡ b → eq_by_cmp stamp_cmp a b ≡ true
 same_stamp a b e = subst (λ c. eq_by_cmp stamp_cmp a c ≡ true) e (ap is_eq (tied_itself stamp_total a))
 
 module _ (service client : Components) where
-  -- what is settled stays so, whatever is remembered
+  -- what is settled stays settled, whatever is recorded
   settled_next : (m : Memory ⊤) (now : ℤ) (r s : Stamp) (b : Bool) → eq_by_cmp stamp_cmp r s ≡ b → IsSettled m s tt → IsSettled (remembered m now r tt) s tt
   settled_next m now r s true e held = subst (λ t. IsSettled (remembered m now r tt) t tt) (stamp_exact r s ((Equal-is (stamp_cmp r s)).0 e)) (remembered_settles m now r tt)
   settled_next m now r s false e held = settled_remembered m now r tt s tt (λ same. true≢false (sym (same_stamp r s same) ∙ e)) held
 
-  -- whose memory it is, where what is presented is of this service and client
+  -- the cache is this client's if the request is this client's for this service
   same_memory : (state : State) (p : Presented) → is_party service client p ≡ true → memory_for state p ≡ memory_of state service client
   same_memory state p e =
       let same = both (eq_by_cmp name_cmp service p.service.components) (eq_by_cmp name_cmp client p.ticket.cname.components) e in
@@ -77,9 +77,9 @@ module _ (service client : Components) where
       remembering_keeps state call.at.sec p service client (λ m. IsSettled m s tt) (λ m gone. still_settled (floor_for call.at.sec) m gone s)
       (next_settled state call.at.sec p s (is_party service client p) refl held))
 
-  -- ---- what is accepted
+  -- ---- an accepted authenticator
 
-  -- this was not settled before, and is afterwards
+  -- it was not settled before, and is settled afterwards
   abbrev Settles : State → State → Stamp → Type 0
   Settles state after s = (IsSettled (memory_of state service client) s tt → ⊥) × IsSettled (memory_of after service client) s tt
 

@@ -1,4 +1,4 @@
--- A memory as it is seen from a second on: its floor raised to it, and the pairs below forgotten.
+-- A replay cache as seen from a second on: its floor raised to that second, without the pairs below it.
 use Rattle.std.proofs.Common.{◌≡◌, ℕ, ℤ, pos, ◌-ℤ◌, ◌≤ℤ◌, Bool, true, false, cond, not, ◌||◌, nat_le, nat_lt, Option, Some, None, Equal, refl, sym, ap, ◌∙◌, arith}
 use Rattle.std.specs.Prelude.{⊤, int_lt, unsigned_abs, if◌then◌else◌}
 use Rattle.std.specs.Int.{int_max}
@@ -54,7 +54,7 @@ max_twice floor low high le = grind (arith, ints, clamps)
 max_rises : (floor low high : ℤ) → low ≤ℤ high → int_max floor low ≤ℤ int_max floor high
 max_rises floor low high le = grind (arith, ints, clamps)
 
--- to raise it lower first makes no difference
+-- raising it to a lower second first makes no difference
 pub further_twice : (low high : ℤ) (v : View) → low ≤ℤ high → further high v ≡ further high (further low v)
 further_twice low high v le =
     let floor : int_max v.0 high ≡ int_max (int_max v.0 low) high = max_twice v.0 low high le in
@@ -63,13 +63,13 @@ further_twice low high v le =
     ∙ ap (λ f. map.retain_keys (map.retain_keys v.1 (is_from (int_max v.0 low))) (is_from f)) floor in
     λ i. (floor i, pairs i)
 
--- so two that are alike from a second on are alike from each later one
+-- so two that agree from a second on agree from every later one
 pub alike_on : (low high : ℤ) (v w : View) → low ≤ℤ high → further low v ≡ further low w → further high v ≡ further high w
 alike_on low high v w le same = further_twice low high v le ∙ ap (further high) same ∙ sym (further_twice low high w le)
 
--- ---- what it says of an authenticator
+-- ---- its verdict on an authenticator
 
--- where it is not skewed
+-- the verdict within the clock skew
 abbrev compared : View → ℤ → Stamp → ℕ → Verdict ⊤
 compared v now stamp limit = if_kept (map.get v.1 stamp) (if nat_le limit (map.len (map.retain_keys v.1 (is_from (floor_at v.0 now)))) then Full else Fresh)
 
@@ -112,7 +112,7 @@ module _ (second now : ℤ) (v : View) (stamp : Stamp) (le : second ≤ℤ (now 
       let high : int_lt stamp.0 (int_max v.0 second) ≡ false = same_low near false (not_low far (int_lt stamp.0 v.0) timely) in
       get-retain_keys v.1 (is_from (int_max v.0 second)) stamp (alike (int_max v.0 second) stamp) ∙ ap (λ b. cond (not b) (map.get v.1 stamp) None) high
 
-  -- nothing else from the second on, with the skew of clocks
+  -- the verdict doesn't change from the second on, with the clock skew
   seen_further : (limit : ℕ) → seen (further second v) now stamp limit ≡ seen v now stamp limit
   seen_further limit = ap (λ b. cond b Skew (compared (further second v) now stamp limit)) same ∙ at (is_untimely v.0 now stamp.0) refl
     where
@@ -133,12 +133,12 @@ says_the_same second now a b stamp limit le same =
 an_hour : (at now : ℤ) → (at -ℤ pos hour) ≤ℤ now → floor_for at ≤ℤ (now -ℤ pos skew)
 an_hour at now le = omega (arith, ints)
 
--- ---- from a call on
+-- ---- after a call
 
 pub same_from : (at : ℤ) (a b : Memory ⊤) → raised (floor_for at) a ≡ raised (floor_for at) b → SaysTheSame (at -ℤ pos hour) a b
 same_from at a b same now stamp limit le = says_the_same (floor_for at) now a b stamp limit (an_hour at now le) same
 
--- to remember makes alike memories alike
+-- recording preserves agreement
 pub remembered_alike : (second now : ℤ) (a b : Memory ⊤) (stamp : Stamp) → second ≤ℤ (now -ℤ pos skew) → raised second a ≡ raised second b
     → (high : ℤ) → raised high (remembered a now stamp tt) ≡ raised high (remembered b now stamp tt)
 remembered_alike second now a b stamp le same high =

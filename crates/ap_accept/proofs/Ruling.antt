@@ -1,4 +1,5 @@
--- What is ruled on octets that spell an AP-REQ whose ticket and authenticator are opened; and which octets spell one.
+-- The answer to bytes that encode an AP-REQ whose ticket and authenticator can be decrypted; and which bytes encode
+-- one.
 use Rattle.std.proofs.Common.{◌≡◌, ◌↔◌, ℕ, Bool, List, Option, Some, None, Result, Ok, Err, refl, ap, sym, subst, ◌∙◌}
 use Rattle.std.specs.Prelude.{IfOk, IfSome}
 use Rattle.std.specs.Result.{result_ok}
@@ -25,7 +26,7 @@ pub ruled : (state : State) (at : Moment) (confounder octets : List ℕ) (ap : A
     → accepts state at confounder octets ≡ unless_seen state at.sec confounder wanted p (memory_refusal state at.sec p)
 ruled state at confounder octets ap wanted p read asks opened = rw (read, opened, asks) refl
 
--- where nothing is presented, the fault is what is ruled, and the state stays
+-- if the request presents nothing valid, the answer is its refusal, and the state doesn't change
 module _ (state : State) (at : Moment) (confounder octets : List ℕ) (request : ApReq) (read : request_of octets ≡ Some request) where
   ruled_refusal : (refusal : ApRefusal) → presented state.keytab request ≡ Err refusal → accepts state at confounder octets ≡ refused state refusal
   ruled_refusal refusal refuses = rw (read, refuses) refl
@@ -40,7 +41,7 @@ module _ (state : State) (at : Moment) (confounder octets : List ℕ) (request :
   unopened_state (Refused refusal) h = sym (ap (λ (a : Answer). a.state) (ruled_refusal refusal h))
   unopened_state Memory h = refl
 
--- the AP-REP to what is presented is the one to what the octets present
+-- the AP-REP for what is presented is the one for what the bytes present
 pub answered : (state : State) (confounder octets : List ℕ) (ap : ApReq) (p : Presented) (r : Result Accepted ApFault) → request_of octets ≡ Some ap → presented state.keytab ap ≡ Ok p
     → IfOk r (λ a. IfSome a.ap_rep (λ reply. IsApReply p.session_key confounder p.authenticator reply))
     → IfOk r (λ a. IfSome (presented_by state octets) (λ p. IfSome a.ap_rep (λ reply. IsApReply p.session_key confounder p.authenticator reply)))
@@ -49,7 +50,7 @@ answered state confounder octets request p (Ok a) read opened h =
     subst (λ (o : Option Presented). IfSome o (λ p. IfSome a.ap_rep (λ reply. IsApReply p.session_key confounder p.authenticator reply))) (sym found) h
 answered state confounder octets request p (Err fault) read opened h = tt
 
--- ---- the AP-REQ that octets spell
+-- ---- the AP-REQ that bytes encode
 
 all_read : IsWhole ap_req.Spells (whole ap_req.at)
 all_read = whole_ok ap_req.Spells ap_req.at ap_req.laws.element.reading

@@ -1,11 +1,11 @@
--- A value taken out of a map, changed and put back; and one stored that was not there.
+-- Taking a value out of a map, changing it and putting it back; and storing one that was not there.
 use Rattle.std.proofs.Common.{◌≡◌, true, false, Result, Ok, Err, OnOk, OnErr, Some, sym, ap, ◌∙◌}
 use Rattle.std.specs.FinMap as map
 use Rattle.std.specs.Option.{unwrap_or}
 use Rattle.krb_fields.specs.Name.{Components, name_cmp, name_total, name_exact}
 use Rattle.sorted_entries.proofs.Exchanges.{taken_is, absent_is, still_there, put_back, put_back_same}
 
--- f of the value at a name is stored, where f made the new one of the one taken out. A name that has none has the value d
+-- stores f of a name's value; d is the value of a name that has none
 module _ {V : Type 0} (m : map.FinMap name_cmp V) (name : Components) (f : V → V) (d : V) where
   abbrev pub changed : map.FinMap name_cmp V
   changed = map.insert m name (f (unwrap_or (map.get m name) d))
@@ -24,7 +24,7 @@ module _ {V : Type 0} (m : map.FinMap name_cmp V) (name : Components) (f : V →
     stored_err (Ok x) same given = tt
     stored_err (Err x) same given = put_back_same name_cmp name_total name_exact m out back name placed old there left (given ∙ ap (map.insert out name) same)
 
-  -- the same, where the name had none: nothing was taken out, and f made the new value of d
+  -- the same if the name had no value: nothing was taken out, and the new value is f of d
   pub stored_first : {A B : Type 0} (key : Components) (old new : V) (left put : map.FinMap name_cmp V) (r : Result A B)
       → map.contains_key m name ≡ false → left ≡ m → old ≡ d → key ≡ name → new ≡ f old → OnOk r (put ≡ map.insert left key new) → OnOk r (put ≡ changed)
   stored_first key old new left put (Ok x) absent same is_d is_name made done =

@@ -1,4 +1,5 @@
--- An acceptor that lets go answers as one that doesn't: their memories are alike from a second on that no call lies before.
+-- An acceptor that drops old entries answers as one that doesn't: their caches agree from a second on, and no call
+-- comes before it.
 use Rattle.std.proofs.Common.{◌≡◌, ◌-ℤ◌, ◌≤ℤ◌, Bool, true, false, cond, ℕ, ℤ, pos, List, [], ◌∷◌, Option, Some, None, Result, Ok, Err, refl, ap, sym, subst, ◌∙◌, arith}
 use Rattle.std.specs.Prelude.{⊤, nat_le}
 use Rattle.std.specs.Int.{int_max}
@@ -28,7 +29,7 @@ use Rattle.ap_accept.proofs.Frame.{next_memory, remembering_keeps, stored_keeps}
 use Rattle.ap_accept.proofs.LettingGo.{as_empty_on}
 use Rattle.ap_accept.proofs.Raised.{alike_on, raised, remembered_alike, says_the_same}
 
--- the same keys and limits, and memories that are alike from this second on
+-- the same keys and limits, and replay caches that agree from this second on
 record Alike (second : ℤ) (s t : State) : Type 0 where
   pub keytab : s.keytab ≡ t.keytab
   pub limits : s.limits ≡ t.limits
@@ -93,7 +94,7 @@ module _ (second now high : ℤ) (s t : State) (alike : Alike second s t) (le : 
     same_next true = remembered_alike second now (memory_for s p) (memory_for t p) (stamp_of p) le (alike.memories p.service.components p.ticket.cname.components) high
     same_next false = still_alike.memories service client
 
-    -- what is let go on the one side
+    -- dropping on one side
     same_gone : raised high (memory_of (remembering s now p) service client) ≡ raised high (next_memory t now p service client)
     same_gone =
         remembering_keeps s now p service client (λ m. raised high m ≡ raised high (next_memory t now p service client))
@@ -124,7 +125,7 @@ module _ (second now high : ℤ) (s t : State) (alike : Alike second s t) (le : 
 
 -- ---- a run
 
--- no call comes before the second, with the skew of clocks
+-- no call comes before the second, with the clock skew
 abbrev Follow : ℤ → List Call → Type 0
 Follow second calls = AllByRecursion (λ call. second ≤ℤ (call.at.sec -ℤ pos skew)) calls
 

@@ -1,4 +1,4 @@
--- What an acceptor answers to the octets of an AP-REQ, and what it remembers afterwards (RFC 4120, section 3.2.3).
+-- An acceptor's answer to the bytes of an AP-REQ, and its state afterwards (RFC 4120, section 3.2.3).
 use Rattle.std.specs.Prelude.{◌≡◌, ℕ, ℤ, ⊤, Bool, List, Option, Some, None, Result, Ok, Err}
 use Rattle.std.specs.Result.{result_ok}
 use Rattle.krb_ap.specs.ApReq.{ApReq, ap_req}
@@ -26,18 +26,18 @@ use Rattle.ap_accept.specs.declared.refusal.ApRefusal.{ApRefusal}
 use Rattle.ap_accept.specs.declared.refusal.ApRefusal.TheVariants.{Skewed, Repeated, Full}
 use Rattle.ap_accept.specs.declared.state.State.{State}
 
--- what is answered, and the state afterwards
+-- an answer, and the state afterwards
 pub record Answer : Type 0 where
   pub answer : Result Accepted ApFault
   pub state : State
 
--- nothing is remembered
+-- a refusal that changes nothing
 abbrev pub refused : State → ApRefusal → Answer
 refused state refusal = record { answer = Err (Refused refusal); state = state }
 
--- ---- whether it came before
+-- ---- the replay cache
 
--- the time by which an authenticator is remembered
+-- the authenticator's time, by which the replay cache knows it
 abbrev pub stamp_of : Presented → Stamp
 stamp_of p = (p.authenticator.ctime, p.authenticator.cusec)
 
@@ -53,19 +53,19 @@ refusal_by verdicts.Full = Some Full
 abbrev pub memory_refusal : State → ℤ → Presented → Option ApRefusal
 memory_refusal state now p = refusal_by (verdict (memory_for state p) now (stamp_of p) state.limits.remembered)
 
--- the service's clients, with the authenticator remembered
+-- the service's clients, with the authenticator recorded
 abbrev pub remembering_clients : State → ℤ → Presented → Clients
 remembering_clients state now p =
     with_memory (clients_of state p.service.components) p.ticket.cname.components
     (remembered (memory_for state p) now (stamp_of p) tt)
 
--- the state in which the authenticator is remembered, and what can't come again is let go
+-- the state with the authenticator recorded and old entries dropped
 abbrev pub remembering : State → ℤ → Presented → State
 remembering state now p = with_clients state p.service.components (let_go now (remembering_clients state now p))
 
--- ---- what is accepted
+-- ---- the answer to an accepted request
 
--- client, key, flags and times are the ticket's; subkey, number and checksum the authenticator's
+-- client, key, flags and times are the ticket's; subkey, sequence number and checksum the authenticator's
 abbrev pub accepted_with : Option (List ℕ) → Presented → Accepted
 accepted_with reply p = record {
   client = record { realm = p.ticket.crealm; name = p.ticket.cname };
@@ -77,7 +77,7 @@ accepted_with reply p = record {
   ap_rep = reply;
 }
 
--- the same, where it may be refused
+-- the same for a result that may be a refusal
 abbrev pub accepted_if : Presented → Result (Option (List ℕ)) ApFault → Result Accepted ApFault
 accepted_if p (Ok reply) = Ok (accepted_with reply p)
 accepted_if p (Err fault) = Err fault
@@ -89,9 +89,9 @@ abbrev pub unless_invalid : List ℕ → Bool → Presented → Option ApRefusal
 unless_invalid confounder wanted p (Some refusal) = Err (Refused refusal)
 unless_invalid confounder wanted p None = Ok (accepted confounder wanted p)
 
--- ---- in their order
+-- ---- the rules in their order
 
--- once it is remembered, only the ticket's validity decides
+-- once the authenticator is recorded, only the ticket's validity decides
 abbrev pub unless_seen : State → ℤ → List ℕ → Bool → Presented → Option ApRefusal → Answer
 unless_seen state now confounder wanted p (Some refusal) = refused state refusal
 unless_seen state now confounder wanted p None = record {
@@ -104,7 +104,7 @@ if_presented state now confounder wanted (Ok p) =
     unless_seen state now confounder wanted p (memory_refusal state now p)
 if_presented state now confounder wanted (Err refusal) = refused state refusal
 
--- the AP-REQ that the octets spell
+-- the AP-REQ that the bytes encode
 abbrev pub request_of : List ℕ → Option ApReq
 request_of octets = ok_of (whole ap_req.at octets)
 
@@ -113,29 +113,29 @@ if_request state now confounder (Some ap) =
     if_presented state now confounder (asks_reply ap) (presented state.keytab ap)
 if_request state now confounder None = record { answer = Err NotAnApReq; state = state }
 
--- `confounder` are the 16 random octets of the AP-REP
+-- `confounder` is the 16 random bytes of the AP-REP
 abbrev pub accepts : State → Moment → List ℕ → List ℕ → Answer
 accepts state at confounder octets = if_request state at.sec confounder (request_of octets)
 
--- ---- what a call gave
+-- ---- what a call returned
 
--- it is what is ruled, unless memory ran out
+-- the result is the ruled one, unless memory ran out
 abbrev pub IsAnswer : Result Accepted ApFault → Result Accepted ApFault → Type 0
 IsAnswer (Ok accepted) ruled = ruled ≡ Ok accepted
 IsAnswer (Err NotAnApReq) ruled = ruled ≡ Err NotAnApReq
 IsAnswer (Err (Refused refusal)) ruled = ruled ≡ Err (Refused refusal)
 IsAnswer (Err NoMemory) ruled = ⊤
 
--- the state afterwards is this one, or where memory ran out the one before
+-- the new state is the ruled one, or the old one if memory ran out
 abbrev pub IsAfter : Result Accepted ApFault → State → State → State → Type 0
 IsAfter (Err NoMemory) old new ruled = new ≡ old
 IsAfter (Err NotAnApReq) old new ruled = new ≡ ruled
 IsAfter (Err (Refused refusal)) old new ruled = new ≡ ruled
 IsAfter (Ok accepted) old new ruled = new ≡ ruled
 
--- ---- whom it is about
+-- ---- whose request it is
 
--- what the octets present, where ticket and authenticator are opened
+-- what the bytes present, if ticket and authenticator can be decrypted and match
 abbrev pub presented_if : State → Option ApReq → Option Presented
 presented_if state (Some ap) = result_ok (presented state.keytab ap)
 presented_if state None = None
@@ -143,12 +143,12 @@ presented_if state None = None
 abbrev pub presented_by : State → List ℕ → Option Presented
 presented_by state octets = presented_if state (request_of octets)
 
--- whose clients' memories may change: a service
+-- the service whose clients' caches may change
 abbrev pub IsService : Components → Option Presented → Type 0
 IsService service (Some p) = p.service.components ≡ service
 IsService service None = ⊥
 
--- the service and its client
+-- that service, and its client
 abbrev pub IsParty : Components → Components → Option Presented → Type 0
 IsParty service client (Some p) = (p.service.components ≡ service) × (p.ticket.cname.components ≡ client)
 IsParty service client None = ⊥

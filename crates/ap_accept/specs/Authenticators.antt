@@ -18,7 +18,7 @@ use Rattle.ap_accept.specs.Tickets.{opened_with}
 use Rattle.ap_accept.specs.declared.refusal.ApRefusal.{ApRefusal}
 use Rattle.ap_accept.specs.declared.refusal.ApRefusal.TheVariants.{AuthenticatorNotOpened, BadMatch, BadSubkey}
 
--- what the session key opens, where the authenticator's type is its own
+-- the authenticator, decrypted with the session key, if it names that key's encryption type
 abbrev pub authenticator_in : Key → EncryptedData → Option Authenticator
 authenticator_in key sealed =
     if int_eq sealed.etype (number key.etype)
@@ -28,8 +28,8 @@ authenticator_in key sealed =
 abbrev pub authenticator_of : Key → EncryptedData → Result Authenticator ApRefusal
 authenticator_of key sealed = decided [] (authenticator_in key sealed) AuthenticatorNotOpened
 
--- another client's than the ticket's. Names are compared by their components: the name-type is a hint (RFC 4120,
--- section 6.2)
+-- the authenticator names another client than the ticket. Names are compared by their components: the name-type is a
+-- hint (RFC 4120, section 6.2)
 abbrev pub is_mismatched : EncTicketPart → Authenticator → Bool
 is_mismatched part auth =
     not (pointwise nat_eq auth.crealm part.crealm)
@@ -38,7 +38,7 @@ is_mismatched part auth =
 abbrev pub authenticator_rules : EncTicketPart → Authenticator → List (Rule ApRefusal)
 authenticator_rules part auth = (is_mismatched part auth, BadMatch) ∷ []
 
--- none is chosen, or one that is a key
+-- no subkey, or one that is a valid key
 abbrev pub subkey_in : Option Typed → Option (Option Key)
 subkey_in (Some subkey) = option_map Some (key_of subkey.number subkey.octets)
 subkey_in None = Some None

@@ -1,4 +1,4 @@
--- What is remembered of a service's clients, and when it is let go.
+-- The replay caches of a service's clients, and when their old entries are dropped.
 use Rattle.std.specs.Prelude.{ℕ, ℤ, pos, ◌+◌, ◌-ℤ◌, ◌≤ℤ◌, ◌≡◌, ⊤, Bool, ◌||◌, nat_le, int_lt, if◌then◌else◌}
 use Rattle.std.specs.Option.{unwrap_or}
 use Rattle.std.specs.FinMap as map
@@ -13,35 +13,35 @@ use Rattle.replay.specs.declared.memory.Memory.{Memory}
 use Rattle.replay.specs.declared.opening.Opening.{Opening}
 use Rattle.ap_accept.specs.declared.clients.Clients.{Clients}
 
--- the memories of a service's clients, by their names
+-- the replay caches of a service's clients, by name
 abbrev pub Memories : Type 0
 Memories = map.FinMap name_cmp (Memory ⊤)
 
--- nothing remembered, and this floor
+-- the empty cache with this floor
 abbrev pub empty_memory : ℤ → Memory ⊤
 empty_memory floor = record { failures = no_failures; floor = floor; pairs = map.empty }
 
--- a client that has no memory stored has an empty one
+-- the cache of a client without a stored one is empty
 abbrev pub memory_among : ℤ → Memories → Components → Memory ⊤
 memory_among floor memories client = unwrap_or (map.get memories client) (empty_memory floor)
 
 abbrev pub memory_in : Clients → Components → Memory ⊤
 memory_in clients client = memory_among clients.floor clients.memories client
 
--- those of a service from whose clients nothing has come since the opening
+-- the clients of a service that has accepted nothing since the acceptor started
 abbrev pub opened_clients : Opening → Clients
 opened_clients opening = record { floor = (opened_memory {T = ⊤} opening).floor; memories = map.empty }
 
 abbrev pub with_memory : Clients → Components → Memory ⊤ → Clients
 with_memory clients client memory = record clients { memories = map.insert clients.memories client memory }
 
--- ---- what is let go
+-- ---- dropping old entries
 
--- it says more than an empty memory of this floor: its own lies above it, or a pair isn't below it
+-- the cache refuses more than an empty one with this floor: its own floor is higher, or it has a pair at or above it
 abbrev pub lasts : ℤ → Memory ⊤ → Bool
 lasts floor m = int_lt floor m.floor || nat_le 1 (map.len (map.retain_keys m.pairs (is_from floor)))
 
--- the floor of the service raised to this one, and the memories gone that don't last
+-- the service's floor raised to this one, without the caches that an empty one can replace
 abbrev pub raised_to : ℤ → Clients → Clients
 raised_to floor clients = record { floor = floor; memories = retain_values clients.memories (lasts floor) }
 
@@ -49,16 +49,16 @@ raised_to floor clients = record { floor = floor; memories = retain_values clien
 abbrev pub hour : ℕ
 hour = 3600
 
--- an hour and the skew of clocks before now
+-- an hour plus the clock skew before now
 abbrev pub floor_for : ℤ → ℤ
 floor_for now = now -ℤ pos (skew + hour)
 
--- the floor is raised to that, where it lies more than an hour below
+-- raises the floor to that, if it lies more than an hour below
 abbrev pub let_go : ℤ → Clients → Clients
 let_go now clients =
     if int_lt clients.floor (floor_for now -ℤ pos hour) then raised_to (floor_for now) clients else clients
 
--- from this second on, both memories say the same of every authenticator
+-- from this second on, both caches give the same verdict on every authenticator
 abbrev pub SaysTheSame : ℤ → Memory ⊤ → Memory ⊤ → Type 0
 SaysTheSame second a b =
     (now : ℤ) (stamp : Stamp) (limit : ℕ) → second ≤ℤ now → verdict a now stamp limit ≡ verdict b now stamp limit

@@ -1,4 +1,4 @@
--- An AP-REP has an encoding.
+-- An AP-REP is short enough to encode.
 use Rattle.std.proofs.Common.{ℕ, ℤ, ◌^◌, ◌<◌, ◌≤◌, List, length, None, arith}
 use Rattle.krb_ap.specs.ApRep.{ap_rep, ap_rep_form}
 use Rattle.krb_fields.specs.EncryptedData.{encrypted_data_form}

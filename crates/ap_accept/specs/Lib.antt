@@ -9,6 +9,6 @@ pub mod Validity
 pub mod Reply
 pub mod Accepts
 pub mod Run
--- laws that proofs cite: no reader of a contract needs them
+-- laws that proofs cite; readers of a contract don't need them
 pub mod PresentedLaws
 pub mod LengthLaws

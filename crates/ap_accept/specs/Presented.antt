@@ -1,4 +1,4 @@
--- What an AP-REQ presents, or the first rule by which that is refused (RFC 4120, section 3.2.3).
+-- The decrypted contents of an AP-REQ, or the first rule that refuses it (RFC 4120, section 3.2.3).
 use Rattle.std.specs.Prelude.{ℕ, List, ◌∷◌, Option, Result, Ok}
 use Rattle.enctypes.specs.declared.key.Key.{Key}
 use Rattle.krb_ap.specs.ApReq.{ApReq}
@@ -13,7 +13,7 @@ use Rattle.ap_accept.specs.declared.presented.Presented.{Presented}
 use Rattle.ap_accept.specs.declared.presented.Shown.{Shown}
 use Rattle.ap_accept.specs.declared.refusal.ApRefusal.{ApRefusal}
 
--- the name of a service with its realm before it
+-- the service's name with its realm as the first component
 abbrev pub full_name : List ℕ → Name → Name
 full_name realm name = record { name_type = name.name_type; components = realm ∷ name.components }
 
@@ -26,7 +26,7 @@ presented_as ap part key auth subkey = record {
   subkey = subkey;
 }
 
--- what the authenticator shows under the ticket's session key
+-- the authenticator, decrypted with the ticket's session key, and its subkey
 abbrev pub shown_in : ApReq → EncTicketPart → Result Shown ApRefusal
 shown_in ap part = do
   key ← session_key_of ap.ticket.realm part
@@ -34,7 +34,7 @@ shown_in ap part = do
   subkey ← subkey_of part auth
   Ok (record { session_key = key; authenticator = auth; subkey = subkey })
 
--- what the request presents
+-- the request's ticket and authenticator, decrypted and checked
 abbrev pub presented : List KeytabEntry → ApReq → Result Presented ApRefusal
 presented keytab ap = do
   part ← shown_ticket keytab ap

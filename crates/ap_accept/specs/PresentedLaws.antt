@@ -1,4 +1,4 @@
--- What is presented where each stage finds something.
+-- The decrypted contents of an AP-REQ for which every step succeeds.
 use Rattle.std.proofs.Common.{◌≡◌, List, Option, Result, Ok, ap, ◌∙◌}
 use Rattle.enctypes.specs.declared.key.Key.{Key}
 use Rattle.krb_ap.specs.ApReq.{ApReq}
@@ -14,7 +14,7 @@ use Rattle.ap_accept.specs.declared.presented.Shown.{Shown}
 use Rattle.ap_accept.specs.declared.refusal.ApRefusal.{ApRefusal}
 
 module _ (request : ApReq) where
-  -- what follows each stage
+  -- the rest after each step
   abbrev by_subkey : Key → Authenticator → Option Key → Result Shown ApRefusal
   by_subkey key auth subkey = Ok (record { session_key = key; authenticator = auth; subkey = subkey })
 

@@ -1,4 +1,4 @@
--- The codes of refusals of AP-REQs (RFC 4120, section 7.5.9).
+-- The error codes of refused AP-REQs (RFC 4120, section 7.5.9).
 use Rattle.krb_fields.specs.declared.code.Code.{Code}
 use Rattle.krb_fields.specs.declared.code.Code as codes
 use Rattle.ap_accept.specs.declared.refusal.ApRefusal.{ApRefusal}

@@ -1,4 +1,4 @@
--- What an acceptor remembers: the clients of each service.
+-- The state of an acceptor: the clients of each service.
 use Rattle.std.specs.Prelude.{⊤, List}
 use Rattle.std.specs.Option.{unwrap_or}
 use Rattle.std.specs.FinMap as map
@@ -14,7 +14,7 @@ use Rattle.ap_accept.specs.declared.state.State.{State}
 abbrev pub opened : List KeytabEntry → Limits → Opening → State
 opened keytab limits opening = record { keytab = keytab; limits = limits; opening = opening; services = map.empty }
 
--- a service is its realm and the components of its name
+-- a service is known by its realm and the components of its name
 abbrev pub clients_of : State → Components → Clients
 clients_of state service = unwrap_or (map.get state.services service) (opened_clients state.opening)
 

@@ -24,32 +24,32 @@ use Rattle.ap_accept.specs.declared.refusal.ApRefusal.TheVariants.{BadVersion, B
 use Rattle.ap_accept.specs.declared.refusal.ApRefusal.TheVariants.{NotForUs, NoKey, BadKeyVersion, TicketNotOpened}
 use Rattle.ap_accept.specs.declared.refusal.ApRefusal.TheVariants.{ForeignClient, BoundAddress, BadSessionKey}
 
--- ---- the key that it is sealed under
+-- ---- the key that encrypts it
 
--- a service is its realm and the components of its name
+-- a service is known by its realm and the components of its name
 abbrev pub service_of : Ticket → Components
 service_of ticket = ticket.realm ∷ ticket.sname.components
 
--- the key that the ticket names by its encryption type and version
+-- the key with the ticket's encryption type and key version
 abbrev pub ticket_key : List KeytabEntry → Ticket → Option Key
 ticket_key keytab ticket =
     option_map (λ e. e.key)
     (entry_for keytab (service_of ticket) (type_numbered ticket.enc_part.etype) ticket.enc_part.kvno)
 
--- the keytab has no entry of the service
+-- the keytab has no entry for the service
 abbrev pub lacks_service : List KeytabEntry → Ticket → Bool
 lacks_service keytab ticket = not (is_some (newest (passes (service_of ticket) None None) keytab))
 
--- or none of the ticket's encryption type
+-- the keytab has no entry of the ticket's encryption type for the service
 abbrev pub lacks_type : List KeytabEntry → Ticket → Bool
 lacks_type keytab ticket =
     not (is_some (entry_for keytab (service_of ticket) (type_numbered ticket.enc_part.etype) None))
 
--- a version is named, and there is no entry of it
+-- the ticket names a key version that the keytab lacks
 abbrev pub lacks_version : List KeytabEntry → Ticket → Bool
 lacks_version keytab ticket = is_some ticket.enc_part.kvno && is_none (ticket_key keytab ticket)
 
--- ---- what the ticket holds
+-- ---- the ticket's contents
 
 abbrev pub is_other_version : ApReq → Bool
 is_other_version ap = not (int_eq ap.pvno (pos 5)) || not (int_eq ap.ticket.tkt_vno (pos 5))
@@ -64,12 +64,12 @@ ticket_rules keytab ap =
     ∷ (lacks_version keytab ap.ticket, BadKeyVersion)
     ∷ []
 
--- what the key opens, if there is one
+-- the part, decrypted with the key if there is one
 abbrev pub opened_with : {A : Type 0} → Codec A → ℕ → Option Key → List ℕ → Option A
 opened_with c usage (Some key) cipher = opened_as c key.etype key.bytes usage cipher
 opened_with c usage None cipher = None
 
--- what the ticket holds
+-- the ticket's encrypted part, decrypted
 abbrev pub part_of : List KeytabEntry → Ticket → Option EncTicketPart
 part_of keytab ticket =
     opened_with enc_ticket_part (usage_number TicketUsage) (ticket_key keytab ticket) ticket.enc_part.cipher
@@ -79,7 +79,7 @@ shown_ticket keytab ap = decided (ticket_rules keytab ap) (part_of keytab ap.tic
 
 -- ---- the session key
 
--- the client is of the ticket's realm, since no transited realms are taken
+-- the client must be of the ticket's realm, since no transited realms are accepted
 abbrev pub part_rules : List ℕ → EncTicketPart → List (Rule ApRefusal)
 part_rules realm part =
     (not (pointwise nat_eq part.crealm realm), ForeignClient)

@@ -18,7 +18,7 @@ terms_of part = record {
   renew_till = part.renew_till;
 }
 
--- it starts later than the skew of clocks allows, or has yet to be validated
+-- it starts later than the clock skew allows, or has yet to be validated
 abbrev pub is_not_yet_valid : TicketTerms → ℤ → Bool
 is_not_yet_valid ticket now = int_lt (now +ℤ pos skew) (start_of_ticket ticket) || has_flag ticket Invalid
 

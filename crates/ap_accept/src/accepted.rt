@@ -5,8 +5,7 @@ use krb_elements::{Octets, UInt32};
 use krb_fields::Typed;
 use ticket_times::TicketTerms;
 
-/// What is accepted: who the client is and what its ticket says, and what its authenticator says beside (RFC 4120,
-/// section 5.5.1).
+/// An accepted AP-REQ: the client, the ticket's terms, and what the authenticator carries (RFC 4120, section 5.5.1).
 #[derive(Drop)]
 pub struct Accepted {
     pub client: Principal,
@@ -14,11 +13,11 @@ pub struct Accepted {
     pub session_key: Key,
     /// The flags and times of the ticket.
     pub ticket: TicketTerms,
-    /// The key that the client chose for what follows, if it chose one.
+    /// The key that the client chose for the rest of the connection, if it chose one.
     pub subkey: Option<Key>,
     pub seq_number: Option<UInt32>,
-    /// A checksum of what the AP-REQ came with, by its type. The application judges it.
+    /// The authenticator's checksum over the application's data, with its type. The application checks it.
     pub cksum: Option<Typed>,
-    /// The octets of the AP-REP (RFC 4120, section 5.5.2), where the client asks the service to show who it is.
+    /// The bytes of the AP-REP (RFC 4120, section 5.5.2), if the client asks the service to prove its identity.
     pub ap_rep: Option<Octets>,
 }

@@ -1,4 +1,4 @@
-//! From the octets of an AP-REQ to what is accepted, and to what is remembered.
+//! Accepts or refuses the bytes of an AP-REQ, and records new authenticators in the replay caches.
 ghost use Rattle.std.specs.Prelude.{◌≡◌, false, None, IfOk, IfNone, IfSome, OnOk, OnErr};
 ghost use Rattle.std.specs.FinMap as map;
 ghost use Rattle.replay.specs.Memory.{verdict_copied};
@@ -25,7 +25,7 @@ use krb_parts::{Authenticator, EncTicketPart};
 use replay::Verdict;
 use std::alloc::{AllocError, Global};
 
-/// Accepts the octets of an AP-REQ or refuses them, and remembers an authenticator that is new.
+/// Accepts or refuses the bytes of an AP-REQ, and records a new authenticator in the replay cache.
 pub fn accept(
     state: &mut State,
     alloc: Global,
@@ -46,7 +46,7 @@ pub fn accept(
     judge(state, alloc, at, confounder, wanted, presented)
 }
 
-/// Accepts what is presented or refuses it.
+/// Accepts or refuses a decrypted ticket and authenticator.
 fn judge(
     state: &mut State,
     alloc: Global,
@@ -70,7 +70,7 @@ fn judge(
     }
 }
 
-/// The octets of the AP-REP, where one is asked for, if what is presented is accepted; or why it is refused.
+/// Returns the bytes of the AP-REP, if one is asked for, or the reason to refuse the request.
 fn admit(
     state: &mut State,
     alloc: Global,
@@ -101,7 +101,7 @@ fn admit(
     Err(ApFault::Refused(refusal))
 }
 
-/// Why the memory of the service and the client refuses the authenticator.
+/// Returns the reason to refuse the authenticator by the replay cache of its service and client, if there is one.
 fn memory_refusal(
     state: &State,
     alloc: Global,
@@ -133,7 +133,7 @@ fn refusal_by(verdict: Verdict<&()>) -> Option<ApRefusal>
     }
 }
 
-/// Remembers the authenticator. Where memory runs out, nothing changes.
+/// Records the authenticator in the replay cache. Changes nothing if memory runs out.
 fn remember(
     state: &mut State,
     alloc: Global,
@@ -152,7 +152,7 @@ fn remember(
     state.remember(alloc, &presented.service, client, at, ctime, cusec)
 }
 
-/// What is accepted, with the octets of the AP-REP if it is asked for.
+/// Returns the result for an accepted request, with the bytes of the AP-REP if it was asked for.
 fn accepted_with(ap_rep: Option<Octets>, presented: Presented) -> Accepted
     ensures { result ≡ accepted_with ap_rep presented }
 {

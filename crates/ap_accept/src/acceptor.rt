@@ -18,7 +18,7 @@ use replay::Opening;
 use std::alloc::{AllocError, Global};
 use std::marker::Model;
 
-/// The services of a process: their keys, and what is remembered of each one's clients.
+/// The services of a process: their keys, and a replay cache for each client of each service.
 #[derive(Drop)]
 pub struct Acceptor {
     state: State,
@@ -36,8 +36,8 @@ impl Model for Acceptor {
 }
 
 impl Acceptor {
-    /// Returns an acceptor for the services of these keys. It allocates nothing, so it never fails; its error type is
-    /// out of memory alone.
+    /// Returns an acceptor for the services of this keytab. It allocates nothing, so it never fails. Its error type
+    /// stands for out of memory only.
     pub fn open(
         alloc: Global,
         keytab: Keytab,
@@ -51,11 +51,11 @@ impl Acceptor {
         })
     }
 
-    /// Accepts the octets of an AP-REQ, or says by which rule they are refused.
+    /// Accepts the bytes of an AP-REQ, or returns the rule that refuses them.
     ///
-    /// `at` is the moment when they came in, and `confounder` is 16 random octets, for the AP-REP. An authenticator
-    /// is remembered once only the ticket's own times and flags can refuse it. A call that is refused memory changes
-    /// nothing.
+    /// `at` is the moment when they came in. `confounder` is 16 random bytes, for the AP-REP. An authenticator is
+    /// recorded as soon as only the ticket's own times and flags can still refuse it. A call that runs out of memory
+    /// changes nothing.
     pub fn accept(
         &mut self,
         alloc: Global,
@@ -63,16 +63,16 @@ impl Acceptor {
         confounder: &[u8; 16],
         ap_req: &[u8],
     ) -> Result<Accepted, ApFault>
-        // The AP-REQ is the one that the octets spell, if they spell one.
+        // The AP-REQ is the one that the bytes encode, if they encode one.
         ensures request { (r : trees.ApReq) → (request_of ap_req.now ≡ Some r) ↔ trees.ap_req.Spells r ap_req.now }
-        // What is accepted, or why nothing is, is what the rules say; and so is the state afterwards.
+        // The answer and the state afterwards are those that the rules prescribe.
         ensures answer { IsAnswer result (accepts self.old at confounder.now ap_req.now).answer }
         ensures state { IsAfter result self.old self.new (accepts self.old at confounder.now ap_req.now).state }
-        // The AP-REP, if there is one, is what the session key opens to the authenticator's time.
+        // The session key decrypts the AP-REP, if there is one, to the authenticator's time.
         ensures reply { IfOk result (λ accepted. IfSome (presented_by self.old ap_req.now) (λ p.
             IfSome accepted.ap_rep (λ octets. IsApReply p.session_key confounder.now p.authenticator octets))) }
-        // No memory changes but that of the service and the client that are presented, and nothing else does. What is
-        // let go of the service's other clients says the same of every authenticator from an hour before this call on.
+        // Only the replay cache of the presented service and client changes. Entries of the service's other clients may
+        // be dropped, but their caches give the same verdict on every authenticator from an hour before this call on.
         ensures services { (service : Components) → (IsService service (presented_by self.old ap_req.now) → ⊥)
             → clients_of self.new service ≡ clients_of self.old service }
         ensures memories { (service client : Components)

@@ -14,7 +14,7 @@ use sealed_parts::{key_of, open_part};
 use std::alloc::{AllocError, Global};
 use std::cmp::Ordering;
 
-/// The authenticator that the session key opens.
+/// Decrypts the authenticator with the session key.
 pub fn authenticator_of(
     alloc: Global,
     key: &Key,
@@ -40,7 +40,7 @@ fn authenticator_in(
     open_part(alloc, key, usage, sealed.cipher.as_slice())
 }
 
-/// The subkey of an authenticator that fits the ticket.
+/// Returns the subkey of an authenticator, after checking that the authenticator matches the ticket.
 pub fn subkey_of(
     part: &EncTicketPart,
     authenticator: &Authenticator,
@@ -61,7 +61,7 @@ fn authenticator_rules(
     [(is_mismatched(part, authenticator), ApRefusal::BadMatch)]
 }
 
-/// It names another client than the ticket.
+/// Checks whether the authenticator names another client than the ticket.
 fn is_mismatched(part: &EncTicketPart, authenticator: &Authenticator) -> bool
     ensures { result ≡ is_mismatched part.now authenticator.now }
 {
@@ -69,7 +69,7 @@ fn is_mismatched(part: &EncTicketPart, authenticator: &Authenticator) -> bool
         || authenticator.cname.order(&part.cname) != Ordering::Equal
 }
 
-/// None is chosen, or one that is a key.
+/// Returns the subkey, `Some(None)` if there is none, and `None` if it is not a valid key.
 fn subkey_in(subkey: Option<&Typed>) -> Option<Option<Key>>
     ensures { result ≡ subkey_in (option_copied subkey.entry) }
 {

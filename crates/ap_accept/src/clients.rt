@@ -1,4 +1,4 @@
-//! What is remembered of a service's clients.
+//! The replay caches of a service's clients.
 ghost use Rattle.std.specs.Prelude.{◌≡◌, false, None, OnOk, OnErr};
 ghost use Rattle.std.specs.FinMap as map;
 ghost use Rattle.replay.specs.Stamp.{is_untimely};
@@ -11,21 +11,21 @@ use principal_rows::{NameMap, ValueTest};
 use replay::{Failures, Memory, Opening, Pairs};
 use std::alloc::{AllocError, Global};
 
-/// In seconds. What can't come again is let go once an hour, and only what is older than an hour and the skew of
-/// clocks.
+/// In seconds. At most once an hour, the acceptor drops entries that can't be replayed any more. It drops only what is
+/// older than an hour plus the clock skew.
 const HOUR: i64 = 3_600;
 
 /// The clients of a service.
 #[derive(Drop)]
 pub struct Clients {
-    /// The second since 1970 below which an authenticator of a client that has no memory is too old. Whatever was let
-    /// go lies below it.
+    /// An authenticator from a client without a cache of its own is too old if its ctime, in seconds since 1970, is
+    /// below this. All dropped entries lie below it.
     pub floor: i64,
     pub memories: NameMap<Memory<()>>,
 }
 
 impl Clients {
-    /// Those of a service from whose clients nothing has come since the opening.
+    /// Returns the clients of a service that has accepted nothing since the acceptor started.
     pub fn opened(alloc: Global, opening: Opening) -> Clients
         ensures { result ≡ opened_clients opening }
     {
@@ -36,7 +36,7 @@ impl Clients {
         }
     }
 
-    /// What is remembered of a client. `empty` is the memory of one that has none.
+    /// Returns a client's replay cache, or `empty` if it has none.
     pub fn memory<'c>(&'c self, client: &Name, empty: &'c Memory<()>) -> &'c Memory<()>
         requires { empty.now ≡ empty_memory self.now.floor }
         ensures { result.now ≡ memory_in self.now client.now.components }
@@ -47,8 +47,8 @@ impl Clients {
         }
     }
 
-    /// Remembers an authenticator of the client that is neither skewed nor a repeat, and lets go what can't come again.
-    /// Where memory runs out, nothing changes.
+    /// Records an authenticator of the client. It must be within the clock skew and new. Drops entries that can't be
+    /// replayed any more. Changes nothing if memory runs out.
     pub fn remember(
         &mut self,
         alloc: Global,
@@ -69,7 +69,7 @@ impl Clients {
         Ok(())
     }
 
-    /// Raises the floor, at most once in an hour, and forgets the clients of which nothing above it is remembered.
+    /// Raises the floor, at most once an hour, and drops the clients whose caches refuse no more than an empty one.
     fn let_go(&mut self, at: Moment)
         ensures { self.new ≡ let_go at.sec self.old }
     {
@@ -81,14 +81,14 @@ impl Clients {
     }
 }
 
-/// The second an hour and the skew of clocks before this moment.
+/// Returns the second that lies an hour plus the clock skew before this moment.
 fn floor_for(at: Moment) -> i64
     ensures { result ≡ floor_for at.sec }
 {
     at.sec - SKEW - HOUR
 }
 
-/// The memory of a client of which nothing is remembered.
+/// Returns an empty replay cache with this floor.
 pub fn empty_memory(alloc: Global, floor: i64) -> Memory<()>
     ensures { result ≡ empty_memory floor }
 {
@@ -99,7 +99,7 @@ pub fn empty_memory(alloc: Global, floor: i64) -> Memory<()>
     }
 }
 
-/// Remembers an authenticator among those of a service's clients.
+/// Records an authenticator among the replay caches of a service's clients.
 fn remember_among(
     alloc: Global,
     memories: &mut NameMap<Memory<()>>,
@@ -126,7 +126,7 @@ fn remember_among(
     }
 }
 
-/// Memories that say more than an empty one of this floor.
+/// The test for replay caches that refuse more than an empty one with this floor.
 #[derive(Drop)]
 struct Lasting {
     floor: i64,

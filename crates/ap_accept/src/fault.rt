@@ -1,4 +1,4 @@
-//! Why a call to accept an AP-REQ gives nothing.
+//! Errors of a call that accepts an AP-REQ.
 ghost use Rattle.std.specs.Prelude.{◌≡◌};
 ghost use Rattle.ap_accept.specs.declared.fault.ApFault.TheVariants.{Refused, Memory};
 
@@ -7,12 +7,12 @@ use std::alloc::AllocError;
 use std::error::Error;
 use std::fmt;
 
-/// Why an AP-REQ is not accepted.
+/// Why a call accepted nothing.
 #[derive(Clone, Copy, Debug, PartialEq, Eq)]
 pub enum ApFault {
-    /// The octets spell no AP-REQ.
+    /// The bytes do not encode an AP-REQ.
     NotAnApReq,
-    /// By this rule.
+    /// This rule refuses the request.
     Refused(ApRefusal),
     Memory,
 }
@@ -20,7 +20,7 @@ pub enum ApFault {
 impl fmt::Display for ApFault {
     fn fmt<W: fmt::Write>(&self, f: &mut fmt::Formatter<W>) -> fmt::Result {
         match self {
-            ApFault::NotAnApReq => f.write_str("the octets spell no AP-REQ"),
+            ApFault::NotAnApReq => f.write_str("the bytes do not encode an AP-REQ"),
             ApFault::Refused(refusal) => write!(f, "{}", refusal.code()),
             ApFault::Memory => f.write_str("out of memory"),
         }

@@ -1,12 +1,12 @@
-//! What holds of every run of an acceptor: laws over the definition that `Acceptor::accept` meets.
+//! Properties of every run of an acceptor: laws over the definition that `Acceptor::accept` meets.
 ghost use Rattle.ap_accept.specs.Run.{AcceptedOnce, LetsGoUnseen};
 
-/// No authenticator is accepted twice for one ticket realm, service and client, whatever comes and whenever.
+/// No authenticator is accepted twice for the same ticket realm, service and client, whatever comes in and whenever.
 pub fn accepted_once()
     ensures { AcceptedOnce }
 {}
 
-/// What is let go changes no answer, as long as the clock doesn't go back by more than an hour.
+/// Dropping old entries changes no answer, as long as the clock never goes back by more than an hour.
 pub fn lets_go_unseen()
     ensures { LetsGoUnseen }
 {}

@@ -1,4 +1,4 @@
-//! A service accepts AP-REQ messages (RFC 4120, section 3.2.3).
+//! Accepting AP-REQ messages as a service (RFC 4120, section 3.2.3).
 #![tactic(auto)]
 
 mod accepted;

@@ -1,4 +1,4 @@
-//! The ticket and the authenticator of an AP-REQ, opened (RFC 4120, section 3.2.3).
+//! Decrypts the ticket and the authenticator of an AP-REQ (RFC 4120, section 3.2.3).
 ghost use Rattle.std.specs.Prelude.{◌≡◌, IfOk};
 ghost use Rattle.ap_accept.specs.Fault.{Gives};
 ghost use Rattle.ap_accept.specs.Presented.{full_name, presented, shown_in};
@@ -14,7 +14,7 @@ use krb_fields::{Name, NameRef};
 use krb_parts::EncTicketPart;
 use std::alloc::{AllocError, Global};
 
-/// What an AP-REQ presents, or the first rule by which that is refused.
+/// Decrypts and checks what an AP-REQ presents, or returns the first rule that refuses it.
 pub fn open_request(
     alloc: Global,
     keytab: &Keytab,
@@ -38,7 +38,7 @@ pub fn open_request(
     })
 }
 
-/// What the authenticator shows under the ticket's session key.
+/// Decrypts the authenticator with the ticket's session key and reads its subkey.
 fn shown_in(alloc: Global, request: &ApReqRef<'_>, ticket: &EncTicketPart) -> Result<Shown, ApFault>
     ensures { Gives result (shown_in request.now ticket.now) }
 {
@@ -52,7 +52,7 @@ fn shown_in(alloc: Global, request: &ApReqRef<'_>, ticket: &EncTicketPart) -> Re
     })
 }
 
-/// The name of a service with its realm before it.
+/// Returns the service's name with its realm as the first component.
 fn full_name(alloc: Global, realm: &[u8], name: &NameRef<'_>) -> Result<Name, AllocError>
     ensures { IfOk result (λ full. full ≡ full_name realm.now name.now) }
 {

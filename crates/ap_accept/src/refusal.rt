@@ -1,10 +1,10 @@
-//! Why an AP-REQ is refused.
+//! The reasons to refuse an AP-REQ.
 ghost use Rattle.std.specs.Prelude.{◌≡◌};
 ghost use Rattle.ap_accept.specs.Refusal.{code_of};
 
 use krb_fields::Code;
 
-/// The rules by which AP-REQs are refused (RFC 4120, section 3.2.3), in the order in which they are asked.
+/// The rules that refuse an AP-REQ (RFC 4120, section 3.2.3), in the order in which they are checked.
 #[derive(Debug, Clone, Copy, PartialEq, Eq)]
 pub enum ApRefusal {
     // what the request presents
@@ -21,11 +21,11 @@ pub enum ApRefusal {
     AuthenticatorNotOpened,
     BadMatch,
     BadSubkey,
-    // whether that came before
+    // whether the authenticator is timely and new
     Skewed,
     Repeated,
     Full,
-    // whether the ticket is valid: from here on the authenticator is remembered
+    // whether the ticket is valid; by now the authenticator is recorded
     NotYetValid,
     TicketExpired,
 }

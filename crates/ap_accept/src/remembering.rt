@@ -1,4 +1,4 @@
-//! What is remembered of the clients of services.
+//! The replay caches of all services.
 ghost use Rattle.std.specs.Prelude.{◌≡◌, false, None, OnOk, OnErr};
 ghost use Rattle.std.specs.FinMap as map;
 ghost use Rattle.replay.specs.Stamp.{is_untimely};
@@ -12,7 +12,7 @@ use krb_fields::{Moment, Name};
 use std::alloc::{AllocError, Global};
 
 impl State {
-    /// The clients of a service. `opened` are those of one that has none.
+    /// Returns the clients of a service, or `opened` if it has none yet.
     pub fn clients<'s>(&'s self, service: &Name, opened: &'s Clients) -> &'s Clients
         requires { opened.now ≡ opened_clients self.now.opening }
         ensures { result.now ≡ clients_of self.now service.now.components }
@@ -23,8 +23,8 @@ impl State {
         }
     }
 
-    /// Remembers an authenticator of the client that is neither skewed nor a repeat, and lets go what can't come again.
-    /// Where memory runs out, nothing changes.
+    /// Records an authenticator of the client. It must be within the clock skew and new. Drops entries that can't be
+    /// replayed any more. Changes nothing if memory runs out.
     pub fn remember(
         &mut self,
         alloc: Global,

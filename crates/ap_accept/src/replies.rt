@@ -1,4 +1,4 @@
-//! The AP-REP by which a service shows that it has the session key (RFC 4120, sections 3.2.4 and 5.5.2).
+//! The AP-REP, by which a service proves that it has the session key (RFC 4120, sections 3.2.4 and 5.5.2).
 ghost use Rattle.std.specs.Prelude.{◌≡◌, ◌<◌, ◌≤◌, ◌^◌, length, Some, IfOk, IfSome};
 ghost use Rattle.enctypes.specs.KeyUsage.{usage_number};
 ghost use Rattle.krb_ap.specs.ApRep.{ap_rep};
@@ -14,7 +14,7 @@ use krb_parts::{Authenticator, EncApRepPart};
 use sealed_parts::seal_part;
 use std::alloc::{AllocError, Global};
 
-/// The octets of the AP-REP, where it is asked for. `confounder` is 16 random octets.
+/// Returns the bytes of the AP-REP, if it is asked for. `confounder` is 16 random bytes.
 pub fn reply_if(
     alloc: Global,
     asked: bool,
@@ -56,7 +56,7 @@ fn reply_of(
     })
 }
 
-/// The authenticator's time, and no more.
+/// Returns the part with the authenticator's time and nothing else.
 #[tactic(auto, using(crate::specs::LengthLaws::part_short))]
 fn reply_part(authenticator: &Authenticator) -> EncApRepPart
     ensures value { result ≡ reply_part authenticator.now }

@@ -1,4 +1,4 @@
-//! What an acceptor holds.
+//! The state of an acceptor.
 ghost use Rattle.std.specs.Prelude.{◌≡◌};
 
 use crate::clients::Clients;
@@ -7,21 +7,21 @@ use principal_rows::{Limits, NameMap};
 use replay::Opening;
 use std::alloc::Global;
 
-/// The keys of services, the limits, and what is remembered of each service's clients: where nothing is stored for a
-/// service, it is that of the opening.
+/// The services' keys, the limits, and the replay caches of each service's clients. A service without an entry has the
+/// empty caches that `opening` prescribes.
 #[derive(Drop)]
 pub struct State {
     pub keytab: Keytab,
     pub limits: Limits,
     pub opening: Opening,
-    /// A service's key is its realm, and then the components of its name.
+    /// The map's key is the service's realm, followed by the components of its name.
     pub services: NameMap<Clients>,
 }
 
 impl State {
     ghost use Rattle.ap_accept.specs.State.{opened};
 
-    /// The state of an acceptor that opens.
+    /// Returns the state of an acceptor that starts.
     pub fn open(alloc: Global, keytab: Keytab, limits: Limits, opening: Opening) -> State
         ensures { result ≡ opened keytab limits opening }
     {

@@ -18,9 +18,9 @@ use refusals::decide;
 use sealed_parts::{key_of, open_part, type_numbered};
 use std::alloc::{AllocError, Global};
 
-/// What the ticket holds.
+/// Decrypts the ticket, or returns the first rule that refuses it.
 ///
-/// Until the ticket is opened, it takes no more memory than the service's name and the ticket's cipher need.
+/// Until it is decrypted, this allocates no more than the service's name and the ticket's cipher need.
 pub fn shown_ticket(
     alloc: Global,
     keytab: &Keytab,
@@ -77,7 +77,7 @@ fn is_other_version(request: &ApReqRef<'_>) -> bool
     request.pvno != PVNO || request.ticket.tkt_vno != PVNO
 }
 
-/// The keytab has no entry of the service.
+/// Checks whether the keytab has no entry for the service.
 fn lacks_service(keytab: &Keytab, ticket: &TicketRef<'_>, service: &Name) -> bool
     requires { service.now ≡ ticket.now.sname }
     ensures { result ≡ lacks_service keytab.now ticket.now }
@@ -85,7 +85,7 @@ fn lacks_service(keytab: &Keytab, ticket: &TicketRef<'_>, service: &Name) -> boo
     !keytab.has(ticket.realm.as_slice(), service, None)
 }
 
-/// Or none of the ticket's encryption type.
+/// Checks whether the keytab has no key of the ticket's encryption type for the service.
 fn lacks_type(keytab: &Keytab, ticket: &TicketRef<'_>, service: &Name) -> bool
     requires { service.now ≡ ticket.now.sname }
     ensures { result ≡ lacks_type keytab.now ticket.now }
@@ -96,14 +96,14 @@ fn lacks_type(keytab: &Keytab, ticket: &TicketRef<'_>, service: &Name) -> bool
     }
 }
 
-/// A version is named, and there is no key of it.
+/// Checks whether the ticket names a key version that the keytab lacks.
 fn lacks_version(sealed: &EncryptedDataRef<'_>, key: Option<&Key>) -> bool
     ensures { result ≡ (is_some sealed.now.kvno && is_none (option_copied key.entry)) }
 {
     sealed.kvno.is_some() && key.is_none()
 }
 
-/// The key that the ticket names by its type and version.
+/// Returns the key with the ticket's encryption type and key version.
 fn ticket_key<'k>(keytab: &'k Keytab, ticket: &TicketRef<'_>, service: &Name) -> Option<&'k Key>
     requires { service.now ≡ ticket.now.sname }
     ensures { option_copied result ≡ ticket_key keytab.now ticket.now }
@@ -117,7 +117,7 @@ fn ticket_key<'k>(keytab: &'k Keytab, ticket: &TicketRef<'_>, service: &Name) ->
     )
 }
 
-/// What the key opens, if there is one.
+/// Decrypts the part with the key, if there is one.
 fn part_of(
     alloc: Global,
     key: Option<&Key>,
@@ -133,7 +133,7 @@ fn part_of(
     }
 }
 
-/// The session key of a ticket of this realm, of a client of the realm and bound to no address.
+/// Returns the session key, after checking that the client is of this realm and that the ticket is bound to no address.
 pub fn session_key_of(realm: &[u8], part: &EncTicketPart) -> Result<Key, ApRefusal>
     ensures { result ≡ session_key_of realm.now part.now }
 {

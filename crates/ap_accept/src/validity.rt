@@ -9,7 +9,7 @@ use krb_parts::EncTicketPart;
 use refusals::first_holding;
 use ticket_times::TicketTerms;
 
-/// The flags and times of a ticket.
+/// Returns the flags and times of a ticket.
 pub fn terms_of(part: &EncTicketPart) -> TicketTerms
     ensures { result ≡ terms_of part.now }
 {
@@ -22,7 +22,7 @@ pub fn terms_of(part: &EncTicketPart) -> TicketTerms
     }
 }
 
-/// The first rule by which the ticket is not valid at this moment.
+/// Returns the first rule that makes the ticket invalid at this moment.
 pub fn ticket_refusal(ticket: &TicketTerms, at: Moment) -> Option<ApRefusal>
     ensures { result ≡ first_holding (validity_rules ticket.now at.sec) }
 {
@@ -38,7 +38,7 @@ fn validity_rules(ticket: &TicketTerms, at: Moment) -> [(bool, ApRefusal); 2]
     ]
 }
 
-/// It starts later than the skew of clocks allows, or has yet to be validated.
+/// Checks whether the ticket starts later than the clock skew allows, or has yet to be validated.
 fn is_not_yet_valid(ticket: &TicketTerms, at: Moment) -> bool
     ensures { result ≡ is_not_yet_valid ticket.now at.sec }
 {

@@ -1,4 +1,4 @@
--- Why a keytab is not read, and that numbers are those of no moment.
+-- Why a keytab could not be read; and that the numbers name no moment.
 use Rattle.std.proofs.Common.{ℕ, List, Err}
 use Rattle.cred_files.specs.Keytab.{IsKeytab}
 use Rattle.cred_files.specs.Reading.{IsReadUnlessMemory}
@@ -8,7 +8,7 @@ use Rattle.cred_files.specs.declared.keytab_entry.KeytabEntry.{KeytabEntry}
 use Rattle.ap_accept_c.specs.Service.{IsOpenFault}
 use Rattle.ap_accept_c.specs.Status.{status_of_file}
 
--- what is no keytab's fault, is that of memory
+-- an error that is not the keytab's is out of memory
 pub not_read : (fault : FileFault) (octets : List ℕ) (remembered : ℕ)
     → ((keytab : List KeytabEntry) → IsKeytab keytab octets → IsReadUnlessMemory {X = List KeytabEntry} (Err fault) keytab)
     → IsOpenFault (status_of_file fault) octets remembered

@@ -1,4 +1,4 @@
--- What the calls from C return and leave.
+-- What calls from C return, and the state that they leave.
 use Rattle.std.specs.Prelude.{◌≡◌, ℕ, ℤ, List, Option, Some, None, length}
 use Rattle.krb_fields.specs.declared.moment.Moment.{Moment}
 use Rattle.replay.specs.declared.opening.Opening.{Opening}
@@ -15,15 +15,15 @@ use Rattle.ap_accept_c.specs.declared.service.Service.{Service}
 use Rattle.ap_accept_c.specs.declared.status.Status.{Status}
 use Rattle.ap_accept_c.specs.declared.status.Status.TheVariants.{Done, NoMemory, BadArgument, Closed, Absent}
 
--- ---- opening
+-- ---- opening an acceptor
 
--- a closed acceptor opens, or says why not
+-- a closed acceptor opens, or the call returns why it can't
 abbrev pub IsOpeningOf : Status → Option Service → List ℕ → ℕ → Opening → Type 0
 IsOpeningOf Done (Some new) keytab remembered opening = IsOpened new keytab remembered opening
 IsOpeningOf Done None keytab remembered opening = ⊥
 IsOpeningOf status new keytab remembered opening = (new ≡ None) × IsOpenFault status keytab remembered
 
--- one that is open stays as it is
+-- an open acceptor doesn't change
 abbrev pub IsOpening : Status → Option Service → Option Service → List ℕ → ℕ → Opening → Type 0
 IsOpening status (Some old) new keytab remembered opening = (status ≡ BadArgument) × (new ≡ Some old)
 IsOpening status None new keytab remembered opening = IsOpeningOf status new keytab remembered opening
@@ -40,15 +40,15 @@ abbrev pub IsAccepted : Status → Option Service → Option Service → Moment 
 IsAccepted status (Some old) new at confounder octets numbers = IsTakenBy status old new at confounder octets numbers
 IsAccepted status None new at confounder octets numbers = (status ≡ Closed) × (new ≡ None) × (numbers ≡ numbers_if None)
 
--- ---- what was accepted
+-- ---- parts of the accepted AP-REQ
 
--- the octets, if there are any, are written to the buffer, and their number returned
+-- the bytes, if there are any, are copied to the buffer, and their number is returned
 abbrev pub IsFetchedOf : Status → Option (List ℕ) → List ℕ → List ℕ → ℕ → Type 0
 IsFetchedOf NoMemory octets old new len = (new ≡ old) × (len ≡ 0)
 IsFetchedOf status (Some octets) old new len = IsGiven status octets old new × (len ≡ length octets)
 IsFetchedOf status None old new len = (status ≡ Absent) × (new ≡ old) × (len ≡ 0)
 
--- nothing was accepted last
+-- the last call accepted nothing
 abbrev pub IsFetchedFrom : Status → Option Accepted → Part → List ℕ → List ℕ → ℕ → Type 0
 IsFetchedFrom status (Some accepted) part old new len = IsFetchedOf status (octets_of part accepted) old new len
 IsFetchedFrom status None part old new len = (status ≡ Absent) × (new ≡ old) × (len ≡ 0)
@@ -59,14 +59,14 @@ IsFetched status None part old new len = (status ≡ Closed) × (new ≡ old) ×
 
 -- ---- closing
 
--- done, or closed already
+-- done, or closed before
 abbrev pub IsClosing : Status → Option Service → Type 0
 IsClosing status (Some service) = status ≡ Done
 IsClosing status None = status ≡ Closed
 
--- ---- numbers
+-- ---- status numbers
 
--- the number that C sees is that of a status of which this holds
+-- C sees the number of a status with this property
 pub record Numbered (number : ℤ) (P : Status → Type 0) : Type 0 where
   pub status : Status
   pub is : number ≡ number_of status

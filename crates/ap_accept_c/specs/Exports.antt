@@ -1,4 +1,4 @@
--- What C sees of a call: the number of a status, and what that status says.
+-- What C sees of a call: the number of a status, and what that status means.
 use Rattle.std.specs.Prelude.{◌≡◌, ◌⊎◌, ℕ, ℤ, Bool, true, false, List, Option, Some, None, length}
 use Rattle.krb_elements.specs.Simple.{IsMicrosecond}
 use Rattle.krb_fields.specs.Moment.{IsSecond}
@@ -21,13 +21,13 @@ abbrev pub opening_at : Bool → Moment → Opening
 opening_at true at = First
 opening_at false at = Restart at
 
--- the numbers are no moment's: a bad argument, which leaves what C holds as it was
+-- the numbers name no moment: a bad argument, which changes nothing
 pub record IsNoMoment (status : Status) (old new : Option Service) (sec : ℤ) (usec : ℕ) : Type 0 where
   pub none : IsSecond sec × IsMicrosecond usec → ⊥
   pub refused : status ≡ BadArgument
   pub kept : new ≡ old
 
--- the numbers are those of this moment
+-- the numbers name this moment
 pub record AtMoment (sec : ℤ) (usec : ℕ) (P : Moment → Type 0) : Type 0 where
   pub at : Moment
   pub same : IsAt at sec usec
@@ -38,7 +38,7 @@ IsOpenAt status old new keytab remembered is_first sec usec =
     IsNoMoment status old new sec usec
     ⊎ AtMoment sec usec (λ at. IsOpening status old new keytab remembered (opening_at is_first at))
 
--- the same of an AP-REQ that came in at the moment of these numbers, if there is one
+-- the same for an AP-REQ that came in at the moment that these numbers name, if there is one
 pub record IsAcceptedAt (status : Status) (old new : Option Service) (sec : ℤ) (usec : ℕ) (confounder octets : List ℕ)
     (numbers : Numbers) : Type 0 where
   pub none : (IsSecond sec × IsMicrosecond usec → ⊥) → (status ≡ BadArgument) × (new ≡ old)
@@ -63,7 +63,7 @@ IsFetchCall n service part old new len =
 abbrev pub IsCloseCall : ℤ → Option Service → Type 0
 IsCloseCall n old = Numbered n (λ status. IsClosing status old)
 
--- a text stands in the buffer, cut so that it ends with a NUL there, and this is how long the whole text is
+-- the buffer holds a text, cut to end with a NUL, and the result is the length of the whole text
 pub record IsTextCall (len : ℕ) (old new : List ℕ) : Type 0 where
   pub text : List ℕ
   pub given : new ≡ texted text old

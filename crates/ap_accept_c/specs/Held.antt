@@ -1,4 +1,4 @@
--- What the pointer owns that C holds.
+-- What C's pointer owns.
 use Rattle.std.specs.Prelude.{Option, Some, None}
 use Rattle.std.specs.Coded.{coded_option}
 use base.Fml.{Fml, ftrue}
@@ -9,7 +9,7 @@ use Rattle.std_heap.specs.declared.Global.{Global}
 use Rattle.std_heap.specs.contracts.GlobalAllocator.TheImpl.{ghosts}
 use Rattle.ap_accept_c.specs.contracts.service.Service.{the_row}
 
--- a box of the service, or nothing
+-- a boxed service, or nothing
 abbrev pub owned_if : Global → Ptr → Option the_row.Denot → Fml
 owned_if alloc p None = ftrue
 owned_if alloc p (Some service) = box_owns (ghosts.dealloc_token alloc) the_row p service

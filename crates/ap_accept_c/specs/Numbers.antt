@@ -1,4 +1,4 @@
--- The numbers of what was accepted, as C reads them.
+-- The numbers of an accepted AP-REQ, as C reads them.
 use Rattle.std.specs.Prelude.{pos, false, is_some, Option, Some, None, option_map}
 use Rattle.std.specs.Option.{unwrap_or}
 use Rattle.enctypes.specs.Etype.{number}
@@ -22,7 +22,7 @@ numbers_of accepted = record {
   has_ap_rep = is_some accepted.ap_rep;
 }
 
--- where nothing was accepted, all are zero
+-- all are zero if nothing was accepted
 abbrev pub numbers_if : Option Accepted → Numbers
 numbers_if (Some accepted) = numbers_of accepted
 numbers_if None = record {

@@ -1,4 +1,4 @@
--- Which octets C may ask for.
+-- The parts that C may ask for.
 use Rattle.std.specs.Prelude.{ℕ, ◌==◌, if◌then◌else◌, List, Option, Some, None, option_map}
 use Rattle.krb_fields.specs.NameText.{text_of}
 use Rattle.ap_accept.specs.declared.accepted.Accepted.{Accepted}

@@ -1,4 +1,4 @@
--- An acceptor with what it accepted last: how it opens, and what a call makes of it.
+-- An acceptor with the AP-REQ that it accepted last: how it opens, and what a call does to it.
 use Rattle.std.specs.Prelude.{◌≡◌, ◌≤◌, ℕ, List, None, Err, IsSome}
 use Rattle.std.specs.Result.{result_ok}
 use Rattle.cred_files.specs.Keytab.{IsKeytab}
@@ -12,25 +12,26 @@ use Rattle.ap_accept_c.specs.declared.status.Status.{Status}
 use Rattle.ap_accept_c.specs.declared.status.Status.TheVariants.{Done, NotAnApReq, NoMemory, BadArgument, BadKeytab}
 use Rattle.ap_accept_c.specs.declared.status.Status.TheVariants.{Refused}
 
--- it holds the keys of the keytab that the octets are, and has accepted nothing
+-- it has the keys of the keytab that the bytes encode, and has accepted nothing
 pub record IsOpened (service : Service) (octets : List ℕ) (limit : ℕ) (opening : Opening) : Type 0 where
   pub keys : IsKeytab service.acceptor.keytab octets
   pub acceptor : service.acceptor ≡ opened service.acceptor.keytab service.acceptor.limits opening
   pub remembered : service.acceptor.limits.remembered ≡ limit
   pub accepted : service.accepted ≡ None
 
--- the number is out of its range, the octets are no keytab, or memory ran out
+-- the number is out of range, the bytes are not a keytab, or memory ran out
 abbrev pub IsOpenFault : Status → List ℕ → ℕ → Type 0
 IsOpenFault BadArgument octets remembered = (1 ≤ remembered) × (remembered ≤ 65536) → ⊥
 IsOpenFault BadKeytab octets remembered = (keytab : List KeytabEntry) → IsKeytab keytab octets → ⊥
 IsOpenFault NoMemory octets remembered = Unit {0}
 IsOpenFault status octets remembered = ⊥
 
--- the service after what the acceptor's rules say
+-- the service after the answer that the acceptor's rules prescribe
 abbrev pub after : Answer → Service
 after ruled = record { acceptor = ruled.state; accepted = result_ok ruled.answer }
 
--- what a call returned and left is what the rules say; without memory, it left the acceptor as it was
+-- the call's result and the state are those that the rules prescribe; a call that runs out of memory leaves the
+-- acceptor unchanged
 abbrev pub IsTaken : Status → Service → Service → Answer → Type 0
 IsTaken Done old new ruled = (new ≡ after ruled) × IsSome new.accepted
 IsTaken NotAnApReq old new ruled = (new ≡ after ruled) × (ruled.answer ≡ Err faults.NotAnApReq)

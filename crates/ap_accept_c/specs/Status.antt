@@ -1,4 +1,4 @@
--- The numbers by which C sees how a call ended.
+-- The numbers by which C knows the results of calls.
 use Rattle.std.specs.Prelude.{ℤ, pos, negsuc}
 use Rattle.krb_fields.specs.Code as codes
 use Rattle.ap_accept.specs.Refusal.{code_of}
@@ -27,7 +27,7 @@ status_of faults.NotAnApReq = NotAnApReq
 status_of (faults.Refused refusal) = Refused refusal
 status_of faults.Memory = NoMemory
 
--- why a keytab is not read
+-- why a keytab could not be read
 abbrev pub status_of_file : FileFault → Status
 status_of_file files.Memory = NoMemory
 status_of_file files.BadMagic = BadKeytab

@@ -1,10 +1,10 @@
-//! Octets into the buffers of a caller.
+//! Copies bytes into the caller's buffers.
 ghost use Rattle.std.specs.Prelude.{◌≡◌, length};
 ghost use Rattle.ap_accept_c.specs.Buffers.{IsGiven, texted};
 
 use crate::status::Status;
 
-/// Copies octets to the front of a buffer, if it has room for them, and returns how many they are.
+/// Copies the bytes to the front of the buffer, if they fit, and sets `len` to their number.
 pub fn give(octets: &[u8], to: &mut [u8], len: &mut usize) -> Status
     ensures given { IsGiven result octets.now to.old to.new }
     ensures len { len.new ≡ length octets.now }
@@ -17,7 +17,7 @@ pub fn give(octets: &[u8], to: &mut [u8], len: &mut usize) -> Status
     Status::Done
 }
 
-/// Writes a text to a buffer with a NUL behind it, cut where the buffer ends, and returns how long it is.
+/// Writes a text and a NUL to a buffer, cut to its size, and returns the length of the whole text.
 pub fn give_text(text: &[u8], to: &mut [u8]) -> usize
     ensures given { to.new ≡ texted text.now to.old }
     ensures len { result ≡ length text.now }

@@ -1,4 +1,4 @@
-//! The calls of a caller in C, over what it holds.
+//! The calls from C, as operations on a `Holder`.
 ghost use Rattle.std.specs.Prelude.{◌≡◌, None, IfOk, IfErr};
 ghost use Rattle.ap_accept_c.specs.Calls.{IsAccepted, IsClosing, IsFetched, IsOpening};
 ghost use Rattle.ap_accept_c.specs.Exports.{opening_at, IsAcceptedAt, IsFetchPart, IsOpenAt};
@@ -15,7 +15,7 @@ use ap_accept::Opening;
 use krb_fields::Moment;
 use std::alloc::Global;
 
-/// Opens an acceptor that is closed, at the moment of these numbers, if there is one.
+/// Opens a closed acceptor at the moment that these numbers name, if there is one.
 pub fn open_at(
     holder: &mut Holder,
     alloc: Global,
@@ -46,7 +46,7 @@ fn opening_at(is_first: bool, at: Moment) -> Opening
     }
 }
 
-/// Opens an acceptor that is closed.
+/// Opens a closed acceptor.
 fn open(
     holder: &mut Holder,
     alloc: Global,
@@ -86,7 +86,7 @@ fn boxed(
     }
 }
 
-/// Accepts the octets of an AP-REQ at the moment of these numbers, or says why not.
+/// Accepts the bytes of an AP-REQ at the moment that these numbers name, or returns the reason to refuse it.
 pub fn accept_at(
     holder: &mut Holder,
     alloc: Global,
@@ -131,7 +131,7 @@ fn accept(
     status
 }
 
-/// Copies octets of what was accepted last: those of the part of this number.
+/// Copies a part, given by its number, of the AP-REQ that was accepted last.
 pub fn fetch_numbered(
     holder: &mut Holder,
     alloc: Global,
@@ -164,7 +164,7 @@ fn fetch(holder: &mut Holder, alloc: Global, part: Part, to: &mut [u8], len: &mu
     status
 }
 
-/// Lets go of an acceptor, and of what it remembers.
+/// Closes an acceptor and frees its replay caches.
 pub fn close(holder: &mut Holder, alloc: Global) -> Status
     requires { IsHolder holder.old }
     ensures holder { IsHolder holder.new × (holder.new.held.value ≡ None) }

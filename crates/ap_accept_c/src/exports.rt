@@ -1,7 +1,7 @@
-//! The functions that C calls, which `docs/ap_accept.h` declares: a slice is a pointer and a length there, and an
+//! The functions that C calls, as `docs/ap_accept.h` declares them. In C a slice is a pointer and a length, and an
 //! allocator is nothing.
 //!
-//! The header's own functions judge what can't be judged here: that no pointer is null, and no length negative.
+//! Null pointers and lengths above PTRDIFF_MAX can't be checked here; the header's inline functions check for them.
 ghost use Rattle.std.specs.Prelude.{◌≡◌, None};
 ghost use Rattle.ap_accept_c.specs.Exports.{IsAcceptCall, IsCloseCall, IsFetchCall, IsOpenCall, IsTextCall};
 ghost use Rattle.ap_accept_c.specs.Holder.{IsHolder};
@@ -13,7 +13,7 @@ use crate::numbers::Numbers;
 use crate::texts::text_of;
 use std::alloc::Global;
 
-/// Opens an acceptor that is closed, with the octets of a keytab.
+/// Opens a closed acceptor with the bytes of a keytab.
 #[unsafe(no_mangle)]
 pub extern "C" fn ap_accept_c_open(
     alloc: Global,
@@ -32,7 +32,7 @@ pub extern "C" fn ap_accept_c_open(
     calls::open_at(holder, alloc, keytab, remembered, is_first, sec, usec).number()
 }
 
-/// Accepts the octets of an AP-REQ, or says by which rule they are refused.
+/// Accepts the bytes of an AP-REQ, or returns the code of the rule that refuses them.
 #[unsafe(no_mangle)]
 pub extern "C" fn ap_accept_c_accept(
     alloc: Global,
@@ -51,7 +51,7 @@ pub extern "C" fn ap_accept_c_accept(
     calls::accept_at(holder, alloc, sec, usec, confounder, ap_req, numbers).number()
 }
 
-/// Copies octets of what was accepted last, and returns how many they are.
+/// Copies a part of the AP-REQ that was accepted last, and sets `len` to its length.
 #[unsafe(no_mangle)]
 pub extern "C" fn ap_accept_c_octets(
     alloc: Global,
@@ -67,7 +67,7 @@ pub extern "C" fn ap_accept_c_octets(
     calls::fetch_numbered(holder, alloc, part, to, len).number()
 }
 
-/// Lets go of an acceptor, and of what it remembers.
+/// Closes an acceptor and frees its replay caches.
 #[unsafe(no_mangle)]
 pub extern "C" fn ap_accept_c_close(alloc: Global, holder: &mut Holder) -> i32
     requires { IsHolder holder.old }
@@ -77,7 +77,7 @@ pub extern "C" fn ap_accept_c_close(alloc: Global, holder: &mut Holder) -> i32
     calls::close(holder, alloc).number()
 }
 
-/// Writes the text of a status that a call returned, and returns how long it is.
+/// Writes the text for a status to a buffer, and returns its length.
 #[unsafe(no_mangle)]
 pub extern "C" fn ap_accept_c_text(number: i32, to: &mut [u8]) -> usize
     ensures { IsTextCall result to.old to.new }

@@ -9,9 +9,9 @@ use std::alloc::Global;
 use std::marker::Model;
 use std::ptr;
 
-/// A box of a service, or none.
+/// A boxed service, or none.
 ///
-/// A type that owns memory that is lent out does not cross to C, so the pointer is one to an octet.
+/// A type that owns memory can't cross to C by itself, so the pointer is one to a byte.
 #[repr(C)]
 #[derive(Drop)]
 pub struct Held {

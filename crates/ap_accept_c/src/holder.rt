@@ -1,4 +1,4 @@
-//! What a caller in C keeps of an acceptor.
+//! The acceptor as a C program holds it.
 ghost use Rattle.std.specs.Prelude.{◌≡◌, None, Some, IfNone, IfSome};
 ghost use Rattle.ap_accept_c.specs.Holder.{IsHolder};
 
@@ -7,7 +7,7 @@ use crate::service::Service;
 use std::alloc::Global;
 use std::mem;
 
-/// The `struct ap_acceptor` of the header. It is closed until a service is put in, and C begins with all octets zero.
+/// The `struct ap_acceptor` of the header. It is closed until a service is put in. In C it starts with all bytes zero.
 #[repr(C)]
 #[derive(Drop)]
 pub struct Holder {
@@ -16,7 +16,7 @@ pub struct Holder {
 }
 
 impl Holder {
-    /// Takes the service out, and leaves the holder closed.
+    /// Takes the service out and leaves the holder closed.
     pub fn take(&mut self, alloc: Global) -> Option<Box<Service>>
         requires { IsHolder self.old }
         ensures closed { IsHolder self.new × (self.new.held.value ≡ None) }
@@ -30,7 +30,7 @@ impl Holder {
         Some(mem::replace(&mut self.held, Held::none(alloc)).into_box())
     }
 
-    /// Puts a service into a holder that is closed.
+    /// Puts a service into a closed holder.
     pub fn put(&mut self, service: Box<Service>)
         requires { self.old.held.value ≡ None }
         ensures { IsHolder self.new × (self.new.held.value ≡ Some service.value) }

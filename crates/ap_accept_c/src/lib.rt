@@ -1,6 +1,7 @@
 //! The acceptor of AP-REQ messages for services in C, as a static library. Its header is `docs/ap_accept.h`.
 //!
-//! The functions that C calls are in `exports`; each is thin over a call on a [`Holder`](holder::Holder), in `calls`.
+//! `exports` has the functions that C calls. Each is a thin layer over a function in `calls`, which works on a
+//! [`Holder`](holder::Holder).
 #![tactic(auto)]
 
 mod buffers;

@@ -1,4 +1,4 @@
-//! The numbers of what was accepted.
+//! The numbers of an accepted AP-REQ.
 ghost use Rattle.std.specs.Prelude.{◌≡◌, pos, option_copied, option_map};
 ghost use Rattle.std.specs.Option.{unwrap_or};
 ghost use Rattle.enctypes.specs.Etype.{number};
@@ -11,28 +11,28 @@ use ap_accept::Accepted;
 #[derive(Clone, Copy)]
 pub struct Numbers {
     pub authtime: i64,
-    /// That of the authtime, where the ticket has no starttime.
+    /// The authtime, if the ticket has no starttime.
     pub starttime: i64,
     pub endtime: i64,
-    /// That of the end, where the ticket has no renew-till.
+    /// The endtime, if the ticket has no renew-till.
     pub renew_till: i64,
-    /// 0 where the authenticator has none.
+    /// 0 if the authenticator has none.
     pub seq_number: i64,
     /// Bit 0 of RFC 4120 is the most significant.
     pub flags: u32,
     pub session_key_type: i32,
-    /// 0 where the client chose no subkey.
+    /// 0 if the client chose no subkey.
     pub subkey_type: i32,
-    /// 0 where the authenticator has no checksum.
+    /// 0 if the authenticator has no checksum.
     pub checksum_type: i32,
     pub has_seq_number: bool,
     pub has_checksum: bool,
-    /// The client asks the service to show who it is.
+    /// Whether the client asks the service to prove its identity.
     pub has_ap_rep: bool,
 }
 
 impl Numbers {
-    /// Those of a call that accepted nothing.
+    /// The numbers after a call that accepted nothing.
     pub const NONE: Numbers = Numbers {
         authtime: 0,
         starttime: 0,

@@ -1,15 +1,15 @@
-//! The octets of what was accepted.
+//! The parts of an accepted AP-REQ that are bytes.
 ghost use Rattle.std.specs.Prelude.{◌≡◌, IfOk, option_map, option_copied};
 ghost use Rattle.ap_accept_c.specs.Part.{octets_of, part_numbered};
 
 use ap_accept::Accepted;
 use std::alloc::{AllocError, Global};
 
-/// What of an AP-REQ that was accepted is octets.
+/// A part of an accepted AP-REQ that is bytes.
 #[derive(Clone, Copy)]
 pub enum Part {
     ClientRealm,
-    /// The text of the client's name, without its realm.
+    /// The client's name as text, without its realm.
     ClientName,
     SessionKey,
     Subkey,
@@ -32,7 +32,7 @@ impl Part {
         }
     }
 
-    /// The octets, if there are any.
+    /// Returns the bytes, if the AP-REQ has this part.
     pub fn octets(self, alloc: Global, accepted: &Accepted) -> Result<Option<Vec<u8>>, AllocError>
         ensures { IfOk result (λ octets. option_map (λ o. o.items) octets ≡ octets_of self accepted.now) }
     {

@@ -1,4 +1,4 @@
-//! An acceptor, and what it accepted last.
+//! An acceptor and the AP-REQ that it accepted last.
 ghost use Rattle.std.specs.Prelude.{◌≡◌, None, IfOk, IfErr};
 ghost use Rattle.ap_accept.specs.Accepts.{accepts};
 ghost use Rattle.ap_accept_c.specs.Calls.{IsFetchedFrom, IsFetchedOf};
@@ -14,16 +14,17 @@ use krb_fields::Moment;
 use principal_rows::Limits;
 use std::alloc::Global;
 
-/// What stands behind the pointer that C holds.
+/// The value behind the pointer that C holds.
 #[derive(Drop)]
 pub struct Service {
     pub acceptor: Acceptor,
-    /// What the last call accepted, if it did. A caller reads it, as often as it likes, until the next call.
+    /// What the last call accepted, if it accepted anything. The caller may read it any number of times, until the next
+    /// call.
     pub accepted: Option<Accepted>,
 }
 
 impl Service {
-    /// Opens with the keys of a keytab's octets. `remembered` is 1 to 65,536.
+    /// Opens a service with the keys in the bytes of a keytab. `remembered` is 1 to 65,536.
     pub fn open(
         alloc: Global,
         keytab: &[u8],
@@ -46,7 +47,7 @@ impl Service {
         })
     }
 
-    /// Accepts the octets of an AP-REQ, or says by which rule they are refused.
+    /// Accepts the bytes of an AP-REQ, or returns the reason to refuse them.
     pub fn accept(
         &mut self,
         alloc: Global,
@@ -66,7 +67,7 @@ impl Service {
         }
     }
 
-    /// Copies octets of what was accepted last.
+    /// Copies a part of the AP-REQ that was accepted last.
     pub fn fetch(&self, alloc: Global, part: Part, to: &mut [u8], len: &mut usize) -> Status
         requires { len.old ≡ 0 }
         ensures { IsFetchedFrom result self.now.accepted part to.old to.new len.new }

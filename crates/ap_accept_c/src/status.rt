@@ -1,4 +1,4 @@
-//! How a call ended.
+//! The results of calls from C.
 ghost use Rattle.std.specs.Prelude.{◌≡◌};
 ghost use Rattle.ap_accept_c.specs.Status.{number_of, status_of, status_of_file};
 ghost use Rattle.ap_accept_c.specs.declared.status.Status.TheVariants as statuses;
@@ -7,29 +7,29 @@ use ap_accept::{ApFault, ApRefusal};
 use cred_files::FileFault;
 use std::alloc::AllocError;
 
-/// How a call from C ended. Those with an RFC's code have its number; the others' are 0 and below.
+/// The result of a call from C. A status with a code of RFC 4120 has its number; the others are 0 and below.
 #[derive(Clone, Copy)]
 pub enum Status {
     Done,
-    /// The octets spell no AP-REQ.
+    /// The bytes do not encode an AP-REQ.
     NotAnApReq,
     NoMemory,
-    /// A pointer is null, a number is out of its range, or an acceptor is opened that is open.
+    /// A pointer is null, a number is out of its range, or the acceptor is open already.
     BadArgument,
-    /// The buffer is too small for what was asked for.
+    /// The buffer is too small for the part.
     TooSmall,
-    /// The octets are those of no keytab.
+    /// The bytes are not a keytab.
     BadKeytab,
     /// The acceptor is closed.
     Closed,
-    /// What is asked for isn't there.
+    /// There is no such part.
     Absent,
-    /// By a rule of RFC 4120, section 3.2.3.
+    /// A rule of RFC 4120, section 3.2.3, refuses the request.
     Refused(ApRefusal),
 }
 
 impl Status {
-    /// The number that C sees: 0, a code of RFC 4120, section 7.5.9, or one below 0.
+    /// Returns the number that C sees: 0, a code of RFC 4120, section 7.5.9, or a number below 0.
     pub fn number(self) -> i32
         ensures { result ≡ number_of self }
     {
@@ -46,7 +46,7 @@ impl Status {
         }
     }
 
-    /// Why an acceptor accepted nothing.
+    /// Returns the status for an AP-REQ that was not accepted.
     pub fn of_fault(fault: ApFault) -> Status
         ensures { result ≡ status_of fault }
     {
@@ -57,7 +57,7 @@ impl Status {
         }
     }
 
-    /// Why a keytab was not read.
+    /// Returns the status for a keytab that could not be read.
     pub fn of_file_fault(fault: FileFault) -> Status
         ensures { result ≡ status_of_file fault }
     {

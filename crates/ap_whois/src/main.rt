@@ -1,5 +1,5 @@
-//! `ap_whois KEYTAB [first]`: a service that says of each AP-REQ, a line of hexadecimal digits on
-//! standard input, who sent it.
+//! `ap_whois KEYTAB [first]`: a service that reads AP-REQs from standard input, one a line in hexadecimal digits, and
+//! prints who sent each.
 #![tactic(auto)]
 
 use ap_accept::{Accepted, Acceptor, ApFault, Opening};
@@ -16,7 +16,7 @@ use std::rt::Clock;
 use std::time::{SystemTime, UNIX_EPOCH};
 use std::{env, fs, io};
 
-/// The status of a fault of the command line.
+/// The exit status of a usage error.
 const USAGE: u8 = 2;
 
 fn main(rt: HostRuntime) -> io::Result<ExitCode> {
@@ -26,7 +26,7 @@ fn main(rt: HostRuntime) -> io::Result<ExitCode> {
         Err(error) => return Err(error),
     };
     match args.as_slice() {
-        // Unless the service never ran before, it opens as after a restart.
+        // A service that ran before starts as after a restart.
         [_, keytab] => serve(&rt, keytab.as_str(), Opening::Restart(now(&rt)?)),
         [_, keytab, word] if word.as_str() == "first" => {
             serve(&rt, keytab.as_str(), Opening::First)
@@ -48,7 +48,7 @@ fn serve(rt: &HostRuntime, keytab: &str, opening: Opening) -> io::Result<ExitCod
     }
 }
 
-/// An acceptor with the keys of a keytab's file, which remembers 1,024 authenticators of a client.
+/// Returns an acceptor with the keys of a keytab file. It records up to 1,024 authenticators of each client.
 fn open(rt: &HostRuntime, path: &str, opening: Opening) -> io::Result<Acceptor> {
     let octets = fs::read(rt, path)?;
     let Some(limits) = Limits::new(1_024, 0, 0, 0, 0) else {
@@ -60,7 +60,7 @@ fn open(rt: &HostRuntime, path: &str, opening: Opening) -> io::Result<Acceptor> 
     }
 }
 
-/// The moment that it is.
+/// Returns the current moment.
 fn now(clock: &impl Clock) -> io::Result<Moment> {
     let Ok(since) = SystemTime::now(clock)?.duration_since(UNIX_EPOCH) else {
         return Err(Error::from(ErrorKind::InvalidData));
@@ -81,7 +81,7 @@ fn answer_lines(rt: &HostRuntime, acceptor: &mut Acceptor) -> io::Result<()> {
     Ok(())
 }
 
-/// Says who sent an AP-REQ, or why it is refused. The random octets are new for each.
+/// Prints who sent an AP-REQ, or why it is refused. Each call uses new random bytes.
 fn answer(rt: &HostRuntime, acceptor: &mut Acceptor, ap_req: &[u8]) -> io::Result<()> {
     let mut confounder = [0; 16];
     rt.fill_bytes(&mut confounder)?;
@@ -92,12 +92,12 @@ fn answer(rt: &HostRuntime, acceptor: &mut Acceptor, ap_req: &[u8]) -> io::Resul
             let code = refusal.code();
             println!(rt; "refused {} {code}", code.number())
         }
-        // Nothing has changed: the same AP-REQ may be sent again.
+        // Nothing has changed, so the client may send the same AP-REQ again.
         Err(ApFault::Memory) => println!(rt; "out of memory"),
     }
 }
 
-/// Says who sent it and what the ticket holds, and the AP-REP where the client asks for one.
+/// Prints the client, what the ticket holds, and the AP-REP if the client asked for one.
 fn print_accepted(rt: &HostRuntime, accepted: &Accepted) -> io::Result<()> {
     let client = text_of(rt.alloc(), &accepted.client)?;
     let ticket = accepted.ticket;
@@ -125,7 +125,7 @@ fn print_time(rt: &HostRuntime, word: &str, time: Option<KTime>) -> io::Result<(
     }
 }
 
-/// The client's name for people to read. A service compares names by `Principal::is`.
+/// Returns the client's name as text for people. A service compares names with `Principal::is`.
 fn text_of(alloc: Global, client: &Principal) -> Result<String, AllocError> {
     let mut text = client.name.to_text(alloc)?;
     text.push('@')?;

@@ -1,4 +1,4 @@
--- What the AS exchange answers, and what becomes of the client's failures.
+-- The answers of the AS exchange, and the client's failures afterwards.
 use Rattle.std.specs.Prelude.{ℕ, ⊤, ◌⊎◌, nat_lt, if◌then◌else◌, List, length, Option, Some, None}
 use Rattle.enctypes.specs.KeyUsage.{usage_number}
 use Rattle.enctypes.specs.declared.key_usage.KeyUsage.TheVariants.{AsRepEncPart}
@@ -42,12 +42,12 @@ use Rattle.as_exchange.specs.declared.refusal.Sequel.TheVariants.{Nothing, Count
 use Rattle.as_exchange.specs.declared.refusal.Sequel.TheVariants.{FollowsTimestamp}
 use Rattle.as_exchange.specs.declared.terms.Admission.{Admission}
 
--- the octets of the reply, and the client's failures afterwards: none, they stay as they were
+-- the bytes of the reply, and the client's failures afterwards; none if they don't change
 pub record AsAnswer : Type 0 where
   pub reply : List ℕ
   pub failures : Option Failures
 
--- what goes with a refusal beside its code
+-- what a refusal causes beside its error code
 abbrev pub sequel_of : AsRefusal → Sequel
 sequel_of BadVersion = Nothing
 sequel_of BadMessageType = Nothing
@@ -73,7 +73,7 @@ sequel_of NeverValid = FollowsTimestamp
 abbrev pub after_timestamp : Failures → Outcome → Option Failures
 after_timestamp failures timestamp = if is_good timestamp then Some (after_success failures) else None
 
--- a failure is counted; a good timestamp ends the count, whatever is refused after it
+-- a failure is counted; a good timestamp ends the count, even if a later rule refuses the request
 abbrev pub after_sequel : Failures → Moment → Outcome → Sequel → Option Failures
 after_sequel failures at timestamp Nothing = None
 after_sequel failures at timestamp CountsFailure = Some (after_failure failures at)
@@ -82,7 +82,8 @@ after_sequel failures at timestamp FollowsTimestamp = after_timestamp failures t
 
 -- ---- errors
 
--- METHOD-DATA: the client's current types in the order asked for, with the salt, and that a timestamp is taken
+-- METHOD-DATA: the client's current encryption types in the requested order, with the salt, and that timestamps are
+-- accepted
 abbrev pub methods_for : List ℕ → ReqBody → Option Row → Option Name → Option (List ℕ)
 methods_for realm body (Some row) (Some name) =
     Some (method_data (default_salt realm name.components) (types_of (current_keys row) body.etype))
@@ -100,11 +101,11 @@ as_error v at body refusal = error_reply v.realm at (code_of refusal) body.sname
 
 -- ---- answers
 
--- the error in place of a reply that is too long
+-- the error that is sent instead of a reply that is too long
 abbrev pub refused_room : AsView → Moment → ReqBody → AsAnswer
 refused_room v at body = record { reply = written krb_error (too_big v.realm at body); failures = None }
 
--- a reply with a ticket that is longer than the room leaves no trace
+-- a reply with a ticket that doesn't fit changes nothing
 abbrev pub within_room : AsView → Incoming → ReqBody → List ℕ → Option Failures → AsAnswer
 within_room v incoming body octets failures =
     if nat_lt incoming.room (length octets) then refused_room v incoming.at body
@@ -125,9 +126,9 @@ answer_by v incoming body (Issues admission) =
 abbrev pub as_answer : AsView → Incoming → Received → AsAnswer
 as_answer v incoming message = answer_by v incoming message.body.value (decision v incoming.at.sec message)
 
--- ---- what the octets spell
+-- ---- what the bytes encode
 
--- an error where it was refused; else the AS-REP, or the error in its place
+-- the error of a refusal; otherwise the AS-REP, or the error instead of it
 abbrev pub SpelledBy : AsView → Moment → List ℕ → ReqBody → Decision → List ℕ → Type 0
 SpelledBy v at random body (Refuses refusal timestamp) octets = krb_error.Spells (as_error v at body refusal) octets
 SpelledBy v at random body (Issues admission) octets =
@@ -138,8 +139,8 @@ Spelled v at random message octets = SpelledBy v at random message.body.value (d
 
 -- ---- one ticket, two keys
 
--- The client's key opens the AS-REP to what the service's key finds in the ticket, and both are those that the sealed
--- parts name in the rows of the client and of the service.
+-- The client's key decrypts the AS-REP to the same values as the service's key decrypts the ticket. Both are the keys
+-- that the encrypted parts name in the rows of the client and of the service.
 abbrev pub OpensTo : AsView → Admission → KdcRep 11 → EncKdcRepPart → EncTicketPart → Type 0
 OpensTo v admission reply part ticket =
     OpensAlike 11 25 admission.terms.reply_key (usage_number AsRepEncPart) admission.terms.service.key.key
@@ -147,7 +148,7 @@ OpensTo v admission reply part ticket =
     × NamesKey v.client reply.enc_part admission.terms.reply_key
     × NamesKey v.service reply.ticket.enc_part admission.terms.service.key.key
 
--- they find what was granted
+-- they decrypt it to what was granted
 abbrev pub OpensFor : AsView → Moment → List ℕ → ReqBody → Admission → Type 0
 OpensFor v at random body admission =
     OpensTo v admission (as_rep v at random body admission)
@@ -161,7 +162,7 @@ OpensBy v at random body (Issues admission) = OpensFor v at random body admissio
 abbrev pub Opens : AsView → Moment → List ℕ → Received → Type 0
 Opens v at random message = OpensBy v at random message.body.value (decision v at.sec message)
 
--- where a ticket is issued, the octets that are sent spell its reply, which is opened so, or the error in its place
+-- if a ticket is issued, the sent bytes encode its reply, which can be decrypted so, or the error instead of it
 abbrev pub SentBy : AsView → Moment → List ℕ → ReqBody → Decision → List ℕ → Type 0
 SentBy v at random body (Refuses refusal timestamp) octets = ⊤
 SentBy v at random body (Issues admission) octets =

@@ -1,4 +1,4 @@
--- What is issued is issued to the client and for the service that the request names.
+-- A ticket is issued to the client and for the service that the request names.
 use Rattle.std.proofs.Common.{◌≡◌, ℤ, List, Option, Some, None, Result, Ok, Err, refl, sym, ap}
 use Rattle.std.specs.Prelude.{IfOk}
 use Rattle.kdc_replies.specs.ServiceTerms.{current_keys, service_terms}
@@ -59,7 +59,7 @@ module _ (v : AsView) (body : ReqBody) where
   asked_by_admission timestamp (Err refusal) asked = tt
 
 module _ (v : AsView) (now : ℤ) (message : Received) where
-  -- what is issued has the names of the request
+  -- the names of an admission are those of the request
   pub issued_asked : IfIssued (decision v now message) (AreAsked message.body.value)
   issued_asked =
       let body = message.body.value in

@@ -1,5 +1,5 @@
--- What is decided of an AS-REQ. Its reply, what that spells, what becomes of the client's failures, and the ticket that
--- is issued are read from it.
+-- The decision about an AS-REQ. The reply, its encoding, the client's failures afterwards and the issued ticket all
+-- follow from it.
 use Rattle.std.specs.Prelude.{ℤ, ⊤, Result, Ok, Err}
 use Rattle.krb_types.specs.KdcReq.{Received}
 use Rattle.preauth.specs.declared.timestamp.Outcome.{Outcome}
@@ -10,7 +10,7 @@ use Rattle.as_exchange.specs.declared.decision.Decision.TheVariants.{Refuses, Is
 use Rattle.as_exchange.specs.declared.refusal.AsRefusal.{AsRefusal}
 use Rattle.as_exchange.specs.declared.terms.Admission.{Admission}
 
--- a refusal keeps what became of the timestamp, on which the client's failures may depend
+-- a refusal keeps the outcome of the timestamp, because the client's failures may depend on it
 abbrev pub by_admission : Outcome → Result Admission AsRefusal → Decision
 by_admission timestamp (Err refusal) = Refuses refusal timestamp
 by_admission timestamp (Ok admission) = Issues admission
@@ -22,7 +22,7 @@ by_timestamp v now message timestamp = by_admission timestamp (admitted v now me
 abbrev pub decision : AsView → ℤ → Received → Decision
 decision v now message = by_timestamp v now message (timestamp_of v.client now message)
 
--- what holds of an admission where a ticket is issued
+-- P holds of the admission if a ticket is issued
 abbrev pub IfIssued : Decision → (Admission → Type 0) → Type 0
 IfIssued (Refuses refusal timestamp) P = ⊤
 IfIssued (Issues admission) P = P admission

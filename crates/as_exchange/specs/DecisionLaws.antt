@@ -1,4 +1,4 @@
--- What is issued is issued to names with rows.
+-- Tickets are issued only to names that have rows.
 use Rattle.std.proofs.Common.{◌≡◌, ℤ, Result, Ok, Err, IfOk, refl, sym, subst}
 use Rattle.krb_types.specs.KdcReq.{Received}
 use Rattle.preauth.specs.declared.timestamp.Outcome.{Outcome}
@@ -29,7 +29,7 @@ module _ (v : AsView) (now : ℤ) (message : Received) (known : IsKnown v messag
       (admitted_named (rules_by v now message timestamp (terms v body) times) v body timestamp (terms v body) times
       NeverValid (admitted v now message timestamp) known refl refl)
 
-  -- what is issued names a client and a service that have rows, and keys that these have
+  -- an admission names a client and a service that have rows, with keys from these rows
   pub issued_named : (decided : Decision) → decided ≡ decision v now message
       → IfIssued decided (λ a. IsNamed v.client v.service a.terms)
   issued_named decided is =

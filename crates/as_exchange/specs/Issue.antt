@@ -1,4 +1,4 @@
--- The ticket of an admission, and the reply that bears it (RFC 4120, section 3.1.3).
+-- The ticket for an admitted request, and the reply that carries it (RFC 4120, section 3.1.3).
 use Rattle.std.specs.Prelude.{pos, ℕ, List, [], ◌∷◌, Some, None}
 use Rattle.enctypes.specs.Etype.{number}
 use Rattle.enctypes.specs.declared.key_usage.KeyUsage.TheVariants.{AsRepEncPart}
@@ -31,11 +31,11 @@ grant_by v at random body admission = record {
   authorization_data = None;
 }
 
--- the client's key, by its version
+-- the client's key with its key version
 abbrev pub reply_key_of : Terms → ReplyKey
 reply_key_of terms = record { key = terms.reply_key; usage = AsRepEncPart; kvno = Some (pos terms.reply_version) }
 
--- PA-ETYPE-INFO2 with how the reply key is made from a password
+-- PA-ETYPE-INFO2, which says how to derive the reply key from a password
 abbrev pub reply_info : AsView → Terms → PaData
 reply_info v terms = etype_info2 (default_salt v.realm terms.client_name.components) (number terms.reply_key.etype ∷ [])
 

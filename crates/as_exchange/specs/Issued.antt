@@ -1,4 +1,4 @@
--- The ticket that an AS-REQ is issued, if it is issued one.
+-- The ticket that is issued for an AS-REQ, if one is.
 use Rattle.std.specs.Prelude.{ℕ, List, [], ◌∷◌, Option, Some, None}
 use Rattle.kdc_replies.specs.Issue.{Issue}
 use Rattle.krb_fields.specs.declared.moment.Moment.{Moment}
@@ -12,7 +12,7 @@ use Rattle.as_exchange.specs.declared.decision.Decision.{Decision}
 use Rattle.as_exchange.specs.declared.decision.Decision.TheVariants.{Refuses, Issues}
 use Rattle.as_exchange.specs.declared.terms.Admission.{Admission}
 
--- the ticket of an admission
+-- the ticket for an admission
 abbrev pub issue_of : AsView → Moment → List ℕ → ReqBody → Admission → Issue
 issue_of v at random body admission = record {
   exchange = As;

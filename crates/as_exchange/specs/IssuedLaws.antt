@@ -1,4 +1,4 @@
--- The reply to an AS-REQ that is issued a ticket is that ticket's.
+-- The reply to an AS-REQ for which a ticket is issued carries that ticket.
 use Rattle.std.proofs.Common.{◌≡◌, ◌≤◌, inl, inr, ℕ, List, length, Option, Some, ap, subst}
 use Rattle.std.specs.Option.{unwrap_or}
 use Rattle.kdc_replies.specs.GrantLaws.{session_key_size}
@@ -21,7 +21,7 @@ module _ (v : AsView) (at : Moment) (random octets : List ℕ) where
   sent_by body (Issues admission) (inl spelled) opens = inl (spelled, opens)
   sent_by body (Issues admission) (inr spelled) opens = inr spelled
 
-  -- what is sent spells what answers, and is opened as that is
+  -- the sent bytes encode the answer, and can be decrypted like it
   pub reply_is_sent : (message : Received) → Spelled v at random message octets → Opens v at random message
       → Sent v at random message octets
   reply_is_sent message spelled opens = sent_by message.body.value (decision v at.sec message) spelled opens
@@ -44,7 +44,7 @@ module _ (v : AsView) (at : Moment) (random octets : List ℕ) where
         subst (λ (i : Issue). IsIssuedOrError i octets) is (issued_for body admission sent)
     reply_by body (Refuses refusal timestamp) sent e = absurd cc
 
-    -- the reply to an AS-REQ that is issued a ticket
+    -- the reply to an AS-REQ for which a ticket is issued
     pub reply_is_issued : (message : Received) → Sent v at random message octets
         → issued v at random message ≡ Some issue → IsIssuedOrError issue octets
     reply_is_issued message sent e = reply_by message.body.value (decision v at.sec message) sent e

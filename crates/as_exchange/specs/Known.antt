@@ -1,4 +1,4 @@
--- What is known of names that have rows.
+-- The sizes of names that have rows.
 use Rattle.std.proofs.Common.{ℕ, ◌*◌, ◌<◌, ◌≤◌, List, [], ◌∷◌, length, arith}
 use Rattle.std.specs.Prelude.{IfSome, All}
 use Rattle.std.specs.List.{concat}

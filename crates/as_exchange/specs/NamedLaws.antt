@@ -1,4 +1,4 @@
--- The names of an admission are those of the request and have rows, and its keys are those that the rows have.
+-- The names in an admission are those of the request and have rows, and its keys are from these rows.
 use Rattle.std.proofs.Common.{◌≡◌, ◌≤◌, List, [], ◌∷◌, length, ℤ, pos, Option, Some, None, Result, Ok, Err, ap, sym}
 use Rattle.std.proofs.Common.{subst, ◌∙◌, arith}
 use Rattle.std.specs.Prelude.{IfOk, IfSome}
@@ -27,7 +27,7 @@ use Rattle.as_exchange.specs.Terms.{terms, terms_by, terms_if, terms_of, admissi
 use Rattle.as_exchange.specs.declared.terms.Terms.{Terms}
 use Rattle.as_exchange.specs.declared.terms.Admission.{Admission}
 
--- Both names are within the limits, and both keys are those that the rows have for their types and versions.
+-- Both names are within the limits, and both keys are those of the rows with their encryption type and key version.
 pub record IsNamed (client_row service_row : Option Row) (t : Terms) : Type 0 where
   pub client : IsWithinLimits t.client_name.components
   pub service : IsWithinLimits t.service.name.components
@@ -45,7 +45,7 @@ admitted_terms timestamp (Some t) (Some times) a e = ap (λ (o : Option Admissio
 admitted_terms timestamp (Some t) None a e = absurd cc
 admitted_terms timestamp None times a e = absurd cc
 
--- what the terms are made of
+-- what the terms consist of
 pub found_by : (cname : Name) (client : Row) (reply : Option Key) (service : Option ServiceTerms) (t : Terms)
     → terms_by cname client reply service ≡ Some t
     → (cname ≡ t.client_name) × (reply ≡ Some t.reply_key) × ((current client.versions).number ≡ t.reply_version)
@@ -84,7 +84,7 @@ named_if types (Some cname) (Some sname) None service t c s e = absurd cc
 named_if types (Some cname) None client service t c s e = absurd cc
 named_if types None sname client service t c s e = absurd cc
 
--- the terms of what is admitted
+-- the terms of an admission
 pub decided_named : {R : Type 0} (rules : List (Rule R)) (v : AsView) (body : ReqBody) (timestamp : Outcome)
     (found : Option Terms) (times : Option Times) (otherwise : R) (a : Admission)
     → IsKnown v body → found ≡ terms v body → decided rules (admission_of timestamp found times) otherwise ≡ Ok a
@@ -103,7 +103,7 @@ admitted_named rules v body timestamp found times otherwise (Ok a) known is e =
     decided_named rules v body timestamp found times otherwise a known is (sym e)
 admitted_named rules v body timestamp found times otherwise (Err refusal) known is e = tt
 
--- ---- one PA-ETYPE-INFO2 is short
+-- ---- a single PA-ETYPE-INFO2 is short
 pub data_short : (info : PaData) (list : List PaData) → length info.padata_value ≤ 32926 → list ≡ info ∷ []
     → length ((list_of pa_data).text list) ≤ 70000
 unfolding pa_data_form

@@ -1,4 +1,4 @@
--- What becomes of an AS-REQ, and what that says of the reply.
+-- The outcome of an AS-REQ, and what it says about the reply.
 use Rattle.std.specs.Prelude.{◌≡◌, ℕ, nat_lt, if◌then◌else◌, List, length, Option}
 use Rattle.krb_elements.specs.Codec.{written}
 use Rattle.krb_fields.specs.PrincipalName.{Name}
@@ -25,9 +25,9 @@ use Rattle.as_exchange.specs.declared.outcome.AsOutcome.{AsOutcome}
 use Rattle.as_exchange.specs.declared.outcome.AsOutcome.TheVariants.{Refused, Issued, TooBig}
 use Rattle.as_exchange.specs.declared.terms.Admission.{Admission}
 
--- ---- what it is
+-- ---- the outcome
 
--- what the ticket of an admission is issued with
+-- the properties of the ticket for an admission
 abbrev pub granted_by : Moment → ReqBody → Admission → Granted
 granted_by at body admission = record {
   reply_type = admission.terms.reply_key.etype;
@@ -40,7 +40,7 @@ granted_by at body admission = record {
   times = admission.times;
 }
 
--- a ticket, where its reply has room
+-- a ticket if its reply fits
 abbrev pub outcome_within : AsView → Incoming → ReqBody → Admission → AsOutcome
 outcome_within v incoming body admission =
     if nat_lt incoming.room (length (written (kdc_rep 11) (as_rep v incoming.at incoming.random body admission)))
@@ -54,7 +54,7 @@ outcome_by v incoming body (Issues admission) = outcome_within v incoming body a
 abbrev pub as_outcome : AsView → Incoming → Received → AsOutcome
 as_outcome v incoming message = outcome_by v incoming message.body.value (decision v incoming.at.sec message)
 
--- ---- what the octets spell, by cases on the outcome
+-- ---- what the bytes encode, by cases on the outcome
 
 abbrev pub OutcomeSpelledBy : AsView → Moment → List ℕ → ReqBody → AsOutcome → Decision → List ℕ → Type 0
 OutcomeSpelledBy v at random body (Refused refusal) decided octets = krb_error.Spells (as_error v at body refusal) octets
@@ -67,7 +67,7 @@ abbrev pub OutcomeSpelled : AsView → Moment → List ℕ → Received → AsOu
 OutcomeSpelled v at random message outcome octets =
     OutcomeSpelledBy v at random message.body.value outcome (decision v at.sec message) octets
 
--- ---- what it says of the octets that were sent to this client, for this service
+-- ---- what the outcome says about the bytes sent to this client, for this service
 
 -- `issue` is the ticket that was issued, if one was
 abbrev pub AsOutcomeHolds : Option Issue → Option Name → Option Name → AsOutcome → List ℕ → Type 0

@@ -35,7 +35,7 @@ module _ (v : AsView) (at : Moment) (random octets : List ℕ) (long : 32 ≤ le
     granted_is = sent.0;
   }
 
-  -- the outcome says what the octets are
+  -- the outcome describes the bytes
   pub outcome_holds : (message : Received) (outcome : AsOutcome) → OutcomeSpelled v at random message outcome octets
       → Opens v at random message
       → AsOutcomeHolds (issued v at random message) message.body.value.cname message.body.value.sname outcome octets

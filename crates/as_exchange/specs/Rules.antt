@@ -1,5 +1,5 @@
--- The rules by which AS-REQs are refused (RFC 4120, sections 3.1.2 and 3.1.3), in their order. At each rule stands its
--- section; the codes of rows that are disabled or have expired are those of section 7.5.9.
+-- The rules that refuse AS-REQs (RFC 4120, sections 3.1.2 and 3.1.3), in order, each with its section. The codes for
+-- disabled and expired rows are from section 7.5.9.
 use Rattle.std.specs.Prelude.{ℤ, pos, Bool, true, false, not, ◌&&◌, ◌||◌, nat_eq, is_none, List, [], ◌∷◌, Option}
 use Rattle.std.specs.Prelude.{Some, None, Result}
 use Rattle.std.specs.Ordering.{int_eq}
@@ -39,11 +39,11 @@ is_bad_version message = not (int_eq message.pvno (pos 5))
 abbrev pub is_bad_message_type : Received → Bool
 is_bad_message_type message = not (int_eq message.msg_type (pos 10))
 
--- the realm isn't ours, no client is named, or it has no row
+-- the realm is another one, no client is named, or the client has no row
 abbrev pub is_client_unknown : AsView → ReqBody → Bool
 is_client_unknown v body = not (pointwise nat_eq body.realm v.realm) || is_none body.cname || is_none v.client
 
--- no service is named, or it has no row
+-- no service is named, or the service has no row
 abbrev pub is_service_unknown : AsView → ReqBody → Bool
 is_service_unknown v body = is_none body.sname || is_none v.service
 
@@ -68,7 +68,7 @@ abbrev pub is_postdating_refused : AsView → ReqBody → Bool
 is_postdating_refused v body =
     (asks body Postdated || asks body AllowPostdate) && (forbids_postdating v.client || forbids_postdating v.service)
 
--- what became of the timestamp: without a row there is none to judge
+-- the outcome of the timestamp; without a row none is checked
 abbrev pub timestamp_of : Option Row → ℤ → Received → Outcome
 timestamp_of (Some row) now message = outcome row now message.padata
 timestamp_of None now message = Absent
@@ -97,11 +97,11 @@ is_good Bad = false
 is_good Skewed = false
 is_good Good = true
 
--- no timestamp came, and the client's row requires one
+-- the client's row requires a timestamp and the request has none
 abbrev pub lacks_preauth : Option Row → Outcome → Bool
 lacks_preauth row timestamp = is_absent timestamp && needs_preauth row
 
--- by what became of the timestamp, by the terms, and by the times of a ticket
+-- by the outcome of the timestamp, the terms, and the times of a ticket
 abbrev pub rules_by : AsView → ℤ → Received → Outcome → Option Terms → Option Times → List (Rule AsRefusal)
 rules_by v now message timestamp found times =
     (is_bad_version message, BadVersion)  -- 3.1.2, 5.4.1
@@ -124,8 +124,8 @@ rules_by v now message timestamp found times =
     ∷ (is_none times, NeverValid)  -- 3.1.3
     ∷ []
 
--- What is admitted, or the first rule by which nothing is. Where no rule holds, terms and times are there, so that the
--- reason behind the rules is never given by itself.
+-- The admission, or the first rule that refuses. If no rule refuses, there are terms and times, so the fallback is
+-- never the reason.
 abbrev pub admitted_on : AsView → ℤ → Received → Outcome → Option Terms → Option Times → Result Admission AsRefusal
 admitted_on v now message timestamp found times =
     decided (rules_by v now message timestamp found times) (admission_of timestamp found times) NeverValid

@@ -1,4 +1,4 @@
--- What the rows have for the types that a request asks for, and the times of the ticket.
+-- The keys for the encryption types that a request asks for, and the times of the ticket.
 use Rattle.std.specs.Prelude.{ℤ, List, Option, Some, None}
 use Rattle.enctypes.specs.declared.key.Key.{Key}
 use Rattle.kdc_replies.specs.ServiceTerms.{current_keys, service_terms}
@@ -16,7 +16,7 @@ use Rattle.as_exchange.specs.View.{AsView}
 use Rattle.as_exchange.specs.declared.terms.Terms.{Terms}
 use Rattle.as_exchange.specs.declared.terms.Admission.{Admission}
 
--- The reply key is the client's current key of the first type asked for that it has.
+-- The reply key is the client's current key of the first requested encryption type for which it has one.
 abbrev pub terms_by : Name → Row → Option Key → Option ServiceTerms → Option Terms
 terms_by cname client (Some reply) (Some service) = Some (record {
   client_name = cname;
@@ -39,11 +39,11 @@ terms_if types (Some cname) (Some sname) None service = None
 terms_if types (Some cname) None client service = None
 terms_if types None sname client service = None
 
--- none where a name or a row is absent, or there is no common type
+-- none if a name or a row is absent, or there is no common encryption type
 abbrev pub terms : AsView → ReqBody → Option Terms
 terms v body = terms_if body.etype body.cname body.sname v.client v.service
 
--- the times of a ticket by these terms; none where it would end no later than it starts
+-- the times of a ticket with these terms; none if it would not end after it starts
 abbrev pub times_of : Limits → ℤ → ReqBody → Option Terms → Option Times
 times_of limits now body (Some t) = as_times now t.client_policy t.service.policy limits body
 times_of limits now body None = None

@@ -1,4 +1,4 @@
-//! From an AS-REQ to its reply, what came of it, and what becomes of the client's failures.
+//! Answers an AS-REQ: the reply, the outcome, and the client's failures afterwards.
 ghost use Rattle.std.specs.Prelude.{◌≡◌, ℕ, List, None, IfOk};
 ghost use Rattle.kdc_replies.specs.ErrorReply.{too_big};
 ghost use Rattle.krb_types.specs.KrbError.{krb_error};
@@ -28,7 +28,7 @@ use preauth::{Outcome, after_failure, after_success};
 use replay::Failures;
 use std::alloc::{AllocError, Global};
 
-/// The reply to an AS-REQ, what came of it, and the client's failures afterwards: `None` where they stay as they were.
+/// The reply to an AS-REQ, the outcome, and the client's failures afterwards: `None` if they don't change.
 #[derive(Drop)]
 pub struct AsAnswer {
     pub reply: Vec<u8>,
@@ -47,22 +47,22 @@ pub fn as_answer(
     ensures reply { IfOk result (λ answer. answer.reply.items ≡ (as_answer view.now incoming.now message.now).reply) }
     ensures failures { IfOk result (λ answer.
         answer.failures ≡ (as_answer view.now incoming.now message.now).failures) }
-    // What came of it is what was decided, and whether the reply had room.
+    // The outcome follows from the decision and from whether the reply fits.
     ensures outcome { IfOk result (λ answer. answer.outcome ≡ as_outcome view.now incoming.now message.now) }
-    // The octets spell the message that is due: the error of the rule that refuses, or the ticket's reply.
+    // The bytes encode the right message: the error of the rule that refuses, or the reply with the ticket.
     ensures spelled { IfOk result (λ answer.
         Spelled view.now incoming.now.at incoming.now.random message.now answer.reply.items) }
-    // They spell what that says.
+    // They encode what the outcome says.
     ensures outcome_spelled { IfOk result (λ answer.
         OutcomeSpelled view.now incoming.now.at incoming.now.random message.now answer.outcome answer.reply.items) }
-    // Where they spell an AS-REP, the client's key and the service's find the same inside.
+    // If they encode an AS-REP, the client's key and the service's key decrypt it to the same contents.
     ensures same { IfOk result (λ answer. Opens view.now incoming.now.at incoming.now.random message.now) }
 {
     let decision = decision(alloc, view, incoming.at, message)?;
     answer_by(alloc, view, incoming, &message.body.value, &decision)
 }
 
-/// The answer by what is decided.
+/// Returns the answer for a decision.
 fn answer_by(
     alloc: Global,
     view: &AsView<'_>,
@@ -95,7 +95,7 @@ fn answer_by(
     }
 }
 
-/// The error that refuses a request, and what becomes of the client's failures.
+/// Returns the error that refuses a request, and the client's failures afterwards.
 fn refused(
     alloc: Global,
     view: &AsView<'_>,
@@ -122,7 +122,7 @@ fn refused(
     })
 }
 
-/// The reply with a ticket, or an error in its place where it is longer than the room.
+/// Returns the reply with a ticket, or an error if the reply doesn't fit in the room.
 fn issued(
     alloc: Global,
     view: &AsView<'_>,
@@ -157,7 +157,7 @@ fn issued(
     })
 }
 
-/// The error in place of a reply that is longer than the room.
+/// Returns the error that is sent instead of a reply that doesn't fit.
 fn refused_room(
     alloc: Global,
     view: &AsView<'_>,
@@ -180,7 +180,7 @@ fn refused_room(
     })
 }
 
-/// The failures after a refusal.
+/// Returns the failures after a refusal.
 fn after_sequel(
     failures: Failures,
     at: Moment,
@@ -196,7 +196,7 @@ fn after_sequel(
     }
 }
 
-/// A good timestamp ends the count of failures.
+/// Returns the failures after an admission: a good timestamp ends the count.
 fn after_timestamp(failures: Failures, timestamp: Outcome) -> Option<Failures>
     ensures { result ≡ after_timestamp failures timestamp }
 {

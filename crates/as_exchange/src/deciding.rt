@@ -1,4 +1,4 @@
-//! What is decided of an AS-REQ: once, before anything is written.
+//! Decides about an AS-REQ, once, before anything is written.
 ghost use Rattle.std.specs.Prelude.{◌≡◌, IfOk};
 ghost use Rattle.as_exchange.specs.Decision.{by_admission, decision};
 
@@ -27,8 +27,8 @@ pub fn decision(
     Ok(by_admission(timestamp, admitted))
 }
 
-/// What is decided by what is admitted. A refusal keeps what became of the timestamp, on which the client's failures
-/// may depend.
+/// Turns the result of the rules into a decision. A refusal keeps the outcome of the timestamp, because the client's
+/// failures may depend on it.
 fn by_admission(timestamp: Outcome, admitted: Result<Admission, AsRefusal>) -> Decision
     ensures { result ≡ by_admission timestamp admitted }
 {

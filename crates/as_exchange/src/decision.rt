@@ -1,13 +1,13 @@
-//! What becomes of an AS-REQ.
+//! The decision about an AS-REQ.
 use crate::refusal::AsRefusal;
 use crate::terms::Admission;
 use preauth::Outcome;
 
-/// What is decided of a request.
+/// The decision about a request.
 #[derive(Drop)]
 pub enum Decision {
-    /// It is refused; and what became of its timestamp.
+    /// Refuse it. The second field is the outcome of its timestamp.
     Refuses(AsRefusal, Outcome),
-    /// It is issued a ticket.
+    /// Issue a ticket.
     Issues(Admission),
 }

@@ -1,4 +1,4 @@
-//! Refusals of AS-REQs.
+//! The errors that refuse AS-REQs.
 ghost use Rattle.std.specs.Prelude.{◌≡◌, ◌<◌, ◌≤◌, length, None, IfOk, IfSome, option_copied};
 ghost use Rattle.krb_elements.specs.Codec.{written};
 ghost use Rattle.krb_fields.specs.NameLimits.{IsWithinLimits};
@@ -17,7 +17,7 @@ use preauth::{method_data, types_of};
 use principal_rows::Row;
 use std::alloc::{AllocError, Global};
 
-/// The octets of the error that refuses a request.
+/// Returns the bytes of the error that refuses a request.
 pub fn as_error(
     alloc: Global,
     view: &AsView<'_>,
@@ -56,7 +56,7 @@ fn e_data_of(
     }
 }
 
-/// METHOD-DATA for a client that has a row.
+/// Returns METHOD-DATA for a client that has a row.
 fn methods_for(
     alloc: Global,
     view: &AsView<'_>,
@@ -77,7 +77,7 @@ fn methods_for(
     Ok(Some(method_data(alloc, salt.as_slice(), &types)?))
 }
 
-/// The salt of a name's password.
+/// Returns the salt for a principal's password.
 #[tactic(auto, using(crate::specs::Known::salt_short))]
 pub fn salt_of(
     alloc: Global,

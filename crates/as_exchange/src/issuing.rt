@@ -1,4 +1,4 @@
-//! The ticket of an admission, and the reply that bears it (RFC 4120, section 3.1.3).
+//! The ticket for an admitted request, and the reply that carries it (RFC 4120, section 3.1.3).
 ghost use Rattle.std.specs.Prelude.{◌≡◌, ◌≤◌, ◌∷◌, [], length, IfOk};
 ghost use Rattle.krb_elements.specs.Codec.{list_of, written};
 ghost use Rattle.krb_fields.specs.NameLimits.{IsWithinLimits};
@@ -26,8 +26,8 @@ use preauth::etype_info2;
 use std::alloc::{AllocError, Global};
 use ticket_times::as_flags;
 
-/// The octets of the AS-REP. Of the random octets the first 32 make the session key, and the last 32 are the
-/// confounders of the ticket and of the reply.
+/// Returns the bytes of the AS-REP. The first 32 random bytes become the session key. The last 32 are the confounders
+/// of the ticket and of the reply.
 pub fn as_rep(
     alloc: Global,
     view: &AsView<'_>,
@@ -43,7 +43,7 @@ pub fn as_rep(
     ensures spelled { IfOk result (λ octets.
         (kdc_rep 11).Spells
         (as_rep view.now incoming.now.at incoming.now.random body.now admission.now) octets.items) }
-    // The client and the service find the same inside, by the keys that are named there.
+    // The keys that the reply names, the client's and the service's, decrypt it to the same contents.
     ensures same { IfOk result (λ octets.
         OpensFor view.now incoming.now.at incoming.now.random body.now admission.now) }
 {
@@ -109,7 +109,7 @@ fn flags_of(body: &ReqBodyRef<'_>, admission: &Admission) -> Flags
     )
 }
 
-/// What the ticket is issued with, for the account of the request.
+/// Returns the properties of the issued ticket for the request's account.
 pub fn granted_of(at: Moment, body: &ReqBodyRef<'_>, admission: &Admission) -> Granted
     ensures { result ≡ granted_by at body.now admission.now }
 {
@@ -124,7 +124,7 @@ pub fn granted_of(at: Moment, body: &ReqBodyRef<'_>, admission: &Admission) -> G
     }
 }
 
-/// The client's key, by its version.
+/// Returns the client's key with its key version.
 fn reply_key_of(terms: &Terms) -> ReplyKey
     ensures { result ≡ reply_key_of terms.now }
 {
@@ -135,7 +135,7 @@ fn reply_key_of(terms: &Terms) -> ReplyKey
     }
 }
 
-/// PA-ETYPE-INFO2 with how the reply key is made from a password.
+/// Returns PA-ETYPE-INFO2, which says how to derive the reply key from a password.
 #[tactic(auto, using(crate::specs::NamedLaws::data_short))]
 fn reply_data(alloc: Global, view: &AsView<'_>, terms: &Terms) -> Result<Seq<PaData>, AllocError>
     requires realm { length view.now.realm ≤ 255 }

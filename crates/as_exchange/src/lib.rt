@@ -1,4 +1,4 @@
-//! The Authentication Service exchange (RFC 4120, section 3.1): from a request and what is known of its client and its
+//! The Authentication Service exchange (RFC 4120, section 3.1): from a request and the rows of its client and its
 //! service to the reply.
 #![tactic(auto)]
 

@@ -1,14 +1,14 @@
-//! What came of an AS-REQ.
+//! The outcome of an AS-REQ.
 use crate::refusal::AsRefusal;
 use kdc_replies::Granted;
 
-/// What became of a request.
+/// The outcome of a request.
 #[derive(Clone, Copy, PartialEq, Eq)]
 pub enum AsOutcome {
-    /// It was refused by this rule.
+    /// Refused by this rule.
     Refused(AsRefusal),
-    /// It was issued this ticket.
+    /// Issued this ticket.
     Issued(Granted),
-    /// The reply with a ticket had no room: error 52 was sent in its place.
+    /// The reply with a ticket didn't fit, so error 52 was sent instead.
     TooBig,
 }

@@ -1,11 +1,11 @@
-//! Why AS-REQs are refused.
+//! The reasons to refuse an AS-REQ.
 ghost use Rattle.std.specs.Prelude.{◌≡◌};
 ghost use Rattle.as_exchange.specs.Answer.{sequel_of};
 ghost use Rattle.as_exchange.specs.Rules.{code_of};
 
 use krb_fields::Code;
 
-/// Why an AS-REQ is refused, in the order in which it is asked.
+/// The reasons to refuse an AS-REQ, in the order in which they are checked.
 #[derive(Clone, Copy, Debug, PartialEq, Eq)]
 pub enum AsRefusal {
     BadVersion,
@@ -28,15 +28,15 @@ pub enum AsRefusal {
     NeverValid,
 }
 
-/// What goes with a refusal beside its code.
+/// What a refusal causes beside its error code.
 #[derive(Clone, Copy, PartialEq, Eq)]
 pub enum Sequel {
     Nothing,
-    /// A failure of the client is counted.
+    /// Counts a failure of the client.
     CountsFailure,
-    /// The client is told how it can show its key.
+    /// Sends the client the methods by which it can preauthenticate.
     TellsMethods,
-    /// The timestamp, if there was one, was good.
+    /// Follows the timestamp: a good one ends the count of failures.
     FollowsTimestamp,
 }
 

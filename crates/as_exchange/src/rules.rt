@@ -19,7 +19,7 @@ use refusals::decide;
 use std::alloc::{AllocError, Global};
 use ticket_times::{Times, asks, starts_too_late};
 
-/// What is admitted, or the first rule by which nothing is.
+/// Returns the admission, or the first rule that refuses the request.
 pub fn admitted(
     view: &AsView<'_>,
     at: Moment,
@@ -32,11 +32,11 @@ pub fn admitted(
     let times = times_of(view.limits, at, &message.body.value, &terms);
     let rules = rules_by(view, at, message, timestamp, &terms, &times);
     let admission = admission_of(timestamp, terms, times);
-    // Where no rule holds, terms and times are there, so that the last reason is never given by itself.
+    // If no rule refuses, there are terms and times. So this fallback is never the reason.
     decide(&rules, admission, AsRefusal::NeverValid)
 }
 
-/// All rules, in the order in which they are asked.
+/// Returns all rules in the order in which they are checked.
 fn rules_by(
     view: &AsView<'_>,
     at: Moment,
@@ -79,7 +79,7 @@ fn rules_by(
     ]
 }
 
-/// What became of the timestamp of a client that has a row.
+/// Returns the outcome of the timestamp, for a client that has a row.
 pub fn timestamp_of(
     alloc: Global,
     client: Option<&Row>,
@@ -106,21 +106,21 @@ fn is_bad_message_type(message: &KdcReqRef<'_>) -> bool
     message.msg_type != i32::from(AS_REQ)
 }
 
-/// The realm isn't ours, no client is named, or it has no row.
+/// Checks whether the realm is another one, no client is named, or the client has no row.
 fn is_client_unknown(view: &AsView<'_>, body: &ReqBodyRef<'_>) -> bool
     ensures { result ≡ is_client_unknown view.now body.now }
 {
     body.realm.as_slice() != view.realm || body.cname.is_none() || view.client.is_none()
 }
 
-/// No service is named, or it has no row.
+/// Checks whether no service is named, or the service has no row.
 fn is_service_unknown(view: &AsView<'_>, body: &ReqBodyRef<'_>) -> bool
     ensures { result ≡ is_service_unknown view.now body.now }
 {
     body.sname.is_none() || view.service.is_none()
 }
 
-/// The client's row is disabled, or too many failures have locked it.
+/// Checks whether the client is disabled, or locked after too many failures.
 fn is_client_revoked(view: &AsView<'_>, at: Moment) -> bool
     ensures { result ≡ is_client_revoked view.now at.sec }
 {
@@ -136,7 +136,7 @@ fn has_expired_password(row: Option<&Row>, at: Moment) -> bool
     }
 }
 
-/// Options that only a TGS-REQ may have.
+/// Checks for options that only a TGS-REQ may have.
 fn asks_bad_option(body: &ReqBodyRef<'_>) -> bool
     ensures { result ≡ asks_bad_option body.now }
 {
@@ -147,7 +147,7 @@ fn asks_bad_option(body: &ReqBodyRef<'_>) -> bool
         || asks(body, KdcOption::Validate)
 }
 
-/// No timestamp came, and the client's row requires one.
+/// Checks whether the client's row requires a timestamp and the request has none.
 fn lacks_preauth(row: Option<&Row>, timestamp: Outcome) -> bool
     ensures { result ≡ lacks_preauth (option_copied row.entry) timestamp }
 {

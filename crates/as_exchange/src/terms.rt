@@ -1,4 +1,4 @@
-//! What the rows have for the types that a request asks for, and the times of the ticket.
+//! The keys for the encryption types that a request asks for, and the times of the ticket.
 ghost use Rattle.std.specs.Prelude.{◌≡◌, IfOk};
 ghost use Rattle.as_exchange.specs.Terms.{admission_of, terms, terms_of, times_of};
 
@@ -13,28 +13,28 @@ use principal_rows::{Limits, Policy, Row};
 use std::alloc::{AllocError, Global};
 use ticket_times::{Times, as_times};
 
-/// A client and a service that have keys of the types asked for.
+/// A client and a service that have keys of the requested encryption types.
 #[derive(Drop)]
 pub struct Terms {
     pub client_name: Name,
     pub client_policy: Policy,
-    /// The client's current key of the first type asked for that it has.
+    /// The client's current key of the first requested encryption type for which it has one.
     pub reply_key: Key,
-    /// The number of its version.
+    /// Its key version.
     pub reply_version: u32,
     pub service: ServiceTerms,
 }
 
-/// What a ticket is issued by.
+/// All that a ticket is issued from.
 #[derive(Drop)]
 pub struct Admission {
     pub terms: Terms,
     pub times: Times,
-    /// What became of the client's timestamp.
+    /// The outcome of the client's timestamp.
     pub timestamp: Outcome,
 }
 
-/// The terms of a request; `None` where a name or a row is absent, or there is no common type.
+/// Returns the terms of a request, or `None` if a name or a row is absent or there is no common encryption type.
 pub fn terms_for(
     alloc: Global,
     view: &AsView<'_>,
@@ -83,7 +83,7 @@ fn terms_of(
     }))
 }
 
-/// The times of a ticket by these terms; `None` where there are none, or it would end no later than it starts.
+/// Returns the times of a ticket with these terms, or `None` if there are no terms or it would not end after it starts.
 pub fn times_of(
     limits: &Limits,
     at: Moment,
@@ -104,7 +104,7 @@ pub fn times_of(
     }
 }
 
-/// What a ticket is issued by, where terms and times are there.
+/// Returns the admission, if there are terms and times.
 pub fn admission_of(
     timestamp: Outcome,
     terms: Option<Terms>,

@@ -1,4 +1,4 @@
-//! What an answer of the AS exchange is made from, beside the request.
+//! What the AS exchange needs beside the request.
 use principal_rows::{Limits, Row};
 use replay::Failures;
 use std::marker::Model;
@@ -6,12 +6,12 @@ use std::marker::Model;
 /// What is known of the client and the service that a request names.
 #[derive(Drop)]
 pub struct AsView<'a> {
-    /// The realm's octets, 1 to 255.
+    /// The realm, 1 to 255 bytes.
     pub realm: &'a [u8],
     pub limits: &'a Limits,
-    /// The client's row, where it has one.
+    /// The client's row, if it has one.
     pub client: Option<&'a Row>,
-    /// The service's row, where it has one.
+    /// The service's row, if it has one.
     pub service: Option<&'a Row>,
     /// The client's failures.
     pub failures: Failures,

@@ -32,6 +32,7 @@ use Rattle.client_core.specs.declared.fault.ClientFault.{ClientFault}
 use Rattle.client_core.specs.declared.fault.ClientFault.TheVariants.{NotAReply, Refused}
 use Rattle.client_core.specs.declared.fault.Mismatch.TheVariants as mismatches
 use Rattle.client_core.specs.declared.fault.Rejection.{Rejection}
+use Rattle.client_core.specs.declared.fault.ServerError.{ServerError}
 use Rattle.client_core.specs.declared.fault.Rejection.TheVariants.{Mismatched, Unopened}
 use Rattle.client_core.specs.declared.key_role.KeyRole.{KeyRole}
 use Rattle.client_core.specs.declared.key_role.KeyRole.TheVariants.{Client, Subkey, Session}
@@ -40,9 +41,13 @@ use Rattle.client_core.specs.Faults.{unless_rejected}
 
 -- ---- the message
 
+-- the error and the server's clock, in seconds since 1970
+abbrev pub server_error : KrbError → ServerError
+server_error error = record { code = error.error_code; stime = error.stime }
+
 -- the refusal in a KRB-ERROR; other octets are no reply
 abbrev pub refusal_of : Option KrbError → ClientFault
-refusal_of (Some error) = Refused (record { code = error.error_code; e_data = error.e_data })
+refusal_of (Some error) = Refused (record { error = server_error error; e_data = error.e_data })
 refusal_of None = NotAReply
 
 abbrev pub refusal_in : List ℕ → ClientFault
@@ -53,9 +58,13 @@ abbrev pub of_version : (type : ℕ) → Option (KdcRep type) → Option (KdcRep
 of_version type (Some reply) = if int_eq reply.ticket.tkt_vno (pos 5) then Some reply else None
 of_version type None = None
 
--- the AS-REP (type 11) or TGS-REP (type 13) that the octets spell, or what they are in its place
+-- the AS-REP (type 11) or TGS-REP (type 13) that the octets spell
+abbrev pub ticket_reply_in : (type : ℕ) → List ℕ → Option (KdcRep type)
+ticket_reply_in type bytes = of_version type (ok_of (whole (kdc_rep type).at bytes))
+
+-- that, or what they are in its place
 abbrev pub reply_in : (type : ℕ) → List ℕ → Result (KdcRep type) ClientFault
-reply_in type bytes = unless_found (of_version type (ok_of (whole (kdc_rep type).at bytes))) (refusal_in bytes)
+reply_in type bytes = unless_found (ticket_reply_in type bytes) (refusal_in bytes)
 
 -- ---- the sealed part
 
@@ -137,10 +146,14 @@ abbrev pub if_part : (type : ℕ) → Asked → ℤ → KdcRep type → Result E
 if_part type asked now reply (Ok part) = taken type asked now reply part
 if_part type asked now reply (Err rejection) = Err rejection
 
+-- the credential that a reply gives, or the first fault
+abbrev pub judged : (type : ℕ) → KeyRole → Asked → Key → ℤ → KdcRep type → Result Credential ClientFault
+judged type role asked key now reply =
+    unless_rejected (if_part type asked now reply (part_of type asked key reply (opened_as role key reply.enc_part)))
+
 abbrev pub if_reply : (type : ℕ) → KeyRole → Asked → Key → ℤ → Result (KdcRep type) ClientFault
     → Result Credential ClientFault
-if_reply type role asked key now (Ok reply) =
-    unless_rejected (if_part type asked now reply (part_of type asked key reply (opened_as role key reply.enc_part)))
+if_reply type role asked key now (Ok reply) = judged type role asked key now reply
 if_reply type role asked key now (Err fault) = Err fault
 
 -- the credential that the reply gives, or the first fault

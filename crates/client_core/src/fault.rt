@@ -29,9 +29,17 @@ pub enum ClientFault {
 /// What a KRB-ERROR says.
 #[derive(Debug, Drop)]
 pub struct Refusal {
+    pub error: ServerError,
+    pub e_data: Option<Octets>,
+}
+
+/// The error that a server reports, and its clock.
+#[derive(Clone, Copy, Debug, PartialEq, Eq)]
+pub struct ServerError {
     /// The error code (RFC 4120, section 7.5.9).
     pub code: i32,
-    pub e_data: Option<Octets>,
+    /// The server's time, in seconds since 1970. A KRB-ERROR is not protected: anyone on the path may have changed it.
+    pub stime: i64,
 }
 
 /// In what a reply differs from the request.
@@ -102,7 +110,7 @@ impl fmt::Display for ClientFault {
     fn fmt<W: fmt::Write>(&self, f: &mut fmt::Formatter<W>) -> fmt::Result {
         match self {
             ClientFault::NotAReply => f.write_str("the octets are no reply"),
-            ClientFault::Refused(refusal) => write!(f, "refused with code {}", refusal.code),
+            ClientFault::Refused(refusal) => write!(f, "refused with code {}", refusal.error.code),
             ClientFault::Mismatch(what) => write!(f, "the reply has another {what}"),
             ClientFault::CannotOpen => f.write_str("the key does not open the reply"),
             ClientFault::CountTooLarge => f.write_str("the count of iterations is out of range"),

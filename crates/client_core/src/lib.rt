@@ -11,6 +11,9 @@
 //! | [`read_ap_reply`] | AP-REP, or KRB-ERROR | 3.2.5 |
 //! | [`password_key`] | ETYPE-INFO2 | 5.2.7.5 |
 //!
+//! A caller that has to look at a reply before it has the key reads it once, by [`refusal_in`] and [`ticket_reply_in`],
+//! and hands it to [`judge_as_reply`] or [`judge_tgs_reply`].
+//!
 //! Nothing here sends or waits, draws random octets or asks a clock: the moment and the confounders are handed in.
 #![tactic(auto)]
 
@@ -29,10 +32,12 @@ mod sessions;
 mod tgs_requests;
 
 pub use asked::{Asked, MAX_ETYPES};
-pub use fault::{ClientFault, Mismatch, Refusal};
+pub use fault::{ClientFault, Mismatch, Refusal, ServerError};
 pub use key_role::KeyRole;
-pub use passwords::{EtypeInfo2, MAX_COUNT, password_key};
-pub use replies::{read_as_reply, read_tgs_reply, refusal_in};
+pub use passwords::{EtypeInfo2, MAX_COUNT, count_of, entry_of, password_key};
+pub use replies::{
+    judge_as_reply, judge_tgs_reply, read_as_reply, read_tgs_reply, refusal_in, ticket_reply_in,
+};
 pub use requests::{as_request, with_timestamp};
 pub use service_asked::ServiceAsked;
 pub use service_replies::read_ap_reply;

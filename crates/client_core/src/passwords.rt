@@ -47,8 +47,8 @@ fn key_in(
     }
 }
 
-/// The first entry of one of the four types.
-fn entry_of(info: &[EtypeInfo2Entry]) -> Option<&EtypeInfo2Entry>
+/// Returns the entry of which a password's key is made: the first one of the four types.
+pub fn entry_of(info: &[EtypeInfo2Entry]) -> Option<&EtypeInfo2Entry>
     ensures { option_copied result ≡ entry_of info.now }
 {
     for entry in info {
@@ -95,8 +95,9 @@ fn salt_of(
     }
 }
 
-/// The count of iterations: that of the parameters, else the type's own.
-fn count_of(etype: Etype, params: &Option<Octets>) -> Option<u32>
+/// Returns the count of iterations that an entry asks for: that of its parameters, or else the type's own. `None` if the
+/// parameters are not four octets, or the count is 0 or above [`MAX_COUNT`].
+pub fn count_of(etype: Etype, params: &Option<Octets>) -> Option<u32>
     ensures value { result ≡ count_of etype params.now }
     ensures some { IfSome result (λ count. 1 ≤ count) }
 {

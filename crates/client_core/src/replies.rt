@@ -1,14 +1,11 @@
 //! What a client reads from a KDC's reply (RFC 4120, sections 3.1.5 and 3.3.4).
 ghost use Rattle.std.specs.Prelude.{◌≡◌, ◌<◌, ◌^◌, ◌||◌, not, length, IfOk, IfSome, option_copied};
 ghost use Rattle.enctypes.specs.KeyUsage.{usage_number};
-ghost use Rattle.krb_elements.specs.Format.{whole};
-ghost use Rattle.krb_replies.specs.KdcRep.{kdc_rep};
 ghost use Rattle.krb_types.specs.Ticket.{ticket};
-ghost use Rattle.sealed_parts.specs.Parts.{ok_of};
 ghost use Rattle.refusals.specs.Optional.{holds_of};
 ghost use Rattle.client_core.specs.Faults.{Gives};
 ghost use Rattle.client_core.specs.Replies.{as_part, ends_too_late, if_part, if_reply, is_other_service, is_principal};
-ghost use Rattle.client_core.specs.Replies.{is_skewed, may_start_elsewhere, of_version};
+ghost use Rattle.client_core.specs.Replies.{is_skewed, judged, may_start_elsewhere, ticket_reply_in};
 ghost use Rattle.client_core.specs.Replies.{opened_as, opened_in, part_of, part_rules, reads, reads_as, reads_tgs};
 ghost use Rattle.client_core.specs.Replies.{refusal_in, reply_in, reply_rules};
 ghost use Rattle.client_core.specs.Replies.{starts_elsewhere, taken, tgs_role};
@@ -17,7 +14,9 @@ ghost use Rattle.client_core.specs.declared.key_role.KeyRole.TheVariants as role
 
 use crate::asked::Asked;
 use crate::credentials::credential_in;
-use crate::fault::{ClientFault, Mismatch, Refusal, Rejection, given, unless_rejected};
+use crate::fault::{
+    ClientFault, Mismatch, Refusal, Rejection, ServerError, given, unless_rejected,
+};
 use crate::key_role::KeyRole;
 use cred_files::Credential;
 use enctypes::{Key, KeyUsage};
@@ -67,6 +66,35 @@ pub fn read_tgs_reply(
     given(read_reply::<13>(alloc, tgs_role(subkey), asked, key, at, bytes))
 }
 
+/// The credential that an AS-REP gives, where it stands: as [`read_as_reply`], for a caller that has read the octets.
+pub fn judge_as_reply(
+    alloc: Global,
+    asked: &Asked,
+    key: &Key,
+    at: Moment,
+    reply: &KdcRepRef<'_, 11>,
+) -> Result<Credential, ClientFault>
+    requires { length (ticket.text reply.now.ticket) < 2 ^ 32 }
+    ensures { Gives result (judged 11 roles.Client asked.now key.now at.sec reply.now) }
+{
+    given(judged(alloc, KeyRole::Client, asked, key, at, reply))
+}
+
+/// The same of a TGS-REP.
+pub fn judge_tgs_reply(
+    alloc: Global,
+    asked: &Asked,
+    key: &Key,
+    subkey: bool,
+    at: Moment,
+    reply: &KdcRepRef<'_, 13>,
+) -> Result<Credential, ClientFault>
+    requires { length (ticket.text reply.now.ticket) < 2 ^ 32 }
+    ensures { Gives result (judged 13 (tgs_role subkey) asked.now key.now at.sec reply.now) }
+{
+    given(judged(alloc, tgs_role(subkey), asked, key, at, reply))
+}
+
 fn tgs_role(subkey: bool) -> KeyRole
     ensures { result ≡ tgs_role subkey }
 {
@@ -103,14 +131,26 @@ fn if_reply<const TYPE: u8>(
     ensures { IfOk result (λ found. found ≡ if_reply TYPE role asked.now key.now at.sec reply.entry) }
 {
     match reply {
-        Ok(reply) => {
-            let opened = opened_as(alloc, role, key, &reply.enc_part)?;
-            let part = part_of(asked, key, &reply, opened);
-            let found = if_part(alloc, asked, at, &reply, part)?;
-            Ok(unless_rejected(found))
-        }
+        Ok(reply) => judged(alloc, role, asked, key, at, &reply),
         Err(fault) => Ok(Err(fault)),
     }
+}
+
+fn judged<const TYPE: u8>(
+    alloc: Global,
+    role: KeyRole,
+    asked: &Asked,
+    key: &Key,
+    at: Moment,
+    reply: &KdcRepRef<'_, TYPE>,
+) -> Result<Result<Credential, ClientFault>, AllocError>
+    requires { length (ticket.text reply.now.ticket) < 2 ^ 32 }
+    ensures { IfOk result (λ found. found ≡ judged TYPE role asked.now key.now at.sec reply.now) }
+{
+    let opened = opened_as(alloc, role, key, &reply.enc_part)?;
+    let part = part_of(asked, key, reply, opened);
+    let found = if_part(alloc, asked, at, reply, part)?;
+    Ok(unless_rejected(found))
 }
 
 /// The reply, or what the octets are in its place.
@@ -121,15 +161,15 @@ fn reply_in<'a, const TYPE: u8>(
     ensures value { IfOk result (λ found. found ≡ reply_in TYPE bytes.now) }
     ensures short { IfOk result (λ found. IfOk found (λ reply. length (ticket.text reply.ticket) < 2 ^ 32)) }
 {
-    match of_version(bytes) {
+    match ticket_reply_in(bytes) {
         Some(reply) => Ok(Ok(reply)),
         None => Ok(Err(refusal_in(alloc, bytes)?)),
     }
 }
 
-/// The reply, if its ticket has the version of the protocol.
-fn of_version<const TYPE: u8>(bytes: &[u8]) -> Option<KdcRepRef<'_, TYPE>>
-    ensures value { result ≡ of_version TYPE (ok_of (whole (kdc_rep TYPE).at bytes.now)) }
+/// Returns the AS-REP or the TGS-REP, by its type, that the octets are, if its ticket has the version of the protocol.
+pub fn ticket_reply_in<const TYPE: u8>(bytes: &[u8]) -> Option<KdcRepRef<'_, TYPE>>
+    ensures value { result ≡ ticket_reply_in TYPE bytes.now }
     ensures short { IfSome result (λ reply. length (ticket.text reply.ticket) < 2 ^ 32) }
 {
     let Ok(reply) = read_kdc_rep::<TYPE>(bytes) else {
@@ -149,7 +189,10 @@ pub fn refusal_in(alloc: Global, bytes: &[u8]) -> Result<ClientFault, AllocError
         return Ok(ClientFault::NotAReply);
     };
     Ok(ClientFault::Refused(Refusal {
-        code: error.error_code,
+        error: ServerError {
+            code: error.error_code,
+            stime: error.stime.seconds(),
+        },
         e_data: copied(alloc, &error.e_data)?,
     }))
 }

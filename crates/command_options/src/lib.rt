@@ -50,6 +50,7 @@ pub struct OptionRow {
 /// The words of an option without a value, which is there or not.
 #[derive(Clone, Copy)]
 pub struct FlagRow {
+    /// What stands behind `--`, or behind `-` if it is one letter.
     pub name: &'static str,
     pub help: &'static str,
 }
@@ -122,8 +123,20 @@ fn option<'a>(alloc: Global, row: &OptionRow) -> Arg<'a> {
 }
 
 fn flag<'a>(alloc: Global, row: &FlagRow) -> Arg<'a> {
-    Arg::new(alloc, row.name)
-        .long(row.name)
+    let flag = Arg::new(alloc, row.name)
         .action(ArgAction::SetTrue)
-        .help(row.help)
+        .help(row.help);
+    match letter(row.name) {
+        Some(letter) => flag.short(letter),
+        None => flag.long(row.name),
+    }
+}
+
+/// The letter that a name is, if it is one.
+fn letter(name: &str) -> Option<char> {
+    let mut letters = name.chars();
+    match (letters.next(), letters.next()) {
+        (Some(letter), None) => Some(letter),
+        _ => None,
+    }
 }

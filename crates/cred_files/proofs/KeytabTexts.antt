@@ -1,4 +1,4 @@
--- What is written for a keytab is a keytab.
+-- The bytes written for a keytab are that keytab.
 use Rattle.std.specs.Prelude.{flat_map, option_to_list, unsigned_abs, All, ◌&&◌, map, IfSome, IfNone}
 use Rattle.std.proofs.Common.{◌≡◌, ◌≢◌, ℕ, ℤ, pos, zero, suc, ◌+◌, ◌%◌, ◌^◌, ◌<◌, ◌≤◌, ltb, eqb, arith, List, [], ◌∷◌, ◌++◌, length, get_or, take, drop, drop-cons, Bool, true, false, Option, Some, None, Ok, refl, sym, ap, subst, ◌∙◌, inl, inr, w32, FitsSigned}
 use Rattle.std.specs.Int.{to_be_bytes}
@@ -36,12 +36,12 @@ etype_none n none =
     let d : eqb n 20 ≡ false = ne_eqb n 20 (λ e. none Aes256CtsHmacSha384_192 (sym (ap (λ (m : ℕ). pos m) e))) in
     rw (a, b, c, d) refl
 
--- what is made of the number is the type of that number
+-- the result for a number is the encryption type with that number
 pub etype_is : (n : ℕ) (z : ℤ) (found : Option Etype) → z ≡ pos n → IfSome found (λ e. number e ≡ z) → IfNone found ((e : Etype) → number e ≢ z) → found ≡ etype_of n
 etype_is n z (Some e) is named none = sym (etype_named n e (named ∙ is))
 etype_is n z None is named none = sym (etype_none n (λ e same. none e (same ∙ sym is)))
 
--- a number that files have room for
+-- the number fits in a file
 pub small_number : (e : Etype) → unsigned_abs (number e) < 2 ^ 16
 small_number Aes128CtsHmacSha1_96 = omega arith
 small_number Aes256CtsHmacSha1_96 = omega arith
@@ -112,7 +112,7 @@ entry_is e octets fits lt len is = record {
   says = says e lt len;
 }
 
--- what put_fields and the version behind it wrote
+-- what put_fields and then the version wrote
 pub entry_written : (e : KeytabEntry) (none a b : List ℕ) → none ≡ [] → a ≡ entry_fields.form.onto none (written_fields e) → b ≡ a ++ to_be_bytes w32 e.version → b ≡ entry_text e
 entry_written e none a b r p q =
     let text : a ≡ entry_fields.form.text (written_fields e) = p ∙ entry_fields.laws.appends none (written_fields e) ∙ ap (λ (l : List ℕ). l ++ entry_fields.form.text (written_fields e)) r in
@@ -144,7 +144,7 @@ keytab_is es bytes all is = record {
   held = held_are es;
 }
 
--- what has no room keeps a whole of which it is a part from being written
+-- if a part doesn't fit, neither does the whole
 pub not_whole : {Room Whole : Type 0} → (Whole → Room) → (fault : FileFault) → IsNotWritten Room fault → IsNotWritten Whole fault
 not_whole part faults.BadEntry h = λ whole. h (part whole)
 not_whole part faults.Memory h = tt
@@ -153,7 +153,7 @@ not_whole part faults.Truncated h = absurd h
 not_whole part faults.TooLate h = absurd h
 not_whole part faults.Absent h = absurd h
 
--- what holds of all elements holds of the one at a place
+-- a property of all elements holds of the one at an index
 pub at_place : {A : Type 0} (P : A → Type 0) (xs : List A) (i : ℕ) (x : A) → x ≡ get_or xs i x → i < length xs → All P xs → P x
 at_place P xs i x is lt all = subst P (sym is) (All-get_or P xs i x lt all)
 
@@ -163,12 +163,12 @@ one_more P xs i x is lt here so_far = AllWithin-more P xs 0 i so_far (at_read xs
 pub at_end : {A : Type 0} (P : A → Type 0) (xs : List A) (i : ℕ) → length xs ≤ i → AllWithin P xs 0 i → All P xs
 at_end P xs i past so_far = All-from_all_within P xs (AllWithin-upto P xs 0 i (length xs) past so_far)
 
--- the elements up to a place, and the one there
+-- the elements up to an index, and the one there
 pub taken : {A : Type 0} (xs front new : List A) (i : ℕ) (x copy : A) → new ≡ front ++ copy ∷ [] → copy ≡ x → front ≡ take i xs → x ≡ get_or xs i x → i < length xs → new ≡ take (i + 1) xs
 taken {A} xs front new i x copy push same so_far is lt =
     push ∙ ap (λ (y : A). front ++ y ∷ []) (same ∙ is) ∙ ap (λ (l : List A). l ++ get_or xs i x ∷ []) so_far ∙ sym (take_more xs i x lt)
 
--- ---- what is found
+-- ---- finding entries
 
 here_is : (es : List KeytabEntry) (i j : ℕ) (e : KeytabEntry) → j ≡ suc i → e ≡ get_or es i e → i < length es → drop i es ≡ e ∷ drop j es
 here_is es i j e next is lt =

@@ -25,14 +25,14 @@ use Rattle.cred_files.specs.Format.{structure}
 
 -- ---- an entry
 
--- a time, the version, the key's type, the key
+-- a time, the key version, the encryption type, the key
 abbrev pub key_fields : Format KeyFields
 key_fields = structure (blank 4 >> octet >> word16 >> counted_octets Two)
     (λ v. record { version = v.1.0; key_type = v.1.1.0; octets = v.1.1.1 })
     (λ k. (tt, (k.version, (k.key_type, k.octets))))
     (λ v. refl) (λ k. refl)
 
--- what an entry says of its key
+-- the fields of an entry's key
 abbrev pub key_fields_of : EntryFields → KeyFields
 key_fields_of e = record { version = e.version; key_type = e.key_type; octets = e.key }
 
@@ -50,7 +50,7 @@ entry_fields =
     (λ e. ((e.realm, e.name.components), (e.name.name_type, key_fields_of e)))
     (λ v. refl) (λ e. refl)
 
--- a version in four octets counts where it is there and not zero
+-- a version of four bytes counts if it is there and not zero
 abbrev pub unless_zero : ℕ → ℕ → ℕ
 unless_zero short long = if long == 0 then short else long
 
@@ -65,7 +65,7 @@ etype_of n =
     else if n == 20 then Some Aes256CtsHmacSha384_192
     else None
 
--- an entry of another key type is none; a key has the length of its type
+-- an entry with an unsupported encryption type is none; a key must have the length for its encryption type
 abbrev pub entry_of : EntryFields → ℕ → Option Etype → Result (Option KeytabEntry) FileFault
 entry_of fields version None = Ok None
 entry_of fields version (Some etype) =
@@ -78,7 +78,7 @@ entry_of fields version (Some etype) =
     }))
     else Err BadEntry
 
--- what these octets of an entry say: its fields, a version or none, and octets that are ignored
+-- what the bytes of an entry mean: its fields, a version or none, and bytes that are ignored
 pub record IsEntry (found : Option KeytabEntry) (content : List ℕ) : Type 0 where
   pub fields : EntryFields
   pub front : List ℕ
@@ -87,7 +87,7 @@ pub record IsEntry (found : Option KeytabEntry) (content : List ℕ) : Type 0 wh
   pub all : content ≡ front ++ more
   pub says : entry_of fields (version_of fields.version more) (etype_of fields.key_type) ≡ Ok found
 
--- ---- the keytab and its octets
+-- ---- the keytab and its bytes
 
 -- an entry after its length
 abbrev pub IsHeld : Option KeytabEntry → List ℕ → Type 0
@@ -95,7 +95,7 @@ IsHeld found bytes =
     (content : List ℕ) × (0 < length content) × (length content < 2 ^ 31) × IsEntry found content
     × (bytes ≡ to_be_bytes w32 (length content) ++ content)
 
--- a hole after its length, which is written as a number below zero
+-- a hole after its length, which is written as a negative number
 abbrev pub IsHole : List ℕ → Type 0
 IsHole bytes =
     (content : List ℕ) × (0 < length content) × (length content ≤ 2 ^ 31)
@@ -104,11 +104,11 @@ IsHole bytes =
 abbrev pub IsPart : Option KeytabEntry → List ℕ → Type 0
 IsPart found bytes = IsHeld found bytes ⊎ (IsHole bytes × (found ≡ None))
 
--- nothing, or a length of zero, after which nothing is read
+-- nothing, or a length of zero, which ends the reading
 abbrev pub IsEnd : List ℕ → Type 0
 IsEnd bytes = (bytes ≡ []) ⊎ ((rest : List ℕ) × (bytes ≡ 0 ∷ 0 ∷ 0 ∷ 0 ∷ rest))
 
--- 05 02, parts, and the end
+-- 05 02, the parts, and the end
 pub record IsKeytab (entries : List KeytabEntry) (bytes : List ℕ) : Type 0 where
   pub parts : List (Option KeytabEntry)
   pub front : List ℕ
@@ -120,7 +120,7 @@ pub record IsKeytab (entries : List KeytabEntry) (bytes : List ℕ) : Type 0 whe
 
 -- ---- what is written
 
--- the fields of an entry: of the version the last octet, and no time
+-- the fields of an entry, with the last byte of the version and no time
 abbrev pub written_fields : KeytabEntry → EntryFields
 written_fields e = record {
   realm = e.realm;
@@ -130,7 +130,7 @@ written_fields e = record {
   key = e.key.bytes;
 }
 
--- the version stands behind them in four octets
+-- the fields, followed by the version in four bytes
 abbrev pub entry_text : KeytabEntry → List ℕ
 entry_text e = entry_fields.form.text (written_fields e) ++ to_be_bytes w32 e.version
 
@@ -141,24 +141,24 @@ part_text e = to_be_bytes w32 (length (entry_text e)) ++ entry_text e
 abbrev pub keytab_text : List KeytabEntry → List ℕ
 keytab_text entries = 5 ∷ 2 ∷ flat_map part_text entries
 
--- that the lengths and the count, of two octets each, are enough for the texts of an entry
+-- the lengths and the count of an entry's texts fit in two bytes each
 abbrev pub HasCounts : KeytabEntry → Type 0
 HasCounts e =
     (length e.name.components < 2 ^ 16) × (length e.realm < 2 ^ 16) × All (λ c. length c < 2 ^ 16) e.name.components
 
--- and that its length is below those that stand for holes
+-- and its length is below those that mean holes
 abbrev pub HasRoom : KeytabEntry → Type 0
 HasRoom e = HasCounts e × (length (entry_text e) < 2 ^ 31)
 
--- why something is not written: it has no room, or memory ran out
+-- why something is not written: it doesn't fit, or memory ran out
 abbrev pub IsNotWritten : Type 0 → FileFault → Type 0
 IsNotWritten Room BadEntry = Room → ⊥
 IsNotWritten Room Memory = Unit {0}
 IsNotWritten Room fault = ⊥
 
--- ---- what is found
+-- ---- finding entries
 
--- a service is its realm and the components of its name
+-- a service is known by its realm and the components of its name
 abbrev pub is_of : Components → KeytabEntry → Bool
 is_of service e = eq_by_cmp name_cmp (e.realm ∷ e.name.components) service
 
@@ -167,7 +167,7 @@ abbrev pub is_typed : Option Etype → ProtocolKey → Bool
 is_typed None key = true
 is_typed (Some etype) key = is_same key.etype etype
 
--- of this version, or of any
+-- of this key version, or of any
 abbrev pub is_numbered : Option ℕ → ℕ → Bool
 is_numbered None number = true
 is_numbered (Some version) number = number == version
@@ -175,18 +175,18 @@ is_numbered (Some version) number = number == version
 abbrev pub passes : Components → Option Etype → Option ℕ → KeytabEntry → Bool
 passes service etype version e = is_of service e && (is_typed etype e.key && is_numbered version e.version)
 
--- the one with the greater version, and of the same version the later one
+-- the one with the higher key version; if they are equal, the later one
 abbrev pub newer : KeytabEntry → Option KeytabEntry → KeytabEntry
 newer e None = e
 newer e (Some later) = if nat_lt later.version e.version then e else later
 
--- of the entries that pass, the last of the greatest version
+-- of the entries that pass, the last one with the highest key version
 unfoldable pub newest : (KeytabEntry → Bool) → List KeytabEntry → Option KeytabEntry
 newest test [] = None
 newest test (e ∷ es) = if test e then Some (newer e (newest test es)) else newest test es
 
--- The entry that an encryption type and a version number name, as a sealed part says them: without a version the one of
--- the greatest, and of several the last. No entry has a version below zero.
+-- The entry that an encrypted part names by its encryption type and key version: without a version the one with the
+-- highest, and the last one if there are several. No entry has a negative version.
 abbrev pub entry_for : List KeytabEntry → Components → Option Etype → Option ℤ → Option KeytabEntry
 entry_for entries service (Some etype) (Some (pos version)) =
     newest (passes service (Some etype) (Some version)) entries
@@ -194,7 +194,7 @@ entry_for entries service (Some etype) (Some (negsuc n)) = None
 entry_for entries service (Some etype) None = newest (passes service (Some etype) None) entries
 entry_for entries service None kvno = None
 
--- what lacks, where there is no such entry: the first of service, encryption type and version
+-- what is missing, if there is no such entry: the first of service, encryption type and key version
 abbrev pub miss_of : Option KeytabEntry → Option KeytabEntry → Miss
 miss_of None typed = NoService
 miss_of (Some e) None = NoEtype

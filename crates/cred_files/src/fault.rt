@@ -1,4 +1,4 @@
-//! Why a file is not read, found or changed.
+//! Errors of reading, searching and changing files.
 ghost use Rattle.std.specs.Prelude.{◌≡◌};
 ghost use Rattle.cred_files.specs.declared.fault.Cut.TheVariants as cuts;
 ghost use Rattle.cred_files.specs.declared.fault.FileFault.TheVariants.{Memory};
@@ -8,19 +8,19 @@ use std::alloc::{AllocError, AllocFailed};
 use std::error::Error;
 use std::fmt;
 
-/// What is wrong with a file, or with what is asked of it.
+/// What is wrong with a file or a request to it.
 #[derive(Clone, Copy, Debug, PartialEq, Eq)]
 pub enum FileFault {
-    /// The file has fewer than two octets, or others first than its kind.
+    /// The file has fewer than two bytes, or doesn't start with those of its format.
     BadMagic,
     /// The file ends within a field, an entry or a hole.
     Truncated,
-    /// An entry of a keytab that is read ends within a field, or has a key of another length than its type's; or one
-    /// that is to be written has no room.
+    /// An entry of a keytab ends within a field, or its key has the wrong length for its encryption type. When writing:
+    /// an entry is too long.
     BadEntry,
-    /// A time is before 1970, or after 4294967295 seconds of it.
+    /// A time is before 1970, or more than 4294967295 seconds after its start.
     TooLate,
-    /// No credential is there.
+    /// There is no such credential.
     Absent,
     Memory,
 }
@@ -28,10 +28,10 @@ pub enum FileFault {
 impl fmt::Display for FileFault {
     fn fmt<W: fmt::Write>(&self, f: &mut fmt::Formatter<W>) -> fmt::Result {
         f.write_str(match self {
-            FileFault::BadMagic => "the file does not begin as its kind does",
+            FileFault::BadMagic => "the file does not start with the bytes of its format",
             FileFault::Truncated => "the file ends too early",
-            FileFault::BadEntry => "an entry is amiss",
-            FileFault::TooLate => "a time is out of the range of the file",
+            FileFault::BadEntry => "an entry is invalid, or too long for the file",
+            FileFault::TooLate => "a time is out of the range of the file format",
             FileFault::Absent => "there is no such credential",
             FileFault::Memory => "out of memory",
         })
@@ -40,10 +40,10 @@ impl fmt::Display for FileFault {
 
 impl Error for FileFault {}
 
-/// Why a value is not read at the front of octets.
+/// Why no value could be read from the front of bytes.
 #[derive(Clone, Copy, PartialEq, Eq)]
 pub enum Cut {
-    /// The octets end before the value does.
+    /// The bytes end before the value does.
     End,
     Memory,
 }
@@ -80,7 +80,8 @@ impl<T: Drop> From<AllocFailed<T>> for FileFault {
     }
 }
 
-/// A field past the end of the file. (One past the end of its entry is a [`FileFault::BadEntry`].)
+/// A field extends past the end of the file. (If it extends past the end of its entry, that is a
+/// [`FileFault::BadEntry`].)
 impl From<Cut> for FileFault {
     ghost from_gives = { λ cut e. e ≡ fault_of cut };
 

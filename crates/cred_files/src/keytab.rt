@@ -1,4 +1,4 @@
-//! Keytabs: the keys of services.
+//! Keytabs, which hold the keys of services.
 ghost use Rattle.std.specs.Prelude.{◌≡◌, ◌++◌, ◌∷◌, List, All, IfOk, IfErr, IfSome, IfNone, OnOk, Some, None, flat_map};
 ghost use Rattle.std.specs.Prelude.{is_some, length, option_copied, option_map};
 ghost use Rattle.cred_files.specs.Keytab.{HasRoom, IsKeytab, IsNotWritten, IsPart, keytab_text, missing, newer, newest};
@@ -21,34 +21,34 @@ use std::error::Error;
 use std::fmt;
 use std::marker::Model;
 
-/// Why a keytab has no key to give.
+/// Why a keytab has no such key.
 #[derive(Clone, Copy, Debug, PartialEq, Eq)]
 pub enum Miss {
-    /// No entry is of the service.
+    /// There is no entry for the service.
     NoService,
-    /// None of the service's entries is of the encryption type.
+    /// The service has no entry of the encryption type.
     NoEtype,
-    /// None of those has the version.
+    /// None of those has the key version.
     NoVersion,
 }
 
 impl fmt::Display for Miss {
     fn fmt<W: fmt::Write>(&self, f: &mut fmt::Formatter<W>) -> fmt::Result {
         f.write_str(match self {
-            Miss::NoService => "the keytab has no key of the service",
+            Miss::NoService => "the keytab has no key for the service",
             Miss::NoEtype => "the keytab has no key of the encryption type",
-            Miss::NoVersion => "the keytab has no key of the version",
+            Miss::NoVersion => "the keytab has no key of the key version",
         })
     }
 }
 
 impl Error for Miss {}
 
-/// What stands between two lengths of a keytab.
+/// What a length in a keytab precedes.
 #[derive(Drop)]
 enum Part {
     End,
-    /// A hole, or an entry whose key is of another type.
+    /// A hole, or an entry whose key has an unsupported encryption type.
     Skipped,
     Held(KeytabEntry),
 }
@@ -91,7 +91,7 @@ fn next_part(alloc: Global, reader: &mut Reader<'_>) -> Result<Part, FileFault>
     Ok(Part::Skipped)
 }
 
-/// The entries to the end.
+/// Reads entries to the end of the file.
 fn read_entries(alloc: Global, bytes: &[u8]) -> Result<Vec<KeytabEntry>, FileFault>
     ensures { GivesBy (λ v. v.items) result (entries_at bytes.now) }
 {
@@ -131,7 +131,7 @@ fn put_entries(alloc: Global, out: &mut Vec<u8>, entries: &[KeytabEntry]) -> Res
     Ok(())
 }
 
-/// The entry with the greater version, and of the same version the later one.
+/// Returns the entry with the higher key version; if they are equal, the later entry.
 fn newer<'a>(entry: &'a KeytabEntry, later: Option<&'a KeytabEntry>) -> &'a KeytabEntry
     ensures { result.now ≡ newer entry.now (option_map (λ e. e.now) later.entry) }
 {
@@ -141,8 +141,8 @@ fn newer<'a>(entry: &'a KeytabEntry, later: Option<&'a KeytabEntry>) -> &'a Keyt
     }
 }
 
-/// The last of the entries of the greatest version, among those of the service and of the encryption type
-/// and version, where one is asked for.
+/// Returns the entry with the highest key version, the last one if there are several. It considers the entries of the
+/// service that have the encryption type and the key version, if these are given.
 fn newest<'a>(
     entries: &'a [KeytabEntry],
     realm: &[u8],
@@ -165,7 +165,7 @@ fn newest<'a>(
 }
 
 impl Keytab {
-    /// A keytab of copies of these entries. `BadEntry` where one has no room in a file.
+    /// Returns a keytab with copies of these entries. Fails with `BadEntry` if one is too long for a file.
     pub fn new(alloc: Global, entries: &[KeytabEntry]) -> Result<Keytab, FileFault>
         ensures ok { IfOk result (λ keytab. keytab ≡ entries.now) }
         ensures room { IfOk result (λ keytab. All HasRoom entries.now) }
@@ -179,28 +179,28 @@ impl Keytab {
         Ok(Keytab { entries: copies })
     }
 
-    /// How many keys there are.
+    /// Returns the number of keys.
     pub fn len(&self) -> usize
         ensures { result ≡ length self.now }
     {
         self.entries.len()
     }
 
-    /// The keys with their principals and versions, in the order of the file.
+    /// Returns the keys with their principals and key versions, in the order of the file.
     pub fn entries(&self) -> &[KeytabEntry]
         ensures { result.now ≡ self.now }
     {
         &self.entries
     }
 
-    /// The keytab that the octets of a file are.
+    /// Reads a keytab from the bytes of a file.
     pub fn read(alloc: Global, bytes: &[u8]) -> Result<Keytab, FileFault>
-        // What is read, the file is.
+        // If it succeeds, the file holds this keytab.
         ensures found { IfOk result (λ keytab. IsKeytab keytab bytes.now) }
-        // What the file is, is read, unless memory runs out.
+        // If the file holds a keytab, it succeeds, unless memory runs out.
         ensures only { (keytab : List entries.KeytabEntry) → IsKeytab keytab bytes.now
             → IsReadUnlessMemory result keytab }
-        // Which fault it is.
+        // The error is the first one in the file.
         ensures exact { Gives result (keytab_at bytes.now) }
     {
         let rest = after_magic(bytes, KEYTAB)?;
@@ -208,11 +208,11 @@ impl Keytab {
         Ok(Keytab { entries })
     }
 
-    /// The octets of the file. `BadEntry` where an entry has no room in it, as one of 2147483644 octets or more
-    /// that was read without its version of four octets.
+    /// Returns the bytes of the file. Fails with `BadEntry` if an entry is too long for it. One with 2147483644 bytes
+    /// or more may be: it was read without the version of four bytes, which is always written.
     pub fn write(&self, alloc: Global) -> Result<Vec<u8>, FileFault>
         ensures text { IfOk result (λ bytes. bytes.items ≡ keytab_text self.now) }
-        // So what is written is read back to the same entries.
+        // So reading them gives the same entries.
         ensures spelled { IfOk result (λ bytes. IsKeytab self.now bytes.items) }
         ensures fault { IfErr result (λ fault. IsNotWritten (All HasRoom self.now) fault) }
     {
@@ -221,8 +221,8 @@ impl Keytab {
         Ok(out)
     }
 
-    /// The key of a service by its encryption type and version; without a version the one of the greatest version.
-    /// Of several such keys it is the last one of the file.
+    /// Returns the service's key of this encryption type and key version; without a version, the one with the highest.
+    /// If there are several, it is the last one in the file.
     pub fn find(
         &self,
         realm: &[u8],
@@ -243,8 +243,8 @@ impl Keytab {
         }
     }
 
-    /// The key of a service that a sealed part names by its encryption type and version number (RFC 4120, section
-    /// 5.2.9), which may be below zero; without a version the one of the greatest.
+    /// Returns the service's key that an encrypted part names by its encryption type and key version (RFC 4120, section
+    /// 5.2.9). Without a version, it is the key with the highest. No key has a negative version.
     pub fn key_for(
         &self,
         realm: &[u8],
@@ -261,7 +261,7 @@ impl Keytab {
         }
     }
 
-    /// The service's key of this type in the version of this number.
+    /// Returns the service's key of this encryption type and key version.
     fn numbered_key(&self, realm: &[u8], name: &Name, etype: Etype, kvno: UInt32) -> Option<&Key>
         ensures { option_copied result
             ≡ option_map (λ e. e.key)
@@ -271,14 +271,14 @@ impl Keytab {
         self.find(realm, name, etype, Some(version)).ok()
     }
 
-    /// Whether it has a key of the service, and of the encryption type, where one is asked for.
+    /// Checks whether there is a key for the service, of the encryption type if one is given.
     pub fn has(&self, realm: &[u8], name: &Name, etype: Option<Etype>) -> bool
         ensures { result ≡ is_some (newest (passes (realm.now ∷ name.now.components) etype None) self.now) }
     {
         newest(&self.entries, realm, name, etype, None).is_some()
     }
 
-    /// What lacks, where there is no such key.
+    /// Returns what is missing, if there is no such key.
     fn miss(&self, realm: &[u8], name: &Name, etype: Etype) -> Miss
         ensures { result ≡ missing self.now (realm.now ∷ name.now.components) etype }
     {

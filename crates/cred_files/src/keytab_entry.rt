@@ -1,4 +1,4 @@
-//! Entries of a keytab: each a key of a principal, with the key's version.
+//! Entries of a keytab: the key of a principal with its key version.
 ghost use Rattle.std.specs.Prelude.{◌≡◌, ◌∷◌, nat_lt, length, unsigned_abs, IsTrue, IfOk, IfErr, OnOk, Some};
 ghost use Rattle.std.specs.List.{list_all};
 ghost use Rattle.enctypes.specs.Etype.{key_len, number};
@@ -28,7 +28,7 @@ pub struct KeytabEntry {
     pub key: Key,
 }
 
-/// The fields of an entry as they stand in the file, before the version of four octets.
+/// The fields of an entry in the file, up to the version of four bytes.
 #[derive(Drop)]
 struct EntryFields {
     realm: KerberosString,
@@ -38,7 +38,7 @@ struct EntryFields {
     key: Octets,
 }
 
-/// What an entry says of its key: the version in one octet, the type and the octets.
+/// The fields of an entry's key: the version in one byte, the encryption type and the bytes.
 #[derive(Drop)]
 struct KeyFields {
     version: u8,
@@ -58,7 +58,7 @@ impl KeytabEntry {
         })
     }
 
-    /// Whether it is a key of this service, and of this encryption type and version, where one is asked for.
+    /// Checks whether it is a key for this service, with the encryption type and key version if these are given.
     pub(crate) fn passes(
         &self,
         realm: &[u8],
@@ -128,7 +128,7 @@ fn read_key_fields(alloc: Global, reader: &mut Reader<'_>) -> Result<KeyFields, 
     })
 }
 
-/// The version of four octets, where it is there and not zero; else the one of one octet.
+/// Returns the version of four bytes if it is there and not zero, otherwise that of one byte.
 fn full_version(short: u8, more: &[u8]) -> u32
     ensures { result ≡ version_of short more.now }
 {
@@ -138,14 +138,14 @@ fn full_version(short: u8, more: &[u8]) -> u32
     }
 }
 
-/// The encryption type of this number, if it is one of the four.
+/// Returns the encryption type with this number, if it is one of the four supported ones.
 pub fn known_etype(number: u16) -> Option<Etype>
     ensures { result ≡ etype_of number }
 {
     Etype::from_number(i32::from(number))
 }
 
-/// What the octets of an entry say: nothing where its key is of another type.
+/// Reads an entry, or `None` if its key has an unsupported encryption type.
 #[tactic(auto, unfolding(crate::specs::KeytabReading::content_at))]
 pub fn read_entry(alloc: Global, content: &[u8]) -> Result<Option<KeytabEntry>, FileFault>
     ensures { Gives result (content_at content.now) }
@@ -172,13 +172,13 @@ pub fn read_entry(alloc: Global, content: &[u8]) -> Result<Option<KeytabEntry>, 
     }))
 }
 
-/// The greatest length, and the greatest count, that two octets hold.
+/// The maximum length, and the maximum count, in two bytes.
 const MOST: usize = 0xffff;
 
-/// The lengths from here on are those of holes, below zero as signed numbers.
+/// Lengths from here on are those of holes: as signed numbers they are negative.
 pub const HOLES: usize = 1 << 31;
 
-/// Whether the lengths and the count of an entry's texts have room in two octets each.
+/// Checks whether the lengths and the count of an entry's texts fit in two bytes each.
 fn has_counts(entry: &KeytabEntry) -> bool
     ensures yes { IsTrue result → HasCounts entry.now }
     ensures no { HasCounts entry.now → IsTrue result }
@@ -193,7 +193,7 @@ fn are_counted(components: &[KerberosString]) -> bool
     components.iter().all(|c| c.as_slice().len() <= MOST)
 }
 
-/// The number of an encryption type as files have it.
+/// Returns an encryption type's number as files have it.
 fn key_type(etype: Etype) -> u16
     ensures { result ≡ unsigned_abs (number etype) }
 {
@@ -218,8 +218,8 @@ fn put_fields(out: &mut Vec<u8>, entry: &KeytabEntry) -> Result<(), AllocError>
     put_counted(out, Width::Two, entry.key.bytes())
 }
 
-/// The octets of an entry, which stand behind their length. `BadEntry` where one of its lengths, or its number
-/// of components, has no room.
+/// Returns the bytes of an entry, without their length. Fails with `BadEntry` if one of its lengths or its number of
+/// components doesn't fit.
 pub fn write_entry(alloc: Global, entry: &KeytabEntry) -> Result<Vec<u8>, FileFault>
     ensures room { IfOk result (λ octets. HasRoom entry.now) }
     ensures text { IfOk result (λ octets. octets.items ≡ entry_text entry.now) }

@@ -1,4 +1,4 @@
-//! Principals with their realms, as they stand in a credential cache.
+//! Principals with their realms, as in a credential cache.
 ghost use Rattle.std.specs.Prelude.{◌≡◌, ◌∷◌, IfOk, OnOk};
 ghost use Rattle.std.specs.Ordering.{eq_by_cmp};
 ghost use Rattle.krb_fields.specs.Name.{name_cmp};
@@ -34,7 +34,7 @@ impl Principal {
 }
 
 impl Principal {
-    /// Whether it has this realm, and this name but for the name-type.
+    /// Checks whether it has this realm and this name. The name-type doesn't count.
     pub fn is(&self, realm: &[u8], name: &Name) -> bool
         ensures { result ≡ eq_by_cmp name_cmp (full_name self.now) (realm.now ∷ name.now.components) }
     {
@@ -42,7 +42,7 @@ impl Principal {
     }
 }
 
-/// Whether both are one principal: their realms are equal, and their names but for the name-types.
+/// Checks whether both are the same principal: realms and names are equal. The name-types don't count.
 pub fn is_same(realm: &KerberosString, name: &Name, other_realm: &[u8], other_name: &Name) -> bool
     ensures { result ≡ eq_by_cmp name_cmp (realm.now ∷ name.now.components)
         (other_realm.now ∷ other_name.now.components) }

@@ -1,4 +1,4 @@
-//! Whether a credential has room in a cache: its lengths and counts have 32 bits there.
+//! Checks whether a credential fits in a cache, where lengths and counts have 32 bits.
 ghost use Rattle.std.specs.Prelude.{IsTrue, All};
 ghost use Rattle.cred_files.specs.Cache.{FitsButForTimes};
 ghost use Rattle.cred_files.specs.Credential as formats;
@@ -11,10 +11,10 @@ use crate::principal::Principal;
 use crate::stored::Stored;
 use krb_elements::KerberosString;
 
-/// The greatest length, and the greatest count.
+/// The maximum length, and the maximum count.
 const MOST: usize = 0xffff_ffff;
 
-/// A value that may have room in a cache.
+/// A value that may or may not fit in a cache.
 trait Room: Stored {
     ghost use Rattle.cred_files.specs.declared.width.Width.TheVariants.{Four};
 
@@ -77,7 +77,7 @@ fn principal_has_room(principal: &Principal) -> bool
 }
 
 impl Credential {
-    /// Whether a cache has room for it, but for its times ([`crate::Times::fit`]).
+    /// Checks whether it fits in a cache, apart from its times (see [`crate::Times::fit`]).
     #[tactic(auto, unfolding(crate::specs::Credential::credential))]
     pub fn has_room(&self) -> bool
         ensures fits { IsTrue result → FitsButForTimes self.now }

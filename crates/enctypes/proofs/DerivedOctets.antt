@@ -1,4 +1,4 @@
--- Of a key of octets, each derived key is octets. So deciphering under it takes back what enciphering did.
+-- If a key consists of bytes, so do its derived keys. So decrypting with them undoes encrypting.
 use Rattle.std.proofs.Common.{ℕ, zero, suc, ◌<◌, List, All}
 use Rattle.std.specs.Int.{div_ceil}
 use Rattle.std.proofs.lemmas.List.Elements.{All-nil, All-append, All-take}
@@ -39,7 +39,7 @@ octets-dr key constant len octets =
     All-take (λ b. b < 256) len (dr_blocks key constant (div_ceil len 16))
     (octets-dr_blocks key constant (div_ceil len 16) (permutes_blocks key octets))
 
--- ---- the keys that a protocol key gives
+-- ---- the keys derived from a protocol key
 
 pub octets-derived : (etype : Etype) (key constant : List ℕ) (len : ℕ) → All (λ b. b < 256) key
     → All (λ b. b < 256) (derived etype key constant len)
@@ -55,7 +55,7 @@ unfolding derived_key
 octets-derived_key etype key usage purpose octets =
     octets-derived etype key (usage_constant usage purpose) (derived_len etype purpose) octets
 
--- ciphertext stealing under Ke
+-- ciphertext stealing with Ke
 pub ke_permutes : (etype : Etype) (key : List ℕ) (usage : ℕ) → All (λ b. b < 256) key
     → PermutesTexts (ke etype key usage)
 ke_permutes etype key usage octets =

@@ -1,5 +1,5 @@
--- Examples of RFC 3962, appendix B of the definitions themselves, so that a wrong definition does not check. What
--- PBKDF2 makes of the password is an example there too, of the definitions of prf_kdf.
+-- RFC 3962's examples (appendix B) for the definitions themselves, so that a wrong definition does not check. PBKDF2's
+-- result for the password is an example there too, for the definitions of prf_kdf.
 use Rattle.std.proofs.Common.{◌≡◌, ℕ, List, [], ◌∷◌, codes, refl, ap, ◌∙◌}
 use Rattle.aes_cts.specs.Field.{times_low, times, power_of_x, square, power_of_twos, inverse}
 use Rattle.aes_cts.specs.SBox.{affine, s_box}

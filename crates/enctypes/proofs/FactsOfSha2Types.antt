@@ -1,5 +1,5 @@
--- The standards' examples of the definitions themselves over SHA-2, so that a wrong definition does not check. All
--- are of RFC 8009, appendix A.
+-- The standard's examples for the definitions over SHA-2, so that a wrong definition does not check. All are from RFC
+-- 8009, appendix A.
 use Rattle.std.proofs.Common.{◌≡◌, ℕ, List, [], ◌∷◌, refl}
 use Rattle.std.specs.List.{range_with_len}
 use Rattle.sha2.specs.Sha256.{first_words, schedule, compress, hash_after, digest_bytes, sha256}
@@ -67,7 +67,7 @@ unfolding first_words_512 schedule_512 rounds_512 compress_512 hash_after_512 di
     derived usage_constant derived_key
 ki-20 = refl
 
--- the checksum of the octets 00 to 14
+-- the checksum of the bytes 00 to 14
 pub mac-19 : mac Aes128CtsHmacSha256_128 base_128 2 (range_with_len 0 21) ≡
     0xd7 ∷ 0x83 ∷ 0x67 ∷ 0x18 ∷ 0x66 ∷ 0x43 ∷ 0xd6 ∷ 0x7b ∷ 0x41 ∷ 0x1c ∷ 0xba ∷ 0x91 ∷ 0x39 ∷ 0xfc ∷ 0x1d ∷ 0xee ∷ []
 unfolding first_words schedule sha256_rounds compress hash_after digest_bytes sha256 key_block hmac derived
@@ -81,7 +81,7 @@ unfolding first_words_512 schedule_512 rounds_512 compress_512 hash_after_512 di
     derived usage_constant derived_key hmac_of mac
 mac-20 = refl
 
--- 6 octets sealed
+-- 6 bytes, sealed
 pub seal-19 : seal Aes128CtsHmacSha256_128 base_128 2
     (0x7b ∷ 0xca ∷ 0x28 ∷ 0x5e ∷ 0x2f ∷ 0xd4 ∷ 0x13 ∷ 0x0f ∷ 0xb5 ∷ 0x5b ∷ 0x1a ∷ 0x5c ∷ 0x83 ∷ 0xbc ∷ 0x5b ∷ 0x24 ∷ [])
     (range_with_len 0 6) ≡

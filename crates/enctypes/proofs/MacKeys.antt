@@ -1,4 +1,4 @@
--- What the hashers of a key give is the HMAC of its type, cut.
+-- The hashers for a key compute the HMAC of its encryption type, cut to its length.
 use Rattle.std.proofs.Common.{◌≡◌, ℕ, List, take, ap}
 use Rattle.prf_kdf.specs.Hmac.{hmac_sha1, hmac_sha256, hmac_sha384}
 use Rattle.prf_kdf.specs.MacKeys.{HmacSha1, HmacSha256, HmacSha384, IsSha1Key, IsSha256Key, IsSha384Key}

@@ -1,4 +1,4 @@
--- What `opened` gives, and that it is what was sealed.
+-- The results of `opened`, and that it returns what was sealed.
 use Rattle.std.proofs.Common.{◌≡◌, ◌⊎◌, inl, inr, ℕ, Bool, true, false, ◌+◌, ◌≤◌, ◌<◌, List, ◌++◌, All, drop, length}
 use Rattle.std.proofs.Common.{Option, Some, None, refl, subst, ap, ◌∙◌, arith}
 use Rattle.std.specs.Prelude.{nat_le}
@@ -44,7 +44,7 @@ opened_false : (etype : Etype) (key : List ℕ) (usage : ℕ) (cipher : List ℕ
 unfolding opened
 opened_false etype key usage cipher fails = rw fails refl
 
--- one of the two holds
+-- one of the two cases holds
 opened-cases : (etype : Etype) (key : List ℕ) (usage : ℕ) (cipher : List ℕ)
     → IsSealed etype key usage cipher ⊎ (opened etype key usage cipher ≡ None)
 opened-cases etype key usage cipher = elim (cases_Bool (is_sealed etype key usage cipher)) [
@@ -105,7 +105,7 @@ opens-seal : (etype : Etype) (key : List ℕ) (usage : ℕ) (confounder text : L
 opens-seal etype key usage confounder text block octets =
     record { confounder = confounder; is_block = block; octets = octets; sealed = refl }
 
--- for every key of octets
+-- for every key that consists of bytes
 pub opens_what_was_sealed : (etype : Etype) (key : List ℕ) (usage : ℕ) → All (λ b. b < 256) key
     → OpensWhatWasSealed etype key usage
 opens_what_was_sealed etype key usage octets =

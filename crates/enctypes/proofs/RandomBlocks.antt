@@ -1,4 +1,4 @@
--- The blocks of DR, one after the other in the output.
+-- The blocks of DR, in order, in the output.
 use Rattle.std.proofs.Common.{◌≡◌, ℕ, zero, suc, ◌+◌, ◌*◌, ◌≤◌, List, [], ◌++◌}
 use Rattle.std.proofs.Common.{take, length, refl, sym, ap, ◌∙◌, arith, add-one, length-append}
 use Rattle.std.proofs.lemmas.List.{take_all, length-take-le}
@@ -52,7 +52,7 @@ length-dr key constant len =
     length-take-le len (dr_blocks key constant (div_ceil len 16))
     (omega (arith, div_ceil_times len 16 (omega arith), length-dr_blocks key constant (div_ceil len 16)))
 
--- an output that as many blocks fill as it needs
+-- an output with as many blocks as it needs
 pub dr_is : (key constant out : List ℕ) (n : ℕ) → n ≡ div_ceil (length out) 16
     → take (16 * n) out ≡ take (length out) (dr_blocks key constant n) → out ≡ dr key constant (length out)
 unfolding dr

@@ -1,4 +1,4 @@
--- What a sealed text is made of, and what opens it.
+-- The parts of a sealed text, and opening it.
 use Rattle.std.proofs.Common.{◌≡◌, ℕ, ◌+◌, ◌-◌, ◌≤◌, ◌<◌, List, ◌++◌, All}
 use Rattle.std.proofs.Common.{take, drop, length, refl, sym, ap, ◌∙◌, arith}
 use Rattle.std.proofs.Common.{length-append, length-take}
@@ -32,7 +32,7 @@ length-seal etype key usage confounder text size =
     ∙ length-append c (cut_hmac etype (ki etype key usage) covered)
     ∙ omega (arith, length-cut_hmac etype (ki etype key usage) covered)
 
--- a cipher that opens has room for the confounder and the HMAC
+-- a cipher that can be opened is long enough for the confounder and the HMAC
 pub opens-length : (etype : Etype) (key : List ℕ) (usage : ℕ) (cipher text : List ℕ) → Opens etype key usage cipher text
     → length cipher ≡ 16 + mac_len etype + length text
 opens-length etype key usage cipher text o =
@@ -46,7 +46,7 @@ pub record IsSealed (etype : Etype) (key : List ℕ) (usage : ℕ) (cipher : Lis
   pub room : 16 + mac_len etype ≤ length cipher
   pub ends : ending etype cipher ≡ expected_ending etype key usage cipher
 
--- what is found in a cipher that opens
+-- the parts of a cipher that can be opened
 pub record HasParts (etype : Etype) (key : List ℕ) (usage : ℕ) (cipher plain : List ℕ) : Type 0 where
   pub plain_is : deciphered etype key usage cipher ≡ plain
   pub is_sealed : IsSealed etype key usage cipher
@@ -81,7 +81,7 @@ opens-parts etype key usage cipher text law o =
       };
     }
 
--- what passes the test is sealed
+-- a cipher that passes the test can be opened
 pub opens-from_sealed : (etype : Etype) (key : List ℕ) (usage : ℕ) (cipher : List ℕ)
     → PermutesTexts (ke etype key usage)
     → All (λ b. b < 256) cipher → IsSealed etype key usage cipher

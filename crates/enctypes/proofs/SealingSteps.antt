@@ -1,4 +1,4 @@
--- What the code computes, step by step, when it seals and when it opens.
+-- What the code computes, step by step, when it seals and opens.
 use Rattle.std.proofs.Common.{◌≡◌, ℕ, ◌+◌, ◌-◌, List, [], ◌++◌, take, drop, length, sym, ap, ◌∙◌, arith, length-drop}
 use Rattle.std.specs.List.{copy_within}
 use Rattle.std.proofs.lemmas.List.{take_at}
@@ -11,13 +11,13 @@ use Rattle.enctypes.specs.Sealing.{cut_hmac, zero_vector, macs_cipher, authentic
 use Rattle.enctypes.specs.Sealing.{enciphered, ending, deciphered, expected_ending}
 use Rattle.enctypes.proofs.Sealed.{seal_is}
 
--- the confounder and the text, put into an empty list one after the other
+-- the confounder and then the text, appended to an empty list
 pub put_together : (confounder text empty first second whole : List ℕ) → whole ≡ second → second ≡ first ++ text
     → first ≡ empty ++ confounder → empty ≡ [] → whole ≡ confounder ++ text
 put_together confounder text empty first second whole hw hs hf he =
     hw ∙ hs ∙ ap (λ (l : List ℕ). l ++ text) (hf ∙ ap (λ (l : List ℕ). l ++ confounder) he)
 
--- the cipher in front, and the HMAC behind it
+-- the cipher, followed by the HMAC
 pub sealed_is : (etype : Etype) (key : List ℕ) (usage : ℕ) (confounder text plain c code front back whole : List ℕ)
     → plain ≡ confounder ++ text → c ≡ cts (ke etype key usage) zero_vector plain
     → code ≡ cut_hmac etype (ki etype key usage) (authenticated (macs_cipher etype) plain c)
@@ -28,13 +28,13 @@ sealed_is etype key usage confounder text plain c code front back whole hp hc hm
     ∙ ap (λ (l : List ℕ). sealed_plain etype key usage l (cts (ke etype key usage) zero_vector l)) hp
     ∙ sym (seal_is etype key usage confounder text)
 
--- the plain text, the HMAC that the cipher has to end with, and the one that it ends with
+-- the plain text, the HMAC that the cipher must end with, and the one that it ends with
 pub record IsRecomputed (etype : Etype) (key : List ℕ) (usage : ℕ) (cipher plain expected mac : List ℕ) : Type 0 where
   pub plain_is : plain ≡ deciphered etype key usage cipher
   pub expected_is : expected ≡ expected_ending etype key usage cipher
   pub mac_is : mac ≡ ending etype cipher
 
--- the front of the cipher, put into an empty list, is deciphered
+-- the front of the cipher, appended to an empty list, is decrypted
 pub recomputed : (etype : Etype) (key : List ℕ) (usage : ℕ) (cipher front mac empty copied body plain expected : List ℕ)
     (n : ℕ)
     → front ≡ take (length cipher - n) cipher → mac ≡ drop (length cipher - n) cipher → n ≡ mac_len etype
@@ -56,7 +56,7 @@ recomputed etype key usage cipher front mac empty copied body plain expected n h
       mac_is = hr ∙ ap (λ (k : ℕ). drop (length cipher - k) cipher) hn;
     }
 
--- the plain text without its first 16 octets, as the code leaves it: what is behind them is moved to the front
+-- the plain text without its first 16 bytes, as the code leaves it: the rest is moved to the front
 pub shifted : (plain : List ℕ) (n : ℕ) → length plain ≡ n + 16 → take n (copy_within plain 16 (n + 16) 0) ≡ drop 16 plain
 shifted plain n len =
     let moved : n + 16 - 16 ≡ length (drop 16 plain) = omega (arith, length-drop 16 plain) in

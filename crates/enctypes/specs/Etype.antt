@@ -4,21 +4,21 @@ use Rattle.enctypes.specs.declared.etype.Etype.{Etype}
 use Rattle.enctypes.specs.declared.etype.Etype.TheVariants.{Aes128CtsHmacSha1_96, Aes256CtsHmacSha1_96}
 use Rattle.enctypes.specs.declared.etype.Etype.TheVariants.{Aes128CtsHmacSha256_128, Aes256CtsHmacSha384_192}
 
--- the number that IANA assigned to the type
+-- the number that IANA assigned to the encryption type
 abbrev pub number : Etype → ℤ
 number Aes128CtsHmacSha1_96 = pos 17
 number Aes256CtsHmacSha1_96 = pos 18
 number Aes128CtsHmacSha256_128 = pos 19
 number Aes256CtsHmacSha384_192 = pos 20
 
--- how many octets a protocol key of the type has
+-- the length of a protocol key in bytes
 abbrev pub key_len : Etype → ℕ
 key_len Aes128CtsHmacSha1_96 = 16
 key_len Aes256CtsHmacSha1_96 = 32
 key_len Aes128CtsHmacSha256_128 = 16
 key_len Aes256CtsHmacSha384_192 = 32
 
--- whether both are one type
+-- both are the same encryption type
 abbrev pub is_same : Etype → Etype → Bool
 is_same Aes128CtsHmacSha1_96 Aes128CtsHmacSha1_96 = true
 is_same Aes256CtsHmacSha1_96 Aes256CtsHmacSha1_96 = true
@@ -26,30 +26,29 @@ is_same Aes128CtsHmacSha256_128 Aes128CtsHmacSha256_128 = true
 is_same Aes256CtsHmacSha384_192 Aes256CtsHmacSha384_192 = true
 is_same _ _ = false
 
--- how many octets of HMAC end a sealed text, and a checksum has: RFC 3962, section 7; RFC 8009, section 5
+-- the length of a checksum, and of the HMAC at the end of a sealed text, in bytes: RFC 3962, section 7; RFC 8009,
+-- section 5
 abbrev pub mac_len : Etype → ℕ
 mac_len Aes128CtsHmacSha1_96 = 12
 mac_len Aes256CtsHmacSha1_96 = 12
 mac_len Aes128CtsHmacSha256_128 = 16
 mac_len Aes256CtsHmacSha384_192 = 24
 
--- how many octets the derived keys have under which an HMAC is taken: RFC 3961, section 5.3; RFC 8009,
--- section 3
+-- the length of the derived keys for HMACs, in bytes: RFC 3961, section 5.3; RFC 8009, section 3
 abbrev pub mac_key_len : Etype → ℕ
 mac_key_len Aes128CtsHmacSha1_96 = 16
 mac_key_len Aes256CtsHmacSha1_96 = 32
 mac_key_len Aes128CtsHmacSha256_128 = 16
 mac_key_len Aes256CtsHmacSha384_192 = 24
 
--- the number of the checksum type that goes with the type: RFC 3962, section 7; RFC 8009, section 6
+-- the number of the checksum type for the encryption type: RFC 3962, section 7; RFC 8009, section 6
 abbrev pub checksum_type : Etype → ℤ
 checksum_type Aes128CtsHmacSha1_96 = pos 15
 checksum_type Aes256CtsHmacSha1_96 = pos 16
 checksum_type Aes128CtsHmacSha256_128 = pos 19
 checksum_type Aes256CtsHmacSha384_192 = pos 20
 
--- the count of iterations where string-to-key parameters name none: RFC 3962, section 4; RFC 8009,
--- section 4
+-- the default iteration count of string-to-key: RFC 3962, section 4; RFC 8009, section 4
 abbrev pub default_count : Etype → ℕ
 default_count Aes128CtsHmacSha1_96 = 4096
 default_count Aes256CtsHmacSha1_96 = 4096

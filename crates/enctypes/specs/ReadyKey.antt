@@ -1,4 +1,4 @@
--- Keys that are kept ready for sealing and opening under one usage.
+-- Keys prepared for sealing and opening with one usage.
 use Rattle.std.specs.Prelude.{◌≡◌, ℕ, List}
 use Rattle.prf_kdf.specs.MacKeys.{IsSha1Key, IsSha256Key, IsSha384Key}
 use Rattle.enctypes.specs.declared.etype.Etype.{Etype}
@@ -11,7 +11,7 @@ use Rattle.enctypes.specs.Derivation.{ke, ki}
 use Rattle.enctypes.specs.Key.{ProtocolKey}
 use Rattle.enctypes.specs.KeyUsage.{usage_number}
 
--- the hashers are those of the key, with the hash function of the type
+-- the hashers are those for the key, with the hash function of the encryption type
 abbrev pub IsMacKey : Etype → List ℕ → MacKey → Type 0
 IsMacKey Aes128CtsHmacSha1_96 key (Sha1 hashers) = IsSha1Key hashers key
 IsMacKey Aes256CtsHmacSha1_96 key (Sha1 hashers) = IsSha1Key hashers key
@@ -19,12 +19,12 @@ IsMacKey Aes128CtsHmacSha256_128 key (Sha256 hashers) = IsSha256Key hashers key
 IsMacKey Aes256CtsHmacSha384_192 key (Sha384 hashers) = IsSha384Key hashers key
 IsMacKey _ _ _ = ⊥
 
--- a key that is ready: that key, and what it is used for
+-- a prepared key: that key and its usage
 pub record ReadyKey : Type 0 where
   pub key : ProtocolKey
   pub usage : KeyUsage
 
--- the key of AES is Ke, and that of HMAC is Ki
+-- the AES key is Ke, and the HMAC key is Ki
 pub record IsReady (key : ProtocolKey) (usage : KeyUsage) (cipher : List ℕ) (hashers : MacKey) : Type 0 where
   pub encryption : cipher ≡ ke key.etype key.bytes (usage_number usage)
   pub integrity : IsMacKey key.etype (ki key.etype key.bytes (usage_number usage)) hashers

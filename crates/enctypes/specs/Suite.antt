@@ -1,10 +1,10 @@
--- What the constants of a `Suite` have to be.
+-- The constants that a `Suite` must have.
 use Rattle.std.specs.Prelude.{◌≡◌, ℕ, ℤ, Bool, refl}
 use Rattle.enctypes.specs.declared.etype.Etype.{Etype}
 use Rattle.enctypes.specs.Etype.{key_len, mac_key_len, mac_len, checksum_type, default_count}
 use Rattle.enctypes.specs.Sealing.{macs_cipher}
 
--- the sizes, the order of operations and the numbers of a type
+-- the sizes, the order of operations and the numbers of an encryption type
 pub record HasConstants (etype : Etype) (key_size mac_key_size mac_size : ℕ) (of_cipher : Bool) (sum_type : ℤ)
     (count : ℕ) : Type 0 where
   pub key : key_size ≡ key_len etype

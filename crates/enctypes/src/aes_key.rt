@@ -1,9 +1,9 @@
-//! Keys of AES.
+//! AES keys.
 ghost use Rattle.std.specs.Prelude.{◌≡◌, ◌⊎◌, length};
 
 use aes_cts::AesKey;
 
-/// The AES key of 16 or 32 octets.
+/// Returns the AES key with these bytes, 16 or 32.
 pub fn aes_key(octets: &[u8]) -> AesKey
     requires { (length octets.now ≡ 16) ⊎ (length octets.now ≡ 32) }
     ensures { result ≡ octets.now }

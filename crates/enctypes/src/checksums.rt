@@ -1,4 +1,4 @@
-//! Checksums under a key (RFC 3961, section 5.4; RFC 8009, section 6).
+//! Keyed checksums (RFC 3961, section 5.4; RFC 8009, section 6).
 ghost use Rattle.std.specs.Prelude.{◌≡◌, ◌≤◌, ◌↔◌, IsTrue, length};
 ghost use Rattle.enctypes.specs.Etype.{key_len, mac_len};
 ghost use Rattle.enctypes.specs.KeyUsage.{usage_number};
@@ -11,7 +11,7 @@ use crate::purpose::Purpose;
 use crate::suite::{Suite, with_suite};
 use crate::{Key, KeyUsage, Mac};
 
-/// The checksum of a text, of the checksum type that goes with the key's type. It takes no memory.
+/// Returns the checksum of a text, of the checksum type for the key's encryption type. It doesn't allocate.
 pub fn checksum(key: &Key, usage: KeyUsage, text: &[u8]) -> Mac
     ensures value { result ≡ mac key.now.etype key.now.bytes (usage_number usage) text.now }
     ensures len { length result ≡ mac_len key.now.etype }
@@ -21,7 +21,7 @@ pub fn checksum(key: &Key, usage: KeyUsage, text: &[u8]) -> Mac
     with_suite!(key.etype(), checksum_as(octets, number, text))
 }
 
-/// Whether the octets are the checksum of the text. All of them are compared before it answers.
+/// Checks whether the bytes are the checksum of the text. It always compares all of them.
 pub fn verify(key: &Key, usage: KeyUsage, text: &[u8], octets: &[u8]) -> bool
     ensures { IsTrue result
         ↔ (octets.now ≡ mac key.now.etype key.now.bytes (usage_number usage) text.now) }

@@ -1,4 +1,4 @@
-//! Keys that are derived from a protocol key for one usage.
+//! Keys derived from a protocol key for one usage.
 ghost use Rattle.std.specs.Prelude.{◌≡◌, ◌≤◌, length};
 ghost use Rattle.enctypes.specs.Etype.{key_len};
 ghost use Rattle.enctypes.specs.Derivation.{derived_key, derived_len};
@@ -8,10 +8,10 @@ use crate::purpose::{Purpose, usage_constant};
 use crate::short_octets::ShortOctets;
 use crate::suite::Suite;
 
-/// A key that is derived from a protocol key.
+/// A key derived from a protocol key.
 pub type DerivedKey = ShortOctets<LONGEST>;
 
-/// The key that a protocol key of the type gives for a usage and a purpose.
+/// Derives a key from a protocol key for a usage and a purpose.
 pub fn derived_key<S: Suite>(key: &[u8], usage: u32, purpose: Purpose) -> DerivedKey
     requires { length key.now ≡ key_len S.ETYPE }
     ensures { result ≡ derived_key S.ETYPE key.now usage purpose }
@@ -22,7 +22,7 @@ pub fn derived_key<S: Suite>(key: &[u8], usage: u32, purpose: Purpose) -> Derive
     DerivedKey::new(octets)
 }
 
-// How many octets the key has.
+// Returns the length of the derived key in bytes.
 fn derived_len<S: Suite>(purpose: Purpose) -> usize
     ensures len { result ≡ derived_len S.ETYPE purpose }
     ensures most { result ≤ 32 }

@@ -1,4 +1,4 @@
-//! The four encryption types, by the numbers that IANA assigned to them.
+//! The four supported encryption types, with the numbers that IANA assigned to them.
 ghost use Rattle.std.specs.Prelude.{◌≡◌, ◌≢◌, ◌≤◌, IfSome, IfNone};
 ghost use Rattle.enctypes.specs.Etype.{number, key_len, mac_len, checksum_type, default_count};
 ghost use Rattle.enctypes.specs.Sealing.{macs_cipher};
@@ -19,7 +19,7 @@ pub enum Etype {
 }
 
 impl Etype {
-    /// The number that messages name the type by.
+    /// Returns the encryption type's number in messages.
     pub fn number(self) -> i32
         ensures { result ≡ number self }
     {
@@ -31,7 +31,7 @@ impl Etype {
         }
     }
 
-    /// The type that a message names, if it is one of the four.
+    /// Returns the encryption type with this number, if it is one of the four.
     pub fn from_number(etype: i32) -> Option<Etype>
         ensures named { IfSome result (λ e. number e ≡ etype) }
         ensures none { IfNone result ((e : Etype) → number e ≢ etype) }
@@ -45,14 +45,14 @@ impl Etype {
         }
     }
 
-    /// How many octets a key of the type has: 16 or 32.
+    /// Returns the length of a key in bytes: 16 or 32.
     pub fn key_len(self) -> usize
         ensures { result ≡ key_len self }
     {
         with_suite!(self, KEY_LEN)
     }
 
-    /// How many octets of HMAC end a text sealed under the type, and a checksum of the type has.
+    /// Returns the length of a checksum, and of the HMAC at the end of a sealed text, in bytes.
     pub fn mac_len(self) -> usize
         ensures value { result ≡ mac_len self }
         ensures most { result ≤ 24 }
@@ -60,23 +60,21 @@ impl Etype {
         with_suite!(self, MAC_LEN)
     }
 
-    // Whether the HMAC of a sealed text is that of the cipher, or that of the plain text.
+    // Checks whether the HMAC of a sealed text covers the cipher rather than the plain text.
     pub(crate) fn macs_cipher(self) -> bool
         ensures { result ≡ macs_cipher self }
     {
         with_suite!(self, MACS_CIPHER)
     }
 
-    /// The number of the checksum type that goes with the type (RFC 3962, section 7; RFC 8009,
-    /// section 6).
+    /// Returns the number of the checksum type for the encryption type (RFC 3962, section 7; RFC 8009, section 6).
     pub fn checksum_type(self) -> i32
         ensures { result ≡ checksum_type self }
     {
         with_suite!(self, CHECKSUM_TYPE)
     }
 
-    /// The count of iterations of string-to-key where parameters name none (RFC 3962, section 4;
-    /// RFC 8009, section 4).
+    /// Returns the default iteration count of string-to-key (RFC 3962, section 4; RFC 8009, section 4).
     pub fn default_count(self) -> u32
         ensures value { result ≡ default_count self }
         ensures some { 1 ≤ result }

@@ -8,12 +8,12 @@ use crate::short_octets::ShortOctets;
 use std::fmt;
 use std::marker::Model;
 
-/// The most octets that a protocol key or a derived key has.
+/// The maximum length of a protocol key or a derived key, in bytes.
 pub const LONGEST: usize = 32;
 
-/// A key of one encryption type, with as many octets as the type's keys have.
+/// A key of one encryption type, with the right length for it.
 ///
-/// It is held without memory of its own, so it is copied like a number.
+/// It owns no memory, so it can be copied like a number.
 #[derive(Clone, Copy)]
 pub struct Key {
     etype: Etype,
@@ -36,7 +36,7 @@ impl Model for Key {
 }
 
 impl Key {
-    /// The key with these octets; `None` where their number is not the type's.
+    /// Returns the key with these bytes, or `None` if the length is wrong for the encryption type.
     pub fn new(etype: Etype, octets: &[u8]) -> Option<Key>
         ensures some { IsSome result ↔ (length octets.now ≡ key_len etype) }
         ensures key { IfSome result (λ key. key ≡ record { etype = etype; bytes = octets.now }) }
@@ -47,15 +47,15 @@ impl Key {
         Some(Key::with_octets(etype, octets))
     }
 
-    /// The key of random octets: the first ones, as many as the type's keys have. Random bits are a
-    /// key as they are (RFC 3962, section 6; RFC 8009, section 5).
+    /// Returns the key for random bytes: the first of them, as many as the key has. Random bits are a key as they are
+    /// (RFC 3962, section 6; RFC 8009, section 5).
     pub fn from_random(etype: Etype, octets: &[u8; 32]) -> Key
         ensures { result ≡ record { etype = etype; bytes = take (key_len etype) octets.now } }
     {
         Key::with_octets(etype, &octets[..etype.key_len()])
     }
 
-    // The key with these octets, as many as the type's keys have.
+    // Returns the key with these bytes, of the right length.
     pub(crate) fn with_octets(etype: Etype, octets: &[u8]) -> Key
         requires { length octets.now ≡ key_len etype }
         ensures { result ≡ record { etype = etype; bytes = octets.now } }
@@ -73,7 +73,7 @@ impl Key {
         self.etype
     }
 
-    /// The octets: 16 or 32, as the type says.
+    /// Returns the bytes, 16 or 32 by the encryption type.
     pub fn bytes(&self) -> &[u8]
         ensures bytes { result.now ≡ self.now.bytes }
         ensures len { length result.now ≡ key_len self.now.etype }
@@ -83,7 +83,7 @@ impl Key {
     }
 }
 
-/// The type alone: what is printed ends up in logs, where no key may stand.
+/// Debug output may end up in logs, so it shows only the encryption type.
 impl fmt::Debug for Key {
     fn fmt<W: fmt::Write>(&self, f: &mut fmt::Formatter<W>) -> fmt::Result {
         f.debug_struct("Key")

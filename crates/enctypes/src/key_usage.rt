@@ -1,35 +1,35 @@
-//! What a key is used for: RFC 4120, section 7.5.1.
+//! Key usages: RFC 4120, section 7.5.1.
 ghost use Rattle.std.specs.Prelude.{◌≡◌};
 ghost use Rattle.enctypes.specs.KeyUsage.{usage_number};
 
-/// A use of a key, as this KDC, its clients and its services make of keys. Under each usage a key
-/// has other derived keys, so that the uses are kept apart.
+/// A usage of keys by this KDC, its clients or its services. Each usage has derived keys of its own, which keeps the
+/// usages apart.
 #[derive(Debug, Clone, Copy, PartialEq, Eq)]
 pub enum KeyUsage {
     /// The PA-ENC-TIMESTAMP of an AS-REQ, under the client's key.
     PaEncTimestamp,
-    /// The part of a ticket that its service reads, under the service's key.
+    /// The encrypted part of a ticket, under the service's key.
     Ticket,
-    /// The part of an AS-REP that the client reads, under the client's key.
+    /// The encrypted part of an AS-REP, under the client's key.
     AsRepEncPart,
     /// The checksum in the authenticator of a TGS-REQ, under the ticket's session key.
     TgsReqAuthenticatorChecksum,
     /// The authenticator of a TGS-REQ, under the ticket's session key.
     TgsReqAuthenticator,
-    /// The part of a TGS-REP that the client reads, under the ticket's session key.
+    /// The encrypted part of a TGS-REP, under the ticket's session key.
     TgsRepEncPartSessionKey,
-    /// The same part under the subkey of the request's authenticator.
+    /// The same part, under the subkey of the request's authenticator.
     TgsRepEncPartSubkey,
     /// The checksum in the authenticator of an AP-REQ, under the ticket's session key.
     ApReqAuthenticatorChecksum,
     /// The authenticator of an AP-REQ, under the ticket's session key.
     ApReqAuthenticator,
-    /// The part of an AP-REP that the client reads, under the ticket's session key.
+    /// The encrypted part of an AP-REP, under the ticket's session key.
     ApRepEncPart,
 }
 
 impl KeyUsage {
-    /// The usage number, which keys are derived for.
+    /// Returns the usage number, from which keys are derived.
     pub fn number(self) -> u32
         ensures { result ≡ usage_number self }
     {

@@ -1,19 +1,19 @@
-//! The encryption types of Kerberos that this KDC speaks: their keys, sealed texts and checksums.
-//! Each call gives exactly what its definition in `specs/` does, over the definitions of the crates
-//! `aes_cts` and `prf_kdf`.
+//! The four supported encryption types of Kerberos: keys, encryption with integrity protection, and checksums. Each
+//! call returns exactly what its definition in `specs/` says, over the definitions of the crates `aes_cts` and
+//! `prf_kdf`.
 //!
-//! | call | standard | gives |
+//! | call | standard | returns |
 //! |---|---|---|
-//! | [`Key::new`], [`Key::from_random`] | RFC 3961, section 3 | a key of 16 or 32 octets |
-//! | [`string_to_key`] | RFC 3962, section 4; RFC 8009, section 4 | the key of a password |
-//! | [`seal`] | RFC 3961, section 5.3; RFC 8009, section 5 | a text enciphered, with its HMAC |
-//! | [`open`] | the same | the text again, where the HMAC agrees |
-//! | [`ReadyKey::seal`], [`ReadyKey::open`] | the same | the same, by a key from which nothing more is derived |
+//! | [`Key::new`], [`Key::from_random`] | RFC 3961, section 3 | a key of 16 or 32 bytes |
+//! | [`string_to_key`] | RFC 3962, section 4; RFC 8009, section 4 | the key for a password |
+//! | [`seal`] | RFC 3961, section 5.3; RFC 8009, section 5 | the encrypted text with its HMAC |
+//! | [`open`] | the same | the text again, if the HMAC is right |
+//! | [`ReadyKey::seal`], [`ReadyKey::open`] | the same | the same, with a prepared key |
 //! | [`checksum`], [`verify`] | RFC 3961, section 5.4; RFC 8009, section 6 | the HMAC of a text |
 //!
-//! `open` gives the text where some confounder seals it to this cipher, and no key opens two texts
-//! from one cipher. What `seal` gives is opened by the same key and usage. The calls go by the key's
-//! type; what the types differ in is the trait [`Suite`], with an implementation for each.
+//! `open` returns a text exactly if some confounder seals it to this cipher, and no cipher has two texts with one key.
+//! It opens what `seal` returned for the same key and usage. The calls depend on the key's encryption type. What the
+//! encryption types differ in is the trait [`Suite`], with an impl for each.
 #![tactic(auto)]
 
 mod aes_key;

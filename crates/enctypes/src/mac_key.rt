@@ -1,4 +1,4 @@
-//! HMAC under one key, by the hash function of an encryption type.
+//! HMAC with one key, with the hash function of an encryption type.
 ghost use Rattle.std.specs.Prelude.{◌≡◌, ℕ, List};
 ghost use Rattle.std.specs.List.{flat_map};
 ghost use Rattle.enctypes.specs.declared.etype.Etype as types;
@@ -8,19 +8,19 @@ ghost use Rattle.enctypes.specs.Sealing.{cut_hmac};
 use crate::{Etype, Mac};
 use prf_kdf::{HmacKey, HmacSha1, HmacSha256, HmacSha384};
 
-/// A key for HMACs, which was hashed once for all of them.
+/// A key for HMACs, hashed once for all of them.
 #[derive(Drop)]
 pub enum MacKey {
-    /// That of types 17 and 18.
+    /// For encryption types 17 and 18.
     Sha1(HmacSha1),
-    /// That of type 19.
+    /// For encryption type 19.
     Sha256(HmacSha256),
-    /// That of type 20.
+    /// For encryption type 20.
     Sha384(HmacSha384),
 }
 
 impl MacKey {
-    /// Takes the key in.
+    /// Hashes the key.
     pub fn new(etype: Etype, key: &[u8]) -> MacKey
         ensures { IsMacKey etype key.now result }
     {
@@ -33,7 +33,7 @@ impl MacKey {
         }
     }
 
-    /// The HMAC of the parts, taken one after the other as one text, cut to the type's length.
+    /// Returns the HMAC of the concatenated parts, cut to the encryption type's length.
     pub fn mac(&self, parts: &[&[u8]]) -> Mac
         ensures { (etype : types.Etype) (key : List ℕ) → IsMacKey etype key self.now
             → result ≡ cut_hmac etype key (flat_map (λ part. part.now) parts.now) }

@@ -1,8 +1,8 @@
-//! Comparison of octets that were received with those that were computed.
+//! Compares received bytes with computed ones.
 ghost use Rattle.std.specs.Prelude.{◌≡◌, ◌↔◌, IsTrue};
 
-/// Whether both are the same octets. All are compared before it answers, so that the time taken
-/// says nothing of the place of a difference.
+/// Checks whether both are equal. If their lengths are equal, it always compares all bytes, so that the time doesn't
+/// reveal where they differ.
 pub fn are_same(octets: &[u8], others: &[u8]) -> bool
     ensures { IsTrue result ↔ (octets.now ≡ others.now) }
 {

@@ -1,4 +1,4 @@
-//! Keys of passwords: string-to-key (RFC 3962, section 4; RFC 8009, section 4).
+//! Keys derived from passwords: string-to-key (RFC 3962, section 4; RFC 8009, section 4).
 ghost use Rattle.std.specs.Prelude.{◌≡◌, ◌≤◌, IfOk};
 ghost use Rattle.enctypes.specs.Derivation.{string_key};
 
@@ -7,11 +7,11 @@ use crate::suite::{Suite, with_suite};
 use crate::{Etype, Key};
 use std::alloc::{AllocError, Global};
 
-/// The constant that a password's key is derived for.
+/// The constant from which a password's key is derived.
 const KERBEROS: &[u8; 8] = b"kerberos";
 
-/// The key of a password, with a salt and a count of iterations. For types 19 and 20 it takes
-/// memory once, for the salt with the type's name.
+/// Derives the key for a password, a salt and an iteration count. For encryption types 19 and 20 it allocates once, for
+/// the salt with the name of the encryption type.
 pub fn string_to_key(
     alloc: Global,
     etype: Etype,

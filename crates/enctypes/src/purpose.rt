@@ -1,8 +1,8 @@
-//! What derived keys are for.
+//! The purposes of derived keys.
 ghost use Rattle.std.specs.Prelude.{◌≡◌};
 ghost use Rattle.enctypes.specs.Derivation.{purpose_octet, usage_constant};
 
-/// What a derived key is for (RFC 3961, section 5.3; RFC 8009, section 3).
+/// The purpose of a derived key (RFC 3961, section 5.3; RFC 8009, section 3).
 #[derive(Clone, Copy)]
 pub enum Purpose {
     /// Kc, for checksums.
@@ -25,8 +25,8 @@ impl Purpose {
     }
 }
 
-/// The constant that a key is derived for: the usage as four octets, the most significant first,
-/// and the purpose's octet.
+/// Returns the constant for deriving a key: the usage as four bytes, most significant first, followed by the purpose's
+/// byte.
 #[tactic(auto, unfolding(crate::specs::Derivation::usage_constant))]
 pub fn usage_constant(usage: u32, purpose: Purpose) -> [u8; 5]
     ensures { result ≡ usage_constant usage purpose }

@@ -1,4 +1,4 @@
-//! Keys that are kept ready: what sealing and opening derive of a key, derived once.
+//! Prepared keys: everything that sealing and opening derive from a key, derived once.
 ghost use Rattle.std.specs.Prelude.{◌≡◌, ◌≤◌, ◌<◌, ◌+◌, ◌++◌, ℕ, List, length, option_map, Some, IfOk, IfSome, IfNone};
 ghost use Rattle.std.specs.Prelude.{◌↔◌, All, IsTrue};
 ghost use Rattle.aes_cts.specs.Cts.{cts, cts_inverse};
@@ -24,15 +24,15 @@ use std::alloc::{AllocError, Global};
 use std::fmt;
 use std::marker::Model;
 
-/// The octets of the confounder, which is sealed before the text.
+/// The length of the confounder, which is sealed before the text, in bytes.
 const CONFOUNDER_LEN: usize = 16;
 
 /// The initial cipher state.
 const ZERO_VECTOR: [u8; 16] = [0; 16];
 
-/// A key that is ready for sealing and opening under one usage: it has the schedule of Ke, and Ki hashed.
+/// A key prepared for sealing and opening with one usage: it holds the key schedule of Ke and the hashed Ki.
 ///
-/// Contracts see the key and the usage. It is held without memory of its own.
+/// Contracts see the key and the usage. It owns no memory.
 #[derive(Drop)]
 pub struct ReadyKey {
     key: Key,
@@ -52,7 +52,7 @@ impl Model for ReadyKey {
 }
 
 impl ReadyKey {
-    /// Makes a key ready for a usage.
+    /// Prepares a key for a usage.
     pub fn new(key: &Key, usage: KeyUsage) -> ReadyKey
         ensures ready { result ≡ record { key = key.now; usage = usage } }
         ensures octets { All (λ b. b < 256) key.now.bytes }
@@ -73,7 +73,7 @@ impl ReadyKey {
         self.key.etype()
     }
 
-    /// Whether this is that key for that usage. All octets are compared before it answers.
+    /// Checks whether it is this key, prepared for this usage. It always compares all bytes.
     pub fn is_for(&self, key: &Key, usage: KeyUsage) -> bool
         ensures { IsTrue result ↔ (self.now ≡ record { key = key.now; usage = usage }) }
     {
@@ -82,7 +82,7 @@ impl ReadyKey {
             && are_same(self.key.bytes(), key.bytes())
     }
 
-    /// Seals a text, as `seal` does under this key and usage.
+    /// Seals a text, like `seal` with this key and usage.
     pub fn seal(
         &self,
         alloc: Global,
@@ -109,7 +109,7 @@ impl ReadyKey {
         Ok(sealed)
     }
 
-    /// Opens a sealed text, as `open` does under this key and usage.
+    /// Opens a sealed text, like `open` with this key and usage.
     pub fn open(&self, alloc: Global, cipher: &[u8]) -> Result<Option<Vec<u8>>, AllocError>
         ensures value { IfOk result (λ found. option_map (λ text. text.items) found
             ≡ opened self.now.key.etype self.now.key.bytes (usage_number self.now.usage) cipher.now) }
@@ -137,7 +137,7 @@ impl ReadyKey {
         Ok(Some(text))
     }
 
-    // How many octets of HMAC end what is sealed.
+    // Returns the length of the HMAC at the end of a sealed text, in bytes.
     fn mac_len(&self) -> usize
         ensures value { result ≡ mac_len self.now.key.etype }
         ensures most { result ≤ 24 }
@@ -146,7 +146,7 @@ impl ReadyKey {
         self.key.etype().mac_len()
     }
 
-    // Enciphers confounder and text in place, and gives the HMAC that ends the sealed text.
+    // Encrypts confounder and text in place, and returns the HMAC for the end of the sealed text.
     fn encipher(&self, text: &mut [u8]) -> Mac
         requires { 16 ≤ length text.old }
         ensures value { text.new
@@ -165,7 +165,7 @@ impl ReadyKey {
         }
     }
 
-    // Deciphers confounder and text in place, and gives the HMAC that has to end the sealed text.
+    // Decrypts confounder and text in place, and returns the HMAC that the sealed text must end with.
     fn decipher(&self, text: &mut [u8]) -> Mac
         requires { 16 ≤ length text.old }
         ensures value { text.new
@@ -186,7 +186,7 @@ impl ReadyKey {
     }
 }
 
-/// The type and the usage alone: what is printed ends up in logs, where no key may stand.
+/// Debug output may end up in logs, so it shows only the encryption type and the usage.
 impl fmt::Debug for ReadyKey {
     fn fmt<W: fmt::Write>(&self, f: &mut fmt::Formatter<W>) -> fmt::Result {
         f.debug_struct("ReadyKey")
@@ -196,7 +196,7 @@ impl fmt::Debug for ReadyKey {
     }
 }
 
-// Ke, as a key of AES, and Ki.
+// Derives Ke, as an AES key, and Ki.
 fn sealing_keys<S: Suite>(key: &[u8], usage: u32) -> (AesKey, DerivedKey)
     requires { length key.now ≡ key_len S.ETYPE }
     ensures encryption { result.0 ≡ ke S.ETYPE key.now usage }
@@ -216,7 +216,7 @@ fn sealing_keys<S: Suite>(key: &[u8], usage: u32) -> (AesKey, DerivedKey)
     (aes_key(encryption), DerivedKey::new(integrity))
 }
 
-// The HMAC of confounder and text (RFC 3961, section 5.3).
+// Returns the HMAC of confounder and text (RFC 3961, section 5.3).
 fn mac_of_plain(integrity: &MacKey, text: &[u8]) -> Mac
     ensures { (etype : types.Etype) (key : List ℕ) → IsMacKey etype key integrity.now
         → result ≡ cut_hmac etype key text.now }
@@ -224,7 +224,7 @@ fn mac_of_plain(integrity: &MacKey, text: &[u8]) -> Mac
     integrity.mac(&[text])
 }
 
-// The HMAC of the cipher with the initial cipher state before it (RFC 8009, section 5).
+// Returns the HMAC of the initial cipher state and the cipher (RFC 8009, section 5).
 fn mac_of_cipher(integrity: &MacKey, text: &[u8]) -> Mac
     ensures { (etype : types.Etype) (key : List ℕ) → IsMacKey etype key integrity.now
         → result ≡ cut_hmac etype key (zero_vector ++ text.now) }

@@ -1,4 +1,4 @@
-//! Sealing and opening: encryption with integrity (RFC 3961, section 5.3; RFC 8009, section 5).
+//! Sealing and opening: encryption with integrity protection (RFC 3961, section 5.3; RFC 8009, section 5).
 ghost use Rattle.std.specs.Prelude.{◌≡◌, ◌≤◌, ◌<◌, ◌+◌, length, option_map, Some, IfOk, IfSome, IfNone};
 ghost use Rattle.enctypes.specs.Etype.{mac_len};
 ghost use Rattle.enctypes.specs.KeyUsage.{usage_number};
@@ -8,10 +8,10 @@ ghost use Rattle.enctypes.specs.Sealing.{Opens, OpensNothing, OpensAtMostOne, op
 use crate::{Key, KeyUsage, ReadyKey};
 use std::alloc::{AllocError, Global};
 
-/// Seals a text: enciphers it behind the confounder, and adds the HMAC.
+/// Seals a text: encrypts the confounder and the text, and appends the HMAC.
 ///
-/// The confounder has to be random octets of which nobody else knows. The result is longer than the
-/// text by 16 octets and those of the type's HMAC. It takes memory once, of the result's size.
+/// The confounder must be random bytes that nobody else knows. The result is longer than the text by 16 bytes and the
+/// length of the HMAC. It allocates once, for the result.
 pub fn seal(
     alloc: Global,
     key: &Key,
@@ -32,11 +32,10 @@ pub fn seal(
     ReadyKey::new(key, usage).seal(alloc, confounder, text)
 }
 
-/// Opens a sealed text: `None` where no confounder and text are sealed to this cipher under this key
-/// and usage.
+/// Opens a sealed text. Returns `None` if no confounder and text can be sealed to this cipher with this key and usage.
 ///
-/// It takes memory once, for the confounder and the text. No octet of the text is given out before
-/// all octets of the HMAC have been compared.
+/// It allocates once, for the confounder and the text. It releases no byte of the text before the whole HMAC was
+/// compared.
 #[tactic(auto, using(crate::proofs::OpenedLaws::opens_what_was_sealed, crate::proofs::OpenedLaws::opens_at_most_one))]
 pub fn open(
     alloc: Global,

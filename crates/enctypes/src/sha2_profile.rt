@@ -1,4 +1,4 @@
-//! Types 19 and 20: AES and HMAC-SHA-2 (RFC 8009). They differ in the hash function and in lengths.
+//! Encryption types 19 and 20: AES and HMAC-SHA-2 (RFC 8009). They differ in the hash function and in lengths.
 ghost use Rattle.std.specs.Prelude.{◌≡◌, ◌≤◌, ◌∷◌, ◌++◌, IfOk, length};
 
 use crate::Etype;
@@ -140,7 +140,7 @@ impl Suite for Aes256Sha2 {
     }
 }
 
-/// The salt that PBKDF2 takes (RFC 8009, section 4): the type's name, an octet of zero and the salt.
+/// Returns the salt for PBKDF2 (RFC 8009, section 4): the name of the encryption type, a zero byte and the salt.
 fn salt_with_name(alloc: Global, name: &[u8], salt: &[u8]) -> Result<Vec<u8>, AllocError>
     requires { length name.now ≤ 64 }
     ensures { IfOk result (λ whole. whole.items ≡ name.now ++ 0 ∷ salt.now) }

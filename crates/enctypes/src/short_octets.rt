@@ -1,17 +1,17 @@
-//! Octets that are held without memory of their own.
+//! Short byte strings that own no memory.
 ghost use Rattle.std.specs.Prelude.{◌≡◌, ◌<◌, ◌≤◌, All, length};
 
 use std::marker::Model;
 
-/// At most N octets, copied like a number.
+/// At most N bytes, which can be copied like a number.
 #[derive(Clone, Copy)]
 pub struct ShortOctets<const N: usize> {
-    // followed by zeros
+    // the bytes, followed by zeros
     octets: [u8; N],
     len: usize,
 }
 
-/// A message authentication code, the checksum of RFC 3961, section 4: 12, 16 or 24 octets.
+/// A message authentication code, the checksum of RFC 3961, section 4: 12, 16 or 24 bytes.
 pub type Mac = ShortOctets<24>;
 
 impl<const N: usize> Model for ShortOctets<N> {
@@ -33,7 +33,7 @@ impl<const N: usize> Model for ShortOctets<N> {
 }
 
 impl<const N: usize> ShortOctets<N> {
-    // These octets.
+    // Returns these bytes as a `ShortOctets`.
     pub(crate) fn new(octets: &[u8]) -> Self
         requires { length octets.now ≤ N }
         ensures { result ≡ octets.now }
@@ -46,7 +46,7 @@ impl<const N: usize> ShortOctets<N> {
         }
     }
 
-    /// The octets.
+    /// Returns the bytes.
     pub fn bytes(&self) -> &[u8]
         ensures bytes { result.now ≡ self.now }
         ensures octets { All (λ b. b < 256) self.now }
@@ -55,7 +55,7 @@ impl<const N: usize> ShortOctets<N> {
     }
 }
 
-// The same octets. That each is below 256 is known of a slice, and not of an array behind a view.
+// Returns the same bytes. The proof knows of a slice that each byte is below 256, but not of an array behind a view.
 fn as_octets(octets: &[u8]) -> &[u8]
     ensures value { result.now ≡ octets.now }
     ensures octets { All (λ b. b < 256) octets.now }

@@ -1,5 +1,5 @@
-//! Types 17 and 18: the simplified profile of RFC 3961, section 5, with AES and HMAC-SHA-1, as
-//! RFC 3962 has it. They differ in the key's length alone.
+//! Encryption types 17 and 18: the simplified profile of RFC 3961, section 5, with AES and HMAC-SHA-1 (RFC 3962). They
+//! differ only in the key length.
 ghost use Rattle.std.specs.Prelude.{◌≡◌, ◌≤◌, ◌<◌, ◌⊎◌, length};
 ghost use Rattle.enctypes.specs.Derivation.{dr};
 
@@ -10,7 +10,7 @@ use aes_cts::AesKey;
 use prf_kdf::{n_fold, pbkdf2_sha1};
 use std::alloc::{AllocError, Global};
 
-/// The octets of a block of AES.
+/// The length of an AES block in bytes.
 const BLOCK_LEN: usize = 16;
 
 /// aes128-cts-hmac-sha1-96.
@@ -147,8 +147,8 @@ impl Suite for Aes256Sha1 {
     }
 }
 
-/// Fills `out` with DR of the key and the constant (RFC 3961, section 5.1): the constant folded to a
-/// block, enciphered again and again, the blocks in order.
+/// Fills `out` with DR of the key and the constant (RFC 3961, section 5.1): it folds the constant to a block, encrypts
+/// it again and again, and concatenates the blocks.
 fn derive_random(cipher: &AesKey, constant: &[u8], out: &mut [u8])
     requires { 0 < length constant.now }
     ensures { out.new ≡ dr cipher.now constant.now (length out.old) }

@@ -8,8 +8,7 @@ ghost use Rattle.enctypes.specs.Suite.{HasConstants};
 use crate::Etype;
 use std::alloc::{AllocError, Global};
 
-/// An encryption type: its sizes, and the functions that its keys, checksums and sealed texts are
-/// made by.
+/// An encryption type: its sizes and the functions for its keys, checksums and sealed texts.
 pub trait Suite {
     ghost ETYPE: { Etype };
 
@@ -27,26 +26,25 @@ pub trait Suite {
 
     const ETYPE: Etype;
 
-    /// The octets of a protocol key, and of Ke.
+    /// The length of a protocol key, and of Ke, in bytes.
     const KEY_LEN: usize;
 
-    /// The octets of Kc and of Ki.
+    /// The length of Kc and of Ki in bytes.
     const MAC_KEY_LEN: usize;
 
-    /// The octets of a checksum, and of the HMAC that ends a sealed text.
+    /// The length of a checksum, and of the HMAC at the end of a sealed text, in bytes.
     const MAC_LEN: usize;
 
-    /// Whether the HMAC of a sealed text is that of the cipher, with the vector before it, or that
-    /// of the plain text.
+    /// Whether the HMAC of a sealed text covers the initial vector and the cipher rather than the plain text.
     const MACS_CIPHER: bool;
 
-    /// The number of the checksum type that goes with the type.
+    /// The number of the checksum type for the encryption type.
     const CHECKSUM_TYPE: i32;
 
-    /// The count of iterations where string-to-key parameters name none.
+    /// The default iteration count of string-to-key.
     const DEFAULT_COUNT: u32;
 
-    /// Fills `out` with the octets that a protocol key gives for a constant.
+    /// Fills `out` with the bytes that a protocol key derives from a constant.
     fn derive(key: &[u8], constant: &[u8], out: &mut [u8])
         requires key { length key.now ≡ key_len ETYPE }
         requires constant { 0 < length constant.now }
@@ -54,8 +52,8 @@ pub trait Suite {
         ensures value { out.new ≡ derived ETYPE key.now constant.now (length out.old) }
         ensures len { length out.new ≡ length out.old };
 
-    /// Fills each output with the octets that a protocol key gives for the constant before it, as `derive` does. What
-    /// hangs on the key alone is made once.
+    /// Fills each output with the bytes that a protocol key derives from the constant before it, like `derive`. Work
+    /// that depends only on the key is done once.
     fn derive_both(
         key: &[u8],
         constant: &[u8],
@@ -71,8 +69,7 @@ pub trait Suite {
         ensures value { out.new ≡ derived ETYPE key.now constant.now (length out.old) }
         ensures other_value { other_out.new ≡ derived ETYPE key.now other_constant.now (length other_out.old) };
 
-    /// Fills `out` with the key that PBKDF2 makes of a password, from which string-to-key derives
-    /// the protocol key.
+    /// Fills `out` with the key that PBKDF2 derives from a password; string-to-key derives the protocol key from that.
     fn stretch(
         alloc: Global,
         pass: &[u8],
@@ -89,7 +86,7 @@ pub trait Suite {
         DEFAULT_COUNT };
 }
 
-/// Calls a function for the suite of an encryption type, or takes a constant of that suite.
+/// Calls a function with the suite of an encryption type, or returns a constant of that suite.
 macro_rules! with_suite {
     ($etype:expr, $function:ident($($argument:expr),*)) => {
         match $etype {

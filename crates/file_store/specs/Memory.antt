@@ -10,4 +10,4 @@ file_at [] path = None
 file_at (file ∷ files) path = if bytes_eq (string_bytes file.path) path then Some file.octets.items else file_at files path
 
 abbrev pub world_of : MemoryStore → World
-world_of store = record { files = file_at store.files.items; random = store.random }
+world_of store = record { files = file_at store.files.items; random = store.random; now = store.seconds }

@@ -1,11 +1,12 @@
 -- What a store holds. A store that can't tell has no world, and nothing is said of it.
 use Rattle.std.specs.Prelude.{◌≡◌, ◌≤◌, ℕ, Bool, List, Option, Some, None, IfSome, is_some, if◌then◌else◌, bytes_eq}
-use Rattle.std.specs.Prelude.{length, take}
+use Rattle.std.specs.Prelude.{length, slice_get, take}
 use Rattle.file_store.specs.Inputs.{first_line}
 
 pub record World : Type 0 where
   pub files : List ℕ → Option (List ℕ)  -- what each path has
   pub random : List ℕ  -- what each draw gives
+  pub now : ℕ  -- the second since the start of 1970 at which the clock stands
 
 -- with a file at a path, in place of the one that is there; every other path has what it had
 abbrev pub with_file : List ℕ → List ℕ → World → World
@@ -20,6 +21,17 @@ IsRead world path octets = IfSome world (λ held. held.files path ≡ Some octet
 
 abbrev pub IsDrawn : Option World → List ℕ → Type 0
 IsDrawn world octets = IfSome world (λ held. octets ≡ held.random)
+
+-- the first octet of what a path has: none of an empty file, nor where there is no file
+abbrev pub first_octet : Option (List ℕ) → Option ℕ
+first_octet None = None
+first_octet (Some octets) = slice_get octets 0
+
+abbrev pub IsFirst : Option World → List ℕ → Option ℕ → Type 0
+IsFirst world path octet = IfSome world (λ held. octet ≡ first_octet (held.files path))
+
+abbrev pub IsNow : Option World → ℕ → Type 0
+IsNow world seconds = IfSome world (λ held. seconds ≡ held.now)
 
 -- the first 32 octets of a file, or of a draw where no file is named
 abbrev pub HasSeed : Option World → Option (List ℕ) → List ℕ → Type 0

@@ -4,7 +4,7 @@ ghost use Rattle.std.specs.Prelude.{◌==◌, Option, OnOk, OnErr, Some, option_
 ghost use Rattle.std.specs.List.{position};
 ghost use Rattle.file_store.specs.Counting.{IsShown};
 ghost use Rattle.file_store.specs.Inputs.{first_line};
-ghost use Rattle.file_store.specs.World.{World, with_file, HasFirstLine, HasSeed, IsDrawn, IsRead, IsThere};
+ghost use Rattle.file_store.specs.World.{World, with_file, HasFirstLine, HasSeed, IsDrawn, IsFirst, IsNow, IsRead, IsThere};
 
 use crate::faults::{Amiss, FileFault};
 use crate::store::{LONGEST_FILE, Store};
@@ -83,6 +83,26 @@ pub fn read_at_most<'p, S: Store>(
     }
 }
 
+/// The first octet of the file that a write would replace. `None` if there is none, or it is empty.
+pub fn first_octet<'p, S: Store>(
+    alloc: Global,
+    store: &mut S,
+    path: &'p str,
+) -> Result<Option<u8>, FileFault<'p>>
+    ensures first { IfOk result (λ octet. IsFirst (S.world store.old) path.now octet) }
+    ensures kept { S.world store.new ≡ S.world store.old }
+    ensures named { IfErr result (λ fault. fault.path.now ≡ path.now) }
+    ensures shown { IsShown (S.fault_count store.old) result (S.fault_count store.new) }
+{
+    match store.first_octet(alloc, path) {
+        Ok(octet) => Ok(octet),
+        Err(error) => Err(FileFault {
+            path,
+            amiss: Amiss::Failed(error),
+        }),
+    }
+}
+
 /// Writes a new file, in place of the one that is there. Its owner alone may read and write it. After an `Err` the path
 /// has what it had.
 pub fn write_file<'p, S: Store>(
@@ -148,6 +168,7 @@ pub fn lock_file<'p, S: Store>(
 
 /// The whole seconds since the start of 1970.
 pub fn read_clock<S: Store>(store: &mut S) -> Result<u64, FileFault<'static>>
+    ensures now { IfOk result (λ seconds. IsNow (S.world store.old) seconds) }
     ensures kept { S.world store.new ≡ S.world store.old }
     ensures shown { IsShown (S.fault_count store.old) result (S.fault_count store.new) }
 {

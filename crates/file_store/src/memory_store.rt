@@ -1,7 +1,7 @@
 //! Files, random octets and an input in memory, for tests.
 ghost use Rattle.std.specs.Prelude.{◌≡◌, ◌≤◌, Some, IfOk, OnOk, OnErr, IfSome, vec_len, option_map, is_some};
 ghost use Rattle.file_store.specs.Memory.{file_at, world_of};
-ghost use Rattle.file_store.specs.World.{with_file};
+ghost use Rattle.file_store.specs.World.{first_octet, with_file};
 
 use crate::counting::counted;
 use crate::inputs::line_of;
@@ -71,6 +71,13 @@ impl MemoryStore {
             }
         }
         None
+    }
+
+    /// Removes a file. Returns whether it was there.
+    pub fn remove_file(&mut self, path: &str) -> bool {
+        let before = self.files.len();
+        self.files.retain(|file| file.path.as_str() != path);
+        self.files.len() < before
     }
 
     /// Makes a file of these octets, in place of the one that is there.
@@ -165,6 +172,18 @@ impl MemoryStore {
         }
     }
 
+    fn read_first(&mut self, path: &str) -> io::Result<Option<u8>>
+        ensures first { IfOk result (λ octet. octet ≡ first_octet ((world_of self.old).files path.now)) }
+        ensures world { world_of self.new ≡ world_of self.old }
+        ensures faults { self.new.faults ≡ self.old.faults }
+    {
+        self.call()?;
+        match self.get(path) {
+            Some(octets) => Ok(octets.first().copied()),
+            None => Ok(None),
+        }
+    }
+
     fn find_lock(&mut self) -> io::Result<bool>
         ensures world { world_of self.new ≡ world_of self.old }
         ensures faults { self.new.faults ≡ self.old.faults }
@@ -174,6 +193,7 @@ impl MemoryStore {
     }
 
     fn read_clock(&mut self) -> io::Result<u64>
+        ensures now { IfOk result (λ seconds. seconds ≡ (world_of self.old).now) }
         ensures world { world_of self.new ≡ world_of self.old }
         ensures faults { self.new.faults ≡ self.old.faults }
     {
@@ -247,6 +267,12 @@ impl Store for MemoryStore {
 
     fn read(&mut self, alloc: Global, path: &str, most: usize) -> io::Result<Option<Vec<u8>>> {
         let read = self.copy(alloc, path, most);
+        self.faults = counted(self.faults, &read);
+        read
+    }
+
+    fn first_octet(&mut self, _alloc: Global, path: &str) -> io::Result<Option<u8>> {
+        let read = self.read_first(path);
         self.faults = counted(self.faults, &read);
         read
     }

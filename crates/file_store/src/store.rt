@@ -1,7 +1,7 @@
 //! What a program takes from its system.
 ghost use Rattle.std.specs.Prelude.{◌≡◌, ◌≤◌, ℕ, Option, IfOk, OnOk, OnErr, IfSome, vec_len, option_map};
 ghost use Rattle.file_store.specs.Counting.{IsCounted};
-ghost use Rattle.file_store.specs.World.{World, with_file, IsThere, IsRead, IsDrawn};
+ghost use Rattle.file_store.specs.World.{World, with_file, IsThere, IsRead, IsDrawn, IsFirst, IsNow};
 
 use std::alloc::Global;
 use std::io;
@@ -28,6 +28,13 @@ pub trait Store {
     fn read(&mut self, alloc: Global, path: &str, most: usize) -> io::Result<Option<Vec<u8>>>
         ensures within { IfOk result (λ found. IfSome found (λ octets. vec_len octets ≤ most)) }
         ensures read { IfOk result (λ found. IfSome found (λ octets. IsRead (world self.old) path.now octets.items)) }
+        ensures kept { world self.new ≡ world self.old }
+        ensures counted { IsCounted (fault_count self.old) result (fault_count self.new) };
+
+    /// Reads the first octet of the file that a write would replace. `None` if there is none, or it is empty. A device or
+    /// a folder is an `Err`, since neither is replaced.
+    fn first_octet(&mut self, alloc: Global, path: &str) -> io::Result<Option<u8>>
+        ensures first { IfOk result (λ octet. IsFirst (world self.old) path.now octet) }
         ensures kept { world self.new ≡ world self.old }
         ensures counted { IsCounted (fault_count self.old) result (fault_count self.new) };
 
@@ -58,6 +65,7 @@ pub trait Store {
 
     /// The whole seconds since the start of 1970.
     fn seconds(&mut self) -> io::Result<u64>
+        ensures now { IfOk result (λ seconds. IsNow (world self.old) seconds) }
         ensures kept { world self.new ≡ world self.old }
         ensures counted { IsCounted (fault_count self.old) result (fault_count self.new) };
 

@@ -70,6 +70,11 @@ impl<'a, R: Files> FileStore<'a, R> {
         }
     }
 
+    /// The runtime that it reaches.
+    pub fn files(&self) -> &'a R {
+        self.files
+    }
+
     /// What is at a path, or `None` if it is free. A device or a folder is an `Err`, since neither is replaced.
     fn there(&self, path: &str) -> io::Result<Option<Metadata>> {
         match fs::metadata(self.files, path) {
@@ -78,6 +83,18 @@ impl<'a, R: Files> FileStore<'a, R> {
             Err(error) if error.kind() == ErrorKind::NotFound => Ok(None),
             Err(error) => Err(error),
         }
+    }
+
+    /// The first octet of a file, if it has one.
+    fn read_first(&self, alloc: Global, path: &str) -> io::Result<Option<u8>> {
+        if self.there(path)?.is_none() {
+            return Ok(None);
+        }
+        let mut octets = Vec::new(alloc);
+        File::open(self.files, path)?
+            .take(1)
+            .read_to_end(&mut octets)?;
+        Ok(octets.first().copied())
     }
 
     /// The whole of a file, or `None` where it has more than so many octets.
@@ -284,6 +301,12 @@ where
 
     fn read(&mut self, alloc: Global, path: &str, most: usize) -> io::Result<Option<Vec<u8>>> {
         let read = self.read_whole(alloc, path, most);
+        self.faults = counted(self.faults, &read);
+        read
+    }
+
+    fn first_octet(&mut self, alloc: Global, path: &str) -> io::Result<Option<u8>> {
+        let read = self.read_first(alloc, path);
         self.faults = counted(self.faults, &read);
         read
     }

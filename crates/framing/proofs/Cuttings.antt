@@ -18,18 +18,18 @@ cut-nil : (n g : ℕ) → cut n g [] ≡ only_rest [] None
 cut-nil zero g = refl
 cut-nil (suc n) g = rw (front_nil g) refl
 
--- what follows a message is shorter
+-- the rest after a message is shorter
 pub shorter : (g : ℕ) (b m : List ℕ) (n : ℕ) → front g b ≡ Ok (Some m) → length b ≤ suc n → length (drop (4 + length m) b) ≤ n
 shorter g b m n e h = omega (arith, length-drop (4 + length m) b, message_within g b m e)
 
--- two ways to cut that agree on what follows
+-- two cuttings that agree on the rest agree
 agree : (g : ℕ) (b : List ℕ) (f h : List ℕ → Cutting) (at : Front) → front g b ≡ at → ((m : List ℕ) → front g b ≡ Ok (Some m) → f (drop (4 + length m) b) ≡ h (drop (4 + length m) b))
     → cut_at b (front g b) f ≡ cut_at b (front g b) h
 agree g b f h (Ok (Some m)) e same = rw e (ap (message_then m) (same m e))
 agree g b f h (Ok None) e same = rw e refl
 agree g b f h (Err fault) e same = rw e refl
 
--- with steps enough, their number doesn't matter
+-- with enough steps, their number doesn't matter
 enough : (n k g : ℕ) (b : List ℕ) → length b ≤ n → length b ≤ k → cut n g b ≡ cut k g b
 enough zero zero g b hn hk = refl
 enough zero (suc k) g b hn hk = rw (nil_from_length b (omega (arith, hn))) (sym (cut-nil (suc k) g))

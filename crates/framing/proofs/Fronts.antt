@@ -1,4 +1,4 @@
--- What stands at the front of a stream, and of a longer one.
+-- The front of a stream, and of a longer one.
 use Rattle.std.proofs.Common.{◌≡◌, ℕ, ◌+◌, ◌<◌, ◌≤◌, Bool, true, false, cond, List, ◌++◌, length, take, drop, Option, Some, None, Ok, Err, refl, sym, ap, ◌∙◌, arith, length-append, length-drop, get_or, append_assoc}
 use Rattle.std.specs.Prelude.{nat_lt, nat_le}
 use Rattle.std.specs.Int.{w32, from_be_bytes}
@@ -56,7 +56,7 @@ message_within g b m e =
     let p = passes g b m e in
     omega (arith, message_length g b m p, length-drop 4 b, p.there, p.four)
 
--- what comes later doesn't change a message
+-- later bytes don't change a message
 pub front_more : (g : ℕ) (b m more : List ℕ) → front g b ≡ Ok (Some m) → front g (b ++ more) ≡ Ok (Some m)
 front_more g b m more e =
     let p = passes g b m e in
@@ -79,7 +79,7 @@ fault_tests true r x y fault e = e
 fault_tests false true x y fault e = e
 fault_tests false false x y fault e = absurd cc
 
--- nor a fault
+-- or an error
 pub fault_more : (g : ℕ) (b more : List ℕ) (fault : FrameFault) → front g b ≡ Err fault → front g (b ++ more) ≡ Err fault
 unfolding front
 fault_more g b more fault e =
@@ -89,7 +89,7 @@ fault_more g b more fault e =
     rw (le-ltb (length (b ++ more)) 4 (omega (arith, length-append b more, four)), take-append-le 4 b more four, drop-append-le 4 b more four)
     (fault_tests (nat_le high_bit n) (nat_lt g n) _ _ fault t.1)
 
--- Messages behind their lengths.
+-- Messages after their lengths.
 
 length-length_octets : (n : ℕ) → length (length_octets n) ≡ 4
 unfolding length_octets
@@ -121,7 +121,7 @@ behind g p m more four says h =
       is = rw (first, others, says) (take_at m more (length m) refl);
     }
 
--- a message that is framed stands at the front
+-- a framed message is the front
 pub front-framed : (g : ℕ) (m more : List ℕ) → IsMessage g m → front g (framed m ++ more) ≡ Ok (Some m)
 front-framed g m more h =
     rw (append_assoc (length_octets (length m)) m more)
@@ -130,7 +130,7 @@ front-framed g m more h =
 pub drop-framed : (m more : List ℕ) → drop (4 + length m) (framed m ++ more) ≡ more
 drop-framed m more = drop_at (framed m) more (4 + length m) (length-append (length_octets (length m)) m ∙ ap (λ n. n + length m) (length-length_octets (length m)))
 
--- what stands before the rest is the message behind its length
+-- what precedes the rest is the message after its length
 pub framed_then : (g : ℕ) (b m : List ℕ) → All (λ octet. octet < 256) b → front g b ≡ Ok (Some m) → (b ≡ framed m ++ drop (4 + length m) b) × IsMessage g m
 framed_then g b m octets e =
     let p = passes g b m e in

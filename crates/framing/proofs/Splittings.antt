@@ -10,11 +10,11 @@ use Rattle.framing.specs.Pieces.{IsSameInPieces, IsSameInTwo, left_after_pieces,
 use Rattle.framing.proofs.Fronts.{message_within, front_more, fault_more}
 use Rattle.framing.proofs.Cuttings.{front_nil, messages-ending, messages-message, shorter}
 
--- a splitter that has handed out what is cut
+-- a splitter that has returned the messages of this cutting
 at_end : ℕ → Cutting → Splitting
 at_end g c = record { greatest = g; bytes = c.rest; fault = c.fault }
 
--- What is fed to it goes on from this cutting to a longer stream's.
+-- Feeding it continues this cutting to that of a longer stream.
 record GoesOn (g : ℕ) (c longer : Cutting) (more : List ℕ) : Type 0 where
   pub same_messages : longer.messages ≡ c.messages ++ (handed_out (fed (at_end g c) more)).messages
   pub same_fault : longer.fault ≡ (handed_out (fed (at_end g c) more)).fault
@@ -44,7 +44,7 @@ goes_on (suc n) g b more h = at_front (front g b) refl (λ m e. goes_on n g (dro
   at_front (Ok None) e others = rw (messages-ending g b None e) (behind_rest g b more)
   at_front (Err fault) e others = rw (messages-ending g b (Some fault) e, messages-ending g (b ++ more) (Some fault) (fault_more g b more fault e)) (behind_fault g b more fault)
 
--- A piece in two.
+-- One piece in two parts.
 
 left_by : (o : Option FrameFault) (g : ℕ) (c longer : Cutting) (more : List ℕ) → c.fault ≡ o → GoesOn g c longer more → c.fault ≡ None → at_end g longer ≡ left (fed (at_end g c) more)
 unfolding at_end
@@ -110,7 +110,7 @@ same_in_pieces g pieces =
     let settled : IsSettled (started g) = messages-ending g [] None (front_nil g) in
     record { same_messages = same_messages (started g) pieces settled; same_fault = same_fault (started g) pieces settled }
 
--- What is returned next, where no fault was returned before.
+-- What is returned next, if no error was returned before.
 
 pub hands_message : (s t : Splitting) (m : List ℕ) → s.fault ≡ None → front s.greatest s.bytes ≡ Ok (Some m) → t ≡ record s { bytes = drop (4 + length m) s.bytes } → handed_out s ≡ message_then m (handed_out t)
 hands_message s t m none e is = rw (is, none) (messages-message s.greatest s.bytes m e)

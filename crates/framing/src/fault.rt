@@ -1,4 +1,4 @@
-//! Why a stream has no next message.
+//! Errors of a stream of messages.
 ghost use Rattle.std.specs.Prelude.{◌≡◌};
 ghost use Rattle.framing.specs.declared.fault.FrameFault.TheVariants.{Memory};
 
@@ -6,15 +6,14 @@ use std::alloc::AllocError;
 use std::error::Error;
 use std::fmt;
 
-/// Why a stream has no next message. The first two are faults of the length that stands in its place, and end the
-/// stream.
+/// Why a stream returns no next message. After the first two, which are bad lengths, the stream is unusable.
 #[derive(Clone, Copy, Debug, PartialEq, Eq)]
 pub enum FrameFault {
-    /// The first bit of the length is set. It is reserved.
+    /// The first bit of the length is set, which is reserved.
     HighBit,
-    /// The length is above the greatest that is taken.
+    /// The length is above the maximum.
     TooLong,
-    /// There is no memory for the message. It stays on the stream.
+    /// Out of memory for the message. It stays on the stream.
     Memory,
 }
 

@@ -1,6 +1,6 @@
-//! Messages on a stream, as over TCP (RFC 4120, section 7.2.2): four octets of length, the most significant first,
-//! and then the message. A `Splitter` takes a stream in, in whatever pieces it comes, and hands out its messages;
-//! `frame` and `prefix` write them.
+//! Messages on a stream, as over TCP (RFC 4120, section 7.2.2): a length of four bytes, most significant first,
+//! followed by the message. A `Splitter` takes a stream in pieces of any size and returns its messages. `frame` and
+//! `prefix` write them.
 #![tactic(auto)]
 
 mod fault;

@@ -1,4 +1,4 @@
-//! A stream that is cut into its messages as it comes.
+//! Cuts a stream into messages as it comes in.
 ghost use Rattle.std.specs.Prelude.{◌≡◌, ◌≢◌, [], None, Some, Ok, Err, IfOk, IfErr, IfSome, OnOk, OnErr};
 ghost use Rattle.framing.specs.Messages.{message_then, only_rest};
 ghost use Rattle.framing.specs.Splitting.{fed, handed_out, left, started};
@@ -9,14 +9,14 @@ use crate::front::{PREFIX, first_message};
 use std::alloc::{AllocError, Global};
 use std::marker::Model;
 
-/// The octets of one stream that came and were not yet handed out as messages, and the fault that ended it, if any.
+/// The bytes of a stream that were not yet returned as messages, and the error that ended the stream, if any.
 #[derive(Drop)]
 pub struct Splitter {
     greatest: u32,
     bytes: Vec<u8>,
-    /// Where the octets begin that were not yet handed out.
+    /// Where the bytes start that were not yet returned.
     start: usize,
-    /// The fault that was returned, if any. It is never `Memory`.
+    /// The error that was returned, if any. It is never `Memory`.
     fault: Option<FrameFault>,
 }
 
@@ -33,7 +33,7 @@ impl Model for Splitter {
 }
 
 impl Splitter {
-    /// A stream of which nothing has come, of messages of at most `greatest` octets. It takes no memory yet.
+    /// Returns a splitter for a new stream with messages of at most `greatest` bytes. It allocates nothing yet.
     pub fn new(alloc: Global, greatest: u32) -> Splitter
         ensures { result ≡ started greatest }
     {
@@ -45,7 +45,7 @@ impl Splitter {
         }
     }
 
-    /// Adds the next piece of the stream, or nothing after a fault. An `Err` changes nothing.
+    /// Adds the next piece of the stream. After an error it adds nothing. An `Err` changes nothing.
     pub fn feed(&mut self, piece: &[u8]) -> Result<(), AllocError>
         ensures ok { OnOk result (self.new ≡ fed self.old piece.now) }
         ensures err { OnErr result (self.new ≡ self.old) }
@@ -57,15 +57,15 @@ impl Splitter {
         self.bytes.extend_from_slice(piece)
     }
 
-    /// The octets that were not yet handed out.
+    /// Returns the bytes that were not yet returned.
     fn waiting(&self) -> &[u8]
         ensures { result.now ≡ self.now.bytes }
     {
         &self.bytes[self.start..]
     }
 
-    /// Drops what was handed out from the front, once it is no less than what has to move. So no more octets are moved
-    /// in all than are handed out.
+    /// Removes the returned bytes from the front, if they are at least as many as the rest, which has to move. So in
+    /// total no more bytes are moved than returned.
     fn compact(&mut self)
         ensures { self.new ≡ self.old }
     {
@@ -83,17 +83,17 @@ impl Splitter {
         // A message is the first of those that are there.
         ensures message { IfOk result (λ found. IfSome found
             (λ message. handed_out self.old ≡ message_then message.items (handed_out self.new))) }
-        // Without one, the octets are less than a message, and stay.
+        // Without one, the bytes are less than a message, and stay.
         ensures rest { result ≡ Ok None → handed_out self.old ≡ only_rest self.old.bytes None }
         ensures none { result ≡ Ok None → self.new ≡ self.old }
-        // What is left in the end stays the same. Without a message it stands there.
+        // Returning a message doesn't change what is left in the end. Without a message, that is the current state.
         ensures left { IfOk result (λ _. left self.new ≡ left self.old) }
         ensures settled { result ≡ Ok None → self.new ≡ left self.old }
 
         ensures fault { IfErr result (λ fault. fault ≢ Memory
             → handed_out self.old ≡ only_rest self.old.bytes (Some fault)) }
         ensures again { IfErr result (λ fault. fault ≢ Memory → self.new ≡ record self.old { fault = Some fault }) }
-        // Memory is wanted for a message alone.
+        // Memory can run out only if there is a message.
         ensures memory { result ≡ Err Memory → self.new ≡ self.old }
         ensures wanted { result ≡ Err Memory → (handed_out self.old).messages ≢ [] }
     {

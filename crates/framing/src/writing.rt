@@ -1,10 +1,10 @@
-//! A message as it stands on a stream.
+//! Writes messages to a stream.
 ghost use Rattle.std.specs.Prelude.{◌≡◌, ◌<◌, length, IfOk};
 ghost use Rattle.framing.specs.Stream.{framed, high_bit, length_octets};
 
 use std::alloc::{AllocError, Global};
 
-/// The four octets that stand before a message of `len` octets.
+/// Returns the four bytes of the length of a message with `len` bytes.
 #[tactic(auto, unfolding(crate::specs::Stream::length_octets))]
 pub fn prefix(len: u32) -> [u8; 4]
     requires { len < high_bit }
@@ -13,7 +13,7 @@ pub fn prefix(len: u32) -> [u8; 4]
     len.to_be_bytes()
 }
 
-/// The message with the octets of its length before it.
+/// Returns the message with its length before it.
 #[tactic(auto, unfolding(crate::specs::Stream::length_octets))]
 pub fn frame(alloc: Global, message: &[u8]) -> Result<Vec<u8>, AllocError>
     requires { length message.now < high_bit }

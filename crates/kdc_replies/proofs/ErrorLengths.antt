@@ -1,4 +1,4 @@
--- An error that was made of a name, however that came, is short enough to be written.
+-- An error made with a name from anywhere is short enough to be written.
 use Rattle.std.proofs.Common.{◌≡◌, ℕ, ◌^◌, ◌<◌, ◌≤◌, List, length, Option, Some, sym, ap, subst, ◌∙◌}
 use Rattle.std.specs.Prelude.{IfSome}
 use Rattle.std.specs.Option.{unwrap_or}
@@ -10,7 +10,7 @@ use Rattle.principals.specs.Database.{granter_name}
 use Rattle.kdc_replies.specs.ErrorReply.{error_reply}
 use Rattle.kdc_replies.specs.LengthLaws.{error_short}
 
--- the name that is used is the one asked for, or the ticket-granting service's
+-- the name in the error is the requested one, or the ticket-granting service's
 pub made_is : (realm : List ℕ) (at : Moment) (code : Code) (sname : Option Name) (e_data : Option (List ℕ)) (used : Name) (error : KrbError)
     → error ≡ error_reply realm at code (Some used) e_data → used ≡ unwrap_or sname (granter_name realm)
     → error ≡ error_reply realm at code sname e_data

@@ -1,4 +1,4 @@
--- The first element of a list that is written.
+-- The first element of a list that is being written.
 use Rattle.std.proofs.Common.{◌≡◌, ℕ, ◌^◌, ◌<◌, List, ◌∷◌, length, subst, arith}
 use Rattle.std.proofs.lemmas.List.{length-append}
 use Rattle.krb_der.specs.Spelling.{tlv}

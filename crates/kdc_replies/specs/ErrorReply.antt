@@ -1,4 +1,4 @@
--- The errors that a key distribution centre answers with.
+-- The KDC's error replies.
 use Rattle.std.specs.Prelude.{ℕ, List, Option, None}
 use Rattle.std.specs.Option.{unwrap_or}
 use Rattle.krb_fields.specs.declared.code.Code.{Code}
@@ -10,8 +10,8 @@ use Rattle.krb_types.specs.KrbError.{KrbError}
 use Rattle.krb_types.specs.ReqBody.{ReqBody}
 use Rattle.principals.specs.Database.{granter_name}
 
--- KRB-ERROR (RFC 4120, section 5.9.1): the moment, the code, our realm, the service asked for, else the ticket-granting
--- service, and what goes with the code
+-- KRB-ERROR (RFC 4120, section 5.9.1): the moment, the code, this realm, the requested service or else the
+-- ticket-granting service, and the data for the code
 abbrev pub error_reply : List ℕ → Moment → Code → Option Name → Option (List ℕ) → KrbError
 error_reply realm at code sname e_data = record {
   ctime = None;
@@ -27,6 +27,6 @@ error_reply realm at code sname e_data = record {
   e_data = e_data;
 }
 
--- in place of a reply that is too long for its room
+-- sent instead of a reply that doesn't fit
 abbrev pub too_big : List ℕ → Moment → ReqBody → KrbError
 too_big realm at body = error_reply realm at KrbErrResponseTooBig body.sname None

@@ -1,4 +1,4 @@
--- What is granted, as it stands in the ticket and in the part of the reply that the client reads (RFC 4120, sections
+-- What is granted, as it stands in the ticket and in the part of the reply that the client decrypts (RFC 4120, sections
 -- 5.3 and 5.4.2).
 use Rattle.std.specs.Prelude.{ℕ, ℤ, pos, ◌<◌, ◌≤◌, IfSome, List, [], ◌∷◌, length, take, Some, None}
 use Rattle.enctypes.specs.declared.key.Key.{Key}
@@ -12,14 +12,14 @@ use Rattle.krb_parts.specs.EncTicketPart.{EncTicketPart}
 use Rattle.sealed_parts.specs.Keys.{key_part}
 use Rattle.kdc_replies.specs.declared.grant.Grant.{Grant}
 
--- A realm and names that have rows: what is written of them is short. What is repeated of a ticket came in a request.
+-- A realm and names that have rows, whose encodings are short. What is copied from a ticket came in a request.
 pub record IsShort (grant : Grant) : Type 0 where
   pub realm : length grant.realm ≤ 255
   pub client : IsWithinLimits grant.client.components
   pub service : IsWithinLimits grant.service.components
   pub authorization : IfSome grant.authorization_data (λ list. length ((list_of typed).text list) < 2147483648)
 
--- random octets are a key as they are: the first of them, as many as the type's keys have
+-- the first random bytes, as many as a key of the encryption type has, unchanged
 abbrev pub session_key : Etype → List ℕ → Key
 session_key etype random = record { etype = etype; bytes = take (key_len etype) (take 32 random) }
 
@@ -42,7 +42,7 @@ ticket_part grant = record {
   authorization_data = grant.authorization_data;
 }
 
--- `nonce` is the request's, and `now` the moment's second
+-- `nonce` is the request's, and `now` is the second of the answer
 abbrev pub reply_part : Grant → ℤ → ℤ → EncKdcRepPart
 reply_part grant nonce now = record {
   key = key_part grant.session_key;

@@ -1,4 +1,4 @@
--- The session key of a grant is a key of its type.
+-- The session key of a grant has the length for its encryption type.
 use Rattle.std.proofs.Common.{◌≡◌, ◌≤◌, ℕ, List, length, take, arith, ◌∙◌, ap}
 use Rattle.std.proofs.lemmas.List.{length-take-le, take-take}
 use Rattle.enctypes.specs.Etype.{key_len}

@@ -1,8 +1,8 @@
--- What a ticket was issued with, for the account of a request.
+-- The properties of an issued ticket, for the account of a request.
 use Rattle.kdc_replies.specs.Issue.{Issue}
 use Rattle.kdc_replies.specs.declared.granted.Granted.{Granted}
 
--- the types of its keys, its flags and its times
+-- the encryption types of its keys, its flags and its times
 abbrev pub granted : Issue → Granted
 granted issue = record {
   reply_type = issue.reply_key.key.etype;

@@ -1,8 +1,8 @@
--- A request as it comes to a key distribution centre.
+-- An incoming request.
 use Rattle.std.specs.Prelude.{ℕ, List}
 use Rattle.krb_fields.specs.declared.moment.Moment.{Moment}
 
--- when it comes, the random octets for its answer, the most octets of a reply with a ticket, and its own octets
+-- when it came in, the random bytes for its answer, the maximum length of a reply with a ticket, and its bytes
 pub record Incoming : Type 0 where
   pub at : Moment
   pub random : List ℕ

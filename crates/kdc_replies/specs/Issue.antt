@@ -1,4 +1,4 @@
--- A ticket that is issued with the reply that bears it, and what the reply is to those who have its keys (RFC 4120,
+-- A ticket that is issued with the reply that carries it, and what the reply is to those who have its keys (RFC 4120,
 -- sections 3.1.3 and 3.3.3).
 use Rattle.std.specs.Prelude.{◌≡◌, ◌⊎◌, ℕ, ℤ, List, length, Option, Some}
 use Rattle.enctypes.specs.Etype.{key_len}
@@ -20,7 +20,7 @@ use Rattle.sealed_parts.specs.Encrypted.{decrypted}
 use Rattle.kdc_replies.specs.Grant.{ticket_part, reply_part}
 use Rattle.kdc_replies.specs.Reply.{reply_of, granted_ticket}
 
--- the message type of an exchange's replies, and the tag of their sealed part
+-- the message type of an exchange's replies, and the tag of their encrypted part
 abbrev pub reply_type : Exchange → ℕ
 reply_type As = 11
 reply_type Tgs = 13
@@ -29,8 +29,8 @@ abbrev pub part_tag : Exchange → ℕ
 part_tag As = 25
 part_tag Tgs = 26
 
--- What a reply with a ticket is made of: its exchange, what is granted, the key of the service and the key of the
--- reply, what it repeats of the request, the moment's second, and the random octets.
+-- All that a reply with a ticket is made from: its exchange, the grant, the service's key and the reply key, what it
+-- copies from the request, the second of the answer, and the random bytes.
 pub record Issue : Type 0 where
   pub exchange : Exchange
   pub grant : Grant
@@ -49,15 +49,15 @@ issued_reply i =
 abbrev pub issued_ticket : Issue → Ticket
 issued_ticket i = granted_ticket i.grant i.service_key i.random
 
--- what the reply key opens, and what the service's key opens
+-- what the reply key decrypts, and what the service's key decrypts
 abbrev pub issued_part : Issue → EncKdcRepPart
 issued_part i = reply_part i.grant i.nonce i.now
 
 abbrev pub issued_ticket_part : Issue → EncTicketPart
 issued_ticket_part i = ticket_part i.grant
 
--- These octets are the reply: they spell it, the reply key opens its part, and the service's key its ticket, to what
--- was granted. The session key is one of its type.
+-- These bytes are the reply: they encode it, the reply key decrypts its part and the service's key its ticket, to what
+-- was granted. The session key has the length for its encryption type.
 pub record IsIssued (issue : Issue) (octets : List ℕ) : Type 0 where
   pub spelled : (kdc_rep (reply_type issue.exchange)).Spells (issued_reply issue) octets
   pub client_reads : decrypted (under (part_tag issue.exchange) enc_kdc_rep_part) issue.reply_key.key
@@ -66,10 +66,10 @@ pub record IsIssued (issue : Issue) (octets : List ℕ) : Type 0 where
       (issued_ticket issue).enc_part ≡ Some (issued_ticket_part issue)
   pub session_key : length issue.grant.session_key.bytes ≡ key_len issue.grant.session_key.etype
 
--- these octets are an error
+-- these bytes are an error
 abbrev pub IsError : List ℕ → Type 0
 IsError octets = (error : KrbError) × krb_error.Spells error octets
 
--- the reply, or an error in its place, where it is too long for its room
+-- the reply, or an error instead of a reply that doesn't fit
 abbrev pub IsIssuedOrError : Issue → List ℕ → Type 0
 IsIssuedOrError issue octets = IsIssued issue octets ⊎ IsError octets

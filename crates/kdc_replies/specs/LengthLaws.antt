@@ -1,4 +1,4 @@
--- The messages of short realms and names have encodings.
+-- Messages with short realms and names are short enough to encode.
 use Rattle.std.proofs.Common.{◌≡◌, ℕ, ℤ, ◌^◌, ◌<◌, ◌≤◌, List, length, Option, Some, None, refl, ap, arith}
 use Rattle.std.specs.Prelude.{IfSome}
 use Rattle.krb_elements.specs.Codec.{measured, list_of, octets, string}
@@ -77,7 +77,7 @@ ticket_text grant (Some till) e realm client key few =
       data_short grant.authorization_data few,
     )
 
--- what a ticket holds
+-- the ticket's encrypted part
 pub ticket_part_short : (grant : Grant) → IsShort grant → length grant.session_key.bytes ≤ 32
     → length (enc_ticket_part.text (ticket_part grant)) ≤ 2147490000
 ticket_part_short grant short key =
@@ -104,7 +104,7 @@ reply_text grant nonce now (Some till) e realm service key =
       ap (most_maybe {A = ℤ} (λ z. 15)) e,
     )
 
--- what a reply holds
+-- the reply's encrypted part
 pub reply_text_short : (grant : Grant) (nonce now : ℤ) → IsShort grant → length grant.session_key.bytes ≤ 32
     → length (enc_kdc_rep_part.text (reply_part grant nonce now)) ≤ 6000
 reply_text_short grant nonce now short key =

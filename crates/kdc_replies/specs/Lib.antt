@@ -7,7 +7,7 @@ pub mod Reply
 pub mod Issue
 pub mod Granted
 pub mod Accounts
--- laws that proofs cite: no reader of a contract needs them
+-- laws that proofs cite; readers of a contract don't need them
 pub mod ServiceTermsLaws
 pub mod GrantLaws
 pub mod LengthLaws

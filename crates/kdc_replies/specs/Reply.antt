@@ -1,4 +1,4 @@
--- Replies with a ticket (RFC 4120, section 5.4.2). Of the random octets the last 32 are the two confounders.
+-- Replies with a ticket (RFC 4120, section 5.4.2). The last 32 random bytes are the two confounders.
 use Rattle.std.specs.Prelude.{◌≡◌, ℕ, ℤ, pos, List, take, drop, Option, Some}
 use Rattle.enctypes.specs.declared.key.Key.{Key}
 use Rattle.enctypes.specs.KeyUsage.{usage_number}
@@ -24,7 +24,7 @@ ticket_confounder random = take 16 (drop 32 random)
 abbrev pub reply_confounder : List ℕ → List ℕ
 reply_confounder random = take 16 (drop 48 random)
 
--- Ticket (section 5.3): sealed under the service's key
+-- Ticket (section 5.3), encrypted with the service's key
 abbrev pub granted_ticket : Grant → ServiceKey → List ℕ → Ticket
 granted_ticket grant service random = record {
   tkt_vno = pos 5;
@@ -36,13 +36,13 @@ granted_ticket grant service random = record {
       (ticket_part grant);
 }
 
--- the part in the tag that its exchange gives it
+-- the encrypted part, in the tag of its exchange
 abbrev pub sealed_part : ℕ → Grant → ReplyKey → ℤ → ℤ → List ℕ → EncryptedData
 sealed_part tag grant reply nonce now random =
     encrypted (under tag enc_kdc_rep_part) reply.key (usage_number reply.usage) reply.kvno (reply_confounder random)
     (reply_part grant nonce now)
 
--- the reply of an exchange: `type` is its message type, and `tag` that of its sealed part
+-- the reply of an exchange: `type` is its message type, and `tag` the tag of its encrypted part
 abbrev pub reply_of : (type tag : ℕ) → Grant → ServiceKey → ReplyKey → Option (List PaData) → ℤ → ℤ → List ℕ
     → KdcRep type
 reply_of type tag grant service reply padata nonce now random = record {
@@ -53,11 +53,11 @@ reply_of type tag grant service reply padata nonce now random = record {
   enc_part = sealed_part tag grant reply nonce now random;
 }
 
--- the key by which these octets are sealed is the one that they name, by its type and version, in the row
+-- the key is the one that the encrypted part names, by encryption type and key version, in the row
 abbrev pub NamesKey : Option Row → EncryptedData → Key → Type 0
 NamesKey row sealed key = key_named row sealed.etype sealed.kvno ≡ Some key
 
--- What the two sealed parts hold: the same session key, flags and times.
+-- The two encrypted parts agree on session key, flags and times.
 pub record SayTheSame (part : EncKdcRepPart) (ticket : EncTicketPart) : Type 0 where
   pub key : part.key ≡ ticket.key
   pub flags : part.flags ≡ ticket.flags
@@ -66,8 +66,7 @@ pub record SayTheSame (part : EncKdcRepPart) (ticket : EncTicketPart) : Type 0 w
   pub endtime : part.endtime ≡ ticket.endtime
   pub renew_till : part.renew_till ≡ ticket.renew_till
 
--- The client's key opens its part of the reply to this part, and the service's key the ticket to what it holds, and
--- both hold the same.
+-- The client's key decrypts the reply to `part`, the service's key decrypts the ticket to `ticket`, and the two agree.
 pub record OpensAlike (type tag : ℕ) (reply_key : Key) (usage : ℕ) (service_key : Key) (reply : KdcRep type)
     (part : EncKdcRepPart)
     (ticket : EncTicketPart) : Type 0 where

@@ -1,4 +1,4 @@
--- What the row of a service has for the types that a request asks for.
+-- The keys of a service's row for the encryption types that a request asks for.
 use Rattle.std.specs.Prelude.{ℤ, List, [], ◌∷◌, Option, Some, None}
 use Rattle.enctypes.specs.declared.key.Key.{Key}
 use Rattle.krb_fields.specs.PrincipalName.{Name}
@@ -14,8 +14,8 @@ abbrev pub head_of : {A : Type 0} → List A → Option A
 head_of [] = None
 head_of (x ∷ xs) = Some x
 
--- The session key's type is the first one asked for that the service has; the ticket is sealed under its first current
--- key.
+-- The session key's encryption type is the first requested one for which the service has a key. The ticket is encrypted
+-- with the service's first current key.
 abbrev pub service_terms_by : Name → Row → Option Key → Option Key → Option ServiceTerms
 service_terms_by name row (Some session) (Some first) = Some (record {
   name = name;

@@ -1,4 +1,5 @@
--- What is found in the row of a service bears its name, and its key is the one that a ticket names by type and version.
+-- The terms from a service's row have its name, and their key is the one that a ticket names by encryption type and key
+-- version.
 use Rattle.std.proofs.Common.{◌≡◌, ℤ, pos, List, [], ◌∷◌, Option, Some, None, sym, ap, ◌∙◌}
 use Rattle.std.specs.Option.{unwrap_or}
 use Rattle.enctypes.specs.Etype.{number}
@@ -12,7 +13,7 @@ use Rattle.kdc_replies.specs.ServiceTerms.{current_keys, head_of, service_terms,
 use Rattle.kdc_replies.specs.declared.services.ServiceTerms.{ServiceTerms}
 use Rattle.kdc_replies.specs.declared.tickets.ServiceKey.{ServiceKey}
 
--- the key that a row has for this type and version
+-- the row's key of this encryption type and key version
 abbrev pub IsFoundIn : Row → ServiceKey → Type 0
 IsFoundIn row key = key_by row.versions (number key.key.etype) (Some (pos key.version)) ≡ Some key.key
 

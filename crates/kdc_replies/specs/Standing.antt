@@ -1,4 +1,4 @@
--- What the row of a principal says of its standing.
+-- The standing of a principal by its row.
 use Rattle.std.specs.Prelude.{ℤ, Bool, false, not, int_le, Option, Some, None}
 use Rattle.principal_rows.specs.declared.row.Row.{Row}
 use Rattle.refusals.specs.Optional.{holds_of}
@@ -14,6 +14,6 @@ is_disabled = holds_of (λ row. row.policy.disabled)
 abbrev pub is_expired : Option Row → ℤ → Bool
 is_expired row now = holds_of (λ row. has_come row.policy.expires now) row
 
--- no tickets may be sealed for it
+-- no tickets may be issued for it
 abbrev pub is_service_denied : Option Row → Bool
 is_service_denied = holds_of (λ row. not row.policy.service)

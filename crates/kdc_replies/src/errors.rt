@@ -1,4 +1,4 @@
-//! Replies that refuse: KRB-ERROR (RFC 4120, section 5.9.1).
+//! Replies that refuse a request: KRB-ERROR (RFC 4120, section 5.9.1).
 ghost use Rattle.std.specs.Prelude.{◌≡◌, ◌<◌, ◌≤◌, length, None, IfOk, IfSome};
 ghost use Rattle.std.specs.Option.{option_copied};
 ghost use Rattle.krb_elements.specs.Codec.{written};
@@ -14,10 +14,10 @@ use krb_types::{KrbError, ReqBodyRef};
 use principals::granter_name;
 use std::alloc::{AllocError, Global};
 
-/// An error of a realm that is lent.
+/// An error that borrows its realm.
 type LentError<'r, N> = KrbError<KerberosStringRef<'r>, N, Octets>;
 
-/// The octets of the error with this code, and what goes with it, for who asked for this service.
+/// Returns the bytes of the error with this code and data, for a client that asked for this service.
 pub fn error_reply(
     alloc: Global,
     realm: &[u8],
@@ -43,7 +43,7 @@ pub fn error_reply(
     }
 }
 
-/// The octets of the error in place of a reply that is too long for its room.
+/// Returns the bytes of the error that is sent instead of a reply that doesn't fit.
 pub fn too_big(
     alloc: Global,
     realm: &[u8],
@@ -65,7 +65,7 @@ pub fn too_big(
     )
 }
 
-/// The error, whose realm and name are lent.
+/// Returns the error, which borrows its realm and name.
 fn error_of<'r, N: Coded>(
     realm: &'r [u8],
     at: Moment,

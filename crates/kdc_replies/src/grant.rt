@@ -1,4 +1,4 @@
-//! What a key distribution centre grants.
+//! What the KDC grants.
 ghost use Rattle.std.specs.Prelude.{◌≡◌, ◌≤◌, length, IfOk};
 ghost use Rattle.krb_parts.specs.EncKdcRepPart.{enc_kdc_rep_part};
 ghost use Rattle.krb_parts.specs.EncTicketPart.{enc_ticket_part};
@@ -13,7 +13,7 @@ use sealed_parts::key_part;
 use std::alloc::{AllocError, Global};
 use ticket_times::Times;
 
-/// A session of a client with a service, to which a ticket is issued.
+/// A session of a client with a service, for which a ticket is issued.
 #[derive(Drop)]
 pub struct Grant<'a> {
     /// The realm of both.
@@ -22,23 +22,23 @@ pub struct Grant<'a> {
     pub service: Lent<'a, Name>,
     pub session_key: Key,
     pub flags: Flags,
-    /// When the client was first authenticated.
+    /// When the client first authenticated.
     pub authtime: KTime,
     pub times: Times,
-    /// What the ticket repeats of the one that was presented.
+    /// The authorization data that the new ticket copies from the presented one.
     pub authorization_data: Option<Lent<'a, Seq<Typed>>>,
 }
 
-/// The realm of a grant, lent to a message.
+/// The realm of a grant, borrowed by a message.
 pub type LentRealm<'g, 'a> = Lent<'g, KerberosStringRef<'a>>;
 
-/// A name of a grant, lent to a message.
+/// A name of a grant, borrowed by a message.
 pub type LentName<'g, 'a> = Lent<'g, Lent<'a, Name>>;
 
-/// The authorization data of a grant, lent to a ticket.
+/// The authorization data of a grant, borrowed by a ticket.
 pub type LentData<'g, 'a> = Lent<'g, Lent<'a, Seq<Typed>>>;
 
-/// What a ticket holds, with the parts that the grant lends.
+/// The encrypted part of a ticket, which borrows from the grant.
 pub type LentTicketPart<'g, 'a> = EncTicketPart<
     Typed,
     LentRealm<'g, 'a>,
@@ -46,7 +46,7 @@ pub type LentTicketPart<'g, 'a> = EncTicketPart<
     LentData<'g, 'a>,
 >;
 
-/// What a reply holds, with the parts that the grant lends.
+/// The encrypted part of a reply, which borrows from the grant.
 pub type LentReplyPart<'g, 'a> = EncKdcRepPart<
     Typed,
     Seq<LastReq>,
@@ -55,7 +55,7 @@ pub type LentReplyPart<'g, 'a> = EncKdcRepPart<
 >;
 
 impl<'a> Grant<'a> {
-    /// What the ticket holds under the service's key.
+    /// Returns the part of the ticket that the service's key encrypts.
     #[tactic(auto, using(crate::specs::LengthLaws::ticket_part_short))]
     pub(crate) fn ticket_part<'g>(
         &'g self,
@@ -80,7 +80,7 @@ impl<'a> Grant<'a> {
         })
     }
 
-    /// What the reply holds under the reply key.
+    /// Returns the part of the reply that the reply key encrypts.
     #[tactic(auto, using(crate::specs::LengthLaws::reply_text_short))]
     pub(crate) fn reply_part<'g>(
         &'g self,
@@ -119,7 +119,7 @@ impl<'a> Grant<'a> {
     }
 }
 
-/// Authorization data, lent where there are any.
+/// Borrows authorization data, if there are any.
 fn lent_data<'g, 'a>(entries: &'g Option<Lent<'a, Seq<Typed>>>) -> Option<LentData<'g, 'a>>
     ensures { result ≡ entries.now }
 {
@@ -129,7 +129,7 @@ fn lent_data<'g, 'a>(entries: &'g Option<Lent<'a, Seq<Typed>>>) -> Option<LentDa
     }
 }
 
-/// The realms between the client's and the service's: none (RFC 4120, section 3.3.3.2).
+/// Returns the realms between the client's and the service's: none (RFC 4120, section 3.3.3.2).
 fn no_realms(alloc: Global) -> Typed
     ensures { result ≡ no_realms }
 {

@@ -1,20 +1,20 @@
-//! A request as it comes to a key distribution centre.
+//! An incoming request.
 use krb_fields::Moment;
 use sealed_parts::ReadyKeys;
 use std::marker::Model;
 
-/// A request as it comes in, and what its answer takes beside what is known.
+/// An incoming request, and what its answer needs beside the KDC's state.
 #[derive(Drop)]
 pub struct Incoming<'a> {
-    /// When it comes.
+    /// When it came in.
     pub at: Moment,
-    /// The random octets for its answer: 32 for the session key, and 16 each for the confounders of ticket and reply.
+    /// The random bytes for its answer: 32 for the session key, and 16 each for the confounders of ticket and reply.
     pub random: &'a [u8; 64],
-    /// The most octets of a reply with a ticket.
+    /// The maximum length of a reply with a ticket, in bytes.
     pub room: u32,
-    /// The request's own octets.
+    /// The bytes of the request.
     pub octets: &'a [u8],
-    /// The keys that are kept ready. They save time, and no answer hangs on them: contracts don't see them.
+    /// A cache of recently used keys. It affects speed only, never a reply: contracts don't see it.
     pub ready: &'a ReadyKeys,
 }
 

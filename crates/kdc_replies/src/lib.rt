@@ -1,4 +1,4 @@
-//! What a key distribution centre answers with: errors, and replies with a ticket.
+//! The KDC's replies: errors, and replies with a ticket.
 #![tactic(auto)]
 
 mod errors;

@@ -20,8 +20,7 @@ use krb_replies::{KdcRep, Under};
 use sealed_parts::ReadyKeys;
 use std::alloc::{AllocError, Global};
 
-/// The key under which the client reads its part of a reply, what that use of it is, and its version where the reply
-/// says it.
+/// The key with which the client decrypts its part of a reply, its usage, and its key version if the reply names one.
 #[derive(Clone, Copy)]
 pub struct ReplyKey {
     pub key: Key,
@@ -29,7 +28,7 @@ pub struct ReplyKey {
     pub kvno: Option<UInt32>,
 }
 
-/// What a reply repeats of its request, when it is made, by which random octets, and which keys are ready.
+/// What a reply copies from its request, the time when it is made, the random bytes, and the cache of keys.
 #[derive(Clone, Copy)]
 pub struct ReplyInputs<'r> {
     pub nonce: UInt32,
@@ -38,7 +37,7 @@ pub struct ReplyInputs<'r> {
     pub ready: &'r ReadyKeys,
 }
 
-/// A reply with the realm and the names that its grant lends.
+/// A reply that borrows the realm and the names from its grant.
 type LentReply<'g, 'a, const TYPE: u8> = KdcRep<
     TYPE,
     Seq<PaData>,
@@ -47,8 +46,8 @@ type LentReply<'g, 'a, const TYPE: u8> = KdcRep<
     LentTicket<'g, 'a>,
 >;
 
-/// The octets of the reply with a grant's ticket, of message type `TYPE`, its sealed part in the tag
-/// `[APPLICATION TAG]`. Octets 32 to 48 and 48 to 64 of the random ones are the two confounders.
+/// Returns the bytes of the reply with a grant's ticket. `TYPE` is its message type, and `[APPLICATION TAG]` the tag of
+/// its encrypted part. Random bytes 32 to 48 and 48 to 64 are the two confounders.
 pub fn ticket_reply<const TYPE: u8, const TAG: u8>(
     alloc: Global,
     grant: &Grant<'_>,
@@ -66,7 +65,7 @@ pub fn ticket_reply<const TYPE: u8, const TAG: u8>(
     ensures spelled { IfOk result (λ octets.
         (kdc_rep TYPE).Spells (reply_of TYPE TAG grant.now service.now key.now padata inputs.now.nonce inputs.now.time
         inputs.now.random.now) octets.items) }
-    // The client and the service find the same inside.
+    // The client's key and the service's key decrypt it to the same contents.
     ensures same { IfOk result (λ octets. OpensAlike TYPE TAG key.now.key (usage_number key.now.usage) service.now.key
         (reply_of TYPE TAG grant.now service.now key.now padata inputs.now.nonce inputs.now.time inputs.now.random.now)
         (reply_part grant.now inputs.now.nonce inputs.now.time) (ticket_part grant.now)) }

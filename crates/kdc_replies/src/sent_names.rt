@@ -1,4 +1,4 @@
-//! A name of a request, written again from where it stands.
+//! Writes a name of a request into another message, without copying it first.
 ghost use Rattle.std.specs.Prelude.{◌≡◌, ◌<◌, ◌^◌, ◌++◌, length, OnOk};
 ghost use Rattle.krb_elements.specs.Codec.{list_of, string};
 ghost use Rattle.krb_elements.specs.CodecLaws.{AllFit};
@@ -10,7 +10,7 @@ use krb_fields::{Name, NameRef};
 use std::alloc::AllocError;
 use std::marker::Model;
 
-/// The components of a name where it stands, in their place in a message that is written.
+/// The components of a name in a request, as they are written into another message.
 #[derive(Drop)]
 pub(crate) struct SentComponents<'a> {
     components: SeqRef<'a, KerberosStringRef<'a>>,
@@ -24,7 +24,7 @@ impl<'a> Model for SentComponents<'a> {
     ghost view = { λ s. s.components };
 }
 
-/// The name, to be written again.
+/// Returns the name in a form that can be written again.
 pub(crate) fn sent_name<'a>(name: &NameRef<'a>) -> Name<SentComponents<'a>>
     ensures { result ≡ name.now }
 {
@@ -49,7 +49,7 @@ impl<'a> Encode for SentComponents<'a> {
     }
 }
 
-/// Appends the components one after another.
+/// Appends the components in order.
 fn put_components<'a>(
     out: &mut Writer,
     components: &SeqRef<'a, KerberosStringRef<'a>>,

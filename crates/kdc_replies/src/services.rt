@@ -1,4 +1,4 @@
-//! What the row of a service has for the types that a request asks for.
+//! The keys of a service's row for the encryption types that a request asks for.
 ghost use Rattle.std.specs.Prelude.{◌≡◌, IfOk};
 ghost use Rattle.kdc_replies.specs.ServiceTerms.{service_terms};
 
@@ -10,18 +10,19 @@ use preauth::first_key;
 use principal_rows::{Policy, Row};
 use std::alloc::{AllocError, Global};
 
-/// A service that has a current key of a type asked for.
+/// A service that has a current key of a requested encryption type.
 #[derive(Drop)]
 pub struct ServiceTerms {
     pub name: Name,
     pub policy: Policy,
-    /// The first type asked for that it has a current key of.
+    /// The first requested encryption type for which it has a current key.
     pub session_type: Etype,
-    /// Its first current key, under which the ticket is sealed.
+    /// Its first current key, which encrypts the ticket.
     pub key: ServiceKey,
 }
 
-/// The terms of the service of this name and row; `None` where it has no current key of these types.
+/// Returns the terms of the service with this name and row, or `None` if it has no current key of these encryption
+/// types.
 pub fn service_terms(
     alloc: Global,
     types: &SeqRef<'_, i32>,

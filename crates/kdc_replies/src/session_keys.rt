@@ -4,7 +4,7 @@ ghost use Rattle.kdc_replies.specs.Grant.{session_key};
 
 use enctypes::{Etype, Key};
 
-/// A session key of this type. Random octets are a key as they are: the first ones, as many as the type's keys have.
+/// Returns a session key of this encryption type. It is the first random bytes, as many as the key has, unchanged.
 pub fn session_key(etype: Etype, random: &[u8; 64]) -> Key
     ensures { result ≡ session_key etype random.now }
 {

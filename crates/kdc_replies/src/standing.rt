@@ -1,11 +1,11 @@
-//! What the row of a principal says of its standing, where it has a row.
+//! The standing of a principal by its row, if it has one.
 ghost use Rattle.std.specs.Prelude.{◌≡◌, option_copied};
 ghost use Rattle.kdc_replies.specs.Standing.{has_come, is_disabled, is_expired, is_service_denied};
 
 use krb_fields::{Moment, Second};
 use principal_rows::Row;
 
-/// Whether it is disabled.
+/// Checks whether it is disabled.
 pub fn is_disabled(row: Option<&Row>) -> bool
     ensures { result ≡ is_disabled (option_copied row.entry) }
 {
@@ -15,7 +15,7 @@ pub fn is_disabled(row: Option<&Row>) -> bool
     }
 }
 
-/// Whether it has expired: from the second of its time on.
+/// Checks whether it has expired. It expires at the second of its expiry time.
 pub fn is_expired(row: Option<&Row>, at: Moment) -> bool
     ensures { result ≡ is_expired (option_copied row.entry) at.sec }
 {
@@ -25,7 +25,7 @@ pub fn is_expired(row: Option<&Row>, at: Moment) -> bool
     }
 }
 
-/// Checks whether no tickets may be sealed for it.
+/// Checks whether no tickets may be issued for it.
 pub fn is_service_denied(row: Option<&Row>) -> bool
     ensures { result ≡ is_service_denied (option_copied row.entry) }
 {
@@ -35,7 +35,7 @@ pub fn is_service_denied(row: Option<&Row>) -> bool
     }
 }
 
-/// Whether a time has come, if there is one.
+/// Checks whether a time has come, if there is one.
 pub fn has_come(time: Option<Second>, at: Moment) -> bool
     ensures { result ≡ has_come time at.sec }
 {

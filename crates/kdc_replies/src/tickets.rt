@@ -15,17 +15,17 @@ use krb_types::{PVNO, Ticket};
 use sealed_parts::ReadyKeys;
 use std::alloc::{AllocError, Global};
 
-/// A key of a service, under which its tickets are sealed, and the number of its version.
+/// A key of a service, which encrypts its tickets, and its key version.
 #[derive(Clone, Copy)]
 pub struct ServiceKey {
     pub key: Key,
     pub version: u32,
 }
 
-/// A ticket with the realm and the name that its grant lends.
+/// A ticket that borrows the realm and the name from its grant.
 pub type LentTicket<'g, 'a> = Ticket<LentRealm<'g, 'a>, LentName<'g, 'a>>;
 
-/// The ticket of a grant. Octets 32 to 48 of the random ones are its confounder. Keys that are ready save time.
+/// Returns the ticket of a grant. Random bytes 32 to 48 are its confounder. The cache of keys affects speed only.
 pub fn ticket<'g, 'a>(
     alloc: Global,
     grant: &'g Grant<'a>,
@@ -48,7 +48,7 @@ pub fn ticket<'g, 'a>(
     })
 }
 
-/// What the ticket holds, sealed under the service's key.
+/// Encrypts the ticket's contents with the service's key.
 fn sealed(
     alloc: Global,
     grant: &Grant<'_>,
@@ -75,14 +75,14 @@ fn sealed(
     )
 }
 
-/// The number of a key's version, as a message has it.
+/// Returns a key version as a message has it.
 pub fn version_number(version: u32) -> UInt32
     ensures { result ≡ pos version }
 {
     UInt32::new(i64::from(version)).unwrap()
 }
 
-/// The 16 random octets from this place on.
+/// Returns the 16 random bytes that start at this place.
 pub fn confounder(random: &[u8; 64], place: usize) -> [u8; 16]
     requires { place ≤ 48 }
     ensures { result ≡ take 16 (drop place random.now) }

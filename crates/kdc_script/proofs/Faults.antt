@@ -1,4 +1,4 @@
--- A text of a line that cannot run is that of none that can.
+-- If the line that a text spells cannot run, no line that it spells can.
 use Rattle.std.proofs.Common.{◌≡◌, ◌==◌, ℕ, List, [], ◌∷◌, None, Some, refl, sym, ◌∙◌, codes}
 use Rattle.std.specs.Prelude.{Option}
 use Rattle.std.specs.List.{slice_split}
@@ -12,7 +12,7 @@ use Rattle.kdc_script.specs.Line.{word_of, AreFields, AreLineFields, AreOpenFiel
 use Rattle.kdc_script.specs.Run.{CannotRun}
 use Rattle.kdc_script.proofs.LineTexts.{apart, no_change}
 
--- an opening's realm is the text of a component
+-- the realm of an `open` line is the text of a component
 realm_of_open : (realm : List ℕ) (limits : Limits) (keys : List Key) (texts : List (List ℕ)) → AreOpenFields realm limits keys texts → IsComponent realm
 realm_of_open realm limits keys (a ∷ b ∷ c ∷ d ∷ e ∷ f ∷ g ∷ []) is = is.0.0
 realm_of_open realm limits keys [] is = absurd is
@@ -24,14 +24,14 @@ realm_of_open realm limits keys (a ∷ b ∷ c ∷ d ∷ e ∷ []) is = absurd i
 realm_of_open realm limits keys (a ∷ b ∷ c ∷ d ∷ e ∷ f ∷ []) is = absurd is
 realm_of_open realm limits keys (a ∷ b ∷ c ∷ d ∷ e ∷ f ∷ g ∷ h ∷ rest) is = absurd is
 
--- with a KDC, each line that has fields can run
+-- if a KDC is open, each line with fields can run
 runs_when_open : (kdc : State) (line : Line) (texts : List (List ℕ)) → AreFields line texts → ¬ CannotRun (Some kdc) line
 runs_when_open kdc (Open realm limits keys) texts are cannot = cannot (realm_of_open realm limits keys texts are)
 runs_when_open kdc (Change name what) texts are cannot = cannot
 runs_when_open kdc (Request request) texts are cannot = cannot
 runs_when_open kdc (Restart at) texts are cannot = cannot
 
--- with none, an opening can
+-- otherwise `open` can
 opens : (line : Line) (texts : List (List ℕ)) → AreFields line texts → CannotRun None line → ¬ (word_of line ≡ codes "open")
 opens (Open realm limits keys) texts are cannot is = cannot (realm_of_open realm limits keys texts are)
 opens (Change name what) texts are cannot is = no_change _ refl what (sym is)

@@ -1,4 +1,4 @@
--- Keys and their texts, as they are read one after the other.
+-- Keys and their texts, read one after the other.
 use Rattle.std.proofs.Common.{◌≡◌, ◌==◌, ℕ, zero, suc, ◌+◌, ◌<◌, true, false, refl, ◌⊎◌, inl, inr, List, [], ◌∷◌, ◌++◌, length, get_or, take, sym, ap, subst, ◌∙◌, arith, Result, Ok, Err, IfOk}
 use Rattle.std.specs.List.{slice_split, after_first}
 use Rattle.std.proofs.lemmas.Int.{ints}
@@ -14,7 +14,7 @@ use Rattle.enctypes.specs.declared.key.Key.{Key}
 use Rattle.kdc_script.specs.declared.line.LineFault.{LineFault}
 use Rattle.kdc_script.specs.Field.{IsKeyText, AreKeyTexts, IsKeysText}
 
--- the parts between the commas of a text
+-- the parts of a text between its commas
 abbrev pub parts_of : List ℕ → List (List ℕ)
 parts_of text = slice_split (λ b. b == 0x2C) text
 
@@ -35,12 +35,12 @@ one_more_key ks k text part i so_far within e is =
 pub all_keys : (ks : List Key) (text : List ℕ) (i : ℕ) → AreKeyTexts ks (take i (parts_of text)) → i ≡ length (parts_of text) → AreKeyTexts ks (parts_of text)
 all_keys ks text i so_far end = subst (λ ts. AreKeyTexts ks ts) (take_all i (parts_of text) (omega (arith, end))) so_far
 
--- the list that is handed on is that of the keys
+-- the returned list is that of the keys
 pub same_list : (r : Result (List Key) LineFault) (ks : List Key) (text : List ℕ) → IfOk r (λ list. list ≡ ks) → IfOk r (λ _. has_type_twice ks ≡ false) → AreKeyTexts ks (parts_of text) → IfOk r (λ list. IsKeysText list text)
 same_list (Ok list) ks text e distinct are = subst (λ l. IsKeysText l text) (sym e) (record { parts = are; distinct = distinct })
 same_list (Err fault) ks text e distinct are = tt
 
--- ---- a text is that of one key, and texts are those of one list
+-- ---- a text spells one key, and texts spell one list
 
 number_one : (a b : Etype) → number a ≡ number b → a ≡ b
 number_one Aes128CtsHmacSha1_96 Aes128CtsHmacSha1_96 e = refl
@@ -78,7 +78,7 @@ keys_one [] ls (t ∷ ts) a b = absurd a
 keys_one (k ∷ ks) ls [] a b = absurd a
 keys_one (k ∷ ks) [] (t ∷ ts) a b = absurd b
 
--- where one part is no key's text, the parts are those of no keys
+-- if one part is not a key's text, the parts are not those of any keys
 pub no_keys_at : (ls : List Key) (ts : List (List ℕ)) (i : ℕ) (d : List ℕ) → i < length ts → ((k : Key) → ¬ IsKeyText k (get_or ts i d)) → ¬ AreKeyTexts ls ts
 no_keys_at ls [] i d within none are = omega (arith, within)
 no_keys_at [] (t ∷ ts) i d within none are = are
@@ -92,7 +92,7 @@ AreKeyTexts-none (t ∷ ts) some are = are
 true_not_false : true ≡ false → ⊥
 true_not_false e = cc
 
--- no other keys have the text either, where those that were read make no list
+-- if the keys that were read are not a valid list, no other keys have the text either
 pub no_list : (ks ls : List Key) (text : List ℕ) → AreKeyTexts ks (parts_of text) → (ks ≡ []) ⊎ (has_type_twice ks ≡ true) → ¬ IsKeysText ls text
 no_list ks ls text are why is =
     let same : ks ≡ ls = keys_one ks ls (parts_of text) are is.parts in

@@ -13,15 +13,15 @@ use Rattle.kdc_script.specs.declared.line.Request as requests
 use Rattle.kdc_script.specs.Field.{AreLimitsTexts, IsOctetsText, IsKeysText}
 use Rattle.kdc_script.specs.Line.{change_word, word_of, AreOpenFields, AreRequestFields, AreLineFields}
 
--- what stands in the fields of a slice
+-- the texts of the fields
 abbrev pub texts_of : List (Bor (List ℕ)) → List (List ℕ)
 texts_of fields = map (λ field. field.now) fields
 
--- two words that a comparison tells apart
+-- two words that compare as different
 pub apart : (v w : List ℕ) → bytes_eq v w ≡ false → v ≡ w → ⊥
 apart v w other same = true≢false (sym ((bytes_eq-Decides v w).1 same) ∙ other)
 
--- ---- which line a word is of
+-- ---- the line that starts with a word
 
 abbrev is_change_word : List ℕ → Bool
 is_change_word word =
@@ -35,7 +35,7 @@ each_change (DropKeys version) = refl
 each_change Remove = refl
 each_change (Set setting) = refl
 
--- another word is that of no change
+-- any other word starts no change
 pub no_change : (word : List ℕ) → is_change_word word ≡ false → (what : LineChange) → word ≡ change_word what → ⊥
 no_change word other what is = true≢false (sym (each_change what) ∙ ap is_change_word (sym is) ∙ other)
 
@@ -51,9 +51,9 @@ request_line (Open realm limits keys) texts is = absurd (apart _ _ refl is.0)
 request_line (Change name what) texts is = absurd (no_change _ refl what is.0)
 request_line (Restart at) texts is = absurd (apart _ _ refl is.0)
 
--- ---- the fields behind the word
+-- ---- the fields after the word
 
--- an opening's are those of its realm, limits and keys
+-- those of `open` spell its realm, limits and keys
 pub open_texts : (fields : List (Bor (List ℕ))) (d : Bor (List ℕ)) (line : Line) → AreLineFields line (codes "open" ∷ texts_of fields)
     → ((realm : List ℕ) × IsComponentText realm (get_or fields 0 d).now)
     × ((limits : Limits) × AreLimitsTexts limits ((get_or fields 1 d).now ∷ (get_or fields 2 d).now ∷ (get_or fields 3 d).now ∷ (get_or fields 4 d).now ∷ (get_or fields 5 d).now ∷ []))
@@ -74,7 +74,7 @@ open_texts fields d line is = let o = open_line line (texts_of fields) is in at 
     at (a ∷ b ∷ c ∷ e ∷ f ∷ g ∷ []) realm limits keys is = absurd is
     at (a ∷ b ∷ c ∷ e ∷ f ∷ g ∷ h ∷ i ∷ rest) realm limits keys is = absurd is
 
--- a request's last field is that of its octets
+-- the last field of a request spells its bytes
 pub request_octets : (fields : List (Bor (List ℕ))) (d : Bor (List ℕ)) (line : Line) → AreLineFields line (codes "request" ∷ texts_of fields)
     → (octets : List ℕ) × IsOctetsText octets (get_or fields 4 d).now
 request_octets fields d line is = let o = request_line line (texts_of fields) is in at fields o.0 o.1
@@ -88,7 +88,7 @@ request_octets fields d line is = let o = request_line line (texts_of fields) is
     at (a ∷ b ∷ c ∷ e ∷ []) request is = absurd is
     at (a ∷ b ∷ c ∷ e ∷ f ∷ g ∷ rest) request is = absurd is
 
--- where the first field is another word, the fields are those of no line
+-- if the first field is another word, the fields are not those of a line
 pub other_word : (fields rest : List (Bor (List ℕ))) (word : Bor (List ℕ)) → fields ≡ word ∷ rest
     → (word.now ≡ codes "open" → ⊥) → (word.now ≡ codes "add" → ⊥) → (word.now ≡ codes "keys" → ⊥) → (word.now ≡ codes "drop" → ⊥) → (word.now ≡ codes "remove" → ⊥) → (word.now ≡ codes "policy" → ⊥) → (word.now ≡ codes "request" → ⊥) → (word.now ≡ codes "restart" → ⊥)
     → (line : Line) → ¬ AreLineFields line (texts_of fields)

@@ -1,4 +1,4 @@
--- The lines of an input, and what is taken of the first.
+-- The lines of an input, and the reading of the first.
 use Rattle.std.proofs.Common.{◌≡◌, ◌≢◌, ℕ, zero, suc, ◌+◌, ◌-◌, ◌<◌, ◌≤◌, min, Bool, true, false, cond, eqb, List, [], ◌∷◌, ◌++◌, All, None, Some, IfSome, length, take, drop, get_or, refl, sym, ap, subst, ◌∙◌, arith, inl, inr, take_all, length-take, length-take-le, eq-eqb, ne_eqb, ltb-true, true≢false}
 use Rattle.std.specs.Prelude.{Option, ◌⊎◌, ◌&&◌, ◌==◌, if◌then◌else◌, nat_lt, slice_index}
 use Rattle.std.proofs.Math.Seq.{drop-append_seam}
@@ -25,7 +25,7 @@ first_line o (p ∷ ps) = step (eqb o 10) (first_line p ps)
     step true e = refl
     step false e = ap (with_front o) e
 
--- the octets are those of the first line, and the rest
+-- the bytes are those of the first line and the rest
 pub through_whole : (xs : List ℕ) → xs ≡ take_through 10 xs ++ drop_through 10 xs
 through_whole [] = refl
 through_whole (x ∷ xs) = step (eqb x 10) (through_whole xs)
@@ -37,7 +37,7 @@ through_whole (x ∷ xs) = step (eqb x 10) (through_whole xs)
 pub drop_first : (xs : List ℕ) → drop (length (take_through 10 xs)) xs ≡ drop_through 10 xs
 drop_first xs = ap (drop (length (take_through 10 xs))) (through_whole xs) ∙ drop-append_seam (take_through 10 xs) (drop_through 10 xs)
 
--- a front of a line has no line feed
+-- a proper prefix of a line has no line feed
 pub front_of_line : (k : ℕ) (xs : List ℕ) → k < length (take_through 10 xs) → All (λ o. o ≢ 10) (take k (take_through 10 xs))
 front_of_line zero xs short = All-nil (λ o. o ≢ 10)
 front_of_line (suc k) [] short = absurd (omega arith)
@@ -50,7 +50,7 @@ front_of_line (suc k) (x ∷ xs) short = step (eqb x 10) refl (λ few. front_of_
     step false is later few =
         All-cons (λ o. o ≢ 10) x (take k (take_through 10 xs)) (λ e. true≢false (sym (eq-eqb x 10 e) ∙ is)) (later (omega arith))
 
--- what has no line feed has none at its end
+-- bytes without a line feed don't end in one
 pub strip_none : (xs : List ℕ) → All (λ o. o ≢ 10) xs → strip_last 10 xs ≡ xs
 strip_none xs none = ap (λ (b : Bool). if b then take (length xs - 1) xs else xs) (at (nat_lt 0 (length xs)) refl)
   where
@@ -59,7 +59,7 @@ strip_none xs none = ap (λ (b : Bool). if b then take (length xs - 1) xs else x
         ∙ ne_eqb (get_or xs (length xs - 1) 0) 10 (none (length xs - 1) 0 (omega (arith, ltb-true 0 (length xs) is)))
     at false is = ap (λ (b : Bool). b && (slice_index xs (length xs - 1) == 10)) is
 
--- one octet is taken off, at most
+-- at most one byte is removed
 pub strip_length : (xs : List ℕ) → (length (line_text xs) ≤ length xs) × (length xs ≤ length (line_text xs) + 1)
 strip_length xs = at (ends_with_byte 10 xs)
   where
@@ -74,7 +74,7 @@ module _ (before most : ℕ) (early : before ≤ 16777216) (most_is : most ≡ m
   abbrev front : List ℕ
   front = take most line
 
-  -- what was taken is the line, where it is within the limits
+  -- what was read is the whole line, if it is within the limits
   pub whole_line : before + length front ≤ 16777216 → length (line_text front) ≤ 262144 → front ≡ line
   whole_line within short = elim (cases_lt most (length line)) [
     | inr few ↦ take_all most line few
@@ -84,7 +84,7 @@ module _ (before most : ℕ) (early : before ≤ 16777216) (most_is : most ≡ m
         absurd (omega arith)
   ]
 
-  -- the line is beyond the limits, where what was taken is
+  -- the line exceeds the limits if what was read does
   pub beyond : (16777216 < before + length front) ⊎ (262144 < length (line_text front)) → ¬ IsWithinLimits before line
   beyond (inl late) within = let less : length front ≤ length line = omega (arith, length-take most line) in absurd (omega (arith, within.early))
   beyond (inr long) within = elim (cases_lt most (length line)) [
@@ -96,7 +96,7 @@ module _ (before most : ℕ) (early : before ≤ 16777216) (most_is : most ≡ m
         absurd (omega (arith, within.short, ends.1, starts.0))
   ]
 
--- what a call of `next_line` takes, from what `take_line` took: n octets, as `front`, of which `text` is left
+-- what a call of `next_line` reads, given that `take_line` read the n bytes `front`, and `text` is left of them
 module _ (a c : Option (List ℕ)) (before most n : ℕ) (front text : List ℕ) (early : before ≤ 16777216)
     (most_is : most ≡ min (16777216 + 1 - before) (262144 + 1))
     (took : IfSome a (λ xs. front ≡ take most (take_through 10 xs))) (left : IfSome a (λ xs. c ≡ Some (drop n xs)))

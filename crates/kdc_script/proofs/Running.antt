@@ -1,4 +1,4 @@
--- A run so far, and how it goes on.
+-- A run so far, and how it continues.
 use Rattle.std.proofs.Common.{◌≡◌, ℕ, ◌+◌, List, [], ◌∷◌, ◌++◌, None, Some, IfSome, refl, sym, ap, subst, ◌∙◌, inl, inr, append-nil, append_assoc}
 use Rattle.std.specs.Prelude.{Option}
 use Rattle.std.proofs.KnownBytes.{Appends-nil, Appends-trans, Appends-kept}
@@ -7,7 +7,7 @@ use Rattle.kdc_script.specs.Input.{TakesLine, IsBeyond}
 use Rattle.kdc_script.specs.Script.{lines_of, fault_text, EndsRun, IsFaultText, IsRun, RunsText, IsScript, PrintsScript, PrintsText, PrintsUpToFault}
 use Rattle.kdc_state.specs.declared.state.State.{State}
 
--- what was printed so far, with what the octets to come will print, is what the whole input prints
+-- what was printed so far, followed by what the remaining bytes will print, is what the whole input prints
 abbrev pub HasRun : Option (List ℕ) → Option (List ℕ) → Option (List ℕ) → Option (List ℕ) → Option State → ℕ → ℕ → Type 0
 HasRun None left old new kdc number before = Unit {0}
 HasRun (Some octets) None old new kdc number before = ⊥
@@ -83,7 +83,7 @@ run_stops_at_text (Some octets) (Some left) (Some rest) w v u kdc number before 
     (run_stops octets left takes.0 (lines_of rest) w v kdc number before following run takes.1
     (inr (subst (λ (t : List ℕ). IsFaultText kdc t) (same ∙ takes.3) fault)) counted)
 
--- the text of the fault was printed as well
+-- the text of the fault was printed too
 pub fault_is_printed : (a w v u : Option (List ℕ)) (number : ℕ) → IfSome a (λ octets. PrintsUpToFault octets w v number) → Appends v u (fault_text number)
     → IfSome a (λ octets. PrintsScript octets w u 1)
 fault_is_printed None w v u number up text = tt

@@ -1,4 +1,4 @@
--- The fields of a script's line, each with the texts that spell it.
+-- The fields of a line, and the texts that spell them.
 use Rattle.std.specs.Prelude.{◌≡◌, ◌==◌, ℕ, ◌<◌, ◌≤◌, pos, false, List, [], ◌∷◌, length, Ok, ◌⊎◌, codes}
 use Rattle.std.specs.List.{before_first, after_first, slice_split, position_or_len}
 use Rattle.std.specs.Str.Parse.{IsNumeral, digits_value}
@@ -12,7 +12,7 @@ use Rattle.principal_rows.specs.KeyList.{has_type_twice}
 use Rattle.principal_rows.specs.declared.limits.Limits.{Limits}
 use Rattle.text_fields.specs.Numbers.{IsNumberText, IsU32Text}
 
--- a moment is its whole seconds since 1970 and its microseconds
+-- a moment: whole seconds since 1970, and microseconds
 pub record IsMomentText (at : Moment) (sec_text usec_text : List ℕ) : Type 0 where
   pub sec_numeral : IsNumeral 10 sec_text
   pub sec : at.sec ≡ pos (digits_value 10 sec_text)
@@ -20,7 +20,7 @@ pub record IsMomentText (at : Moment) (sec_text usec_text : List ℕ) : Type 0 w
   pub usec : IsNumberText at.usec usec_text
   pub usec_fits : IsMicrosecond at.usec
 
--- the limits are five numbers; from 1 to 65536 authenticators are remembered
+-- the limits: five numbers; the size of a replay cache is 1 to 65536 authenticators
 abbrev pub AreLimitsTexts : Limits → List (List ℕ) → Type 0
 AreLimitsTexts limits (remembered ∷ lock_after ∷ lock_seconds ∷ life ∷ renewable ∷ []) =
     IsU32Text limits.remembered remembered × IsU32Text limits.lock_after lock_after
@@ -29,26 +29,26 @@ AreLimitsTexts limits (remembered ∷ lock_after ∷ lock_seconds ∷ life ∷ r
     × (1 ≤ limits.remembered) × (limits.remembered ≤ 65536)
 AreLimitsTexts limits texts = ⊥
 
--- no octets are `-`, and others their hexadecimal, in either case
+-- `-` for no bytes, otherwise hexadecimal in either case
 abbrev pub IsOctetsText : List ℕ → List ℕ → Type 0
 IsOctetsText octets text = ((text ≡ codes "-") × (octets ≡ [])) ⊎ ((0 < length text) × (decode_of text ≡ Ok octets))
 
--- a key is the number of its encryption type, a colon (3A), and its octets in hexadecimal, in either case: as many as
--- the type's keys have
+-- a key: the number of its encryption type, a colon (3A), and its bytes in hexadecimal in either case. Their number is
+-- the type's key length
 pub record IsKeyText (key : Key) (text : List ℕ) : Type 0 where
   pub colon : position_or_len (λ b. b == 0x3A) text < length text
   pub numeral : IsNumeral 10 (before_first (λ b. b == 0x3A) text)
   pub etype : number key.etype ≡ pos (digits_value 10 (before_first (λ b. b == 0x3A) text))
   pub octets : decode_sized (after_first (λ b. b == 0x3A) text) (key_len key.etype) ≡ Ok key.bytes
 
--- each key is that of the text in its place
+-- each text is that of the key at its place
 abbrev pub AreKeyTexts : List Key → List (List ℕ) → Type 0
 AreKeyTexts [] [] = Unit {0}
 AreKeyTexts (k ∷ ks) (t ∷ ts) = IsKeyText k t × AreKeyTexts ks ts
 AreKeyTexts [] (t ∷ ts) = ⊥
 AreKeyTexts (k ∷ ks) [] = ⊥
 
--- keys are joined by commas (2C), in their order, and no encryption type stands twice
+-- keys are separated by commas (2C), and no encryption type occurs twice
 pub record IsKeysText (keys : List Key) (text : List ℕ) : Type 0 where
   pub parts : AreKeyTexts keys (slice_split (λ b. b == 0x2C) text)
   pub distinct : has_type_twice keys ≡ false

@@ -1,4 +1,4 @@
--- The lines of a script, each with the texts that spell it.
+-- The lines of a script, and the texts that spell them.
 use Rattle.std.specs.Prelude.{◌≡◌, ◌==◌, ℕ, pos, ◌<◌, All, List, [], ◌∷◌, Option, Some, None, Ok, codes}
 use Rattle.std.specs.List.{slice_split}
 use Rattle.hex.specs.Hex.{decode_sized}
@@ -18,7 +18,7 @@ use Rattle.text_fields.specs.Numbers.{IsU32Text}
 use Rattle.text_fields.specs.Settings.{IsSettingText}
 use Rattle.kdc_script.specs.Field.{IsMomentText, AreLimitsTexts, IsOctetsText, IsKeysText}
 
--- a name of name-type 1 (NT-PRINCIPAL), or none where the text is that of no name
+-- a name with name-type 1 (NT-PRINCIPAL), or none if the text is not a name
 abbrev pub IsNameTextOrNone : Option Name → List ℕ → Type 0
 IsNameTextOrNone (Some name) text = IsNameText name.components text × (name.name_type ≡ pos 1)
 IsNameTextOrNone None text = (name : Components) → ¬ IsNameText name text
@@ -37,7 +37,7 @@ word_of (Change name what) = change_word what
 word_of (Request request) = codes "request"
 word_of (Restart at) = codes "restart"
 
--- the fields behind it
+-- the fields after it
 abbrev pub AreOpenFields : List ℕ → Limits → List Key → List (List ℕ) → Type 0
 AreOpenFields realm limits keys
     (realm_text ∷ remembered ∷ lock_after ∷ lock_seconds ∷ life ∷ renewable ∷ keys_text ∷ []) =
@@ -88,12 +88,12 @@ AreFields (Change name what) texts = AreChangeFields name what texts
 AreFields (Request request) texts = AreRequestFields request texts
 AreFields (Restart at) texts = AreRestartFields at texts
 
--- a line's fields: its word, and those behind it
+-- a line's fields: its word, and those after it
 abbrev pub AreLineFields : Line → List (List ℕ) → Type 0
 AreLineFields line [] = ⊥
 AreLineFields line (word ∷ texts) = (word ≡ word_of line) × AreFields line texts
 
--- a line is ASCII text, and its fields are what stands between its spaces (20)
+-- a line is ASCII text, and spaces (20) separate its fields
 pub record IsLineText (line : Line) (text : List ℕ) : Type 0 where
   pub ascii : All (λ o. o < 128) text
   pub fields : AreLineFields line (slice_split (λ o. o == 0x20) text)

@@ -1,4 +1,4 @@
--- What a line of a script does.
+-- What the lines of a script do.
 use Rattle.std.specs.Prelude.{◌≡◌, ℕ, List, Option, Some, None}
 use Rattle.std.specs.FinMap.{get}
 use Rattle.krb_fields.specs.PrincipalName.{Name}
@@ -30,33 +30,33 @@ use Rattle.kdc_script.specs.declared.line.Line.TheVariants.{Open, Change, Reques
 use Rattle.kdc_script.specs.declared.line.LineChange.{LineChange}
 use Rattle.kdc_script.specs.declared.line.LineChange.TheVariants.{Add, NewKeys, DropKeys, Remove, Set}
 
--- a line of another form is a fault
+-- a line in none of the forms is a fault
 abbrev pub stop_of : LineFault → Stop
 stop_of Form = Fault
 stop_of Memory = Failed
 
--- a reply, or none, is printed so
+-- this is printed for a reply, or for none
 abbrev pub IsReply : Answer → Option (List ℕ) → Type 0
 IsReply (Reply octets) (Some reply) = octets.items ≡ reply
 IsReply NoReply None = Unit {0}
 IsReply printed reply = ⊥
 
--- a change is done, or refused for this reason, and then the KDC is as before
+-- the change is made, or refused for this reason without changing the KDC
 abbrev pub Changes : State → PrincipalChange → Option ChangeFault → Option State → Answer → Type 0
 Changes kdc change None after printed =
     (after ≡ Some (record kdc { database = changed kdc.database change })) × (printed ≡ Done)
 Changes kdc change (Some fault) after printed = (after ≡ Some kdc) × (printed ≡ Refused fault)
 
--- a change of what has no name is refused
+-- a change for a text that is not a name is refused
 abbrev pub IsNotNamed : State → Option State → Answer → Type 0
 IsNotNamed kdc after printed = (after ≡ Some kdc) × (printed ≡ Refused BadName)
 
--- the policy of a row, and of a name that has none that of a new principal
+-- the policy of a row, or that of a new principal if there is none
 abbrev pub policy_of : Option Row → Policy
 policy_of None = default_policy
 policy_of (Some row) = row.policy
 
--- what becomes of the row of a name; the fields of its policy that a line doesn't set stay
+-- the change of a principal's row. Fields of the policy that a line doesn't set keep their values
 abbrev pub row_change : State → Name → LineChange → RowChange
 row_change kdc name (Add keys) = changes.Add keys
 row_change kdc name (NewKeys keys) = changes.NewKeys keys
@@ -68,7 +68,7 @@ row_change kdc name (Set setting) =
 abbrev pub change_of : State → Name → LineChange → PrincipalChange
 change_of kdc name what = record { name = name; what = row_change kdc name what }
 
--- the KDC before a line, if one was opened, and after it, and what the line prints
+-- the KDC before a line, if one was opened; the KDC after it; and what the line prints
 abbrev pub Runs : Option State → Line → Option State → Answer → Type 0
 Runs before (Open realm limits keys) after printed =
     (after ≡ Some (opened_state (first_database realm keys) limits First)) × (printed ≡ Done)
@@ -82,7 +82,7 @@ Runs (Some kdc) (Request request) after printed =
 Runs (Some kdc) (Restart at) after printed = (after ≡ Some (restarted kdc at)) × (printed ≡ Done)
 Runs None line after printed = ⊥
 
--- a line that does nothing: no KDC is open, or its realm is none
+-- a line that can't run: no KDC is open, or the realm is not valid
 abbrev pub CannotRun : Option State → Line → Type 0
 CannotRun before (Open realm limits keys) = ¬ IsComponent realm
 CannotRun None line = Unit {0}

@@ -1,4 +1,4 @@
--- A script: the lines of an input, run one after the other.
+-- A script: the lines of an input, run in order.
 use Rattle.std.specs.Prelude.{◌≡◌, ◌≢◌, ℕ, ◌+◌, ◌≤◌, ◌==◌, if◌then◌else◌, ◌⊎◌, List, [], ◌∷◌, ◌++◌, length, Option}
 use Rattle.std.specs.Prelude.{None, codes, decimal}
 use Rattle.std.specs.Io.BufRead.{strip_last}
@@ -12,7 +12,7 @@ use Rattle.kdc_script.specs.declared.answer.Answer.{Answer}
 use Rattle.kdc_script.specs.declared.answer.Answer.TheVariants.{Done, Refused, Reply, NoReply}
 use Rattle.kdc_script.specs.declared.line.Line.{Line}
 
--- an octet, in front of the first line
+-- a byte, put before the first line
 abbrev pub with_front : ℕ → List (List ℕ) → List (List ℕ)
 with_front o [] = (o ∷ []) ∷ []
 with_front o (line ∷ lines) = (o ∷ line) ∷ lines
@@ -26,39 +26,39 @@ lines_of (o ∷ os) = if o == 0x0A then (o ∷ []) ∷ lines_of os else with_fro
 abbrev pub line_text : List ℕ → List ℕ
 line_text line = strip_last 0x0A line
 
--- what an answer prints
+-- what a result prints
 abbrev pub answer_text : Answer → List ℕ
 answer_text Done = codes "ok\n"
 answer_text (Refused fault) = codes "refused " ++ fault_name fault ++ codes "\n"
 answer_text (Reply octets) = codes "reply " ++ encode_lower octets.items ++ codes "\n"
 answer_text NoReply = codes "none\n"
 
--- what a fault prints: the number of its line, from 1 on
+-- what a fault prints: the number of its line, from 1
 abbrev pub fault_text : ℕ → List ℕ
 fault_text number = codes "fault " ++ decimal number ++ codes "\n"
 
--- a line, after so many octets, has at most 262144 octets, and ends within the first 16777216 of the input
+-- a line after `before` bytes has at most 262144 bytes, and ends within the first 16777216 of the input
 pub record IsWithinLimits (before : ℕ) (line : List ℕ) : Type 0 where
   pub short : length (line_text line) ≤ 262144
   pub early : before + length line ≤ 16777216
 
--- a text that is no line that can run
+-- the text of no line that can run
 pub record IsFaultText (kdc : Option State) (text : List ℕ) : Type 0 where
   pub not_empty : text ≢ []
   pub none_runs : (line : Line) → IsLineText line text → CannotRun kdc line
 
--- a text that is run, from the KDC before to the one after, and what it prints; an empty one does and prints nothing
+-- a text that runs, with the KDC before and after it, and what it prints; an empty text does and prints nothing
 abbrev pub RunsText : Option State → List ℕ → Option State → List ℕ → Type 0
 RunsText before [] after printed = (after ≡ before) × (printed ≡ [])
 RunsText before (o ∷ os) after printed =
     (line : Line) × (answer : Answer) × IsLineText line (o ∷ os) × Runs before line after answer
     × (printed ≡ answer_text answer)
 
--- a line, after so many octets, that ends the run
+-- a line after `before` bytes that ends the run
 abbrev pub EndsRun : Option State → ℕ → List ℕ → Type 0
 EndsRun kdc before line = ¬ IsWithinLimits before line ⊎ IsFaultText kdc (line_text line)
 
--- what the lines to come print, and the status: from the KDC, and the numbers of lines and of octets before them
+-- what the remaining lines print, and the status, for this KDC and this many lines and bytes before them
 abbrev pub IsRun : Option State → ℕ → ℕ → List (List ℕ) → List ℕ → ℕ → Type 0
 IsRun kdc number before [] printed status = (printed ≡ []) × (status ≡ 0)
 IsRun kdc number before (line ∷ lines) printed status =
@@ -72,11 +72,11 @@ IsRun kdc number before (line ∷ lines) printed status =
 abbrev pub IsScript : List ℕ → List ℕ → ℕ → Type 0
 IsScript octets printed status = IsRun None 0 0 (lines_of octets) printed status
 
--- a writer's octets, where they are known, grow by what a script prints
+-- the writer's contents, if they are known, grow by what a script prints
 abbrev pub PrintsScript : List ℕ → Option (List ℕ) → Option (List ℕ) → ℕ → Type 0
 PrintsScript octets old new status = (printed : List ℕ) × IsScript octets printed status × Appends old new printed
 
--- they grew by all of it but the text of the fault that ends it
+-- they grew by all of it except the text of the final fault
 abbrev pub PrintsUpToFault : List ℕ → Option (List ℕ) → Option (List ℕ) → ℕ → Type 0
 PrintsUpToFault octets old new number =
     (printed : List ℕ) × IsScript octets (printed ++ fault_text number) 1 × Appends old new printed

@@ -1,4 +1,4 @@
-//! What a line prints.
+//! The line that a line of a script prints.
 ghost use Rattle.std.specs.Prelude.{OnOk};
 ghost use Rattle.std.specs.Io.KnownBytes.{Appends};
 ghost use Rattle.kdc_script.specs.Script.{answer_text};
@@ -8,7 +8,7 @@ use std::alloc::Global;
 use std::io;
 use std::io::Write;
 
-/// What a line prints.
+/// The result of a line, which it prints.
 #[derive(Drop)]
 pub(crate) enum Answer {
     Done,
@@ -18,7 +18,7 @@ pub(crate) enum Answer {
 }
 
 impl Answer {
-    /// Writes the answer as a line.
+    /// Writes the result as a line.
     pub(crate) fn print<W: Write>(&self, alloc: Global, writer: &mut W) -> io::Result<()>
         ensures { OnOk result (Appends (W.contents writer.old) (W.contents writer.new) (answer_text self.now)) }
     {

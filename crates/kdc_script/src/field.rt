@@ -21,10 +21,10 @@ use principal_rows::{KeyList, KeyListFault, Limits};
 use std::alloc::Global;
 use text_fields::{number, number_u32};
 
-/// The most octets that a key has.
+/// The length of the longest key, in bytes.
 const LONGEST_KEY: usize = 32;
 
-/// A moment by its whole seconds since the start of 1970 and its microseconds.
+/// Reads a moment: whole seconds since the start of 1970, and microseconds.
 pub(crate) fn moment(sec: &str, usec: &str) -> Option<Moment>
     ensures read { IfSome result (λ at. IsMomentText at sec.now usec.now) }
     ensures none { IfNone result ((at : moments.Moment) → ¬ IsMomentText at sec.now usec.now) }
@@ -33,7 +33,7 @@ pub(crate) fn moment(sec: &str, usec: &str) -> Option<Moment>
     Moment::new(sec, number_u32(usec)?)
 }
 
-/// The limits of a KDC, by five numbers.
+/// Reads the limits of a KDC from five numbers.
 pub(crate) fn limits(texts: [&str; 5]) -> Option<Limits>
     ensures read { IfSome result (λ limits. AreLimitsTexts limits (map (λ text. text.now) texts.entry)) }
     ensures none { IfNone result
@@ -49,7 +49,7 @@ pub(crate) fn limits(texts: [&str; 5]) -> Option<Limits>
     )
 }
 
-/// The KDC's 64 random octets for a request, as 128 hexadecimal digits.
+/// Reads the KDC's 64 random bytes for a request, from 128 hexadecimal digits.
 pub(crate) fn random(text: &str) -> Option<[u8; 64]>
     ensures { result ≡ result_ok (decode_sized text.now 64) }
 {
@@ -58,7 +58,7 @@ pub(crate) fn random(text: &str) -> Option<[u8; 64]>
     Some(random)
 }
 
-/// Octets in hexadecimal, where `-` stands for none.
+/// Reads bytes in hexadecimal; `-` means none.
 pub(crate) fn octets(alloc: Global, text: &str) -> Result<Vec<u8>, LineFault>
     ensures ok { IfOk result (λ octets. IsOctetsText octets.items text.now) }
     ensures form { result ≡ Err LineFault.Form → (octets : List ℕ) → ¬ IsOctetsText octets text.now }
@@ -75,7 +75,7 @@ pub(crate) fn octets(alloc: Global, text: &str) -> Result<Vec<u8>, LineFault>
     })
 }
 
-/// The text of a realm is that of a name's one component.
+/// Reads a realm, in the syntax of a name with one component.
 pub(crate) fn realm(alloc: Global, text: &str) -> Result<KerberosString, LineFault>
     ensures ok { IfOk result (λ octets. IsComponentText octets text.now) }
     ensures form { result ≡ Err LineFault.Form → (octets : List ℕ) → ¬ IsComponentText octets text.now }
@@ -86,7 +86,7 @@ pub(crate) fn realm(alloc: Global, text: &str) -> Result<KerberosString, LineFau
     })
 }
 
-/// A principal's name; `None` for a text that is read as no name.
+/// Reads the name of a principal. Returns `None` if the text is not a name.
 pub(crate) fn name(alloc: Global, text: &str) -> Result<Option<Name>, LineFault>
     ensures name { IfOk result (λ name. IfSome name (λ n. IsNameText n.components text.now × (n.name_type ≡ pos 1))) }
     ensures none { IfOk result (λ name. IfNone name ((n : Components) → ¬ IsNameText n text.now)) }
@@ -99,7 +99,7 @@ pub(crate) fn name(alloc: Global, text: &str) -> Result<Option<Name>, LineFault>
     }
 }
 
-/// Keys in the order of preference, joined by commas.
+/// Reads keys in order of preference, separated by commas.
 pub(crate) fn keys(alloc: Global, text: &str) -> Result<KeyList, LineFault>
     ensures ok { IfOk result (λ keys. IsKeysText keys text.now) }
     ensures form { result ≡ Err LineFault.Form → (list : List typed.Key) → ¬ IsKeysText list text.now }
@@ -126,7 +126,7 @@ fn key_list(alloc: Global, keys: &[Key]) -> Result<KeyList, LineFault>
     }
 }
 
-/// A key: the number of its encryption type, a colon, and its octets in hexadecimal.
+/// Reads a key: the number of its encryption type, a colon, and its bytes in hexadecimal.
 fn key(text: &str) -> Option<Key>
     ensures read { IfSome result (λ key. IsKeyText key text.now) }
     ensures none { IfNone result ((key : typed.Key) → ¬ IsKeyText key text.now) }

@@ -1,4 +1,4 @@
-//! The input of a script, line by line, within its limits.
+//! The lines of a script, within the limits on their size.
 ghost use Rattle.std.specs.Prelude.{◌≡◌, ◌⊎◌, true, IsOk, ◌≤◌, ◌<◌, ◌+◌, [], IfOk, IfSome, OnOk, IsTrue, IsFalse};
 ghost use Rattle.std.specs.Prelude.{length, take, drop, Some};
 ghost use Rattle.std.specs.Io.BufRead.{take_through, strip_last};
@@ -13,19 +13,19 @@ use std::alloc::Global;
 use std::io;
 use std::io::Read;
 
-/// The most octets of a line, its line feed not counted.
+/// The maximum length of a line in bytes, without its line feed.
 pub(crate) const MAX_LINE: usize = 262_144;
 
-/// The most octets of an input.
+/// The maximum length of an input in bytes.
 pub(crate) const MAX_INPUT: usize = 16_777_216;
 
 /// The lines of a reader.
 #[derive(Drop)]
 pub(crate) struct Input<R: Read + Drop> {
     octets: Octets<R>,
-    /// How many octets were taken.
+    /// How many bytes were read.
     taken: usize,
-    /// The number of the line that was read last, from 1 on.
+    /// The number of the last line that was read. The first line is 1.
     number: usize,
     ghost counted: { number ≤ taken },
     ghost within: { taken ≤ 16777217 },
@@ -45,17 +45,17 @@ impl<R: Read + Drop> Input<R> {
         })
     }
 
-    /// The number of the line that was read last, from 1 on.
+    /// Returns the number of the last line that was read. The first line is 1.
     pub(crate) fn number(&self) -> usize
         ensures { result ≡ self.now.number }
     {
         self.number
     }
 
-    /// Puts the next line, without its line feed, in place of `line`; `false` at the end of the input.
+    /// Reads the next line into `line`, without its line feed. Returns `false` at the end of the input.
     ///
-    /// A line beyond the greatest length is a fault, and so is the line that holds the first octet past the
-    /// greatest input.
+    /// A line above the maximum length is a fault. So is the line that has the first byte above the maximum length of
+    /// an input.
     pub(crate) fn next_line(&mut self, line: &mut Vec<u8>) -> Result<bool, Stop>
         requires { self.old.taken ≤ 16777216 }
         ensures line { IfOk result (λ more.
@@ -83,7 +83,8 @@ impl<R: Read + Drop> Input<R> {
     }
 }
 
-/// Puts what comes up to the next line feed, with it, in place of a line: at most `most` octets, and none at the end.
+/// Reads up to and including the next line feed into `line`: at most `most` bytes, and none at the end. Returns how
+/// many bytes it read.
 fn take_line<R: Read + Drop>(
     octets: &mut Octets<R>,
     most: usize,
@@ -109,7 +110,7 @@ fn take_line<R: Read + Drop>(
     Ok(most)
 }
 
-/// Takes the line feed off a line's end.
+/// Removes the line feed at the end of a line.
 fn strip_feed(line: &mut Vec<u8>)
     ensures { line.new.items ≡ strip_last 0x0A line.old.items }
 {

@@ -1,8 +1,8 @@
-//! Scripts: a KDC that is opened, changed and asked line by line.
+//! Scripts for a KDC, read line by line.
 //!
-//! Each line of the input opens a KDC, changes a principal, hands over a request or begins anew (`line.rt` has the
-//! forms), and prints one line: `ok`, `refused FAULT`, `reply HEX` or `none`. Empty lines print nothing. A line of
-//! another form prints `fault N`, where N is its number, and ends the run.
+//! Each line of the input opens a KDC, changes a principal, sends a request or restarts the KDC, in one of the forms in
+//! `line.rt`. It prints one line: `ok`, `refused FAULT`, `reply HEX` or `none`. An empty line prints nothing. A line in
+//! any other form prints `fault N`, where N is its number, and ends the run.
 #![tactic(auto)]
 
 mod answer;

@@ -26,55 +26,55 @@ use text_fields::{Setting, number_u32};
 /// A line of a script.
 #[derive(Drop)]
 pub(crate) enum Line {
-    /// A new KDC, whose database has the ticket-granting service alone.
+    /// Opens a KDC whose database has only the ticket-granting service.
     Open {
         realm: KerberosString,
         limits: Limits,
         krbtgt_keys: KeyList,
     },
-    /// A change of a principal; its name is `None` where the text is read as no name.
+    /// Changes a principal. The name is `None` if the text is not a name.
     Change {
         name: Option<Name>,
         what: LineChange,
     },
     Request(Request),
-    /// What was remembered is lost, and the KDC starts again at this moment.
+    /// Restarts the KDC at this moment, without its replay caches and failures.
     Restart {
         at: Moment,
     },
 }
 
-/// What a line changes of a principal.
+/// A change of a principal.
 #[derive(Drop)]
 pub(crate) enum LineChange {
-    /// It is new, with these keys.
+    /// Adds the principal with these keys.
     Add(KeyList),
-    /// It has new current keys.
+    /// Gives it new current keys.
     NewKeys(KeyList),
-    /// The keys of a version go.
+    /// Drops the keys of a version.
     DropKeys(u32),
-    /// It goes.
+    /// Removes the principal.
     Remove,
-    /// A field of its policy is set.
+    /// Sets a field of its policy.
     Set(Setting),
 }
 
-/// A request for the KDC.
+/// A request to the KDC.
 #[derive(Drop)]
 pub(crate) struct Request {
-    /// When it comes.
+    /// When it comes in.
     pub(crate) at: Moment,
-    /// The random octets for its answer.
+    /// The random bytes for its answer.
     pub(crate) random: [u8; 64],
-    /// The most octets of a reply with a ticket.
+    /// The maximum length of a reply with a ticket, in bytes.
     pub(crate) room: u32,
     pub(crate) octets: Vec<u8>,
 }
 
-/// Why octets are read as no line.
+/// Why bytes are not a line.
 #[derive(Clone, Copy, Debug, PartialEq, Eq)]
 pub(crate) enum LineFault {
-    /// The line has another form, or a value is beyond its limit.
+    /// The line has none of the forms, or a value is out of range.
     Form,
     Memory,
 }
@@ -96,7 +96,7 @@ impl<T: Drop> From<AllocFailed<T>> for LineFault {
 }
 
 impl Line {
-    /// Reads a line, which comes without its line feed: fields of ASCII text, which single spaces separate.
+    /// Reads a line without its line feed: fields of ASCII text, separated by single spaces.
     pub(crate) fn parse(alloc: Global, octets: &[u8]) -> Result<Line, LineFault>
         ensures ok { IfOk result (λ line. IsLineText line octets.now) }
         ensures form { result ≡ Err Form → (line : lines.Line) → ¬ IsLineText line octets.now }
@@ -108,14 +108,14 @@ impl Line {
     }
 }
 
-/// What stands between the spaces of a text.
+/// Splits a text at its spaces.
 fn fields_of<'a>(alloc: Global, text: &'a str) -> Result<Vec<&'a str>, AllocError>
     ensures { IfOk result (λ fields. map (λ field. field.now) fields.items ≡ slice_split (λ o. o == 0x20) text.now) }
 {
     text.split(' ').collect(alloc)
 }
 
-/// Reads the fields of a line: the word in front says what it does.
+/// Reads the fields of a line. The first word says what the line does.
 #[tactic(auto, using(crate::proofs::LineTexts::other_word))]
 fn parse_fields(alloc: Global, fields: &[&str]) -> Result<Line, LineFault>
     ensures ok { IfOk result (λ line. AreLineFields line (map (λ field. field.now) fields.now)) }

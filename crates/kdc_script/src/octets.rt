@@ -1,4 +1,4 @@
-//! The octets of a reader, one by one.
+//! The bytes of a reader, one by one.
 ghost use Rattle.std.specs.Prelude.{◌≡◌, IfOk, IfErr, None, option_to_list};
 ghost use Rattle.std.specs.Io.KnownBytes.{Consumes, IsAtEnd};
 ghost use Rattle.kdc_script.specs.Octets.{octets_of};
@@ -7,11 +7,11 @@ use std::alloc::Global;
 use std::io;
 use std::io::{BufReader, Bytes, Read};
 
-/// The octets of a reader.
+/// The bytes of a reader.
 #[derive(Drop)]
 pub(crate) struct Octets<R: Read + Drop> {
     bytes: Bytes<BufReader<R, Global>>,
-    /// Whether the end was seen.
+    /// Whether the end was reached.
     ended: bool,
 }
 
@@ -25,7 +25,7 @@ impl<R: Read + Drop> Octets<R> {
         })
     }
 
-    /// The next octet; none at the end.
+    /// Returns the next byte, or `None` at the end.
     pub(crate) fn next(&mut self) -> io::Result<Option<u8>>
         ensures octet { IfOk result (λ octet.
             Consumes (octets_of R.remaining self.old) (octets_of R.remaining self.new) (option_to_list octet)) }

@@ -1,4 +1,4 @@
-//! Runs of a script.
+//! Runs of scripts.
 ghost use Rattle.std.specs.Prelude.{◌≡◌, ◌≢◌, ◌⊎◌, IfOk, IfSome, OnOk, None, Some};
 ghost use Rattle.std.specs.FinMap as map;
 ghost use Rattle.std.specs.Io.KnownBytes.{Appends};
@@ -25,21 +25,21 @@ use std::alloc::{AllocError, Global};
 use std::io;
 use std::io::{Read, Write};
 
-/// The status of a run that came to the end of its input.
+/// The status of a run that reached the end of its input.
 pub const DONE: u8 = 0;
 
-/// The status of a run that a line of another form ended.
+/// The status of a run that ended at a line in none of the forms.
 pub const FAULT: u8 = 1;
 
-/// The status of a run that ended at a failed read or write, or out of memory.
+/// The status of a run that ended because a read or write failed or memory ran out.
 pub const FAILED: u8 = 3;
 
-/// Why a run ends before its input does.
+/// Why a run ended early.
 #[derive(Clone, Copy, PartialEq, Eq)]
 pub(crate) enum Stop {
-    /// The line that was read last has another form, or is beyond a limit.
+    /// The last line that was read has none of the forms, or exceeds a limit.
     Fault,
-    /// A failed read or write, or out of memory.
+    /// A read or write failed, or memory ran out.
     Failed,
 }
 
@@ -70,10 +70,10 @@ impl From<LineFault> for Stop {
     }
 }
 
-/// Runs the script that a reader gives and prints its answers: `DONE`, `FAULT` or `FAILED`.
+/// Runs the script that a reader returns and prints its answers. Returns `DONE`, `FAULT` or `FAILED`.
 ///
-/// Where it is not `FAILED`, the writer took what the script prints, and the status is the script's; of a run that
-/// failed nothing is said.
+/// Unless it is `FAILED`, the whole output was written, and the status is the script's. Nothing is promised about a
+/// failed run.
 pub fn run_script<R: Read + Drop, W: Write>(alloc: Global, reader: R, writer: &mut W) -> u8
     ensures status { (result ≡ 0) ⊎ ((result ≡ 1) ⊎ (result ≡ 3)) }
     ensures run { result ≢ 3
@@ -118,7 +118,7 @@ fn run_lines<R: Read + Drop, W: Write>(
     run_on(alloc, &mut kdc, input, writer)
 }
 
-/// Runs the lines on the KDC that one of them opens.
+/// Runs the lines. One of them opens the KDC.
 fn run_on<R: Read + Drop, W: Write>(
     alloc: Global,
     kdc: &mut Option<Kdc>,
@@ -143,7 +143,7 @@ fn run_on<R: Read + Drop, W: Write>(
     Ok(())
 }
 
-/// Runs the text of a line and prints its answer; an empty text does nothing.
+/// Runs the text of a line and prints its result. An empty text does nothing.
 fn run_text<W: Write>(
     alloc: Global,
     kdc: &mut Option<Kdc>,
@@ -163,7 +163,7 @@ fn run_text<W: Write>(
     Ok(())
 }
 
-/// Runs one line on the KDC, which is there once a line has opened it.
+/// Runs one line on the KDC, if a line has opened one.
 fn run_line(alloc: Global, kdc: &mut Option<Kdc>, line: Line) -> Result<Answer, Stop>
     ensures ok { IfOk result (λ answer. Runs kdc.old line kdc.new answer) }
     ensures fault { result ≡ Err Fault → CannotRun kdc.old line }
@@ -200,7 +200,7 @@ fn open(
     Ok(Kdc::open(alloc, database, limits, Opening::First)?)
 }
 
-/// Makes a change of a principal, which may be refused.
+/// Changes a principal. The database may refuse the change.
 fn change(
     alloc: Global,
     kdc: &mut Option<Kdc>,
@@ -220,7 +220,7 @@ fn change(
     apply(alloc, kdc, &Change { name, what })
 }
 
-/// What becomes of the row of a name: the fields of its policy that a line doesn't set stay.
+/// Returns the change of a principal's row. Fields of the policy that the line doesn't set keep their values.
 fn row_change(kdc: &Kdc, name: &Name, what: LineChange) -> RowChange
     ensures { result ≡ row_change kdc.now name.now what }
 {
@@ -233,7 +233,7 @@ fn row_change(kdc: &Kdc, name: &Name, what: LineChange) -> RowChange
     }
 }
 
-/// The policy of a principal; where the name has no row, that of a new one, which no change takes.
+/// Returns the policy of a principal, or the default if it has no row; the database refuses such a change anyway.
 fn policy_of(kdc: &Kdc, name: &Name) -> Policy
     ensures { result ≡ policy_of (map.get kdc.now.database.rows name.now.components) }
 {
@@ -243,7 +243,7 @@ fn policy_of(kdc: &Kdc, name: &Name) -> Policy
     }
 }
 
-/// Makes a change, which may be refused.
+/// Applies a change, which the database may refuse.
 fn apply(alloc: Global, kdc: &mut Kdc, change: &Change) -> Result<Answer, Stop>
     ensures ok { IfOk result (λ answer.
         Changes kdc.old change.now (refusal kdc.old.database change.now) (Some kdc.new) answer) }
@@ -256,7 +256,7 @@ fn apply(alloc: Global, kdc: &mut Kdc, change: &Change) -> Result<Answer, Stop>
     }
 }
 
-/// The KDC starts again at this moment.
+/// Restarts the KDC at this moment.
 fn restart(kdc: &mut Option<Kdc>, at: Moment) -> Result<Answer, Stop>
     ensures ok { IfOk result (λ answer. Runs kdc.old (lines.Restart at) kdc.new answer) }
     ensures fault { result ≡ Err Fault → CannotRun kdc.old (lines.Restart at) }

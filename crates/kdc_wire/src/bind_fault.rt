@@ -1,17 +1,17 @@
-//! Why the sockets could not be opened.
+//! Why sockets could not be opened.
 use std::alloc::{AllocError, AllocFailed};
 use std::error::Error;
 use std::net::SocketAddr;
 use std::{fmt, io};
 
-/// Why the sockets could not be opened.
+/// Why sockets could not be opened.
 #[derive(Debug, Drop)]
 pub enum BindFault {
-    /// A socket for datagrams, at this address.
+    /// The UDP socket at this address.
     Udp(SocketAddr, io::Error),
-    /// A socket that takes connections, at this address.
+    /// The TCP listener at this address.
     Tcp(SocketAddr, io::Error),
-    /// What waits for all of them, or memory.
+    /// The poll for all sockets, or out of memory.
     Other(io::Error),
 }
 

@@ -1,4 +1,4 @@
-//! A connection, and what is still to be written to it.
+//! A TCP connection and its unsent bytes.
 ghost use Rattle.std.specs.Prelude.{◌≡◌};
 ghost use Rattle.std.specs.Io.{ReadsAtMost};
 
@@ -9,31 +9,31 @@ use std::io::{Error, ErrorKind, Read, Result, Write};
 use std::net::{Shutdown, SocketAddr};
 use std::time::Instant;
 
-/// The most octets that are kept for a peer that doesn't read. The greatest reply fits, behind its length.
+/// The maximum number of unsent bytes for a peer that doesn't read. The largest reply fits, with its length prefix.
 const MOST_UNSENT: usize = 150_000;
 
-/// How many seconds a connection may be idle.
+/// How many seconds a connection may be idle before it is closed.
 const LONGEST_IDLE: u64 = 30;
 
-/// A connection, and what is still to be written to it.
+/// A TCP connection and its unsent bytes.
 #[derive(Drop)]
 pub struct Connection {
     stream: TcpStream,
     peer: SocketAddr,
     unsent: Vec<u8>,
-    /// Since when it is idle: it was opened then, or its last complete request was answered. While it is closing, its
-    /// peer took the last octets then.
+    /// When it became idle: when it was opened, or when its last complete request was answered. While it is closing,
+    /// when its peer last took bytes.
     idle_since: Instant,
-    /// No reply will come any more. What is unsent is written, and then the peer is told so.
+    /// No more replies will follow. The unsent bytes are written, and then the sending side is shut down.
     is_closing: bool,
-    /// The peer was told that no more will come.
+    /// The sending side is shut down.
     is_told: bool,
-    /// The peer sends nothing any more.
+    /// The peer has shut down its sending side.
     is_at_end: bool,
 }
 
 impl Connection {
-    /// A connection from this address.
+    /// Returns a new connection from this address.
     pub fn new(alloc: Global, stream: TcpStream, peer: SocketAddr, at: Instant) -> Connection {
         Connection {
             stream,
@@ -46,28 +46,28 @@ impl Connection {
         }
     }
 
-    /// The address that it came from.
+    /// Returns the peer's address.
     pub fn peer(&self) -> SocketAddr {
         self.peer
     }
 
-    /// Whether no reply will come any more.
+    /// Checks whether no more replies will follow.
     pub fn is_closing(&self) -> bool {
         self.is_closing
     }
 
-    /// Since when it is idle.
+    /// Returns when it became idle.
     pub fn idle_since(&self) -> Instant {
         self.idle_since
     }
 
-    /// Whether it has been idle for too long.
+    /// Checks whether it has been idle for too long.
     pub fn is_idle(&self, at: Instant) -> bool {
         at.duration_since(self.idle_since).as_secs() >= LONGEST_IDLE
     }
 
-    /// Whether both sides are done. A connection that is let go earlier could take replies from its peer that
-    /// the peer has not read yet.
+    /// Checks whether both sides are done. Dropping a connection earlier could cost the peer replies that it has not
+    /// read yet.
     pub fn is_over(&self) -> bool {
         self.is_closing && self.is_at_end && self.unsent.is_empty()
     }
@@ -78,8 +78,8 @@ impl Connection {
         self.stream.read(buffer)
     }
 
-    /// Writes the reply to a complete request behind its length, as much as fits, and keeps the rest. Where too much is
-    /// kept, it is an error.
+    /// Writes the reply to a complete request after its length prefix, as far as it fits, and keeps the rest. Fails if
+    /// too many bytes are unsent.
     pub fn write(&mut self, message: &[u8], at: Instant) -> Result<()> {
         self.idle_since = at;
         if message.len() > MOST_UNSENT {
@@ -95,7 +95,7 @@ impl Connection {
         Ok(())
     }
 
-    /// No reply will come any more.
+    /// Marks that no more replies will follow, and writes what fits.
     pub fn close(&mut self, at: Instant) -> Result<()> {
         if !self.is_closing {
             self.is_closing = true;
@@ -104,14 +104,14 @@ impl Connection {
         self.flush(at)
     }
 
-    /// The peer sends nothing any more. What is unsent is still for it.
+    /// Marks that the peer sends nothing more. The unsent bytes are still written.
     pub fn end(&mut self, at: Instant) -> Result<()> {
         self.is_at_end = true;
         self.close(at)
     }
 
-    /// Writes what fits. After the last octet of the last reply the peer is told that no more will come: once, since
-    /// each time would be an event of the connection.
+    /// Writes what fits. After the last byte of the last reply, shuts down the sending side. It does so once, since
+    /// each shutdown would raise another event for the connection.
     pub fn flush(&mut self, at: Instant) -> Result<()> {
         for _ in 0..self.unsent.len() {
             if self.unsent.is_empty() || !self.write_once()? {
@@ -128,7 +128,7 @@ impl Connection {
         Ok(())
     }
 
-    /// Writes once, and says whether more may fit.
+    /// Writes once, and returns whether more may fit.
     fn write_once(&mut self) -> Result<bool> {
         match self.stream.write(&self.unsent) {
             Ok(0) => Err(Error::from(ErrorKind::WriteZero)),

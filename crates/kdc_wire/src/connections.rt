@@ -1,4 +1,4 @@
-//! The connections that are held, each under a number that no other had.
+//! The open and closing connections, each under a number that is never reused.
 use crate::connection::Connection;
 use kdc_hub::Event;
 use mio::net::TcpStream;
@@ -10,13 +10,13 @@ use std::io::ErrorKind;
 use std::net::SocketAddr;
 use std::time::Instant;
 
-/// The most connections that are open. A hub has places for as many.
+/// The maximum number of open connections. The hub has as many places.
 const MOST_OPEN: usize = 256;
 
-/// The most connections that are held. Those that are not open are being closed.
+/// The maximum number of connections, including those that are closing.
 pub const MOST_CONNECTIONS: usize = 2 * MOST_OPEN;
 
-/// The connections. Each is known to the poll by its number.
+/// The connections. The poll knows each by its number.
 #[derive(Drop)]
 pub struct Connections {
     held: BTreeMap<u64, Connection>,
@@ -24,7 +24,7 @@ pub struct Connections {
 }
 
 impl Connections {
-    /// None, and the number of the first one to come.
+    /// Returns an empty set of connections. `first` is the number that the first one gets.
     pub fn new(alloc: Global, first: u64) -> Connections {
         Connections {
             held: BTreeMap::new(alloc),
@@ -32,7 +32,7 @@ impl Connections {
         }
     }
 
-    /// The address that a connection came from.
+    /// Returns the address of a connection's peer.
     pub fn peer(&self, conn: u64) -> Option<SocketAddr> {
         match self.held.get(&conn) {
             Some(connection) => Some(connection.peer()),
@@ -40,12 +40,12 @@ impl Connections {
         }
     }
 
-    /// The connection of a number.
+    /// Returns the connection with this number.
     pub fn get_mut(&mut self, conn: u64) -> Option<&mut Connection> {
         self.held.get_mut(&conn)
     }
 
-    /// Holds a new connection, and has the poll know it.
+    /// Adds a new connection and registers it with the poll.
     pub fn hold(
         &mut self,
         alloc: Global,
@@ -67,14 +67,14 @@ impl Connections {
         Ok(conn)
     }
 
-    /// Drops the connection that is closing and whose peer took nothing for longest.
+    /// Drops the closing connection whose peer has taken nothing for the longest time.
     fn drop_oldest_closing(&mut self) {
         if let Some(conn) = self.longest_idle(true) {
             self.held.remove(&conn);
         }
     }
 
-    /// The connection that has been idle for longest, among those that are closing or those that are open.
+    /// Returns the connection that has been idle longest, among the closing ones or among the open ones.
     fn longest_idle(&self, is_closing: bool) -> Option<u64> {
         self.held
             .iter()
@@ -83,7 +83,7 @@ impl Connections {
             .map(|(conn, _)| *conn)
     }
 
-    /// Closes the connection that has been idle for longest, where more are open than a hub has places for.
+    /// Closes the connection that has been idle longest, if more are open than the hub has places for.
     pub fn evict(&mut self, at: Instant) -> Option<Event> {
         let is_open = |(_, connection): &(&u64, &Connection)| !connection.is_closing();
         if self.held.iter().filter(is_open).count() <= MOST_OPEN {
@@ -94,8 +94,8 @@ impl Connections {
         Some(Event::Closed { conn })
     }
 
-    /// Closes one of the open connections that have been idle for too long. Those that are closing are dropped then,
-    /// since their peers take nothing any more.
+    /// Closes one of the open connections that have been idle for too long. Drops the closing ones that have, since
+    /// their peers take nothing any more.
     pub fn close_idle(&mut self, at: Instant) -> Option<Event> {
         self.held.retain(|_, connection| !(connection.is_closing() && connection.is_idle(at)));
         let conn = self
@@ -107,7 +107,7 @@ impl Connections {
         Some(Event::Closed { conn })
     }
 
-    /// The peer sends nothing any more. What is unsent is still written.
+    /// Marks that the peer sends nothing more. The unsent bytes are still written.
     pub fn end(&mut self, conn: u64, at: Instant) -> Option<Event> {
         let connection = self.held.get_mut(&conn)?;
         let is_closing = connection.is_closing();
@@ -120,7 +120,7 @@ impl Connections {
         Some(Event::Closed { conn })
     }
 
-    /// Lets a connection go.
+    /// Drops a connection.
     pub fn lose(&mut self, conn: u64) -> Option<Event> {
         let connection = self.held.remove(&conn)?;
         if connection.is_closing() {
@@ -129,7 +129,7 @@ impl Connections {
         Some(Event::Closed { conn })
     }
 
-    /// Writes a message, behind its length. A connection on which that fails is let go.
+    /// Writes a message after its length prefix. Drops the connection if that fails.
     pub fn write(&mut self, conn: u64, message: &[u8], at: Instant) -> io::Result<()> {
         let written = match self.held.get_mut(&conn) {
             Some(connection) => connection.write(message, at),
@@ -141,7 +141,7 @@ impl Connections {
         written
     }
 
-    /// Closes a connection, once all is written, and its peer has ended it too.
+    /// Closes a connection. It is dropped when all bytes are written and its peer has closed it too.
     pub fn close(&mut self, conn: u64, at: Instant) {
         let Some(connection) = self.held.get_mut(&conn) else {
             return;
@@ -151,7 +151,8 @@ impl Connections {
         }
     }
 
-    /// Writes what is left of a connection's replies, and lets the connection go where that was all that it stayed for.
+    /// Writes what is left of a connection's replies. Drops a closing connection if that fails or if both sides are
+    /// done.
     pub fn flush(&mut self, conn: u64, at: Instant) {
         let Some(connection) = self.held.get_mut(&conn) else {
             return;

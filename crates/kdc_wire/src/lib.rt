@@ -1,6 +1,7 @@
-//! The wire of the KDC over sockets (RFC 4120, section 7.2): some take datagrams, some take connections, and all are
-//! waited for together, in one thread. No contract can say what a socket gives or takes. What is proved here is that
-//! each call is safe, returns and counts its faults; the rest is tested, on the loopback.
+//! The KDC's wire over sockets (RFC 4120, section 7.2): UDP sockets and TCP listeners, all served in one thread.
+//!
+//! No contract can say what a socket receives or sends. It is proved that each call is safe, returns and counts its
+//! errors. The rest is tested, on the loopback interface.
 #![tactic(auto)]
 
 mod bind_fault;

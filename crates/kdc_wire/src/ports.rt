@@ -1,4 +1,4 @@
-//! The sockets that stay open, and the poll that tells which of them are ready.
+//! The sockets that stay open, and the poll that reports which are ready.
 use crate::bind_fault::BindFault;
 use mio::net::{TcpListener, UdpSocket};
 use mio::{Events, Interest, Poll, Token};
@@ -7,17 +7,17 @@ use std::io;
 use std::io::ErrorKind;
 use std::net::{Net, SocketAddr};
 
-/// The most events of one look at the sockets.
+/// The maximum number of events per poll.
 const MOST_EVENTS: usize = 64;
 
-/// The sockets that stay open, and the poll that tells which of them are ready.
+/// The sockets that stay open, and the poll that reports which are ready.
 #[derive(Drop)]
 pub struct Ports {
     pub poll: Poll,
     pub events: Events,
-    /// The sockets for datagrams. Each is known to the poll by its place.
+    /// The UDP sockets. The poll knows each by its index.
     pub datagrams: Vec<UdpSocket>,
-    /// The sockets that take connections. The poll counts on with them.
+    /// The TCP listeners. Their poll tokens follow those of the UDP sockets.
     pub newcomers: Vec<TcpListener>,
 }
 
@@ -41,7 +41,7 @@ impl Ports {
         })
     }
 
-    /// Where datagrams are taken.
+    /// Returns the addresses of the UDP sockets.
     pub fn udp_addresses(&self, alloc: Global) -> io::Result<Vec<SocketAddr>> {
         let mut addresses = Vec::new(alloc);
         for socket in &self.datagrams {
@@ -50,7 +50,7 @@ impl Ports {
         Ok(addresses)
     }
 
-    /// Where connections are taken.
+    /// Returns the addresses of the TCP listeners.
     pub fn tcp_addresses(&self, alloc: Global) -> io::Result<Vec<SocketAddr>> {
         let mut addresses = Vec::new(alloc);
         for socket in &self.newcomers {
@@ -59,7 +59,7 @@ impl Ports {
         Ok(addresses)
     }
 
-    /// Sends a datagram from one of the sockets.
+    /// Sends a datagram from the socket with this index.
     pub fn send(&self, place: usize, peer: SocketAddr, message: &[u8]) -> io::Result<()> {
         match self.datagrams.get(place) {
             Some(socket) => {
@@ -71,7 +71,7 @@ impl Ports {
     }
 }
 
-/// Opens a socket for datagrams at each address, and has the poll know each by its place.
+/// Opens a UDP socket at each address and registers it with the poll under its index.
 fn bind_datagrams(
     alloc: Global,
     net: &impl Net,
@@ -101,7 +101,7 @@ fn bind_datagram(
     }
 }
 
-/// Opens a socket that takes connections at each address. The poll counts from `first` with them.
+/// Opens a TCP listener at each address and registers it with the poll. The tokens count from `first`.
 fn bind_newcomers(
     alloc: Global,
     net: &impl Net,

@@ -1,4 +1,4 @@
-//! The sockets of a wire, each of which is asked in its turn.
+//! The sockets of a wire, which take turns.
 use crate::bind_fault::BindFault;
 use crate::connections::{Connections, MOST_CONNECTIONS};
 use crate::moment::now;
@@ -14,22 +14,23 @@ use std::net::{Net, SocketAddr};
 use std::rt::Clock;
 use std::time::{Duration, Instant};
 
-/// The most turns of one call, of which each may find nothing.
+/// The maximum number of turns per call. Each may find nothing.
 const MOST_TURNS: u32 = 64;
 
-/// The most calls between two looks at the sockets, while some are known to be ready.
+/// The maximum number of calls between two polls while some sockets are known to be ready.
 const MOST_UNLOOKED: u32 = 15;
 
-/// How many seconds after a look for idle connections the next one comes.
+/// How many seconds pass between two searches for idle connections.
 const BETWEEN_LOOKS: u64 = 1;
 
-/// The longest datagram.
+/// The length of the longest datagram.
 const LONGEST_DATAGRAM: usize = 65_535;
 
-/// The most octets of a connection that are read in one turn, so that no turn is long, whatever they ask for.
+/// The maximum number of bytes read from a connection in one turn. It keeps every turn short, whatever the bytes ask
+/// for.
 const LONGEST_PIECE: usize = 2_048;
 
-/// Who is asked next. The three kinds take turns, so that none keeps another waiting.
+/// Which kind of socket is read next. The three kinds take turns, so that none starves another.
 #[derive(Clone, Copy)]
 enum Turn {
     Datagrams,
@@ -43,25 +44,24 @@ pub struct Sockets<C> {
     clock: C,
     wait: Duration,
     ports: Ports,
-    /// The poll counts on with them behind the ports.
+    /// Their poll tokens follow those of the ports.
     connections: Connections,
     /// When the clock was last read.
     at: Instant,
-    /// When no connection was idle for too long.
+    /// When there was last no connection that had been idle for too long.
     none_idle_at: Instant,
-    /// A connection that was taken, of which the caller is still to be told: another one had to be closed for it first.
+    /// An accepted connection that the caller doesn't know yet, because another one had to be closed for it first.
     newcomer: Option<u64>,
     turn: Turn,
     ready: Ready,
-    /// How many calls there were since the sockets were last looked at.
+    /// How many calls there were since the last poll.
     unlooked: u32,
-    /// The second in which no connection could be taken, though one may have been there.
+    /// The second in which accepting a connection failed. One may still be waiting.
     refused_at: Option<i64>,
     buffers: Buffers,
 }
 
-/// The places of the ports, and the connections, that may have something, in the order in which they are asked. None
-/// stands there twice.
+/// The ports and connections that may be ready, in the order in which they are read. None stands there twice.
 #[derive(Drop)]
 struct Ready {
     datagrams: VecDeque<u64>,
@@ -70,7 +70,7 @@ struct Ready {
 }
 
 impl Ready {
-    /// Nothing, with room for so many ports of each kind.
+    /// Returns empty queues with room for this many ports of each kind.
     fn new(alloc: Global, datagrams: usize, newcomers: usize) -> Result<Ready, AllocError> {
         Ok(Ready {
             datagrams: VecDeque::with_capacity(alloc, datagrams)?,
@@ -83,7 +83,8 @@ impl Ready {
         self.datagrams.is_empty() && self.newcomers.is_empty() && self.connections.is_empty()
     }
 
-    /// Notes what the poll tells of: the sockets for datagrams come first, then the newcomers, then the connections.
+    /// Queues the socket that has this poll token. The UDP sockets come first, then the listeners, then the
+    /// connections.
     fn note(&mut self, token: u64, first_newcomers: u64, first_connection: u64) -> io::Result<()> {
         if token < first_newcomers {
             note(&mut self.datagrams, token)
@@ -95,11 +96,11 @@ impl Ready {
     }
 }
 
-/// Where octets are read into.
+/// The buffers that bytes are read into.
 #[derive(Drop)]
 struct Buffers {
     datagram: Vec<u8>,
-    /// A piece of what comes on a connection.
+    /// For a piece of a connection's stream.
     piece: Vec<u8>,
 }
 
@@ -142,24 +143,23 @@ impl<C: Clock + Drop> Sockets<C> {
         })
     }
 
-    /// Where datagrams are taken.
+    /// Returns the addresses of the UDP sockets.
     pub fn udp_addresses(&self, alloc: Global) -> io::Result<Vec<SocketAddr>> {
         self.ports.udp_addresses(alloc)
     }
 
-    /// Where connections are taken.
+    /// Returns the addresses of the TCP listeners.
     pub fn tcp_addresses(&self, alloc: Global) -> io::Result<Vec<SocketAddr>> {
         self.ports.tcp_addresses(alloc)
     }
 
-    /// The address that a connection came from.
+    /// Returns the address of a connection's peer.
     pub fn peer(&self, conn: u64) -> Option<SocketAddr> {
         self.connections.peer(conn)
     }
 
-    /// Returns the moment and the next event: of the sockets that are ready that of the one whose turn it is. Where none
-    /// has anything it waits for one, and returns no event if none comes. As long as some have, the others are looked at
-    /// in every sixteenth call.
+    /// Returns the moment and the next event from a ready socket, in turn. If no socket has one, it waits, and returns no
+    /// event if none comes. While some sockets are known to be ready, it polls the others only in every sixteenth call.
     pub fn next(&mut self, alloc: Global) -> io::Result<(Moment, Option<Event>)> {
         if !self.ready.is_empty() && self.unlooked < MOST_UNLOOKED {
             self.unlooked = self.unlooked.saturating_add(1);
@@ -191,13 +191,13 @@ impl<C: Clock + Drop> Sockets<C> {
         Ok((at, None))
     }
 
-    /// The connection for which another one was closed.
+    /// Returns the accepted connection for which another one was closed.
     fn take_newcomer(&mut self) -> Option<Event> {
         let conn = self.newcomer.take()?;
         Some(Event::Opened { conn })
     }
 
-    /// Closes a connection that has been idle for too long, if there is one. It looks once a second.
+    /// Closes a connection that has been idle for too long, if there is one. It searches once a second.
     fn close_idle(&mut self) -> Option<Event> {
         if self.at.duration_since(self.none_idle_at).as_secs() < BETWEEN_LOOKS {
             return None;
@@ -209,7 +209,7 @@ impl<C: Clock + Drop> Sockets<C> {
         closed
     }
 
-    /// Looks which sockets are ready, and waits for one where none was.
+    /// Polls which sockets are ready, and waits for one if none was known to be.
     fn look(&mut self) -> io::Result<()> {
         self.unlooked = 0;
         let wait = if self.ready.is_empty() {
@@ -222,14 +222,14 @@ impl<C: Clock + Drop> Sockets<C> {
         let first_connection = first_newcomers + self.ports.newcomers.len() as u64;
         for event in &self.ports.events {
             let token = event.token().0 as u64;
-            // No connection has the number of a port.
+            // No connection's number is that of a port.
             self.connections.flush(token, self.at);
             self.ready.note(token, first_newcomers, first_connection)?;
         }
         Ok(())
     }
 
-    /// Once a second asks again for a connection that could not be taken: nothing else may tell that it is still there.
+    /// Tries once a second to accept a connection that could not be accepted. The poll may not report it again.
     fn retry(&mut self, at: Moment) -> io::Result<()> {
         if self.refused_at.is_some_and(|sec| sec != at.sec) {
             self.refused_at = None;
@@ -240,7 +240,7 @@ impl<C: Clock + Drop> Sockets<C> {
         Ok(())
     }
 
-    /// What the next in turn has, if anything.
+    /// Returns the event of the next kind of socket, if it has one.
     fn take_turn(&mut self, alloc: Global, at: Moment) -> io::Result<Option<Event>> {
         match self.turn {
             Turn::Datagrams => {
@@ -261,7 +261,7 @@ impl<C: Clock + Drop> Sockets<C> {
         }
     }
 
-    /// A datagram, if there is one. One that is refused memory is lost.
+    /// Receives a datagram, if there is one. It is lost if memory runs out.
     fn receive(&mut self, alloc: Global) -> io::Result<Option<Event>> {
         let Some(place) = self.ready.datagrams.pop_front() else {
             return Ok(None);
@@ -283,7 +283,7 @@ impl<C: Clock + Drop> Sockets<C> {
         Ok(Some(Event::Datagram { peer, request }))
     }
 
-    /// A new connection, if there is one.
+    /// Accepts a new connection, if there is one.
     fn accept(&mut self, alloc: Global, at: Moment) -> io::Result<Option<Event>> {
         let Some(place) = self.ready.newcomers.pop_front() else {
             return Ok(None);
@@ -314,7 +314,7 @@ impl<C: Clock + Drop> Sockets<C> {
         }
     }
 
-    /// The next piece of what comes on a connection, or its end, if there is either.
+    /// Reads the next piece of a connection's stream, or its end, if there is either.
     fn read(&mut self, alloc: Global, conn: u64) -> io::Result<Option<Event>> {
         let Some(connection) = self.connections.get_mut(conn) else {
             return Ok(None);
@@ -329,7 +329,7 @@ impl<C: Clock + Drop> Sockets<C> {
                 }
                 match Octets::from_slice(alloc, &self.buffers.piece[..len]) {
                     Ok(piece) => Ok(Some(Event::Bytes { conn, piece })),
-                    // With a piece missing, nothing that follows on the stream could be read.
+                    // With a piece missing, the rest of the stream could not be parsed.
                     Err(_) => Ok(self.connections.lose(conn)),
                 }
             }
@@ -338,7 +338,7 @@ impl<C: Clock + Drop> Sockets<C> {
         }
     }
 
-    /// Does an action. A reply to a datagram leaves by the socket that the datagram came by.
+    /// Performs an action. The reply to a datagram is sent from the socket that received the datagram.
     pub fn act(&mut self, action: &Action) -> io::Result<()> {
         match action {
             Action::SendTo { peer, reply } => {
@@ -359,7 +359,7 @@ impl<C: Clock + Drop> Sockets<C> {
     }
 }
 
-/// Adds what may have something at the end, unless it stands there already.
+/// Appends a socket to its queue, unless it is there already.
 fn note(ready: &mut VecDeque<u64>, token: u64) -> io::Result<()> {
     if !ready.iter().any(|other| *other == token) {
         ready.push_back(token)?;
@@ -367,7 +367,7 @@ fn note(ready: &mut VecDeque<u64>, token: u64) -> io::Result<()> {
     Ok(())
 }
 
-/// Whether nothing more is there for now.
+/// Checks whether nothing more is there for now.
 fn is_drained<T>(outcome: &io::Result<T>) -> bool {
     match outcome {
         Err(error) => error.kind() == ErrorKind::WouldBlock,

@@ -9,8 +9,7 @@ use std::net::{Net, SocketAddr};
 use std::rt::Clock;
 use std::time::Duration;
 
-/// A wire over sockets for datagrams and sockets that take connections, each at an address of
-/// its own. It keeps no record.
+/// A wire over UDP sockets and TCP listeners, each at its own address. It keeps no record.
 #[derive(Drop)]
 pub struct SocketWire<C> {
     sockets: Sockets<C>,
@@ -18,7 +17,7 @@ pub struct SocketWire<C> {
 }
 
 impl<C: Clock + Drop> SocketWire<C> {
-    /// Opens a socket at each address. Where nothing comes, a poll waits for so long.
+    /// Opens a socket at each address. `wait` is how long a poll waits if nothing comes in.
     pub fn bind(
         alloc: Global,
         clock: C,
@@ -33,12 +32,12 @@ impl<C: Clock + Drop> SocketWire<C> {
         })
     }
 
-    /// Where datagrams are taken.
+    /// Returns the addresses of the UDP sockets.
     pub fn udp_addresses(&self, alloc: Global) -> io::Result<Vec<SocketAddr>> {
         self.sockets.udp_addresses(alloc)
     }
 
-    /// Where connections are taken.
+    /// Returns the addresses of the TCP listeners.
     pub fn tcp_addresses(&self, alloc: Global) -> io::Result<Vec<SocketAddr>> {
         self.sockets.tcp_addresses(alloc)
     }

@@ -1,4 +1,4 @@
--- The lines that are left.
+-- The remaining lines.
 use Rattle.std.proofs.Common.{◌≡◌, ◌+◌, ◌<◌, ◌++◌, ◌∷◌, ℕ, suc, List, length, drop, map, get_or, ap, ◌∙◌, sym, arith, append_assoc}
 use Rattle.std.proofs.Math.Seq.{drop-cons}
 use Rattle.std.proofs.lemmas.List.{get_or-map, length-map}
@@ -7,7 +7,7 @@ use Rattle.krb5_conf.specs.Line.{line_said}
 use Rattle.krb5_conf.specs.Place.{Place, behind}
 use Rattle.krb5_conf.specs.Values.{value_by, values_from}
 
--- the next line, and those behind it
+-- the next line, and those after it
 left : {A : Type 0} (f : A → List ℕ) (xs : List A) (i : ℕ) (d : A) → i < length xs
     → drop i (map f xs) ≡ f (get_or xs i d) ∷ drop (i + 1) (map f xs)
 left f xs i d lt =
@@ -16,7 +16,7 @@ left f xs i d lt =
     ∙ ap (λ x. x ∷ drop (suc i) (map f xs)) (get_or-map f xs i d (f d) lt)
     ∙ ap (λ n. f (get_or xs i d) ∷ drop n (map f xs)) k
 
--- what was found before, and what is found by a line and those behind it
+-- the values found before, and those in the next line and the lines after it
 pub stepped : {A : Type 0} (f : A → List ℕ) (xs : List A) (i : ℕ) (d : A) (wanted : Place) (tag : List ℕ) (p q : Place) (old new all : List (List ℕ))
     → i < length xs
     → new ≡ old ++ option_to_list (value_by wanted tag p (line_said (f (get_or xs i d))))

@@ -1,4 +1,4 @@
-//! The values of the relations of a text.
+//! The values of the relations of a file.
 ghost use Rattle.std.specs.Prelude.{◌≡◌, ◌++◌, map, IfOk, OnOk};
 ghost use Rattle.std.specs.Option.{option_map, option_to_list};
 ghost use Rattle.krb5_conf.specs.Line.{said};
@@ -9,7 +9,7 @@ use crate::line::Line;
 use crate::place::Place;
 use std::alloc::{AllocError, Global};
 
-/// The values of the relations with this tag that stand at this place, in the order of the text.
+/// Returns the values of the relations with this tag at this place, in order.
 pub(crate) fn values<'a>(
     alloc: Global,
     text: &'a [u8],
@@ -30,7 +30,7 @@ pub(crate) fn values<'a>(
     Ok(values)
 }
 
-/// Appends a value, where there is one.
+/// Appends a value, if there is one.
 fn push_some<'a>(values: &mut Vec<&'a [u8]>, value: Option<&'a [u8]>) -> Result<(), AllocError>
     ensures { OnOk result (map (λ v. v.now) values.new.items
         ≡ map (λ v. v.now) values.old.items ++ option_to_list (option_map (λ v. v.now) value.entry)) }
@@ -41,14 +41,14 @@ fn push_some<'a>(values: &mut Vec<&'a [u8]>, value: Option<&'a [u8]>) -> Result<
     }
 }
 
-/// What stands between the line feeds.
+/// Splits a text at its line feeds.
 fn lines<'a>(alloc: Global, text: &'a [u8]) -> Result<Vec<&'a [u8]>, AllocError>
     ensures { IfOk result (λ lines. map (λ line. line.now) lines.items ≡ lines_of text.now) }
 {
     text.split(|octet| *octet == b'\n').collect(alloc)
 }
 
-/// The value that a line gives, where it is a relation with this tag that stands at the place that is wanted.
+/// Returns the value in a line, if the line is a relation with this tag at the wanted place.
 fn value_at<'a>(wanted: Place<'_>, tag: &[u8], place: Place<'_>, line: Line<'a>) -> Option<&'a [u8]>
     ensures { option_map (λ value. value.now) result
         ≡ value_by (place_of wanted.entry) tag.now (place_of place.entry) (said line.entry) }

@@ -1,4 +1,4 @@
--- A copy is the same value: of the parts of an AP-REQ, the ticket's name is made of copies.
+-- A copy is the same value: the ticket's name, in an AP-REQ, consists of copies.
 use Rattle.std.proofs.Common.{◌≡◌, ℕ, List, refl}
 use Rattle.krb_elements.specs.CopyLaws.{map_all}
 use Rattle.krb_types.specs.CopyLaws.{same_ticket}

@@ -1,4 +1,4 @@
--- What stands inside an AP-REQ is shorter than the AP-REQ.
+-- The parts of an AP-REQ are shorter than the AP-REQ.
 use Rattle.std.proofs.Common.{ℕ, ◌<◌, ◌+◌, ◌*◌, List, [], ◌++◌, length, Some, Result, Ok, Err, refl, ap, arith}
 use Rattle.std.specs.Prelude.{IfOk}
 use Rattle.std.proofs.lemmas.List.{length-append}
@@ -15,7 +15,7 @@ use Rattle.krb_types.specs.Ticket.{Ticket, ticket, ticket_form}
 use Rattle.krb_types.specs.TicketLaws.{ticket_size, ticket_inside}
 use Rattle.krb_ap.specs.ApReq.{ApReq, ap_req, ap_req_form, HasShorterParts}
 
--- ---- what is written: a cipher is shorter than what it stands in
+-- ---- writing: a cipher is shorter than the value that contains it
 
 cipher_shorter : (e : EncryptedData) → length e.cipher < length (encrypted_data.text e)
 unfolding encrypted_data_form
@@ -43,7 +43,7 @@ sealed_shorter t =
       tlv_longer 48 contents,
     )
 
--- ---- what was read: the parts of an AP-REQ stand in it
+-- ---- reading: the parts of an AP-REQ are inside it
 
 abbrev sealed_size : EncryptedData → ℕ
 sealed_size e = length (encrypted_data.text e) + 1
@@ -92,7 +92,7 @@ pub parts_if_read : {E : Type 0} (r : Result ApReq E) (bytes : List ℕ) → IsB
 parts_if_read (Ok x) bytes fits h = parts_shorter x bytes fits h
 parts_if_read (Err e) bytes fits h = tt
 
--- what is written of it has less than three times its octets
+-- its encoding is shorter than three times the bytes that were read
 pub short_if_decoded : {E : Type 0} (r : Result ApReq E) (bytes : List ℕ) → IsBytes bytes → IfOk r (λ x. ap_req.Spells x bytes) → IfOk r (λ x. length (ap_req.text x) < 3 * length bytes)
 short_if_decoded (Ok x) bytes fits h = omega (arith, tlv_longer 110 (ap_req.text x), ap_req.laws.short.is x bytes fits h)
 short_if_decoded (Err e) bytes fits h = tt

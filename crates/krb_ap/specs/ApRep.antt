@@ -8,7 +8,7 @@ use Rattle.krb_ap.specs.declared.ap_rep.ApRep as trees
 abbrev pub ApRep : Type 0
 ApRep = trees.ApRep EncryptedData
 
--- pvno and msg-type are fixed, so no value holds them
+-- pvno and msg-type are fixed, so the value doesn't contain them
 unfoldable pub ap_rep_form : {E : Type 0} → Codec E → Record (trees.ApRep E)
 ap_rep_form e = record {
   fields =

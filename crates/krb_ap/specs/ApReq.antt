@@ -35,7 +35,7 @@ ap_req_of t e = application 14 (sequence (ap_req_form t e))
 abbrev pub ap_req : Codec ApReq
 ap_req = ap_req_of ticket encrypted_data
 
--- the texts of the ticket and of the authenticator are shorter than these octets, and so are their ciphers
+-- the texts of the ticket and of the authenticator, and their ciphers, are shorter than these bytes
 pub record HasShorterParts (bytes : List ℕ) (x : ApReq) : Type 0 where
   pub ticket_text : length (ticket.text x.ticket) < length bytes
   pub ticket_cipher : length x.ticket.enc_part.cipher < length bytes

@@ -15,18 +15,18 @@ use krb_fields::{EncryptedData, EncryptedDataRef};
 use krb_types::PVNO;
 use std::alloc::{AllocError, Global};
 
-/// The message type, as its field has it.
+/// The message type, as a field value.
 const MSG_TYPE: i32 = AP_REP as i32;
 
-/// A service's answer to a client that asked it to show who it is. Its version and its message type are those of every
-/// AP-REP, and not kept.
+/// A service's answer to a client that asked it to prove its identity. The version and the message type are fixed, so
+/// they are not stored.
 #[derive(Debug, Drop)]
 pub struct ApRep<E = EncryptedData> {
-    /// An EncAPRepPart, sealed under the session key.
+    /// An EncAPRepPart, encrypted with the session key.
     pub enc_part: E,
 }
 
-/// An [`ApRep`] where it stands.
+/// A borrowed [`ApRep`].
 pub type ApRepRef<'a> = ApRep<EncryptedDataRef<'a>>;
 
 impl<E: Coded> Coded for ApRep<E> {
@@ -86,18 +86,18 @@ impl ReadOwned for ApRep {
     }
 }
 
-/// The AP-REP that the octets spell.
+/// Reads the AP-REP that the bytes encode.
 pub fn decode_ap_rep(alloc: Global, bytes: &[u8]) -> Result<ApRep, Fault>
     ensures found { IfOk result (λ reply. ap_rep.Spells reply bytes.now) }
     ensures only { (reply : trees.ApRep) → ap_rep.Spells reply bytes.now → IsReadUnlessMemory result reply }
     ensures exact { Decodes result (whole ap_rep.at bytes.now) }
-    // It has no other spelling.
+    // An AP-REP has only one encoding.
     ensures one { IfOk result (λ reply. bytes.now ≡ written ap_rep reply) }
 {
     read_owned(alloc, bytes)
 }
 
-/// The octets of the AP-REP, which spell it.
+/// Returns the encoding of the AP-REP.
 pub fn encode_ap_rep(alloc: Global, reply: &ApRep) -> Result<Vec<u8>, AllocError>
     requires { length (ap_rep.text reply.now) < 2 ^ 32 }
     ensures written { IfOk result (λ v. v.items ≡ written ap_rep reply.now) }

@@ -15,20 +15,20 @@ use krb_fields::{EncryptedData, EncryptedDataRef, Flags};
 use krb_types::{Ticket, TicketRef};
 use std::alloc::{AllocError, Global};
 
-/// A client's ticket, and what shows that the client has its session key. Reading judges neither its version nor its
+/// A client's ticket, and the proof that the client has its session key. Reading checks neither the version nor the
 /// message type.
 #[derive(Debug, Drop)]
 pub struct ApReq<T = Ticket, E = EncryptedData> {
     pub pvno: i32,
     pub msg_type: i32,
-    /// Its named bits are those of `krb_fields::ApOption`.
+    /// The bits are named by `krb_fields::ApOption`.
     pub ap_options: Flags,
     pub ticket: T,
-    /// An Authenticator, sealed under the ticket's session key.
+    /// An Authenticator, encrypted with the ticket's session key.
     pub authenticator: E,
 }
 
-/// An [`ApReq`] where it stands.
+/// A borrowed [`ApReq`].
 pub type ApReqRef<'a> = ApReq<TicketRef<'a>, EncryptedDataRef<'a>>;
 
 impl<T: Coded, E: Coded> Coded for ApReq<T, E> {
@@ -102,33 +102,33 @@ impl ReadOwned for ApReq {
     }
 }
 
-/// Reads an AP-REQ where it stands, without memory.
+/// Reads an AP-REQ in place, without allocating.
 pub fn read_ap_req(bytes: &[u8]) -> Result<ApReqRef<'_>, DerFault>
-    // What is read is spelled so.
+    // If it succeeds, the bytes encode this AP-REQ.
     ensures found { IfOk result (λ request. ap_req.Spells request bytes.now) }
-    // What is spelled so is read.
+    // If the bytes encode an AP-REQ, it succeeds.
     ensures only { (request : trees.ApReq) → ap_req.Spells request bytes.now
         → IsOkAnd result (λ found. found ≡ request) }
-    // Which fault it is.
+    // The result, including the error, is that of the definition.
     ensures exact { Sees result (whole ap_req.at bytes.now) }
-    // What stands inside is shorter than the octets.
+    // The parts are shorter than the bytes.
     ensures short { IfOk result (λ request. HasShorterParts bytes.now request) }
 {
     read(bytes)
 }
 
-/// The AP-REQ that the octets spell.
+/// Reads the AP-REQ that the bytes encode.
 pub fn decode_ap_req(alloc: Global, bytes: &[u8]) -> Result<ApReq, Fault>
     ensures found { IfOk result (λ request. ap_req.Spells request bytes.now) }
     ensures only { (request : trees.ApReq) → ap_req.Spells request bytes.now → IsReadUnlessMemory result request }
     ensures exact { Decodes result (whole ap_req.at bytes.now) }
-    // What was read can be written.
+    // The AP-REQ is short enough to be written again.
     ensures short { IfOk result (λ request. length (ap_req.text request) < 3 * length bytes.now) }
 {
     read_owned(alloc, bytes)
 }
 
-/// The octets of the AP-REQ, which spell it.
+/// Returns the encoding of the AP-REQ.
 pub fn encode_ap_req(alloc: Global, request: &ApReq) -> Result<Vec<u8>, AllocError>
     requires { length (ap_req.text request.now) < 2 ^ 32 }
     ensures written { IfOk result (λ v. v.items ≡ written ap_req request.now) }

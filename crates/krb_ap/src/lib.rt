@@ -1,5 +1,4 @@
-//! The messages between a client and a service (RFC 4120, section 5.5), each with the relation
-//! between it and its octets.
+//! The messages between a client and a service (RFC 4120, section 5.5), each with its relation to its encoding.
 #![tactic(auto)]
 
 mod ap_rep;

@@ -3,5 +3,5 @@
 /// The message type of an AP-REQ.
 pub const AP_REQ: u8 = 14;
 
-/// The same of an AP-REP.
+/// The message type of an AP-REP.
 pub const AP_REP: u8 = 15;

@@ -1,4 +1,4 @@
--- Each second of the years 0000 to 9999 has one date with a time of day.
+-- Each second of the years 0000 to 9999 has one date and time of day.
 use Rattle.std.proofs.Common.{◌≡◌, ℕ, ◌+◌, ◌*◌, ◌<◌, refl, sym, ◌∙◌, arith, ℤ, pos, ◌+ℤ◌, ◌*ℤ◌, unsigned_abs, true}
 use Rattle.std.specs.Int.{int_div_euclid, int_rem_euclid}
 use Rattle.std.proofs.lemmas.Bool.{and_parts, and_from, leb-true, ltb-true, le-leb, lt-ltb}
@@ -8,7 +8,7 @@ use Rattle.krb_der.specs.declared.civil.CivilTime.{CivilTime}
 use Rattle.krb_der.specs.Civil.{is_civil, civil_second, civil_at, IsCivilSecond}
 use Rattle.krb_der.proofs.DayLemmas.{IsDateOf, IsDay, date_of_day, date_of_day_unique, day_range}
 
--- the day on which it lies, and the seconds of that day before it
+-- its day, and the seconds of that day before it
 abbrev pub day_of : CivilTime → ℤ
 day_of t = days_from_civil (pos t.year) t.month t.day
 
@@ -64,7 +64,7 @@ pub civil_second_range : (t : CivilTime) → IsCivil t → IsCivilSecond (civil_
 civil_second_range t h =
     omega (arith, signed_arith, civil_second-parts t, day_range (day_of t) t.year t.month t.day h.date)
 
--- a second has a date with a time of day
+-- a second has a date and time of day
 pub civil_at_is : (z : ℤ) → IsCivilSecond z → IsCivil (civil_at z) × (civil_second (civil_at z) ≡ z)
 unfolding civil_at civil_second
 civil_at_is z h =

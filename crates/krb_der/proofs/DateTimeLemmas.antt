@@ -1,4 +1,4 @@
--- The library's dates with a time of day, as the parts that are read and written.
+-- The library's dates and times of day, as the parts that are read and written.
 use Rattle.std.proofs.Common.{◌≡◌, ◌≤◌, inl, true, refl, sym, subst, ◌∙◌, arith, rules, ℤ, pos, negsuc, ◌*ℤ◌, ◌<ℤ◌, ◌≤ℤ◌, unsigned_abs}
 use Rattle.std.proofs.lemmas.Int.{by_lt_z}
 use Rattle.jiff_core.specs.declared.civil.date.Date.{Date}
@@ -14,7 +14,7 @@ use Rattle.krb_der.specs.Civil.{is_civil, civil_second, civil_at, IsCivilSecond}
 use Rattle.krb_der.proofs.DayLemmas.{days_from_civil-zero}
 use Rattle.krb_der.proofs.CivilLemmas.{IsCivil, is_civil_from, civil_at_unique}
 
--- its parts, where the year is not negative
+-- its parts, if the year is not negative
 abbrev pub parts_of : DateTime → CivilTime
 parts_of t = record {
   year = unsigned_abs t.date.year;
@@ -54,7 +54,7 @@ pub civil_second-parts_of : (t : DateTime) → pos 0 ≤ℤ t.date.year → civi
 unfolding civil_second civil_seconds
 civil_second-parts_of t h = rw (year_from t.date.year h) refl
 
--- a second from the year 0000 on is of no year before it
+-- a second in or after the year 0000 has no earlier year
 pub year-civil_second : (t : DateTime) (z : ℤ) → IsCivilSecond z → civil_seconds t ≡ z → pos 0 ≤ℤ t.date.year
 unfolding civil_seconds first_date
 year-civil_second t z h e =
@@ -74,14 +74,14 @@ civil_seconds_from_nanos t z e =
     let below = t.time.subsec_in in
     omega (arith, signed_arith, civil_nanos-civil_seconds t)
 
--- the parts of that second are those of the one date and time that it has
+-- the parts of that second are those of its only date and time of day
 pub parts_of-civil_at : (t : DateTime) (z : ℤ) → IsCivilSecond z → civil_nanos t ≡ z *ℤ pos 1_000_000_000 → (pos 0 ≤ℤ t.date.year) × (parts_of t ≡ civil_at z)
 parts_of-civil_at t z h e =
     let second = civil_seconds_from_nanos t z e in
     let year = year-civil_second t z h second in
     (year, civil_at_unique (parts_of t) z (civil-parts_of t year) (civil_second-parts_of t year ∙ second))
 
--- parts that the library has are a date with a time of day, and have its second
+-- parts from the library are a date and a time of day, and have its second
 pub civil_second_from_parts_of : (t : DateTime) (p : CivilTime) → pos 0 ≤ℤ t.date.year → parts_of t ≡ p → (is_civil p ≡ true) × (civil_second p ≡ civil_seconds t)
 civil_second_from_parts_of t p h e =
     (rw (← e) (is_civil_from (parts_of t) (civil-parts_of t h)), rw (← e) (civil_second-parts_of t h))

@@ -10,7 +10,7 @@ use Rattle.jiff_core.proofs.CalendarLemmas.{days_from_civil-day_count, day_count
 use Rattle.jiff_core.proofs.DateLemmas.{epoch_day_injective, epoch_day_range, days_from_civil-day}
 use Rattle.krb_der.specs.Civil.{last_begun, year_of, month_of, day_of_month}
 
--- it is one of the numbers
+-- it is at most n
 last_begun-at_most : (f : ℕ → ℤ) (n : ℕ) (day : ℤ) → last_begun f n day ≤ n
 unfolding last_begun
 last_begun-at_most f zero day = omega arith
@@ -20,7 +20,7 @@ last_begun-at_most f (suc n) day =
       | inr e ↦ rw e (omega (arith, last_begun-at_most f n day))
     ]
 
--- it has begun, but for 0, of which that isn't asked
+-- it has begun, unless it is 0, for which that isn't checked
 last_begun-begun : (f : ℕ → ℤ) (n : ℕ) (day : ℤ) → 1 ≤ last_begun f n day → f (last_begun f n day) ≤ℤ day
 unfolding last_begun
 last_begun-begun f zero day some = absurd (omega arith)
@@ -30,7 +30,7 @@ last_begun-begun f (suc n) day some =
       | inr e ↦ rw e (last_begun-begun f n day (rw e at some))
     ]
 
--- and no later one has
+-- and no later one has begun
 last_begun-later : (f : ℕ → ℤ) (n : ℕ) (day : ℤ) (k : ℕ) → last_begun f n day < k → k ≤ n → day <ℤ f k
 unfolding last_begun
 last_begun-later f zero day k above within = absurd (omega arith)
@@ -44,7 +44,7 @@ last_begun-later f (suc n) day k above within =
           ]
     ]
 
--- it is not zero, if a later one has begun
+-- it is not 0 if a later one has begun
 last_begun-positive : (f : ℕ → ℤ) (n : ℕ) (day : ℤ) → 1 ≤ n → f 1 ≤ℤ day → 1 ≤ last_begun f n day
 last_begun-positive f n day some first =
     elim (cases_lt (last_begun f n day) 1) [
@@ -70,7 +70,7 @@ pub record IsDateOf (day : ℤ) (y m d : ℕ) : Type 0 where
 abbrev pub IsDay : ℤ → Type 0
 IsDay day = IsBetween (neg_ℤ (pos 719_528)) (pos 2_932_896) day
 
--- the year has begun, and not ended
+-- the year has begun and not ended
 year_of-range : (day : ℤ) → IsDay day → (year_of day ≤ 9999) × (days_from_civil (pos (year_of day)) 1 1 ≤ℤ day) × (day <ℤ days_from_civil (pos (year_of day + 1)) 1 1)
 unfolding year_of
 year_of-range day h =
@@ -91,7 +91,7 @@ year_of-range day h =
       ],
     )
 
--- the first of the next month, also after December, in terms of this one
+-- the first of the next month, also after December, by the first of this one
 first_of_next : (y m : ℕ) → 1 ≤ m → days_from_civil (pos y) (m + 1) 1 ≡ days_from_civil (pos y) m 1 +ℤ pos (days_in_month (pos y) m)
 first_of_next y m low = omega (arith, signed_arith, days_from_civil-day_count, day_count-next_month (pos y) m low)
 
@@ -100,7 +100,7 @@ december_last : (y : ℕ) → days_from_civil (pos (y + 1)) 1 1 ≡ days_from_ci
 december_last y =
     omega (arith, signed_arith, days_from_civil-day_count, day_count-next_year (pos y) (pos (y + 1)) (omega (arith, signed_arith)) (omega (arith, signed_arith)), day_count-last_of_year (pos y), day_count-day (pos y) 12 31 1 (omega arith) (omega arith))
 
--- the month of a year has begun, and not ended
+-- the month of a year has begun and not ended
 month_within : (y : ℕ) (day : ℤ) → days_from_civil (pos y) 1 1 ≤ℤ day → day <ℤ days_from_civil (pos (y + 1)) 1 1
     → (m : ℕ) → m ≡ last_begun (λ n. days_from_civil (pos y) n 1) 12 day → (1 ≤ m) × (m ≤ 12) × (days_from_civil (pos y) m 1 ≤ℤ day) × (day <ℤ (days_from_civil (pos y) m 1 +ℤ pos (days_in_month (pos y) m)))
 month_within y day low high m is =
@@ -144,7 +144,7 @@ date_of_day day h =
       is = same;
     }
 
--- a date as the calendar's library has it
+-- a date as the calendar library represents it
 date_from : (day : ℤ) (y m d : ℕ) → IsDateOf day y m d → Date
 date_from day y m d h = record {
   year = pos y;
@@ -163,7 +163,7 @@ date_of_day_unique day y m d y₂ m₂ d₂ h k =
     let years : pos y ≡ pos y₂ = same.0 in
     (cc, same.1, same.2)
 
--- no year from 0000 on begins before it
+-- no year from 0000 on begins before the year 0000
 year_low : (y : ℕ) → days_from_civil (pos 0) 1 1 ≤ℤ days_from_civil (pos y) 1 1
 year_low zero = omega (arith, signed_arith)
 year_low (suc y) =

@@ -1,4 +1,4 @@
--- The octets of a time are digits in pairs, and a `Z`.
+-- The bytes of a time are digits in pairs, and a `Z`.
 use Rattle.std.proofs.Common.{◌≡◌, ℕ, zero, suc, ◌+◌, ◌*◌, ◌/◌, ◌%◌, ◌<◌, ◌≤◌, ◌&&◌, Bool, true, IsTrue, List, [], ◌∷◌, ◌++◌, length, take, drop, get_or, refl, arith, inl, inr}
 use Rattle.std.specs.Char.{is_ascii_digit}
 use Rattle.std.specs.List.{list_all}
@@ -8,7 +8,7 @@ use Rattle.std.proofs.lemmas.List.{get_or-take, length-take}
 use Rattle.std.proofs.lemmas.List.Folds.{list_all_at}
 use Rattle.krb_der.specs.Digits.{is_spelled, number, two_digits}
 
--- what the test of the octets says
+-- what the test of the bytes says
 pub record IsSpelled (octets : List ℕ) : Type 0 where
   pub length_is : length octets ≡ 15
   pub last_is : get_or octets 14 0 ≡ 90
@@ -46,7 +46,7 @@ digit_low octets k e h = let is = is_digit_at octets k e h in grind arith
 pub digit_high : (octets : List ℕ) (k : ℕ) → IsTrue (is_spelled octets) → k < 14 → get_or octets k 0 < 58
 digit_high octets k e h = let is = is_digit_at octets k e h in grind arith
 
--- two octets in their places
+-- two adjacent bytes
 pub take_two : (octets : List ℕ) (k : ℕ) → k + 1 < length octets → take 2 (drop k octets) ≡ get_or octets k 0 ∷ get_or octets (k + 1) 0 ∷ []
 take_two [] k h = absurd (omega arith)
 take_two (a ∷ []) zero h = absurd (omega arith)
@@ -60,13 +60,13 @@ take_four (a ∷ b ∷ []) h = absurd (omega arith)
 take_four (a ∷ b ∷ c ∷ []) h = absurd (omega arith)
 take_four (a ∷ b ∷ c ∷ d ∷ rest) h = refl
 
--- a year of four digits, from two numbers of two digits
+-- a year of four digits, by two numbers of two digits
 pub number_of_four : (octets : List ℕ) → IsTrue (is_spelled octets) → number (take 4 octets) ≡ number (take 2 (drop 0 octets)) * 100 + number (take 2 (drop 2 octets))
 number_of_four octets e =
     let long = spelled_length octets e in
     rw (take_four octets (omega arith), take_two octets 0 (omega arith), take_two octets 2 (omega arith)) (omega arith)
 
--- the digits of a number that digits spell
+-- the digits of the number that digits spell
 two_digits-number : (a b : ℕ) → 48 ≤ a → a < 58 → 48 ≤ b → b < 58 → two_digits (number (a ∷ b ∷ [])) ≡ a ∷ b ∷ []
 two_digits-number a b la ha lb hb =
     let n = number (a ∷ b ∷ []) in
@@ -79,7 +79,7 @@ two_digits-at octets k e h =
     let long = spelled_length octets e in
     rw (take_two octets k (omega arith)) (two_digits-number (get_or octets k 0) (get_or octets (k + 1) 0) (digit_low octets k e (omega arith)) (digit_high octets k e (omega arith)) (digit_low octets (k + 1) e (omega arith)) (digit_high octets (k + 1) e (omega arith)))
 
--- the number of two digits has two digits
+-- the number of two digits is below 100
 pub number_below : (octets : List ℕ) (k : ℕ) → IsTrue (is_spelled octets) → k < 13 → number (take 2 (drop k octets)) < 100
 number_below octets k e h =
     let long = spelled_length octets e in
@@ -99,5 +99,5 @@ pub joined : {a b c d e f g a' b' c' d' e' f' g' : List ℕ} → a ≡ a' → b 
     → a ++ (b ++ (c ++ (d ++ (e ++ (f ++ (g ++ 90 ∷ [])))))) ≡ a' ++ (b' ++ (c' ++ (d' ++ (e' ++ (f' ++ (g' ++ 90 ∷ []))))))
 joined a b c d e f g = rw (a, b, c, d, e, f, g) refl
 
--- what the code asks of two octets in their places
+-- what the code needs to know of two adjacent bytes
 pub ruleset digit_facts = (spelled_length, digit_low, digit_high, take_two)

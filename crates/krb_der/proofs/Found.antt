@@ -1,4 +1,4 @@
--- What a read of a value says of its one spelling.
+-- What a successful read says about the value's only encoding.
 use Rattle.std.proofs.Common.{◌≡◌, ℕ, ◌^◌, ◌<◌, List, ◌++◌, length, Result, Ok, Err, sym, ap, ◌∙◌}
 use Rattle.std.specs.Prelude.{IfOk, IsOkAnd}
 use Rattle.krb_der.specs.declared.fault.DerFault.{DerFault}

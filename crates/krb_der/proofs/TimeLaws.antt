@@ -1,4 +1,4 @@
--- What is written is read again, and a time has one spelling.
+-- Reading undoes writing, and a time has only one encoding.
 use Rattle.std.proofs.Common.{◌≡◌, ℕ, ◌+◌, ◌/◌, ◌%◌, ◌<◌, true, List, [], ◌∷◌, ◌++◌, length, take, drop, get_or, drop-cons, Some, None, if◌then◌else◌, inl, inr, refl, sym, ap, ◌∙◌, arith, ℤ, pos}
 use Rattle.std.proofs.lemmas.Bool.{and_parts, and_from, cases_lt}
 use Rattle.std.proofs.lemmas.Option.{cond_some}
@@ -11,7 +11,7 @@ use Rattle.krb_der.proofs.CivilLemmas.{IsCivil, civil_parts, is_civil_from, same
 use Rattle.krb_der.proofs.DigitsLemmas.{digit_high, two_digits-at, two_are_digits, number_of_four, number_below, joined, spelled_parts}
 use Rattle.jiff_core.proofs.CalendarLemmas.{days_in_month_bounds}
 
--- a date and a time of day have as many digits as there are places for
+-- the parts of a date and a time of day fit in their digits
 fits_digits : (t : CivilTime) → IsCivil t → FitsDigits t
 fits_digits t h = omega (arith, days_in_month_bounds (pos t.year) t.month)
 
@@ -28,7 +28,7 @@ unfolding spelled spelling
 spelled-spelling t h =
     same_civil _ t (omega arith) (omega arith) (omega arith) (omega arith) (omega arith) (omega arith)
 
--- a pair of octets before the rest
+-- a pair of bytes before the rest
 pair_before : (octets : List ℕ) (k : ℕ) {rest : List ℕ} → rest ≡ drop (k + 2) octets → take 2 (drop k octets) ++ rest ≡ drop k octets
 pair_before octets k e = rw (e, ← drop-drop 2 k octets) (take-append-drop 2 (drop k octets))
 
@@ -55,7 +55,7 @@ spelling-spelled : (octets : List ℕ) → is_spelled octets ≡ true → spelli
 spelling-spelled octets e =
     pairs_of_digits octets e ∙ pair_before octets 0 (pair_before octets 2 (pair_before octets 4 (pair_before octets 6 (pair_before octets 8 (pair_before octets 10 (pair_before octets 12 (z_last octets e)))))))
 
--- what is written is a time, and it is that time
+-- what is written is a time, and it is this time
 pub time_again : (z : ℤ) → IsCivilSecond z → (is_time (time_octets z) ≡ true) × (time_value (time_octets z) ≡ z)
 unfolding is_time time_value time_octets
 time_again z h =
@@ -64,13 +64,13 @@ time_again z h =
     let back = spelled-spelling (civil_at z) fits in
     (and_from _ _ (spelling-is_spelled (civil_at z) fits) (rw back (is_civil_from (civil_at z) at.0)), rw back at.1)
 
--- a time lies in the years 0000 to 9999
+-- a time is in the years 0000 to 9999
 pub time_value_range : (octets : List ℕ) → is_time octets ≡ true → IsCivilSecond (time_value octets)
 unfolding is_time time_value
 time_value_range octets e =
     let parts = and_parts _ _ e in civil_second_range (spelled octets) (civil_parts (spelled octets) parts.1)
 
--- the octets of a time are those that are written
+-- the bytes of a time are those that are written
 pub time_one_spelling : (octets : List ℕ) → is_time octets ≡ true → time_octets (time_value octets) ≡ octets
 unfolding is_time time_value time_octets
 time_one_spelling octets e =
@@ -83,7 +83,7 @@ pub length-time_octets : (z : ℤ) → length (time_octets z) ≡ 15
 unfolding time_octets spelling
 length-time_octets z = refl
 
--- octets whose digits are a date and a time of day are a time
+-- bytes whose digits are a date and a time of day are a time
 pub time_from : (octets : List ℕ) (seconds : ℤ) → is_spelled octets ≡ true → (if is_civil (spelled octets) then Some (civil_second (spelled octets)) else None) ≡ Some seconds
     → IsCivilSecond seconds × (octets ≡ time_octets seconds)
 unfolding is_time time_value
@@ -93,7 +93,7 @@ time_from octets seconds e gives =
     let value : time_value octets ≡ seconds = parts.1 in
     rw (← value) (time_value_range octets is, sym (time_one_spelling octets is))
 
--- each octet is a byte
+-- they are bytes
 pub time_octets-bytes : (z : ℤ) → IsCivilSecond z → (i : ℕ) → get_or (time_octets z) i 0 < 256
 unfolding is_time
 time_octets-bytes z h i =

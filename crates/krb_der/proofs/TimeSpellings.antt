@@ -1,4 +1,4 @@
--- A time that is read is the time that was written, and it has one spelling.
+-- Reading a time gives the one that was written, and it has only one encoding.
 use Rattle.std.proofs.Common.{◌≡◌, ℤ, List, ℕ, refl, sym, ap, subst, ◌∙◌, arith}
 use Rattle.krb_der.specs.Spelling.{tlv}
 use Rattle.krb_der.specs.Civil.{IsCivilSecond}
@@ -13,6 +13,6 @@ time_spelled z h =
 pub time_range : (z : ℤ) (bytes : List ℕ) → Time z bytes → IsCivilSecond z
 time_range z bytes s = subst IsCivilSecond s.2.stands (time_value_range s.0 s.2.passes)
 
--- no time has two spellings
+-- no time has two encodings
 pub time_unique : (z : ℤ) (bytes : List ℕ) → Time z bytes → bytes ≡ time_spelling z
 time_unique z bytes s = s.3 ∙ ap (tlv 24) (sym (ap time_octets (sym s.2.stands) ∙ time_one_spelling s.0 s.2.passes))

@@ -1,4 +1,4 @@
--- The bits that are written are the bits that are read.
+-- Reading bits gives those that were written.
 use Rattle.std.proofs.Common.{◌≡◌, ℕ, ◌^◌, ◌%◌, ◌<◌, ◌∷◌, true, eqb, refl, arith, eq-eqb}
 use Rattle.std.specs.Int.{w32, to_be_bytes}
 use Rattle.std.proofs.lemmas.Nat.{from_be_bytes-to_be_bytes_4}

@@ -13,13 +13,13 @@ is_civil t =
     && (nat_le 1 t.day && nat_le t.day (days_in_month (pos t.year) t.month))
     && nat_lt t.hour 24 && nat_lt t.minute 60 && nat_lt t.second 60
 
--- each part has as many digits as its place in the octets: four of the year, two of the others
+-- each part has as many digits as its place: four for the year, two for the others
 abbrev pub FitsDigits : CivilTime → Type 0
 FitsDigits t =
     (t.year < 10_000) × (t.month < 100) × (t.day < 100)
     × (t.hour < 100) × (t.minute < 100) × (t.second < 100)
 
--- the seconds from 1970-01-01T00:00:00 to it, negative before that
+-- the seconds from 1970-01-01T00:00:00, negative before that
 unfoldable pub civil_second : CivilTime → ℤ
 civil_second t =
     days_from_civil (pos t.year) t.month t.day *ℤ pos 86_400
@@ -29,13 +29,13 @@ civil_second t =
 abbrev pub IsCivilSecond : ℤ → Type 0
 IsCivilSecond z = IsBetween (neg_ℤ (pos 62_167_219_200)) (pos 253_402_300_799) z
 
--- the last of the years or months up to n that has begun by that day, where each begins on its first day
+-- the last of the years or months up to n that has begun by that day, where `first_day` is the day on which each begins
 unfoldable pub last_begun : (ℕ → ℤ) → ℕ → ℤ → ℕ
 last_begun first_day zero day = zero
 last_begun first_day (suc n) day =
     if int_le (first_day (suc n)) day then suc n else last_begun first_day n day
 
--- the year, the month and the day of the month of a day number, which counts from 1970-01-01
+-- the year, the month and the day of the month of a day, counted from 1970-01-01
 unfoldable pub year_of : ℤ → ℕ
 year_of day = last_begun (λ y. days_from_civil (pos y) 1 1) 9999 day
 
@@ -45,7 +45,7 @@ month_of day = last_begun (λ m. days_from_civil (pos (year_of day)) m 1) 12 day
 unfoldable pub day_of_month : ℤ → ℕ
 day_of_month day = unsigned_abs (day -ℤ days_from_civil (pos (year_of day)) (month_of day) 1) + 1
 
--- the date and the time of day of that second
+-- the date and time of day of this second
 unfoldable pub civil_at : ℤ → CivilTime
 civil_at z =
     let day = int_div_euclid z (pos 86_400) in

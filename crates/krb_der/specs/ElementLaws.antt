@@ -1,4 +1,4 @@
--- The elements of a list, one at a time.
+-- The elements of a list, one by one.
 use Rattle.std.proofs.Common.{◌≡◌, ℕ, zero, suc, ◌^◌, ◌≤◌, ◌<◌, List, [], ◌∷◌, ◌++◌, length, Result, Ok, Err, refl, ap}
 use Rattle.std.proofs.Common.{◌∙◌, arith}
 use Rattle.krb_der.specs.declared.fault.DerFault.{DerFault}
@@ -8,7 +8,7 @@ use Rattle.krb_der.specs.StepLaws.{bind_ok, ok_is}
 use Rattle.krb_der.specs.Laws.{tlv_shorter, tlv_again}
 use Rattle.krb_der.specs.Items.{element_at, first_and, elements_from, elements}
 
--- an element takes an octet at least
+-- an element takes at least a byte
 pub element_shorter : (bytes element rest : List ℕ) → element_at bytes ≡ Ok (element, rest) → length rest < length bytes
 unfolding element_at
 element_shorter [] element rest e = absurd cc
@@ -22,7 +22,7 @@ same_first : (r : Result (List ℕ × List ℕ) DerFault) (f g : List ℕ → Li
 same_first (Ok x) f g h = ap (λ l. x.0 ∷ l) (h x refl)
 same_first (Err e) f g h = refl
 
--- more tries than octets change nothing
+-- more tries than bytes change nothing
 elements_more : (n m : ℕ) (bytes : List ℕ) → length bytes ≤ n → length bytes ≤ m
     → elements_from n bytes ≡ elements_from m bytes
 unfolding elements_from element_at
@@ -50,7 +50,7 @@ elements_first (b ∷ bytes) element rest h =
     ∙ ap (λ l. element ∷ l) (elements_more (length bytes) (length rest) rest
     (omega (arith, element_shorter (b ∷ bytes) element rest h)) (omega arith))
 
--- a value that stands at the front is the first element
+-- a value at the front is the first element
 pub elements_tlv : (tag : ℕ) (contents rest : List ℕ) → length contents < 2 ^ 32
     → elements (tlv tag contents ++ rest) ≡ tlv tag contents ∷ elements rest
 unfolding element_at tlv

@@ -1,10 +1,10 @@
--- A value whose tag was written before its contents, with room for a length of one octet between them.
+-- A value whose tag was written before its contents, with one byte reserved for its length.
 use Rattle.std.proofs.Common.{◌≡◌, ℕ, ◌+◌, ◌≤◌, List, [], ◌∷◌, ◌++◌, take, drop, length, sym, ap, ◌∙◌, arith}
 use Rattle.std.specs.Prelude.{Result, Ok, Err, OnOk}
 use Rattle.std.proofs.lemmas.List.{append_assoc, length-append, take_at, drop_at}
 use Rattle.krb_der.specs.Spelling.{length_octets, tlv}
 
--- the value that was begun at a place gets its length
+-- the value that was begun at this place gets its length
 unfoldable pub ended : ℕ → List ℕ → List ℕ
 ended start written =
     take (start + 1) written ++ (length_octets (length (drop (start + 2) written)) ++ drop (start + 2) written)

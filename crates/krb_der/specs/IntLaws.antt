@@ -1,4 +1,4 @@
--- A number that is read is the number that was written, and it has one spelling.
+-- Reading a number gives the one that was written, and a number has only one encoding.
 use Rattle.std.proofs.Common.{◌≡◌, ℕ, ℤ, pos, negsuc, zero, suc, ◌-◌, ◌^◌, ◌<◌, ◌≤◌, true, leb, slice_index, List, []}
 use Rattle.std.proofs.Common.{◌∷◌, ◌++◌, length, replicate, refl, sym, ap, ◌∙◌, arith, inl, inr, w64, FitsSigned}
 use Rattle.std.specs.Int.{to_be_bytes, from_be_bytes, cast_signed, cast_unsigned}
@@ -13,7 +13,7 @@ use Rattle.krb_der.specs.Int.{is_shortest, is_redundant, sign_octet, shortest, i
 use Rattle.krb_der.specs.Int.{is_int, Int}
 use Rattle.krb_der.specs.StepLaws.{IsBytes-append, IsBytes-replicate}
 
--- as long as eight octets
+-- extended to eight bytes
 abbrev extended : List ℕ → List ℕ
 extended l = replicate (8 - length l) (sign_octet l) ++ l
 
@@ -35,7 +35,7 @@ shortest_no_longer a (b ∷ rest) =
       | inr e ↦ rw e (omega arith)
     ]
 
--- an octet that could be left out is the sign of both
+-- a byte that is not needed is the sign of both numbers
 signs : (a b : ℕ) (rest : List ℕ) → is_redundant a b ≡ true
     → (sign_octet (a ∷ b ∷ rest) ≡ a) × (sign_octet (b ∷ rest) ≡ a)
 signs a b rest e =
@@ -71,7 +71,7 @@ short_stays [] h = refl
 short_stays (a ∷ []) h = refl
 short_stays (a ∷ b ∷ rest) h = absurd (omega arith)
 
--- what is kept of eight octets is spelled in the shortest way, and stands for the same number
+-- the bytes kept of eight are the shortest form, and have the same value
 written_from : (l : List ℕ) → length l ≡ 8 → (is_int (shortest l) ≡ true)
     × (int_value (shortest l) ≡ cast_signed w64 (from_be_bytes w64 l))
 unfolding is_int int_value
@@ -97,7 +97,7 @@ int_written z fits =
           to_z-of_z w64 z fits;
     }
 
--- the sign before the shortest octets can be left out
+-- nothing can be removed from the shortest form
 shortest_stays : (l : List ℕ) → is_shortest l ≡ true → shortest l ≡ l
 unfolding shortest
 shortest_stays [] h = refl
@@ -119,7 +119,7 @@ sign_of_more (suc k) l =
       | inr h ↦ rw (le-ltb (slice_index l 0) 128 h) refl
     ]
 
--- with its sign before it, a shortest number is that number
+-- removing the added signs gives the shortest form again
 drops_sign : (k : ℕ) (a : ℕ) (rest : List ℕ) → is_shortest (a ∷ rest) ≡ true
     → shortest (replicate k (sign_octet (a ∷ rest)) ++ a ∷ rest) ≡ a ∷ rest
 unfolding shortest
@@ -131,7 +131,7 @@ drops_sign (suc (suc k)) a rest h =
     before_sign s s (replicate k s ++ a ∷ rest) (sym (sign_of_more (suc k) (a ∷ rest))) in
     rw e (drops_sign (suc k) a rest h)
 
--- the octets of a number are the ones that are written
+-- the bytes of a number are those that are written
 pub int_one_spelling : (z : ℤ) (octets : List ℕ) → IsBytes (extended octets) → IsContents is_int int_value z octets
     → octets ≡ int_octets z
 unfolding is_int int_value
@@ -154,7 +154,7 @@ int_one_spelling z (a ∷ rest) bytes is =
     sym (ap (λ (m : ℕ). shortest (to_be_bytes w64 m)) n ∙ ap shortest back ∙ drops_sign
     (8 - length (a ∷ rest)) a rest p.0)
 
--- at most eight octets are written
+-- at most eight bytes are written
 pub int_short : (z : ℤ) → length (int_octets z) ≤ 8
 int_short z = shortest_short (to_be_bytes w64 (cast_unsigned w64 z)) refl
   where
@@ -176,7 +176,7 @@ extended_fits l fits =
       | inr h ↦ rw (le-ltb (slice_index l 0) 128 h) (omega arith)
     ]
 
--- no number has two spellings
+-- no number has two encodings
 pub int_unique : (z : ℤ) (bytes : List ℕ) → IsBytes bytes → Int z bytes → bytes ≡ int_spelling z
 unfolding tlv
 int_unique z bytes fits s =

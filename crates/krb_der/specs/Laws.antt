@@ -1,4 +1,4 @@
--- A value that is read is the value that stands there, and a value that stands there is read.
+-- A value that is read is at the front, and a value at the front is read.
 use Rattle.std.proofs.Common.{◌≡◌, ℕ, zero, suc, ◌^◌, ◌<◌, ◌≤◌, Bool, true, false, cond, ltb, eqb, List, [], ◌∷◌, ◌++◌}
 use Rattle.std.proofs.Common.{length, get_or, take, drop, Result, Ok, Err, refl, sym, ap, subst, ◌∙◌, append_assoc}
 use Rattle.std.proofs.Common.{arith, inl, inr}
@@ -13,7 +13,7 @@ use Rattle.krb_der.specs.Spelling.{length_octets, tlv, Leaf, Stands, IsBytes}
 use Rattle.krb_der.specs.Reading.{length_1, length_2, length_3, length_4, length_at, tlv_at, leaf_at, Gives}
 use Rattle.krb_der.specs.StepLaws.{IsBytes-rest, IsBytes-back, IsBytes-front, bind_ok, guard_ok, chosen, ok_is}
 
--- what was taken from the front is this text
+-- these bytes were taken from the front
 abbrev Took : List ℕ → ℕ → List ℕ → Type 0
 Took bytes n rest = (bytes ≡ length_octets n ++ rest) × (n < 2 ^ 32)
 
@@ -44,7 +44,7 @@ octets_4 n l =
       le-ltb n (2 ^ 24) l,
     ) refl
 
--- four octets are those of their number
+-- four bytes are those of their number
 four : (a b c d : ℕ) → a < 256 → b < 256 → c < 256 → d < 256
     → to_be_bytes w32 (from_be_bytes w32 (a ∷ b ∷ c ∷ d ∷ [])) ≡ a ∷ b ∷ c ∷ d ∷ []
 four a b c d ha hb hc hd = be_bytes_4 (a ∷ b ∷ c ∷ d ∷ []) _ refl (fits a b c d ha hb hc hd) refl
@@ -119,7 +119,7 @@ takes_4 (a ∷ b ∷ c ∷ d ∷ bytes) n rest fits e =
     subst (λ (p : ℕ × List ℕ). Took (132 ∷ a ∷ b ∷ c ∷ d ∷ bytes) p.0 p.1) g.1
     (rw (octets_4 m lo) (sym (ap (λ (l : List ℕ). 132 ∷ (l ++ bytes)) back)), hi)
 
--- the first octet is k
+-- the first byte is k
 at_first : (k first : ℕ) (bs : List ℕ) (n : ℕ) (rest : List ℕ) → eqb first k ≡ true → Took (k ∷ bs) n rest
     → Took (first ∷ bs) n rest
 at_first k first bs n rest e h = rw (eqb-true first k e) h
@@ -215,7 +215,7 @@ tlv_again tag contents rest lt =
       drop_at contents rest (length contents) refl,
     ) refl
 
--- ---- what is left is shorter
+-- ---- the rest is shorter
 
 shorter_1 : (bytes : List ℕ) (n : ℕ) (rest : List ℕ) → length_1 bytes ≡ Ok (n, rest) → length rest ≤ length bytes
 shorter_1 [] n rest e = absurd cc
@@ -284,7 +284,7 @@ pub tlv_some : (tag : ℕ) (contents : List ℕ) → 0 < length (tlv tag content
 unfolding tlv
 tlv_some tag contents = omega arith
 
--- the contents of a value lie in the octets
+-- the contents of a value are bytes if the whole is
 pub contents_fit : (tag : ℕ) (bytes contents rest : List ℕ) → IsBytes bytes → bytes ≡ tlv tag contents ++ rest
     → IsBytes contents
 unfolding tlv
@@ -295,7 +295,7 @@ contents_fit tag bytes contents rest fits e =
 
 -- ---- values of simple types
 
--- what reads at the front of octets reads what a relation says stands there, and all of it
+-- a reading at the front of bytes accepts exactly what the relation describes
 pub record IsReading {A : Type 0} (S : A → List ℕ → Type 0) (f : List ℕ → Result (A × List ℕ) DerFault) : Type 0 where
   pub takes : (bytes : List ℕ) (x : A) (rest : List ℕ) → IsBytes bytes → f bytes ≡ Ok (x, rest)
       → (front : List ℕ) × S x front × (bytes ≡ front ++ rest)

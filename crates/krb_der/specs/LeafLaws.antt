@@ -1,4 +1,4 @@
--- The simple types are read where they are spelled.
+-- Reading a simple type undoes encoding it.
 use Rattle.krb_der.specs.declared.fault.DerFault.TheVariants.{BadInteger, BadBits, BadTime}
 use Rattle.krb_der.specs.Int.{is_int, int_value, Int}
 use Rattle.krb_der.specs.Bits.{is_bits, bits_value, Bits}

@@ -7,7 +7,7 @@ pub mod Time
 pub mod Reading
 pub mod Items
 pub mod Ended
--- laws that proofs cite: no reader of a contract needs them
+-- laws that proofs cite; readers of a contract don't need them
 pub mod StepLaws
 pub mod Laws
 pub mod IntLaws

@@ -1,4 +1,4 @@
--- Reading from left to right, with the first fault that is met.
+-- Reading from left to right, up to the first error.
 use Rattle.std.specs.Prelude.{◌≡◌, ℕ, ℤ, Bool, List, [], ◌∷◌, length, take, drop, Result, Ok, Err, nat_lt, ◌==◌}
 use Rattle.std.specs.Prelude.{if◌then◌else◌}
 use Rattle.std.specs.Int.{w32, from_be_bytes}
@@ -14,18 +14,18 @@ abbrev pub ◌>>=◌ : {A B : Type 0} → Result A DerFault → (A → Result B 
 (Ok x) >>= f = f x
 (Err e) >>= f = Err e
 
--- What a function returned, seen by view, is what reading gives.
+-- The function returned what reading gives, seen by `view`.
 abbrev pub Gives : {X Y : Type 0} → (X → Y) → Result X DerFault → Result Y DerFault → Type 0
 Gives view (Ok x) read = read ≡ Ok (view x)
 Gives view (Err e) read = read ≡ Err e
 
--- The value was read and what is left is left, or the fault was met and nothing is read.
+-- The value was read and the rest is left; or there was an error, and nothing was read.
 abbrev pub Reads : {X Y : Type 0} → (X → Y) → Result X DerFault → List ℕ → List ℕ → Result (Y × List ℕ) DerFault
     → Type 0
 Reads view (Ok x) old new read = read ≡ Ok (view x, new)
 Reads view (Err e) old new read = (read ≡ Err e) × (new ≡ old)
 
--- k octets of a length, of which the first isn't 0 (and of one octet not below 128)
+-- a length of k bytes; the first is not 0, and a single byte is not below 128
 abbrev pub length_1 : List ℕ → Result (ℕ × List ℕ) DerFault
 length_1 (a ∷ rest) = if nat_lt a 128 then Err BadLength else Ok (a, rest)
 length_1 _ = Err Truncated

@@ -1,4 +1,4 @@
--- Laws of steps of reading that did not fail, and of lists of octets.
+-- Laws of reading steps that succeeded, and of lists of bytes.
 use Rattle.std.proofs.Common.{◌≡◌, ℕ, zero, suc, ◌<◌, Bool, true, false, cond, List, [], ◌∷◌, ◌++◌, replicate, Result}
 use Rattle.std.proofs.Common.{Ok, Err, refl, arith, inl, inr, ◌⊎◌}
 use Rattle.krb_der.specs.declared.fault.DerFault.{DerFault}
@@ -17,13 +17,13 @@ IsBytes-front [] rest h i = omega arith
 IsBytes-front (b ∷ front) rest h zero = h 0
 IsBytes-front (b ∷ front) rest h (suc i) = IsBytes-front front rest (λ j. h (suc j)) i
 
--- the value of a step that did not fail
+-- the value of a step that succeeded
 pub bind_ok : {A B : Type 0} (r : Result A DerFault) (f : A → Result B DerFault) (y : B) → (r >>= f) ≡ Ok y
     → (x : A) × (r ≡ Ok x) × (f x ≡ Ok y)
 bind_ok (Ok x) f y e = (x, refl, e)
 bind_ok (Err d) f y e = absurd cc
 
--- a test that did not fail
+-- a test that succeeded
 pub guard_ok : {A : Type 0} (b : Bool) (d : DerFault) (x y : A) → cond b (Err d) (Ok x) ≡ Ok y → (b ≡ false) × (x ≡ y)
 guard_ok true d x y e = absurd cc
 guard_ok false d x y e = (refl, cc)

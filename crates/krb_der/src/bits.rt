@@ -2,7 +2,7 @@
 ghost use Rattle.std.specs.Prelude.{◌≡◌, ◌<◌, ◌^◌, ◌*◌, ◌-◌, length, IsTrue};
 ghost use Rattle.krb_der.specs.Bits.{is_bits, is_padded, first_bits, bits_value};
 
-/// Whether the contents say how many bits of the last octet are unused, each of them zero.
+/// Checks whether the contents start with the number of unused bits in the last byte, and these bits are zero.
 #[tactic(auto, unfolding(crate::specs::Bits::is_bits))]
 pub fn is_bits(contents: &[u8]) -> bool
     ensures { result ≡ is_bits contents.now }
@@ -13,7 +13,7 @@ pub fn is_bits(contents: &[u8]) -> bool
     }
 }
 
-/// The first 32 bits, and how many bits there are.
+/// Returns the first 32 bits, and the number of bits.
 #[tactic(auto, unfolding(crate::specs::Bits::is_bits, crate::specs::Bits::bits_value))]
 pub fn bits_value(contents: &[u8]) -> (u32, u64)
     requires passes { IsTrue (is_bits contents.now) }
@@ -26,7 +26,7 @@ pub fn bits_value(contents: &[u8]) -> (u32, u64)
     }
 }
 
-/// How many bits there are, the unused ones left out.
+/// Returns the number of bits, without the unused ones.
 #[tactic(auto, unfolding(crate::specs::Bits::is_padded))]
 fn bit_count(unused: u8, octets: &[u8]) -> u64
     requires padded { IsTrue (is_padded unused octets.now) }
@@ -39,7 +39,7 @@ fn bit_count(unused: u8, octets: &[u8]) -> u64
     8 * octets.len() as u64 - u64::from(unused)
 }
 
-/// Whether so many bits at the end are fewer than an octet and zero.
+/// Checks whether the unused bits are fewer than a byte and all zero.
 #[tactic(auto, using(std::proofs::lemmas::Nat::one_shl), unfolding(crate::specs::Bits::is_padded))]
 fn is_padded(unused: u8, octets: &[u8]) -> bool
     ensures { result ≡ is_padded unused octets.now }
@@ -50,7 +50,7 @@ fn is_padded(unused: u8, octets: &[u8]) -> bool
     unused < 8 && octets[octets.len() - 1] % (1 << unused) == 0
 }
 
-/// The first 32 bits, of which the missing ones are zero.
+/// Returns the first 32 bits. Missing ones are zero.
 #[tactic(auto, unfolding(crate::specs::Bits::first_bits))]
 fn first_bits(octets: &[u8]) -> u32
     ensures { result ≡ first_bits octets.now }

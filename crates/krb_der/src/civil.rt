@@ -3,8 +3,7 @@ ghost use Rattle.std.specs.Prelude.{◌≡◌, if◌then◌else◌, Some, None};
 
 use jiff_core::civil::{Date, DateTime, Time};
 
-/// The numbers of a date and a time of day, such as the calendar may not have: months and days
-/// count from 1.
+/// The numbers of a date and a time of day, which may not exist in the calendar. Months and days count from 1.
 #[derive(Clone, Copy)]
 pub(crate) struct CivilTime {
     pub(crate) year: u16,
@@ -18,14 +17,14 @@ pub(crate) struct CivilTime {
 impl CivilTime {
     ghost use Rattle.krb_der.specs.Civil.{FitsDigits, IsCivilSecond, civil_at, civil_second, is_civil};
 
-    /// The date and the time of day of that second.
+    /// Returns the date and time of day of this second.
     pub(crate) fn at(seconds: i64) -> CivilTime
         requires { IsCivilSecond seconds }
         ensures value { result ≡ civil_at seconds }
         ensures fits { FitsDigits result }
     {
-        // The library counts in nanoseconds. Its instants end a day before the year 9999 does, and
-        // its civil times don't.
+        // The library counts in nanoseconds. Its instants end a day before the end of the year 9999, but its civil
+        // times don't.
         let DateTime { date, time } = DateTime::from_nanosecond_in_range(
             i128::from(seconds) * 1_000_000_000,
         );
@@ -39,7 +38,7 @@ impl CivilTime {
         }
     }
 
-    /// The seconds since 1970-01-01T00:00:00, if the calendar has the date and the time of day.
+    /// Returns the seconds since 1970-01-01T00:00:00, if the calendar has the date and time of day.
     #[tactic(auto, unfolding(crate::specs::Civil::is_civil))]
     pub(crate) fn to_second(self) -> Option<i64>
         requires { FitsDigits self }

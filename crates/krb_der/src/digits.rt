@@ -1,4 +1,4 @@
-//! The octets YYYYMMDDHHMMSSZ of a date and a time of day.
+//! The bytes YYYYMMDDHHMMSSZ of a date and time of day.
 ghost use Rattle.std.specs.Prelude.{◌≡◌, ◌<◌, IsTrue, take, drop};
 ghost use Rattle.std.specs.Char.{is_ascii_digit};
 ghost use Rattle.std.specs.List.{list_all};
@@ -7,7 +7,7 @@ ghost use Rattle.krb_der.specs.Digits.{is_spelled, number, spelled, spelling, tw
 
 use crate::civil::CivilTime;
 
-/// Whether the octets are fourteen digits and `Z`.
+/// Checks whether the bytes are fourteen digits and `Z`.
 #[tactic(auto, unfolding(crate::specs::Digits::is_spelled))]
 pub(crate) fn is_spelled(octets: &[u8]) -> bool
     ensures { result ≡ is_spelled octets.now }
@@ -15,14 +15,14 @@ pub(crate) fn is_spelled(octets: &[u8]) -> bool
     octets.len() == 15 && octets[14] == b'Z' && are_digits(&octets[..14])
 }
 
-/// Whether each octet is a decimal digit.
+/// Checks whether all bytes are decimal digits.
 fn are_digits(octets: &[u8]) -> bool
     ensures { result ≡ list_all is_ascii_digit octets.now }
 {
     octets.iter().all(|octet| octet.is_ascii_digit())
 }
 
-/// The numbers that the digits spell, whether or not the calendar has such a date.
+/// Returns the numbers that the digits spell, even if the calendar has no such date.
 #[tactic(auto, using(crate::proofs::DigitsLemmas::number_of_four), unfolding(crate::specs::Digits::spelled))]
 pub(crate) fn spelled(octets: &[u8]) -> CivilTime
     requires { IsTrue (is_spelled octets.now) }
@@ -39,7 +39,7 @@ pub(crate) fn spelled(octets: &[u8]) -> CivilTime
     }
 }
 
-/// The number of the two digits at that place.
+/// Returns the number that two digits spell.
 #[tactic(auto, using(crate::proofs::DigitsLemmas::digit_facts))]
 fn pair(octets: &[u8], at: usize) -> u8
     requires spelled { IsTrue (is_spelled octets.now) }
@@ -50,7 +50,7 @@ fn pair(octets: &[u8], at: usize) -> u8
     (octets[at] - b'0') * 10 + (octets[at + 1] - b'0')
 }
 
-/// The octets of a date and a time of day.
+/// Returns the bytes of a date and time of day.
 #[tactic(auto, unfolding(crate::specs::Digits::spelling))]
 pub(crate) fn spelling(civil: CivilTime) -> [u8; 15]
     requires { FitsDigits civil }
@@ -66,7 +66,7 @@ pub(crate) fn spelling(civil: CivilTime) -> [u8; 15]
     [c0, c1, y0, y1, m0, m1, d0, d1, h0, h1, n0, n1, s0, s1, b'Z']
 }
 
-/// The two digits of a number below 100.
+/// Returns the two digits of a number below 100.
 fn two_digits(n: u8) -> [u8; 2]
     requires { n < 100 }
     ensures { result ≡ two_digits n }

@@ -1,8 +1,8 @@
-//! INTEGER (X.690, section 8.3): two's complement in the fewest octets, here at most eight.
+//! INTEGER (X.690, section 8.3): two's complement in the fewest bytes, here at most eight.
 ghost use Rattle.std.specs.Prelude.{◌≡◌, ◌<◌, ◌≤◌, ◌-◌, ◌++◌, replicate, length, IsTrue};
 ghost use Rattle.krb_der.specs.Int.{is_int, int_value, shortest};
 
-/// Whether the octets are a number in its shortest form, of at most eight octets.
+/// Checks whether the bytes are a number in its shortest form, with at most eight bytes.
 #[tactic(auto, unfolding(crate::specs::Int::is_int))]
 pub fn is_int(octets: &[u8]) -> bool
     ensures value { result ≡ is_int octets.now }
@@ -18,7 +18,7 @@ pub fn is_int(octets: &[u8]) -> bool
     }
 }
 
-/// The number.
+/// Returns the number.
 #[tactic(auto, unfolding(crate::specs::Int::int_value))]
 pub fn int_value(octets: &[u8]) -> i64
     requires some { 0 < length octets.now }
@@ -29,7 +29,7 @@ pub fn int_value(octets: &[u8]) -> i64
     i64::from_be_bytes(extended(octets, sign))
 }
 
-/// The octets with as many of these before them as make eight.
+/// Extends the bytes to eight, with `sign` in front.
 fn extended(octets: &[u8], sign: u8) -> [u8; 8]
     requires { length octets.now ≤ 8 }
     ensures { result ≡ replicate (8 - length octets.now) sign ++ octets.now }
@@ -40,7 +40,7 @@ fn extended(octets: &[u8], sign: u8) -> [u8; 8]
     eight
 }
 
-/// Without the octets that could be left out.
+/// Removes the leading bytes that are not needed.
 #[tactic(auto, unfolding(crate::specs::Int::shortest))]
 pub fn shortest(octets: &[u8]) -> &[u8]
     ensures { result.now ≡ shortest octets.now }

@@ -1,4 +1,4 @@
-//! The elements of a list where they stand.
+//! The elements of a list, read in place.
 ghost use Rattle.std.specs.Prelude.{◌≡◌, List, ℕ, IfOk, IfErr, IsErr};
 ghost use Rattle.std.specs.Iterator.{YieldsFirstRef, item_count};
 ghost use Rattle.krb_der.specs.Items.{element_at, elements};
@@ -8,7 +8,7 @@ use crate::fault::DerFault;
 use crate::tlv::split_tlv;
 use std::marker::Model;
 
-/// The value at the front, whatever its tag, as its whole octets, and the octets after it.
+/// Splits off the value at the front, with any tag: returns all of its bytes, and the bytes after it.
 #[tactic(auto, unfolding(crate::specs::Items::element_at))]
 fn split_element(bytes: &[u8]) -> Result<(&[u8], &[u8]), DerFault>
     ensures { Gives (λ x. (x.0.now, x.1.now)) result (element_at bytes.now) }
@@ -20,8 +20,8 @@ fn split_element(bytes: &[u8]) -> Result<(&[u8], &[u8]), DerFault>
     Ok(bytes.split_at(bytes.len() - rest.len()))
 }
 
-/// An iterator over the elements of a list whose elements have been checked: it gives each element's
-/// whole octets, and ends. (Of other contents it gives the elements up to the first place where none stands.)
+/// An iterator over the elements of a list that have been checked before. It yields all bytes of each element. (For
+/// other contents it yields the elements up to the first place that is not an element.)
 #[derive(Debug, Drop)]
 pub struct Items<'a> {
     rest: &'a [u8],
@@ -37,14 +37,14 @@ impl<'a> Model for Items<'a> {
 }
 
 impl<'a> Items<'a> {
-    /// The elements of a list with these contents.
+    /// Returns the elements of a list with these contents.
     pub fn new(contents: &'a [u8]) -> Items<'a>
         ensures { result ≡ elements contents.now }
     {
         Items { rest: contents }
     }
 
-    /// The same elements, to be gone over apart.
+    /// Returns an independent iterator over the same elements.
     pub fn iter(&self) -> Items<'a>
         ensures { result ≡ self.now }
     {

@@ -1,10 +1,10 @@
-//! The length of a value: definite, in its shortest form, in at most four octets (X.690, sections 8.1.3 and 10.1).
+//! The length of a value: definite, in its shortest form, in at most four bytes (X.690, sections 8.1.3 and 10.1).
 ghost use Rattle.std.specs.Prelude.{◌≡◌};
 ghost use Rattle.krb_der.specs.Reading.{Gives, length_at};
 
 use crate::fault::DerFault;
 
-/// The length at the front, and the octets after it.
+/// Returns the length at the front, and the bytes after it.
 #[tactic(auto, unfolding(crate::specs::Reading::length_at))]
 pub fn split_length(bytes: &[u8]) -> Result<(u32, &[u8]), DerFault>
     ensures { Gives (λ x. (x.0, x.1.now)) result (length_at bytes.now) }

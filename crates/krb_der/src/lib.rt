@@ -1,7 +1,7 @@
-//! DER (X.690) as Kerberos uses it (RFC 4120, section 5.1): a reader over borrowed octets, and a writer.
+//! DER (X.690) as Kerberos uses it (RFC 4120, section 5.1): a reader over borrowed bytes, and a writer.
 //!
-//! A value is its tag, its length and its contents. Tags are single octets, lengths are definite and in
-//! their shortest form, in at most four octets after the first.
+//! A value is its tag, its length and its contents. Tags are single bytes. Lengths are definite and in their shortest
+//! form, with at most four bytes after the first.
 #![tactic(auto)]
 
 mod bits;

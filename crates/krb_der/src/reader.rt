@@ -1,4 +1,4 @@
-//! A reader of DER values from the front of borrowed octets.
+//! Reads DER values from the front of borrowed bytes.
 ghost use Rattle.std.specs.Prelude.{◌≡◌, ◌==◌, ◌<◌, ◌^◌, ◌++◌, IfOk, IsOkAnd, List, ℕ, ℤ, length, slice_get};
 ghost use Rattle.krb_der.specs.Spelling.{tlv, Stands};
 ghost use Rattle.krb_der.specs.Int.{Int};
@@ -11,7 +11,7 @@ use crate::time::KTime;
 use crate::tlv::{split_bits, split_int, split_time, split_tlv};
 use std::marker::Model;
 
-/// The octets that are left to read. A read that fails leaves the reader where it was.
+/// The bytes that are left to read. A read that fails doesn't move the reader.
 #[derive(Clone, Debug, Drop)]
 pub struct Reader<'a> {
     rest: &'a [u8],
@@ -24,7 +24,7 @@ impl<'a> Model for Reader<'a> {
 }
 
 impl<'a> Reader<'a> {
-    /// A reader that stands before all of the octets.
+    /// Returns a reader at the start of the bytes.
     pub fn new(bytes: &'a [u8]) -> Reader<'a>
         ensures { result ≡ bytes.now }
     {
@@ -37,21 +37,21 @@ impl<'a> Reader<'a> {
         self.rest.is_empty()
     }
 
-    /// The first octet, which is the tag of the next value.
+    /// Returns the first byte, which is the tag of the next value.
     pub fn peek_tag(&self) -> Option<u8>
         ensures { result ≡ slice_get self.now 0 }
     {
         self.rest.first().copied()
     }
 
-    /// The contents of the value with this tag at the front.
+    /// Reads the value with this tag at the front, and returns its contents.
     pub fn read_tlv(&mut self, tag: u8) -> Result<&'a [u8], DerFault>
-        // What is read stands at the front, in its one spelling.
+        // If it succeeds, this value is at the front, in its only encoding.
         ensures found { IfOk result (λ c. (self.old ≡ tlv tag c.now ++ self.new) × (length c.now < 2 ^ 32)) }
-        // What stands at the front is read.
+        // If such a value is at the front, it succeeds.
         ensures only { (contents rest : List ℕ) → length contents < 2 ^ 32 → self.old ≡ tlv tag contents ++ rest
             → IsOkAnd result (λ c. c.now ≡ contents) × (self.new ≡ rest) }
-        // Which fault it is, and that it moves nothing.
+        // The result, including the error, is that of the definition. After an error the reader hasn't moved.
         ensures exact { Reads (λ c. c.now) result self.old self.new (tlv_at tag self.old) }
     {
         let (contents, rest) = split_tlv(self.rest, tag)?;
@@ -59,7 +59,7 @@ impl<'a> Reader<'a> {
         Ok(contents)
     }
 
-    /// The OCTET STRING at the front.
+    /// Reads the OCTET STRING at the front.
     pub fn read_octets(&mut self) -> Result<&'a [u8], DerFault>
         ensures found { IfOk result (λ c. (self.old ≡ tlv 4 c.now ++ self.new) × (length c.now < 2 ^ 32)) }
         ensures only { (contents rest : List ℕ) → length contents < 2 ^ 32 → self.old ≡ tlv 4 contents ++ rest
@@ -69,7 +69,7 @@ impl<'a> Reader<'a> {
         self.read_tlv(0x04)
     }
 
-    /// The INTEGER at the front, of at most eight octets.
+    /// Reads the INTEGER at the front, with at most eight bytes.
     pub fn read_int(&mut self) -> Result<i64, DerFault>
         ensures found { IfOk result (λ z. Stands (Int z) self.old self.new) }
         ensures only { (z : ℤ) (rest : List ℕ) → Stands (Int z) self.old rest
@@ -81,8 +81,8 @@ impl<'a> Reader<'a> {
         Ok(value)
     }
 
-    /// The BIT STRING at the front: its first 32 bits, the first of them the most significant (missing
-    /// ones are zero), and how many bits it has.
+    /// Reads the BIT STRING at the front. Returns its first 32 bits, most significant first, with zeros for missing
+    /// ones, and the number of its bits.
     pub fn read_bits(&mut self) -> Result<(u32, u64), DerFault>
         ensures found { IfOk result (λ b. Stands (Bits b) self.old self.new) }
         ensures only { (b : ℕ × ℕ) (rest : List ℕ) → Stands (Bits b) self.old rest
@@ -94,7 +94,7 @@ impl<'a> Reader<'a> {
         Ok(bits)
     }
 
-    /// The KerberosTime at the front.
+    /// Reads the KerberosTime at the front.
     pub fn read_time(&mut self) -> Result<KTime, DerFault>
         ensures found { IfOk result (λ z. Stands (Time z) self.old self.new) }
         ensures only { (z : ℤ) (rest : List ℕ) → Stands (Time z) self.old rest

@@ -31,7 +31,7 @@ impl Model for KTime {
 }
 
 impl KTime {
-    /// The time that many seconds after 1970-01-01T00:00:00Z, if it lies in the years 0000 to 9999.
+    /// Returns the time this many seconds after 1970-01-01T00:00:00Z, if it is in the years 0000 to 9999.
     pub fn new(seconds: i64) -> Option<KTime>
         ensures { SomeIff result (IsCivilSecond seconds) seconds }
     {
@@ -41,7 +41,7 @@ impl KTime {
         Some(KTime { seconds })
     }
 
-    /// The time of these seconds since 1970-01-01T00:00:00Z, which are in range.
+    /// Returns the time this many seconds after 1970-01-01T00:00:00Z, which must be in range.
     pub fn of(seconds: i64) -> KTime
         requires { IsCivilSecond seconds }
         ensures { result ≡ seconds }
@@ -49,7 +49,7 @@ impl KTime {
         KTime { seconds }
     }
 
-    /// Its seconds since 1970-01-01T00:00:00Z.
+    /// Returns its seconds since 1970-01-01T00:00:00Z.
     pub fn seconds(self) -> i64
         ensures value { result ≡ self }
         ensures range { IsCivilSecond result }
@@ -57,8 +57,8 @@ impl KTime {
         self.seconds
     }
 
-    /// The time that the octets spell. They are fifteen, YYYYMMDDHHMMSSZ, with a date of the calendar
-    /// and a time of day up to 23:59:59: no fraction, no leap second and no other zone.
+    /// Returns the time that the bytes spell. They must be fifteen, YYYYMMDDHHMMSSZ, with a date of the calendar and a
+    /// time of day up to 23:59:59: no fraction, no leap second and no other time zone.
     #[tactic(auto, unfolding(crate::specs::Time::is_time, crate::specs::Time::time_value))]
     pub fn from_octets(octets: &[u8]) -> Option<KTime>
         ensures value { result ≡ (if is_time octets.now then Some (time_value octets.now) else None) }
@@ -71,11 +71,11 @@ impl KTime {
         Some(KTime { seconds })
     }
 
-    /// Its fifteen octets, YYYYMMDDHHMMSSZ.
+    /// Returns its fifteen bytes, YYYYMMDDHHMMSSZ.
     #[tactic(auto, using(crate::proofs::TimeLaws::time_again), unfolding(crate::specs::Time::time_octets))]
     pub fn to_octets(self) -> [u8; 15]
         ensures octets { result ≡ time_octets self }
-        // What is written is read again.
+        // Reading the result gives this time again.
         ensures is_time { IsTrue (is_time result) }
         ensures value { time_value result ≡ self }
     {

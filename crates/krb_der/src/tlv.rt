@@ -1,4 +1,4 @@
-//! A value between its tag, its length and what comes after it, and the values of the simple types.
+//! Splits off a value: its tag, its length, its contents and the bytes after it; and values of the simple types.
 ghost use Rattle.std.specs.Prelude.{◌≡◌, ◌<◌, ◌^◌, ◌++◌, List, ℕ, ℤ, length, IfOk, IsOkAnd};
 ghost use Rattle.krb_der.specs.Reading.{Gives, tlv_at, int_at, bits_at, time_at};
 ghost use Rattle.krb_der.specs.Spelling.{tlv, Stands};
@@ -12,7 +12,7 @@ use crate::int::{int_value, is_int};
 use crate::length::split_length;
 use crate::time::KTime;
 
-/// The contents of the value at the front, which has this tag, and the octets after it.
+/// Returns the contents of the value with this tag at the front, and the bytes after it.
 #[tactic(auto, unfolding(crate::specs::Reading::tlv_at))]
 fn tlv_parts(bytes: &[u8], tag: u8) -> Result<(&[u8], &[u8]), DerFault>
     ensures exact { Gives (λ x. (x.0.now, x.1.now)) result (tlv_at tag bytes.now) }
@@ -65,7 +65,7 @@ fn time_parts(bytes: &[u8]) -> Result<(KTime, &[u8]), DerFault>
     Ok((time, rest))
 }
 
-/// The contents of the value at the front, which has this tag, and the octets after it.
+/// Returns the contents of the value with this tag at the front, and the bytes after it.
 pub fn split_tlv(bytes: &[u8], tag: u8) -> Result<(&[u8], &[u8]), DerFault>
     ensures found { IfOk result (λ x. (bytes.now ≡ tlv tag x.0.now ++ x.1.now) × (length x.0.now < 2 ^ 32)) }
     ensures only { (contents rest : List ℕ) → length contents < 2 ^ 32 → bytes.now ≡ tlv tag contents ++ rest
@@ -75,7 +75,7 @@ pub fn split_tlv(bytes: &[u8], tag: u8) -> Result<(&[u8], &[u8]), DerFault>
     tlv_parts(bytes, tag)
 }
 
-/// The INTEGER at the front, and the octets after it.
+/// Returns the INTEGER at the front, and the bytes after it.
 pub fn split_int(bytes: &[u8]) -> Result<(i64, &[u8]), DerFault>
     ensures found { IfOk result (λ x. Stands (Int x.0) bytes.now x.1.now) }
     ensures only { (z : ℤ) (rest : List ℕ) → Stands (Int z) bytes.now rest
@@ -85,7 +85,7 @@ pub fn split_int(bytes: &[u8]) -> Result<(i64, &[u8]), DerFault>
     int_parts(bytes)
 }
 
-/// The BIT STRING at the front, its first 32 bits and how many there are, and the octets after it.
+/// Returns the BIT STRING at the front, as its first 32 bits and the number of its bits, and the bytes after it.
 pub fn split_bits(bytes: &[u8]) -> Result<((u32, u64), &[u8]), DerFault>
     ensures found { IfOk result (λ x. Stands (Bits x.0) bytes.now x.1.now) }
     ensures only { (b : ℕ × ℕ) (rest : List ℕ) → Stands (Bits b) bytes.now rest
@@ -95,7 +95,7 @@ pub fn split_bits(bytes: &[u8]) -> Result<((u32, u64), &[u8]), DerFault>
     bits_parts(bytes)
 }
 
-/// The KerberosTime at the front, and the octets after it.
+/// Returns the KerberosTime at the front, and the bytes after it.
 pub fn split_time(bytes: &[u8]) -> Result<(KTime, &[u8]), DerFault>
     ensures found { IfOk result (λ x. Stands (Time x.0) bytes.now x.1.now) }
     ensures only { (z : ℤ) (rest : List ℕ) → Stands (Time z) bytes.now rest

@@ -1,4 +1,4 @@
--- Reading values one after the other, as a loop does.
+-- Reading values in a loop.
 use Rattle.std.proofs.lemmas.Bool.{eqb-false}
 use Rattle.std.specs.Prelude.{IsOk}
 use Rattle.std.proofs.Common.{eqb, false, ◌≡◌, ℕ, zero, suc, ◌≤◌, ◌<◌, List, [], ◌∷◌, ◌++◌, length, Result, Ok, Err, refl, sym, ap, ◌∙◌, append_assoc, arith}
@@ -9,7 +9,7 @@ use Rattle.krb_elements.specs.declared.fault.Fault.{Fault}
 use Rattle.krb_elements.specs.declared.fault.Fault.TheVariants as faults
 use Rattle.krb_elements.specs.Format.{Fails, items}
 
--- what was read before, and what is still read
+-- what was read before, followed by what is still read
 abbrev pub with_front : {A : Type 0} → List A → Result (List A) DerFault → Result (List A) DerFault
 with_front front read = read >>= λ xs. Ok (front ++ xs)
 

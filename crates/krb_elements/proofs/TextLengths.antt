@@ -1,4 +1,4 @@
--- How long the text of a value can be: what the tests ask before they write one.
+-- Upper bounds on the length of a value's text, which writing it requires.
 use Rattle.std.proofs.Common.{ℕ, ℤ, pos, ◌+◌, ◌*◌, ◌≤◌, List, [], ◌∷◌, length, Option, Some, None, arith}
 use Rattle.std.proofs.lemmas.List.{length-append}
 use Rattle.krb_der.specs.Spelling.{tlv}

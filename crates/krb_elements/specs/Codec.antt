@@ -1,5 +1,5 @@
--- A type's octets: one definition says which octets spell a value, how it is read, and how it is written.
--- A message is one such definition, with one line for each field.
+-- The encoding of a type: one definition says which bytes encode a value, how it is read, and how it is written. A
+-- message is one such definition, with one line for each field.
 use Rattle.std.proofs.Common.{◌≤◌, length, refl}
 use Rattle.std.specs.Prelude.{◌≡◌, ℕ, ℤ, ◌+◌, ◌&&◌, nat_lt, Bool, true, false, IsTrue, IfSome, List, ◌++◌, Option, Some}
 use Rattle.std.specs.Prelude.{None, Result}
@@ -59,49 +59,49 @@ use Rattle.krb_elements.specs.CodecLaws.{
   round_laws,
 }
 
--- a type whose values have a tag of their own
+-- a type whose values have their own tag
 pub record Codec (A : Type 0) : Type 1 where
-  -- which octets spell a value
+  -- which bytes encode a value
   pub Spells : A → List ℕ → Type 0
-  -- what reading gives at the front of octets
+  -- what reading returns at the front of bytes
   pub at : List ℕ → Result (A × List ℕ) DerFault
-  -- the tag and the contents of the spelling that is written
+  -- the tag and the contents of the encoding that is written
   pub tag : ℕ
   pub text : A → List ℕ
-  -- the values that have a spelling, where its length can be said
+  -- the values that have an encoding, if its length fits
   pub Fits : A → Type 0
-  -- whether none has two
+  -- whether no value has two
   pub has_one : Bool
   -- how these fit together
   pub laws : Laws Spells at tag text Fits has_one
-  -- how many octets the contents have at most
+  -- an upper bound on the length of the contents
   pub most : A → ℕ
   pub bounded : (x : A) → length (text x) ≤ most x
 
--- the octets that are written for a value
+-- the bytes that are written for a value
 abbrev pub written : {A : Type 0} → Codec A → A → List ℕ
 written c x = tlv c.tag (c.text x)
 
--- fields, one after another; a list of them says of each its tag, what of X it holds, and its type
+-- fields in order. A list of them says, for each, its tag, its part of X, and its type
 pub record Fields (X : Type 0) : Type 1 where
-  -- what the fields hold
+  -- the values of the fields
   pub Values : Type 0
   pub of : X → Values
   pub Spells : Values → List ℕ → Type 0
   pub at : List ℕ → Result (Values × List ℕ) DerFault
   pub text : Values → List ℕ
-  -- the same behind what was written before
+  -- the same, appended to earlier output
   pub onto : List ℕ → Values → List ℕ
   pub Fits : Values → Type 0
   pub has_one : Bool
-  -- the first tag, and whether the tags rise
+  -- the first tag, and whether the tags are ascending
   pub low : ℕ
   pub rising : Bool
   pub laws : IsTrue rising → FieldLaws low Spells at text onto Fits has_one
   pub most : Values → ℕ
   pub bounded : (v : Values) → length (text v) ≤ most v
 
--- no more fields: the greatest tag of one octet is [30]
+-- no more fields; the greatest tag of one byte is [30]
 abbrev pub end : {X : Type 0} → Fields X
 end = record {
   Values = Unit {0};
@@ -119,7 +119,7 @@ end = record {
   bounded = end_bounded;
 }
 
--- the field with the tag [n], and the later ones
+-- the field with the tag [n], followed by the later ones
 abbrev pub field : {X A : Type 0} → ℕ → (X → A) → Codec A → Fields X → Fields X
 field {X} {A} n get c rest = record {
   Values = A × rest.Values;
@@ -138,7 +138,7 @@ field {X} {A} n get c rest = record {
   bounded = then_bounded (160 + n) c.tag c.text c.most rest.text rest.most c.bounded rest.bounded;
 }
 
--- the field with the tag [n], which may be absent, and the later ones
+-- the optional field with the tag [n], followed by the later ones
 abbrev pub optional : {X A : Type 0} → ℕ → (X → Option A) → Codec A → Fields X → Fields X
 optional {X} {A} n get c rest = record {
   Values = Option A × rest.Values;
@@ -157,7 +157,7 @@ optional {X} {A} n get c rest = record {
   bounded = optional_bounded (160 + n) c.tag c.text c.most rest.text rest.most c.bounded rest.bounded;
 }
 
--- the field with the tag [n] and its octets as they were sent, and the later ones
+-- the field with the tag [n] and its bytes as they were sent, followed by the later ones
 abbrev pub sent_field : {X A : Type 0} → ℕ → (X → WithOctets A) → Codec A → Fields X → Fields X
 sent_field {X} {A} n get c rest = record {
   Values = WithOctets A × rest.Values;
@@ -176,7 +176,7 @@ sent_field {X} {A} n get c rest = record {
   bounded = sent_bounded (160 + n) rest.text rest.most rest.bounded;
 }
 
--- a type that is made of fields: they hold all of a value, and their tags rise
+-- a type that consists of fields: they hold all of a value, and their tags are ascending
 pub record Record (X : Type 0) : Type 1 where
   pub fields : Fields X
   pub to : fields.Values → X
@@ -184,7 +184,7 @@ pub record Record (X : Type 0) : Type 1 where
   pub back : (x : X) → to (fields.of x) ≡ x
   pub rising : IsTrue fields.rising
 
--- what spells, reads and writes its fields
+-- the encoding, reading and writing of its fields
 abbrev pub SpellsFields : {X : Type 0} → Record X → X → List ℕ → Type 0
 SpellsFields r x = r.fields.Spells (r.fields.of x)
 
@@ -218,7 +218,7 @@ sequence r = record {
   bounded = λ x. r.fields.bounded (r.fields.of x);
 }
 
--- the same with a tag round it, where there is one
+-- the same inside a tag, if there is one
 abbrev pub in_tag : {X : Type 0} → Option ℕ → Codec X → Codec X
 in_tag None c = c
 in_tag (Some tag) c = record {
@@ -243,7 +243,7 @@ pub record AreSame {X : Type 0} (c d : Codec X) : Type 0 where
 pub itself : {X : Type 0} {c : Codec X} → AreSame c c
 itself = record { at = λ bytes. refl; text = λ x. refl; written = λ x. refl; fits = λ x h. h }
 
--- the tag [APPLICATION n] round it
+-- inside the tag [APPLICATION n]
 abbrev pub application : {X : Type 0} → ℕ → Codec X → Codec X
 application n = in_tag (Some (96 + n))
 
@@ -261,7 +261,7 @@ list_of c = record {
   bounded = items_bounded c.tag c.text c.most c.bounded;
 }
 
--- the same, where the length of what is written is known
+-- the same, with the known length of what is written
 abbrev pub measured : {A : Type 0} → Codec A → Codec A
 measured c = record c { most = λ x. length (c.text x); bounded = λ x. as_long (c.text x) }
 
@@ -306,7 +306,7 @@ microseconds = record {
   bounded = microseconds_bounded;
 }
 
--- a number that is fixed
+-- a fixed number
 abbrev pub fixed : (n : ℤ) → IsTrue (simple.is_within n n n) → simple.IsInt32 n → Codec (Unit {0})
 fixed n same fits = record {
   Spells = simple.Fixed n;

@@ -1,4 +1,4 @@
--- What holds of every type that is put together of the words of Codec.
+-- Laws of every type that is built from the pieces in Codec.
 use Rattle.std.specs.Prelude.{IfSome, IsTrue, unsigned_abs, ◌&&◌, nat_lt}
 use Rattle.std.proofs.Common.{◌≡◌, ℕ, ℤ, pos, negsuc, ◌*◌, ◌^◌, ◌<◌, ◌≤◌, Bool, true, false, cond, eqb, List, [], ◌∷◌}
 use Rattle.std.proofs.Common.{◌++◌, length, Option, Some, None, Result, Ok, Err, refl, sym, ap, subst, ◌∙◌}
@@ -75,25 +75,25 @@ use Rattle.krb_elements.specs.OneSpellingLaws.{field_one, optional_one, end_one,
 use Rattle.krb_elements.specs.ShortTextLaws.{IsShort, AreShort, one_short, flags_short, inside_short, round_short}
 use Rattle.krb_elements.specs.ShortTextLaws.{field_short, optional_short, end_short, tlv_short, tlv_long}
 
--- what has a spelling is in its range
+-- a value with an encoding is in range
 pub record AreInRange {A : Type 0} (S : A → List ℕ → Type 0) (Fits : A → Type 0) : Type 0 where
   pub fits : (x : A) (bytes : List ℕ) → IsBytes bytes → S x bytes → Fits x
 
 -- a value with its own tag
 pub record Laws {A : Type 0} (S : A → List ℕ → Type 0) (at : List ℕ → Result (A × List ℕ) DerFault) (tag : ℕ)
     (text : A → List ℕ) (Fits : A → Type 0) (has_one : Bool) : Type 0 where
-  -- what is read is spelled so, and what is spelled so is read
+  -- a value that is read is encoded so, and a value that is encoded so is read
   pub element : IsElement S at
-  -- what has a spelling is in its range
+  -- a value with an encoding is in range
   pub range : AreInRange S Fits
-  -- what is in its range has the spelling that is written
+  -- a value in range has the encoding that is written
   pub writable : IsWritable Fits S tag text
-  -- which has at most three times the octets of any spelling
+  -- which is at most three times as long as any of its encodings
   pub short : IsShort S tag text
   -- and is the only one
   pub one : IsTrue has_one → HasOneSpelling S tag text
 
--- fields, none of which has a tag below low
+-- fields whose tags are not below low
 pub record FieldLaws {V : Type 0} (low : ℕ) (G : V → List ℕ → Type 0) (g : List ℕ → Result (V × List ℕ) DerFault)
     (text : V → List ℕ) (onto : List ℕ → V → List ℕ) (Fit : V → Type 0) (has_one : Bool) : Type 0 where
   pub fields : AreFields low G (whole g)
@@ -101,7 +101,7 @@ pub record FieldLaws {V : Type 0} (low : ℕ) (G : V → List ℕ → Type 0) (g
   pub writable : AreWritable Fit G text
   pub short : AreShort G text
   pub one : IsTrue has_one → HaveOneText G text
-  -- what is written one after another is the text
+  -- writing them in order gives the text
   pub appends : (done : List ℕ) (v : V) → onto done v ≡ done ++ text v
 
 both : (a b : Bool) → IsTrue (a && b) → IsTrue a × IsTrue b
@@ -262,7 +262,7 @@ list_laws S at tag text Fits has_one laws = record {
 
 -- ---- fields
 
--- readings that give the same
+-- readings with the same result
 same_whole : {A : Type 0} (S : A → List ℕ → Type 0) (f g : List ℕ → Result A DerFault)
     → ((bytes : List ℕ) → g bytes ≡ f bytes) → IsWhole S f → IsWhole S g
 same_whole S f g same is = record {
@@ -274,7 +274,7 @@ same_fields : {A : Type 0} (low : ℕ) (S : A → List ℕ → Type 0) (f g : Li
     → ((bytes : List ℕ) → g bytes ≡ f bytes) → AreFields low S f → AreFields low S g
 same_fields low S f g same are = record { whole = same_whole S f g same are.whole; above = are.above }
 
--- that nothing is left
+-- nothing is left
 abbrev if_ended : {A : Type 0} → A × List ℕ → Result A DerFault
 if_ended z = cond (eqb (length z.1) 0) (Ok z.0) (Err Trailing)
 
@@ -295,7 +295,7 @@ ended_one : {A B : Type 0} (x : A) (r : Result (B × List ℕ) DerFault)
 ended_one x (Ok y) = ended_pair (eqb (length y.1) 0) x y.0
 ended_one x (Err e) = refl
 
--- the end that is looked for after all fields, or after the later ones
+-- checking for the end after all fields, or after the later ones
 ended : {A B : Type 0} (g : List ℕ → Result (B × List ℕ) DerFault) (r : Result (A × List ℕ) DerFault)
     → (r >>= λ x. g x.1 >>= before x.0) >>= if_ended ≡ r >>= (λ x. whole g x.1 >>= beside x.0)
 ended g (Ok x) = ended_one x.0 (g x.1)
@@ -396,7 +396,7 @@ made_one : {V X : Type 0} (to : V → X) (b : Bool) (v : V)
 made_one to true v = refl
 made_one to false v = refl
 
--- the field's octets are written as they were sent
+-- the field's bytes are written as they were sent
 abbrev pub sent_then : {A B : Type 0} → ℕ → (B → List ℕ) → WithOctets A × B → List ℕ
 sent_then outer others v = tlv outer v.0.octets ++ others v.1
 
@@ -488,7 +488,7 @@ either_shorter : {K A : Type 0} (tag : K → ℕ) (k m : K) (S : A → List ℕ 
 either_shorter tag k m S at is true bytes x rest e = (tagged_ok tag m S at is).shorter bytes x rest e
 either_shorter tag k m S at is false bytes x rest e = (tagged_ok tag k S at is).shorter bytes x rest e
 
--- what holds of both holds of each
+-- a property of both holds of each
 abbrev pub AreAll : {K : Type 0} → K → K → Type 1
 AreAll {K} k m = (P : K → Type 0) → P k → P m → (x : K) → P x
 
@@ -515,7 +515,7 @@ made_whole : {V X : Type 0} (to : V → X) (r : Result (V × List ℕ) DerFault)
 made_whole to (Err e) = refl
 made_whole to (Ok v) = made_one to (eqb (length v.1) 0) v.0
 
--- ---- what is made of fields, and what has a tag of its own
+-- ---- types that consist of fields, and types with their own tag
 
 pub sequence_laws : {X V : Type 0} (low : ℕ) (of : X → V) (to : V → X) (G : V → List ℕ → Type 0)
     (g : List ℕ → Result (V × List ℕ) DerFault) (text : V → List ℕ) (onto : List ℕ → V → List ℕ) (Fit : V → Type 0)

@@ -1,4 +1,4 @@
--- How the parts of a message are read: each word is one way to put readings together.
+-- Reading the parts of a message: each definition is one way to combine readings.
 use Rattle.std.specs.Prelude.{◌≡◌, ℕ, suc, zero, Bool, false, List, [], ◌∷◌, length, Option, Some, None, Result, Ok}
 use Rattle.std.specs.Prelude.{Err, ◌==◌, if◌then◌else◌}
 use Rattle.krb_der.specs.declared.fault.DerFault.{DerFault}
@@ -8,7 +8,7 @@ use Rattle.krb_elements.specs.Sent.{WithOctets}
 use Rattle.krb_elements.specs.declared.fault.Fault.{Fault}
 use Rattle.krb_elements.specs.declared.fault.Fault.TheVariants as faults
 
--- ---- what a function returned, and what reading gives
+-- ---- the result of a function, compared with what reading gives
 
 abbrev pub Fails : {Y : Type 0} → Fault → Result Y DerFault → Type 0
 Fails faults.Memory read = Unit {0}
@@ -36,7 +36,7 @@ IsReadUnlessMemory (Err (faults.Der f)) x = ⊥
 
 -- ---- values
 
--- all of the octets
+-- a value that takes up all of the bytes
 abbrev pub whole : {A : Type 0} → (List ℕ → Result (A × List ℕ) DerFault) → List ℕ → Result A DerFault
 whole f bytes = f bytes >>= λ x. if length x.1 == 0 then Ok x.0 else Err Trailing
 
@@ -49,14 +49,14 @@ abbrev pub such : {A : Type 0} → (A → Bool) → DerFault → (List ℕ → R
     → Result (A × List ℕ) DerFault
 such test fault f bytes = f bytes >>= λ x. if test x.0 then Ok x else Err fault
 
--- what is kept of a value
+-- the part of a value that is kept
 abbrev pub seen_as : {A B : Type 0} → (A → B) → (List ℕ → Result (A × List ℕ) DerFault) → List ℕ
     → Result (B × List ℕ) DerFault
 seen_as to f bytes = f bytes >>= λ x. Ok (to x.0, x.1)
 
--- ---- fields, one after another, of which nothing is left
+-- ---- fields in order, with nothing left after them
 
--- whether the next value has this tag
+-- the next value has this tag
 abbrev pub starts : ℕ → List ℕ → Bool
 starts tag [] = false
 starts tag (b ∷ rest) = b == tag
@@ -64,24 +64,24 @@ starts tag (b ∷ rest) = b == tag
 abbrev pub end : List ℕ → Result (Unit {0}) DerFault
 end bytes = if length bytes == 0 then Ok tt else Err Trailing
 
--- a field with contents that are read as a whole, and all later ones
+-- a field whose contents are read as a whole, followed by all later ones
 abbrev pub field_of : {A B : Type 0} → ℕ → (List ℕ → Result A DerFault) → (List ℕ → Result B DerFault) → List ℕ
     → Result (A × B) DerFault
 field_of tag w g bytes = inside tag w bytes >>= λ x. g x.1 >>= λ y. Ok (x.0, y)
 
--- a field, and all later ones
+-- a field, followed by all later ones
 abbrev pub field : {A B : Type 0} → ℕ → (List ℕ → Result (A × List ℕ) DerFault) → (List ℕ → Result B DerFault) → List ℕ
     → Result (A × B) DerFault
 field tag f = field_of tag (whole f)
 
--- a value and its octets as they were sent
+-- a value and its bytes as they were sent
 abbrev pub with_octets : {A : Type 0} → List ℕ → A → WithOctets A
 with_octets bytes x = record { value = x; octets = bytes }
 
 abbrev pub sent : {A : Type 0} → (List ℕ → Result A DerFault) → List ℕ → Result (WithOctets A) DerFault
 sent w bytes = w bytes >>= λ x. Ok (with_octets bytes x)
 
--- a field that may be absent
+-- an optional field
 abbrev pub maybe : {A : Type 0} → ℕ → (List ℕ → Result (A × List ℕ) DerFault) → List ℕ
     → Result (Option A × List ℕ) DerFault
 maybe tag f bytes =
@@ -91,19 +91,19 @@ abbrev pub optional : {A B : Type 0} → ℕ → (List ℕ → Result (A × List
     → List ℕ → Result (Option A × B) DerFault
 optional tag f g bytes = maybe tag f bytes >>= λ x. g x.1 >>= λ y. Ok (x.0, y)
 
--- the value that is made of the fields
+-- the value made from the fields
 abbrev pub made : {A B : Type 0} → (A → B) → (List ℕ → Result A DerFault) → List ℕ → Result B DerFault
 made to f bytes = f bytes >>= λ x. Ok (to x)
 
 -- ---- lists
 
--- values one after another, at most so many, of which nothing is left
+-- values in order, at most this many, with nothing left after them
 unfoldable pub items : {A : Type 0} → (List ℕ → Result (A × List ℕ) DerFault) → ℕ → List ℕ → Result (List A) DerFault
 items f n [] = Ok []
 items f zero (b ∷ bytes) = Err Trailing
 items f (suc n) (b ∷ bytes) = f (b ∷ bytes) >>= λ x. items f n x.1 >>= λ xs. Ok (x.0 ∷ xs)
 
--- each takes an octet at least
+-- each takes at least a byte
 abbrev pub items_of : {A : Type 0} → (List ℕ → Result (A × List ℕ) DerFault) → List ℕ → Result (List A) DerFault
 items_of f bytes = items f (length bytes) bytes
 
@@ -115,7 +115,7 @@ abbrev pub and_then : {A : Type 0} → Result A DerFault → List A → List A
 and_then (Ok x) xs = x ∷ xs
 and_then (Err e) xs = xs
 
--- what the elements of a list are, each of which is read on its own
+-- the values of the elements of a list, each read on its own
 abbrev pub values : {A : Type 0} → (List ℕ → Result (A × List ℕ) DerFault) → List (List ℕ) → List A
 values f [] = []
 values f (e ∷ es) = and_then (whole f e) (values f es)

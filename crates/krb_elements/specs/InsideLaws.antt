@@ -1,4 +1,4 @@
--- What stands in a value is no longer than the octets that spell the value.
+-- A part of a value is no longer than the bytes that encode the value.
 use Rattle.std.proofs.Common.{ℕ, ◌≤◌, List, length, Option, Some, None, subst, ap, arith}
 use Rattle.std.specs.Prelude.{IfSome}
 use Rattle.std.proofs.lemmas.List.{length-append}
@@ -7,7 +7,7 @@ use Rattle.krb_der.specs.StepLaws.{IsBytes-back, IsBytes-front}
 use Rattle.krb_elements.specs.Spells.{Inside, Field, Optional, OptionalOf}
 use Rattle.krb_elements.specs.WrittenLaws.{tlv_longer, inside_fits}
 
--- the part's size is at most the count of these octets
+-- the part's size is at most the number of these bytes
 abbrev pub IsAtMost : {X : Type 0} → (X → ℕ) → Option X → List ℕ → Type 0
 IsAtMost size part bytes = IfSome part (λ x. size x ≤ length bytes)
 
@@ -16,11 +16,11 @@ longer : {X : Type 0} (size : X → ℕ) (part : Option X) (short long : List �
 longer size (Some x) short long le h = omega (arith, le, h)
 longer size None short long le h = tt
 
--- the part of each value is at most as large as the value's octets
+-- the part of each value is at most as large as the value's encoding
 pub record IsInside {A X : Type 0} (size : X → ℕ) (S : A → List ℕ → Type 0) (part : A → Option X) : Type 0 where
   pub is : (a : A) (bytes : List ℕ) → IsBytes bytes → S a bytes → IsAtMost size (part a) bytes
 
--- the part of an optional value, where it is there
+-- the part of an optional value, if it is there
 abbrev pub part_of : {A X : Type 0} → (A → Option X) → Option A → Option X
 part_of part (Some a) = part a
 part_of part None = None

@@ -1,4 +1,5 @@
--- What is read is spelled so, and what is spelled so is read: kept by each way to put the two together.
+-- A value that is read is encoded so, and a value that is encoded so is read. Each way to combine readings preserves
+-- this.
 use Rattle.std.proofs.Common.{◌≡◌, ℕ, zero, suc, ◌^◌, ◌<◌, ◌≤◌, Bool, true, false, cond, eqb, List, [], ◌∷◌, ◌++◌}
 use Rattle.std.proofs.Common.{length, Option, Some, None, Result, Ok, Err, refl, sym, ap, subst, ◌∙◌, arith}
 use Rattle.std.specs.Prelude.{IfOk, IsOk, IsOkAnd}
@@ -20,22 +21,22 @@ use Rattle.krb_elements.specs.Format.{and_then, values}
 use Rattle.krb_elements.specs.Sent.{WithOctets}
 use Rattle.krb_elements.specs.Spells.{Inside, Such, SeenAs, End, Field, Sent, OptionalOf, Optional, Items, ListOf}
 
--- the octets are one value, whatever its tag
+-- the bytes are one value, with any tag
 abbrev pub IsValue : List ℕ → Type 0
 IsValue bytes = (tag : ℕ) × (contents : List ℕ) × (length contents < 2 ^ 32) × (bytes ≡ tlv tag contents)
 
--- one value at the front of octets
+-- one value at the front of bytes
 pub record IsElement {A : Type 0} (S : A → List ℕ → Type 0) (f : List ℕ → Result (A × List ℕ) DerFault) : Type 0 where
   pub reading : IsReading S f
   pub value : (x : A) (front : List ℕ) → S x front → IsValue front
   pub shorter : (bytes : List ℕ) (x : A) (rest : List ℕ) → f bytes ≡ Ok (x, rest) → length rest < length bytes
 
--- all of the octets
+-- a value that takes up all of the bytes
 pub record IsWhole {A : Type 0} (S : A → List ℕ → Type 0) (f : List ℕ → Result A DerFault) : Type 0 where
   pub takes : (bytes : List ℕ) (x : A) → IsBytes bytes → f bytes ≡ Ok x → S x bytes
   pub again : (x : A) (bytes : List ℕ) → S x bytes → f bytes ≡ Ok x
 
--- the same of fields, none of which has a tag below low
+-- the same for fields whose tags are not below low
 pub record AreFields {A : Type 0} (low : ℕ) (S : A → List ℕ → Type 0) (f : List ℕ → Result A DerFault) : Type 0 where
   pub whole : IsWhole S f
   pub above : (x : A) (bytes : List ℕ) (tag : ℕ) → tag < low → S x bytes → starts tag bytes ≡ false
@@ -261,7 +262,7 @@ optional_ok {A} {B} low tag next S f G g le lt is are =
       above = λ x bytes other l s. optional_above low tag next S G g le lt are x.0 x.1 bytes other l s;
     }
 
--- a value that is made of its fields, and its fields again
+-- a value made from its fields, and its fields again
 pub made_ok : {A B : Type 0} (low : ℕ) (to : A → B) (from : B → A) (S : A → List ℕ → Type 0)
     (f : List ℕ → Result A DerFault)
     → ((x : A) → from (to x) ≡ x) → ((y : B) → to (from y) ≡ y) → AreFields low S f
@@ -357,7 +358,7 @@ ok_value : {A E : Type 0} (r : Result A E) → IsOk r → (x : A) × (r ≡ Ok x
 ok_value (Ok x) h = (x, refl)
 ok_value (Err e) h = absurd cc
 
--- a list whose elements were read once is the list of their values
+-- a list whose elements have been read once is the list of their values
 pub list_values : {A : Type 0} (S : A → List ℕ → Type 0) (f : List ℕ → Result (A × List ℕ) DerFault) → IsElement S f
     → (contents : List ℕ) → IsBytes contents
     → IsOk (items_of f contents) → items_of f contents ≡ Ok (values f (elements contents))
@@ -365,7 +366,7 @@ list_values {A} S f is contents fits ok =
     let x = ok_value (items_of f contents) ok in
     x.1 ∙ ap (λ (v : List A). Ok v) (sym (values_are S f is contents x.0 fits x.1))
 
--- ---- what a reader of all of the octets ensures
+-- ---- what a reader that takes up all of the bytes ensures
 
 pub is_seen : {X : Type 0} (S : X → List ℕ → Type 0) (f : List ℕ → Result (X × List ℕ) DerFault) → IsElement S f
     → (bytes : List ℕ) (r : Result X DerFault) → IsBytes bytes → Sees r (whole f bytes) → IfOk r (λ x. S x bytes)

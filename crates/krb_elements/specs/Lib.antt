@@ -6,7 +6,7 @@ pub mod Simple
 pub mod FieldReading
 pub mod Codec
 pub mod CodecLaws
--- laws that proofs cite: no reader of a contract needs them
+-- laws that proofs cite; readers of a contract don't need them
 pub mod Laws
 pub mod WrittenLaws
 pub mod WritableLaws

@@ -1,4 +1,4 @@
--- What holds no bits has one spelling: the one that is written.
+-- A value without bit strings has one encoding: the one that is written.
 use Rattle.std.proofs.Common.{◌≡◌, ℕ, ℤ, pos, true, List, [], ◌∷◌, ◌++◌, Option, Some, None, sym, ap, subst, ◌∙◌, arith}
 use Rattle.std.proofs.lemmas.Int.{ints}
 use Rattle.krb_der.specs.Spelling.{tlv, IsBytes}
@@ -104,7 +104,7 @@ items_same S tag text one (x ∷ xs) bytes fits s =
     s.4 ∙ ap (λ (l : List ℕ). l ++ s.1) (one.is x s.0 (IsBytes-front s.0 s.1 both) s.2) ∙ ap
     (λ (l : List ℕ). tlv tag (text x) ++ l) (items_same S tag text one xs s.1 (IsBytes-back s.0 s.1 both) s.3)
 
--- a value round a value
+-- a value inside another
 pub round_one : {A : Type 0} (outer tag : ℕ) (S : A → List ℕ → Type 0) (text : A → List ℕ) → HasOneSpelling S tag text
     → HasOneSpelling (Inside outer S) outer (λ x. tlv tag (text x))
 round_one outer tag S text one = record {

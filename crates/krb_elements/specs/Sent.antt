@@ -1,4 +1,4 @@
--- A value with its octets as they were sent.
+-- A value with its bytes as they were sent.
 use Rattle.std.specs.Prelude.{ℕ, List, refl}
 use Rattle.std.specs.Coded.{Coded, code_by, coded×, coded_list, coded_ℕ}
 

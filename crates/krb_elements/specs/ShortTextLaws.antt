@@ -1,4 +1,4 @@
--- The spelling that is written is at most three times as long as any other, so what was read can be written.
+-- The encoding that is written is at most three times as long as any other. So what was read can be written.
 use Rattle.std.specs.Prelude.{nat_lt}
 use Rattle.std.proofs.Common.{◌≡◌, ℕ, ◌+◌, ◌*◌, ◌^◌, ◌≤◌, true, List, [], ◌∷◌, ◌++◌, length, Option, Some, None, refl}
 use Rattle.std.proofs.Common.{ap, subst, arith, inl, inr}
@@ -48,7 +48,7 @@ unfolding tlv
 tlv_long tag contents =
     omega (arith, length-append (length_octets (length contents)) contents, (length_bounds (length contents)).0)
 
--- what has one spelling is written so
+-- a value with only one encoding is written in that
 pub one_short : {A : Type 0} (S : A → List ℕ → Type 0) (tag : ℕ) (text : A → List ℕ) → HasOneSpelling S tag text
     → IsShort S tag text
 one_short S tag text one = record { is = λ x bytes fits s. omega (arith, ap length (one.is x bytes fits s)) }
@@ -74,7 +74,7 @@ flags_short = record {
   );
 }
 
--- the contents, and all that stands in them
+-- the contents, and all that is inside them
 pub inside_short : {A B : Type 0} (tag : ℕ) (G : A → List ℕ → Type 0) (text : A → List ℕ) (from : B → A)
     → AreShort G text → IsShort (Inside tag (λ y. G (from y))) tag (λ y. text (from y))
 inside_short tag G text from short = record {
@@ -87,7 +87,7 @@ inside_short tag G text from short = record {
   );
 }
 
--- a value round a value
+-- a value inside another
 pub round_short : {A : Type 0} (outer tag : ℕ) (S : A → List ℕ → Type 0) (text : A → List ℕ) → IsShort S tag text
     → IsShort (Inside outer S) outer (λ x. tlv tag (text x))
 round_short outer tag S text short = record {

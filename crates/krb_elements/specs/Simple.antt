@@ -1,4 +1,4 @@
--- The simple types of Kerberos (RFC 4120, section 5.2): which octets spell them, and how they are read.
+-- The simple types of Kerberos (RFC 4120, section 5.2): which bytes encode them, and how they are read.
 use Rattle.std.specs.Prelude.{◌≡◌, ℕ, ℤ, pos, negsuc, ◌<◌, ◌^◌, int_lt, ◌||◌, not, Bool, IsTrue, List, ◌∷◌, length}
 use Rattle.std.specs.Prelude.{Result, unsigned_abs}
 use Rattle.std.specs.Int.{w32, to_be_bytes}
@@ -25,7 +25,7 @@ Int32 = Such (is_within (negsuc 2147483647) (pos 2147483647)) Int
 unfoldable pub int32_at : List ℕ → Result (ℤ × List ℕ) DerFault
 int32_at = such (is_within (negsuc 2147483647) (pos 2147483647)) BadInteger int_at
 
--- ---- UInt32 (section 5.2.4), taken as it comes: an INTEGER from -2147483648 to 4294967295
+-- ---- UInt32 (section 5.2.4), accepted as it comes: an INTEGER from -2147483648 to 4294967295
 
 abbrev pub IsUInt32 : ℤ → Type 0
 IsUInt32 z = IsTrue (is_within (negsuc 2147483647) (pos 4294967295) z)
@@ -50,7 +50,7 @@ microseconds_at = seen_as unsigned_abs (such (is_within (pos 0) (pos 999999)) Ba
 abbrev pub microseconds_text : ℕ → List ℕ
 microseconds_text n = int_octets (pos n)
 
--- ---- a number that is fixed, as a message's version
+-- ---- a fixed number, such as a message's version
 
 abbrev pub fixed_text : ℤ → Unit {0} → List ℕ
 fixed_text n x = int_octets n
@@ -61,7 +61,7 @@ Fixed n = SeenAs (λ _. tt) (Such (is_within n n) Int)
 unfoldable pub fixed_at : ℤ → List ℕ → Result (Unit {0} × List ℕ) DerFault
 fixed_at n = seen_as (λ _. tt) (such (is_within n n) BadInteger int_at)
 
--- ---- OCTET STRING, and KerberosString (section 5.2.1): a GeneralString of any octets
+-- ---- OCTET STRING, and KerberosString (section 5.2.1): a GeneralString of any bytes
 
 abbrev pub Octets : List ℕ → List ℕ → Type 0
 Octets x bytes = (length x < 2 ^ 32) × (bytes ≡ tlv 4 x)
@@ -75,11 +75,11 @@ KerberosString x bytes = (length x < 2 ^ 32) × (bytes ≡ tlv 27 x)
 abbrev pub string_at : List ℕ → Result (List ℕ × List ℕ) DerFault
 string_at = tlv_at 27
 
--- the text of both
+-- the contents of both
 abbrev pub as_they_are : List ℕ → List ℕ
 as_they_are x = x
 
--- ---- KerberosFlags (section 5.2.8): the first 32 bits, of which the missing ones are zero
+-- ---- KerberosFlags (section 5.2.8): the first 32 bits; missing ones are zero
 
 abbrev pub first : ℕ × ℕ → ℕ
 first bits = bits.0

@@ -1,4 +1,4 @@
--- The simple types are read where they are spelled.
+-- Reading a simple type undoes encoding it.
 use Rattle.std.proofs.Common.{◌≡◌, ℕ, ℤ, pos, negsuc, ◌^◌, ◌<◌, List, [], ◌∷◌, refl, subst, arith, true, w64}
 use Rattle.std.proofs.Common.{FitsSigned}
 use Rattle.std.specs.Prelude.{unsigned_abs}
@@ -57,7 +57,7 @@ pub within_million : (z : ℤ) → is_within (pos 0) (pos 999999) z ≡ true →
 within_million (pos n) e = (grind (arith, ints), refl)
 within_million (negsuc n) e = absurd (grind (arith, ints))
 
--- the first 32 bits of octets are a number below 2^32
+-- the first 32 bits of bytes are a number below 2^32
 first_bits_fit : (octets : List ℕ) → IsBytes octets → first_bits octets < 2 ^ 32
 unfolding first_bits
 first_bits_fit [] fits = omega arith

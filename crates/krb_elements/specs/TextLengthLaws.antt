@@ -1,4 +1,4 @@
--- How long what is written is at most: each word adds up what its parts take.
+-- Upper bounds on the length of what is written: each piece adds up those of its parts.
 use Rattle.std.proofs.Common.{ℕ, ℤ, pos, ◌+◌, ◌≤◌, List, [], ◌∷◌, ◌++◌, length, Option, Some, None, arith}
 use Rattle.std.proofs.lemmas.List.{length-append}
 use Rattle.krb_der.specs.Spelling.{tlv}
@@ -11,7 +11,7 @@ use Rattle.krb_elements.specs.Written.{field_text, maybe_text, field_then, optio
 use Rattle.krb_elements.specs.ShortTextLaws.{tlv_short}
 use Rattle.krb_elements.specs.Sent.{WithOctets}
 
--- ---- the words: a tag and a length take at most 6 octets
+-- ---- the pieces: a tag and a length take at most 6 bytes
 
 abbrev pub most_maybe : {A : Type 0} → (A → ℕ) → Option A → ℕ
 most_maybe most None = 0
@@ -41,7 +41,7 @@ flags_bounded bits = omega arith
 pub as_long : (octets : List ℕ) → length octets ≤ length octets
 as_long octets = omega arith
 
--- ---- what is made of others
+-- ---- combinations
 
 pub end_bounded : (x : Unit {0}) → length (no_more x) ≤ 0
 end_bounded x = omega arith

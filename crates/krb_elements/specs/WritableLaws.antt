@@ -1,4 +1,4 @@
--- What fits has the spelling that is written: kept by each way to put the two together.
+-- A value in range has the encoding that is written. Each way to combine writings preserves this.
 use Rattle.std.proofs.Common.{◌≡◌, ℕ, ℤ, pos, ◌^◌, ◌<◌, true, List, [], ◌∷◌, ◌++◌, length, Option, Some, None, refl}
 use Rattle.std.proofs.Common.{arith, w64, FitsSigned}
 use Rattle.std.specs.Prelude.{IfSome}
@@ -25,7 +25,7 @@ pub record IsWritable {A : Type 0} (Fits : A → Type 0) (S : A → List ℕ →
 pub record AreWritable {A : Type 0} (Fit : A → Type 0) (G : A → List ℕ → Type 0) (text : A → List ℕ) : Type 0 where
   pub spell : (x : A) → Fit x → length (text x) < 2 ^ 32 → G x (text x)
 
--- every value fits
+-- every value is in range
 abbrev pub Any : {A : Type 0} → A → Type 0
 Any x = Unit {0}
 
@@ -60,9 +60,9 @@ octets_writable = record { spells = λ x any lt. (lt, refl) }
 pub string_writable : IsWritable Any KerberosString 27 as_they_are
 string_writable = record { spells = λ x any lt. (lt, refl) }
 
--- ---- what holds others
+-- ---- values that contain others
 
--- the contents, and all that stands in them
+-- the contents, and all that is inside them
 pub inside_writable : {A B : Type 0} (tag : ℕ) (Fit : A → Type 0) (G : A → List ℕ → Type 0) (text : A → List ℕ)
     (from : B → A)
     → AreWritable Fit G text → IsWritable (λ y. Fit (from y)) (Inside tag (λ y. G (from y))) tag (λ y. text (from y))
@@ -70,7 +70,7 @@ inside_writable tag Fit G text from w = record {
   spells = λ y fit lt. (text (from y), lt, w.spell (from y) fit lt, refl);
 }
 
--- a value round a value
+-- a value inside another
 pub round_writable : {A : Type 0} (outer tag : ℕ) (Fits : A → Type 0) (S : A → List ℕ → Type 0) (text : A → List ℕ)
     → IsWritable Fits S tag text → IsWritable Fits (Inside outer S) outer (λ x. tlv tag (text x))
 round_writable outer tag Fits S text w = record {
@@ -80,7 +80,7 @@ round_writable outer tag Fits S text w = record {
 pub end_writable : AreWritable Any End no_more
 end_writable = record { spell = λ x any lt. refl }
 
--- a field, and all later ones
+-- a field, followed by all later ones
 pub field_writable : {A B : Type 0} (outer tag : ℕ) (Fits : A → Type 0) (S : A → List ℕ → Type 0) (text : A → List ℕ)
     (Fit : B → Type 0) (G : B → List ℕ → Type 0) (others : B → List ℕ)
     → IsWritable Fits S tag text → AreWritable Fit G others
@@ -108,7 +108,7 @@ each_spelled outer tag Fits S text Fit G others w v None y fits fit lt = v.spell
 each_spelled outer tag Fits S text Fit G others w v (Some x) y fits fit lt =
     (field_writable outer tag Fits S text Fit G others w v).spell (x, y) (fits, fit) lt
 
--- a field that may be absent, and all later ones
+-- an optional field, followed by all later ones
 pub optional_writable : {A B : Type 0} (outer tag : ℕ) (Fits : A → Type 0) (S : A → List ℕ → Type 0) (text : A → List ℕ)
     (Fit : B → Type 0) (G : B → List ℕ → Type 0) (others : B → List ℕ)
     → IsWritable Fits S tag text → AreWritable Fit G others
@@ -128,7 +128,7 @@ items_spelled S tag text w (x ∷ xs) lt =
     omega (arith, length-append (tlv tag (text x)) (items_text tag text xs)) in
     (tlv tag (text x), items_text tag text xs, w.spells x tt k, items_spelled S tag text w xs m, refl)
 
--- a list of values that all fit
+-- a list of values that are all in range
 pub list_writable : {A : Type 0} (S : A → List ℕ → Type 0) (tag : ℕ) (text : A → List ℕ) → IsWritable Any S tag text
     → IsWritable Any (ListOf S) 48 (items_text tag text)
 list_writable S tag text w = record {

@@ -1,4 +1,4 @@
--- How long what is written is.
+-- Lengths of what is written.
 use Rattle.std.proofs.Common.{◌≡◌, ℕ, ◌^◌, ◌<◌, List, [], ◌∷◌, length, get_or, drop, suc, drop-cons, sym, ap, subst}
 use Rattle.std.proofs.Common.{◌∙◌, arith}
 use Rattle.std.proofs.lemmas.List.{append-nil, length-append}
@@ -15,7 +15,7 @@ pub inside_fits : (tag : ℕ) (bytes contents : List ℕ) → IsBytes bytes → 
 inside_fits tag bytes contents fits e =
     contents_fit tag bytes contents [] fits (e ∙ sym (append-nil (tlv tag contents)))
 
--- an element's text is no longer than the text of the elements from it on
+-- an element's text is no longer than that of the elements from it on
 pub item_short : {A : Type 0} (tag : ℕ) (text : A → List ℕ) (xs : List A) (i : ℕ) (x : A) → i < length xs
     → x ≡ get_or xs i x
     → length (items_text tag text (drop i xs)) < 2 ^ 32 → length (text x) < 2 ^ 32

@@ -1,21 +1,21 @@
-//! What a type says of the octets of its values, and of a copy that owns its parts.
+//! What a type says about the encoding of its values, and about copies that own their parts.
 //!
-//! A message is one list of its fields: in `specs/` one definition, of which all its laws are parts; here one line
-//! for each field where it is read (`reading`), and one where it is written (`writing`).
+//! A message is one list of its fields. In `specs/` that is one definition, which contains all its laws. In the code it
+//! is one line per field for reading (`reading`) and one for writing (`writing`).
 ghost use Rattle.std.specs.Prelude.{◌≡◌, ◌<◌, ◌+◌, ℕ, IfOk, Option, Some, None, option_map, bit_and, bit_or};
 ghost use Rattle.krb_elements.specs.Codec.{Codec, AreSame, Record, sequence, in_tag};
 
 use std::alloc::{AllocError, Global};
 
-/// A type whose values have a tag of their own.
+/// A type whose values have their own tag.
 pub trait Coded: Sized + Drop {
-    /// Which octets spell a value, what reading gives, and what is written.
+    /// Which bytes encode a value, what reading returns, and what is written.
     ghost codec: { Codec Self };
 }
 
-/// A type that is made of fields.
+/// A type that consists of fields.
 pub trait Fielded: Coded {
-    /// What stands round their SEQUENCE.
+    /// The tag around their SEQUENCE.
     type In: Round;
 
     /// Its fields.
@@ -49,7 +49,7 @@ impl<const N: u8> Round for Application<N> {
     const TAG: Option<u8> = Some(0x60 | (N & 0x1f));
 }
 
-/// The identifier octet of `[APPLICATION n]`.
+/// Returns the identifier octet of `[APPLICATION n]`.
 pub fn application_tag(n: u8) -> u8
     requires { n < 31 }
     ensures { result ≡ 96 + n }
@@ -57,11 +57,11 @@ pub fn application_tag(n: u8) -> u8
     0x60 + n
 }
 
-/// A value where it stands, of which a copy can be made that owns its parts.
+/// A borrowed value that can be copied into one that owns its parts.
 pub trait MakeOwned: Sized {
     type Owned: Drop;
 
-    /// The copy's value: the same.
+    /// The value of the copy, which is the same.
     ghost same: { Self → Self.Owned };
 
     fn copy(&self, alloc: Global) -> Result<Self::Owned, AllocError>

@@ -1,4 +1,4 @@
-//! Why octets are no message.
+//! Errors of reading messages.
 ghost use Rattle.std.specs.Prelude.{◌≡◌};
 ghost use Rattle.krb_elements.specs.declared.fault.Fault.TheVariants.{Der, Memory};
 
@@ -7,7 +7,7 @@ use std::alloc::{AllocError, AllocFailed};
 use std::error::Error;
 use std::fmt;
 
-/// The octets spell no such message, or memory ran out before it was read.
+/// The bytes don't encode such a message, or memory ran out.
 #[derive(Clone, Copy, Debug, PartialEq, Eq)]
 pub enum Fault {
     Der(DerFault),

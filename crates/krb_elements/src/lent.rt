@@ -1,4 +1,4 @@
-//! A part of a message that is lent to it.
+//! A part that a message borrows.
 ghost use Rattle.std.specs.Prelude.{◌≡◌};
 
 use crate::codec::Coded;
@@ -7,7 +7,7 @@ use krb_der::Writer;
 use std::alloc::AllocError;
 use std::marker::Model;
 
-/// A value that somebody else owns, in its place in a message that is written. Contracts see the value.
+/// A borrowed value, as a part of a message that is written. Contracts see the value.
 #[derive(Debug, Drop)]
 pub struct Lent<'a, T> {
     value: &'a T,

@@ -1,7 +1,7 @@
-//! The few pieces by which each Kerberos message is read and written, and the simple types of its fields.
+//! The pieces from which reading and writing of every Kerberos message are built, and the simple types of its fields.
 //!
-//! A message is one list of fields. Its reading, the relation between it and its octets, and the text that is
-//! written are each put together of the same words: a field, a field that may be absent, a list, the end.
+//! A message is one list of fields. Reading it, the relation to its encoding, and the text that is written are each
+//! built from the same pieces: a field, an optional field, a list, the end.
 #![tactic(auto)]
 
 mod codec;

@@ -1,4 +1,4 @@
-//! SEQUENCE OF: lists, read where they stand and written.
+//! SEQUENCE OF: lists, read in place and written.
 ghost use Rattle.std.specs.Prelude.{◌≡◌, ◌<◌, ◌≤◌, ◌^◌, ◌++◌, IsOk, IfErr, OnOk, IfOk, List, length, map};
 ghost use Rattle.std.specs.Iterator.{YieldsFirst, item_count};
 ghost use Rattle.krb_elements.specs.Format.{Looks, Sees, items_of, values};
@@ -14,7 +14,7 @@ use krb_der::{DerFault, Items, Reader, Writer};
 use std::alloc::{AllocError, Global};
 use std::marker::{Model, PhantomData};
 
-/// A list where it stands, whose elements have been read once.
+/// A borrowed list, whose elements have been read once.
 ///
 /// Contracts see it as the list of their values.
 #[derive(Debug, Drop)]
@@ -33,7 +33,7 @@ impl<'a, T: Coded> Model for SeqRef<'a, T> {
 }
 
 impl<'a, T: Coded> SeqRef<'a, T> {
-    /// The same values, to be gone over apart.
+    /// Returns an independent iterator over the same values.
     pub fn iter(&self) -> SeqRef<'a, T>
         ensures { result ≡ self.now }
     {
@@ -44,7 +44,7 @@ impl<'a, T: Coded> SeqRef<'a, T> {
     }
 }
 
-/// The value of the next element that spells one.
+/// Returns the value of the next element that encodes one.
 fn next_value<'a, T: Decode<'a>>(items: &mut Items<'a>) -> Option<T>
     ensures steps { YieldsFirst (values T.codec.at) items.old result items.new }
     ensures goes { length (values T.codec.at items.new) ≤ length (values T.codec.at items.old) }
@@ -57,7 +57,7 @@ fn next_value<'a, T: Decode<'a>>(items: &mut Items<'a>) -> Option<T>
     None
 }
 
-/// Gives each value once.
+/// Yields each value once.
 impl<'a, T: Decode<'a>> Iterator for SeqRef<'a, T> {
     type Item = T;
 
@@ -84,7 +84,7 @@ impl<'a, T: Decode<'a> + MakeOwned> MakeOwned for SeqRef<'a, T> {
     }
 }
 
-/// Goes over the elements, and finds the first fault.
+/// Reads all elements, and returns the first error.
 fn check_items<'a, T: Decode<'a>>(contents: &'a [u8]) -> Result<(), DerFault>
     ensures ok { OnOk result (IsOk (items_of T.codec.at contents.now)) }
     ensures err { IfErr result (λ e. items_of T.codec.at contents.now ≡ Err e) }
@@ -96,7 +96,7 @@ fn check_items<'a, T: Decode<'a>>(contents: &'a [u8]) -> Result<(), DerFault>
     Ok(())
 }
 
-/// The list with these contents.
+/// Returns the list with these contents.
 fn checked<'a, T: Decode<'a>>(contents: &'a [u8]) -> Result<SeqRef<'a, T>, DerFault>
     ensures { Sees result (items_of T.codec.at contents.now) }
 {
@@ -117,7 +117,7 @@ impl<'a, T: Decode<'a>> Decode<'a> for SeqRef<'a, T> {
     }
 }
 
-/// Appends the elements one after another.
+/// Appends elements in order.
 fn write_items<T: Encode>(out: &mut Writer, items: &[T]) -> Result<(), AllocError>
     requires { length (items_text T.codec.tag T.codec.text items.now) < 2 ^ 32 }
     ensures ok { OnOk result (out.new ≡ out.old ++ items_text T.codec.tag T.codec.text items.now) }

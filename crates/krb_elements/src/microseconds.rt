@@ -25,7 +25,7 @@ impl Model for Microseconds {
 }
 
 impl Microseconds {
-    /// That many microseconds, where they are less than a second.
+    /// Returns this many microseconds, if they are less than a second.
     pub fn new(value: u32) -> Option<Microseconds>
         ensures { SomeIff result (IsMicrosecond value) value }
     {
@@ -35,7 +35,7 @@ impl Microseconds {
         Some(Microseconds { value })
     }
 
-    /// That many microseconds, which are less than a second.
+    /// Returns this many microseconds, which must be less than a second.
     pub fn of(value: u32) -> Microseconds
         requires { IsMicrosecond value }
         ensures { result ≡ value }

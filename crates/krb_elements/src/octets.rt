@@ -1,10 +1,10 @@
-//! Octets that a value owns.
+//! Owned OCTET STRINGs.
 ghost use Rattle.std.specs.Prelude.{◌≡◌, IfOk};
 
 use std::alloc::{AllocError, Global};
 use std::marker::Model;
 
-/// An OCTET STRING, as of a key or a cipher, which clauses see as the list of its octets.
+/// An OCTET STRING, such as a key or a cipher. Contracts see the list of its bytes.
 #[derive(Debug, Drop)]
 pub struct Octets {
     bytes: Vec<u8>,
@@ -52,7 +52,7 @@ impl Octets {
     }
 }
 
-/// An OCTET STRING where it stands.
+/// A borrowed OCTET STRING.
 #[derive(Debug, Drop)]
 pub struct OctetsRef<'a> {
     bytes: &'a [u8],

@@ -1,4 +1,4 @@
-//! How a value of a message is read where it stands: its fields in their order, each by one call.
+//! Reads a value of a message in place: one call for each field, in order.
 ghost use Rattle.std.specs.Prelude.{◌≡◌, ◌<◌, ◌+◌, IfOk, IsOkAnd};
 ghost use Rattle.krb_elements.specs.Format.{Decodes, IsReadUnlessMemory, Looks, Sees, whole, inside, maybe, sent, end};
 ghost use Rattle.krb_elements.specs.Simple.{fixed_at};
@@ -11,16 +11,16 @@ use krb_der::{DerFault, Reader};
 use std::alloc::Global;
 use std::marker::Model;
 
-/// A value that is read where it stands: its strings and lists are those of the octets.
+/// A value that is read in place: its strings and lists borrow from the bytes.
 pub trait Decode<'a>: Coded {
-    /// The value at the front.
+    /// Reads the value at the front.
     fn look(reader: &mut Reader<'a>) -> Result<Self, DerFault>
         ensures { Looks result reader.new (Self.codec.at reader.old) };
 }
 
-/// The same of a type that is made of fields.
+/// The same for a type that consists of fields.
 pub trait DecodeFields<'a>: Fielded {
-    /// The fields at the front, in their order.
+    /// Reads the fields at the front, in order.
     fn look_fields(fields: &mut Reader<'a>) -> Result<Self, DerFault>
         ensures { Looks result fields.new (fields_at Self.form fields.old) };
 }
@@ -31,37 +31,37 @@ impl<'a, T: DecodeFields<'a>> Decode<'a> for T {
     }
 }
 
-/// A value that owns its parts, and is read from all of the octets.
+/// A value that owns its parts and is read from all of the bytes.
 pub trait ReadOwned: Coded {
     fn read_parts(alloc: Global, bytes: &[u8]) -> Result<Self, Fault>
         ensures { Decodes result (whole Self.codec.at bytes.now) };
 }
 
-/// The value that the octets spell.
+/// Reads the value that the bytes encode.
 pub fn read<'a, T: Decode<'a>>(bytes: &'a [u8]) -> Result<T, DerFault>
-    // What is read is spelled so.
+    // If it succeeds, the bytes encode this value.
     ensures found { IfOk result (λ x. T.codec.Spells x bytes.now) }
-    // What is spelled so is read.
+    // If the bytes encode a value, it succeeds.
     ensures only { (x : T) → T.codec.Spells x bytes.now → IsOkAnd result (λ y. y ≡ x) }
-    // Which fault it is.
+    // The result, including the error, is that of the definition.
     ensures exact { Sees result (whole T.codec.at bytes.now) }
 {
     look_all(bytes)
 }
 
-/// The value that the octets spell.
+/// Reads the value that the bytes encode, into one that owns its parts.
 pub fn read_owned<T: ReadOwned>(alloc: Global, bytes: &[u8]) -> Result<T, Fault>
-    // What is read is spelled so.
+    // If it succeeds, the bytes encode this value.
     ensures found { IfOk result (λ x. T.codec.Spells x bytes.now) }
-    // What is spelled so is read, unless memory runs out.
+    // If the bytes encode a value, it succeeds, unless memory runs out.
     ensures only { (x : T) → T.codec.Spells x bytes.now → IsReadUnlessMemory result x }
-    // Which fault it is.
+    // The result, including the error, is that of the definition.
     ensures exact { Decodes result (whole T.codec.at bytes.now) }
 {
     T::read_parts(alloc, bytes)
 }
 
-/// The value that all of the octets are.
+/// Reads a value that takes up all of the bytes.
 pub(crate) fn look_all<'a, T: Decode<'a>>(bytes: &'a [u8]) -> Result<T, DerFault>
     ensures { Sees result (whole T.codec.at bytes.now) }
 {
@@ -71,7 +71,7 @@ pub(crate) fn look_all<'a, T: Decode<'a>>(bytes: &'a [u8]) -> Result<T, DerFault
     Ok(value)
 }
 
-/// That nothing is left.
+/// Checks that nothing is left.
 pub fn end_of(fields: &Reader<'_>) -> Result<(), DerFault>
     ensures { Sees result (end fields.now) }
 {
@@ -81,14 +81,14 @@ pub fn end_of(fields: &Reader<'_>) -> Result<(), DerFault>
     Ok(())
 }
 
-/// The value inside this tag.
+/// Reads the value inside this tag.
 fn look_inside<'a, T: Decode<'a>>(reader: &mut Reader<'a>, tag: u8) -> Result<T, DerFault>
     ensures { Looks result reader.new (inside tag (whole T.codec.at) reader.old) }
 {
     look_all(reader.read_tlv(tag)?)
 }
 
-/// The field with this tag.
+/// Reads the field with this tag.
 pub fn take_field<'a, T: Decode<'a>>(fields: &mut Reader<'a>, n: u8) -> Result<T, DerFault>
     requires { n < 31 }
     ensures { Looks result fields.new (inside (160 + n) (whole T.codec.at) fields.old) }
@@ -96,7 +96,7 @@ pub fn take_field<'a, T: Decode<'a>>(fields: &mut Reader<'a>, n: u8) -> Result<T
     look_inside(fields, 0xa0 + n)
 }
 
-/// The field with this tag, if it is there.
+/// Reads the field with this tag, if it is there.
 pub fn take_optional<'a, T: Decode<'a>>(
     fields: &mut Reader<'a>,
     n: u8,
@@ -110,7 +110,7 @@ pub fn take_optional<'a, T: Decode<'a>>(
     }
 }
 
-/// The field with this tag, which is this number, as a message's version.
+/// Reads the field with this tag, which must be this number, such as a message's version.
 pub fn take_fixed(fields: &mut Reader<'_>, n: u8, number: i32) -> Result<(), DerFault>
     requires { n < 31 }
     ensures { Looks result fields.new (inside (160 + n) (whole (fixed_at number)) fields.old) }
@@ -130,7 +130,7 @@ fn look_fixed(reader: &mut Reader<'_>, number: i32) -> Result<(), DerFault>
     Ok(())
 }
 
-/// A value, and its octets as they were sent.
+/// A value, and its bytes as they were sent.
 #[derive(Debug, Drop)]
 pub struct Sent<'a, T> {
     pub value: T,
@@ -147,7 +147,7 @@ impl<'a, T> Model for Sent<'a, T> {
     ghost view = { λ s. record { value = s.value; octets = s.octets.now } };
 }
 
-/// The field with this tag, and its octets as they were sent.
+/// Reads the field with this tag, and keeps its bytes as they were sent.
 pub fn take_sent<'a, T: Decode<'a>>(fields: &mut Reader<'a>, n: u8) -> Result<Sent<'a, T>, DerFault>
     requires { n < 31 }
     ensures { Looks result fields.new (inside (160 + n) (sent (whole T.codec.at)) fields.old) }
@@ -157,7 +157,7 @@ pub fn take_sent<'a, T: Decode<'a>>(fields: &mut Reader<'a>, n: u8) -> Result<Se
     Ok(Sent { value, octets })
 }
 
-/// A value in either of two tags, and what its tag says.
+/// Reads a value in either of two tags, and returns what its tag stands for.
 pub fn look_either<'a, K: Copy, T: Decode<'a>>(
     reader: &mut Reader<'a>,
     first: (u8, K),
@@ -177,7 +177,7 @@ pub fn look_either<'a, K: Copy, T: Decode<'a>>(
     }
 }
 
-/// What is made of a type's fields.
+/// Reads a value of a type that consists of fields.
 fn look_made<'a, T: DecodeFields<'a>>(reader: &mut Reader<'a>) -> Result<T, DerFault>
     ensures { Looks result reader.new ((in_tag T.In.TAG (sequence T.form)).at reader.old) }
 {
@@ -187,14 +187,14 @@ fn look_made<'a, T: DecodeFields<'a>>(reader: &mut Reader<'a>) -> Result<T, DerF
     }
 }
 
-/// The SEQUENCE of a type's fields, in this tag.
+/// Reads the SEQUENCE of a type's fields, in this tag.
 fn look_tagged<'a, T: DecodeFields<'a>>(reader: &mut Reader<'a>, tag: u8) -> Result<T, DerFault>
     ensures { Looks result reader.new (inside tag (whole (sequence T.form).at) reader.old) }
 {
     sequence_in(reader.read_tlv(tag)?)
 }
 
-/// The SEQUENCE that all of the octets are.
+/// Reads a SEQUENCE that takes up all of the bytes.
 fn sequence_in<'a, T: DecodeFields<'a>>(bytes: &'a [u8]) -> Result<T, DerFault>
     ensures { Sees result (whole (sequence T.form).at bytes.now) }
 {
@@ -204,14 +204,14 @@ fn sequence_in<'a, T: DecodeFields<'a>>(bytes: &'a [u8]) -> Result<T, DerFault>
     Ok(value)
 }
 
-/// The SEQUENCE of a type's fields.
+/// Reads the SEQUENCE of a type's fields.
 fn look_sequence<'a, T: DecodeFields<'a>>(reader: &mut Reader<'a>) -> Result<T, DerFault>
     ensures { Looks result reader.new ((sequence T.form).at reader.old) }
 {
     fields_in(reader.read_tlv(0x30)?)
 }
 
-/// The fields that all of the octets are.
+/// Reads fields that take up all of the bytes.
 fn fields_in<'a, T: DecodeFields<'a>>(bytes: &'a [u8]) -> Result<T, DerFault>
     ensures { Sees result (whole (fields_at T.form) bytes.now) }
 {

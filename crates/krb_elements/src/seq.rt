@@ -1,10 +1,10 @@
-//! Lists that a value owns.
+//! Owned lists.
 ghost use Rattle.std.specs.Prelude.{◌≡◌, ◌∷◌, ◌++◌, [], length, OnOk, OnErr, IsTrue, ◌↔◌, IfErr};
 
 use std::alloc::{AllocFailed, Global};
 use std::marker::Model;
 
-/// A list of values, as of a name's components, which clauses see as the list of them.
+/// A list of values, such as the components of a name. Contracts see the list.
 #[derive(Debug, Drop)]
 pub struct Seq<T> {
     items: Vec<T>,
@@ -51,7 +51,7 @@ impl<T> Seq<T> {
         self.items.is_empty()
     }
 
-    /// Adds a value at the end.
+    /// Appends a value.
     pub fn push(&mut self, item: T) -> Result<(), AllocFailed<T>>
         ensures ok { OnOk result (self.new ≡ self.old ++ item ∷ []) }
         ensures err { OnErr result (self.new ≡ self.old) }

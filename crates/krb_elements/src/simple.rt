@@ -1,4 +1,4 @@
-//! The simple types of Kerberos (RFC 4120, section 5.2), as they are read and written.
+//! Reads and writes the simple types of Kerberos (RFC 4120, section 5.2).
 ghost use Rattle.std.specs.Prelude.{◌≡◌, OnOk, IfOk};
 ghost use Rattle.krb_elements.specs.Format.{Looks};
 ghost use Rattle.krb_elements.specs.Codec as forms;

@@ -9,9 +9,9 @@ use std::alloc::{AllocError, Global};
 use std::cmp::Ordering;
 use std::marker::Model;
 
-/// A GeneralString of any octets, as of a realm or of a name's component.
+/// A GeneralString of any bytes, such as a realm or a component of a name.
 ///
-/// Strings are ordered as Rust orders a `Vec<u8>`: by the first octet that differs, and a prefix comes first.
+/// Strings are ordered like a `Vec<u8>` in Rust: by the first byte that differs, and a prefix comes first.
 #[derive(Debug, Drop)]
 pub struct KerberosString {
     bytes: Vec<u8>,
@@ -59,7 +59,7 @@ impl KerberosString {
     }
 }
 
-/// A KerberosString where it stands.
+/// A borrowed KerberosString.
 #[derive(Debug, Drop)]
 pub struct KerberosStringRef<'a> {
     bytes: &'a [u8],

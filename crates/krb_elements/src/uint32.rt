@@ -7,8 +7,8 @@ use std::marker::Model;
 
 /// The number of a UInt32 field, from -2147483648 to 4294967295.
 ///
-/// It is read as any INTEGER of that range and kept as it came, since some peers send numbers of this
-/// type as signed ones.
+/// Reading accepts any INTEGER in that range and keeps it unchanged, since some peers send numbers of this type as
+/// signed ones.
 #[derive(Clone, Copy, Debug, PartialEq, Eq)]
 pub struct UInt32 {
     value: i64,
@@ -28,7 +28,7 @@ impl Model for UInt32 {
 }
 
 impl UInt32 {
-    /// The number, where it is in the range.
+    /// Returns the number, if it is in range.
     pub fn new(value: i64) -> Option<UInt32>
         ensures { SomeIff result (IsUInt32 value) value }
     {

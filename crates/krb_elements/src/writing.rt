@@ -1,4 +1,4 @@
-//! How a value of a message is written: its fields in their order, each by one call.
+//! Writes a value of a message: one call for each field, in order.
 ghost use Rattle.std.specs.Prelude.{◌≡◌, ◌<◌, ◌^◌, ◌+◌, ◌++◌, IfOk, IfSome, OnOk, length};
 ghost use Rattle.krb_der.specs.Spelling.{tlv};
 ghost use Rattle.krb_elements.specs.Written.{field_text, maybe_text};
@@ -9,22 +9,22 @@ use crate::codec::{Coded, Fielded, Round};
 use krb_der::Writer;
 use std::alloc::{AllocError, Global};
 
-/// The most octets that most messages have, and what is sealed in them.
+/// The usual maximum length of a message or an encrypted part, in bytes.
 const USUAL_LEN: usize = 1_024;
 
-/// A value that is written.
+/// A value that can be written.
 pub trait Encode: Coded {
-    /// Appends the value. An `Err` may leave a part of it.
+    /// Appends the value. After an `Err` a part of it may have been appended.
     fn put(&self, out: &mut Writer) -> Result<(), AllocError>
         requires { length (Self.codec.text self.now) < 2 ^ 32 }
         ensures ok { OnOk result (out.new ≡ out.old ++ tlv Self.codec.tag (Self.codec.text self.now)) }
-        // Its numbers are in their ranges.
+        // Its numbers are in range.
         ensures fits { OnOk result (Self.codec.Fits self.now) };
 }
 
-/// The same of a type that is made of fields.
+/// The same for a type that consists of fields.
 pub trait EncodeFields: Fielded {
-    /// Appends the fields, in their order. An `Err` may leave a part of them.
+    /// Appends the fields in order. After an `Err` a part of them may have been appended.
     fn put_fields(&self, out: &mut Writer) -> Result<(), AllocError>
         requires { length (fields_text Self.form self.now) < 2 ^ 32 }
         ensures ok { OnOk result (out.new ≡ fields_onto Self.form out.old self.now) }
@@ -37,7 +37,7 @@ impl<T: EncodeFields> Encode for T {
     }
 }
 
-/// The octets that are written, which spell the value.
+/// Returns the encoding of the value.
 pub fn write<T: Encode>(alloc: Global, value: &T) -> Result<Vec<u8>, AllocError>
     requires { length (T.codec.text value.now) < 2 ^ 32 }
     ensures written { IfOk result (λ v. v.items ≡ written T.codec value.now) }
@@ -48,7 +48,7 @@ pub fn write<T: Encode>(alloc: Global, value: &T) -> Result<Vec<u8>, AllocError>
     Ok(out.finish())
 }
 
-/// The octets of the value in this tag, which spell it.
+/// Returns the encoding of the value in this tag.
 #[tactic(auto, using(crate::specs::WrittenLaws::tlv_longer))]
 pub fn write_inside<T: Encode>(alloc: Global, tag: u8, value: &T) -> Result<Vec<u8>, AllocError>
     requires { length (tlv T.codec.tag (T.codec.text value.now)) < 2 ^ 32 }
@@ -93,7 +93,7 @@ pub fn write_optional<T: Encode>(
     }
 }
 
-/// Appends what is made of a type's fields.
+/// Appends a value of a type that consists of fields.
 fn put_made<T: EncodeFields>(out: &mut Writer, value: &T) -> Result<(), AllocError>
     requires { length ((in_tag T.In.TAG (sequence T.form)).text value.now) < 2 ^ 32 }
     ensures ok { OnOk result (out.new ≡ out.old ++ tlv (in_tag T.In.TAG (sequence T.form)).tag

@@ -1,4 +1,4 @@
--- One bit of flags, after it or another was set or cleared.
+-- One bit of flags, after this or another bit was set or cleared.
 use Rattle.std.proofs.Common.{◌≡◌, ◌≢◌, ◌==◌, ◌||◌, ◌&&◌, not, ℕ, ◌-◌, ◌*◌, ◌%◌, ◌^◌, ◌<◌, Bool, true, false, bit_and, bit_or, w32, refl, ap, ◌∙◌, arith}
 use Rattle.std.specs.Int.{bit_not}
 use Rattle.std.proofs.lemmas.Bool.Decides.{nat_tests}

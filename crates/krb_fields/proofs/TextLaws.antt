@@ -1,4 +1,4 @@
--- A text determines what it is the text of: octets, components and names.
+-- A text determines its byte, component or name.
 use Rattle.std.proofs.Common.{◌≡◌, ◌≢◌, ◌==◌, ℕ, ◌+◌, ◌/◌, ◌%◌, ◌<◌, Bool, true, false, if◌then◌else◌, List, [], ◌∷◌, ◌++◌, length, get_or, take, map, refl, sym, ap, subst, ◌∙◌, arith, append_assoc, length-append, OnOk, Result, Ok, Err, is_ok}
 use Rattle.std.specs.List.{All, join_with_byte, slice_split}
 use Rattle.std.proofs.lemmas.List.{append-nil, get_or-map, length-map, map-append, take_all, take_more}
@@ -10,7 +10,7 @@ use Rattle.krb_fields.specs.NameLimits.{IsComponent}
 use Rattle.krb_fields.specs.NameLimitsLaws.{component_facts, name_facts}
 use Rattle.krb_fields.specs.NameText.{is_plain, hex_digit, digits_of, octet_text, component_text, text_of, IsComponentText, IsNameText}
 
--- ---- octets
+-- ---- bytes
 
 pub octet_text-plain : (o : ℕ) → is_plain o ≡ true → octet_text o ≡ o ∷ []
 unfolding octet_text
@@ -37,7 +37,7 @@ digits_of-prefix a b u v e =
     let remainder = hex_digit-injective _ _ low in
     (omega (arith, quotient, remainder), cc)
 
--- no octet's text begins another's
+-- no byte's text is a prefix of another's
 pub octet_text-prefix : (a b : ℕ) (u v : List ℕ) → octet_text a ++ u ≡ octet_text b ++ v → (a ≡ b) × (u ≡ v)
 octet_text-prefix a b u v e = by_cases (is_plain a) (is_plain b) refl refl
   where
@@ -64,7 +64,7 @@ octet_text-nonempty o = by_cases (is_plain o) refl
     by_cases true p = rw (octet_text-plain o p) (omega arith)
     by_cases false p = rw (octet_text-escaped o p) (omega arith)
 
--- ---- what a text begins with
+-- ---- the beginning of a text
 
 pub nothing_begins : (text : List ℕ) → length text ≡ 0 → (o : ℕ) (rest : List ℕ) → octet_text o ++ rest ≢ text
 nothing_begins text none o rest e = absurd (omega (arith, none, octet_text-nonempty o, simp length-append at (ap length e)))
@@ -79,7 +79,7 @@ escaped_begins first o rest after p e =
     let same : 0x5C ∷ (digits_of o ++ after) ≡ first ∷ rest = sym (ap (λ t. t ++ after) (octet_text-escaped o p)) ∙ e in
     (cc, cc)
 
--- after `\` stand the digits of an octet that is not plain
+-- `\` is followed by the digits of a byte that is not plain
 pub after_backslash : (o : ℕ) (rest after : List ℕ) → octet_text o ++ after ≡ 0x5C ∷ rest → (is_plain o ≡ false) × (digits_of o ++ after ≡ rest)
 after_backslash o rest after e = by_cases (is_plain o) refl
   where
@@ -87,7 +87,7 @@ after_backslash o rest after e = by_cases (is_plain o) refl
     by_cases true p = absurd ((plain_is o p).1 (plain_begins 0x5C o rest after p e))
     by_cases false p = (p, (escaped_begins 0x5C o rest after p e).1)
 
--- no text begins with another octet that is not plain
+-- no text begins with any other byte that is not plain
 pub none_begins : (first : ℕ) (rest : List ℕ) → first ≢ 0x5C → is_plain first ≡ false → (o : ℕ) (after : List ℕ) → octet_text o ++ after ≢ first ∷ rest
 none_begins first rest other q o after e = by_cases (is_plain o) refl
   where
@@ -95,7 +95,7 @@ none_begins first rest other q o after e = by_cases (is_plain o) refl
     by_cases true p = let same = plain_begins first o rest after p e in let both = sym p ∙ ap is_plain same ∙ q in cc
     by_cases false p = other (sym (escaped_begins first o rest after p e).0)
 
--- ---- the octets of components of names
+-- ---- the bytes in components of names
 
 abbrev pub NotSlash : ℕ → Type 0
 NotSlash x = (x == 0x2F) ≡ false
@@ -124,7 +124,7 @@ pub component_text-nil : (m : List ℕ) → component_text m ≡ [] → m ≡ []
 component_text-nil [] e = refl
 component_text-nil (o ∷ m) e = absurd (omega (arith, octet_text-nonempty o, simp length-append at (ap length e)))
 
--- what begins a component's text is the text of what begins the component
+-- a prefix of a component's text is the text of a prefix of the component
 pub component_text-prefix : (a c rest : List ℕ) → component_text a ++ rest ≡ component_text c → (m : List ℕ) × (c ≡ a ++ m) × (component_text m ≡ rest)
 component_text-prefix [] c rest e = (c, refl, sym e)
 component_text-prefix (x ∷ a) [] rest e = absurd (omega (arith, octet_text-nonempty x, simp length-append at (ap length e)))
@@ -147,7 +147,8 @@ All-rest-of : (xs ys : List ℕ) → All (λ o. o < 256) (xs ++ ys) → All (λ 
 All-rest-of [] ys h = h
 All-rest-of (x ∷ xs) ys h = All-rest-of xs ys (All-tail (λ o. o < 256) x (xs ++ ys) h)
 
--- a component that is spelled by a text of which some octets are read is those octets, and more that the rest spells
+-- if a text spells a component and some bytes of it are read, the component is those bytes and more, which the rest
+-- spells
 pub more_octets : (read octets rest text : List ℕ) → component_text read ++ rest ≡ text → component_text octets ≡ text → (m : List ℕ) × (octets ≡ read ++ m) × (component_text m ≡ rest)
 more_octets read octets rest text so_far spelled = component_text-prefix read octets rest (so_far ∙ sym spelled)
 
@@ -156,7 +157,7 @@ all_octets read octets rest text so_far spelled none =
     let more = more_octets read octets rest text so_far spelled in
     more.1 ∙ ap (λ m. read ++ m) (component_text-nil more.0 (more.2 ∙ none)) ∙ append-nil read
 
--- a text that begins with no octet's text is no component's
+-- if the rest of a text begins with no byte's text, the text spells no component
 pub none_spelled : (read octets rest text : List ℕ) → component_text read ++ rest ≡ text → component_text octets ≡ text → All (λ o. o < 256) octets → 0 < length rest
     → ((o : ℕ) (after : List ℕ) → o < 256 → octet_text o ++ after ≢ rest) → ⊥
 none_spelled read octets rest text so_far spelled below some none = let more = more_octets read octets rest text so_far spelled in go more.0 more.1 more.2
@@ -195,7 +196,7 @@ parts_of-text (c ∷ d ∷ name) some each =
     slice_split_at (λ b. b == 0x2F) (component_text c) 0x2F (text_of (d ∷ name)) (component_text-no_slash c (component_facts c (All-head IsComponent c (d ∷ name) each)).2) refl
     ∙ ap (λ l. component_text c ∷ l) (parts_of-text (d ∷ name) (omega arith) (All-tail IsComponent c (d ∷ name) each))
 
--- names with the same texts are the same
+-- names with the same texts are equal
 pub texts-injective : (a b : Components) → map component_text a ≡ map component_text b → a ≡ b
 texts-injective [] [] e = refl
 texts-injective [] (d ∷ b) e = cc
@@ -207,7 +208,7 @@ texts-injective (c ∷ a) (d ∷ b) e =
     let others = texts-injective a b rest in
     cc
 
--- ---- the parts of a text that is read as a name's
+-- ---- the parts of a name's text
 
 pub parts_spelled : (name : Components) (text : List ℕ) → IsNameText name text → parts_of text ≡ map component_text name
 parts_spelled name text is = ap parts_of (sym is.1) ∙ parts_of-text name (name_facts name is.0).0 (name_facts name is.0).2
@@ -215,7 +216,7 @@ parts_spelled name text is = ap parts_of (sym is.1) ∙ parts_of-text name (name
 pub count_spelled : (name : Components) (text : List ℕ) → IsNameText name text → length (parts_of text) ≡ length name
 count_spelled name text is = ap length (parts_spelled name text is) ∙ length-map name component_text
 
--- a part of a name's text is a component's
+-- a part of a name's text is the text of a component
 pub part_spelled : (name : Components) (text part : List ℕ) (i : ℕ) → IsNameText name text → i < length (parts_of text) → part ≡ get_or (parts_of text) i part → IsComponentText (get_or name i []) part
 part_spelled name text part i is within e =
     let below : i < length name = omega (arith, within, count_spelled name text is) in
@@ -233,6 +234,6 @@ one_more_part read c text part i so_far within e spelled =
 pub all_parts : (read : Components) (text : List ℕ) (i : ℕ) → map component_text read ≡ take i (parts_of text) → i ≡ length (parts_of text) → map component_text read ≡ parts_of text
 all_parts read text i so_far end = so_far ∙ take_all i (parts_of text) (omega (arith, end))
 
--- names within the limits that have the same text are the same
+-- names within the limits with the same text are equal
 pub IsNameText-injective : (a b : Components) (text : List ℕ) → IsNameText a text → IsNameText b text → a ≡ b
 IsNameText-injective a b text is other = texts-injective a b (sym (parts_spelled a text is) ∙ parts_spelled b text other)

@@ -2,11 +2,11 @@
 use Rattle.std.specs.Prelude.{◌==◌, ℕ, ◌-◌, ◌^◌, Bool, bit_and, bit_or}
 use Rattle.std.specs.Int.{bit_at, bit_not, w32}
 
--- whether the bit of this number is set
+-- the bit with this number is set
 abbrev pub has_bit : ℕ → ℕ → Bool
 has_bit flags n = bit_at flags (31 - n) == 1
 
--- the flags with that bit set, and with it clear
+-- the flags with that bit set, and with it cleared
 abbrev pub with_bit : ℕ → ℕ → ℕ
 with_bit flags n = bit_or flags (2 ^ (31 - n))
 

@@ -13,7 +13,7 @@ pub mod PrincipalName
 pub mod EncryptedData
 pub mod PaData
 pub mod Typed
--- laws that proofs cite: no reader of a contract needs them
+-- laws that proofs cite; readers of a contract don't need them
 pub mod NameLimitsLaws
 pub mod NameLengthLaws
 pub mod NameCopyLaws

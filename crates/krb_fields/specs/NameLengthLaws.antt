@@ -17,7 +17,7 @@ components_bounded (c ∷ cs) all =
       components_bounded cs (All-tail IsComponent c cs all),
     )
 
--- how long the text of a name is at most
+-- an upper bound on the length of a name's text
 pub name_most : (n : Name) → IsWithinLimits n.components → name.most n ≤ 5000
 unfolding name_form
 name_most n is =

@@ -3,7 +3,7 @@ use Rattle.std.specs.Prelude.{Bool, ◌&&◌, nat_lt, nat_le, IsTrue, List, ℕ,
 use Rattle.std.specs.List.{list_all}
 use Rattle.krb_fields.specs.Name.{Components}
 
--- a component, or a realm, has 1 to 255 octets
+-- a component or a realm has 1 to 255 bytes
 abbrev pub is_component : List ℕ → Bool
 is_component octets = nat_lt 0 (length octets) && nat_le (length octets) 255 && list_all (λ o. nat_lt o 256) octets
 

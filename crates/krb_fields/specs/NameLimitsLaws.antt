@@ -55,7 +55,7 @@ below_256 octets below =
     (λ _ _. refl) octets).1
     (All-from_get_or (λ o. o < 256) octets 0 (λ i lt. below i))
 
--- octets that are not empty are a component by their length alone
+-- non-empty bytes are a component if their length allows it
 pub by_length : (octets : List ℕ) → ((i : ℕ) → get_or octets i 0 < 256) → (length octets == 0) ≡ false
     → nat_le (length octets) 255 ≡ is_component octets
 by_length octets below some =

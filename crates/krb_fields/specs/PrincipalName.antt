@@ -23,7 +23,7 @@ name_of c = sequence (name_form c)
 abbrev pub name : Codec Name
 name = name_of (list_of string)
 
--- a name has one spelling
+-- a name has one encoding
 pub name_one : HasOneSpelling name.Spells name.tag name.text
 unfolding name_form
 name_one = name.laws.one refl

@@ -1,4 +1,4 @@
--- Octets of a type that a number names: HostAddress (RFC 4120, section 5.2.5).
+-- Bytes with a numbered type: HostAddress (RFC 4120, section 5.2.5).
 use Rattle.std.proofs.Common.{ℕ, List, refl}
 use Rattle.krb_elements.specs.Codec.{Codec, Record, field, end, sequence, int32, octets}
 use Rattle.krb_fields.specs.declared.typed.Typed as trees

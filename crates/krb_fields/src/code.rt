@@ -4,7 +4,7 @@ ghost use Rattle.krb_fields.specs.Code.{number_of};
 
 use std::fmt;
 
-/// An error code of RFC 4120 section 7.5.9 that a KDC or a service of this realm gives.
+/// An error code of RFC 4120 section 7.5.9 that this KDC or its services use.
 #[derive(Clone, Copy, Debug, PartialEq, Eq)]
 pub enum Code {
     /// KDC_ERR_NAME_EXP, 1: the client's entry in the database has expired.
@@ -55,7 +55,7 @@ pub enum Code {
     KrbApErrTktNyv = 33,
     /// KRB_AP_ERR_REPEAT, 34: the request is a replay.
     KrbApErrRepeat = 34,
-    /// KRB_AP_ERR_NOT_US, 35: the ticket isn't for us.
+    /// KRB_AP_ERR_NOT_US, 35: the ticket isn't for this service.
     KrbApErrNotUs = 35,
     /// KRB_AP_ERR_BADMATCH, 36: the ticket and the authenticator don't match.
     KrbApErrBadmatch = 36,
@@ -69,7 +69,7 @@ pub enum Code {
     KrbApErrMsgType = 40,
     /// KRB_AP_ERR_MODIFIED, 41: the message was modified.
     KrbApErrModified = 41,
-    /// KRB_AP_ERR_BADKEYVER, 44: the specified version of the key is not available.
+    /// KRB_AP_ERR_BADKEYVER, 44: the specified key version is not available.
     KrbApErrBadkeyver = 44,
     /// KRB_AP_ERR_NOKEY, 45: the key of the service is not available.
     KrbApErrNokey = 45,
@@ -86,14 +86,14 @@ pub enum Code {
 }
 
 impl Code {
-    /// The number that stands for the error in a KRB-ERROR.
+    /// Returns the error's number in a KRB-ERROR.
     pub fn number(self) -> i32
         ensures { result ≡ number_of self }
     {
         self as i32
     }
 
-    /// The error's name in RFC 4120.
+    /// Returns the error's name in RFC 4120.
     fn name(self) -> &'static str {
         match self {
             Code::KdcErrNameExp => "KDC_ERR_NAME_EXP",

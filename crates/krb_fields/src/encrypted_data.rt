@@ -10,7 +10,7 @@ use krb_elements::{
 };
 use std::alloc::{AllocError, Global};
 
-/// A cipher, with the number of its encryption type and the version of the key that it was made with.
+/// Encrypted bytes, with the number of the encryption type and the key version.
 #[derive(Debug, Drop)]
 pub struct EncryptedData<C = Octets> {
     pub etype: i32,
@@ -18,7 +18,7 @@ pub struct EncryptedData<C = Octets> {
     pub cipher: C,
 }
 
-/// An [`EncryptedData`] where it stands.
+/// A borrowed [`EncryptedData`].
 pub type EncryptedDataRef<'a> = EncryptedData<OctetsRef<'a>>;
 
 impl<C: Coded> Coded for EncryptedData<C> {

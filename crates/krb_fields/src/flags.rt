@@ -1,13 +1,13 @@
-//! Flags: the flags of a ticket, and the options of a request.
+//! Flags of tickets, and options of requests.
 ghost use Rattle.std.specs.Prelude.{◌≡◌, ◌==◌, ◌||◌, ◌&&◌, not, ℕ, ◌<◌};
 ghost use Rattle.krb_fields.specs.Flags.{has_bit, with_bit, without_bit};
 
 use std::marker::Model;
 
-/// Thirty-two bits: the type `KerberosFlags` of RFC 4120 section 5.2.8. Those without a name are kept too.
+/// Thirty-two bits: the type `KerberosFlags` of RFC 4120 section 5.2.8. Bits without a name are kept too.
 ///
-/// Bits are numbered from the most significant. Clauses see the number that the bits make, and speak
-/// of a bit by its number.
+/// Bits are numbered from the most significant. Contracts see the number that the bits form, and name a bit by its
+/// number.
 #[derive(Clone, Copy, Debug, PartialEq, Eq)]
 pub struct Flags {
     bits: u32,
@@ -25,14 +25,14 @@ impl Model for Flags {
 pub trait NamedBit: Copy {
     ghost bit_number: { Self → ℕ };
 
-    /// The number of the bit, 0 to 31, counted from the most significant.
+    /// Returns the number of the bit, 0 to 31, counted from the most significant.
     fn number(self) -> u32
         ensures value { result ≡ bit_number self }
         ensures within { result < 32 };
 }
 
 impl Flags {
-    /// The flags whose bits these are: bit 0 is the most significant.
+    /// Returns the flags with these bits: bit 0 is the most significant.
     pub fn from_bits(bits: u32) -> Flags
         ensures { result ≡ bits }
     {
@@ -45,14 +45,14 @@ impl Flags {
         self.bits
     }
 
-    /// Whether the bit is set.
+    /// Checks whether the bit is set.
     pub fn has<B: NamedBit>(self, bit: B) -> bool
         ensures { result ≡ has_bit self (B.bit_number bit) }
     {
         (self.bits >> (31 - bit.number())) & 1 == 1
     }
 
-    /// These flags with the bit set.
+    /// Returns these flags with the bit set.
     pub fn with<B: NamedBit>(self, bit: B) -> Flags
         ensures value { result ≡ with_bit self (B.bit_number bit) }
         ensures bits { (n : ℕ) → n < 32
@@ -63,7 +63,7 @@ impl Flags {
         }
     }
 
-    /// These flags with the bit clear.
+    /// Returns these flags with the bit cleared.
     pub fn without<B: NamedBit>(self, bit: B) -> Flags
         ensures value { result ≡ without_bit self (B.bit_number bit) }
         ensures bits { (n : ℕ) → n < 32

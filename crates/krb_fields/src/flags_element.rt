@@ -1,4 +1,4 @@
-//! Flags as elements: a BIT STRING that is written with 32 bits, and read with any number of them.
+//! Flags as elements of messages: a BIT STRING, written with 32 bits and read with any number.
 ghost use Rattle.std.specs.Prelude.{◌≡◌, OnOk};
 ghost use Rattle.krb_elements.specs.Codec as forms;
 

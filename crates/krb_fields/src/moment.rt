@@ -1,4 +1,4 @@
-//! The moment at which something happens.
+//! Moments in time.
 ghost use Rattle.std.specs.Prelude.{◌≡◌, ◌↔◌, IsSome, IfSome};
 ghost use Rattle.krb_elements.specs.Simple.{IsMicrosecond};
 ghost use Rattle.krb_fields.specs.Moment.{IsSecond};
@@ -6,10 +6,10 @@ ghost use Rattle.krb_fields.specs.Moment.{IsSecond};
 use krb_der::KTime;
 use krb_elements::Microseconds;
 
-/// By how many seconds the clocks of two parties may differ (RFC 4120, section 8.2).
+/// The clock skew: by how many seconds the clocks of two parties may differ (RFC 4120, section 8.2).
 pub const SKEW: i64 = 300;
 
-/// A moment in UTC, as a KerberosTime with its Microseconds gives it (RFC 4120, sections 5.2.3 and 5.2.4).
+/// A moment in UTC, as in a KerberosTime with its Microseconds (RFC 4120, sections 5.2.3 and 5.2.4).
 #[derive(Clone, Copy, Debug, PartialEq, Eq)]
 pub struct Moment {
     /// Whole seconds since the start of 1970, 0 to 253402300799 (the end of the year 9999).
@@ -21,10 +21,10 @@ pub struct Moment {
 }
 
 impl Moment {
-    /// The last second of a moment: 9999-12-31 23:59:59.
+    /// The last second that a moment can have: 9999-12-31 23:59:59.
     pub const LAST_SECOND: i64 = 253_402_300_799;
 
-    /// The moment, where both numbers are in range.
+    /// Returns the moment, if both numbers are in range.
     pub fn new(sec: i64, usec: u32) -> Option<Moment>
         ensures found { IsSome result ↔ (IsSecond sec × IsMicrosecond usec) }
         ensures value { IfSome result (λ at. (at.sec ≡ sec) × (at.usec ≡ usec)) }
@@ -36,14 +36,14 @@ impl Moment {
         }
     }
 
-    /// Its whole seconds, as a message has them.
+    /// Returns its whole seconds, as a message has them.
     pub fn time(self) -> KTime
         ensures { result ≡ self.sec }
     {
         KTime::of(self.sec)
     }
 
-    /// Its microseconds, as a message has them.
+    /// Returns its microseconds, as a message has them.
     pub fn microseconds(self) -> Microseconds
         ensures { result ≡ self.usec }
     {

@@ -8,19 +8,19 @@ use std::cmp::Ordering;
 
 /// A principal's name within its realm: the type `PrincipalName` of RFC 4120 section 5.2.2.
 ///
-/// The name-type is a hint: names of the same components are the same principal, whatever their
-/// name-types (RFC 4120 section 6.2). So comparisons read the components alone.
+/// The name-type is a hint: names with the same components are the same principal, whatever their name-types (RFC 4120
+/// section 6.2). So comparisons use only the components.
 #[derive(Debug, Drop)]
 pub struct Name<C = Seq<KerberosString>> {
     pub name_type: i32,
     pub components: C,
 }
 
-/// A [`Name`] where it stands.
+/// A borrowed [`Name`].
 pub type NameRef<'a> = Name<SeqRef<'a, KerberosStringRef<'a>>>;
 
 impl Name {
-    /// The name of these components.
+    /// Returns the name with these components.
     pub fn new(alloc: Global, name_type: i32, components: &[&[u8]]) -> Result<Name, AllocError>
         ensures { IfOk result (λ name. name ≡ record {
           name_type = name_type;
@@ -38,14 +38,14 @@ impl Name {
         })
     }
 
-    /// Orders names by their components, as Rust orders a `Vec<Vec<u8>>`.
+    /// Compares names by their components, as Rust compares a `Vec<Vec<u8>>`.
     pub fn order(&self, other: &Name) -> Ordering
         ensures { result ≡ name_cmp self.now.components other.now.components }
     {
         self.components.as_slice().cmp(other.components.as_slice())
     }
 
-    /// Whether both name the same principal of one realm.
+    /// Checks whether both are the same principal of a realm.
     pub fn is_same(&self, other: &Name) -> bool
         ensures { IsTrue result ↔ (self.now.components ≡ other.now.components) }
     {

@@ -1,4 +1,4 @@
-//! Names as they are read and written.
+//! Names as elements of messages.
 ghost use Rattle.std.specs.Prelude.{◌≡◌, IfOk, OnOk};
 ghost use Rattle.krb_elements.specs.Codec.{itself};
 ghost use Rattle.krb_fields.specs.PrincipalName.{name_of, name_form};

@@ -1,6 +1,6 @@
-//! The limits of names that a realm's database holds: 1 to 16 components of 1 to 255 octets.
+//! The limits on names in a realm's database: 1 to 16 components of 1 to 255 bytes.
 //!
-//! RFC 4120 sets none. A name in a message may be beyond them; then no row has it.
+//! RFC 4120 sets none. A name in a message may exceed them; then it has no row.
 ghost use Rattle.std.specs.Prelude.{◌≡◌};
 ghost use Rattle.std.specs.List.{list_all};
 ghost use Rattle.krb_fields.specs.NameLimits.{is_component, is_within_limits};
@@ -8,13 +8,13 @@ ghost use Rattle.krb_fields.specs.NameLimits.{is_component, is_within_limits};
 use crate::Name;
 use krb_elements::KerberosString;
 
-/// The most components of a name.
+/// The maximum number of components of a name.
 pub const MAX_COMPONENTS: usize = 16;
 
-/// The most octets of a component or of a realm.
+/// The maximum length of a component or a realm, in bytes.
 pub const MAX_OCTETS: usize = 255;
 
-/// Whether these are the octets of a component, or of a realm: 1 to 255 of them.
+/// Checks whether these are the bytes of a component or a realm: 1 to 255 of them.
 pub fn is_component(octets: &[u8]) -> bool
     ensures { result ≡ is_component octets.now }
 {
@@ -22,7 +22,7 @@ pub fn is_component(octets: &[u8]) -> bool
 }
 
 impl Name {
-    /// Whether the name has 1 to 16 components of 1 to 255 octets.
+    /// Checks whether the name has 1 to 16 components of 1 to 255 bytes.
     pub fn is_within_limits(&self) -> bool
         ensures { result ≡ is_within_limits self.now.components }
     {

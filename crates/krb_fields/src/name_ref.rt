@@ -1,4 +1,4 @@
-//! Names where they stand.
+//! Borrowed names.
 ghost use Rattle.std.specs.Prelude.{◌≡◌, IfOk};
 ghost use Rattle.krb_fields.specs.Name.{name_cmp};
 
@@ -8,14 +8,14 @@ use std::alloc::{AllocError, Global};
 use std::cmp::Ordering;
 
 impl<'a> NameRef<'a> {
-    /// The same name, which owns its components.
+    /// Returns a copy that owns its components.
     pub fn to_name(&self, alloc: Global) -> Result<Name, AllocError>
         ensures { IfOk result (λ name. name ≡ self.now) }
     {
         self.copy(alloc)
     }
 
-    /// Orders names by their components, as [`Name::order`] does.
+    /// Compares names by their components, like [`Name::order`].
     pub fn order(&self, other: &Name) -> Ordering
         ensures { result ≡ name_cmp self.now.components other.now.components }
     {

@@ -1,8 +1,8 @@
-//! The text of names, as commands and files have them: `krbtgt/A.B`.
+//! The text of names, as in commands and files: `krbtgt/A.B`.
 //!
-//! The components are joined by `/`. The octets 21 to 7E (hexadecimal) are written as they are, except
-//! `/`, `\` and `@`; those three and every other octet are written as `\` and two lower case
-//! hexadecimal digits. Nothing else is read, so a name has one text alone.
+//! Components are separated by `/`. The bytes 21 to 7E (hexadecimal) are written as they are, except `/`, `\` and `@`.
+//! Those three and all other bytes are written as `\` and two lowercase hexadecimal digits. Nothing else is accepted,
+//! so each name has exactly one text.
 ghost use Rattle.std.specs.Prelude.{◌≡◌, ◌≢◌, ◌<◌, ◌++◌, ◌∷◌, [], ℕ, List, false, IfOk, IfSome, IfNone, OnOk};
 ghost use Rattle.std.specs.Prelude.{MatchResult};
 ghost use Rattle.std.specs.Prelude.{pos, string_bytes};
@@ -19,13 +19,13 @@ use std::alloc::{AllocError, AllocFailed, Global};
 use std::error::Error;
 use std::fmt;
 
-/// The name-type NT-PRINCIPAL (RFC 4120, section 6.2), which a name that is read from text has.
+/// The name-type NT-PRINCIPAL (RFC 4120, section 6.2), which names read from text get.
 pub const NT_PRINCIPAL: i32 = 1;
 
-/// Why a text is read as no name.
+/// Why a text is not a name.
 #[derive(Clone, Copy, Debug, PartialEq, Eq)]
 pub enum NameFault {
-    /// The text of no name, or of one beyond the limits.
+    /// The text is not a name, or the name exceeds the limits.
     BadName,
     Memory,
 }
@@ -33,7 +33,7 @@ pub enum NameFault {
 impl fmt::Display for NameFault {
     fn fmt<W: fmt::Write>(&self, f: &mut fmt::Formatter<W>) -> fmt::Result {
         f.write_str(match self {
-            NameFault::BadName => "not the text of a name within the limits",
+            NameFault::BadName => "the text is not a name, or the name exceeds the limits",
             NameFault::Memory => "out of memory",
         })
     }
@@ -58,9 +58,9 @@ impl<T: Drop> From<AllocFailed<T>> for NameFault {
 }
 
 impl Name {
-    /// Reads a name within the limits, which gets name-type 1.
+    /// Reads a name within the limits. It gets name-type 1.
     ///
-    /// `BadName` is for a text that is the text of no such name.
+    /// Fails with `BadName` if the text is not that of such a name.
     pub fn from_text(alloc: Global, text: &str) -> Result<Name, NameFault>
         ensures ok { IfOk result (λ name. IsNameText name.components text.now) }
         ensures name_type { IfOk result (λ name. name.name_type ≡ pos 1) }
@@ -74,7 +74,7 @@ impl Name {
         })
     }
 
-    /// The text of the name's components.
+    /// Returns the text of the name's components.
     pub fn to_text(&self, alloc: Global) -> Result<String, AllocError>
         ensures text { IfOk result (λ text. string_bytes text ≡ text_of self.now.components) }
 
@@ -93,7 +93,7 @@ impl Name {
     }
 }
 
-/// Reads a component within the limits, or a realm: a realm's text is that of one component.
+/// Reads a component within the limits, or a realm, whose text is like that of one component.
 pub fn component_from_text(alloc: Global, text: &str) -> Result<KerberosString, NameFault>
     ensures ok { IfOk result (λ octets. IsComponentText octets text.now) }
     ensures read { (c : List ℕ) → IsComponentText c text.now
@@ -117,7 +117,7 @@ pub fn component_from_text(alloc: Global, text: &str) -> Result<KerberosString, 
     Ok(KerberosString::new(octets))
 }
 
-/// The text of a component, or of a realm.
+/// Returns the text of a component or a realm.
 pub fn component_to_text(alloc: Global, octets: &[u8]) -> Result<String, AllocError>
     ensures { IfOk result (λ text. string_bytes text ≡ component_text octets.now) }
 {
@@ -141,7 +141,7 @@ fn components_from_text(alloc: Global, text: &str) -> Result<Seq<KerberosString>
     Ok(components)
 }
 
-/// The octet that a text begins with, and the text after it.
+/// Splits off the first byte that a text spells.
 fn split_octet(text: &[u8]) -> Option<(u8, &[u8])>
     ensures found { IfSome result (λ split. octet_text split.0 ++ split.1.now ≡ text.now) }
     ensures none { IfNone result ((o : ℕ) (rest : List ℕ) → o < 256
@@ -157,7 +157,7 @@ fn split_octet(text: &[u8]) -> Option<(u8, &[u8])>
     }
 }
 
-/// The octet that is not plain whose two digits a text begins with, and the text after them.
+/// Splits two leading digits off a text, and returns the byte that they spell.
 fn split_digits(text: &[u8]) -> Option<(u8, &[u8])>
     ensures found { IfSome result (λ split.
         (is_plain split.0 ≡ false) × (digits_of split.0 ++ split.1.now ≡ text.now)) }
@@ -170,7 +170,7 @@ fn split_digits(text: &[u8]) -> Option<(u8, &[u8])>
     Some((octet_of(*high, *low)?, rest))
 }
 
-/// The octet that is not plain with these digits.
+/// Returns the byte that these digits spell, if it must be written in digits.
 fn octet_of(high: u8, low: u8) -> Option<u8>
     ensures found { IfSome result (λ octet. (is_plain octet ≡ false) × (digits_of octet ≡ high ∷ low ∷ [])) }
     ensures none { IfNone result ((o : ℕ) → o < 256 → is_plain o ≡ false → digits_of o ≢ high ∷ low ∷ []) }
@@ -190,7 +190,7 @@ fn digit_value(digit: u8) -> Option<u8>
     }
 }
 
-/// Adds the text of a component at the end.
+/// Appends the text of a component.
 fn push_component(text: &mut String, octets: &[u8]) -> Result<(), AllocError>
     ensures { OnOk result (string_bytes text.new ≡ string_bytes text.old ++ component_text octets.now) }
 {
@@ -212,7 +212,7 @@ fn push_octet(text: &mut String, octet: u8) -> Result<(), AllocError>
     }
 }
 
-/// The lower case hexadecimal digit of a value.
+/// Returns the lowercase hexadecimal digit for a value.
 fn digit_of(value: u8) -> char
     requires { value < 16 }
     ensures { result ≡ hex_digit value }
@@ -224,7 +224,7 @@ fn digit_of(value: u8) -> char
     })
 }
 
-/// Whether an octet is written as it is.
+/// Checks whether a byte is written as it is.
 fn is_plain(octet: u8) -> bool
     ensures { result ≡ is_plain octet }
 {

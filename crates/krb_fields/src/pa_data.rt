@@ -10,14 +10,14 @@ use krb_elements::{
 };
 use std::alloc::{AllocError, Global};
 
-/// Data for preauthentication, or other data that goes with a request or a reply, by its type.
+/// Preauthentication data, or other data in a request or a reply, with its type.
 #[derive(Debug, Drop)]
 pub struct PaData<V = Octets> {
     pub padata_type: i32,
     pub padata_value: V,
 }
 
-/// A [`PaData`] where it stands.
+/// A borrowed [`PaData`].
 pub type PaDataRef<'a> = PaData<OctetsRef<'a>>;
 
 impl<V: Coded> Coded for PaData<V> {

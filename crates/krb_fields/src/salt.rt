@@ -1,4 +1,4 @@
-//! The salt that turns a principal's password into its keys.
+//! The salt for deriving keys from a principal's password.
 ghost use Rattle.std.specs.Prelude.{◌≡◌, IfOk};
 ghost use Rattle.krb_fields.specs.Salt.{default_salt};
 
@@ -7,8 +7,7 @@ use krb_elements::KerberosString;
 use std::alloc::{AllocError, Global};
 
 impl Name {
-    /// The default salt: the realm followed by the name's components, without separators
-    /// (RFC 4120 section 4).
+    /// Returns the default salt: the realm followed by the name's components, without separators (RFC 4120 section 4).
     pub fn salt(&self, alloc: Global, realm: &[u8]) -> Result<KerberosString, AllocError>
         ensures { IfOk result (λ salt. salt ≡ default_salt realm.now self.now.components) }
     {

@@ -1,4 +1,4 @@
-//! Whole seconds of moments.
+//! Whole seconds.
 ghost use Rattle.std.specs.Prelude.{◌≡◌};
 ghost use Rattle.std.specs.Option.{SomeIff};
 ghost use Rattle.krb_fields.specs.Moment.{IsSecond};
@@ -26,7 +26,7 @@ impl Model for Second {
 }
 
 impl Second {
-    /// The second, where the number is in range.
+    /// Returns the second, if the number is in range.
     pub fn new(value: i64) -> Option<Second>
         ensures { SomeIff result (IsSecond value) value }
     {

@@ -1,4 +1,4 @@
-//! Octets of a type that a number names.
+//! Bytes with a numbered type.
 ghost use Rattle.std.specs.Prelude.{◌≡◌, IfOk, OnOk};
 ghost use Rattle.krb_elements.specs.Codec.{itself};
 ghost use Rattle.krb_fields.specs.Typed.{typed_of, typed_form};
@@ -10,20 +10,20 @@ use krb_elements::{
 };
 use std::alloc::{AllocError, Global};
 
-/// Octets, by their type: the shape of HostAddress (RFC 4120, section 5.2.5) and of other types.
+/// Bytes with their type: the form of HostAddress (RFC 4120, section 5.2.5) and of other types.
 #[derive(Debug, Drop)]
 pub struct Typed<O = Octets> {
     pub number: i32,
     pub octets: O,
 }
 
-/// A [`Typed`] where it stands.
+/// A borrowed [`Typed`].
 pub type TypedRef<'a> = Typed<OctetsRef<'a>>;
 
-/// A host's address, by its type.
+/// A host address with its type.
 pub type HostAddress = Typed;
 
-/// A [`HostAddress`] where it stands.
+/// A borrowed [`HostAddress`].
 pub type HostAddressRef<'a> = TypedRef<'a>;
 
 impl<O: Coded> Coded for Typed<O> {

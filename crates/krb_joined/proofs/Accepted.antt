@@ -1,4 +1,4 @@
--- A service that holds the key of a ticket that was issued accepts what its client presents.
+-- A service with the key of an issued ticket accepts what its client presents.
 use Rattle.std.proofs.Common.{◌≡◌, ℕ, ℤ, pos, ◌+ℤ◌, ◌-ℤ◌, ◌≤ℤ◌, Bool, true, false, not, ◌&&◌, ◌||◌, cond, List, [], ◌∷◌, length, Option, Some, None, Result, Ok, refl, sym, ap, ◌∙◌, is_some, is_none, arith}
 use Rattle.std.specs.Prelude.{IfSome, int_lt, nat_eq, option_map, ⊤}
 use Rattle.std.specs.Ordering.{eq_by_cmp, int_eq}
@@ -48,7 +48,7 @@ use Rattle.ap_accept.specs.declared.state.State.{State}
 use Rattle.krb_joined.specs.Credential.{issued_credential, issued_session}
 use Rattle.krb_joined.specs.Joined.{MayBeAccepted}
 
--- ---- what is equal to itself
+-- ---- bytes equal themselves
 
 same_octets : (octets : List ℕ) → pointwise nat_eq octets octets ≡ true
 same_octets octets = (bytes_decides octets octets).1 refl
@@ -77,7 +77,7 @@ by_tests true false e o w here later s = absurd (let k : false ≡ true = here r
 by_tests false true e o w here later s = refl
 by_tests false false e o w here later s = later s
 
--- what passes one test passes a weaker one
+-- an entry that passes a test passes a weaker one
 newest_weaker : (test weaker : KeytabEntry → Bool) → ((e : KeytabEntry) → test e ≡ true → weaker e ≡ true) → (entries : List KeytabEntry) → is_some (newest test entries) ≡ true → is_some (newest weaker entries) ≡ true
 unfolding newest
 newest_weaker test weaker implies [] some = some
@@ -102,7 +102,7 @@ key_there : (o : Option KeytabEntry) (key : Key) → option_map (λ e. e.key) o 
 key_there (Some e) key h = refl
 key_there None key h = absurd cc
 
--- the type of a key by its number
+-- a key's encryption type from its number
 numbered : (etype : Etype) → type_numbered (number etype) ≡ Some etype
 numbered Aes128CtsHmacSha1_96 = refl
 numbered Aes256CtsHmacSha1_96 = refl
@@ -172,14 +172,14 @@ module _ (issue : Issue) (state : State) (sent : Moment) (asked : ServiceAsked) 
   subkey_is : IfSome asked.subkey IsKey → subkey_of part auth ≡ Ok asked.subkey
   subkey_is valid = λ i. subkey_by (same_octets issue.grant.realm i) (same_name issue.grant.client.components i) (subkey_read asked.subkey valid i)
 
-  -- what the client needs to know of the ticket, and the service of both
+  -- what the client must know of the ticket, and the service of ticket and authenticator
   pub presented_is : ticket_key state.keytab (issued_ticket issue) ≡ Some issue.service_key.key → decrypted enc_ticket_part issue.service_key.key (usage_number TicketUsage) (issued_ticket issue).enc_part ≡ Some part
       → length key.bytes ≡ key_len key.etype → decrypted authenticator key (usage_number ApReqAuthenticator) ap_req.authenticator ≡ Some auth → IfSome asked.subkey IsKey → presented state.keytab ap_req ≡ Ok p
   presented_is held opens size opened valid =
       all_found ap_req state.keytab part key auth asked.subkey
       (ticket_is held opens) (session_is size) (authenticator_is opened) (subkey_is valid)
 
-  -- ---- what is answered
+  -- ---- the answer
 
   abbrev invalid_by : Bool → Bool → Bool → Option ApRefusal
   invalid_by early flagged late = first_holding ((early || flagged, NotYetValid) ∷ (late, TicketExpired) ∷ [])

@@ -1,4 +1,4 @@
--- The client takes the AP-REP of a service that accepted it.
+-- The client accepts the AP-REP of a service that accepted it.
 use Rattle.std.proofs.Common.{◌≡◌, ℕ, Bool, true, not, ◌||◌, List, [], ◌∷◌, Option, Some, Result, Ok, refl, ap, ◌∙◌}
 use Rattle.std.specs.Prelude.{nat_eq}
 use Rattle.std.specs.Ordering.{int_eq}
@@ -24,7 +24,7 @@ use Rattle.client_core.specs.declared.fault.Rejection.{Rejection}
 use Rattle.client_core.specs.declared.fault.Rejection.TheVariants.{Mismatched, Unopened}
 use Rattle.ap_accept.specs.Reply.{IsApReply, reply_of, reply_part}
 
--- what the client reads, where the part is of the key's type, and the tests of its time give these
+-- the client's result if the part names the key's encryption type and its time passes the tests
 abbrev part_by : Bool → Option EncApRepPart → Result EncApRepPart Rejection
 part_by same opened = unless_refused (first_holding ((not same, Unopened) ∷ [])) opened Unopened
 

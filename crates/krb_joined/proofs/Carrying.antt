@@ -1,4 +1,4 @@
--- What holds of a ticket that may have been issued, from one call to the next.
+-- A property of a ticket that may have been issued, carried from one call to the next.
 use Rattle.std.proofs.Common.{◌≡◌, inl, inr, ℕ, ℤ, List, Option, Some, None, Result, Ok, Err, refl, subst, sym, ap, ◌∙◌}
 use Rattle.std.specs.Prelude.{IfErr, IfOk, IfSome}
 use Rattle.std.specs.Result.{result_ok}
@@ -22,13 +22,13 @@ use Rattle.krb_joined.specs.declared.fault.JoinedFault.{JoinedFault}
 use Rattle.krb_joined.specs.declared.fault.JoinedFault.TheVariants.{NoReply, NotTaken, NotPresentable, NotAccepted, NotAnswered, Memory}
 use Rattle.krb_joined.specs.declared.reading.Reader.{Reader}
 
--- the credential that was read is the one that the reply gives
+-- the credential that was read is the one in the reply
 taken_is : (own : Reader) (asked : Asked) (reply : Option (List ℕ)) (credential : Credential) → IsRead reply asked own credential → taken_of reply asked own ≡ Some credential
 taken_is own asked (Some octets) credential read = ap result_ok read
 taken_is own asked None credential read = absurd read
 
 module _ (own : Reader) (state : State) (now : ℤ) (wanted : ServiceAsked) (sent : Moment) where
-  -- the credential that was obtained is accepted
+  -- the obtained credential is accepted
   pub carried : (o : Option Issue) (credential : Credential) (result : Result Accepted JoinedFault) → IfSome o (λ issue. IsReader own issue → IsCredentialOf issue credential)
       → ((issue : Issue) → IsCredentialOf issue credential → MayBeAccepted issue state now sent → IsJoined issue wanted sent result)
       → IfSome o (λ issue. IsReader own issue → MayBeAccepted issue state now sent → IsJoined issue wanted sent result)
@@ -43,13 +43,13 @@ module _ (own : Reader) (state : State) (now : ℤ) (wanted : ServiceAsked) (sen
   ended issue asked reply (NotAnswered fault) silent is e = absurd is
   ended issue asked reply Memory silent is e = tt
 
-  -- where none was obtained, no service is asked; and there was a reply
+  -- without a credential, no service is asked; and there was a reply
   pub stopped : (o : Option Issue) (asked : Asked) (reply : Option (List ℕ)) (fault : JoinedFault) → (reply ≡ None → o ≡ None) → IsBefore fault → IsEnded reply asked own fault
       → IfSome o (λ issue. IsReader own issue → MayBeAccepted issue state now sent → IsJoined issue wanted sent (Err fault))
   stopped (Some issue) asked reply fault silent is e = λ reader may. ended issue asked reply fault silent is e
   stopped None asked reply fault silent is e = tt
 
-  -- what the client took is what is presented
+  -- the client presents the credential that it got
   pub presented_so : (asked : Asked) (reply : Option (List ℕ)) (credential : Credential) (result : Result Accepted JoinedFault) → IsRead reply asked own credential → IsPresented credential sent result
       → IfSome reply (λ octets. IfOk (reads_reply own asked octets) (λ c. IsPresented c sent result))
   presented_so asked (Some octets) credential result read is = subst (λ (r : Result Credential ClientFault). IfOk r (λ c. IsPresented c sent result)) (sym read) is
@@ -71,7 +71,7 @@ module _ (own : Reader) (state : State) (now : ℤ) (wanted : ServiceAsked) (sen
       by (Err e) = tt
   not_presented asked None fault is = tt
 
-  -- a later fault is none of the KDC's, or of the credential that was read of its reply
+  -- a later error is not the KDC's, and not of reading its reply
   pub later_ended : (asked : Asked) (reply : Option (List ℕ)) (credential : Credential) → IsRead reply asked own credential → (result : Result Accepted JoinedFault) → IsPresented credential sent result → IfErr result IsLater
       → IfErr result (IsEnded reply asked own)
   later_ended asked reply credential read (Ok accepted) presented is = tt
@@ -82,12 +82,12 @@ module _ (own : Reader) (state : State) (now : ℤ) (wanted : ServiceAsked) (sen
   later_ended asked reply credential read (Err (NotAnswered fault)) presented is = tt
   later_ended asked reply credential read (Err Memory) presented is = tt
 
-  -- ---- a reply that was kept
+  -- ---- a kept reply
 
   pub stopped_again : (issue : Issue) (octets : List ℕ) (asked : Asked) (reply : Option (List ℕ)) (fault : JoinedFault) → reply ≡ Some octets → IsBefore fault → IsEnded reply asked own fault → IsJoined issue wanted sent (Err fault)
   stopped_again issue octets asked reply fault again is e = ended issue asked reply fault (λ none. absurd (let k : None ≡ Some octets = sym none ∙ again in cc)) is e
 
--- ---- what the service does
+-- ---- the service's part
 
 module _ (own : Reader) (asked : Asked) (reply : Option (List ℕ)) (state : State) (wanted : ServiceAsked) (presenting accepting : Sealing) where
   abbrev ruling : Option Answer
@@ -100,7 +100,7 @@ module _ (own : Reader) (asked : Asked) (reply : Option (List ℕ)) (state : Sta
     pub served_so : (after : State) → IsServed state after (ruled state wanted presenting accepting (Some credential)) result → IsServed state after ruling result
     served_so after is = subst (λ (o : Option Credential). IsServed state after (ruled state wanted presenting accepting o) result) (sym (taken_is own asked reply credential read)) is
 
--- where none was obtained, the service is not asked
+-- without a credential, the service is not asked
 module _ (key : Option Key) (sent : Moment) (state : State) (ruling : Option Answer) where
   pub not_ruled : (fault : JoinedFault) → IsBefore fault → IsRuled key sent ruling (Err fault)
   not_ruled NoReply is = tt
@@ -118,7 +118,7 @@ module _ (key : Option Key) (sent : Moment) (state : State) (ruling : Option Ans
   not_served (NotAnswered fault) is = absurd is
   not_served Memory is = refl
 
--- ---- what the KDC keeps
+-- ---- the KDC's state
 
 module _ (old new ruling : kdc_states.State) where
   pub kept_on : (credential : Credential) (result : Result Accepted JoinedFault) → IsKept old new ruling (Ok credential) → IsKeptOn old new ruling result

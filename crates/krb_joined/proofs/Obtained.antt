@@ -1,4 +1,4 @@
--- What a client takes from the reply to its request is the credential of the ticket that was issued.
+-- A client reads the credential of the issued ticket from the reply to its request.
 use Rattle.std.proofs.Common.{◌≡◌, ◌≤◌, ℕ, List, length, Option, Some, None, Ok, refl, subst, ◌∙◌}
 use Rattle.std.specs.Prelude.{IfSome}
 use Rattle.cred_files.specs.declared.credential.Credential.{Credential}
@@ -23,7 +23,7 @@ use Rattle.krb_joined.proofs.Sessions.{credential_is}
 use Rattle.krb_joined.proofs.Taken.{credential_taken}
 
 module _ (v : View) (at : Moment) (random : List ℕ) where
-  -- ---- a request without a reply is issued nothing
+  -- ---- without a reply, nothing was issued
 
   replied : (incoming : Incoming) (held : Contents) → (answer_of v incoming held).reply ≡ None → issued_of v at random held ≡ None
   replied incoming NoRequest none = refl
@@ -47,7 +47,7 @@ module _ (v : View) (at : Moment) (random : List ℕ) where
             credential_is issue octets c fits t.0 t.1
         by_issue None e = tt
 
--- what the client takes is the reply
+-- the client reads the KDC's reply
 pub taken_reply : (own : Reader) (asked : Asked) (octets : List ℕ) (reply : Option (List ℕ)) (c : Credential) → Some octets ≡ reply → reads_reply own asked octets ≡ Ok c → IsRead reply asked own c
 taken_reply own asked octets reply c same read = subst (λ (o : Option (List ℕ)). IsRead o asked own c) same read
 

@@ -1,4 +1,4 @@
--- What comes of a credential is what the service rules of the AP-REQ that its client makes.
+-- The result for a credential is what the service's rules prescribe for the AP-REQ that its client makes.
 use Rattle.std.proofs.Common.{◌≡◌, ℕ, Bool, true, false, ◌&&◌, List, Option, Some, None, is_some, Result, Ok, Err, refl, sym, ap, subst, ◌∙◌}
 use Rattle.std.specs.Prelude.{IfSome, option_map}
 use Rattle.cred_files.specs.declared.credential.Credential.{Credential}
@@ -19,7 +19,7 @@ use Rattle.krb_joined.specs.declared.fault.JoinedFault.{JoinedFault}
 use Rattle.krb_joined.specs.declared.fault.JoinedFault.TheVariants.{NoReply, NotTaken, NotPresentable, NotAccepted, NotAnswered, Memory}
 use Rattle.krb_joined.specs.declared.presenting.Sealing.{Sealing}
 
--- a credential that can be presented gives a session
+-- a credential that can be presented yields a session
 some_session : (t : Option Ticket) (k : Option Key) (a b c : Bool) → (is_some k && is_some t && a && b && c) ≡ true → is_some (session_by t k) ≡ true
 some_session (Some t) (Some key) a b c e = refl
 some_session (Some t) None a b c e = absurd (let k : false ≡ true = e in cc)
@@ -40,12 +40,12 @@ module _ (state : State) (wanted : ServiceAsked) (presenting accepting : Sealing
   by_session (Some s) some is = ap (λ (l : List ℕ). Some (accepts state accepting.at accepting.confounder l)) (sym (same ∙ is))
   by_session None some is = absurd (let k : false ≡ true = some in cc)
 
-  -- what the service rules of these octets is what it rules of the AP-REQ
+  -- the ruling for these bytes is the ruling for the AP-REQ
   is_ruled : is_presentable credential ≡ true → IfSome (session credential) (λ s. made ≡ of_session s) → ruled state wanted presenting accepting (Some credential) ≡ Some ruling
   is_ruled may is = by_session (session credential) (has_session credential may) is
 
   module _ (may : is_presentable credential ≡ true) (is : IfSome (session credential) (λ s. made ≡ of_session s)) where
-    -- ---- it is refused
+    -- ---- refused
 
     pub refused_as : (key : Option Key) (fault : ApFault) → IsAnswer (Err fault) ruling.answer → IsRuled key presenting.at (ruled state wanted presenting accepting (Some credential)) (Err (NotAccepted fault))
     refused_as key fault h = subst (λ (o : Option Answer). IsRefused fault o) (sym (is_ruled may is)) h
@@ -53,7 +53,7 @@ module _ (state : State) (wanted : ServiceAsked) (presenting accepting : Sealing
     pub refused_after : (after : State) (fault : ApFault) → IsAfter (Err fault) state after ruling.state → IsServed state after (ruled state wanted presenting accepting (Some credential)) (Err (NotAccepted fault))
     refused_after after fault h = subst (λ (o : Option Answer). IsRefusedAfter fault state after o) (sym (is_ruled may is)) h
 
-    -- ---- it is accepted
+    -- ---- accepted
 
     heard_as : (key : Key) (a : Accepted) (heard : Result Accepted JoinedFault) → ruling.answer ≡ Ok a → IsHeard key presenting.at a heard → IsRuled (Some key) presenting.at (Some ruling) heard
     heard_as key a (Ok b) e h = ap Some (e ∙ ap Ok (sym h.0))

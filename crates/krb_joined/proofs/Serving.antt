@@ -1,4 +1,4 @@
--- What comes of a credential of a ticket that was issued, once the client has made an AP-REQ of it.
+-- The result for the credential of an issued ticket, after the client has made an AP-REQ from it.
 use Rattle.std.proofs.Common.{◌≡◌, ℕ, Bool, true, false, List, Option, Some, None, is_some, Result, Ok, Err, refl, sym, ap, subst, ◌∙◌}
 use Rattle.std.specs.Prelude.{IfSome}
 use Rattle.std.specs.Result.{result_ok}
@@ -44,7 +44,7 @@ ok_same x y r e f = let k = sym e ∙ f in cc
 some_same : {A : Type 0} (x y : A) → Some x ≡ Some y → x ≡ y
 some_same x y e = cc
 
--- what the client would read of the AP-REP, it reads unless memory runs out
+-- an AP-REP that the client can read fails only if memory runs out
 unread : (fault : ClientFault) (part : EncApRepPart) (r : Result EncApRepPart ClientFault) → r ≡ Ok part → Fails fault r → fault ≡ client_faults.Memory
 unread client_faults.Memory part r e h = refl
 unread client_faults.NotAReply part r e h = absurd (let k = sym h ∙ e in cc)
@@ -58,14 +58,14 @@ unheard : (key : Key) (own : List ℕ) (a : Authenticator) (sent : Moment) (repl
 unheard key own a sent (Some octets) fault second microsecond is h = unread fault (reply_part a) (reads_ap key sent octets) (answer_taken key own a octets sent second microsecond is) h
 unheard key own a sent None fault second microsecond is h = absurd h
 
--- what the client reads of the AP-REP
+-- what the client reads from the AP-REP
 heard_if : (key : Key) (own : List ℕ) (a : Authenticator) (sent : Moment) (reply : Option (List ℕ)) → a.ctime ≡ sent.sec → a.cusec ≡ sent.usec → IfSome reply (λ octets. IsApReply key own a octets)
     → IfSome reply (λ octets. reads_ap key sent octets ≡ Ok (moment_part sent))
 heard_if key own a sent (Some octets) second microsecond is =
     answer_taken key own a octets sent second microsecond is ∙ (λ i. Ok (record { ctime = second i; cusec = microsecond i; subkey = None; seq_number = None }))
 heard_if key own a sent None second microsecond is = tt
 
--- it is there where it is asked for
+-- there is an AP-REP if it was asked for
 reply_there : (wanted : Bool) (key : Key) (own : List ℕ) (a : Authenticator) → is_some (reply_if wanted key own a) ≡ wanted
 reply_there true key own a = refl
 reply_there false key own a = refl
@@ -94,7 +94,7 @@ module _ (issue : Issue) (state : State) (credential : Credential) (sent at : Mo
   ruled : (accepts state at own octets).answer ≡ Ok (accepted own asked.mutual_required (p issue state sent asked confounder))
   ruled = answer_is issue state sent asked confounder at may own octets read opened
 
-  -- the service refuses it only if memory runs out
+  -- the service refuses the request only if memory runs out
   pub refused_so : (fault : ApFault) → IsAnswer (Err fault) (accepts state at own octets).answer → fault ≡ ap_faults.Memory
   refused_so ap_faults.NotAnApReq h = absurd (let k = sym h ∙ ruled in cc)
   refused_so (ap_faults.Refused refusal) h = absurd (let k = sym h ∙ ruled in cc)
@@ -105,12 +105,12 @@ module _ (issue : Issue) (state : State) (credential : Credential) (sent at : Mo
   found : presented_by state octets ≡ Some (p issue state sent asked confounder)
   found = ap (presented_if state) read ∙ ap result_ok opened
 
-  -- an AP-REP is one that the session key opens
+  -- the session key decrypts the AP-REP
   answers : (a : Accepted) → IfSome (presented_by state octets) (λ p. IfSome a.ap_rep (λ reply. IsApReply p.session_key own p.authenticator reply))
       → IfSome a.ap_rep (λ reply. IsApReply issue.grant.session_key own (auth issue state sent asked confounder) reply)
   answers a reply = subst (λ (o : Option Presented). IfSome o (λ p. IfSome a.ap_rep (λ reply. IsApReply p.session_key own p.authenticator reply))) found reply
 
-  -- what it accepts is what was granted and what was sent
+  -- the service accepts what was granted and what was sent
   joined : (a : Accepted) → IsAnswer (Ok a) (accepts state at own octets).answer → IfSome a.ap_rep (λ reply. IsApReply issue.grant.session_key own (auth issue state sent asked confounder) reply) → IsAccepted issue asked sent a
   joined a h reply =
       let is : a ≡ accepted own asked.mutual_required (p issue state sent asked confounder) = ok_same a (accepted own asked.mutual_required (p issue state sent asked confounder)) (accepts state at own octets).answer h ruled in
@@ -125,7 +125,7 @@ module _ (issue : Issue) (state : State) (credential : Credential) (sent at : Mo
         heard = heard_if issue.grant.session_key own (auth issue state sent asked confounder) sent a.ap_rep refl refl reply;
       }
 
-  -- and the client takes its reply
+  -- and the client accepts its reply
   pub accepted_so : (a : Accepted) (heard : Result Accepted JoinedFault) (key : Key) → session_key credential ≡ Some key → IsAnswer (Ok a) (accepts state at own octets).answer
       → IfSome (presented_by state octets) (λ p. IfSome a.ap_rep (λ reply. IsApReply p.session_key own p.authenticator reply)) → IsHeard key sent a heard → IsJoined issue asked sent heard
   accepted_so a (Ok b) key e h reply heard = subst (λ (x : Accepted). IsAccepted issue asked sent x) (sym heard.0) (joined a h (answers a reply))

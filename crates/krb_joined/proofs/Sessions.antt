@@ -1,4 +1,4 @@
--- The credential of a ticket that was issued gives that ticket and its session key.
+-- The credential of an issued ticket yields that ticket and its session key.
 use Rattle.std.proofs.Common.{◌≡◌, inl, ℕ, ℤ, pos, List, length, Some, Result, Ok, Err, refl, ap, ◌∙◌}
 use Rattle.std.specs.Prelude.{IfOk}
 use Rattle.cred_files.specs.declared.credential.Credential.{Credential}
@@ -22,7 +22,7 @@ use Rattle.krb_joined.specs.Reading.{IsReader, IsTakenBy}
 use Rattle.krb_joined.specs.declared.reading.Reader.{Reader}
 use Rattle.krb_joined.proofs.Taken.{credential_taken}
 
--- the number of a type has 16 bits
+-- an encryption type's number has 16 bits
 same_number : (etype : Etype) → pos (in_16_bits (number etype)) ≡ number etype
 same_number Aes128CtsHmacSha1_96 = refl
 same_number Aes256CtsHmacSha1_96 = refl
@@ -44,7 +44,7 @@ credential_is issue octets credential fits is same =
       service_reads = is.service_reads;
     }
 
--- what a client that has the key takes of a reply that was issued, whenever that was
+-- what a client with the key reads from an issued reply, whenever it was issued
 pub credential_if_issued : (issue : Issue) (octets : List ℕ) → IsBytes octets → IsIssued issue octets → (own : Reader) (asked : Asked) → IsReader own issue → (r : Result Credential ClientFault) → IfOk r (IsTakenBy own asked octets) → IfOk r (IsCredentialOf issue)
 credential_if_issued issue octets fits is own asked reader (Ok c) taken = credential_is issue octets c fits is (credential_taken issue octets fits own asked c reader (inl is) taken).1
 credential_if_issued issue octets fits is own asked reader (Err fault) taken = tt

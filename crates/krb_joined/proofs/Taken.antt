@@ -1,4 +1,4 @@
--- What a client takes from a reply that was issued is the credential of that ticket.
+-- From an issued reply, a client reads the credential of that ticket.
 use Rattle.std.proofs.Common.{◌≡◌, inl, inr, ℕ, true, false, List, [], Option, Some, Result, eqb, eq-eqb, refl, sym, ap, subst, ◌∙◌}
 use Rattle.std.specs.Option.{unwrap_or}
 use Rattle.cred_files.specs.declared.credential.Credential.{Credential}
@@ -32,9 +32,9 @@ use Rattle.krb_joined.specs.Credential.{issued_credential}
 use Rattle.krb_joined.specs.Reading.{IsReader, IsTakenBy, exchange_of, reads_reply, usage_of}
 use Rattle.krb_joined.specs.declared.reading.Reader.{Reader}
 
--- ---- what octets are an AS-REP or a TGS-REP are no KRB-ERROR
+-- ---- bytes of an AS-REP or a TGS-REP are not those of a KRB-ERROR
 
--- octets begin with one tag
+-- bytes begin with one tag only
 one_tag : {A B : Type 0} (a b : ℕ) (c : Codec A) (d : Codec B) (x : A) (y : B) (bytes : List ℕ) → (in_tag (Some a) c).Spells x bytes → (in_tag (Some b) d).Spells y bytes → eqb b a ≡ true
 one_tag a b c d x y bytes s t = sym (inside_starts b a d.Spells y bytes [] t) ∙ (inside_starts a a c.Spells x bytes [] s ∙ eq-eqb a a refl)
 
@@ -57,11 +57,11 @@ opens_so Session key sealed part e = e
 some_is : {A : Type 0} (x y : A) → Some x ≡ Some y → x ≡ y
 some_is x y e = ap (λ o. unwrap_or o x) e
 
--- what is read in a role
+-- what is read in each role
 pub read_so : (own : Reader) (asked : Asked) (octets : List ℕ) (r : Result Credential ClientFault) {role : KeyRole} → own.role ≡ role → Gives r (reads (reply_type (exchange_of role)) role asked own.key own.at.sec octets) → Gives r (reads_reply own asked octets)
 read_so own asked octets r is gives = subst (λ (x : KeyRole). Gives r (reads (reply_type (exchange_of x)) x asked own.key own.at.sec octets)) (sym is) gives
 
--- ---- the reply that was issued
+-- ---- the issued reply
 
 module _ (issue : Issue) (octets : List ℕ) (fits : IsBytes octets) (own : Reader) (asked : Asked) (c : Credential) (reader : IsReader own issue) where
   reading : IsWhole (kdc_rep (reply_type issue.exchange)).Spells (whole (kdc_rep (reply_type issue.exchange)).at)

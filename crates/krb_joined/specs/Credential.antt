@@ -1,4 +1,4 @@
--- The credential of a ticket that was issued.
+-- The credential of an issued ticket.
 use Rattle.std.specs.Prelude.{◌≡◌, length, Some}
 use Rattle.cred_files.specs.declared.credential.Credential.{Credential}
 use Rattle.enctypes.specs.Etype.{key_len}
@@ -11,15 +11,15 @@ use Rattle.client_core.specs.Credentials.{credential_of}
 use Rattle.client_core.specs.Sessions.{session, session_key}
 use Rattle.client_core.specs.declared.sessions.Session.{Session}
 
--- what a client keeps of the reply and its part
+-- what a client keeps of the reply and its encrypted part
 abbrev pub issued_credential : Issue → Credential
 issued_credential issue = credential_of (reply_type issue.exchange) (issued_reply issue) (issued_part issue)
 
 abbrev pub issued_session : Issue → Session
 issued_session issue = record { ticket = issued_ticket issue; key = issue.grant.session_key }
 
--- The credential is that of the ticket, it gives the ticket and its session key, which is one of its type, and the
--- service's key opens the ticket to what was granted.
+-- The credential is the ticket's. It yields the ticket and its session key, whose size is right for its encryption
+-- type, and the service's key decrypts the ticket to what was granted.
 pub record IsCredentialOf (issue : Issue) (credential : Credential) : Type 0 where
   pub is : credential ≡ issued_credential issue
   pub session : session credential ≡ Some (issued_session issue)

@@ -1,4 +1,4 @@
--- What comes of a ticket that was issued: the service that it is for accepts the client.
+-- The rest of an issued ticket's path: the service that it is for accepts the client.
 use Rattle.std.specs.Prelude.{◌≡◌, ◌⊎◌, ⊤, false, ℕ, ℤ, pos, ◌+ℤ◌, ◌-ℤ◌, ◌≤ℤ◌, List, Option, Some, None, is_some}
 use Rattle.std.specs.Prelude.{Result, Ok, Err, IfSome, IsOk, option_map}
 use Rattle.std.specs.Result.{result_ok}
@@ -41,9 +41,9 @@ use Rattle.krb_joined.specs.declared.reading.Reader.{Reader}
 use Rattle.krb_joined.specs.declared.fault.JoinedFault.TheVariants.{NoReply, NotTaken, NotPresentable, NotAccepted}
 use Rattle.krb_joined.specs.declared.fault.JoinedFault.TheVariants.{NotAnswered, Memory}
 
--- What has to hold at the service, at the second `now`, for an AP-REQ that was sent at a moment: the keytab's entry
--- that the acceptor picks holds the key that sealed the ticket; the ticket is valid by flag and times; and the
--- authenticator's time is fresh in the memory of this client at this service.
+-- What must hold at the service, at the second `now`, for an AP-REQ sent at the moment `sent`: the keytab entry that
+-- the acceptor picks holds the key that encrypted the ticket; the ticket is valid by flag and times; and the
+-- authenticator's time is new in this client's replay cache at this service.
 pub record MayBeAccepted (issue : Issue) (state : State) (now : ℤ) (sent : Moment) : Type 0 where
   pub key : ticket_key state.keytab (issued_ticket issue) ≡ Some issue.service_key.key
   pub valid : has_bit issue.grant.flags (ticket_flag_number Invalid) ≡ false
@@ -52,12 +52,12 @@ pub record MayBeAccepted (issue : Issue) (state : State) (now : ℤ) (sent : Mom
   pub fresh : verdict (memory_of state (service_of (issued_ticket issue)) issue.grant.client.components) now
       (sent.sec, sent.usec) state.limits.remembered ≡ Fresh
 
--- the authenticator's time, and no more: what a service seals into the AP-REP
+-- the authenticator's time and nothing else: what a service encrypts into the AP-REP
 abbrev pub moment_part : Moment → EncApRepPart
 moment_part sent = record { ctime = sent.sec; cusec = sent.usec; subkey = None; seq_number = None }
 
--- What the service learns is what was granted (the client, the session key, and the ticket's flags and times) and what
--- the client sent at this moment. An AP-REP is there exactly where the client asked for one, and the client takes it.
+-- The service learns what was granted (the client, the session key, and the ticket's flags and times) and what the
+-- client sent at this moment. There is an AP-REP exactly if the client asked for one, and the client accepts it.
 pub record IsAccepted (issue : Issue) (wanted : ServiceAsked) (sent : Moment) (accepted : Accepted) : Type 0 where
   pub client : accepted.client ≡ record { realm = issue.grant.realm; name = issue.grant.client }
   pub session_key : accepted.session_key ≡ issue.grant.session_key
@@ -68,9 +68,9 @@ pub record IsAccepted (issue : Issue) (wanted : ServiceAsked) (sent : Moment) (a
   pub replied : is_some accepted.ap_rep ≡ wanted.mutual_required
   pub heard : IfSome accepted.ap_rep (λ octets. reads_ap issue.grant.session_key sent octets ≡ Ok (moment_part sent))
 
--- The service doesn't refuse the client, nor the client the service's reply, unless memory runs out. Else it ended
--- before the service was asked: the client didn't take the reply (`IsEnded` says when), or what it took can't be
--- presented.
+-- If the service is asked, it doesn't refuse the client, and the client doesn't reject its reply, unless memory runs
+-- out. If it is not asked, memory ran out, the client rejected the KDC's reply (see `IsEnded`), or the credential in it
+-- can't be presented.
 abbrev pub IsJoined : Issue → ServiceAsked → Moment → Result Accepted JoinedFault → Type 0
 IsJoined issue wanted sent (Ok accepted) = IsAccepted issue wanted sent accepted
 IsJoined issue wanted sent (Err (NotAccepted fault)) = fault ≡ ap_faults.Memory
@@ -80,23 +80,23 @@ IsJoined issue wanted sent (Err (NotTaken fault)) = ⊤
 IsJoined issue wanted sent (Err NotPresentable) = is_presentable (issued_credential issue) ≡ false
 IsJoined issue wanted sent (Err Memory) = ⊤
 
--- the client's rules don't take the reply, with this fault or because memory runs out
+-- the client's rules reject the reply with this error, or memory runs out
 abbrev pub IsUntaken : Option (List ℕ) → Asked → Reader → ClientFault → Type 0
 IsUntaken (Some octets) asked reader fault = Fails fault (reads_reply reader asked octets)
 IsUntaken None asked reader fault = ⊥
 
--- the credential that the reply gives by the client's rules, if it gives one
+-- the credential in the reply, if the client's rules accept it
 abbrev pub taken_of : Option (List ℕ) → Asked → Reader → Option Credential
 taken_of (Some octets) asked reader = result_ok (reads_reply reader asked octets)
 taken_of None asked reader = None
 
--- the client took a credential that it can't present
+-- the client got a credential that it can't present
 abbrev pub IsUnpresentable : Option Credential → Type 0
 IsUnpresentable (Some credential) = is_presentable credential ≡ false
 IsUnpresentable None = ⊥
 
--- Where it ends before a service is asked, this is the KDC's reply: none, or one that the client doesn't take, or one
--- whose credential it can't present.
+-- If the path ends before the service is asked, the KDC sent no reply, or one that the client rejects, or one whose
+-- credential can't be presented.
 abbrev pub IsEnded : Option (List ℕ) → Asked → Reader → JoinedFault → Type 0
 IsEnded reply asked reader NoReply = reply ≡ None
 IsEnded reply asked reader (NotTaken fault) = IsUntaken reply asked reader fault
@@ -105,7 +105,7 @@ IsEnded reply asked reader (NotAccepted fault) = ⊤
 IsEnded reply asked reader (NotAnswered fault) = ⊤
 IsEnded reply asked reader Memory = ⊤
 
--- a fault of the KDC, or of the client reading its reply
+-- an error of the KDC, or of the client as it reads the KDC's reply
 abbrev pub IsBefore : JoinedFault → Type 0
 IsBefore (NotAccepted fault) = ⊥
 IsBefore (NotAnswered fault) = ⊥
@@ -114,7 +114,7 @@ IsBefore (NotTaken fault) = ⊤
 IsBefore NotPresentable = ⊥
 IsBefore Memory = ⊤
 
--- a fault behind that
+-- an error after that
 abbrev pub IsLater : JoinedFault → Type 0
 IsLater (NotAccepted fault) = ⊤
 IsLater (NotAnswered fault) = ⊤
@@ -123,13 +123,13 @@ IsLater (NotTaken fault) = ⊥
 IsLater NotPresentable = ⊤
 IsLater Memory = ⊤
 
--- the client takes the AP-REP that may be there
+-- the client accepts the AP-REP, if there is one
 abbrev pub IsAnswered : Key → Moment → Option (List ℕ) → Type 0
 IsAnswered key sent (Some octets) = IsOk (reads_ap key sent octets)
 IsAnswered key sent None = ⊤
 
--- What comes of a credential that the client took, whoever issued it: it can't be presented, or else the client took
--- the AP-REP before anything was accepted.
+-- For any credential, no matter who issued it: it can't be presented, or the client accepted the AP-REP before anything
+-- counts as accepted.
 abbrev pub IsPresented : Credential → Moment → Result Accepted JoinedFault → Type 0
 IsPresented credential sent (Ok accepted) = IfSome (session_key credential) (λ key. IsAnswered key sent accepted.ap_rep)
 IsPresented credential sent (Err NotPresentable) = is_presentable credential ≡ false
@@ -139,12 +139,12 @@ IsPresented credential sent (Err NoReply) = ⊤
 IsPresented credential sent (Err (NotTaken fault)) = ⊤
 IsPresented credential sent (Err Memory) = ⊤
 
--- it is the credential that the reply gives by the client's rules
+-- this is the credential in the reply by the client's rules
 abbrev pub IsRead : Option (List ℕ) → Asked → Reader → Credential → Type 0
 IsRead (Some octets) asked reader credential = reads_reply reader asked octets ≡ Ok credential
 IsRead None asked reader credential = ⊥
 
--- a client reads the AP-REP that what is accepted has, and takes it or finds this fault
+-- the service sent an AP-REP, and the client rejects it with this error
 abbrev pub IsUnheard : Key → Moment → Option (List ℕ) → ClientFault → Type 0
 IsUnheard key sent (Some octets) fault = Fails fault (reads_ap key sent octets)
 IsUnheard key sent None fault = ⊥
@@ -154,14 +154,14 @@ IsHeard key sent accepted (Ok heard) = (heard ≡ accepted) × IsAnswered key se
 IsHeard key sent accepted (Err (NotAnswered fault)) = IsUnheard key sent accepted.ap_rep fault
 IsHeard key sent accepted (Err fault) = ⊥
 
--- ---- what the service does
+-- ---- the service's part
 
 abbrev pub key_of : Option Credential → Option Key
 key_of (Some credential) = session_key credential
 key_of None = None
 
--- What the service rules of the AP-REQ that the client makes of its credential, with its own confounder, where there is
--- a credential that gives a session.
+-- The service's answer to the AP-REQ that the client makes from its credential, with the service's own confounder, if
+-- there is a credential that yields a session.
 abbrev pub ruled : State → ServiceAsked → Sealing → Sealing → Option Credential → Option Answer
 ruled state wanted presenting accepting (Some credential) = option_map (λ s.
     accepts state accepting.at accepting.confounder
@@ -172,12 +172,12 @@ abbrev pub IsRefused : ApFault → Option Answer → Type 0
 IsRefused fault (Some ruling) = IsAnswer (Err fault) ruling.answer
 IsRefused fault None = ⊥
 
--- it was accepted, and the client does not take the AP-REP for this fault
+-- the service accepted the request, and the client rejects the AP-REP with this error
 abbrev pub IsUnheardBy : Option Key → Moment → ClientFault → Option (Result Accepted ApFault) → Type 0
 IsUnheardBy (Some key) sent fault (Some (Ok accepted)) = IsUnheard key sent accepted.ap_rep fault
 IsUnheardBy _ _ _ _ = ⊥
 
--- What is accepted, or refused, is what the service rules. The key is the session key that the client holds.
+-- The result is the one that the service's rules prescribe. The key is the session key that the client holds.
 abbrev pub IsRuled : Option Key → Moment → Option Answer → Result Accepted JoinedFault → Type 0
 IsRuled key sent ruling (Ok accepted) = option_map (λ r. r.answer) ruling ≡ Some (Ok accepted)
 IsRuled key sent ruling (Err (NotAccepted fault)) = IsRefused fault ruling
@@ -191,8 +191,8 @@ abbrev pub IsRefusedAfter : ApFault → State → State → Option Answer → Ty
 IsRefusedAfter fault old new (Some ruling) = IsAfter (Err fault) old new ruling.state
 IsRefusedAfter fault old new None = ⊥
 
--- The service's state afterwards: the one that it rules where it was asked, else the one before. What it accepted it
--- remembers also where the client does not take its answer.
+-- The service's state afterwards is the one that its rules prescribe if it was asked, and otherwise the old one. It
+-- records an accepted authenticator even if the client rejects its reply.
 abbrev pub IsServed : State → State → Option Answer → Result Accepted JoinedFault → Type 0
 IsServed old new ruling (Ok accepted) = option_map (λ r. r.state) ruling ≡ Some new
 IsServed old new ruling (Err (NotAccepted fault)) = IsRefusedAfter fault old new ruling
@@ -202,9 +202,9 @@ IsServed old new ruling (Err (NotTaken fault)) = new ≡ old
 IsServed old new ruling (Err NotPresentable) = new ≡ old
 IsServed old new ruling (Err Memory) = new ≡ old
 
--- ---- what the KDC keeps
+-- ---- the KDC's state
 
--- it is what its rules say, or where it had no memory what it was
+-- it is the one that the KDC's rules prescribe, or the old one if memory ran out
 abbrev pub IsKept : kdc_states.State → kdc_states.State → kdc_states.State → Result Credential JoinedFault → Type 0
 IsKept old new ruling (Ok credential) = new ≡ ruling
 IsKept old new ruling (Err NoReply) = new ≡ ruling
@@ -214,7 +214,7 @@ IsKept old new ruling (Err (NotAccepted fault)) = new ≡ ruling
 IsKept old new ruling (Err (NotAnswered fault)) = new ≡ ruling
 IsKept old new ruling (Err Memory) = new ≡ old
 
--- the same of a whole way, on which the client may have had no memory
+-- the same for a whole path, on which the client may have run out of memory
 abbrev pub IsKeptOn : kdc_states.State → kdc_states.State → kdc_states.State → Result Accepted JoinedFault → Type 0
 IsKeptOn old new ruling (Ok accepted) = new ≡ ruling
 IsKeptOn old new ruling (Err NoReply) = new ≡ ruling

@@ -1,4 +1,4 @@
--- How a client reads the reply to its request: by the exchange, and by the key that it knows.
+-- How a client reads the reply to its request: by the exchange and by its key.
 use Rattle.std.specs.Prelude.{◌≡◌, ℕ, List, Result}
 use Rattle.cred_files.specs.declared.credential.Credential.{Credential}
 use Rattle.enctypes.specs.KeyUsage.{usage_number}
@@ -25,18 +25,18 @@ usage_of Client = usage_number AsRepEncPart
 usage_of Subkey = usage_number TgsRepEncPartSubkey
 usage_of Session = usage_number TgsRepEncPartSessionKey
 
--- the client reads the reply as its exchange says, with the reply key and its usage
+-- the client reads the reply by its exchange, with the reply key and its usage
 pub record IsReader (reader : Reader) (issue : Issue) : Type 0 where
   pub exchange : exchange_of reader.role ≡ issue.exchange
   pub reply_key : reader.key ≡ issue.reply_key.key
   pub usage : usage_of reader.role ≡ usage_number issue.reply_key.usage
 
--- what the client's rules make of the octets of a reply: a credential, or the first fault
+-- the result of the client's rules for the bytes of a reply: a credential or the first error
 abbrev pub reads_reply : Reader → Asked → List ℕ → Result Credential ClientFault
 reads_reply reader asked octets =
     reads (reply_type (exchange_of reader.role)) reader.role asked reader.key reader.at.sec octets
 
--- the octets are a reply to the request, and give this credential
+-- the bytes are a reply to the request and hold this credential
 abbrev pub IsTakenBy : Reader → Asked → List ℕ → Credential → Type 0
 IsTakenBy reader asked octets credential =
     IsTaken (reply_type (exchange_of reader.role)) reader.role asked reader.key reader.at.sec octets credential

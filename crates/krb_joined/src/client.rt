@@ -1,15 +1,15 @@
-//! What a client does on a ticket's way.
+//! The client's side of a ticket's path.
 use crate::presenting::Sealing;
 use crate::reading::Reader;
 use client_core::{Asked, ServiceAsked};
 
-/// What a client does on a ticket's way: how it reads the KDC's reply, and how it presents the ticket.
+/// The client's side of a ticket's path: how it reads the KDC's reply and how it presents the ticket.
 #[derive(Drop)]
 pub struct Client {
-    /// What the reply has to answer.
+    /// The request that the reply must answer.
     pub asked: Asked,
     pub reader: Reader,
-    /// What it asks of the service, and tells it.
+    /// What the client sends to the service and asks of it.
     pub wanted: ServiceAsked,
     pub presenting: Sealing,
 }

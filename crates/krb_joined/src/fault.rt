@@ -1,22 +1,22 @@
-//! Who stops a ticket on its way.
+//! Where a ticket's path can end early.
 use ap_accept::ApFault;
 use client_core::ClientFault;
 use std::alloc::AllocError;
 
-/// Who stops a ticket on its way, and why.
+/// Who stopped a ticket on its path, and why.
 #[derive(Debug, Drop)]
 pub enum JoinedFault {
     /// The KDC gave no reply.
     NoReply,
-    /// The client did not take the KDC's reply.
+    /// The client rejected the KDC's reply.
     NotTaken(ClientFault),
-    /// The client's credential can't be presented (`client_core::is_presentable`).
+    /// The client's credential can't be presented (see `client_core::is_presentable`).
     NotPresentable,
     /// The service did not accept the client.
     NotAccepted(ApFault),
-    /// The client did not take the service's reply.
+    /// The client rejected the service's reply.
     NotAnswered(ClientFault),
-    /// The KDC, or the client that was to present its ticket, had no memory.
+    /// The KDC, or the client that was about to present its ticket, ran out of memory.
     Memory,
 }
 

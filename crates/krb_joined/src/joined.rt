@@ -1,4 +1,4 @@
-//! A ticket's whole way.
+//! A ticket's whole path.
 ghost use Rattle.std.specs.Prelude.{◌≡◌, ℕ, List, Some, IfErr, IfOk, IfSome};
 ghost use Rattle.client_core.specs.Presenting.{IsShortChecksum};
 ghost use Rattle.kdc_core.specs.Answer.{after_request, answer};
@@ -18,13 +18,13 @@ use ap_accept::{Accepted, Acceptor};
 use kdc_core::Kdc;
 use std::alloc::Global;
 
-/// Hands a request to a KDC, reads the reply, presents the ticket to a service, and reads its AP-REP where one was
-/// asked for.
+/// Sends a request to a KDC, reads the reply, presents the ticket to a service, and reads the AP-REP if one was asked
+/// for.
 ///
-/// What the service accepts is what the KDC granted and what the client sent: where the KDC issues a ticket, and the
-/// client takes the reply by its reply key, neither the service nor the client refuses anything behind that, as long as
-/// the service's keytab holds the key that sealed the ticket, the ticket is valid there by its INVALID flag and its
-/// times, and the authenticator's time is fresh.
+/// The service accepts what the KDC granted and what the client sent. If the KDC issues a ticket and the client reads
+/// the reply with its reply key, neither the service nor the client refuses anything later. This requires that the
+/// service's keytab holds the key that encrypted the ticket, that the ticket is valid at the service by its INVALID
+/// flag and its times, and that the authenticator's time is new.
 pub fn end_to_end(
     alloc: Global,
     kdc: &mut Kdc,
@@ -40,26 +40,26 @@ pub fn end_to_end(
         (λ issue. IsReader client.now.reader issue
         → MayBeAccepted issue acceptor.old accepting.now.at.sec client.now.presenting.at
         → IsJoined issue client.now.wanted client.now.presenting.at result) }
-    // So it does where the KDC sends a reply again that was kept, for the ticket that was issued then.
+    // The same holds if the KDC sends a kept reply again, for the ticket that it issued then.
     ensures repeated { (issue : Issue) (octets : List ℕ)
         → (answer (view kdc.old request.now) issuing.now.at issuing.now.random issuing.now.room request.now).reply
         ≡ Some octets
         → IsIssued issue octets → IsReader client.now.reader issue
         → MayBeAccepted issue acceptor.old accepting.now.at.sec client.now.presenting.at
         → IsJoined issue client.now.wanted client.now.presenting.at result }
-    // Whatever reply the client takes, it can't be presented, or the client takes the AP-REP too before anything is
-    // accepted.
+    // For every reply that the client accepts, either its ticket can't be presented, or the client also reads the
+    // AP-REP before anything counts as accepted.
     ensures presented { IfSome
         (answer (view kdc.old request.now) issuing.now.at issuing.now.random issuing.now.room request.now).reply
         (λ octets. IfOk (reads_reply client.now.reader client.now.asked octets) (λ credential.
         IsPresented credential client.now.presenting.at result)) }
-    // Before the service is asked it ends where the KDC gives no reply, or one that the client's rules don't take, or
-    // one whose credential can't be presented.
+    // The path ends before the service is asked if the KDC sends no reply, if the client rejects the reply, or if the
+    // credential can't be presented.
     ensures ended { IfErr result (IsEnded
         (answer (view kdc.old request.now) issuing.now.at issuing.now.random issuing.now.room request.now).reply
         client.now.asked client.now.reader) }
-    // Whatever was issued, the service accepts or refuses what it rules of the AP-REQ that comes of the reply, and
-    // keeps that.
+    // Whatever the KDC issued, the service's answer and new state are those that its rules prescribe for the AP-REQ
+    // that the client makes from the reply.
     ensures ruled { IsRuled
         (key_of (taken_of
         (answer (view kdc.old request.now) issuing.now.at issuing.now.random issuing.now.room request.now).reply
@@ -72,7 +72,7 @@ pub fn end_to_end(
         (ruled acceptor.old client.now.wanted client.now.presenting accepting.now (taken_of
         (answer (view kdc.old request.now) issuing.now.at issuing.now.random issuing.now.room request.now).reply
         client.now.asked client.now.reader)) result }
-    // The KDC is the one that this request leaves, or as it was where it had no memory.
+    // The KDC's state is the one after this request, or the old one if the KDC ran out of memory.
     ensures kept { IsKeptOn kdc.old kdc.new
         (after_request kdc.old issuing.now.at issuing.now.random issuing.now.room request.now) result }
 {

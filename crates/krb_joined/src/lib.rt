@@ -1,4 +1,4 @@
-//! A ticket's whole way: a KDC issues it, a client takes it from the reply and presents it, and a service accepts the
+//! A ticket's whole path: a KDC issues it, a client reads it from the reply and presents it, and a service accepts the
 //! client.
 #![tactic(auto)]
 

@@ -1,4 +1,4 @@
-//! From a request to the credential that its client takes from the reply.
+//! From a request to the credential in its reply.
 ghost use Rattle.std.specs.Prelude.{◌≡◌, ◌≤◌, ℕ, List, length, Some, IfOk, IfErr, IfSome, OnOk, OnErr, option_map};
 ghost use Rattle.kdc_core.specs.Answer.{after_request, answer, OneTicketTwoKeys};
 ghost use Rattle.kdc_core.specs.Issued.{issued};
@@ -18,7 +18,7 @@ use kdc_core::Kdc;
 use krb_fields::Moment;
 use std::alloc::{AllocError, Global};
 
-/// When a KDC answers, by which random octets, and how many octets a reply with a ticket may have.
+/// When a KDC answers, its random bytes, and how many bytes a reply with a ticket may have.
 #[derive(Clone, Copy)]
 pub struct Issuing {
     pub at: Moment,
@@ -26,7 +26,7 @@ pub struct Issuing {
     pub room: u32,
 }
 
-/// Hands a request to a KDC, and reads the reply.
+/// Sends a request to a KDC and reads the reply.
 pub fn obtain(
     alloc: Global,
     kdc: &mut Kdc,
@@ -35,12 +35,11 @@ pub fn obtain(
     asked: &Asked,
     reader: &Reader,
 ) -> Result<Credential, JoinedFault>
-    // Where the KDC issues a ticket, and the client reads the reply with its key, it takes the credential of that
-    // ticket.
+    // If the KDC issues a ticket and the client reads the reply with its key, it gets the credential of that ticket.
     ensures obtained { IfOk result (λ credential.
         IfSome (issued (view kdc.old request.now) issuing.now.at issuing.now.random (request_of request.now)) (λ issue.
         IsReader reader.now issue → IsCredentialOf issue credential)) }
-    // So it does of a reply that was kept, for the ticket that was issued then.
+    // The same holds for a kept reply, with the ticket that was issued then.
     ensures repeated { (issue : Issue) (octets : List ℕ)
         → (answer (view kdc.old request.now) issuing.now.at issuing.now.random issuing.now.room request.now).reply
         ≡ Some octets
@@ -48,12 +47,12 @@ pub fn obtain(
     ensures read { IfOk result (IsRead
         (answer (view kdc.old request.now) issuing.now.at issuing.now.random issuing.now.room request.now).reply
         asked.now reader.now) }
-    // Else it ends before a service is asked: without a reply, or with one that the client's rules don't take.
+    // Otherwise it fails before a service is asked: there is no reply, or the client rejects it.
     ensures before { IfErr result IsBefore }
     ensures ended { IfErr result (IsEnded
         (answer (view kdc.old request.now) issuing.now.at issuing.now.random issuing.now.room request.now).reply
         asked.now reader.now) }
-    // The KDC is the one that this request leaves, or as it was where it had no memory.
+    // The KDC's state is the one after this request, or the old one if the KDC ran out of memory.
     ensures kept { IsKept kdc.old kdc.new
         (after_request kdc.old issuing.now.at issuing.now.random issuing.now.room request.now) result }
 {
@@ -68,7 +67,7 @@ pub fn obtain(
     }
 }
 
-/// What the KDC replies.
+/// Returns the KDC's reply.
 fn replied(
     alloc: Global,
     kdc: &mut Kdc,
@@ -89,7 +88,7 @@ fn replied(
     Ok(answer.reply)
 }
 
-/// Looks at random octets, of which there are enough for a session key, and at a reply's octets.
+/// Looks at the random bytes, which are enough for a session key, and at the bytes of a reply.
 fn look(random: &[u8; 64], octets: &[u8])
     ensures random { 32 ≤ length random.now }
     ensures octets { IsBytes octets.now }

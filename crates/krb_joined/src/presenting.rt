@@ -1,4 +1,4 @@
-//! From a client's credential to the service that accepts the client.
+//! From a client's credential to a service that accepts the client.
 ghost use Rattle.std.specs.Prelude.{IfErr, IfSome, Some};
 ghost use Rattle.client_core.specs.Presenting.{IsShortChecksum};
 ghost use Rattle.enctypes.specs.Key.{IsKey};
@@ -16,15 +16,14 @@ use enctypes::Key;
 use krb_fields::Moment;
 use std::alloc::Global;
 
-/// When somebody seals something, and by which 16 random octets: the client its authenticator, or the service its
-/// AP-REP.
+/// When a client encrypts its authenticator, or a service its AP-REP, and the 16 random bytes for that.
 #[derive(Clone, Copy)]
 pub struct Sealing {
     pub at: Moment,
     pub confounder: [u8; 16],
 }
 
-/// Presents a credential to a service, and reads the AP-REP where one was asked for.
+/// Presents a credential to a service, and reads the AP-REP if one was asked for.
 pub fn present(
     alloc: Global,
     credential: &Credential,
@@ -34,12 +33,13 @@ pub fn present(
     accepting: &Sealing,
 ) -> Result<Accepted, JoinedFault>
     requires { IsShortChecksum asked.now.checksum }
-    // The credential of a ticket that was issued is accepted.
+    // A service accepts the credential of an issued ticket.
     ensures value { (issue : Issue) → IsCredentialOf issue credential.now
         → MayBeAccepted issue acceptor.old accepting.now.at.sec presenting.now.at
         → IsJoined issue asked.now presenting.now.at result }
     ensures presented { IsPresented credential.now presenting.now.at result }
-    // Whatever credential it is, the service accepts or refuses what it rules of the client's AP-REQ, and keeps that.
+    // For any credential, the service's answer and new state are those that its rules prescribe for the client's
+    // AP-REQ.
     ensures ruled { IsRuled (definitions.session_key credential.now) presenting.now.at
         (ruled acceptor.old asked.now presenting.now accepting.now (Some credential.now)) result }
     ensures served { IsServed acceptor.old acceptor.new
@@ -64,7 +64,7 @@ pub fn present(
     }
 }
 
-/// Looks at a key that may be there: it is one of its type.
+/// Looks at a key, if there is one: its size is right for its encryption type.
 fn look(key: Option<Key>)
     ensures { IfSome key IsKey }
 {
@@ -73,7 +73,7 @@ fn look(key: Option<Key>)
     }
 }
 
-/// What was accepted, where the client takes the AP-REP that the service may have sent.
+/// Returns what was accepted, after the client has read the AP-REP that the service may have sent.
 fn hear(alloc: Global, key: &Key, sent: Moment, accepted: Accepted) -> Result<Accepted, JoinedFault>
     ensures { IsHeard key.now sent accepted result }
 {

@@ -11,7 +11,7 @@ use enctypes::Key;
 use krb_fields::Moment;
 use std::alloc::Global;
 
-/// By which key a client reads a reply, and when. A client's own key is that of an AS-REP, the others are those of a
+/// The key with which a client reads a reply, and when. The client's own key is for an AS-REP, the others for a
 /// TGS-REP.
 #[derive(Clone, Copy)]
 pub struct Reader {
@@ -20,7 +20,7 @@ pub struct Reader {
     pub at: Moment,
 }
 
-/// The credential that a reply gives, or the first fault.
+/// Returns the credential in a reply, or the first error.
 pub fn read_reply(
     alloc: Global,
     asked: &Asked,
@@ -29,15 +29,15 @@ pub fn read_reply(
 ) -> Result<Credential, ClientFault>
     ensures value { Gives result (reads_reply reader.now asked.now octets.now) }
     ensures taken { IfOk result (IsTakenBy reader.now asked.now octets.now) }
-    // Of a reply that bears a ticket, whenever that was issued, a client that has its key takes that ticket's
-    // credential.
+    // From a reply with an issued ticket, a client with the right key gets that ticket's credential, whenever the KDC
+    // issued it.
     ensures credential { (issue : Issue) → IsIssued issue octets.now → IsReader reader.now issue
         → IfOk result (IsCredentialOf issue) }
 {
     read_by_role(alloc, asked, reader, octets)
 }
 
-/// The same, as each role reads.
+/// Reads the reply by the key's role.
 fn read_by_role(
     alloc: Global,
     asked: &Asked,

@@ -22,7 +22,7 @@ pa_enc_ts_enc_form = record {
 abbrev pub pa_enc_ts_enc : Codec PaEncTsEnc
 pa_enc_ts_enc = sequence pa_enc_ts_enc_form
 
--- it always has an encoding
+-- it is always short enough to encode
 pub pa_enc_ts_enc_short : (x : PaEncTsEnc) → length (pa_enc_ts_enc.text x) < 2 ^ 32
 unfolding pa_enc_ts_enc_form
 pa_enc_ts_enc_short x = timestamp_short x.pausec (pa_enc_ts_enc.bounded x)

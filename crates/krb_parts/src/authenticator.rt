@@ -14,22 +14,22 @@ use krb_elements::{
 use krb_fields::{Name, NameRef, Typed, TypedRef};
 use std::alloc::{AllocError, Global};
 
-/// What a client seals under a session key, to show that it has the key now.
+/// What a client encrypts with a session key, to prove that it has the key now.
 #[derive(Debug, Drop)]
 pub struct Authenticator<S = KerberosString, N = Name, T = Typed, L = Seq<Typed>> {
     pub crealm: S,
     pub cname: N,
-    /// The checksum of what the authenticator comes with, by its type.
+    /// A checksum over the data that the authenticator comes with.
     pub cksum: Option<T>,
     pub cusec: Microseconds,
     pub ctime: KTime,
-    /// The key that the client chose for what follows.
+    /// The key that the client chose for the rest of the connection.
     pub subkey: Option<T>,
     pub seq_number: Option<UInt32>,
     pub authorization_data: Option<L>,
 }
 
-/// A [`Authenticator`] where it stands.
+/// A borrowed [`Authenticator`].
 pub type AuthenticatorRef<'a> = Authenticator<
     KerberosStringRef<'a>,
     NameRef<'a>,
@@ -127,7 +127,7 @@ impl ReadOwned for Authenticator {
     }
 }
 
-/// The Authenticator that the octets spell.
+/// Reads the Authenticator that the bytes encode.
 pub fn decode_authenticator(alloc: Global, bytes: &[u8]) -> Result<Authenticator, Fault>
     ensures found { IfOk result (λ x. authenticator.Spells x bytes.now) }
     ensures only { (x : trees.Authenticator) → authenticator.Spells x bytes.now → IsReadUnlessMemory result x }
@@ -136,7 +136,7 @@ pub fn decode_authenticator(alloc: Global, bytes: &[u8]) -> Result<Authenticator
     read_owned(alloc, bytes)
 }
 
-/// The octets of the Authenticator, which spell it.
+/// Returns the encoding of the Authenticator.
 pub fn encode_authenticator(alloc: Global, part: &Authenticator) -> Result<Vec<u8>, AllocError>
     requires { length (authenticator.text part.now) < 2 ^ 32 }
     ensures written { IfOk result (λ v. v.items ≡ written authenticator part.now) }

@@ -14,7 +14,7 @@ use krb_elements::{
 use krb_fields::{Typed, TypedRef};
 use std::alloc::{AllocError, Global};
 
-/// What a service seals under the session key, to show that it has the key.
+/// What a service encrypts with the session key, to prove that it has the key.
 #[derive(Debug, Drop)]
 pub struct EncApRepPart<T = Typed> {
     pub ctime: KTime,
@@ -23,7 +23,7 @@ pub struct EncApRepPart<T = Typed> {
     pub seq_number: Option<UInt32>,
 }
 
-/// A [`EncApRepPart`] where it stands.
+/// A borrowed [`EncApRepPart`].
 pub type EncApRepPartRef<'a> = EncApRepPart<TypedRef<'a>>;
 
 impl<T: Coded> Coded for EncApRepPart<T> {
@@ -93,7 +93,7 @@ impl ReadOwned for EncApRepPart {
     }
 }
 
-/// The EncAPRepPart that the octets spell.
+/// Reads the EncAPRepPart that the bytes encode.
 pub fn decode_enc_ap_rep_part(alloc: Global, bytes: &[u8]) -> Result<EncApRepPart, Fault>
     ensures found { IfOk result (λ x. enc_ap_rep_part.Spells x bytes.now) }
     ensures only { (x : trees.EncApRepPart) → enc_ap_rep_part.Spells x bytes.now → IsReadUnlessMemory result x }
@@ -102,7 +102,7 @@ pub fn decode_enc_ap_rep_part(alloc: Global, bytes: &[u8]) -> Result<EncApRepPar
     read_owned(alloc, bytes)
 }
 
-/// The octets of the EncAPRepPart, which spell it.
+/// Returns the encoding of the EncAPRepPart.
 pub fn encode_enc_ap_rep_part(alloc: Global, part: &EncApRepPart) -> Result<Vec<u8>, AllocError>
     requires { length (enc_ap_rep_part.text part.now) < 2 ^ 32 }
     ensures written { IfOk result (λ v. v.items ≡ written enc_ap_rep_part part.now) }

@@ -15,7 +15,7 @@ use krb_elements::{
 use krb_fields::{Flags, Name, NameRef, Typed, TypedRef};
 use std::alloc::{AllocError, Global};
 
-/// What a KDC's reply holds under the reply key: what the client has to know of its ticket.
+/// The encrypted part of a KDC's reply: what the client must know about its ticket.
 #[derive(Debug, Drop)]
 pub struct EncKdcRepPart<
     T = Typed,
@@ -24,10 +24,10 @@ pub struct EncKdcRepPart<
     N = Name,
     L = Seq<Typed>,
 > {
-    /// The session key: its encryption type and its octets.
+    /// The session key: its encryption type and its bytes.
     pub key: T,
     pub last_req: R,
-    /// The number that the request had.
+    /// The nonce of the request.
     pub nonce: UInt32,
     /// When the client's key expires.
     pub key_expiration: Option<KTime>,
@@ -41,7 +41,7 @@ pub struct EncKdcRepPart<
     pub caddr: Option<L>,
 }
 
-/// A [`EncKdcRepPart`] where it stands.
+/// A borrowed [`EncKdcRepPart`].
 pub type EncKdcRepPartRef<'a> = EncKdcRepPart<
     TypedRef<'a>,
     SeqRef<'a, LastReq>,

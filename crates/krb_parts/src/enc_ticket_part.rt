@@ -14,30 +14,30 @@ use krb_elements::{
 use krb_fields::{Flags, Name, NameRef, Typed, TypedRef};
 use std::alloc::{AllocError, Global};
 
-/// What a ticket holds under its service's key.
+/// The encrypted part of a ticket.
 #[derive(Debug, Drop)]
 pub struct EncTicketPart<T = Typed, S = KerberosString, N = Name, L = Seq<Typed>> {
     pub flags: Flags,
-    /// The session key: its encryption type and its octets.
+    /// The session key: its encryption type and its bytes.
     pub key: T,
     pub crealm: S,
     pub cname: N,
-    /// The realms that the client came through, by their encoding.
+    /// The transited realms, with the type of their encoding.
     pub transited: T,
-    /// When the client was first authenticated.
+    /// When the client first authenticated.
     pub authtime: KTime,
-    /// When the ticket starts: where it is absent, at `authtime`.
+    /// When the ticket starts; if it is absent, at `authtime`.
     pub starttime: Option<KTime>,
-    /// After which it is no longer taken.
+    /// When the ticket expires.
     pub endtime: KTime,
-    /// Until when it may be renewed.
+    /// Until when the ticket is renewable.
     pub renew_till: Option<KTime>,
-    /// The addresses that it is bound to.
+    /// The addresses to which the ticket is bound.
     pub caddr: Option<L>,
     pub authorization_data: Option<L>,
 }
 
-/// A [`EncTicketPart`] where it stands.
+/// A borrowed [`EncTicketPart`].
 pub type EncTicketPartRef<'a> = EncTicketPart<
     TypedRef<'a>,
     KerberosStringRef<'a>,
@@ -145,7 +145,7 @@ impl ReadOwned for EncTicketPart {
     }
 }
 
-/// The EncTicketPart that the octets spell.
+/// Reads the EncTicketPart that the bytes encode.
 pub fn decode_enc_ticket_part(alloc: Global, bytes: &[u8]) -> Result<EncTicketPart, Fault>
     ensures found { IfOk result (λ x. enc_ticket_part.Spells x bytes.now) }
     ensures only { (x : trees.EncTicketPart) → enc_ticket_part.Spells x bytes.now → IsReadUnlessMemory result x }
@@ -154,7 +154,7 @@ pub fn decode_enc_ticket_part(alloc: Global, bytes: &[u8]) -> Result<EncTicketPa
     read_owned(alloc, bytes)
 }
 
-/// The octets of the EncTicketPart, which spell it.
+/// Returns the encoding of the EncTicketPart.
 pub fn encode_enc_ticket_part(alloc: Global, part: &EncTicketPart) -> Result<Vec<u8>, AllocError>
     requires { length (enc_ticket_part.text part.now) < 2 ^ 32 }
     ensures written { IfOk result (λ v. v.items ≡ written enc_ticket_part part.now) }

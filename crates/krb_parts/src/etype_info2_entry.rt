@@ -10,17 +10,17 @@ use krb_elements::{
 };
 use std::alloc::{AllocError, Global};
 
-/// How a client makes its key of a type from its password.
+/// How a client derives its key of an encryption type from its password.
 #[derive(Debug, Drop)]
 pub struct EtypeInfo2Entry<S = KerberosString, O = Octets> {
     pub etype: i32,
-    /// Absent where it is the default salt.
+    /// The salt; if it is absent, the default salt.
     pub salt: Option<S>,
-    /// The parameters of the type's string-to-key; absent where they are the type's own.
+    /// The parameters of string-to-key; if they are absent, the default ones of the encryption type.
     pub s2kparams: Option<O>,
 }
 
-/// A [`EtypeInfo2Entry`] where it stands.
+/// A borrowed [`EtypeInfo2Entry`].
 pub type EtypeInfo2EntryRef<'a> = EtypeInfo2Entry<KerberosStringRef<'a>, OctetsRef<'a>>;
 
 impl<S: Coded, O: Coded> Coded for EtypeInfo2Entry<S, O> {

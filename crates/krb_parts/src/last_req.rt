@@ -12,7 +12,7 @@ use krb_elements::{
 };
 use std::alloc::{AllocError, Global};
 
-/// When the client last asked for something, by the type of what it asked for.
+/// The time of the client's last request of some kind, and the kind.
 #[derive(Debug, Drop)]
 pub struct LastReq {
     pub lr_type: i32,

@@ -1,5 +1,5 @@
-//! The values whose encodings stand inside an OCTET STRING of a message: what is sealed in tickets, replies and
-//! authenticators, and pre-authentication data (RFC 4120, sections 5.2.7, 5.3, 5.4.2 and 5.5).
+//! The values whose encodings are inside an OCTET STRING of a message: the encrypted parts of tickets, replies and
+//! authenticators, and preauthentication data (RFC 4120, sections 5.2.7, 5.3, 5.4.2 and 5.5).
 #![tactic(auto)]
 
 mod authenticator;

@@ -12,7 +12,7 @@ use krb_elements::{
 };
 use std::alloc::{AllocError, Global};
 
-/// The moment that a client seals under its key, to show that it has the key.
+/// The moment that a client encrypts with its key, to prove that it has the key.
 #[derive(Debug, Drop)]
 pub struct PaEncTsEnc {
     pub patimestamp: KTime,
@@ -68,7 +68,7 @@ impl ReadOwned for PaEncTsEnc {
     }
 }
 
-/// The PA-ENC-TS-ENC that the octets spell.
+/// Reads the PA-ENC-TS-ENC that the bytes encode.
 pub fn decode_pa_enc_ts_enc(alloc: Global, bytes: &[u8]) -> Result<PaEncTsEnc, Fault>
     ensures found { IfOk result (λ x. pa_enc_ts_enc.Spells x bytes.now) }
     ensures only { (x : trees.PaEncTsEnc) → pa_enc_ts_enc.Spells x bytes.now → IsReadUnlessMemory result x }
@@ -77,7 +77,7 @@ pub fn decode_pa_enc_ts_enc(alloc: Global, bytes: &[u8]) -> Result<PaEncTsEnc, F
     read_owned(alloc, bytes)
 }
 
-/// The octets of the PA-ENC-TS-ENC, which spell it.
+/// Returns the encoding of the PA-ENC-TS-ENC.
 pub fn encode_pa_enc_ts_enc(alloc: Global, part: &PaEncTsEnc) -> Result<Vec<u8>, AllocError>
     requires { length (pa_enc_ts_enc.text part.now) < 2 ^ 32 }
     ensures written { IfOk result (λ v. v.items ≡ written pa_enc_ts_enc part.now) }

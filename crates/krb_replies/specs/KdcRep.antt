@@ -1,5 +1,5 @@
--- KDC-REP (RFC 4120, section 5.4.2): AS-REP and TGS-REP, which differ in their message type alone. It is also the
--- number of their tag.
+-- KDC-REP (RFC 4120, section 5.4.2): AS-REP and TGS-REP, which differ only in their message type. It is also the number
+-- of their tag.
 use Rattle.std.proofs.Common.{◌≡◌, ℕ, ◌<◌, pos, List, true, refl, arith}
 use Rattle.std.specs.Prelude.{bit_and}
 use Rattle.std.specs.Int.Bits.{mask_lt}
@@ -27,7 +27,7 @@ message_type n =
 abbrev pub KdcRep : ℕ → Type 0
 KdcRep type = trees.KdcRep type (List PaData) (List ℕ) Name Ticket EncryptedData
 
--- pvno and msg-type are fixed, so no value holds them
+-- pvno and msg-type are fixed, so the value doesn't contain them
 unfoldable pub kdc_rep_form : {P S N T E : Type 0} → (type : ℕ) → Codec P → Codec S → Codec N → Codec T → Codec E
     → Record (trees.KdcRep type P S N T E)
 kdc_rep_form type p s n t e = record {

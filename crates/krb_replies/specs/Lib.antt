@@ -1,5 +1,5 @@
 pub mod KdcRep
 pub mod Under
--- laws that proofs cite: no reader of a contract needs them
+-- laws that proofs cite; readers of a contract don't need them
 pub mod ShortLaws
 pub mod TicketLaws

@@ -1,4 +1,4 @@
--- The ticket in a reply has an encoding, as it stands in the reply.
+-- The ticket in a reply is short enough to encode.
 use Rattle.std.proofs.Common.{ℕ, ◌^◌, ◌<◌, List, length, Some, arith}
 use Rattle.std.specs.Prelude.{IfOk}
 use Rattle.std.proofs.Common.{Result, Ok, Err}

@@ -17,8 +17,8 @@ use krb_fields::{EncryptedData, EncryptedDataRef, Name, NameRef, PaData, PaDataR
 use krb_types::{PVNO, Ticket, TicketRef};
 use std::alloc::{AllocError, Global};
 
-/// A reply with a ticket, and what the client has to know of it, sealed. `TYPE` is its message type. That and the
-/// version are those of every such reply, and not kept.
+/// A reply with a ticket, and with the encrypted part for the client. `TYPE` is its message type. The message type and
+/// the version are fixed, so they are not stored.
 #[derive(Debug, Drop)]
 pub struct KdcRep<
     const TYPE: u8,
@@ -35,13 +35,13 @@ pub struct KdcRep<
     pub enc_part: E,
 }
 
-/// The reply of the Authentication Service exchange.
+/// The reply of the AS exchange.
 pub type AsRep = KdcRep<11>;
 
-/// The reply of the Ticket-Granting Service exchange.
+/// The reply of the TGS exchange.
 pub type TgsRep = KdcRep<13>;
 
-/// A [`KdcRep`] where it stands.
+/// A borrowed [`KdcRep`].
 pub type KdcRepRef<'a, const TYPE: u8> = KdcRep<
     TYPE,
     SeqRef<'a, PaDataRef<'a>>,
@@ -102,14 +102,14 @@ impl<const TYPE: u8, P: Encode, S: Encode, N: Encode, T: Encode, E: Encode> Enco
     }
 }
 
-/// The field with the message type, which is this one.
+/// Reads the field with the message type, which must be this one.
 fn take_type<const TYPE: u8>(fields: &mut Reader<'_>) -> Result<(), DerFault>
     ensures { Looks result fields.new (inside 161 (whole (message_type TYPE).at) fields.old) }
 {
     take_fixed(fields, 1, i32::from(TYPE & 0x1f))
 }
 
-/// Appends the field with the message type.
+/// Writes the field with the message type.
 fn write_type<const TYPE: u8>(out: &mut Writer) -> Result<(), AllocError>
     requires { length (field_text 161 (message_type TYPE).tag ((message_type TYPE).text tt)) < 2 ^ 32 }
     ensures { OnOk result (out.new ≡ out.old ++ field_text 161 (message_type TYPE).tag ((message_type TYPE).text tt)) }
@@ -143,16 +143,16 @@ impl<const TYPE: u8, P: MakeOwned, S: MakeOwned, N: MakeOwned, T: MakeOwned, E: 
     }
 }
 
-/// Reads an AS-REP or a TGS-REP, by its type, where it stands, without memory.
+/// Reads an AS-REP or a TGS-REP, by its type, in place and without allocating.
 pub fn read_kdc_rep<const TYPE: u8>(bytes: &[u8]) -> Result<KdcRepRef<'_, TYPE>, DerFault>
-    // What is read is spelled so.
+    // If it succeeds, the bytes encode this reply.
     ensures found { IfOk result (λ reply. (kdc_rep TYPE).Spells reply bytes.now) }
-    // What is spelled so is read.
+    // If the bytes encode a reply, it succeeds.
     ensures only { (reply : trees.KdcRep TYPE) → (kdc_rep TYPE).Spells reply bytes.now
         → IsOkAnd result (λ found. found ≡ reply) }
-    // Which fault it is.
+    // The result, including the error, is that of the definition.
     ensures exact { Sees result (whole (kdc_rep TYPE).at bytes.now) }
-    // The ticket can be written.
+    // The ticket is short enough to be written.
     ensures short { IfOk result (λ reply. length (ticket.text reply.ticket) < 2 ^ 32) }
 {
     read(bytes)

@@ -1,4 +1,4 @@
-//! The replies of a KDC that bear a ticket (RFC 4120, section 5.4.2), and the sealed parts of replies under their tags.
+//! The KDC's replies with a ticket (RFC 4120, section 5.4.2), and the encrypted parts of replies in their tags.
 #![tactic(auto)]
 
 mod kdc_rep;

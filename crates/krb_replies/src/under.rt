@@ -8,7 +8,7 @@ use krb_parts::EncKdcRepPart;
 use std::alloc::{AllocError, Global};
 use std::marker::Model;
 
-/// A value in the tag `[APPLICATION N]`, where N is at most 30. Contracts see it as the value.
+/// A value in the tag `[APPLICATION N]`, where N is at most 30. Contracts see the value only.
 #[derive(Debug, Drop)]
 pub struct Under<const N: u8, T> {
     pub value: T,
@@ -22,10 +22,10 @@ impl<const N: u8, T> Model for Under<N, T> {
     ghost view = { λ u. u.value };
 }
 
-/// What an AS-REP holds under the reply key.
+/// The encrypted part of an AS-REP.
 pub type EncAsRepPart = Under<25, EncKdcRepPart>;
 
-/// What a TGS-REP holds under the reply key.
+/// The encrypted part of a TGS-REP.
 pub type EncTgsRepPart = Under<26, EncKdcRepPart>;
 
 impl<const N: u8, T: Coded> Coded for Under<N, T> {

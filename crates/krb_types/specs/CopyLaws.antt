@@ -1,4 +1,4 @@
--- A copy is the same value: the copy of a list, or of what may be absent, is made of copies.
+-- A copy is the same value: the copy of a list, or of an optional value, consists of copies.
 use Rattle.std.proofs.Common.{◌≡◌, ℕ, ℤ, List, map, Option, refl}
 use Rattle.std.specs.Prelude.{option_map}
 use Rattle.krb_elements.specs.CopyLaws.{map_all, option_all}

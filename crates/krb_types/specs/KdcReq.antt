@@ -1,4 +1,4 @@
--- KDC-REQ (RFC 4120, section 5.4.1): AS-REQ and TGS-REQ, which differ in their tag alone.
+-- KDC-REQ (RFC 4120, section 5.4.1): AS-REQ and TGS-REQ, which differ only in their tag.
 use Rattle.std.proofs.Common.{ℕ, ◌+◌, ℤ, ◌<◌, ◌*◌, List, length, Option, Some, None, Result, Ok, Err, refl, arith}
 use Rattle.std.specs.Prelude.{IfOk}
 use Rattle.krb_der.specs.declared.fault.DerFault.{DerFault}
@@ -20,11 +20,11 @@ use Rattle.krb_types.specs.declared.kdc_req.KdcReq as trees
 abbrev pub KdcReq : Type 0
 KdcReq = trees.KdcReq (List PaData) ReqBody
 
--- the body with its octets as they were sent
+-- the body, with its bytes as they were sent
 abbrev pub Received : Type 0
 Received = trees.KdcReq (List PaData) (WithOctets ReqBody)
 
--- all fields but the body
+-- all fields before the body
 abbrev before_body : {P B : Type 0} → Codec P → Fields (trees.KdcReq P B) → Fields (trees.KdcReq P B)
 before_body p body = field 1 (λ x. x.pvno) int32 (field 2 (λ x. x.msg_type) int32 (optional 3 (λ x. x.padata) p body))
 
@@ -59,7 +59,7 @@ message_tag exchange = 96 + request_type exchange
 abbrev pub message : Exchange → Codec KdcReq
 message exchange = in_tag (Some (message_tag exchange)) (sequence kdc_req_form)
 
--- a message of either exchange: a TGS-REQ where its tag stands, else an AS-REQ
+-- a message of either exchange: a TGS-REQ if it has that tag, otherwise an AS-REQ
 abbrev pub SpellsKdcReq : Exchange × KdcReq → List ℕ → Type 0
 SpellsKdcReq = InTagOf message_tag (sequence kdc_req_form).Spells
 
@@ -76,7 +76,7 @@ each P a t Tgs = t
 pub received_ok : IsElement SpellsReceived received_at
 received_ok = either_ok message_tag As Tgs each refl _ _ (sequence received_form).laws.element
 
--- ---- a request that was received, without the octets of its body
+-- ---- a received request, without the bytes of its body
 
 abbrev pub without_octets : Received → KdcReq
 without_octets r = record { pvno = r.pvno; msg_type = r.msg_type; padata = r.padata; body = r.body.value }
@@ -126,7 +126,7 @@ fields_alone : (r : Received) (bytes : List ℕ) → SpellsFields received_form 
 unfolding received_form kdc_req_form
 fields_alone r bytes s = (s.0, s.1, s.2, from_type (r.msg_type, (r.padata, (r.body, tt))) s.1 s.3, s.4)
 
--- it is spelled by the same octets
+-- the same bytes encode it
 pub is_request : (exchange : Exchange) (r : Received) (bytes : List ℕ) → SpellsReceived (exchange, r) bytes
     → SpellsKdcReq (exchange, without_octets r) bytes
 is_request exchange r bytes s = (s.0, s.1, (s.2.0, s.2.1, fields_alone r s.2.0 s.2.2, s.2.3), s.3)
@@ -136,7 +136,7 @@ pub request_if : {E : Type 0} (r : Result (Exchange × Received) E) (bytes : Lis
 request_if (Ok x) bytes s = is_request x.0 x.1 bytes s
 request_if (Err e) bytes s = tt
 
--- what is written of it has less than three times its octets
+-- its encoding is shorter than three times the bytes that were read
 pub short_if_decoded : {E : Type 0} (r : Result (Exchange × KdcReq) E) (bytes : List ℕ) → IsBytes bytes
     → IfOk r (λ x. SpellsKdcReq x bytes) → IfOk r (λ x. length ((message x.0).text x.1) < 3 * length bytes)
 short_if_decoded (Ok x) bytes fits h =

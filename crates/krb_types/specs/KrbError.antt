@@ -9,7 +9,7 @@ use Rattle.krb_types.specs.declared.krb_error.KrbError as trees
 abbrev pub KrbError : Type 0
 KrbError = trees.KrbError (List ℕ) Name (List ℕ)
 
--- pvno and msg-type are fixed, so no value holds them
+-- pvno and msg-type are fixed, so the value doesn't contain them
 unfoldable pub krb_error_form : {S N O : Type 0} → Codec S → Codec N → Codec O → Record (trees.KrbError S N O)
 krb_error_form s n o = record {
   fields =

@@ -3,7 +3,7 @@ pub mod ReqBody
 pub mod KdcReq
 pub mod KrbError
 pub mod ShortNameLaws
--- laws that proofs cite: no reader of a contract needs them
+-- laws that proofs cite; readers of a contract don't need them
 pub mod NameInRequestLaws
 pub mod CopyLaws
 pub mod TicketLaws

@@ -1,4 +1,4 @@
--- What holds of a name at all octets that spell it, and at longer ones, holds of the service that a request names.
+-- A property of names with all bytes that encode them, and with longer ones, holds of the service that a request names.
 use Rattle.std.proofs.Common.{ℕ, ◌≤◌, List, length, Option, Some, None, subst, ap, arith}
 use Rattle.std.specs.Prelude.{IfSome}
 use Rattle.std.proofs.lemmas.List.{length-append}
@@ -15,7 +15,7 @@ use Rattle.krb_types.specs.ReqBody.{req_body, req_body_form}
 use Rattle.krb_types.specs.KdcReq.{KdcReq, SpellsKdcReq, kdc_req_form, message_tag}
 use Rattle.krb_types.specs.declared.kdc_req.Exchange.{Exchange}
 
--- what holds of a name at all octets that spell it, and at longer ones
+-- a property of names with all bytes that encode them, and with longer ones
 pub record HoldsOfNames (Holds : List ℕ → Name → Type 0) : Type 0 where
   pub spelled : (n : Name) (bytes : List ℕ) → IsBytes bytes → name.Spells n bytes → Holds bytes n
   pub longer : (n : Name) (short long : List ℕ) → length short ≤ length long → Holds short n → Holds long n
@@ -25,7 +25,7 @@ longer_each : (Holds : List ℕ → Name → Type 0) → HoldsOfNames Holds → 
 longer_each Holds of short long le (Some n) h = of.longer n short long le h
 longer_each Holds of short long le None h = tt
 
--- it holds of the name in a value, at what spells the value
+-- it holds of the name in a value, with the bytes that encode the value
 record HoldsIn {A : Type 0} (Holds : List ℕ → Name → Type 0) (S : A → List ℕ → Type 0)
     (name_of : A → Option Name) : Type 0 where
   holds : (x : A) (bytes : List ℕ) → IsBytes bytes → S x bytes → IfSome (name_of x) (Holds bytes)
@@ -108,7 +108,7 @@ in_fields Holds of =
     (past_optional Holds of 163 _ _ (λ y. y.0.sname)
     (in_field Holds of 164 _ _ (λ y. y.sname) (in_body Holds of)))))
 
--- it holds of the service that a request names, at the octets of the request
+-- it holds of the service that a request names, with the bytes of the request
 pub in_request : (Holds : List ℕ → Name → Type 0) → HoldsOfNames Holds
     → (exchange : Exchange) (x : KdcReq) (bytes : List ℕ) → IsBytes bytes → SpellsKdcReq (exchange, x) bytes
     → IfSome x.body.sname (Holds bytes)

@@ -8,7 +8,7 @@ use Rattle.krb_types.specs.declared.kdc_req.Exchange.{Exchange}
 use Rattle.krb_types.specs.KdcReq.{KdcReq, Received, SpellsKdcReq, SpellsReceived, without_octets, is_request}
 use Rattle.krb_types.specs.NameInRequestLaws.{HoldsOfNames, in_request}
 
--- the name's text is shorter than these octets
+-- the name's text is shorter than these bytes
 abbrev pub IsShorter : List ℕ → Option Name → Type 0
 IsShorter bytes o = IfSome o (λ n. length (name.text n) < length bytes)
 
@@ -18,7 +18,7 @@ names_short = record {
   longer = λ n short long le h. omega (arith, h);
 }
 
--- the service that a request names has a text shorter than the request
+-- the text of the service's name is shorter than the request
 pub request_short : (exchange : Exchange) (x : KdcReq) (bytes : List ℕ) → IsBytes bytes
     → SpellsKdcReq (exchange, x) bytes → IsShorter bytes x.body.sname
 request_short exchange x bytes fits s = in_request _ names_short exchange x bytes fits s

@@ -18,7 +18,7 @@ use krb_elements::{
 use krb_fields::{PaData, PaDataRef};
 use std::alloc::{AllocError, Global};
 
-/// Which of the two exchanges with a KDC a message belongs to.
+/// The exchange with a KDC that a message belongs to.
 #[derive(Clone, Copy, Debug, PartialEq, Eq)]
 pub enum Exchange {
     /// The Authentication Service exchange (RFC 4120, section 3.1).
@@ -28,7 +28,7 @@ pub enum Exchange {
 }
 
 impl Exchange {
-    /// The message type of its requests.
+    /// Returns the message type of its requests.
     pub fn request_type(self) -> u8
         ensures { result ≡ request_type self }
     {
@@ -38,7 +38,7 @@ impl Exchange {
         }
     }
 
-    /// The tag of its requests.
+    /// Returns the tag of its requests.
     fn request_tag(self) -> u8
         ensures { result ≡ message_tag self }
     {
@@ -52,7 +52,7 @@ impl Exchange {
     }
 }
 
-/// An AS-REQ or a TGS-REQ. Reading judges neither its version nor its message type.
+/// An AS-REQ or a TGS-REQ. Reading checks neither the version nor the message type.
 #[derive(Debug, Drop)]
 pub struct KdcReq<P = Seq<PaData>, B = ReqBody> {
     pub pvno: i32,
@@ -61,7 +61,7 @@ pub struct KdcReq<P = Seq<PaData>, B = ReqBody> {
     pub body: B,
 }
 
-/// A [`KdcReq`] where it stands, with the octets of its body as they were sent, over which a checksum is made.
+/// A borrowed [`KdcReq`], with the bytes of its body as they were sent. A checksum covers these.
 pub type KdcReqRef<'a> = KdcReq<SeqRef<'a, PaDataRef<'a>>, Sent<'a, ReqBodyRef<'a>>>;
 
 impl<'a> Coded for KdcReqRef<'a> {
@@ -119,23 +119,23 @@ fn look_message(bytes: &[u8]) -> Result<(Exchange, KdcReqRef<'_>), DerFault>
     Ok(found)
 }
 
-/// Reads an AS-REQ or a TGS-REQ where it stands, without memory.
+/// Reads an AS-REQ or a TGS-REQ in place, without allocating.
 pub fn read_kdc_req(bytes: &[u8]) -> Result<(Exchange, KdcReqRef<'_>), DerFault>
-    // What is read is spelled so.
+    // If it succeeds, the bytes encode this request.
     ensures found { IfOk result (λ x. SpellsReceived x bytes.now) }
-    // What is spelled so is read.
+    // If the bytes encode a request, it succeeds.
     ensures only { (x : exchanges.Exchange × Received) → SpellsReceived x bytes.now → IsOkAnd result (λ y. y ≡ x) }
-    // Which fault it is.
+    // The result, including the error, is that of the definition.
     ensures exact { Sees result (whole received_at bytes.now) }
-    // Without the octets of its body it is the request that they spell.
+    // Without the bytes of its body, it is the request that the bytes encode.
     ensures request { IfOk result (λ x. SpellsKdcReq (x.0, without_octets x.1) bytes.now) }
-    // The service that is named has a text shorter than the request, so an answer that repeats it has a spelling.
+    // The text of the service's name is shorter than the request, so an answer that repeats the name can be encoded.
     ensures short { IfOk result (λ x. IsShorter bytes.now x.1.body.value.sname) }
 {
     look_message(bytes)
 }
 
-/// The octets of the request, which spell it.
+/// Returns the encoding of the request.
 pub fn encode_kdc_req(
     alloc: Global,
     exchange: Exchange,

@@ -15,10 +15,10 @@ use krb_elements::{
 use krb_fields::{Name, NameRef};
 use std::alloc::{AllocError, Global};
 
-/// The message type, as its field has it.
+/// The message type, as a field value.
 const MSG_TYPE: i32 = KRB_ERROR as i32;
 
-/// A KDC's or a service's refusal. Its version and its message type are those of every KRB-ERROR, and not kept.
+/// The refusal of a KDC or a service. The version and the message type are fixed, so they are not stored.
 #[derive(Debug, Drop)]
 pub struct KrbError<S = KerberosString, N = Name, O = Octets> {
     pub ctime: Option<KTime>,
@@ -34,7 +34,7 @@ pub struct KrbError<S = KerberosString, N = Name, O = Octets> {
     pub e_data: Option<O>,
 }
 
-/// A [`KrbError`] where it stands.
+/// A borrowed [`KrbError`].
 pub type KrbErrorRef<'a> = KrbError<KerberosStringRef<'a>, NameRef<'a>, OctetsRef<'a>>;
 
 impl<S: Coded, N: Coded, O: Coded> Coded for KrbError<S, N, O> {
@@ -136,18 +136,18 @@ impl ReadOwned for KrbError {
     }
 }
 
-/// The KRB-ERROR that the octets spell.
+/// Reads the KRB-ERROR that the bytes encode.
 pub fn decode_krb_error(alloc: Global, bytes: &[u8]) -> Result<KrbError, Fault>
     ensures found { IfOk result (λ error. krb_error.Spells error bytes.now) }
     ensures only { (error : trees.KrbError) → krb_error.Spells error bytes.now → IsReadUnlessMemory result error }
     ensures exact { Decodes result (whole krb_error.at bytes.now) }
-    // It has no other spelling.
+    // A KRB-ERROR has only one encoding.
     ensures one { IfOk result (λ error. bytes.now ≡ written krb_error error) }
 {
     read_owned(alloc, bytes)
 }
 
-/// The octets of the KRB-ERROR, which spell it.
+/// Returns the encoding of the KRB-ERROR.
 pub fn encode_krb_error(alloc: Global, error: &KrbError) -> Result<Vec<u8>, AllocError>
     requires { length (krb_error.text error.now) < 2 ^ 32 }
     ensures written { IfOk result (λ v. v.items ≡ written krb_error error.now) }

@@ -1,4 +1,4 @@
-//! The messages of Kerberos V5 (RFC 4120, section 5), each with the relation between it and its octets.
+//! The messages of Kerberos V5 (RFC 4120, section 5), each with its relation to its encoding.
 #![tactic(auto)]
 
 mod kdc_req;

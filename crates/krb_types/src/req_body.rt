@@ -29,22 +29,22 @@ pub struct ReqBody<
     pub cname: Option<N>,
     pub realm: S,
     pub sname: Option<N>,
-    /// When the ticket is to start.
+    /// The requested start of the ticket.
     pub from: Option<KTime>,
-    /// When the ticket is to end.
+    /// The requested end of the ticket.
     pub till: KTime,
-    /// Until when the ticket is to be renewable.
+    /// Until when the ticket should be renewable.
     pub rtime: Option<KTime>,
-    /// The number that the reply repeats.
+    /// A number that the reply repeats.
     pub nonce: UInt32,
-    /// The encryption types that the client takes, in the order of its preference.
+    /// The encryption types that the client supports, in order of preference.
     pub etype: L,
     pub addresses: Option<A>,
     pub enc_authorization_data: Option<E>,
     pub additional_tickets: Option<T>,
 }
 
-/// A [`ReqBody`] where it stands.
+/// A borrowed [`ReqBody`].
 pub type ReqBodyRef<'a> = ReqBody<
     KerberosStringRef<'a>,
     NameRef<'a>,

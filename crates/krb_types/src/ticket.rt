@@ -11,7 +11,7 @@ use krb_elements::{
 use krb_fields::{EncryptedData, EncryptedDataRef, Name, NameRef};
 use std::alloc::{AllocError, Global};
 
-/// A ticket as it is sent: its server in the clear, and the rest sealed under that server's key.
+/// A ticket as it is sent: the service in the clear, and the rest encrypted with the service's key.
 #[derive(Debug, Drop)]
 pub struct Ticket<S = KerberosString, N = Name, E = EncryptedData> {
     pub tkt_vno: i32,
@@ -20,7 +20,7 @@ pub struct Ticket<S = KerberosString, N = Name, E = EncryptedData> {
     pub enc_part: E,
 }
 
-/// A [`Ticket`] where it stands.
+/// A borrowed [`Ticket`].
 pub type TicketRef<'a> = Ticket<KerberosStringRef<'a>, NameRef<'a>, EncryptedDataRef<'a>>;
 
 impl<S: Coded, N: Coded, E: Coded> Coded for Ticket<S, N, E> {

@@ -1,4 +1,4 @@
-//! Tickets where they stand.
+//! Borrowed tickets.
 ghost use Rattle.std.specs.Prelude.{◌≡◌, IfOk};
 
 use crate::ticket::{Ticket, TicketRef};
@@ -6,7 +6,7 @@ use krb_elements::MakeOwned;
 use std::alloc::{AllocError, Global};
 
 impl<'a> TicketRef<'a> {
-    /// The same ticket, which owns its parts.
+    /// Returns a copy that owns its parts.
     pub fn to_ticket(&self, alloc: Global) -> Result<Ticket, AllocError>
         ensures { IfOk result (λ ticket. ticket ≡ self.now) }
     {

@@ -1,4 +1,4 @@
--- The types of a request that there is a key of, one after another.
+-- The encryption types of a request for which there is a key, one by one.
 use Rattle.std.proofs.Common.{◌≡◌, ℕ, ℤ, pos, ◌+◌, ◌≤◌, Bool, true, false, not, cond, ◌||◌, ◌&&◌, subst, List, [], ◌∷◌, ◌++◌, length, Some, is_some, refl, sym, ap, ◌∙◌, append_assoc, arith, All}
 use Rattle.std.specs.List.{filter}
 use Rattle.std.specs.Ordering.{int_eq}
@@ -12,15 +12,15 @@ use Rattle.enctypes.specs.declared.key.Key.{Key}
 use Rattle.enctypes.specs.Etype.{number}
 use Rattle.preauth.specs.Keys.{key_numbered, has_key, is_among, is_new, each_once, types_of}
 
--- those that were not found yet
+-- the numbers that were not found yet
 abbrev pub new_ones : List ℤ → List ℤ → List ℤ
 new_ones found ns = filter (λ n. not (is_among found n)) ns
 
--- what was found, with those of the later numbers
+-- those found so far, with those of the later numbers
 abbrev pub with_those_of : List Key → List ℤ → List ℤ → List ℤ
 with_those_of keys found later = found ++ new_ones found (types_of keys later)
 
--- ---- one number more
+-- ---- one more number
 
 without_key : (keys : List Key) (n : ℤ) (ns : List ℤ) → has_key keys n ≡ false → types_of keys (n ∷ ns) ≡ types_of keys ns
 without_key keys n ns none = ap (λ b. each_once (cond b (n ∷ filter (has_key keys) ns) (filter (has_key keys) ns))) none
@@ -28,7 +28,7 @@ without_key keys n ns none = ap (λ b. each_once (cond b (n ∷ filter (has_key 
 with_key : (keys : List Key) (n : ℤ) (ns : List ℤ) → has_key keys n ≡ true → types_of keys (n ∷ ns) ≡ n ∷ filter (λ m. not (int_eq n m)) (types_of keys ns)
 with_key keys n ns some = ap (λ b. each_once (cond b (n ∷ filter (has_key keys) ns) (filter (has_key keys) ns))) some
 
--- two filters, one behind the other
+-- two filters in a row
 filter_both : (p q r : ℤ → Bool) (xs : List ℤ) → ((x : ℤ) → cond (q x) (p x) false ≡ r x) → filter p (filter q xs) ≡ filter r xs
 filter_both p q r [] same = refl
 filter_both p q r (x ∷ xs) same = at (filter_both p q r xs same) (q x) refl
@@ -41,11 +41,11 @@ filter_both p q r (x ∷ xs) same = at (filter_both p q r xs same) (q x) refl
         let none : false ≡ r x = ap (λ (b : Bool). cond b (p x) false) (sym e) ∙ same x in
         later ∙ ap (λ (b : Bool). cond b (x ∷ filter r xs) (filter r xs)) none
 
--- no key of it
+-- there is no key of it
 unknown : (keys : List Key) (found : List ℤ) (n : ℤ) (ns : List ℤ) → has_key keys n ≡ false → with_those_of keys found (n ∷ ns) ≡ with_those_of keys found ns
 unknown keys found n ns none = ap (λ (ts : List ℤ). found ++ new_ones found ts) (without_key keys n ns none)
 
--- found before
+-- it was found before
 repeated : (keys : List Key) (found : List ℤ) (n : ℤ) (ns : List ℤ) → has_key keys n ≡ true → is_among found n ≡ true → with_those_of keys found (n ∷ ns) ≡ with_those_of keys found ns
 repeated keys found n ns some old =
     ap (λ (ts : List ℤ). found ++ new_ones found ts) (with_key keys n ns some)
@@ -62,7 +62,7 @@ repeated keys found n ns some old =
         at true e = ap (λ (b : Bool). not b) (sym old ∙ ap (λ (k : ℤ). is_among found k) ((Decides-int_eq n m).0 e))
         at false e = refl
 
--- found for the first time
+-- it is found for the first time
 added : (keys : List Key) (found : List ℤ) (n : ℤ) (ns : List ℤ) → has_key keys n ≡ true → is_among found n ≡ false → with_those_of keys found (n ∷ ns) ≡ with_those_of keys (found ++ n ∷ []) ns
 added keys found n ns some fresh =
     ap (λ (ts : List ℤ). found ++ new_ones found ts) (with_key keys n ns some)
@@ -82,7 +82,7 @@ added keys found n ns some fresh =
     same : (m : ℤ) → cond (not (int_eq n m)) (not (is_among found m)) false ≡ not (is_among (found ++ n ∷ []) m)
     same m = neither (int_eq n m) (is_among found m) ∙ ap (λ (b : Bool). not b) (sym (list_any-append (λ k. int_eq k m) found (n ∷ [])))
 
--- ---- a loop over the numbers, which gathers what it finds
+-- ---- a loop that gathers the numbers
 
 pub begins : (keys : List Key) (found numbers all : List ℤ) → found ≡ [] → numbers ≡ all → with_those_of keys found numbers ≡ types_of keys all
 begins keys found numbers ns none same =
@@ -118,9 +118,9 @@ passes_over keys found numbers n later all first not_new so_far = at (has_key ke
 pub ends : (keys : List Key) (found numbers all : List ℤ) → numbers ≡ [] → with_those_of keys found numbers ≡ all → found ≡ all
 ends keys found numbers all none so_far = sym (append-nil found) ∙ sym (ap (λ (xs : List ℤ). with_those_of keys found xs) none) ∙ so_far
 
--- ---- how many there are: no more than types
+-- ---- at most as many as there are encryption types
 
--- the number of a type
+-- the number of an encryption type
 abbrev IsNumber : ℤ → Type 0
 IsNumber n = (e : Etype) × (number e ≡ n)
 
@@ -145,7 +145,7 @@ each_known [] all = All-nil IsNumber
 each_known (n ∷ ns) all =
     All-cons IsNumber n _ (All-head IsNumber n ns all) (All-filter (λ m. not (int_eq n m)) IsNumber (each_once ns) (each_known ns (All-tail IsNumber n ns all)))
 
--- how often a number stands in a list
+-- how often a number occurs in a list
 abbrev times : ℤ → List ℤ → ℕ
 times n [] = 0
 times n (m ∷ ms) = cond (int_eq n m) 1 0 + times n ms

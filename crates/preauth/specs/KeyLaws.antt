@@ -1,4 +1,4 @@
--- A key of the current version is found by its type and the version's number.
+-- A key of the current version is found by its encryption type and the version's number.
 use Rattle.std.proofs.Common.{◌≡◌, ℤ, pos, Bool, true, false, cond, List, [], ◌∷◌, Option, Some, None, refl, sym, ap}
 use Rattle.std.proofs.Common.{◌∙◌}
 use Rattle.std.specs.Option.{option_or, unwrap_or}
@@ -23,7 +23,7 @@ of_its_type (x ∷ xs) n k e = at (of_its_type xs n k) (int_eq (number x.etype) 
         sym (ap (λ (o : Option Key). number (unwrap_or o x).etype) e) ∙ (Decides-int_eq (number x.etype) n).0 is
     at later false is e = later e
 
--- the key of the first type that there is a key of
+-- the key of the first encryption type for which there is one
 pub first_found : (keys : List Key) (types : List ℤ) (k : Key) → first_key keys types ≡ Some k
     → key_numbered keys (number k.etype) ≡ Some k
 first_found keys [] k e = absurd cc

@@ -1,4 +1,4 @@
--- What a client is told of its keys is short, and so has an encoding.
+-- What the KDC tells a client about its keys is short enough to encode.
 use Rattle.std.proofs.Common.{◌≡◌, ℕ, ℤ, ◌+◌, ◌*◌, ◌≤◌, List, [], ◌∷◌, length, map, sym, subst, arith}
 use Rattle.krb_der.specs.Spelling.{tlv}
 use Rattle.krb_elements.specs.Codec.{list_of, written}
@@ -8,7 +8,7 @@ use Rattle.krb_fields.specs.PaData.{PaData, pa_data, pa_data_form}
 use Rattle.krb_parts.specs.EtypeInfo2Entry.{EtypeInfo2Entry, etype_info2_entry, etype_info2_entry_form}
 use Rattle.preauth.specs.MethodData.{info_entry, timestamp_wanted}
 
--- what is written is longer than its contents by a tag and a length
+-- the encoding is longer than its contents by a tag and a length
 written_short : (tag most : ℕ) (contents octets : List ℕ) → length contents ≤ most → octets ≡ tlv tag contents
     → length octets ≤ most + 6
 written_short tag most contents octets short same =
@@ -20,7 +20,7 @@ unfolding etype_info2_entry_form
 entries_most salt [] short = omega arith
 entries_most salt (t ∷ ts) short = omega (arith, entries_most salt ts short)
 
--- entries of a salt and at most four types
+-- entries with a salt and at most four encryption types
 pub entries_short : (salt : List ℕ) (types : List ℤ) (entries : List EtypeInfo2Entry) → length salt ≤ 8192
     → length types ≤ 4 → entries ≡ map (info_entry salt) types
     → length ((list_of etype_info2_entry).text entries) ≤ 32920
@@ -35,7 +35,7 @@ info_short salt types entries octets short few same =
     written_short 48 32920 ((list_of etype_info2_entry).text entries) octets
     (entries_short salt types entries short few same)
 
--- short PA-ETYPE-INFO2, and an empty PA-ENC-TIMESTAMP
+-- a short PA-ETYPE-INFO2 and an empty PA-ENC-TIMESTAMP
 pub methods_short : (info : PaData) (methods : List PaData) → length info.padata_value ≤ 32926
     → methods ≡ info ∷ timestamp_wanted ∷ [] → length ((list_of pa_data).text methods) ≤ 33100
 unfolding pa_data_form

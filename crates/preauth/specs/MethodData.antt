@@ -1,14 +1,14 @@
--- What a client is told of its keys (RFC 4120, sections 5.2.7.5 and 5.9.1).
+-- What the KDC tells a client about its keys (RFC 4120, sections 5.2.7.5 and 5.9.1).
 use Rattle.std.specs.Prelude.{ℕ, ℤ, pos, List, [], ◌∷◌, Some, None, map}
 use Rattle.krb_elements.specs.Codec.{written, list_of}
 use Rattle.krb_fields.specs.PaData.{PaData, pa_data}
 use Rattle.krb_parts.specs.EtypeInfo2Entry.{EtypeInfo2Entry, etype_info2_entry}
 
--- a type, with the salt of the client's password
+-- an encryption type, with the salt of the client's password
 abbrev pub info_entry : List ℕ → ℤ → EtypeInfo2Entry
 info_entry salt etype = record { etype = etype; salt = Some salt; s2kparams = None }
 
--- PA-ETYPE-INFO2 of these types
+-- PA-ETYPE-INFO2 for these encryption types
 abbrev pub etype_info2 : List ℕ → List ℤ → PaData
 etype_info2 salt types =
     record { padata_type = pos 19; padata_value = written (list_of etype_info2_entry) (map (info_entry salt) types) }

@@ -22,16 +22,16 @@ abbrev pub first_of : ℤ → Option (List PaData) → Option (List ℕ)
 first_of number None = None
 first_of number (Some padata) = option_map (λ p. p.padata_value) (find (λ p. int_eq p.padata_type number) padata)
 
--- the EncryptedData that the octets spell
+-- the EncryptedData that the bytes encode
 abbrev pub encrypted_in : List ℕ → Option EncryptedData
 encrypted_in octets = ok_of (whole encrypted_data.at octets)
 
--- what the key opens
+-- the timestamp, decrypted with the key
 abbrev pub opened_by : Option Key → List ℕ → Option PaEncTsEnc
 opened_by None cipher = None
 opened_by (Some key) cipher = opened_as pa_enc_ts_enc key.etype key.bytes (usage_number PaEncTimestamp) cipher
 
--- what the key of its type opens; its kvno is ignored
+-- the timestamp, decrypted with the key of its encryption type; its kvno is ignored
 abbrev pub opened_of : List Key → Option EncryptedData → Option PaEncTsEnc
 opened_of keys None = None
 opened_of keys (Some sealed) = opened_by (key_numbered keys sealed.etype) sealed.cipher
@@ -39,20 +39,20 @@ opened_of keys (Some sealed) = opened_by (key_numbered keys sealed.etype) sealed
 abbrev pub time_of : Option PaEncTsEnc → Option ℤ
 time_of opened = option_map (λ part. part.patimestamp) opened
 
--- further from now than clocks may differ
+-- further from now than the clock skew
 abbrev pub is_skewed : ℤ → ℤ → Bool
 is_skewed now time = nat_lt skew (unsigned_abs (time -ℤ now))
 
--- by the time that was opened, if one was
+-- by the decrypted time, if there is one
 abbrev pub judged : ℤ → Option ℤ → Outcome
 judged now None = Bad
 judged now (Some time) = if is_skewed now time then Skewed else Good
 
--- what the value of a PA-ENC-TIMESTAMP shows under these keys, where there is one
+-- what the value of a PA-ENC-TIMESTAMP shows with these keys, if there is one
 abbrev pub outcome_of : List Key → ℤ → Option (List ℕ) → Outcome
 outcome_of keys now None = Absent
 outcome_of keys now (Some value) = judged now (time_of (opened_of keys (encrypted_in value)))
 
--- the first PA-ENC-TIMESTAMP counts, and the client's current keys
+-- the first PA-ENC-TIMESTAMP and the client's current keys count
 abbrev pub outcome : Row → ℤ → Option (List PaData) → Outcome
 outcome client now padata = outcome_of (current client.versions).keys now (first_of (pos 2) padata)

@@ -1,4 +1,4 @@
-//! Keys by the numbers of their types, as messages name them.
+//! Looks up keys by the numbers of their encryption types, as messages name them.
 ghost use Rattle.std.specs.Prelude.{◌≡◌, ◌≤◌, length, IfOk, option_copied};
 ghost use Rattle.preauth.specs.Keys.{key_by, key_numbered, first_key, is_new, numbered, types_of};
 
@@ -7,7 +7,7 @@ use krb_elements::{SeqRef, UInt32};
 use principal_rows::{KeyList, KeyVersion, Versions};
 use std::alloc::{AllocError, Global};
 
-/// The key of the type that this number names, if there is one.
+/// Returns the key whose encryption type has this number, if there is one.
 pub fn key_numbered(keys: &KeyList, number: i32) -> Option<&Key>
     ensures { option_copied result ≡ key_numbered keys.now number }
 {
@@ -16,7 +16,7 @@ pub fn key_numbered(keys: &KeyList, number: i32) -> Option<&Key>
         .find(|key| key.etype().number() == number)
 }
 
-/// The key of this type in the version of this number; without a number, that of the current version.
+/// Returns the key of this encryption type in the version with this number; without a number, in the current version.
 pub fn key_by(versions: &Versions, etype: i32, kvno: Option<UInt32>) -> Option<&Key>
     ensures { option_copied result ≡ key_by versions.now etype kvno }
 {
@@ -26,7 +26,7 @@ pub fn key_by(versions: &Versions, etype: i32, kvno: Option<UInt32>) -> Option<&
     }
 }
 
-/// The version of this number.
+/// Returns the version with this number.
 fn numbered(versions: &Versions, kvno: UInt32) -> Option<&KeyVersion>
     ensures { option_copied result ≡ numbered versions.now kvno }
 {
@@ -37,7 +37,7 @@ fn numbered(versions: &Versions, kvno: UInt32) -> Option<&KeyVersion>
         .find(|version| i64::from(version.number) == number)
 }
 
-/// The key of the first of these types that there is a key of.
+/// Returns the key of the first of these encryption types for which there is one.
 pub fn first_key<'k>(keys: &'k KeyList, types: &SeqRef<'_, i32>) -> Option<&'k Key>
     ensures { option_copied result ≡ first_key keys.now types.now }
 {
@@ -49,7 +49,7 @@ pub fn first_key<'k>(keys: &'k KeyList, types: &SeqRef<'_, i32>) -> Option<&'k K
     None
 }
 
-/// Those of these types that there is a key of, in their order, each once.
+/// Returns those of these encryption types for which there is a key, in order and without repetition.
 pub fn types_of(
     alloc: Global,
     keys: &KeyList,
@@ -67,7 +67,7 @@ pub fn types_of(
     Ok(found)
 }
 
-/// Whether there is a key of this type, which was not found before.
+/// Checks whether there is a key of this encryption type and it was not found before.
 fn is_new(keys: &KeyList, found: &[i32], number: i32) -> bool
     ensures { result ≡ is_new keys.now found.now number }
 {

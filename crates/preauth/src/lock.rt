@@ -1,4 +1,4 @@
-//! The lock of clients that fail to show their key, so that a password can't be guessed by trying.
+//! Locks clients that fail to show their key, so that passwords can't be guessed by trial.
 ghost use Rattle.std.specs.Prelude.{◌≡◌};
 ghost use Rattle.preauth.specs.Lock.{is_locked, after_failure, after_success};
 
@@ -6,7 +6,7 @@ use krb_fields::Moment;
 use principal_rows::Limits;
 use replay::Failures;
 
-/// Whether a client with these failures is locked at this moment.
+/// Checks whether a client with these failures is locked at this moment.
 pub fn is_locked(failures: Failures, limits: &Limits, at: Moment) -> bool
     ensures { result ≡ is_locked failures limits.now at.sec }
 {
@@ -15,7 +15,7 @@ pub fn is_locked(failures: Failures, limits: &Limits, at: Moment) -> bool
         && at.sec < failures.last.sec + i64::from(limits.lock_seconds)
 }
 
-/// The failures of a client that failed once more, at this moment.
+/// Returns the failures after one more, at this moment.
 pub fn after_failure(failures: Failures, at: Moment) -> Failures
     ensures { result ≡ after_failure failures at }
 {
@@ -25,7 +25,7 @@ pub fn after_failure(failures: Failures, at: Moment) -> Failures
     }
 }
 
-/// The failures of a client that has shown its key.
+/// Returns the failures after the client has shown its key.
 pub fn after_success(failures: Failures) -> Failures
     ensures { result ≡ after_success failures }
 {

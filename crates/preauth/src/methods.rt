@@ -1,4 +1,4 @@
-//! METHOD-DATA: what a client that has to show its key is told (RFC 4120, sections 5.2.7.5 and 5.9.1).
+//! METHOD-DATA: what the KDC tells a client that must show its key (RFC 4120, sections 5.2.7.5 and 5.9.1).
 ghost use Rattle.std.specs.Prelude.{◌≡◌, ◌≤◌, length, IfOk, map};
 ghost use Rattle.preauth.specs.MethodData.{info_entry, etype_info2, timestamp_wanted, method_data};
 
@@ -7,7 +7,7 @@ use krb_fields::{PA_ENC_TIMESTAMP, PA_ETYPE_INFO2, PaData};
 use krb_parts::EtypeInfo2Entry;
 use std::alloc::{AllocError, Global};
 
-/// PA-ETYPE-INFO2: these types, each with the salt of the client's password.
+/// Returns PA-ETYPE-INFO2 for these encryption types, each with the salt of the client's password.
 pub fn etype_info2(alloc: Global, salt: &[u8], types: &[i32]) -> Result<PaData, AllocError>
     requires short { length salt.now ≤ 8192 }
     requires few { length types.now ≤ 4 }
@@ -39,7 +39,8 @@ fn info_entries(
     Ok(entries)
 }
 
-/// The METHOD-DATA of KDC_ERR_PREAUTH_REQUIRED: PA-ETYPE-INFO2 of these types, and an empty PA-ENC-TIMESTAMP.
+/// Returns the METHOD-DATA of KDC_ERR_PREAUTH_REQUIRED: PA-ETYPE-INFO2 for these encryption types, and an empty
+/// PA-ENC-TIMESTAMP.
 pub fn method_data(alloc: Global, salt: &[u8], types: &[i32]) -> Result<Octets, AllocError>
     requires short { length salt.now ≤ 8192 }
     requires few { length types.now ≤ 4 }
@@ -52,7 +53,7 @@ pub fn method_data(alloc: Global, salt: &[u8], types: &[i32]) -> Result<Octets, 
     Ok(Octets::new(write(alloc, &methods)?))
 }
 
-/// An empty PA-ENC-TIMESTAMP, which asks for one.
+/// Returns an empty PA-ENC-TIMESTAMP, which asks for one.
 fn timestamp_wanted(alloc: Global) -> PaData
     ensures { result ≡ timestamp_wanted }
 {

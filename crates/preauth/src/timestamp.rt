@@ -1,4 +1,4 @@
-//! PA-ENC-TIMESTAMP: how a client shows that it has its key (RFC 4120, section 5.2.7.2).
+//! PA-ENC-TIMESTAMP, by which a client shows that it has its key (RFC 4120, section 5.2.7.2).
 ghost use Rattle.std.specs.Prelude.{◌≡◌, IfOk, option_copied};
 ghost use Rattle.preauth.specs.Timestamp.{first_of, encrypted_in, opened_of, time_of, is_skewed, outcome};
 
@@ -12,20 +12,20 @@ use principal_rows::{KeyList, Row};
 use sealed_parts::open_part;
 use std::alloc::{AllocError, Global};
 
-/// What a request shows of the client's key.
+/// What a request shows about the client's key.
 #[derive(Debug, Clone, Copy, PartialEq, Eq)]
 pub enum Outcome {
     /// It has no PA-ENC-TIMESTAMP.
     Absent,
-    /// The first one isn't sealed under a current key of the client.
+    /// No current key of the client decrypts the first one.
     Bad,
-    /// It is, and its time is too far from now.
+    /// A current key decrypts it, but its time is too far from now.
     Skewed,
-    /// It is, and its time is now, but for the skew of clocks.
+    /// A current key decrypts it, and its time is within the clock skew.
     Good,
 }
 
-/// What a client's request with these padata shows at this moment.
+/// Checks the timestamp in the padata of a client's request at this moment.
 pub fn check_timestamp<'p>(
     alloc: Global,
     client: &Row,
@@ -45,7 +45,7 @@ pub fn check_timestamp<'p>(
     })
 }
 
-/// The value of the first padata of this type.
+/// Returns the value of the first padata of this type.
 pub fn first_of<'p>(
     number: i32,
     padata: Option<&SeqRef<'p, PaDataRef<'p>>>,
@@ -60,7 +60,7 @@ pub fn first_of<'p>(
     None
 }
 
-/// The time that stands sealed in the value of a PA-ENC-TIMESTAMP, if the key of its type opens it.
+/// Decrypts the time in the value of a PA-ENC-TIMESTAMP with the key of its encryption type.
 fn opened_time(alloc: Global, keys: &KeyList, value: &[u8]) -> Result<Option<KTime>, AllocError>
     ensures { IfOk result (λ found. found ≡ time_of (opened_of keys.now (encrypted_in value.now))) }
 {

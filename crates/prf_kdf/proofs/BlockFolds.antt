@@ -1,5 +1,5 @@
--- The n-fold to a block as one sum of the copies: under end-around carry 2^128 counts as 1, so that the copies need not
--- be cut into pieces.
+-- The n-fold to a block as one sum of the copies: with end-around carry 2^128 counts as 1, so the copies need not be
+-- cut into pieces.
 use Rattle.std.proofs.Common.{◌≡◌, ℕ, zero, suc, ◌+◌, ◌-◌, ◌*◌, ◌/◌, ◌%◌, ◌^◌, ◌≤◌, ◌<◌, List, [], ◌∷◌, take, drop, length}
 use Rattle.std.proofs.Common.{get_or, bit_or, bit_and, refl, sym, ap, ◌∙◌, arith, add-one, take-add, length-take, length-drop}
 use Rattle.std.specs.Int.{w128, to_be_bytes, bytes_high_first, byte_at}
@@ -17,7 +17,7 @@ use Rattle.prf_kdf.proofs.Numbers.{number-append, number-lt, number-take_more, n
 use Rattle.prf_kdf.proofs.Sums.{pieces_sum_none, pieces_sum_more}
 use Rattle.prf_kdf.proofs.Turns.{turned}
 
--- ---- octets
+-- ---- bytes
 
 power_256 : (n : ℕ) → 2 ^ (8 * n) ≡ 256 ^ n
 power_256 zero = refl
@@ -37,7 +37,7 @@ octets_are (suc n) x = rw (octet_is n x, octets_are n x) refl
 pub block_octets : (x : ℕ) → octets_of 16 x ≡ to_be_bytes w128 x
 block_octets x = octets_are 16 x
 
--- ---- a number turned right
+-- ---- a number rotated right
 
 pub rotate_right-lt : (n k x : ℕ) → 0 < n → x < 2 ^ n → rotate_right n k x < 2 ^ n
 rotate_right-lt n k x some below =
@@ -62,7 +62,7 @@ turned_right_is n r x most low below =
     ∙ sym (turned n r x (omega arith) below)
     ∙ ap (λ (m : ℕ). x / 2 ^ m + x % 2 ^ m * 2 ^ (n - m)) (sym turn)
 
--- ---- a number turned left: under end-around carry, times a power of two
+-- ---- a number rotated left: with end-around carry, times a power of two
 
 product_is : (x a r W R P : ℕ) → a * R + r ≡ x → P ≡ W * R → x * W ≡ a * P + r * W
 product_is x a r W R P split power = omega (arith, ap (λ (m : ℕ). m * W) split, ap (λ (m : ℕ). a * m) power)
@@ -153,7 +153,7 @@ pieces_are n s (suc k) some inside =
     ∙ end_around_carry-add (8 * n) (pieces_sum n s k) (number piece)
     ∙ ap (end_around_carry (8 * n)) (sym more)
 
--- the copies up to the least common multiple of both lengths, summed up
+-- the sum of the copies up to the least common multiple of both lengths
 pub block_fold_is : (bs : List ℕ) (g total : ℕ) → 0 < length bs → IsGcd (length bs) 16 g
     → total ≡ end_around_carry 128 (number (rotated_copies bs (16 / g))) → octets_of 16 total ≡ n_fold bs 16
 unfolding n_fold
@@ -169,7 +169,7 @@ block_fold_is bs g total some is sum =
     ∙ ap (λ (k : ℕ). end_around_carry 128 (pieces_sum 16 (rotated_copies bs k) (n / g))) (sym fits.copies)
     ∙ ap (λ (k : ℕ). end_around_carry 128 (pieces_sum 16 (rotated_copies bs (lcm n 16 / n)) k)) (sym fits.pieces))
 
--- how far the next copy is turned
+-- how far the next copy is rotated
 pub next_turn_is : (turn n : ℕ) → 0 < n → turn < n → turn + 13 % n < n → turn + 13 % n ≡ (turn + 13) % n
 next_turn_is turn n some low fits =
     let none : 0 * n + (turn + 13 % n) ≡ turn + 13 % n = omega arith in
@@ -183,7 +183,7 @@ next_turn_over turn n some low over =
 
 -- ---- the loop
 
--- one octet more of a word
+-- one more byte of a word
 pub word_more : (xs : List ℕ) (i : ℕ) → ((j : ℕ) → get_or xs j 0 < 256) → i < length xs → length xs ≤ 8
     → number (take i xs) * 256 + get_or xs i 0 < 2 ^ 64
 word_more xs i octets inside few =
@@ -194,7 +194,7 @@ word_more xs i octets inside few =
     pow_mono {i = 8 * length (take (i + 1) xs)} {j = 64} (omega arith) in
     omega (arith, number-take_more xs i inside)
 
--- one copy more
+-- one more copy
 pub block_fold_more : (bs : List ℕ) (i total left copy sum : ℕ) → ((j : ℕ) → get_or bs j 0 < 256) → 0 < length bs
     → total ≡ end_around_carry 128 (number (rotated_copies bs i))
     → left ≡ end_around_carry 128 (total * 2 ^ (8 * length bs))
@@ -210,6 +210,6 @@ block_fold_more bs i total left copy sum octets some before turned_is copy_is su
     ∙ end_around_carry-step 128 t P k (pow_pos (8 * length bs))
     ∙ ap (end_around_carry 128) (sym (number-copies_more bs i octets some))
 
--- turned by what is left of 13 bits for each copy before it
+-- rotated by the rest of 13 bits for each copy before it
 pub copy_turn : (n i x : ℕ) → rotate_right n (13 * i % n) x ≡ rotate_right n (13 * i) x
 copy_turn n i x = ap (λ (m : ℕ). x / 2 ^ m + x % 2 ^ m * 2 ^ (n - m)) (mod-mod (13 * i) n)

@@ -1,4 +1,4 @@
--- The blocks of PBKDF2, one after the other in the output.
+-- The blocks of PBKDF2, in order, in the output.
 use Rattle.std.proofs.Common.{◌≡◌, ℕ, zero, suc, ◌+◌, ◌-◌, ◌*◌, ◌≤◌, ◌<◌, List, [], ◌++◌, take, length, refl, sym, ap}
 use Rattle.std.proofs.Common.{◌∙◌, arith, add-one, min, ⊎_elim, length-append, length-take, length-drop}
 use Rattle.std.proofs.Math.Seq.{take-append-add}
@@ -46,7 +46,7 @@ fits block room size len = ⊎_elim
     rw e (take_all size block (omega arith) ∙ sym (take_all room block (omega arith))))
     (cases_lt room size)
 
--- one block more in the output
+-- one more block in the output
 pub blocks_written : (out piece blocks block : List ℕ) (start end size : ℕ) → start ≤ length out
     → end ≡ min (length out) (start + size)
     → length block ≡ size → length blocks ≡ start → piece ≡ take (end - start) block
@@ -72,7 +72,7 @@ blocks_written out piece blocks block start end size inside ends len at is front
     (cases_lt room size) in
     written ∙ ap (λ l. l ++ piece) front_is ∙ ap (λ l. blocks ++ l) piece_is ∙ sym both
 
--- an output that as many blocks fill as it needs
+-- an output with as many blocks as it needs
 pub pbkdf2_is : (prf : List ℕ → List ℕ) (size : ℕ) (salt : List ℕ) (count i : ℕ) (out : List ℕ) → 0 < size
     → i ≡ div_ceil (length out) size
     → take (size * i) out ≡ take (length out) (pbkdf2_blocks prf salt count i)

@@ -1,4 +1,4 @@
--- The copies of n-fold, one behind the other, and the pieces that they are cut into.
+-- The concatenated copies of n-fold, and the pieces into which they are cut.
 use Rattle.std.proofs.Common.{◌≡◌, ℕ, zero, suc, ◌+◌, ◌-◌, ◌*◌, ◌/◌, ◌%◌, ◌^◌, ◌≤◌, ◌<◌, List, take, drop, length}
 use Rattle.std.proofs.Common.{get_or, refl, ap, ◌∙◌, arith, ⊎_elim, length-append, length-take, length-drop}
 use Rattle.std.proofs.lemmas.Bool.{cases_lt}

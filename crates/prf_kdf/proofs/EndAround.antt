@@ -1,4 +1,4 @@
--- End-around carry: the code brings a carry round after each piece, the definition in the sum of all pieces.
+-- End-around carry: the code adds the carry after each piece, the definition once in the sum of all pieces.
 use Rattle.std.proofs.Common.{◌≡◌, ℕ, zero, suc, ◌+◌, ◌-◌, ◌*◌, ◌/◌, ◌%◌}
 use Rattle.std.proofs.Common.{◌^◌, ◌≤◌, ◌<◌, refl, sym, ap, ◌∙◌, arith, ⊎_elim}
 use Rattle.std.proofs.Math.Nat.{mod-add-mod, add-mul-mod_self_right}
@@ -6,7 +6,7 @@ use Rattle.std.proofs.lemmas.Bool.{cases_lt}
 use Rattle.std.proofs.lemmas.Nat.{div-add-mod', div-mul-add, mod-mul-add, mod_below}
 use Rattle.prf_kdf.specs.Fold.{end_around_carry}
 
--- what stands above n bits, brought round to the lowest bits once
+-- the bits above the lowest n, added to the lowest bits once
 abbrev pub brought_round : ℕ → ℕ → ℕ
 brought_round n x = x % 2 ^ n + x / 2 ^ n
 
@@ -22,7 +22,7 @@ end_around_carry-most n (suc t) some =
 pub end_around_carry-lt : (n t : ℕ) → 2 ≤ 2 ^ n → end_around_carry n t < 2 ^ n
 end_around_carry-lt n t some = omega (arith, end_around_carry-most n t some)
 
--- a number that is added afterwards
+-- adding a number afterwards
 pub end_around_carry-add : (n t p : ℕ) → end_around_carry n (end_around_carry n t + p) ≡ end_around_carry n (t + p)
 end_around_carry-add n zero p = refl
 end_around_carry-add n (suc t) p =
@@ -32,7 +32,7 @@ end_around_carry-add n (suc t) p =
     ∙ ap (λ (m : ℕ). m + 1) (mod-add-mod t (2 ^ n - 1) p)
     ∙ sym (ap (end_around_carry n) second)
 
--- of a sum of two numbers of n bits
+-- for a sum of two numbers of n bits
 pub end_around_carry-two : (n x : ℕ) → 2 ≤ 2 ^ n → x ≤ 2 ^ n - 1 + (2 ^ n - 1) → end_around_carry n x ≡ brought_round n x
 end_around_carry-two n zero some most =
     let none : 0 * 2 ^ n + 0 ≡ 0 = omega arith in
@@ -52,7 +52,7 @@ end_around_carry-two n (suc x) some most = ⊎_elim
     ap (λ (m : ℕ). m + 1) less ∙ sym (brought_round_is n 1 N (suc x) whole (omega arith)))
     (cases_lt x (2 ^ n - 1))
 
--- a piece p more: bringing the carry round now, or once in the whole sum, is the same
+-- for one more piece p, adding the carry now or once in the whole sum is the same
 pub end_around_carry-more : (n t p : ℕ) → 2 ≤ 2 ^ n → p < 2 ^ n
     → end_around_carry n (t + p) ≡ brought_round n (end_around_carry n t + p)
 end_around_carry-more n t p some small =
@@ -64,7 +64,7 @@ end_around_carry-more n t p some small =
 multiple_is : (x p M P s : ℕ) → P ≡ M + 1 → x + p ≡ suc s → x * P + p ≡ suc (s + x * M)
 multiple_is x p M P s power sum = omega (arith, ap (λ (m : ℕ). x * m) power)
 
--- a multiple of 2^n - 1 more changes nothing where something is there already
+-- adding a multiple of 2^n - 1 changes nothing, unless the sum was 0
 end_around_carry-multiple : (n x s : ℕ) → end_around_carry n (suc (s + x * (2 ^ n - 1))) ≡ end_around_carry n (suc s)
 end_around_carry-multiple n x s = ap (λ (m : ℕ). m + 1) (add-mul-mod_self_right s x (2 ^ n - 1))
 
@@ -93,7 +93,7 @@ end_around_carry-small n (suc s) some below =
 times_is : (t q r M f : ℕ) → 0 < f → q * M + r ≡ t → suc t * f ≡ suc ((r + 1) * f - 1 + q * f * M)
 times_is t q r M f some split = omega (arith, ap (λ (m : ℕ). m * f) split)
 
--- a factor
+-- multiplying by a factor
 pub end_around_carry-times : (n t f : ℕ) → 0 < f
     → end_around_carry n (end_around_carry n t * f) ≡ end_around_carry n (t * f)
 end_around_carry-times n zero f some = refl

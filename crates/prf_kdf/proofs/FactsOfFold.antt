@@ -1,8 +1,8 @@
--- The standard's examples of the definition itself, so that a wrong definition does not check.
+-- The standard's examples for the definition itself, so that a wrong definition does not check.
 use Rattle.std.proofs.Common.{◌≡◌, [], ◌∷◌, codes, refl}
 use Rattle.prf_kdf.specs.Fold.{number, octets_of, rotated_copies, gcd_within, pieces_sum, n_fold}
 
--- RFC 3961, appendix A.1: each text with the octets of its n-fold
+-- RFC 3961, appendix A.1: each text with the bytes of its n-fold
 
 pub n_fold-012345 : n_fold (codes "012345") 8 ≡
     0xbe ∷ 0x07 ∷ 0x26 ∷ 0x31 ∷ 0x27 ∷ 0x6b ∷ 0x19 ∷ 0x55 ∷ []

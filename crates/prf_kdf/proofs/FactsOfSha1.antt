@@ -1,4 +1,4 @@
--- The standards' examples of the definitions themselves over SHA-1, so that a wrong definition does not check.
+-- The standards' examples for the definitions over SHA-1, so that a wrong definition does not check.
 use Rattle.std.proofs.Common.{◌≡◌, [], ◌∷◌, codes, refl}
 use Rattle.sha1.specs.Sha1.{first_words, schedule, rounds, compress, hash_after, digest_bytes, sha1}
 use Rattle.prf_kdf.specs.Hmac.{key_block, hmac, hmac_sha1}
@@ -11,7 +11,7 @@ pub hmac_sha1-jefe : hmac_sha1 (codes "Jefe") (codes "what do ya want for nothin
 unfolding first_words schedule rounds compress hash_after digest_bytes sha1 key_block hmac
 hmac_sha1-jefe = refl
 
--- the examples of RFC 3962, appendix B with one and two iterations
+-- the examples of RFC 3962, appendix B, with one and two iterations
 pub pbkdf2_sha1-one : pbkdf2_sha1 (codes "password") (codes "ATHENA.MIT.EDUraeburn") 1 16 ≡
     0xcd ∷ 0xed ∷ 0xb5 ∷ 0x28 ∷ 0x1b ∷ 0xb2 ∷ 0xf8 ∷ 0x01 ∷ 0x56 ∷ 0x5a ∷ 0x11 ∷ 0x22 ∷ 0xb2 ∷ 0x56 ∷ 0x35 ∷ 0x15 ∷ []
 unfolding first_words schedule rounds compress hash_after digest_bytes sha1 key_block hmac

@@ -1,4 +1,4 @@
--- The standards' examples of the definitions themselves over SHA-256, so that a wrong definition does not check.
+-- The standards' examples for the definitions over SHA-256, so that a wrong definition does not check.
 use Rattle.std.proofs.Common.{◌≡◌, [], ◌∷◌, codes, refl}
 use Rattle.sha2.specs.Sha256.{first_words, schedule, rounds, compress, hash_after, digest_bytes, sha256}
 use Rattle.prf_kdf.specs.Hmac.{key_block, hmac, hmac_sha256}
@@ -11,7 +11,7 @@ pub hmac_sha256-jefe : hmac_sha256 (codes "Jefe") (codes "what do ya want for no
 unfolding first_words schedule rounds compress hash_after digest_bytes sha256 key_block hmac
 hmac_sha256-jefe = refl
 
--- Kc of RFC 8009, appendix A: usage 2, with the octet 99
+-- Kc of RFC 8009, appendix A: usage 2, with the byte 99
 pub kdf_sha256-kc : kdf_sha256
     (0x37 ∷ 0x05 ∷ 0xd9 ∷ 0x60 ∷ 0x80 ∷ 0xc1 ∷ 0x77 ∷ 0x28 ∷ 0xa0 ∷ 0xe8 ∷ 0x00 ∷ 0xea ∷ 0xb6 ∷ 0xe0 ∷ 0xd2 ∷ 0x3c ∷ [])
     (0x00 ∷ 0x00 ∷ 0x00 ∷ 0x02 ∷ 0x99 ∷ []) 16 ≡

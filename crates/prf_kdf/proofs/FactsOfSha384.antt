@@ -1,4 +1,4 @@
--- The standards' examples of the definitions themselves over SHA-384, so that a wrong definition does not check.
+-- The standards' examples for the definitions over SHA-384, so that a wrong definition does not check.
 use Rattle.std.proofs.Common.{◌≡◌, [], ◌∷◌, codes, refl}
 use Rattle.sha2.specs.Sha512.{first_words, schedule, rounds, compress, hash_after, digest_bytes, sha384}
 use Rattle.prf_kdf.specs.Hmac.{key_block, hmac, hmac_sha384}
@@ -12,7 +12,7 @@ pub hmac_sha384-jefe : hmac_sha384 (codes "Jefe") (codes "what do ya want for no
 unfolding first_words schedule rounds compress hash_after digest_bytes sha384 key_block hmac
 hmac_sha384-jefe = refl
 
--- Kc of RFC 8009, appendix A: usage 2, with the octet 99
+-- Kc of RFC 8009, appendix A: usage 2, with the byte 99
 pub kdf_sha384-kc : kdf_sha384
     (0x6d ∷ 0x40 ∷ 0x4d ∷ 0x37 ∷ 0xfa ∷ 0xf7 ∷ 0x9f ∷ 0x9d ∷ 0xf0 ∷ 0xd3 ∷ 0x35 ∷ 0x68 ∷ 0xd3 ∷ 0x20 ∷ 0x66 ∷ 0x98 ∷
     0x00 ∷ 0xeb ∷ 0x48 ∷ 0x36 ∷ 0x47 ∷ 0x2e ∷ 0xa8 ∷ 0xa0 ∷ 0x26 ∷ 0xd1 ∷ 0x6b ∷ 0x71 ∷ 0x82 ∷ 0x46 ∷ 0x0c ∷ 0x52 ∷ [])

@@ -39,7 +39,7 @@ length-octets_xor (x ∷ xs) (y ∷ ys) same =
     let tail : length (octets_xor xs ys) ≡ length xs = length-octets_xor xs ys (omega arith) in
     omega arith
 
--- of a pseudorandom function whose values all have one length
+-- for a pseudorandom function whose values all have the same length
 pub length-iterate : (prf : List ℕ → List ℕ) (size : ℕ) → ((m : List ℕ) → length (prf m) ≡ size) → (u : List ℕ) (n : ℕ)
     → length u ≡ size → length (iterate prf u n) ≡ size
 unfolding iterate

@@ -1,4 +1,4 @@
--- The lengths of what the definitions give. The crates above may cite these.
+-- The lengths of what the definitions return. Crates above may cite these.
 use Rattle.std.proofs.Common.{◌≡◌, ℕ, ◌≤◌, ◌<◌, List, length, arith}
 use Rattle.std.specs.Int.{div_ceil}
 use Rattle.std.proofs.lemmas.Grind.{div_ceil_times}

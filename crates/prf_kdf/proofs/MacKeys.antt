@@ -1,4 +1,4 @@
--- What the hashers of a key give is the HMAC under that key.
+-- The hashers for a key compute the HMAC with that key.
 use Rattle.std.proofs.Common.{◌≡◌, ℕ, List}
 use Rattle.sha1.specs.Sha1.{sha1}
 use Rattle.sha1.specs.Sha1.{Holds as Holds1}

@@ -25,7 +25,7 @@ positive n (suc g) some whole = omega arith
 pub gcd_positive : (n m g : ℕ) → 0 < n → IsGcd n m g → 0 < g
 gcd_positive n m g some is = positive n g some (mod-eq-zero_of_dvd g is.0)
 
--- how often two lengths fit into their least common multiple
+-- how often two lengths fit in their least common multiple
 pub record FitsLcm (n m g : ℕ) : Type 0 where
   pub pieces : lcm n m / m ≡ n / g
   pub copies : lcm n m / n ≡ m / g

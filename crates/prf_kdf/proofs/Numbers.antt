@@ -1,4 +1,4 @@
--- The number that octets spell, and its octets.
+-- The number that bytes spell, and its bytes.
 use Rattle.std.proofs.Common.{◌≡◌, ℕ, zero, suc, ◌+◌, ◌-◌, ◌*◌, ◌/◌, ◌%◌, ◌^◌}
 use Rattle.std.proofs.Common.{◌≤◌, ◌<◌, List, [], ◌∷◌, ◌++◌, take, drop, length, replicate}
 use Rattle.std.proofs.Common.{get_or, set, refl, sym, ap, ◌∙◌, arith, length-append, length-drop, take-append-drop}
@@ -22,7 +22,7 @@ pub number_one : (x : ℕ) → number (x ∷ []) ≡ x
 unfolding number
 number_one x = omega arith
 
--- octets spell a number below the power of their length
+-- n bytes spell a number below 2^(8 n)
 pub number-lt : (xs : List ℕ) → ((i : ℕ) → get_or xs i 0 < 256) → number xs < 2 ^ (8 * length xs)
 unfolding number
 number-lt [] octets = pow_pos 0
@@ -34,7 +34,7 @@ number-lt (x ∷ xs) octets =
     let e : 8 * suc (length xs) ≡ 8 * (length xs + 1) = omega arith in ap (λ n. 2 ^ n) e ∙ next_power (length xs) in
     omega arith
 
--- a write of an octet leaves octets
+-- writing a byte leaves bytes
 pub set-lt : (xs : List ℕ) (i x : ℕ) → ((j : ℕ) → get_or xs j 0 < 256) → x < 256 → (j : ℕ)
     → get_or (set xs i x) j 0 < 256
 set-lt [] i x octets small j = octets j
@@ -43,7 +43,7 @@ set-lt (y ∷ ys) zero x octets small (suc j) = octets (suc j)
 set-lt (y ∷ ys) (suc i) x octets small zero = octets 0
 set-lt (y ∷ ys) (suc i) x octets small (suc j) = set-lt ys i x (λ j. octets (suc j)) small j
 
--- the front of the octets spells a quotient
+-- the front of the bytes spells a quotient
 pub number-take : (xs : List ℕ) (n k : ℕ) → ((i : ℕ) → get_or xs i 0 < 256) → n + k ≡ length xs
     → number xs / 2 ^ (8 * k) ≡ number (take n xs)
 number-take xs n k octets len =
@@ -87,7 +87,7 @@ get_or-octets_of zero x i k len = absurd (omega arith)
 get_or-octets_of (suc n) x zero k len = let e : n ≡ k = omega arith in rw e refl
 get_or-octets_of (suc n) x (suc i) k len = get_or-octets_of n x i k (omega arith)
 
--- the number that the octets of a number spell
+-- the number that the bytes of a number spell
 pub number-octets_of : (n x : ℕ) → number (octets_of n x) ≡ x % 2 ^ (8 * n)
 unfolding number octets_of
 number-octets_of zero x = omega arith
@@ -95,7 +95,7 @@ number-octets_of (suc n) x =
     let e : 8 * suc n ≡ 8 + 8 * n = omega arith in
     rw (length-octets_of n x, number-octets_of n x, e) (sym (mod-pow-add x 8 (8 * n)))
 
--- the octets of the number that octets spell
+-- the bytes of the number that bytes spell
 pub octets_of-number : (xs : List ℕ) → ((i : ℕ) → get_or xs i 0 < 256) → octets_of (length xs) (number xs) ≡ xs
 octets_of-number xs octets =
     ext_get_or 0 (octets_of (length xs) (number xs)) xs (length-octets_of (length xs) (number xs))

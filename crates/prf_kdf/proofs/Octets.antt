@@ -1,4 +1,4 @@
--- What the definitions give is octets, also where what they are given is not. The crates above may cite these.
+-- The definitions return bytes, even for arguments that are not bytes. Crates above may cite these.
 use Rattle.std.proofs.Common.{ℕ, zero, suc, ◌*◌, ◌<◌, ◌/◌, ◌%◌, ◌^◌, List, All, arith}
 use Rattle.std.specs.Int.{byte_at, bytes_high_first}
 use Rattle.std.specs.Prelude.{slice_index}
@@ -10,7 +10,7 @@ use Rattle.prf_kdf.specs.Fold.{octets_of, n_fold}
 use Rattle.prf_kdf.specs.Hmac.{hmac, hmac_sha256, hmac_sha384}
 use Rattle.prf_kdf.specs.Kdf.{kdf_input, kdf_sha256, kdf_sha384}
 
--- ---- numbers as octets
+-- ---- numbers as bytes
 
 byte_at-lt : (i n : ℕ) → byte_at i n < 256
 byte_at-lt zero n = omega arith

@@ -1,4 +1,4 @@
--- Adding numbers octet by octet, with carry.
+-- Adding numbers byte by byte, with carry.
 use Rattle.std.proofs.Common.{◌≡◌, ℕ, zero, suc, ◌+◌, ◌*◌, ◌^◌, ◌≤◌, ◌<◌, List}
 use Rattle.std.proofs.Common.{take, drop, length, get_or, set, refl, ap, arith, add-one}
 use Rattle.std.proofs.lemmas.List.{drop-set-lt, get_or-set_same, length-set}
@@ -9,7 +9,7 @@ digit : (P N A B c t p x d : ℕ) → c * P + N ≡ A + B → c + t + p ≡ 256 
     → d * (256 * P) + (x * P + N) ≡ (t * P + A) + (p * P + B)
 digit P N A B c t p x d sum here = omega (arith, ap (λ (n : ℕ). n * P) here)
 
--- one octet more, from the end: to octet i of the total goes the octet p and the carry c, which leaves x and the carry d
+-- one more byte, from the end: byte p and carry c are added to byte i of the total, which leaves x and the carry d
 pub sum_more : (total old : List ℕ) (i j k c p x d B : ℕ) → length total ≡ length old → j ≡ i + 1 → k + j ≡ length old
     → get_or total i 0 ≡ get_or old i 0
     → c * 2 ^ (8 * k) + number (drop j total) ≡ number (drop j old) + B

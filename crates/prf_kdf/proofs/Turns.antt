@@ -1,4 +1,4 @@
--- An octet of a turned copy is cut out of two octets of the input that stand side by side.
+-- A byte of a rotated copy is cut out of two adjacent bytes of the input.
 use Rattle.std.proofs.Common.{◌≡◌, ℕ, ◌+◌, ◌-◌, ◌*◌, ◌/◌, ◌%◌, ◌^◌, ◌≤◌, ◌<◌, List}
 use Rattle.std.proofs.Common.{◌++◌, take, length, get_or, sym, ap, ◌∙◌, arith, ⊎_elim, length-append}
 use Rattle.std.proofs.Math.Nat.{mul-add-div_right}
@@ -16,7 +16,7 @@ twice_split x P W R A B power split = omega (arith, ap (λ m. x * m) power)
 high_split : (x P W R A B : ℕ) → P ≡ W * R → A * R + B ≡ x → x * W + A ≡ A * P + (B * W + A)
 high_split x P W R A B power split = omega (arith, ap (λ m. A * m) power, ap (λ m. m * W) split)
 
--- a number of n bits turned right: n bits of the number written twice
+-- a number of n bits rotated right is n bits of the number written twice
 pub turned : (n r x : ℕ) → r ≤ n → x < 2 ^ n → x / 2 ^ r + x % 2 ^ r * 2 ^ (n - r) ≡ (x * 2 ^ n + x) / 2 ^ r % 2 ^ n
 turned n r x fits below =
     let A : ℕ = x / 2 ^ r in
@@ -47,7 +47,7 @@ field n r k z fits =
     ∙ mod-mod-pow (z / 2 ^ r / 2 ^ k) (n - k - 8) 8
     ∙ ap (λ m. m % 2 ^ 8) (shr-shr z r k)
 
--- what stands above two octets doesn't reach the eight bits that begin in them
+-- the bits above two bytes don't reach the eight bits that begin in them
 pair_of : (high pair o : ℕ) → o < 8 → (high * 65536 + pair) / 2 ^ o % 256 ≡ pair / 2 ^ o % 256
 pair_of high pair o small =
     let Q : ℕ = 2 ^ (8 - o) in
@@ -59,7 +59,7 @@ pair_of high pair o small =
     ∙ ap (λ m. m % 256) (mul-add-div_right (pow_pos o) (high * Q * 256) pair)
     ∙ omega arith
 
--- eight bits of the number that octets spell
+-- eight bits of the number that bytes spell
 window : (xs : List ℕ) (p o k : ℕ) → ((i : ℕ) → get_or xs i 0 < 256) → o < 8 → k + (p + 2) ≡ length xs
     → number xs / 2 ^ (8 * k + o) % 256 ≡ (get_or xs p 0 * 256 + get_or xs (p + 1) 0) / 2 ^ o % 256
 window xs p o k octets small len =
@@ -91,7 +91,7 @@ octets_twice xs octets i = ⊎_elim
     rw e (octets (i - length xs)))
     (cases_lt i (length xs))
 
--- octet `at` of the copies
+-- byte `at` of the copies
 pub octet_of_copies_is : (xs : List ℕ) (at shift : ℕ) → ((i : ℕ) → get_or xs i 0 < 256) → 0 < length xs
     → shift ≡ 13 * (at / length xs) % (8 * length xs) + 8 * (length xs - 1 - at % length xs)
     → (get_or xs ((2 * length xs - 1 - shift / 8 - 1) % length xs) 0 * 256

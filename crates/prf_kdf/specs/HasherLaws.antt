@@ -1,4 +1,4 @@
--- The laws that the impls of `Hasher` give.
+-- The laws that the impls of `Hasher` provide.
 use Rattle.std.proofs.Common.{◌≡◌, ℕ, List, length, arith, refl}
 use Rattle.sha1.specs.Sha1.{sha1, digest_bytes}
 use Rattle.sha2.specs.Sha256.{sha256}

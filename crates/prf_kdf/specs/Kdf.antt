@@ -7,7 +7,7 @@ use Rattle.prf_kdf.specs.Hmac.{hmac_sha256, hmac_sha384}
 abbrev pub kdf_input : List ℕ → ℕ → List ℕ
 kdf_input label len = 0 ∷ 0 ∷ 0 ∷ 1 ∷ (label ++ 0 ∷ to_be_bytes w32 (8 * len))
 
--- the first len octets of the pseudorandom function of that, where the function is the HMAC under the key
+-- the first len bytes of the pseudorandom function of that, where the function is the HMAC with the key
 abbrev pub kdf_sha2 : (List ℕ → List ℕ) → List ℕ → ℕ → List ℕ
 kdf_sha2 prf label len = take len (prf (kdf_input label len))
 

@@ -4,5 +4,5 @@ pub mod Kdf
 pub mod Fold
 pub mod Hasher
 pub mod MacKeys
--- laws that proofs cite: no reader of a contract needs them
+-- laws that proofs cite; readers of a contract don't need them
 pub mod HasherLaws

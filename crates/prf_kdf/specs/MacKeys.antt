@@ -1,4 +1,4 @@
--- What is known of the hashers of HMAC under a key.
+-- The hashers of HMAC with one key.
 use Rattle.std.specs.Prelude.{ℕ, List}
 use Rattle.sha1.specs.Sha1.{sha1}
 use Rattle.sha1.specs.Sha1.{Holds as Holds1}
@@ -12,7 +12,7 @@ use Rattle.prf_kdf.specs.Hasher.{HoldsKeyBlock}
 use Rattle.prf_kdf.specs.Hmac.{key_block}
 use Rattle.prf_kdf.specs.declared.hmac.HmacKey.{HmacKey}
 
--- those of the three hash functions
+-- for the three hash functions
 abbrev pub HmacSha1 : Type 0
 HmacSha1 = HmacKey Sha1
 
@@ -22,7 +22,7 @@ HmacSha256 = HmacKey Sha256
 abbrev pub HmacSha384 : Type 0
 HmacSha384 = HmacKey Sha384
 
--- the hashers are those of the key with SHA-1
+-- the hashers are those for the key with SHA-1
 abbrev pub IsSha1Key : HmacSha1 → List ℕ → Type 0
 IsSha1Key hashers key = HoldsKeyBlock Holds1 hashers.inner hashers.outer (key_block sha1 64 key)
 

@@ -1,27 +1,26 @@
 //! The n-fold of RFC 3961, section 5.1.
 //!
-//! The constants of usages are folded to a block: their copies are numbers, added as they stand. Their length is a
-//! constant, so that the compiler knows how far each copy is turned. Otherwise the copies of the input are never
-//! written down: each of their octets is cut out of the input when it is added. Places in them are `u128`, since there
-//! may be more than a `usize` counts.
+//! Usage constants, which all have the same length, are folded to a block by a fast path: their copies are added as
+//! whole numbers. Their length is a constant, so the compiler knows how far each copy is rotated. In all other cases
+//! the copies are never stored: each byte is computed from the input when it is added. Indices into the copies are
+//! `u128`, since there may be more than a `usize` can count.
 
 ghost use Rattle.std.specs.Prelude.{◌≡◌, ◌<◌, ◌≤◌, ◌+◌, ◌*◌, ◌%◌, ◌^◌, length};
 ghost use Rattle.std.specs.Int.{IsGcd};
 ghost use Rattle.prf_kdf.specs.Fold.{number, octets_of, octet_of_copies, piece_of_copies, n_fold};
 ghost use Rattle.prf_kdf.specs.Fold.{rotate_right, end_around_carry};
 
-// The octets of the constant of a usage (RFC 3961, section 5.3), and its bits.
+// The length of a usage constant (RFC 3961, section 5.3) in bytes, and in bits.
 const CONSTANT_LEN: usize = 5;
 
 const CONSTANT_BITS: u32 = 40;
 
-// The octets of a block. So many copies of a constant of five octets are whole blocks, and fewer are not.
+// The length of a block in bytes. It is also the least number of copies of a five-byte constant that fill whole blocks.
 const BLOCK_LEN: usize = 16;
 
-/// Fills `out` with the n-fold of the input, for n the bits of `out` (RFC 3961, section 5.1): copies of
-/// the input, each rotated right by 13 bits more than the one before, up to the least common
-/// multiple of both lengths, are cut into pieces as long as `out` and added as big-endian numbers with
-/// end-around carry.
+/// Fills `out` with the n-fold of the input, where n is the length of `out` in bits (RFC 3961, section 5.1). It takes
+/// copies of the input, each rotated right by 13 bits more than the one before, up to the least common multiple of both
+/// lengths. It cuts them into pieces as long as `out`, and adds these as big-endian numbers with end-around carry.
 pub fn n_fold(input: &[u8], out: &mut [u8])
     requires input { 0 < length input.now }
     requires out { 0 < length out.old }
@@ -34,9 +33,8 @@ pub fn n_fold(input: &[u8], out: &mut [u8])
     }
 }
 
-// The n-fold of a usage's constant to a block, as a number. Under end-around carry 2^128 counts as 1, so
-// that the copies need not be cut into pieces: what stands before a copy is turned left by the copy's
-// bits, and the copy is added.
+// Returns the n-fold of a usage constant to a block, as a number. With end-around carry 2^128 counts as 1, so the
+// copies need not be cut into pieces: it rotates the total left by the bits of a copy, and adds the copy.
 fn fold_to_block(input: &[u8]) -> u128
     requires { length input.now ≡ 5 }
     ensures { octets_of 16 result ≡ n_fold input.now 16 }
@@ -54,7 +52,7 @@ fn fold_to_block(input: &[u8]) -> u128
     total
 }
 
-// The number that the octets spell.
+// Returns the number that the bytes spell.
 fn word_of(octets: &[u8]) -> u64
     requires { length octets.now ≡ 5 }
     ensures value { result ≡ number octets.now }
@@ -67,7 +65,7 @@ fn word_of(octets: &[u8]) -> u64
     word
 }
 
-// A number of so many bits, turned right.
+// Rotates a number of this many bits to the right.
 fn turned_right(word: u64, bits: u32, turn: u32) -> u128
     requires bits { bits ≤ 64 }
     requires turn { turn < bits }
@@ -79,7 +77,7 @@ fn turned_right(word: u64, bits: u32, turn: u32) -> u128
     twice >> turn & ((1 << bits) - 1)
 }
 
-// How far the next copy is turned.
+// Returns how far the next copy is rotated.
 fn next_turn(turn: u32, bits: u32) -> u32
     requires bits { bits ≤ 64 }
     requires turn { turn < bits }
@@ -89,7 +87,7 @@ fn next_turn(turn: u32, bits: u32) -> u32
     if sum < bits { sum } else { sum - bits }
 }
 
-// The sum with end-around carry.
+// Adds with end-around carry.
 fn sum_around(a: u128, b: u128) -> u128
     ensures { result ≡ end_around_carry 128 (a + b) }
 {
@@ -97,7 +95,7 @@ fn sum_around(a: u128, b: u128) -> u128
     if carry { sum + 1 } else { sum }
 }
 
-// The n-fold of an input of any length to any length.
+// Folds an input of any length to any length.
 fn fold_by_pieces(input: &[u8], out: &mut [u8])
     requires input { 0 < length input.now }
     requires out { 0 < length out.old }
@@ -112,7 +110,7 @@ fn fold_by_pieces(input: &[u8], out: &mut [u8])
     }
 }
 
-// The greatest common divisor.
+// Returns the greatest common divisor.
 fn gcd(mut a: usize, mut b: usize) -> usize
     ensures { IsGcd a b result }
 {
@@ -122,7 +120,7 @@ fn gcd(mut a: usize, mut b: usize) -> usize
     a
 }
 
-// Adds the piece of the copies from octet `start` on to the total, as numbers, and gives the carry.
+// Adds the piece of the copies that starts at byte `start` to the total, as numbers, and returns the carry.
 fn add_piece(total: &mut [u8], input: &[u8], start: u128) -> u8
     requires input { 0 < length input.now }
     requires start { start + length total.old ≤ length input.now * 2 ^ 64 }
@@ -156,8 +154,7 @@ fn add_carry(total: &mut [u8], carry: u8)
     }
 }
 
-// Octet `at` of the copies of the input, one behind the other, each turned right by 13 bits more
-// than the one before.
+// Returns byte `at` of the concatenated copies of the input, each rotated right by 13 bits more than the one before.
 fn octet_of_copies(input: &[u8], at: u128) -> u8
     requires input { 0 < length input.now }
     requires at { at < length input.now * 2 ^ 64 }
@@ -166,7 +163,7 @@ fn octet_of_copies(input: &[u8], at: u128) -> u8
     let len = input.len();
     let turn = 13 * (at / len as u128) % (8 * len as u128);
     let place = at % len as u128;
-    // The bits behind this octet in the input written twice over, in which no copy's octet is cut.
+    // How many bits follow this byte in the input written twice, where no byte of a copy is split.
     let behind = turn + 8 * (len as u128 - 1 - place);
     let last = 2 * len - 1 - (behind / 8) as usize;
     let pair = u16::from(input[(last - 1) % len]) * 256 + u16::from(input[last % len]);

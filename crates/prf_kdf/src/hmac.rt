@@ -10,33 +10,33 @@ use crate::hasher::Hasher;
 use sha1::Sha1;
 use sha2::{Sha256, Sha384};
 
-// The longest block of the three hash functions, in octets.
+// The longest block length of the three hash functions, in bytes.
 pub const LONGEST_BLOCK: usize = 128;
 
-// The octets that each octet of the key is masked with (RFC 2104, section 2).
+// The bytes with which each byte of the key is masked (RFC 2104, section 2).
 const INNER_MASK: u8 = 0x36;
 
 const OUTER_MASK: u8 = 0x5c;
 
-/// HMAC under one key: hashers that have taken in the key's block under the two masks. Each MAC goes
-/// on from copies of them, so that many MACs under one key hash the key once.
+/// HMAC with one key: hashers that have hashed the key's block with the two masks. Each MAC starts from copies of them,
+/// so the key is hashed only once for any number of MACs.
 #[derive(Drop)]
 pub struct HmacKey<H> {
     pub inner: H,
     pub outer: H,
 }
 
-/// HMAC-SHA-1 under one key.
+/// HMAC-SHA-1 with one key.
 pub type HmacSha1 = HmacKey<Sha1>;
 
-/// HMAC-SHA-256 under one key.
+/// HMAC-SHA-256 with one key.
 pub type HmacSha256 = HmacKey<Sha256>;
 
-/// HMAC-SHA-384 under one key.
+/// HMAC-SHA-384 with one key.
 pub type HmacSha384 = HmacKey<Sha384>;
 
 impl<H: Hasher> HmacKey<H> {
-    /// Takes the key in.
+    /// Hashes the key.
     pub fn new(key: &[u8]) -> Self
         ensures { HoldsKeyBlock H.Holds result.inner result.outer (key_block H.hash H.BLOCK_LEN key.now) }
     {
@@ -48,7 +48,7 @@ impl<H: Hasher> HmacKey<H> {
         }
     }
 
-    /// Writes the MAC of the parts, taken one after the other as one text.
+    /// Writes the MAC of the concatenated parts.
     pub fn write_mac(&self, parts: &[&[u8]], out: &mut [u8])
         requires { length out.old ≡ H.SIZE }
         ensures len { length out.new ≡ H.SIZE }
@@ -64,8 +64,7 @@ impl<H: Hasher> HmacKey<H> {
     }
 }
 
-/// The HMAC-SHA-1 of the parts, taken one after the other as one text, under the key
-/// (RFC 2104): 20 octets. An empty part adds nothing.
+/// Returns the HMAC-SHA-1 of the concatenated parts with the key (RFC 2104): 20 bytes. Empty parts are allowed.
 pub fn hmac_sha1(key: &[u8], parts: &[&[u8]]) -> [u8; 20]
     ensures { result ≡ hmac_sha1 key.now (flat_map (λ part. part.now) parts.now) }
 {
@@ -74,8 +73,8 @@ pub fn hmac_sha1(key: &[u8], parts: &[&[u8]]) -> [u8; 20]
     mac
 }
 
-/// The HMAC-SHA-256 of the parts, taken one after the other as one text, under the key
-/// (RFC 2104, RFC 4231): 32 octets. An empty part adds nothing.
+/// Returns the HMAC-SHA-256 of the concatenated parts with the key (RFC 2104, RFC 4231): 32 bytes. Empty parts are
+/// allowed.
 pub fn hmac_sha256(key: &[u8], parts: &[&[u8]]) -> [u8; 32]
     ensures { result ≡ hmac_sha256 key.now (flat_map (λ part. part.now) parts.now) }
 {
@@ -84,8 +83,8 @@ pub fn hmac_sha256(key: &[u8], parts: &[&[u8]]) -> [u8; 32]
     mac
 }
 
-/// The HMAC-SHA-384 of the parts, taken one after the other as one text, under the key
-/// (RFC 2104, RFC 4231): 48 octets. An empty part adds nothing.
+/// Returns the HMAC-SHA-384 of the concatenated parts with the key (RFC 2104, RFC 4231): 48 bytes. Empty parts are
+/// allowed.
 pub fn hmac_sha384(key: &[u8], parts: &[&[u8]]) -> [u8; 48]
     ensures { result ≡ hmac_sha384 key.now (flat_map (λ part. part.now) parts.now) }
 {
@@ -94,7 +93,7 @@ pub fn hmac_sha384(key: &[u8], parts: &[&[u8]]) -> [u8; 48]
     mac
 }
 
-// Writes the HMAC of the parts under the key.
+// Writes the HMAC of the parts with the key.
 #[tactic(auto, unfolding(crate::specs::Hmac::hmac))]
 pub fn write_hmac<H: Hasher>(key: &[u8], parts: &[&[u8]], out: &mut [u8])
     requires { length out.old ≡ H.SIZE }
@@ -104,7 +103,7 @@ pub fn write_hmac<H: Hasher>(key: &[u8], parts: &[&[u8]], out: &mut [u8])
     HmacKey::<H>::new(key).write_mac(parts, out);
 }
 
-// Adds the parts to the hasher's message.
+// Appends the parts to the hasher's message.
 fn absorb<H: Hasher>(hasher: &mut H, parts: &[&[u8]])
     ensures { (m : List ℕ) → H.Holds hasher.old m
         → H.Holds hasher.new (m ++ flat_map (λ part. part.now) parts.now) }
@@ -114,7 +113,7 @@ fn absorb<H: Hasher>(hasher: &mut H, parts: &[&[u8]])
     }
 }
 
-// The key as one block: what lies behind the block's length is zero.
+// Returns the key as one block, padded with zeros.
 fn key_block<H: Hasher>(key: &[u8]) -> [u8; LONGEST_BLOCK]
     ensures { take H.BLOCK_LEN result ≡ key_block H.hash H.BLOCK_LEN key.now }
 {
@@ -129,7 +128,7 @@ fn key_block<H: Hasher>(key: &[u8]) -> [u8; LONGEST_BLOCK]
     block_of(digest)
 }
 
-// The octets, with zeros behind them.
+// Returns the bytes, padded with zeros.
 pub fn block_of(octets: &[u8]) -> [u8; LONGEST_BLOCK]
     requires { length octets.now ≤ LONGEST_BLOCK }
     ensures { result ≡ block_of LONGEST_BLOCK octets.now }
@@ -139,7 +138,7 @@ pub fn block_of(octets: &[u8]) -> [u8; LONGEST_BLOCK]
     block
 }
 
-// A hasher that has taken in the masked block.
+// Returns a hasher that has hashed the masked block.
 fn masked_hasher<H: Hasher>(block: &[u8], mask: u8) -> H
     requires { length block.now ≤ LONGEST_BLOCK }
     ensures { H.Holds result (masked_octets mask block.now) }

@@ -1,4 +1,4 @@
-//! The key derivation of the encryption types 19 and 20, KDF-HMAC-SHA2 (RFC 8009, section 3).
+//! KDF-HMAC-SHA2 (RFC 8009, section 3), the key derivation of encryption types 19 and 20.
 
 ghost use Rattle.std.specs.Prelude.{◌≡◌, ◌≤◌, ◌*◌, ℕ, List, length};
 ghost use Rattle.prf_kdf.specs.Hasher.{HoldsKeyBlock};
@@ -9,11 +9,11 @@ use crate::hasher::Hasher;
 use crate::hmac::{HmacKey, LONGEST_BLOCK, hmac_sha256, hmac_sha384};
 use sha2::{Sha256, Sha384};
 
-// The number of the block of key material: there is only one.
+// The index of the block of key material; there is only one.
 const BLOCK_NUMBER: [u8; 4] = [0, 0, 0, 1];
 
-/// Fills `out` with the key that KDF-HMAC-SHA2 derives by SHA-256 from the key and the label,
-/// without a context (RFC 8009, section 3). At most 32 octets can be derived.
+/// Fills `out` with the key that KDF-HMAC-SHA2 derives with SHA-256 from the key and the label, without a context (RFC
+/// 8009, section 3). At most 32 bytes can be derived.
 pub fn kdf_sha256(key: &[u8], label: &[u8], out: &mut [u8])
     requires { length out.old ≤ 32 }
     ensures { out.new ≡ kdf_sha256 key.now label.now (length out.old) }
@@ -23,8 +23,8 @@ pub fn kdf_sha256(key: &[u8], label: &[u8], out: &mut [u8])
     out.copy_from_slice(&mac[..out.len()]);
 }
 
-/// Fills `out` with the key that KDF-HMAC-SHA2 derives by SHA-384 from the key and the label,
-/// without a context (RFC 8009, section 3). At most 48 octets can be derived.
+/// Fills `out` with the key that KDF-HMAC-SHA2 derives with SHA-384 from the key and the label, without a context (RFC
+/// 8009, section 3). At most 48 bytes can be derived.
 pub fn kdf_sha384(key: &[u8], label: &[u8], out: &mut [u8])
     requires { length out.old ≤ 48 }
     ensures { out.new ≡ kdf_sha384 key.now label.now (length out.old) }
@@ -34,8 +34,8 @@ pub fn kdf_sha384(key: &[u8], label: &[u8], out: &mut [u8])
     out.copy_from_slice(&mac[..out.len()]);
 }
 
-/// Fills each `out` with the key that KDF-HMAC-SHA2 derives by SHA-256 from the one key and the label before it, as
-/// `kdf_sha256` does. The key is hashed once.
+/// Fills each `out` with the key that KDF-HMAC-SHA2 derives with SHA-256 from the key and the label before it, like
+/// `kdf_sha256`. The key is hashed once.
 pub fn kdf_sha256_both(
     key: &[u8],
     label: &[u8],
@@ -53,8 +53,8 @@ pub fn kdf_sha256_both(
     derive(&prf, other_label, other_out);
 }
 
-/// Fills each `out` with the key that KDF-HMAC-SHA2 derives by SHA-384 from the one key and the label before it, as
-/// `kdf_sha384` does. The key is hashed once.
+/// Fills each `out` with the key that KDF-HMAC-SHA2 derives with SHA-384 from the key and the label before it, like
+/// `kdf_sha384`. The key is hashed once.
 pub fn kdf_sha384_both(
     key: &[u8],
     label: &[u8],
@@ -72,7 +72,7 @@ pub fn kdf_sha384_both(
     derive(&prf, other_label, other_out);
 }
 
-// Fills `out` with what is derived under a key that was taken in.
+// Fills `out` with the key derived from the label, for a key that was hashed before.
 fn derive<H: Hasher>(prf: &HmacKey<H>, label: &[u8], out: &mut [u8])
     requires { length out.old ≤ H.SIZE }
     ensures { (block : List ℕ) → HoldsKeyBlock H.Holds prf.now.inner prf.now.outer block

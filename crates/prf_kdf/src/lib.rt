@@ -1,14 +1,14 @@
-//! The derivations under Kerberos's encryption types: HMAC over three hashes, PBKDF2, n-fold and
-//! the key derivation of RFC 8009. None takes memory, and each gives exactly what its definition in
-//! `specs/` does, over the definitions of the hashes in the crates `sha1` and `sha2`.
+//! The derivations that Kerberos's encryption types use: HMAC with three hash functions, PBKDF2, n-fold and the key
+//! derivation of RFC 8009. None allocates. Each returns exactly what its definition in `specs/` says, over the
+//! definitions of the hash functions in the crates `sha1` and `sha2`.
 //!
 //! | call | standard | fills or returns |
 //! |---|---|---|
-//! | [`hmac_sha1`], [`hmac_sha256`], [`hmac_sha384`] | RFC 2104, RFC 4231 | 20, 32, 48 octets |
-//! | [`HmacKey::new`], [`HmacKey::write_mac`] | the same | many MACs under one key, which is hashed once |
+//! | [`hmac_sha1`], [`hmac_sha256`], [`hmac_sha384`] | RFC 2104, RFC 4231 | 20, 32, 48 bytes |
+//! | [`HmacKey::new`], [`HmacKey::write_mac`] | the same | many MACs with one key, which is hashed once |
 //! | [`pbkdf2_sha1`], [`pbkdf2_sha256`], [`pbkdf2_sha384`] | RFC 8018, section 5.2 | a slice of up to 2^32 - 1 blocks |
-//! | [`n_fold`] | RFC 3961, section 5.1 | a slice of any length but none |
-//! | [`kdf_sha256`], [`kdf_sha384`] | RFC 8009, section 3 | a slice of at most 32, 48 octets |
+//! | [`n_fold`] | RFC 3961, section 5.1 | a slice of any length except 0 |
+//! | [`kdf_sha256`], [`kdf_sha384`] | RFC 8009, section 3 | a slice of at most 32, 48 bytes |
 //! | [`kdf_sha256_both`], [`kdf_sha384_both`] | the same | two such slices, from one key |
 #![tactic(auto)]
 

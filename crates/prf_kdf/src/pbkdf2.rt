@@ -10,8 +10,8 @@ use crate::hmac::{HmacKey, LONGEST_BLOCK, block_of};
 use sha1::Sha1;
 use sha2::{Sha256, Sha384};
 
-/// Fills `out` with the key that PBKDF2-HMAC-SHA-1 derives from the password, the salt and the
-/// count of iterations (RFC 8018, section 5.2).
+/// Fills `out` with the key that PBKDF2-HMAC-SHA-1 derives from the password, the salt and the iteration count (RFC
+/// 8018, section 5.2).
 pub fn pbkdf2_sha1(password: &[u8], salt: &[u8], count: u32, out: &mut [u8])
     requires count { 1 ≤ count }
     requires blocks { length out.old ≤ 4294967295 * 20 }
@@ -20,8 +20,8 @@ pub fn pbkdf2_sha1(password: &[u8], salt: &[u8], count: u32, out: &mut [u8])
     derive::<Sha1>(password, salt, count, out);
 }
 
-/// Fills `out` with the key that PBKDF2-HMAC-SHA-256 derives from the password, the salt and the
-/// count of iterations (RFC 8018, section 5.2).
+/// Fills `out` with the key that PBKDF2-HMAC-SHA-256 derives from the password, the salt and the iteration count (RFC
+/// 8018, section 5.2).
 pub fn pbkdf2_sha256(password: &[u8], salt: &[u8], count: u32, out: &mut [u8])
     requires count { 1 ≤ count }
     requires blocks { length out.old ≤ 4294967295 * 32 }
@@ -30,8 +30,8 @@ pub fn pbkdf2_sha256(password: &[u8], salt: &[u8], count: u32, out: &mut [u8])
     derive::<Sha256>(password, salt, count, out);
 }
 
-/// Fills `out` with the key that PBKDF2-HMAC-SHA-384 derives from the password, the salt and the
-/// count of iterations (RFC 8018, section 5.2).
+/// Fills `out` with the key that PBKDF2-HMAC-SHA-384 derives from the password, the salt and the iteration count (RFC
+/// 8018, section 5.2).
 pub fn pbkdf2_sha384(password: &[u8], salt: &[u8], count: u32, out: &mut [u8])
     requires count { 1 ≤ count }
     requires blocks { length out.old ≤ 4294967295 * 48 }
@@ -56,7 +56,7 @@ fn derive<H: Hasher>(password: &[u8], salt: &[u8], count: u32, out: &mut [u8])
     }
 }
 
-// Fills `out` with the front of the block of this index, from 1.
+// Fills `out` with the front of the block with this index, from 1.
 fn write_block<H: Hasher>(key: &HmacKey<H>, salt: &[u8], count: u32, index: u32, out: &mut [u8])
     requires count { 1 ≤ count }
     requires room { length out.old ≤ H.SIZE }
@@ -74,7 +74,7 @@ fn write_block<H: Hasher>(key: &HmacKey<H>, salt: &[u8], count: u32, index: u32,
     out.copy_from_slice(&total[..out.len()]);
 }
 
-// Puts the next iterate in the last one's place, and adds it to the total.
+// Replaces the last iterate with the next one, and adds it to the total.
 fn iterate_once<H: Hasher>(key: &HmacKey<H>, last: &mut [u8], total: &mut [u8])
     requires last { length last.old ≡ H.SIZE }
     requires total { length total.old ≡ H.SIZE }
@@ -87,7 +87,7 @@ fn iterate_once<H: Hasher>(key: &HmacKey<H>, last: &mut [u8], total: &mut [u8])
     xor_into(total, last);
 }
 
-// Adds the piece to the total, bit by bit.
+// Adds the piece to the total, bit by bit (xor).
 fn xor_into(total: &mut [u8], piece: &[u8])
     requires { length piece.now ≡ length total.old }
     ensures { total.new ≡ octets_xor total.old piece.now }

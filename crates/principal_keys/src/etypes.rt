@@ -1,4 +1,4 @@
-//! The encryption types of the keys that are made, in an order of preference.
+//! The encryption types of new keys, in order of preference.
 ghost use Rattle.std.specs.Prelude.{◌≡◌, ℕ, pos, IfOk, IfSome, IfNone};
 ghost use Rattle.enctypes.specs.declared.etype.Etype as types;
 ghost use Rattle.principal_keys.specs.Keys.{offered};
@@ -8,10 +8,10 @@ use enctypes::Etype;
 use std::alloc::{AllocError, AllocFailed, Global};
 use text_fields::number;
 
-/// Why a text names no encryption types.
+/// Why a text is not a list of encryption types.
 #[derive(Clone, Copy, Debug, PartialEq, Eq)]
 pub enum EtypesFault {
-    /// It is no list of types, each at most once.
+    /// It is not a list of supported encryption types, each at most once.
     Form,
     Memory,
 }
@@ -28,7 +28,7 @@ impl<T: Drop> From<AllocFailed<T>> for EtypesFault {
     }
 }
 
-/// The types where none are named: 18, 17, 20 and 19.
+/// Returns the default encryption types: 18, 17, 20 and 19.
 pub fn offered(alloc: Global) -> Result<Vec<Etype>, AllocError>
     ensures { IfOk result (λ etypes. etypes.items ≡ offered) }
 {
@@ -43,7 +43,7 @@ pub fn offered(alloc: Global) -> Result<Vec<Etype>, AllocError>
     )
 }
 
-/// The types that a text names by their numbers, in its order: at least one, and each at most once.
+/// Reads a list of encryption types by their numbers: at least one, and each at most once.
 pub fn read_etypes(alloc: Global, text: &str) -> Result<Vec<Etype>, EtypesFault> {
     let mut etypes = Vec::new(alloc);
     for part in text.split(',') {
@@ -58,7 +58,7 @@ pub fn read_etypes(alloc: Global, text: &str) -> Result<Vec<Etype>, EtypesFault>
     Ok(etypes)
 }
 
-/// The type of a number.
+/// Reads the number of an encryption type.
 fn read_etype(text: &str) -> Option<Etype>
     ensures read { IfSome result (λ etype. IsEtypeText etype text.now) }
     ensures none { IfNone result ((etype : types.Etype) → ¬ IsEtypeText etype text.now) }

@@ -1,4 +1,4 @@
-//! The keys that the tool makes: one of each encryption type that is asked for, in that order.
+//! Makes new keys: one of each requested encryption type, in that order.
 ghost use Rattle.std.specs.Prelude.{◌≡◌, IfOk, OnOk, ◌++◌, ◌∷◌, [], map};
 ghost use Rattle.principal_keys.specs.Keys.{drawn_key, drawn_keys, password_key, seeded};
 ghost use Rattle.rand_core.specs.Stream.{fill_bytes};
@@ -9,8 +9,8 @@ use rand_chacha::ChaCha20Rng;
 use rand_core::{Rng, SeedableRng};
 use std::alloc::{AllocError, Global};
 
-/// The keys of a password (RFC 3961, section 5, string-to-key) with this salt and the types' default counts, for these
-/// types: at least one, and none twice.
+/// Derives keys from a password (RFC 3961, section 5, string-to-key) with this salt and the default iteration counts,
+/// for these encryption types: at least one, and none twice.
 pub fn password_keys(
     alloc: Global,
     etypes: &[Etype],
@@ -32,8 +32,8 @@ fn password_key(alloc: Global, etype: Etype, pass: &[u8], salt: &[u8]) -> Result
     string_to_key(alloc, etype, pass, salt, etype.default_count())
 }
 
-/// Random keys for these types, at least one and none twice: for each 32 octets are drawn from ChaCha20 under the seed,
-/// and the first of them are the key.
+/// Makes random keys for these encryption types: at least one, and none twice. ChaCha20 with this seed yields 32 bytes
+/// for each key in turn, and the first of them are the key.
 pub fn random_keys(alloc: Global, etypes: &[Etype], seed: [u8; 32]) -> Result<KeyList, AllocError>
     ensures { IfOk result (λ keys. keys ≡ drawn_keys (seeded seed) etypes.now) }
 {
@@ -60,7 +60,7 @@ fn draw_key<R: Rng>(rng: &mut R, etype: Etype) -> Key
     Key::from_random(etype, &octets)
 }
 
-/// The list of keys of types that are at least one and none twice, for which memory alone can lack.
+/// Returns the list of these keys. Their encryption types are at least one and none twice, so only memory can run out.
 fn list_of(alloc: Global, keys: &[Key]) -> Result<KeyList, AllocError>
     ensures { IfOk result (λ list. list ≡ keys.now) }
 {

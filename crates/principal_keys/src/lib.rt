@@ -1,4 +1,4 @@
-//! The keys that an administrator gives a principal: of a password, or random, for a list of encryption types.
+//! New keys for a principal, from a password or random, for a list of encryption types.
 #![tactic(auto)]
 
 mod etypes;

@@ -1,4 +1,4 @@
--- Entries that are sorted by their names, of which the first of each name stays, as finite maps.
+-- Entries sorted by name, with only the first of each name kept, as finite maps.
 use Rattle.std.proofs.Common.{◌≡◌, Bool, true, false, not, cond, ◌&&◌, T, List, [], ◌∷◌, Option, Some, None, Less, Equal, Greater, Ordering, refl, sym, ap, subst, ◌∙◌, pos, is_eq, is_lt}
 use Rattle.std.specs.Ordering.{eq_by_cmp, ordering_reverse}
 use Rattle.std.specs.Cmp.{IsTotalOrder, IsStrictWeakOrder}
@@ -16,7 +16,7 @@ both : (a b : Bool) → T a → T b → T (a && b)
 both true b p q = q
 both false b p q = p
 
--- neither before the other: the same
+-- if neither is before the other, they are equal
 tied_order : (o : Ordering) → (not (is_lt o) && not (is_lt (ordering_reverse o))) ≡ is_eq o
 tied_order Less = refl
 tied_order Equal = refl
@@ -70,7 +70,7 @@ module _ {V : Type 0} where
   first_kept true false e es rest found s h = cc
   first_kept false true e es rest found s h = cc
 
-  -- what is found is the first of the entries that tie
+  -- the entry that is found is the first of those that tie
   find_first : (x : Entry V) (es : List (Entry V)) → first_value (filter (ties (λ a b. is_lt (entry_cmp a b)) x) es) ≡ find name_cmp x.name.components (pairs es)
   unfolding first_value
   find_first x [] = refl
@@ -86,7 +86,7 @@ module _ {V : Type 0} where
       sym (find_first x ys) ∙ ap first_value (stable x) ∙ find_first x xs in
       some_then _ _ (λ v _. same v) (λ v _. same v)
 
-  -- an entry of the name of the one before is not found
+  -- an entry with the name of the one before it is not found
   hidden : (q k x : Components) (v w : V) (rest : Option V) → name_cmp x k ≡ Equal → cond (eq_by_cmp name_cmp q k) (Some v) rest ≡ cond (eq_by_cmp name_cmp q k) (Some v) (cond (eq_by_cmp name_cmp q x) (Some w) rest)
   hidden q k x v w rest tied = at (eq_by_cmp name_cmp q k) refl
     where
@@ -109,7 +109,7 @@ module _ {V : Type 0} where
   find-dedup q [] = refl
   find-dedup q (e ∷ es) = find-dedup_from q e es
 
-  -- entries that were sorted, and then freed of later ones of the same name
+  -- entries that were sorted, and then freed of later ones with the same name
   pub collected : (xs ys zs : List (Entry V)) → IsSorted entry_cmp ys → IsStable entry_cmp xs ys → zs ≡ dedup has_same_name ys → T (is_sorted name_cmp (pairs zs)) × (from_sorted {R = name_cmp} (pairs zs) ≡ from_entries (pairs xs))
   collected xs ys zs sorted stable is =
       let rising : T (is_sorted name_cmp (pairs zs)) = subst (λ l. T (is_sorted name_cmp (pairs l))) (sym is) (sorted_pairs _ (IsStrictlySortedBy-dedup entry_total (λ x y. refl) ys sorted)) in (

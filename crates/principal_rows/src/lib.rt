@@ -1,4 +1,4 @@
-//! What a database knows of a principal: its keys by version and its policy; and maps from names.
+//! Rows of the database: a principal's keys by version, and its policy. Also maps from names.
 #![tactic(auto)]
 
 mod key_list;

@@ -1,7 +1,7 @@
 //! Maps from names.
 //!
-//! Names are compared by their components alone (RFC 4120 section 6.2), so a map has at most one value for all the
-//! names that differ in their name-type.
+//! Names are compared by their components only (RFC 4120 section 6.2), so names that differ only in their name-type
+//! share one value.
 ghost use Rattle.std.specs.Prelude.{◌≡◌, T, Bool, false, IfOk, IfErr, IsOk, OnOk, OnErr, IsTrue, option_copied};
 ghost use Rattle.std.specs.Prelude.{option_map, slice_get};
 ghost use Rattle.std.specs.FinMap as map;
@@ -16,11 +16,11 @@ use std::alloc::{AllocError, Global};
 use std::cmp::Ordering;
 use std::marker::Model;
 
-/// A name by which a map is searched: one that is owned, or one that is borrowed from a message.
+/// A key to search a map with: an owned name, or one borrowed from a message.
 pub trait NameKey {
     ghost components: { Self → Components };
 
-    /// How `name` stands to this key in the order of the maps, which is that of `Name::order`.
+    /// Compares `name` with this key in the order of the maps, which is that of `Name::order`.
     fn compare(&self, name: &Name) -> Ordering
         ensures { result ≡ name_cmp name.now.components (components self.now) };
 }
@@ -41,7 +41,7 @@ impl<'a> NameKey for NameRef<'a> {
     }
 }
 
-/// A test of values, by which a map keeps some of its names.
+/// A test of values, for keeping some entries of a map.
 pub trait ValueTest<V> {
     ghost passes: { Self → V → Bool };
 
@@ -49,7 +49,7 @@ pub trait ValueTest<V> {
         ensures { result ≡ passes self.now value.now };
 }
 
-/// A change of values, which a map makes of all that it has.
+/// A change of values, for all entries of a map.
 pub trait ValueChange<V> {
     ghost changed: { Self → V → V };
 
@@ -64,7 +64,7 @@ pub struct Entry<V> {
     pub value: V,
 }
 
-/// A map from names to values, kept in the order of the names and searched by halving.
+/// A map from names to values, sorted by name, with binary search.
 #[derive(Drop)]
 pub struct NameMap<V> {
     entries: Vec<Entry<V>>,
@@ -94,7 +94,7 @@ impl<V: Drop> NameMap<V> {
         }
     }
 
-    /// The map of these entries, in whatever order they stand. Where a name stands twice, its first value stays.
+    /// Returns the map of these entries, which may be in any order. For a repeated name the first value counts.
     pub fn from_entries(entries: Vec<Entry<V>>) -> Result<NameMap<V>, AllocError>
         ensures { IfOk result (λ made. made ≡ map.from_entries (pairs entries.items)) }
     {
@@ -110,14 +110,14 @@ impl<V: Drop> NameMap<V> {
         self.entries.len()
     }
 
-    /// The names with their values, in rising order of the names.
+    /// Returns the names with their values, in ascending order.
     pub fn entries(&self) -> &[Entry<V>]
         ensures { pairs result.now ≡ map.entries self.now }
     {
         self.entries.as_slice()
     }
 
-    /// The name and value at a place, for each place below `len`; names rise from place to place.
+    /// Returns the name and value at a place below `len`. The order is ascending.
     pub fn at(&self, place: usize) -> Option<(&Name, &V)>
         ensures { option_map (λ e. (e.0.now.components, e.1.now)) result ≡ slice_get (map.entries self.now) place }
     {
@@ -129,7 +129,7 @@ impl<V: Drop> NameMap<V> {
         }
     }
 
-    /// The value of a name, if it has one.
+    /// Returns the value of a name, if it has one.
     pub fn get<K: NameKey>(&self, key: &K) -> Option<&V>
         ensures { option_copied result ≡ map.get self.now (K.components key.now) }
     {
@@ -139,7 +139,7 @@ impl<V: Drop> NameMap<V> {
         }
     }
 
-    /// Sets the value of a name. It takes memory only where the name has none yet.
+    /// Sets the value of a name. It allocates only if the name has no value yet.
     pub fn put(&mut self, name: Name, value: V) -> Result<(), AllocError>
         ensures ok { OnOk result (self.new ≡ map.insert self.old name.components value) }
         ensures err { OnErr result (self.new ≡ self.old) }
@@ -154,7 +154,7 @@ impl<V: Drop> NameMap<V> {
         }
     }
 
-    /// Exchanges `value` with the value of a name, and says whether the name has one.
+    /// Exchanges `value` with the value of a name. Returns whether the name has one.
     pub fn replace<K: NameKey>(&mut self, key: &K, value: &mut V) -> bool
         ensures there { result ≡ map.contains_key self.old (K.components key.now) }
         ensures taken { IsTrue result → map.get self.old (K.components key.now) ≡ Some value.new }
@@ -170,7 +170,7 @@ impl<V: Drop> NameMap<V> {
         }
     }
 
-    /// Takes a name out of the map, with its value.
+    /// Removes a name from the map and returns its value.
     pub fn remove<K: NameKey>(&mut self, key: &K) -> Option<V>
         ensures value { result ≡ map.get self.old (K.components key.now) }
         ensures map { self.new ≡ map.remove self.old (K.components key.now) }
@@ -181,14 +181,14 @@ impl<V: Drop> NameMap<V> {
         }
     }
 
-    /// Keeps the names whose values pass the test, and forgets the others: one walk over all of them.
+    /// Keeps the names whose values pass the test and drops the others, in one pass.
     pub fn retain<P: ValueTest<V>>(&mut self, test: &P)
         ensures { self.new ≡ retain_values self.old (P.passes test.now) }
     {
         self.entries.retain(|entry| test.passes(&entry.value));
     }
 
-    /// Changes each value where it is: one walk over all of them. It takes no memory.
+    /// Changes each value in place, in one pass. It doesn't allocate.
     pub fn change_values<C: ValueChange<V>>(&mut self, change: &C)
         ensures { self.new ≡ change_values self.old (C.changed change.now) }
     {
@@ -197,7 +197,7 @@ impl<V: Drop> NameMap<V> {
         }
     }
 
-    /// Forgets all names.
+    /// Removes all names.
     pub fn clear(&mut self)
         ensures { self.new ≡ map.empty }
     {
@@ -205,7 +205,7 @@ impl<V: Drop> NameMap<V> {
     }
 }
 
-/// Where the key stands among the entries, or else where it would go.
+/// Returns the index of the key among the entries, or else the index where it would go.
 fn place<K: NameKey, V>(entries: &[Entry<V>], key: &K) -> Result<usize, usize>
     requires { T (map.is_sorted name_cmp (pairs entries.now)) }
     ensures found { IfOk result (IsAt name_cmp name_of (K.components key.now) entries.now) }

@@ -1,22 +1,22 @@
-//! What a principal may do, and until when.
+//! What a principal is allowed, and until when.
 use krb_fields::Second;
 
-/// What a principal may do, as a client and as a service.
+/// What a principal is allowed as a client and as a service.
 #[derive(Clone, Copy, PartialEq, Eq)]
 pub struct Policy {
-    /// Whether it is refused as a client and as a service.
+    /// Whether it is denied as a client and as a service.
     pub disabled: bool,
-    /// From when on it is refused as a client and as a service.
+    /// When it expires. From then on it is denied as a client and as a service.
     pub expires: Option<Second>,
-    /// From when on its password is refused.
+    /// When its password expires. From then on the password is denied.
     pub password_expires: Option<Second>,
-    /// Before which moment its tickets must not have been first issued.
+    /// Tickets that were first issued before this moment are denied.
     pub revoked_before: Option<Second>,
-    /// How long its tickets live at most, in seconds.
+    /// The maximum lifetime of its tickets, in seconds.
     pub greatest_life: u32,
-    /// For how long its tickets may be renewed at most, in seconds.
+    /// How long its tickets may be renewable at most, in seconds.
     pub greatest_renewable: u32,
-    /// Whether a client has to prove that it knows its key before it gets a ticket.
+    /// Whether a client must prove that it has its key before it gets a ticket.
     pub preauth: bool,
     /// Whether its tickets may be FORWARDABLE.
     pub forwardable: bool,
@@ -26,7 +26,7 @@ pub struct Policy {
     pub postdate: bool,
     /// Whether tickets for it have the flag OK-AS-DELEGATE.
     pub ok_as_delegate: bool,
-    /// Whether tickets may be sealed for it.
+    /// Whether tickets may be issued for it.
     pub service: bool,
 }
 
@@ -36,7 +36,7 @@ impl Default for Policy {
 
     ghost is_default = { λ policy. policy ≡ default_policy };
 
-    /// The policy of a new principal.
+    /// Returns the policy of a new principal.
     fn default() -> Policy {
         Policy {
             disabled: false,

@@ -10,12 +10,12 @@ use std::marker::Model;
 /// One version of a principal's keys.
 #[derive(Drop)]
 pub struct KeyVersion {
-    /// The key version number (kvno), from 1 on.
+    /// The key version (kvno), starting at 1.
     pub number: u32,
     pub keys: KeyList,
 }
 
-/// The versions of a principal's keys, the current one first: at least one, and their numbers fall.
+/// The versions of a principal's keys, the current one first: at least one, with descending numbers.
 #[derive(Drop)]
 pub struct Versions {
     versions: Vec<KeyVersion>,
@@ -35,7 +35,8 @@ impl Model for Versions {
 }
 
 impl KeyVersion {
-    // The version of this number. What holds of every list of keys is known where one is looked at.
+    // Returns the version with this number. It looks at the keys, since the invariant of a `KeyList` is known only
+    // after that.
     fn new(number: u32, keys: KeyList) -> KeyVersion
         ensures version { result ≡ record { number = number; keys = keys } }
         ensures valid { IsKeyList keys }
@@ -57,7 +58,7 @@ impl KeyVersion {
 impl Versions {
     ghost use Rattle.principal_rows.specs.Versions.{current, version_of, with_keys, without};
 
-    /// Version 1 alone, with these keys.
+    /// Returns version 1 alone, with these keys.
     pub fn first(alloc: Global, keys: KeyList) -> Result<Versions, AllocError>
         ensures versions { IfOk result (λ versions. versions ≡ record { number = 1; keys = keys } ∷ []) }
         ensures valid { IfOk result IsVersions }
@@ -67,7 +68,7 @@ impl Versions {
         Ok(Versions { versions })
     }
 
-    /// These versions, where they are versions: at least one, and their numbers positive and falling.
+    /// Returns these versions if they are valid: at least one, with positive, descending numbers.
     pub fn new(versions: Vec<KeyVersion>) -> Option<Versions>
         ensures some { is_some result ≡ are_versions versions.items }
         ensures versions { IfSome result (λ made. made ≡ versions.items) }
@@ -80,7 +81,7 @@ impl Versions {
         }
     }
 
-    /// The versions, the current one first.
+    /// Returns the versions, the current one first.
     pub fn as_slice(&self) -> &[KeyVersion]
         ensures versions { result.now ≡ self.now }
         ensures valid { IsVersions self.now }
@@ -88,7 +89,7 @@ impl Versions {
         self.versions.as_slice()
     }
 
-    /// The version by which tickets are sealed.
+    /// Returns the version whose keys encrypt new tickets.
     pub fn current(&self) -> &KeyVersion
         ensures version { result.now ≡ current self.now }
         ensures valid { IsKeyList result.now.keys }
@@ -96,7 +97,7 @@ impl Versions {
         &self.versions[0]
     }
 
-    /// The version of this number, if it is held.
+    /// Returns the version with this number, if it is there.
     pub fn find(&self, number: u32) -> Option<&KeyVersion>
         ensures { option_copied result ≡ version_of self.now number }
     {
@@ -116,7 +117,7 @@ impl Versions {
         Ok(self.versions.insert(0, KeyVersion::new(number, keys))?)
     }
 
-    /// Drops the version of this number, which is not the current one.
+    /// Drops the version with this number, which must not be the current one.
     pub fn drop(&mut self, number: u32)
         requires { (current self.old).number ≢ number }
         ensures versions { self.new ≡ without number self.old }
@@ -137,8 +138,8 @@ impl Versions {
     }
 }
 
-// Whether there is a version, and the numbers are positive and fall. It looks at each list of keys, since what holds of
-// every such list is known where one is looked at.
+// Checks whether there is a version, and the numbers are positive and descending. It looks at each list of keys, since
+// the invariant of a `KeyList` is known only after that.
 fn are_versions(versions: &[KeyVersion]) -> bool
     ensures value { result ≡ are_versions versions.now }
     ensures valid { IsTrue result → IsVersions versions.now }
@@ -169,7 +170,7 @@ pub struct Row {
 impl Row {
     ghost use Rattle.principal_rows.specs.Row.{IsRow, first_row};
 
-    /// The row of a new principal, with these keys as version 1 and the default policy.
+    /// Returns the row of a new principal, with these keys as version 1 and the default policy.
     pub fn first(alloc: Global, keys: KeyList) -> Result<Row, AllocError>
         ensures row { IfOk result (λ row. row ≡ first_row keys) }
         ensures valid { IfOk result IsRow }

@@ -3,6 +3,7 @@ pub mod Change
 pub mod Database
 pub mod FaultName
 pub mod Format
+pub mod Importing
 pub mod NameOf
 pub mod ReadBack
 pub mod ReadFault

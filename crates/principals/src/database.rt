@@ -288,7 +288,7 @@ impl Database {
         self.rows.replace(name, &mut row);
     }
 
-    fn add_refusal(&self, name: &Name) -> Option<ChangeFault>
+    pub(crate) fn add_refusal(&self, name: &Name) -> Option<ChangeFault>
         ensures { result ≡ first_holding (add_rules self.now name.now.components) }
     {
         first_holding(&[

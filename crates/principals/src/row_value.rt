@@ -172,7 +172,7 @@ fn read_value(value: &Value, setting: Setting) -> Option<Setting>
 }
 
 /// The setting of the same field that a row has, or this one where rows of the format have none.
-fn read_setting(row: &Value, format: Format, setting: Setting) -> Option<Setting>
+pub(crate) fn read_setting(row: &Value, format: Format, setting: Setting) -> Option<Setting>
     ensures { result ≡ setting_in format (view row.now) setting }
 {
     if format.lacks(setting) {

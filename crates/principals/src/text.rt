@@ -161,13 +161,13 @@ fn read_object(alloc: Global, text: &str) -> Result<Value, ReadFault>
     }
 }
 
-fn read_format(value: &Value) -> Option<Format>
+pub(crate) fn read_format(value: &Value) -> Option<Format>
     ensures { result ≡ format_value (view value.now) }
 {
     Format::from_number(value.get("version")?.as_u64()?)
 }
 
-fn read_realm(alloc: Global, value: &Value) -> Result<KerberosString, RowFault>
+pub(crate) fn read_realm(alloc: Global, value: &Value) -> Result<KerberosString, RowFault>
     ensures ok { IfOk result (λ realm. realm_of (view value.now) ≡ Some realm) }
     ensures fits { IfOk result (λ realm. IsComponent realm) }
     ensures bad { result ≡ Err RowFault.BadRow → realm_of (view value.now) ≡ None }

@@ -1,8 +1,9 @@
-//! A stream of lines that is written to only where that keeps nobody waiting.
+//! A stream of lines that never blocks the program.
 //!
-//! Whoever reads a pipe, a socket or a terminal may stop reading. A write to it then waits, and with it the program. A
-//! [`ReadyWriter`] asks the system first, and gives `WouldBlock` in place of waiting. No contract can say what a
-//! system takes: what is proved here is that each call is safe and returns; the rest is tested, over a pipe.
+//! The reader of a pipe, a socket or a terminal may stop reading. A write then blocks, and with it the whole program. A
+//! [`ReadyWriter`] first asks the system whether the stream is ready, and returns `WouldBlock` instead of waiting. No
+//! contract can say what a system does with the bytes. It is proved that each call is safe and returns; the rest is
+//! tested, over a pipe.
 #![tactic(auto)]
 
 mod readiness;

@@ -1,4 +1,4 @@
-//! Whether a descriptor takes octets at once, and how many.
+//! Whether a descriptor can be written to without blocking, and how many bytes.
 ghost use Rattle.std.specs.Prelude.{◌≤◌, length};
 
 use mio::unix::SourceFd;
@@ -10,13 +10,14 @@ use std::net::Net;
 use std::os::fd::{AsFd, AsRawFd, RawFd};
 use std::time::Duration;
 
-/// What the poll knows its one descriptor by.
+/// The poll's token for its one descriptor.
 const TOKEN: Token = Token(0);
 
-/// The most octets of one write. A pipe that is ready has room for 4,096 or more, a terminal for 256 or more.
+/// The maximum number of bytes per write. A pipe that is ready has room for at least 4,096, a terminal for at least
+/// 256.
 const PIECE: usize = 256;
 
-/// A descriptor, and the poll that tells whether it is ready.
+/// A descriptor, and the poll that reports whether it is ready.
 #[derive(Drop)]
 pub struct Readiness {
     descriptor: RawFd,
@@ -26,8 +27,7 @@ pub struct Readiness {
 }
 
 impl Readiness {
-    /// None where the system can't wait for the stream. So it is with a file: it takes at once what is written, or
-    /// fails.
+    /// Returns `None` if the system can't poll the stream. A file is an example: writes to it end or fail at once.
     pub fn of(alloc: Global, net: &impl Net, stream: &impl AsFd) -> io::Result<Option<Readiness>> {
         let descriptor = stream.as_fd().as_raw_fd();
         let is_terminal = stream.as_fd().is_terminal();
@@ -49,9 +49,9 @@ impl Readiness {
         }))
     }
 
-    /// Whether a write ends at once: there is room, or an error to be had.
+    /// Checks whether a write would return at once: there is room, or an error to report.
     pub fn is_ready(&mut self) -> io::Result<bool> {
-        // A poll tells what has changed since it was told of the descriptor: so it is told again.
+        // A poll reports only changes since the descriptor was registered, so it is registered again.
         let mut source = SourceFd(&self.descriptor);
         self.poll
             .registry()
@@ -60,7 +60,7 @@ impl Readiness {
         Ok(!self.events.is_empty())
     }
 
-    /// The first of these octets: as many as one write takes of what is ready.
+    /// Returns the front of these bytes, as much as one write to a ready stream takes.
     pub fn piece_of<'a>(&self, octets: &'a [u8]) -> &'a [u8]
         ensures short { length result.now ≤ length octets.now }
     {
@@ -73,7 +73,8 @@ impl Readiness {
     }
 }
 
-/// What stands in front of a line feed, or that alone. A terminal makes two octets of it, for which it wants room anew.
+/// Returns the bytes before the first line feed, or a leading line feed alone. A terminal turns a line feed into two
+/// bytes, so it needs to be ready again for it.
 fn up_to_line_feed(octets: &[u8]) -> &[u8]
     ensures short { length result.now ≤ length octets.now }
 {

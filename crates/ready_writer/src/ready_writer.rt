@@ -1,4 +1,4 @@
-//! A stream of lines that keeps nobody waiting.
+//! A stream of lines that never blocks.
 ghost use Rattle.std.specs.Prelude.{◌≤◌, IfOk, length};
 ghost use Rattle.std.specs.Io.{WritesAtMost};
 
@@ -9,23 +9,23 @@ use std::io::{ErrorKind, Write};
 use std::net::Net;
 use std::os::fd::AsFd;
 
-/// What stands at the end of what was written.
+/// The state of the last line that was written.
 #[derive(Clone, Copy, PartialEq, Eq)]
 enum LineState {
-    /// The end of a line, or nothing.
+    /// It is complete, or nothing was written.
     Ended,
     Begun,
-    /// The beginning of a line, of which the rest was refused.
+    /// Only its beginning was written, and the rest was refused.
     Cut,
 }
 
-/// A stream that is written to only where it takes octets at once. Else a write is the error `WouldBlock`, and the line
-/// is lost, as after any other error of the stream. Where the beginning of that line was written before, the next one
+/// A stream that is written to only if the write doesn't block. Otherwise the write fails with `WouldBlock` and the
+/// line is lost, as after any other error of the stream. If the beginning of the lost line was written, the next line
 /// starts on a line of its own.
 #[derive(Drop)]
 pub struct ReadyWriter<W> {
     stream: W,
-    /// None of a stream that takes all at once.
+    /// `None` for a stream that never blocks.
     readiness: Option<Readiness>,
     line: LineState,
 }
@@ -43,8 +43,8 @@ impl<W: Write + AsFd + Drop> ReadyWriter<W> {
 }
 
 impl<W: Write> ReadyWriter<W> {
-    /// Writes what the stream takes of these octets at once. Where it fails, the rest of a line that has begun doesn't
-    /// come; but a write that a signal ended is made again.
+    /// Writes as many of these bytes as the stream takes at once. After an error, the rest of the current line is left
+    /// out. That doesn't apply to a write that a signal interrupted, which the caller repeats.
     fn write_now(&mut self, octets: &[u8]) -> io::Result<usize>
         ensures bound { WritesAtMost result octets.now }
     {
@@ -70,7 +70,7 @@ impl<W: Write> ReadyWriter<W> {
         Ok(written)
     }
 
-    /// The first of these octets, as many as one write may take.
+    /// Returns the front of these bytes, as much as one write may take.
     fn piece_of<'a>(&mut self, octets: &'a [u8]) -> io::Result<&'a [u8]>
         ensures short { IfOk result (λ piece. length piece.now ≤ length octets.now) }
     {

@@ -1,4 +1,4 @@
-//! One stream of lines for several that write to it.
+//! A stream of lines with several writers.
 use crate::ready_writer::ReadyWriter;
 use std::alloc::{AllocError, Global};
 use std::cell::RefCell;
@@ -6,8 +6,7 @@ use std::io;
 use std::io::{ErrorKind, Write};
 use std::rc::Rc;
 
-/// A [`ReadyWriter`] that several hold. What one of them writes behind a line of another that was cut starts on a line
-/// of its own.
+/// A [`ReadyWriter`] with several owners. After a cut line of one owner, a line of another starts on a line of its own.
 #[derive(Drop)]
 pub struct SharedWriter<W> {
     writer: Rc<RefCell<ReadyWriter<W>>>,
@@ -20,7 +19,7 @@ impl<W: Drop> SharedWriter<W> {
         })
     }
 
-    /// The same, for another to hold.
+    /// Returns another handle to the same stream.
     pub fn share(&self) -> Result<SharedWriter<W>, AllocError> {
         Ok(SharedWriter {
             writer: self.writer.clone()?,
@@ -32,7 +31,7 @@ impl<W: Write> Write for SharedWriter<W> {
     fn write(&mut self, octets: &[u8]) -> io::Result<usize> {
         match self.writer.try_borrow_mut() {
             Ok(mut writer) => writer.write(octets),
-            // Nobody writes while another does.
+            // Another owner is writing.
             Err(_) => Err(io::Error::from(ErrorKind::WouldBlock)),
         }
     }

@@ -1,4 +1,4 @@
--- What was decided on was refused by no condition.
+-- If the decision is a value, no condition holds.
 use Rattle.std.proofs.Common.{◌≡◌, Bool, true, false, List, [], ◌∷◌, Option, Some, None, Result, Ok, Err, refl}
 use Rattle.std.specs.Prelude.{if◌then◌else◌}
 use Rattle.refusals.specs.Refusals.{Rule, decided, first_holding, unless_refused}

@@ -1,4 +1,4 @@
--- What was decided on was found.
+-- If the decision is a value, that value was found.
 use Rattle.std.proofs.Common.{◌≡◌, List, Option, Some, None, Result, Ok, Err, ap}
 use Rattle.refusals.specs.Refusals.{Rule, decided, first_holding, unless_refused}
 

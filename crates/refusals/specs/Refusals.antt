@@ -1,7 +1,7 @@
--- Lists of conditions, of which the first that holds decides.
+-- Lists of conditions, where the first that holds decides.
 use Rattle.std.specs.Prelude.{Bool, if◌then◌else◌, List, [], ◌∷◌, Option, Some, None, Result, Ok, Err}
 
--- a condition, and the reason where it holds
+-- a condition, and the reason to refuse if it holds
 abbrev pub Rule : Type 0 → Type 0
 Rule R = Bool × R
 
@@ -18,6 +18,6 @@ abbrev pub unless_refused : {A R : Type 0} → Option R → Option A → R → R
 unless_refused (Some reason) found otherwise = Err reason
 unless_refused None found otherwise = unless_found found otherwise
 
--- what is found where none of the conditions holds; a last reason where nothing is found
+-- the value if none of the conditions holds; the last reason if there is no value
 abbrev pub decided : {A R : Type 0} → List (Rule R) → Option A → R → Result A R
 decided rules found otherwise = unless_refused (first_holding rules) found otherwise

@@ -1,4 +1,4 @@
--- What was found in stages was found in each of them.
+-- A value found in stages was found in each of them.
 use Rattle.std.proofs.Common.{◌≡◌, Result, Ok, Err, refl}
 use Rattle.refusals.specs.Stages.{◌>>=◌}
 

@@ -1,4 +1,4 @@
--- What is found in stages, each made from what the ones before it found: the first refusal ends it.
+-- Values found in stages, where each stage uses the values before it, and the first refusal ends the search.
 use Rattle.std.specs.Prelude.{Result, Ok, Err}
 
 infixl 10 ◌>>=◌

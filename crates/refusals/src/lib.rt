@@ -1,10 +1,10 @@
-//! Lists of refusals: named reasons, each with its condition, in the order in which they are asked.
+//! Lists of refusals: named reasons, each with its condition, in the order in which they are checked.
 #![tactic(auto)]
 
 ghost use Rattle.std.specs.Prelude.{◌≡◌};
 ghost use Rattle.refusals.specs.Refusals.{decided, first_holding};
 
-/// The reason of the first condition that holds.
+/// Returns the reason of the first condition that holds.
 pub fn first_holding<R: Copy>(rules: &[(bool, R)]) -> Option<R>
     ensures { result ≡ first_holding rules.now }
 {
@@ -16,7 +16,8 @@ pub fn first_holding<R: Copy>(rules: &[(bool, R)]) -> Option<R>
     None
 }
 
-/// What is found, where none of the conditions holds; the last reason where nothing is found.
+/// Returns `found` if none of the conditions holds. Fails with the reason of the first that holds, or with `otherwise`
+/// if nothing was found.
 pub fn decide<T: Drop, R: Copy>(rules: &[(bool, R)], found: Option<T>, otherwise: R) -> Result<T, R>
     ensures { result ≡ decided rules.now found otherwise }
 {

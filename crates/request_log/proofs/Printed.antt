@@ -1,4 +1,4 @@
--- What is printed of printable strings is printable, so a line of JSON is one line.
+-- Printing printable strings gives printable characters, so a line of JSON is a single line.
 use Rattle.std.proofs.Common.{rules, ◌≡◌, ◌<◌, ◌≤◌, ◌/◌, ◌%◌, ℕ, Bool, true, false, cond, List, [], ◌∷◌, ◌++◌, flat_map, refl, arith}
 use Rattle.std.specs.Prelude.{⊤, nat_lt, ◌||◌, ◌==◌}
 use Rattle.std.specs.Char.{digit_char}
@@ -67,7 +67,7 @@ quoted_printable text all =
 
 -- ---- tokens
 
--- a bracket, or a string that is printable
+-- a bracket, or a printable string
 abbrev IsPlain : Token → Type 0
 IsPlain begin_object = ⊤
 IsPlain end_object = ⊤

@@ -1,4 +1,4 @@
--- What is shown is printable, and as long as before.
+-- What `shown` returns is printable and of the same length.
 use Rattle.std.proofs.Common.{◌≡◌, ◌≤◌, ◌<◌, ◌+◌, ℕ, zero, suc, min, Bool, true, false, List, [], ◌∷◌, ◌++◌, length, take, refl, ap, sym, subst, ◌∙◌, arith, length-append, if◌then◌else◌}
 use Rattle.std.specs.Bool.{Decides}
 use Rattle.std.specs.List.{All}
@@ -33,7 +33,7 @@ length_shown text (o ∷ octets) =
 pub all_shown : (octets : List ℕ) → All IsPrintable (shown octets)
 all_shown octets = all_printable [] octets (All-nil IsPrintable)
 
--- what is shown of the first octets is one line
+-- the first bytes, as shown, are one line
 pub is_line : (octets : List ℕ) → IsLine (shown (take longest octets) ++ 10 ∷ [])
 is_line octets = record { text = shown (take longest octets); ends = refl; printable = all_shown (take longest octets) }
 
@@ -55,6 +55,6 @@ all_ascii text (o ∷ octets) ascii =
     all_ascii (text ++ shown_octet o ∷ []) octets
     (IsAscii-append text (shown_octet o ∷ []) ascii (one_ascii (shown_octet o) (octet_printable o)))
 
--- and a text
+-- and valid UTF-8
 pub is_utf8 : (octets : List ℕ) → IsUtf8 (shown octets)
 is_utf8 octets = IsUtf8-from_ascii (shown octets) (all_ascii [] octets IsAscii-nil)

@@ -1,4 +1,4 @@
--- The fields of an entry of the log, by the account of the request.
+-- The fields of a log entry, by the account of the request.
 use Rattle.std.specs.Prelude.{ℕ, ℤ, List, [], ◌∷◌, ◌++◌, codes, decimal, length, take, nat_lt, unsigned_abs}
 use Rattle.std.specs.Prelude.{Option, Some, None, if◌then◌else◌}
 use Rattle.enctypes.specs.Etype.{number}
@@ -38,7 +38,7 @@ abbrev pub carrier : Carrier → List ℕ
 carrier Udp = codes "udp"
 carrier Tcp = codes "tcp"
 
--- at most 200 octets
+-- at most 200 bytes
 abbrev pub cut : List ℕ → List ℕ
 cut text = if nat_lt 200 (length text) then take 197 text ++ codes "..." else text
 
@@ -53,7 +53,7 @@ name_value None = codes "-"
 abbrev pub etype_number : Etype → ℕ
 etype_number etype = unsigned_abs (number etype)
 
--- the types of the session key and of the service's key
+-- the encryption types of the session key and of the service's key
 abbrev pub etypes_value : Granted → List ℕ
 etypes_value granted =
     decimal (etype_number granted.session_type) ++ codes "/" ++ decimal (etype_number granted.ticket_type)
@@ -75,7 +75,7 @@ with_letters letters flags =
 abbrev pub flags_value : ℕ → List ℕ
 flags_value flags = or_dash (with_letters (first_letters flags) flags)
 
--- ---- what became of the request
+-- ---- the outcome of the request
 
 abbrev pub renew_fields : Option ℤ → List Field
 renew_fields (Some till) = field Renew (date_text till) ∷ []
@@ -100,7 +100,7 @@ code_fields code =
 abbrev pub rule_fields : ErrorCode → List ℕ → List Field
 rule_fields code rule = code_fields code ++ field Rule rule ∷ []
 
--- a reply that was sent again says no more than what it bears
+-- for a reply that was sent again, only whether it was a ticket or an error
 abbrev pub again_fields : Bears → List Field
 again_fields Ticket =
     field Outcome (codes "ticket") ∷ field Lifetime (codes "-") ∷ field Repeat (codes "yes") ∷ []
@@ -125,7 +125,7 @@ abbrev pub names_fields : List ℕ → Option Name → Option Name → List Fiel
 names_fields exchange client service =
     field Exchange exchange ∷ field Client (name_value client) ∷ field Service (name_value service) ∷ []
 
--- by the account, or that memory ran out
+-- by the account, or `unanswered` if memory ran out
 abbrev pub account_fields : Option Account → List Field
 account_fields (Some NoRequest) = field Outcome (codes "none") ∷ []
 account_fields (Some (As client service outcome)) = names_fields (codes "as") client service ++ as_fields outcome
@@ -136,6 +136,6 @@ abbrev pub head_fields : ℤ → List ℕ → Carrier → List Field
 head_fields sec peer transport =
     field Time (date_text sec) ∷ field Peer peer ∷ field Transport (carrier transport) ∷ []
 
--- `peer` is the text of the address that asked
+-- `peer` is the sender's address as text
 abbrev pub entry_fields : Moment → List ℕ → Carrier → Option Account → List Field
 entry_fields at peer transport account = head_fields at.sec peer transport ++ account_fields account

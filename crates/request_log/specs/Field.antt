@@ -1,4 +1,4 @@
--- The fields of an entry of the log.
+-- The fields of a log entry.
 use Rattle.std.specs.Prelude.{ℕ, Bool, true, false, List, [], ◌∷◌, ◌++◌, codes}
 use Rattle.request_log.specs.declared.field.Field.{Field}
 use Rattle.request_log.specs.declared.field.FieldName.{FieldName}
@@ -9,7 +9,7 @@ use Rattle.request_log.specs.declared.field.FieldName.TheVariants.{Flags, Until,
 abbrev pub field : FieldName → List ℕ → Field
 field name value = record { name = name; value = value }
 
--- the name as it is written
+-- the name as the log writes it
 abbrev pub name_text : FieldName → List ℕ
 name_text Time = codes "time"
 name_text Peer = codes "peer"
@@ -28,7 +28,7 @@ name_text Until = codes "until"
 name_text Renew = codes "renew"
 name_text Repeat = codes "repeat"
 
--- whether a line of text has the value at a fixed place, without the name
+-- whether a line of text has this value at a fixed place, without its name
 abbrev pub is_column : FieldName → Bool
 is_column Time = true
 is_column Peer = true
@@ -47,7 +47,7 @@ is_column Until = false
 is_column Renew = false
 is_column Repeat = false
 
--- fields, and others behind them, one by one
+-- fields, followed by others one by one
 abbrev pub with_fields : List Field → List Field → List Field
 with_fields fields [] = fields
 with_fields fields (f ∷ others) = with_fields (fields ++ f ∷ []) others

@@ -1,4 +1,4 @@
--- The lines of a log.
+-- Log lines.
 use Rattle.std.specs.Prelude.{◌≡◌, ◌≤◌, ◌&&◌, ℕ, Bool, nat_le, List, [], ◌∷◌, ◌++◌, All, codes, length, take}
 use Rattle.std.specs.Prelude.{if◌then◌else◌}
 use Rattle.json.specs.Print.{print}
@@ -6,20 +6,20 @@ use Rattle.json.specs.Token.{Token, begin_object, end_object, key, string}
 use Rattle.request_log.specs.Field.{is_column, name_text}
 use Rattle.request_log.specs.declared.field.Field.{Field}
 
--- ---- printable octets
+-- ---- printable bytes
 
--- a space, or a character of ASCII that is seen
+-- a space or a visible ASCII character
 abbrev pub IsPrintable : ℕ → Type 0
 IsPrintable o = (32 ≤ o) × (o ≤ 126)
 
 abbrev pub is_printable : ℕ → Bool
 is_printable o = nat_le 32 o && nat_le o 126
 
--- an octet that is not printable is written as a question mark
+-- a byte that is not printable becomes a question mark
 abbrev pub shown_octet : ℕ → ℕ
 shown_octet o = if is_printable o then o else 63
 
--- octets, and others behind them as they are shown
+-- bytes, followed by others as they are shown
 abbrev pub with_shown : List ℕ → List ℕ → List ℕ
 with_shown shown [] = shown
 with_shown shown (o ∷ octets) = with_shown (shown ++ shown_octet o ∷ []) octets
@@ -27,11 +27,11 @@ with_shown shown (o ∷ octets) = with_shown (shown ++ shown_octet o ∷ []) oct
 abbrev pub shown : List ℕ → List ℕ
 shown octets = with_shown [] octets
 
--- the most octets of a line, without its line feed
+-- the maximum length of a line in bytes, without its line feed
 abbrev pub longest : ℕ
 longest = 639
 
--- One line: printable characters, and a line feed at the end.
+-- A single line: printable characters, and a line feed at the end.
 pub record IsLine (octets : List ℕ) : Type 0 where
   pub text : List ℕ
   pub ends : octets ≡ text ++ 10 ∷ []
@@ -39,7 +39,7 @@ pub record IsLine (octets : List ℕ) : Type 0 where
 
 -- ---- a line of text
 
--- the value alone at a fixed place, or the name and the value
+-- the value alone if it has a fixed place, otherwise name and value
 abbrev pub field_text : Field → List ℕ
 field_text f = if is_column f.name then f.value else name_text f.name ++ codes "=" ++ f.value
 
@@ -47,7 +47,7 @@ abbrev pub fields_text : List ℕ → List Field → List ℕ
 fields_text text [] = text
 fields_text text (f ∷ fields) = fields_text (text ++ codes " " ++ field_text f) fields
 
--- the fields, with a space between two of them
+-- the fields, separated by spaces
 abbrev pub joined : List Field → List ℕ
 joined [] = []
 joined (f ∷ fields) = fields_text (field_text f) fields
@@ -63,6 +63,6 @@ fields_tokens tokens [] = tokens
 fields_tokens tokens (f ∷ fields) =
     fields_tokens (tokens ++ key (name_text f.name) ∷ [] ++ string (shown f.value) ∷ []) fields
 
--- one object
+-- one object and a line feed
 abbrev pub json_line : List Field → List ℕ
 json_line fields = print (fields_tokens (begin_object ∷ []) fields ++ end_object ∷ []) ++ 10 ∷ []

@@ -25,7 +25,7 @@ use Rattle.krb_fields.specs.declared.code.Code.TheVariants.{KrbApErrBadmatch, Kr
 use Rattle.krb_fields.specs.declared.code.Code.TheVariants.{KrbApErrModified, KrbApErrBadkeyver, KrbApErrNokey, KrbApErrInappCksum, KrbApPathNotAccepted}
 use Rattle.krb_fields.specs.declared.code.Code.TheVariants.{KrbErrResponseTooBig, KrbErrGeneric, KrbErrFieldToolong}
 
--- the name of a rule of the Authentication Service exchange
+-- the log's name for a rule of the AS exchange
 abbrev pub as_rule_name : AsRefusal → List ℕ
 as_rule_name AsBadVersion = codes "bad-version"
 as_rule_name AsBadMessageType = codes "bad-message-type"
@@ -46,7 +46,7 @@ as_rule_name PostdatingRefused = codes "postdating-refused"
 as_rule_name AsStartsTooLate = codes "starts-too-late"
 as_rule_name AsNeverValid = codes "never-valid"
 
--- the name of a rule of the Ticket-Granting Service exchange
+-- the log's name for a rule of the TGS exchange
 abbrev pub tgs_rule_name : TgsRefusal → List ℕ
 tgs_rule_name TgsBadVersion = codes "bad-version"
 tgs_rule_name TgsBadMessageType = codes "bad-message-type"

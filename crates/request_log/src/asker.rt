@@ -1,7 +1,7 @@
-//! Who sent a request.
+//! The sender of a request.
 use std::net::SocketAddr;
 
-/// How a request came.
+/// How a request was sent.
 #[derive(Clone, Copy, PartialEq, Eq)]
 pub enum Transport {
     /// In a datagram.
@@ -10,10 +10,10 @@ pub enum Transport {
     Tcp,
 }
 
-/// Who sent a request.
+/// The sender of a request.
 #[derive(Clone, Copy, PartialEq, Eq)]
 pub struct Asker {
     pub transport: Transport,
-    /// The address that the request came from, if it is known.
+    /// The address that sent the request, if it is known.
     pub peer: Option<SocketAddr>,
 }

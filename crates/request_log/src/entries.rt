@@ -1,4 +1,4 @@
-//! An entry of the log.
+//! The entries of the log.
 ghost use Rattle.std.specs.Prelude.{◌≡◌, IfOk, OnOk, option_copied};
 ghost use Rattle.request_log.specs.Entry.{account_fields, carrier, entry_fields, head_fields, names_fields};
 ghost use Rattle.request_log.specs.Field.{with_fields};
@@ -12,11 +12,11 @@ use kdc_core::Account;
 use krb_fields::{Moment, Name};
 use std::alloc::{AllocError, Global};
 
-/// The most fields of an entry.
+/// The maximum number of fields in an entry.
 const MOST_FIELDS: usize = 12;
 
-/// The fields of the entry for a request that came at a moment from a peer, whose address is given as text. There is no
-/// account where memory ran out.
+/// Returns the fields of the log entry for a request. `at` is when it came in, `peer` is the sender's address as text.
+/// There is no account if memory ran out.
 pub fn entry(
     alloc: Global,
     at: Moment,

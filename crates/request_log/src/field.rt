@@ -1,4 +1,4 @@
-//! The fields of an entry of the log.
+//! The fields of a log entry.
 ghost use Rattle.std.specs.Prelude.{◌≡◌, ◌++◌, ◌∷◌, [], OnOk};
 ghost use Rattle.request_log.specs.Field.{field, is_column, name_text};
 
@@ -8,9 +8,9 @@ use std::alloc::{AllocError, Global};
 /// The name of a field.
 #[derive(Clone, Copy, PartialEq, Eq)]
 pub enum FieldName {
-    /// When the request came, in UTC.
+    /// When the request came in, in UTC.
     Time,
-    /// The address that it came from.
+    /// The address that it was sent from.
     Peer,
     /// `udp` or `tcp`.
     Transport,
@@ -18,30 +18,30 @@ pub enum FieldName {
     Exchange,
     Client,
     Service,
-    /// `ticket`, `refused`, `none` for what is no request, or `unanswered` where memory ran out.
+    /// `ticket`, `refused`, `none` for bytes that are not a request, or `unanswered` if memory ran out.
     Outcome,
-    /// How long the ticket is valid.
+    /// The ticket's lifetime.
     Lifetime,
-    /// The number of the error (RFC 4120, section 7.5.9).
+    /// The error code (RFC 4120, section 7.5.9).
     Code,
-    /// A word for that number.
+    /// A word for the error code.
     Reason,
-    /// The rule that refused.
+    /// The rule that refused the request.
     Rule,
     /// The encryption types of the session key and of the service's key.
     Etype,
-    /// The ticket's flags, by the letters of `klist -f`.
+    /// The ticket's flags, in the letters of `klist -f`.
     Flags,
     /// When the ticket ends.
     Until,
-    /// Until when it can be renewed.
+    /// How long it can be renewed.
     Renew,
-    /// That the reply was sent before.
+    /// Whether the reply is one that was sent before.
     Repeat,
 }
 
 impl FieldName {
-    /// The name as it is written.
+    /// Returns the name as the log writes it.
     pub fn text(self) -> &'static str
         ensures { result.now ≡ name_text self }
     {
@@ -65,7 +65,7 @@ impl FieldName {
         }
     }
 
-    /// Whether a line of text has the value at a fixed place, without the name.
+    /// Checks whether a line of text has this value at a fixed place, without its name.
     pub fn is_column(self) -> bool
         ensures { result ≡ is_column self }
     {
@@ -90,7 +90,7 @@ impl FieldName {
     }
 }
 
-/// A field: a name, and the octets of its value.
+/// A field: a name, and the bytes of its value.
 #[derive(Drop)]
 pub struct Field {
     pub name: FieldName,

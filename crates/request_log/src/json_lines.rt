@@ -12,11 +12,11 @@ use json::Writer;
 use std::alloc::{AllocError, Global};
 use std::str;
 
-/// The fields as one JSON object (RFC 8259), each a string under its name, and a line feed. An octet that is not printable
-/// becomes a question mark.
+/// Returns the fields as one JSON object (RFC 8259), with each value as a string under its name, and a line feed.
+/// Non-printable bytes become question marks.
 pub fn json_line(alloc: Global, fields: &[Field]) -> Result<Vec<u8>, AllocError>
     ensures text { IfOk result (λ line. line.items ≡ json_line fields.now) }
-    // It is one line, whatever the names are.
+    // The result is a single line, whatever the names contain.
     ensures one { IfOk result (λ line. IsLine line.items) }
 {
     let mut out = Writer::new(Vec::new(alloc));
@@ -51,7 +51,7 @@ fn write_field(alloc: Global, out: &mut Writer, field: &Field) -> Result<(), All
     write_shown(out, &value)
 }
 
-/// Writes printable octets as a string.
+/// Writes printable bytes as a string.
 fn write_shown(out: &mut Writer, value: &[u8]) -> Result<(), AllocError>
     requires { IsUtf8 value.now }
     ensures tokens { OnOk result (out.new.tokens ≡ out.old.tokens ++ string value.now ∷ []) }

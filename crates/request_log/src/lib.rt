@@ -1,7 +1,7 @@
-//! The log of a KDC's requests: from the account of a request to a line.
+//! The KDC's request log: from the account of a request to a line.
 //!
-//! An entry of the log is a list of fields, made of an account and of who asked. A line is those fields as text, or as one
-//! JSON object. So a line says what the KDC decided; neither request nor reply is parsed for it.
+//! A log entry is a list of fields, built from the account and the sender. A line is those fields as text or as one
+//! JSON object. So it shows what the KDC decided, and nothing parses the request or the reply again.
 #![tactic(auto)]
 
 mod asker;

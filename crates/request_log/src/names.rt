@@ -1,4 +1,4 @@
-//! Names in the log.
+//! Principals in the log.
 ghost use Rattle.std.specs.Prelude.{◌≡◌, IfOk};
 ghost use Rattle.request_log.specs.Entry.{cut, name_value, or_dash};
 
@@ -6,16 +6,16 @@ use krb_elements::Octets;
 use krb_fields::Name;
 use std::alloc::{AllocError, Global};
 
-/// The most octets of a name.
+/// The maximum length of a name, in bytes.
 const MOST_OF_NAME: usize = 200;
 
-/// How many octets are kept of a longer one, in front of three full stops.
+/// How many bytes of a longer name are kept, followed by three full stops.
 const KEPT: usize = 197;
 
-/// What stands for what is not there.
+/// The value of a field whose value is absent.
 pub(crate) const ABSENT: &[u8] = b"-";
 
-/// The text of a name, of at most 200 octets, in which no space and no line feed stands.
+/// Returns the text of a name, cut to at most 200 bytes. It contains no space and no line feed.
 pub(crate) fn name_value(alloc: Global, name: &Option<Name>) -> Result<Octets, AllocError>
     ensures { IfOk result (λ value. value ≡ name_value name.now) }
 {
@@ -39,7 +39,7 @@ fn cut(alloc: Global, text: &[u8]) -> Result<Vec<u8>, AllocError>
     }
 }
 
-/// A value, or `-` in the place of an empty one.
+/// Returns the value, or `-` if it is empty.
 pub(crate) fn or_dash(alloc: Global, value: Vec<u8>) -> Result<Octets, AllocError>
     ensures { IfOk result (λ shown. shown ≡ or_dash value.items) }
 {

@@ -1,4 +1,4 @@
-//! What became of a request, as fields.
+//! The outcome of a request, as fields.
 ghost use Rattle.std.specs.Prelude.{◌≡◌, ◌++◌, IfOk, OnOk, decimal};
 ghost use Rattle.krb_fields.specs.TicketFlag.{ticket_flag_number};
 ghost use Rattle.request_log.specs.Entry.{again_fields, as_fields, code_fields, etype_number, etypes_value};
@@ -70,7 +70,7 @@ fn add_code(alloc: Global, fields: &mut Vec<Field>, code: Code) -> Result<(), Al
     add(alloc, fields, FieldName::Reason, code_word(code).as_bytes())
 }
 
-/// A reply that was sent again.
+/// Adds the fields for a reply that was sent again.
 fn add_again(alloc: Global, fields: &mut Vec<Field>, bears: Bears) -> Result<(), AllocError>
     ensures { OnOk result (fields.new.items ≡ with_fields fields.old.items (again_fields bears)) }
 {
@@ -125,7 +125,7 @@ fn add_renew(alloc: Global, fields: &mut Vec<Field>, till: Option<KTime>) -> Res
     }
 }
 
-/// The encryption types of the session key and of the service's key.
+/// Returns the encryption types of the session key and of the service's key.
 fn etypes_value(alloc: Global, granted: &Granted) -> Result<Octets, AllocError>
     ensures { IfOk result (λ value. value ≡ etypes_value granted.now) }
 {
@@ -146,7 +146,7 @@ fn push_etype(value: &mut Vec<u8>, etype: Etype) -> Result<(), AllocError>
     )
 }
 
-/// The ticket's flags by the letters of `klist -f`, in its order.
+/// Returns the ticket's flags in the letters of `klist -f`, in its order.
 fn flags_value(alloc: Global, flags: Flags) -> Result<Octets, AllocError>
     ensures { IfOk result (λ value. value ≡ flags_value flags) }
 {

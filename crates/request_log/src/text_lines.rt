@@ -1,4 +1,4 @@
-//! A line of text.
+//! A log line as text.
 ghost use Rattle.std.specs.Prelude.{◌≡◌, ◌≤◌, ◌+◌, ◌++◌, [], length, IfOk, OnOk};
 ghost use Rattle.request_log.specs.Lines.{IsLine, field_text, fields_text, joined, shown, shown_octet, text_line};
 ghost use Rattle.request_log.specs.Lines.{longest, with_shown};
@@ -6,14 +6,14 @@ ghost use Rattle.request_log.specs.Lines.{longest, with_shown};
 use crate::field::Field;
 use std::alloc::{AllocError, Global};
 
-/// The most octets of a line, without its line feed.
+/// The maximum length of a line, without its line feed, in bytes.
 const LONGEST: usize = 639;
 
-/// The fields in their order, with a space between two of them: first the values that have a fixed place, then
-/// `NAME=VALUE`. An octet that is not printable becomes a question mark, and what is beyond 639 octets is left out.
+/// Returns the fields in order, separated by spaces: first the values with a fixed place, then `NAME=VALUE`.
+/// Non-printable bytes become question marks. The line is cut after 639 bytes.
 pub fn text_line(alloc: Global, fields: &[Field]) -> Result<Vec<u8>, AllocError>
     ensures text { IfOk result (λ line. line.items ≡ text_line fields.now) }
-    // It is one line, whatever the names are.
+    // The result is a single line, whatever the names contain.
     ensures one { IfOk result (λ line. IsLine line.items) }
     ensures short { IfOk result (λ line. length line.items ≤ longest + 1) }
 {
@@ -58,7 +58,7 @@ fn push_field(line: &mut Vec<u8>, field: &Field) -> Result<(), AllocError>
     line.extend_from_slice(field.value.as_slice())
 }
 
-/// The octets, with a question mark for each that is not printable.
+/// Returns the bytes with a question mark for each that is not printable.
 pub(crate) fn shown(alloc: Global, octets: &[u8]) -> Result<Vec<u8>, AllocError>
     ensures value { IfOk result (λ text. text.items ≡ shown octets.now) }
 {

@@ -1,4 +1,4 @@
-//! Times and lifetimes as they are written.
+//! How the log writes times and lifetimes.
 ghost use Rattle.std.specs.Prelude.{◌≡◌, ◌++◌, IfOk, OnOk, decimal};
 ghost use Rattle.request_log.specs.Times.{date_text, hours_text, life_text, marked, minutes_of, valid_seconds};
 
@@ -8,14 +8,14 @@ use krb_elements::Octets;
 use std::alloc::{AllocError, Global};
 use ticket_times::Times;
 
-/// A second as its date and its time of day in UTC: `2026-11-23T22:46:18Z`.
+/// Returns a second as a date and time in UTC: `2026-11-23T22:46:18Z`.
 pub(crate) fn date_value(alloc: Global, time: KTime) -> Result<Octets, AllocError>
     ensures { IfOk result (λ value. value ≡ date_text time) }
 {
     Ok(Octets::new(marked(alloc, &time.to_octets())?))
 }
 
-/// The octets of a KerberosTime with the marks of RFC 3339 between them.
+/// Inserts the punctuation of RFC 3339 into the bytes of a KerberosTime.
 fn marked(alloc: Global, octets: &[u8; 15]) -> Result<Vec<u8>, AllocError>
     ensures { IfOk result (λ text. text.items ≡ marked octets.now) }
 {
@@ -27,14 +27,14 @@ fn marked(alloc: Global, octets: &[u8; 15]) -> Result<Vec<u8>, AllocError>
     Vec::from_slice(alloc, &text)
 }
 
-/// How long a ticket is valid, to the nearest minute.
+/// Returns the ticket's lifetime, to the nearest minute.
 pub(crate) fn life_value(alloc: Global, times: &Times) -> Result<Octets, AllocError>
     ensures { IfOk result (λ value. value ≡ life_text (valid_seconds times.now)) }
 {
     Ok(Octets::new(life_text(alloc, valid_seconds(times))?))
 }
 
-/// How many seconds a ticket is valid.
+/// Returns the ticket's lifetime in seconds.
 fn valid_seconds(times: &Times) -> u64
     ensures { result ≡ valid_seconds times.now }
 {
@@ -43,7 +43,7 @@ fn valid_seconds(times: &Times) -> u64
     end.abs_diff(start)
 }
 
-/// So many seconds to the nearest minute: `10h`, `7h30m`, `5m`. Less than half a minute is written in seconds.
+/// Returns a lifetime to the nearest minute: `10h`, `7h30m`, `5m`. If it is less than half a minute, it is in seconds.
 fn life_text(alloc: Global, seconds: u64) -> Result<Vec<u8>, AllocError>
     ensures { IfOk result (λ text. text.items ≡ life_text seconds) }
 {
@@ -57,7 +57,7 @@ fn life_text(alloc: Global, seconds: u64) -> Result<Vec<u8>, AllocError>
     hours_text(alloc, minutes / 60, minutes % 60)
 }
 
-/// So many seconds, to the nearest minute.
+/// Converts seconds to minutes, to the nearest minute.
 fn minutes_of(seconds: u64) -> u64
     ensures { result ≡ minutes_of seconds }
 {
@@ -79,7 +79,7 @@ fn hours_text(alloc: Global, hours: u64, minutes: u64) -> Result<Vec<u8>, AllocE
     Ok(text)
 }
 
-/// A number, and what it counts.
+/// Returns a number and its unit.
 fn counted(alloc: Global, count: u64, unit: &[u8]) -> Result<Vec<u8>, AllocError>
     ensures { IfOk result (λ text. text.items ≡ decimal count ++ unit.now) }
 {

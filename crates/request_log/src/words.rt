@@ -5,7 +5,7 @@ ghost use Rattle.request_log.specs.Words.{as_rule_name, code_word, tgs_rule_name
 use kdc_core::{AsRefusal, TgsRefusal};
 use krb_fields::Code;
 
-/// The name of a rule of the Authentication Service exchange.
+/// Returns the log's name for a rule of the AS exchange.
 pub fn as_rule_name(rule: AsRefusal) -> &'static str
     ensures { result.now ≡ as_rule_name rule }
 {
@@ -31,7 +31,7 @@ pub fn as_rule_name(rule: AsRefusal) -> &'static str
     }
 }
 
-/// The name of a rule of the Ticket-Granting Service exchange.
+/// Returns the log's name for a rule of the TGS exchange.
 pub fn tgs_rule_name(rule: TgsRefusal) -> &'static str
     ensures { result.now ≡ tgs_rule_name rule }
 {
@@ -81,7 +81,7 @@ pub fn tgs_rule_name(rule: TgsRefusal) -> &'static str
     }
 }
 
-/// A word for an error code (RFC 4120, section 7.5.9). Codes that several rules share have one word.
+/// Returns a word for an error code (RFC 4120, section 7.5.9). Codes that several rules share have one word.
 pub fn code_word(code: Code) -> &'static str
     ensures { result.now ≡ code_word code }
 {

@@ -1,4 +1,4 @@
--- The type that a number names is found among all types.
+-- The encryption type with a number is found among all types.
 use Rattle.std.proofs.Common.{◌≡◌, ◌≢◌, ℕ, ℤ, Bool, true, false, List, Option, Some, None, refl, sym, subst}
 use Rattle.std.proofs.lemmas.Bool.Decides.{Decides-int_eq}
 use Rattle.std.specs.Ordering.{int_eq}
@@ -16,7 +16,7 @@ other m n apart = at (int_eq m n) refl
     at true e = absurd (apart ((Decides-int_eq m n).0 e))
     at false e = e
 
--- a number that is no type's names none
+-- a number of no encryption type is not found
 no_type : (n : ℤ) → ((e : Etype) → number e ≢ n) → type_numbered n ≡ None
 no_type n none =
     rw (
@@ -32,7 +32,7 @@ own Aes256CtsHmacSha1_96 = refl
 own Aes128CtsHmacSha256_128 = refl
 own Aes256CtsHmacSha384_192 = refl
 
--- what a search by the number found
+-- the result of a search for the number
 pub numbered : (n : ℤ) (found : Option Etype) → IfSome found (λ e. number e ≡ n) → IfNone found ((e : Etype) → number e ≢ n) → found ≡ type_numbered n
 numbered n (Some e) is none = sym (subst (λ (m : ℤ). type_numbered m ≡ Some e) is (own e))
 numbered n None is none = sym (no_type n none)

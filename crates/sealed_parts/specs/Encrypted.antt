@@ -1,4 +1,4 @@
--- Values sealed in messages.
+-- Encrypted values in messages.
 use Rattle.std.specs.Prelude.{ℕ, ℤ, List, Option}
 use Rattle.enctypes.specs.declared.key.Key.{Key}
 use Rattle.enctypes.specs.Etype.{number}
@@ -7,7 +7,7 @@ use Rattle.krb_elements.specs.Codec.{Codec, written}
 use Rattle.krb_fields.specs.EncryptedData.{EncryptedData}
 use Rattle.sealed_parts.specs.Parts.{opened_as}
 
--- EncryptedData (RFC 4120, section 5.2.9): the value's octets, sealed under the key
+-- EncryptedData (RFC 4120, section 5.2.9): the encoding of the value, encrypted with the key
 abbrev pub encrypted : {A : Type 0} → Codec A → Key → ℕ → Option ℤ → List ℕ → A → EncryptedData
 encrypted c key usage kvno confounder x = record {
   etype = number key.etype;
@@ -15,6 +15,6 @@ encrypted c key usage kvno confounder x = record {
   cipher = seal key.etype key.bytes usage confounder (written c x);
 }
 
--- the value that the key opens it to
+-- the value that the key decrypts it to
 abbrev pub decrypted : {A : Type 0} → Codec A → Key → ℕ → EncryptedData → Option A
 decrypted c key usage sealed = opened_as c key.etype key.bytes usage sealed.cipher

@@ -1,4 +1,4 @@
--- A key that stands in a message is read as that key.
+-- A key that was put in a message is read as that key.
 use Rattle.std.proofs.Common.{◌≡◌, Bool, cond, List, ℕ, length, Option, Some, None, ap, eq-eqb}
 use Rattle.enctypes.specs.Etype.{key_len, number}
 use Rattle.enctypes.specs.declared.etype.Etype.{Etype}
@@ -7,7 +7,7 @@ use Rattle.enctypes.specs.declared.etype.Etype.TheVariants.{Aes128CtsHmacSha256_
 use Rattle.enctypes.specs.declared.key.Key.{Key}
 use Rattle.sealed_parts.specs.Keys.{key_of}
 
--- a key of the type, where the test of its length holds
+-- a key of the encryption type, if its length is right
 abbrev key_by : Etype → List ℕ → Bool → Option Key
 key_by etype bytes size = cond size (Some (record { etype = etype; bytes = bytes })) None
 

@@ -1,4 +1,4 @@
--- Keys that stand in messages (EncryptionKey: RFC 4120, section 5.2.9).
+-- Keys in messages (EncryptionKey: RFC 4120, section 5.2.9).
 use Rattle.std.specs.Prelude.{ℕ, ℤ, nat_eq, if◌then◌else◌, List, [], ◌∷◌, length, Option, Some, None, find}
 use Rattle.std.specs.Ordering.{int_eq}
 use Rattle.enctypes.specs.Etype.{number, key_len}
@@ -11,11 +11,11 @@ use Rattle.krb_fields.specs.Typed.{Typed}
 abbrev pub all_types : List Etype
 all_types = Aes128CtsHmacSha1_96 ∷ Aes256CtsHmacSha1_96 ∷ Aes128CtsHmacSha256_128 ∷ Aes256CtsHmacSha384_192 ∷ []
 
--- the type that the number names
+-- the encryption type with this number
 abbrev pub type_numbered : ℤ → Option Etype
 type_numbered n = find (λ e. int_eq (number e) n) all_types
 
--- a key of the type has so many octets
+-- the length must be right for the encryption type
 abbrev pub key_if : Option Etype → List ℕ → Option Key
 key_if (Some etype) octets =
     if nat_eq (length octets) (key_len etype) then Some (record { etype = etype; bytes = octets }) else None

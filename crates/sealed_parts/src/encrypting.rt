@@ -9,7 +9,7 @@ use krb_elements::{Encode, Octets, UInt32};
 use krb_fields::EncryptedData;
 use std::alloc::{AllocError, Global};
 
-/// The value, sealed. `confounder` is 16 random octets.
+/// Encrypts a value. `confounder` is 16 random bytes.
 pub fn encrypted<T: Encode>(
     alloc: Global,
     key: &Key,
@@ -27,7 +27,7 @@ pub fn encrypted<T: Encode>(
     encrypted_by(alloc, &ReadyKey::new(key, usage), kvno, confounder, part)
 }
 
-/// As `encrypted`, by a key that is ready.
+/// Encrypts like `encrypted`, with a prepared key.
 pub fn encrypted_by<T: Encode>(
     alloc: Global,
     ready: &ReadyKey,

@@ -1,4 +1,4 @@
-//! Keys that stand in messages.
+//! Keys in messages.
 ghost use Rattle.std.specs.Prelude.{◌≡◌, ◌≤◌, length, IfOk};
 ghost use Rattle.sealed_parts.specs.Keys.{key_of, key_part, type_numbered};
 
@@ -7,22 +7,22 @@ use krb_elements::Octets;
 use krb_fields::Typed;
 use std::alloc::{AllocError, Global};
 
-/// The encryption type that a message names, if it is one of the four.
+/// Returns the encryption type that a message names, if it is one of the four supported ones.
 pub fn type_numbered(number: i32) -> Option<Etype>
     ensures { result ≡ type_numbered number }
 {
     Etype::from_number(number)
 }
 
-/// The key that an EncryptionKey holds (RFC 4120, section 5.2.9); `None` where its type isn't one of the four, or it
-/// hasn't as many octets as a key of its type.
+/// Returns the key in an EncryptionKey (RFC 4120, section 5.2.9), or `None` if its encryption type isn't supported or
+/// its length is wrong for that.
 pub fn key_of(number: i32, octets: &[u8]) -> Option<Key>
     ensures { result ≡ key_of number octets.now }
 {
     Key::new(type_numbered(number)?, octets)
 }
 
-/// The EncryptionKey that holds the key.
+/// Returns the EncryptionKey that holds the key.
 pub fn key_part(alloc: Global, key: &Key) -> Result<Typed, AllocError>
     ensures value { IfOk result (λ part. part ≡ key_part key.now) }
     ensures short { length key.now.bytes ≤ 32 }

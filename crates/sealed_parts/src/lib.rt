@@ -1,4 +1,4 @@
-//! The encrypted parts of messages: values that stand sealed under a key.
+//! The encrypted parts of messages.
 #![tactic(auto)]
 
 mod encrypting;
@@ -18,7 +18,7 @@ use krb_elements::{Encode, Fault, ReadOwned, read_owned, write};
 pub use ready_keys::ReadyKeys;
 use std::alloc::{AllocError, Global};
 
-/// Seals the encoding of a value. `confounder` is 16 random octets.
+/// Encrypts the encoding of a value. `confounder` is 16 random bytes.
 pub fn seal_part<T: Encode>(
     alloc: Global,
     key: &Key,
@@ -29,7 +29,7 @@ pub fn seal_part<T: Encode>(
     requires { length (T.codec.text part.now) < 2 ^ 32 }
     ensures value { IfOk result (λ cipher. cipher.items
         ≡ seal key.now.etype key.now.bytes (usage_number usage) confounder.now (written T.codec part.now)) }
-    // Whoever has the key opens it to the value again.
+    // The same key decrypts it to the value again.
     ensures opens { IfOk result (λ cipher.
         opened_as T.codec key.now.etype key.now.bytes (usage_number usage) cipher.items ≡ Some part.now) }
     ensures most { IfOk result (λ cipher. length cipher.items ≤ 46 + length (T.codec.text part.now)) }
@@ -37,7 +37,7 @@ pub fn seal_part<T: Encode>(
     seal_part_by(alloc, &ReadyKey::new(key, usage), confounder, part)
 }
 
-/// As `seal_part`, by a key that is ready.
+/// Encrypts like `seal_part`, with a prepared key.
 pub fn seal_part_by<T: Encode>(
     alloc: Global,
     ready: &ReadyKey,
@@ -57,7 +57,7 @@ pub fn seal_part_by<T: Encode>(
     ready.seal(alloc, confounder, &text)
 }
 
-/// The value that is sealed; `None` where the key doesn't open the cipher to the encoding of one.
+/// Decrypts a value. Returns `None` if the key doesn't decrypt the cipher to the encoding of one.
 pub fn open_part<T: ReadOwned>(
     alloc: Global,
     key: &Key,
@@ -66,13 +66,13 @@ pub fn open_part<T: ReadOwned>(
 ) -> Result<Option<T>, AllocError>
     ensures value { IfOk result (λ found. found
         ≡ opened_as T.codec key.now.etype key.now.bytes (usage_number usage) cipher.now) }
-    // It stands in no more octets than the cipher has.
+    // Its encoding is no longer than the cipher.
     ensures within { IfOk result (λ found. IfSome found (λ part. IsSpelledWithin T.codec part cipher.now)) }
 {
     open_part_by(alloc, &ReadyKey::new(key, usage), cipher)
 }
 
-/// As `open_part`, by a key that is ready.
+/// Decrypts like `open_part`, with a prepared key.
 pub fn open_part_by<T: ReadOwned>(
     alloc: Global,
     ready: &ReadyKey,

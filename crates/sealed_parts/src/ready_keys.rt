@@ -1,4 +1,4 @@
-//! The keys that were used last, kept ready.
+//! A cache of recently used keys.
 ghost use Rattle.std.specs.Prelude.{◌≡◌, ◌<◌, ◌≤◌, ◌+◌, ◌^◌, length, Some, IfOk, IfSome, IsTrue};
 ghost use Rattle.enctypes.specs.KeyUsage.{usage_number};
 ghost use Rattle.sealed_parts.specs.Encrypted.{encrypted, decrypted};
@@ -16,21 +16,21 @@ use std::fmt;
 /// How many keys are kept.
 const PLACES: usize = 256;
 
-/// A place for a key that is ready.
+/// A place in the cache.
 type Place = Option<ReadyKey>;
 
-/// The keys that were used last, each ready for one usage: most requests are sealed and opened under keys that requests
-/// just before them were. Each key has its place, which the next one of that place takes.
+/// A cache of recently used keys, each prepared for one usage. Most requests use keys that were used shortly before.
+/// Each key has a fixed place and evicts the one that was there.
 ///
-/// It saves time alone: whether a place holds that key for that usage is looked at where it is used. So contracts don't
-/// see what it holds.
+/// It affects speed only: each use checks that the place holds this key for this usage. So contracts don't see its
+/// contents.
 #[derive(Drop)]
 pub struct ReadyKeys {
     places: Vec<RefCell<Place>>,
 }
 
 impl ReadyKeys {
-    /// No keys yet, with room for all that will be kept.
+    /// Returns an empty cache, with room for all keys that it will hold.
     pub fn new(alloc: Global) -> Result<ReadyKeys, AllocError> {
         let mut places = Vec::with_capacity(alloc, PLACES)?;
         for _ in 0..PLACES {
@@ -39,7 +39,7 @@ impl ReadyKeys {
         Ok(ReadyKeys { places })
     }
 
-    /// As `open_part`, faster where the key is ready for the usage. Then it is.
+    /// Decrypts like `open_part`, faster if the key is in the cache for this usage. It is afterwards.
     pub fn open_part<T: ReadOwned>(
         &self,
         alloc: Global,
@@ -59,7 +59,7 @@ impl ReadyKeys {
         open_part(alloc, key, usage, cipher)
     }
 
-    /// As `encrypted`, faster where the key is ready for the usage. Then it is.
+    /// Encrypts like `encrypted`, faster if the key is in the cache for this usage. It is afterwards.
     pub fn encrypted<T: Encode>(
         &self,
         alloc: Global,
@@ -83,8 +83,8 @@ impl ReadyKeys {
         encrypted(alloc, key, usage, kvno, confounder, part)
     }
 
-    /// The place of a key for a usage. None while it is in use, and of a subkey, which a client chooses for one
-    /// request.
+    /// Returns the place of a key for a usage. Returns `None` while it is in use, and for a subkey, which a client
+    /// chooses for one request only.
     fn place_of(&self, key: &Key, usage: KeyUsage) -> Option<RefMut<'_, Place>> {
         if usage == KeyUsage::TgsRepEncPartSubkey {
             return None;
@@ -95,14 +95,14 @@ impl ReadyKeys {
     }
 }
 
-/// What is printed ends up in logs, where no key may stand.
+/// Debug output may end up in logs, so it shows no key.
 impl fmt::Debug for ReadyKeys {
     fn fmt<W: fmt::Write>(&self, f: &mut fmt::Formatter<W>) -> fmt::Result {
         f.debug_struct("ReadyKeys").finish_non_exhaustive()
     }
 }
 
-/// The key made ready for the usage in this place, unless it stands there.
+/// Returns the key prepared for this usage, after putting it in this place if it isn't there.
 fn made_ready<'p>(place: &'p mut Place, key: &Key, usage: KeyUsage) -> Option<&'p ReadyKey>
     ensures { IfSome result (λ ready. ready.now ≡ record { key = key.now; usage = usage }) }
 {
@@ -112,7 +112,7 @@ fn made_ready<'p>(place: &'p mut Place, key: &Key, usage: KeyUsage) -> Option<&'
     place.as_ref()
 }
 
-/// Whether the key stands there, ready for the usage.
+/// Checks whether the key is in this place, prepared for this usage.
 fn holds(place: &Place, key: &Key, usage: KeyUsage) -> bool
     ensures { IsTrue result → place.now ≡ Some (record { key = key.now; usage = usage }) }
 {

@@ -1,4 +1,4 @@
--- Sorted entries of which each value is changed, as finite maps.
+-- Sorted entries with all values changed, as finite maps.
 use Rattle.std.proofs.Common.{◌≡◌, ℕ, zero, suc, ◌<◌, ◌≤◌, ◌+◌, Bool, true, false, cond, T, List, [], ◌∷◌, length, get_or, set, Some, option_map, Ordering, refl, sym, ap, subst, ◌∙◌, arith, is_eq}
 use Rattle.std.specs.FinMap.{FinMap, entries, entries_sorted, find, is_sorted, from_sorted, entries-from_sorted, get-entries, get-from_sorted}
 use Rattle.std.specs.FinMap as map
@@ -26,13 +26,13 @@ module _ {K V : Type 0} (R : K → K → Ordering) (change : V → V) where
       at rest true = refl
       at rest false = rest
 
-  -- the value of a key is the one that stood there, changed
+  -- the new value of a key is its old value, changed
   pub get-change_values : (m : FinMap R V) (q : K) → map.get (change_values m change) q ≡ option_map change (map.get m q)
   get-change_values m q =
       get-from_sorted R (change_each change (entries m)) q (sorted_changed (entries m) (entries_sorted m))
       ∙ find_changed q (entries m) ∙ ap (option_map change) (sym (get-entries m q))
 
--- ---- one value after the other
+-- ---- one value after another
 
 -- the first n values changed
 abbrev pub changed_first : {K V : Type 0} → (V → V) → ℕ → List (K × V) → List (K × V)
@@ -61,7 +61,7 @@ module _ {E K V : Type 0} (key : E → K) (value : E → V) (change : V → V) w
       let rest : pairs es ≡ changed_first change i ps = cc in
       λ k. there k ∷ next_changed es ps i e f rest (omega (arith, lt)) is same new k
 
-  -- the value of the next entry is changed where it stands
+  -- the value of the next entry is changed in place
   pub one_changed : (es : List E) (ps : List (K × V)) (i : ℕ) (e f : E) → pairs es ≡ changed_first change i ps → i < length es → e ≡ get_or es i e → key f ≡ key e → value f ≡ change (value e)
       → pairs (set es i f) ≡ changed_first change (i + 1) ps
   one_changed es ps i e f so_far lt is same new =
@@ -83,7 +83,7 @@ module _ {E K V : Type 0} (key : E → K) (value : E → V) (change : V → V) w
   length_pairs [] = refl
   length_pairs (e ∷ es) = ap suc (length_pairs es)
 
-  -- all values are changed: the new entries are those that were walked to their end
+  -- all values are changed: the new entries are those of the loop at its end
   pub values_changed : (R : K → K → Ordering) (old walked new : List E) (n : ℕ) → T (is_sorted R (pairs old)) → pairs walked ≡ changed_first change n (pairs old) → length walked ≤ n → new ≡ walked
       → T (is_sorted R (pairs new)) × (from_sorted {R = R} (pairs new) ≡ change_values (from_sorted (pairs old)) change)
   values_changed R old walked new n s so_far all is =

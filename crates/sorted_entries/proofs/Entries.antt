@@ -1,4 +1,4 @@
--- Sorted entries as finite maps: what a search finds, and what an edit at that place makes.
+-- Sorted entries as finite maps: what a search finds, and what an edit at that place does.
 use Rattle.std.proofs.Common.{◌≡◌, ℕ, zero, suc, ◌<◌, ◌≤◌, ◌-◌, Bool, true, false, ◌&&◌, T, List, [], ◌∷◌, length, get_or, set, Some, None, Result, Ok, Err, Less, Equal, Greater, Ordering, sym, refl, ap, subst, ◌∙◌, arith, is_eq, is_lt, inl, inr, le_refl, slice_get, IfOk, IfErr}
 use Rattle.std.specs.Ordering.{ordering_index, ordering_reverse}
 use Rattle.std.specs.Cmp.{IsTotalOrder, alike_right}
@@ -33,11 +33,11 @@ module _ {E K V : Type 0} (R : K → K → Ordering) (o : IsTotalOrder R) (key :
   abbrev pairs : List E → List (K × V)
   pairs = pairs_of key value
 
-  -- the other way round, a comparison is reversed
+  -- swapping the arguments reverses a comparison
   turned : (a b : K) (r : Ordering) → R a b ≡ r → R b a ≡ ordering_reverse r
   turned a b r e = o.antisymm b a ∙ ap ordering_reverse e
 
-  -- a new entry in the gap is what `put` makes
+  -- inserting an entry in the gap is `put`
   insert_is_put : (k : K) (e : E) (es : List E) (i : ℕ) → key e ≡ k → IsGap R key k es i → pairs (insert es i e) ≡ put R k (value e) (pairs es)
   insert_is_put k e [] zero n p = ap (λ (m : K). (m, value e) ∷ []) n
   insert_is_put k e [] (suc i) n p = absurd (omega (arith, p.0))
@@ -52,13 +52,13 @@ module _ {E K V : Type 0} (R : K → K → Ordering) (o : IsTotalOrder R) (key :
         λ j d a b. p.2 (suc j) d (omega (arith, a)) (omega (arith, b)),
       )))
 
-  -- what is below all of a list is below a key that ties with one of them
+  -- a key below all entries is below any key that ties with one of them
   pub below_then : (x : K) (es : List E) (i : ℕ) (d : E) (k : K) → T (below_all R x (pairs es)) → i < length es → R (key (get_or es i d)) k ≡ Equal → R x k ≡ Less
   below_then x [] i d k b lt e = absurd (omega (arith, lt))
   below_then x (a ∷ es) zero d k b lt e = sym (alike_right o (key a) k x e) ∙ less _ (first _ _ b)
   below_then x (a ∷ es) (suc i) d k b lt e = below_then x es i d k (second _ _ b) (omega (arith, lt)) e
 
-  -- a new value in the entry of the key is what `put` makes: `put` keeps the key that stands there
+  -- writing a new value into the entry of the key is `put`, which keeps the old key
   set_is_put : (k : K) (e f : E) (es : List E) (i : ℕ) → T (is_sorted R (pairs es)) → IsAt R key k es i → get_or es i e ≡ e → key f ≡ key e → pairs (set es i f) ≡ put R k (value f) (pairs es)
   set_is_put k e f [] i s p h same = absurd (omega (arith, p.0))
   set_is_put k e f (a ∷ es) zero s p h same =
@@ -85,7 +85,7 @@ module _ {E K V : Type 0} (R : K → K → Ordering) (o : IsTotalOrder R) (key :
       rw (turned (key a) k Less (below_then (key a) es i d k (first _ _ s) (omega (arith, p.0)) (p.1 d)))
       (found_some k es i d (second _ _ s) (omega (arith, p.0), λ d. p.1 d))
 
-  -- pairs that `put` makes are sorted, and their map is what `insert` makes
+  -- `put` keeps the pairs sorted, and their map is that of `insert`
   put_inserts : (l m : List (K × V)) (k : K) (v : V) → T (is_sorted R l) → m ≡ put R k v l → T (is_sorted R m) × (from_sorted {R = R} m ≡ map.insert (from_sorted l) k v)
   put_inserts l m k v s e =
       let sorted : T (is_sorted R m) = subst (λ x. T (is_sorted R x)) (sym e) (is_sorted-put R o k v l s) in (
@@ -95,23 +95,23 @@ module _ {E K V : Type 0} (R : K → K → Ordering) (o : IsTotalOrder R) (key :
             ∙ sym (entries-insert o (from_sorted l) k v)),
       )
 
-  -- an entry inserted in the gap of its key
+  -- an entry is inserted in the gap of its key
   pub inserted : (es m searched : List E) (e : E) (i : ℕ) → T (is_sorted R (pairs es)) → searched ≡ es → IsGap R key (key e) searched i → m ≡ insert es i e → T (is_sorted R (pairs m)) × (from_sorted {R = R} (pairs m) ≡ map.insert (from_sorted (pairs es)) (key e) (value e))
   inserted es m searched e i s here gap made =
       put_inserts (pairs es) (pairs m) (key e) (value e) s (ap pairs made ∙ insert_is_put (key e) e es i refl (subst (λ l. IsGap R key (key e) l i) here gap))
 
-  -- an entry f of the same key written over the entry e of a key
+  -- an entry f with the same key replaces the entry e of a key
   pub replaced : (es searched : List E) (k : K) (e f : E) (i : ℕ) → T (is_sorted R (pairs es)) → searched ≡ es → IsAt R key k searched i → e ≡ get_or es i e → key f ≡ key e → T (is_sorted R (pairs (set es i f))) × (from_sorted {R = R} (pairs (set es i f)) ≡ map.insert (from_sorted (pairs es)) k (value f))
   replaced es searched k e f i s here at is same =
       put_inserts (pairs es) (pairs (set es i f)) k (value f) s (set_is_put k e f es i s (subst (λ l. IsAt R key k l i) here at) (sym is) same)
 
-  -- what is below all of a list is below each of them
+  -- a key below all entries is below each of them
   below_at : (x : K) (es : List E) (i : ℕ) (d : E) → T (below_all R x (pairs es)) → i < length es → R x (key (get_or es i d)) ≡ Less
   below_at x [] i d b lt = absurd (omega (arith, lt))
   below_at x (a ∷ es) zero d b lt = less _ (first _ _ b)
   below_at x (a ∷ es) (suc i) d b lt = below_at x es i d (second _ _ b) (omega (arith, lt))
 
-  -- the comparisons with a key rise along sorted entries
+  -- the comparisons with a key don't decrease along sorted entries
   rises : (k : K) (es : List E) → T (is_sorted R (pairs es)) → IsNonDecreasingBy (λ e. ordering_index (R (key e) k)) es
   rises k [] s i j d le lt = absurd (omega (arith, lt))
   rises k (a ∷ es) s zero zero d le lt = le_refl _
@@ -147,7 +147,7 @@ module _ {E K V : Type 0} (R : K → K → Ordering) (o : IsTotalOrder R) (key :
   pub length_is : (es : List E) (m : FinMap R V) → T (is_sorted R (pairs es)) → from_sorted (pairs es) ≡ m → length es ≡ map.len m
   length_is es m s is_map = sym (len-from_sorted es s) ∙ ap map.len is_map
 
-  -- what `get` answers where the key stands, and where it does not
+  -- what `get` returns if the key is there, and if it is not
   pub get_found : (es searched : List E) (m : FinMap R V) (k : K) (i : ℕ) (e : E) → T (is_sorted R (pairs es)) → from_sorted (pairs es) ≡ m → searched ≡ es → IsAt R key k searched i → e ≡ get_or es i e → Some (value e) ≡ get m k
   get_found es searched m k i e s is_map here at is =
       ap (λ (e : E). Some (value e)) is ∙ sym (found_some k es i e s (subst (λ l. IsAt R key k l i) here at)) ∙ sym (get-from_sorted R (pairs es) k s)
@@ -158,7 +158,7 @@ module _ {E K V : Type 0} (R : K → K → Ordering) (o : IsTotalOrder R) (key :
       sym (found_none k es i (subst (λ l. IsGap R key k l i) here gap)) ∙ sym (get-from_sorted R (pairs es) k s)
       ∙ ap (λ m. get m k) is_map
 
-  -- what stands at a place
+  -- the entry at an index
   slice_get-pairs : (es : List E) (i : ℕ) (e : E) → i < length es → e ≡ get_or es i e → Some (key e, value e) ≡ slice_get (pairs es) i
   slice_get-pairs [] i e lt is = absurd (omega (arith, lt))
   slice_get-pairs (a ∷ es) zero e lt is = ap (λ (e : E). Some (key e, value e)) is

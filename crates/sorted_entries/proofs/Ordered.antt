@@ -1,4 +1,5 @@
--- The entries of an ordered map as finite maps: what an insertion makes, and what is left where the first are taken off.
+-- The entries of an ordered map as finite maps: what an insertion does, and what is left after the first ones are
+-- removed.
 use Rattle.std.proofs.Common.{◌≡◌, ℕ, zero, suc, ◌+◌, ◌-◌, ◌<◌, Bool, true, false, cond, not, T, List, [], ◌∷◌, ◌++◌, length, drop, Option, Some, None, IfSome, IfNone, IsSome, ◌↔◌, Ordering, Less, Equal, Greater, sym, refl, ap, subst, ◌∙◌, arith, length-drop}
 use Rattle.std.proofs.Math.Seq.{drop-nil}
 use Rattle.std.specs.Ordering.{match_ordering, ordering_reverse, eq_by_cmp}
@@ -24,7 +25,7 @@ module _ {A : Type 0} where
   drop-one (suc i) [] = drop-nil (suc i + 1)
   drop-one (suc i) (e ∷ es) = let next : suc i + 1 ≡ suc (i + 1) = omega arith in ap (λ n. drop n (e ∷ es)) next ∙ drop-one i es
 
-  -- one more taken off the front
+  -- one more entry removed from the front
   pub popped : (r : Option A) (es old new : List A) (i : ℕ) → old ≡ drop i es → IsSome r ↔ (0 < length old) → IfSome r (λ e. old ≡ e ∷ new) → IfNone r (new ≡ old) → new ≡ drop (i + 1) es
   popped (Some e) es old new i is some taken none = ap (drop 1) (sym taken ∙ is) ∙ sym (drop-one i es)
   popped None es [] new i is some taken none = none ∙ ap (drop 1) is ∙ sym (drop-one i es)
@@ -32,7 +33,7 @@ module _ {A : Type 0} where
 
 -- R orders the keys
 module _ {K X : Type 0} (R : K → K → Ordering) (o : IsTotalOrder R) where
-  -- what the ordered map does with an entry is what `put` does
+  -- the ordered map inserts an entry like `put`
   insert_entry_is : (k : K) (v : X) (es : List (K × X)) → insert_entry R es k v ≡ put R k v es
   insert_entry_is k v [] = refl
   insert_entry_is k v (e ∷ es) =
@@ -65,7 +66,7 @@ module _ {K X : Type 0} (R : K → K → Ordering) (o : IsTotalOrder R) where
             ∙ sym (entries-insert o (from_sorted es) k v)),
       )
 
-  -- an entry whose key is above all goes behind all
+  -- an entry whose key is above all others goes last
   below_last : (x k : K) (v : X) (es fs : List (K × X)) → T (below_all R x (es ++ (k, v) ∷ fs)) → R x k ≡ Less
   below_last x k v [] fs h = less _ (first _ _ h)
   below_last x k v (e ∷ es) fs h = below_last x k v es fs (second _ _ h)
@@ -80,15 +81,15 @@ module _ {K X : Type 0} (R : K → K → Ordering) (o : IsTotalOrder R) where
   append-one [] fs e = refl
   append-one (x ∷ es) fs e = ap (λ l. x ∷ l) (append-one es fs e)
 
-  -- the first of the entries that are left to be copied is inserted behind those that are copied
+  -- the first entry that is left to copy is inserted after those that are copied
   pub copied : (all es fs left rest : List (K × X)) (k : K) (v : X) → T (is_sorted R all) → es ++ left ≡ all → left ≡ (k, v) ∷ rest → fs ≡ insert_entry R es k v → fs ++ rest ≡ all
   copied all es fs left rest k v s so_far next made =
       let whole : es ++ (k, v) ∷ rest ≡ all = ap (λ l. es ++ l) (sym next) ∙ so_far in
       ap (λ l. l ++ rest) (made ∙ insert_last k v es rest (subst (λ l. T (is_sorted R l)) (sym whole) s)) ∙ append-one es rest (k, v) ∙ whole
 
-  -- A test p on keys that goes on passing as keys rise, and the test that says the opposite
+  -- a test p on keys that keeps passing for larger keys, and the opposite test
   module _ (exact : IsAntisymmetric R) (p opposite : K → Bool) (is_opposite : (k : K) → opposite k ≡ not (p k)) (rises : (x y : K) → R x y ≡ Less → p x ≡ true → p y ≡ true) where
-    -- behind one that passes all pass
+    -- if one entry passes, all later ones pass
     all_pass : (x : K) (es : List (K × X)) → p x ≡ true → T (below_all R x es) → (filter (λ e. opposite e.0) es ≡ []) × (where_key R p es ≡ es)
     all_pass x [] h b = (refl, refl)
     all_pass x (e ∷ es) h b =
@@ -96,7 +97,7 @@ module _ {K X : Type 0} (R : K → K → Ordering) (o : IsTotalOrder R) where
         let later = all_pass x es h (second _ _ b) in
         (rw (fails p opposite is_opposite e.0 true at) later.0, rw at (ap (λ l. e ∷ l) later.1))
 
-    -- those that fail stand before those that pass
+    -- those that fail come before those that pass
     kept_behind : (es : List (K × X)) → T (is_sorted R es) → drop (length (filter (λ e. opposite e.0) es)) es ≡ where_key R p es
     kept_behind [] s = refl
     kept_behind (e ∷ es) s = at (kept_behind es (second _ _ s)) (p e.0) refl
@@ -107,7 +108,7 @@ module _ {K X : Type 0} (R : K → K → Ordering) (o : IsTotalOrder R) where
             rw (is, fails p opposite is_opposite e.0 true is) (ap (λ l. drop (length l) (e ∷ es)) later.0 ∙ ap (λ l. e ∷ l) (sym later.1))
         at behind false is = rw (is, fails p opposite is_opposite e.0 false is) behind
 
-    -- as many taken off the front as fail the test
+    -- removing as many from the front as fail the test
     pub retained : (es fs : List (K × X)) (n : ℕ) → T (is_sorted R es) → n ≡ length (filter (λ e. opposite e.0) es) → fs ≡ drop n es → T (is_sorted R fs) × (from_sorted {R = R} fs ≡ map.retain_keys (from_sorted es) p)
     retained es fs n s count e =
         let made : fs ≡ where_key R p es = e ∙ ap (λ n. drop n es) count ∙ kept_behind es s in

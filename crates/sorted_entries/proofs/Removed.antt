@@ -1,4 +1,4 @@
--- Sorted entries of which one is taken out, as finite maps.
+-- Sorted entries with one removed, as finite maps.
 use Rattle.std.proofs.Common.{◌≡◌, ℕ, zero, suc, Bool, true, false, cond, ◌&&◌, T, List, [], ◌∷◌, Some, None, Less, Equal, Greater, Ordering, refl, sym, ap, subst, ◌∙◌, arith, is_eq}
 use Rattle.std.specs.Ordering.{eq_by_cmp, ordering_reverse}
 use Rattle.std.specs.Cmp.{IsTotalOrder}
@@ -30,12 +30,12 @@ module _ {E K V : Type 0} (R : K → K → Ordering) (o : IsTotalOrder R) (exact
   sorted-remove (e ∷ es) zero h = second _ _ h
   sorted-remove (e ∷ es) (suc i) h = both _ _ (below-remove (key e) es i (first _ _ h)) (sorted-remove es i (second _ _ h))
 
-  -- a key that ties with one that is below all is not found
+  -- a key that ties with one below all entries is not found
   pub none_above : (x q : K) (es : List E) → T (below_all R x (pairs es)) → R q x ≡ Equal → find R q (pairs es) ≡ None
   none_above x q [] h tied = refl
   none_above x q (e ∷ es) h tied = rw (o.congr q x (key e) tied ∙ less (R x (key e)) (first _ _ h)) (none_above x q es (second _ _ h) tied)
 
-  -- the place of k apart, all is found as before
+  -- apart from k, every key has the same value as before
   find-remove : (k q : K) (es : List E) (i : ℕ) → T (is_sorted R (pairs es)) → IsAt R key k es i → find R q (pairs (remove es i)) ≡ cond (eq_by_cmp R q k) None (find R q (pairs es))
   find-remove k q [] i s p = absurd (omega (arith, p.0))
   find-remove k q (e ∷ es) zero s p = at (R q k) refl
@@ -57,7 +57,7 @@ module _ {E K V : Type 0} (R : K → K → Ordering) (o : IsTotalOrder R) (exact
       at later Greater is = later
       at later Equal is = ap (λ r. cond (is_eq r) None (Some (value e))) (sym (o.congr q (key e) k is ∙ below_then R o key value (key e) es i e k (first _ _ s) (omega (arith, p.0)) (p.1 e)))
 
-  -- an entry taken out at the place of its key
+  -- an entry removed at the place of its key
   pub removed : (es m searched : List E) (k : K) (i : ℕ) → T (is_sorted R (pairs es)) → searched ≡ es → IsAt R key k searched i → m ≡ remove es i → T (is_sorted R (pairs m)) × (from_sorted {R = R} (pairs m) ≡ map.remove (from_sorted (pairs es)) k)
   removed es m searched k i s here at made =
       let sorted : T (is_sorted R (pairs m)) = subst (λ l. T (is_sorted R (pairs l))) (sym made) (sorted-remove es i s) in (
@@ -67,7 +67,7 @@ module _ {E K V : Type 0} (R : K → K → Ordering) (o : IsTotalOrder R) (exact
             ∙ sym (get-remove o (from_sorted (pairs es)) k q ∙ ap (cond (eq_by_cmp R q k) None) (get-from_sorted R (pairs es) q s))),
       )
 
-  -- a key that stands nowhere is taken out already
+  -- removing a key that is not there changes nothing
   pub removed_none : (es searched : List E) (m : FinMap R V) (k : K) (i : ℕ) → T (is_sorted R (pairs es)) → from_sorted (pairs es) ≡ m → searched ≡ es → IsGap R key k searched i → m ≡ map.remove m k
   removed_none es searched m k i s is_map here gap =
       let absent : get m k ≡ None = ap (λ m. get m k) (sym is_map) ∙ get-from_sorted R (pairs es) k s ∙ found_none R o key value k es i (subst (λ l. IsGap R key k l i) here gap) in

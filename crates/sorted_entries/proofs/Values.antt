@@ -1,4 +1,4 @@
--- Sorted entries of which those are kept whose values pass a test, as finite maps.
+-- Sorted entries, with only those kept whose values pass a test, as finite maps.
 use Rattle.std.proofs.Common.{◌≡◌, Bool, true, false, cond, ◌&&◌, T, List, [], ◌∷◌, filter, Option, Some, None, Less, Equal, Greater, Ordering, refl, sym, ap, subst, ◌∙◌, is_eq}
 use Rattle.std.specs.Ordering.{eq_by_cmp}
 use Rattle.std.specs.Cmp.{IsTotalOrder}
@@ -10,7 +10,7 @@ use Rattle.sorted_entries.specs.Values.{passes_if, retain_values}
 use Rattle.sorted_entries.proofs.Entries.{first, second}
 use Rattle.sorted_entries.proofs.Removed.{both, none_above}
 
--- the value, where it passes
+-- the value, if it passes
 abbrev pub passing : {V : Type 0} → (V → Bool) → Option V → Option V
 passing test o = cond (passes_if test o) o None
 

@@ -1,5 +1,5 @@
 pub mod Dates
 pub mod Numbers
 pub mod Settings
--- laws that proofs cite: no reader of a contract needs them
+-- laws that proofs cite; readers of a contract don't need them
 pub mod SettingLaws

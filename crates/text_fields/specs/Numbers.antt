@@ -1,8 +1,8 @@
--- Decimal numbers, each with the texts that spell it.
+-- Decimal numbers, and the texts that spell them.
 use Rattle.std.specs.Prelude.{◌≡◌, ℕ, ◌<◌, ◌^◌, List}
 use Rattle.std.specs.Str.Parse.{IsNumeral, digits_value}
 
--- a number is its decimal digits, perhaps with zeros in front
+-- a number in decimal digits, with leading zeros allowed
 abbrev pub IsNumberText : ℕ → List ℕ → Type 0
 IsNumberText n text = IsNumeral 10 text × (digits_value 10 text ≡ n)
 

@@ -1,4 +1,4 @@
--- Settings that are made one after the other.
+-- Settings made in order.
 use Rattle.std.proofs.Common.{◌≡◌, ℕ, zero, suc, ◌+◌, List, [], ◌∷◌, ◌++◌, length, map, take, set, refl, sym, ap, ◌∙◌}
 use Rattle.std.proofs.Common.{append_assoc, append-nil, arith}
 use Rattle.std.specs.List.{fold}
@@ -13,7 +13,7 @@ use Rattle.text_fields.specs.declared.settings.Setting.TheVariants.{Flag, Life, 
 use Rattle.text_fields.specs.declared.settings.TimeField.TheVariants.{Expires, PasswordExpires, RevokedBefore}
 use Rattle.text_fields.specs.Settings.{settings_of, place, with_setting, with_settings}
 
--- a setting is put in its place, and leaves all others as they are
+-- setting one field replaces its value and leaves all others unchanged
 placed : (s : Setting) (p : Policy) → settings_of (with_setting s p) ≡ set (settings_of p) (place s) s
 placed (Flag Disabled on) p = refl
 placed (Flag Preauth on) p = refl
@@ -36,7 +36,7 @@ all_placed : (settings : List Setting) (p : Policy)
 all_placed [] p = refl
 all_placed (s ∷ ss) p = all_placed ss (with_setting s p) ∙ ap (put_all ss) (placed s p)
 
--- n, and so many numbers behind it
+-- n, followed by this many numbers
 abbrev upwards : ℕ → ℕ → List ℕ
 upwards n zero = []
 upwards n (suc m) = n ∷ upwards (suc n) m
@@ -52,7 +52,7 @@ in_order (s ∷ ss) all n long are =
     ∙ append_assoc (take (place s) all) (s ∷ []) ss
     ∙ ap (λ m. take m all ++ s ∷ ss) here
 
--- a setting of each field, in the order of their names, makes the policy that has them
+-- setting every field, in the order of their names, makes the policy with these values
 pub made : (settings : List Setting) (p : Policy) → map place settings ≡ map place (settings_of p)
     → settings_of (with_settings settings p) ≡ settings
 made settings p are =

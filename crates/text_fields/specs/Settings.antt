@@ -1,4 +1,4 @@
--- Settings of a policy, each with the text that spells it.
+-- Settings of a policy, and the texts that spell them.
 use Rattle.std.specs.Prelude.{◌≡◌, ◌==◌, ℕ, ℤ, pos, ◌<◌, Bool, true, false, List, [], ◌∷◌, length, Option, Some, None}
 use Rattle.std.specs.Prelude.{codes, bytes_eq, if◌then◌else◌}
 use Rattle.std.specs.List.{before_first, after_first, position_or_len, fold}
@@ -17,7 +17,7 @@ use Rattle.text_fields.specs.declared.settings.Setting.TheVariants.{Flag, Life, 
 use Rattle.text_fields.specs.Dates.{IsDateText}
 use Rattle.text_fields.specs.Numbers.{IsU32Text}
 
--- the names of fields
+-- the names of the fields
 abbrev pub flag_name : FlagField → List ℕ
 flag_name Disabled = codes "disabled"
 flag_name Preauth = codes "preauth"
@@ -41,7 +41,7 @@ setting_name (Flag field on) = flag_name field
 setting_name (Life field life) = life_name field
 setting_name (Time field time) = time_name field
 
--- the field of a name
+-- the field with this name
 abbrev pub flag_of : List ℕ → Option FlagField
 flag_of name =
     if bytes_eq name (codes "disabled") then Some Disabled
@@ -70,7 +70,7 @@ abbrev pub IsFlagText : Bool → List ℕ → Type 0
 IsFlagText true text = text ≡ codes "true"
 IsFlagText false text = text ≡ codes "false"
 
--- a whole second since 1970, up to the end of 9999, or none
+-- a whole second since 1970, up to the end of 9999, or `never`
 abbrev pub IsTimeText : Option ℤ → List ℕ → Type 0
 IsTimeText None text = text ≡ codes "never"
 IsTimeText (Some second) text = IsNumeral 10 text × (second ≡ pos (digits_value 10 text)) × IsSecond second
@@ -80,7 +80,7 @@ IsSettingOf (Flag field on) name value = (flag_of name ≡ Some field) × IsFlag
 IsSettingOf (Life field life) name value = (life_of name ≡ Some field) × IsU32Text life value
 IsSettingOf (Time field time) name value = (time_of name ≡ Some field) × IsTimeText time value
 
--- a field that is a time, with the date that is its value
+-- a field that is a time, with a date as its value
 abbrev pub IsDateOf : Setting → List ℕ → List ℕ → Type 0
 IsDateOf (Time field (Some second)) name value = (time_of name ≡ Some field) × IsDateText second value
 IsDateOf (Time field None) name value = ⊥
@@ -92,7 +92,7 @@ pub record IsSettingText (setting : Setting) (text : List ℕ) : Type 0 where
   pub equals : position_or_len (λ b. b == 0x3D) text < length text
   pub parts : IsSettingOf setting (before_first (λ b. b == 0x3D) text) (after_first (λ b. b == 0x3D) text)
 
--- the policy with a field set
+-- the policy with this field set
 abbrev pub with_setting : Setting → Policy → Policy
 with_setting (Flag Disabled on) policy = record policy { disabled = on }
 with_setting (Flag Preauth on) policy = record policy { preauth = on }
@@ -126,7 +126,7 @@ settings_of policy =
     ∷ Flag Service policy.service
     ∷ []
 
--- where a setting stands among them
+-- the place of a setting among them
 abbrev pub place : Setting → ℕ
 place (Flag Disabled on) = 0
 place (Time Expires time) = 1
@@ -141,6 +141,6 @@ place (Flag Proxiable on) = 9
 place (Time RevokedBefore time) = 10
 place (Flag Service on) = 11
 
--- the policy with all of these set, one after the other
+-- the policy with all of these set, in order
 abbrev pub with_settings : List Setting → Policy → Policy
 with_settings settings policy = fold (λ made setting. with_setting setting made) policy settings

@@ -6,7 +6,7 @@ use krb_der::KTime;
 use krb_fields::Second;
 use std::fmt;
 
-/// A second that is printed as its date and its time of day.
+/// A second that is displayed as its date and time of day.
 #[derive(Clone, Copy)]
 pub struct UtcDate(pub Second);
 
@@ -19,7 +19,7 @@ impl fmt::Display for UtcDate {
     }
 }
 
-/// The octets of a second's date and time of day.
+/// Returns the text of a second's date and time of day.
 #[tactic(auto, using(crate::proofs::DateTexts::is_moment_text))]
 fn date_octets(second: Second) -> [u8; 20]
     ensures { IsMomentText second result }
@@ -31,7 +31,7 @@ fn date_octets(second: Second) -> [u8; 20]
     ]
 }
 
-/// The second of a date with a time of day, or with which a date begins.
+/// Reads a date with a time of day, or a date alone, which stands for the start of its day.
 pub(crate) fn date(text: &str) -> Option<Second>
     ensures read { IfSome result (λ second. IsDateText second text.now) }
     ensures none { IfNone result ((second : ℤ) → ¬ IsDateText second text.now) }
@@ -44,7 +44,7 @@ pub(crate) fn date(text: &str) -> Option<Second>
     }
 }
 
-/// The day's start, where ten octets are its date.
+/// Appends the start of the day to a date.
 fn laid_over(date: &[u8]) -> [u8; 20]
     requires { length date.now ≡ 10 }
     ensures { result ≡ date.now ++ codes "T00:00:00Z" }
@@ -54,7 +54,7 @@ fn laid_over(date: &[u8]) -> [u8; 20]
     octets
 }
 
-/// The second of a date with a time of day.
+/// Reads a date with a time of day.
 fn moment(octets: &[u8]) -> Option<Second>
     requires { length octets.now ≡ 20 }
     ensures read { IfSome result (λ second. IsMomentText second octets.now) }
@@ -64,7 +64,7 @@ fn moment(octets: &[u8]) -> Option<Second>
     Second::new(KTime::from_octets(&unmarked)?.seconds())
 }
 
-/// The octets YYYYMMDDHHMMSSZ that have these marks between them.
+/// Returns the bytes YYYYMMDDHHMMSSZ, if they have the right punctuation between them.
 fn unmarked(o: &[u8]) -> Option<[u8; 15]>
     requires { length o.now ≡ 20 }
     ensures marked { IfSome result (λ octets. marks o.now ≡ codes "--T::") }

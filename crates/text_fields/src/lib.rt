@@ -1,4 +1,4 @@
-//! What the words of a line or of a command spell: decimal numbers, dates, and settings of a policy.
+//! Reads and writes decimal numbers, dates and policy settings, as words of a line or a command.
 #![tactic(auto)]
 
 mod dates;

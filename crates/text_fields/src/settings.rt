@@ -1,5 +1,5 @@
-//! Settings: a field of a policy and the value that it gets. Names and values are those of the database's text; `never`
-//! stands for null.
+//! Settings: a field of a policy and its new value. Names and values are those of the database's text, with `never` for
+//! null.
 ghost use Rattle.std.specs.Prelude.{◌≡◌, ℤ, ℕ, Bool, Option, Some, IfSome, IfNone};
 ghost use Rattle.std.specs.List.{fold};
 ghost use Rattle.principal_rows.specs.declared.policy.Policy as policies;
@@ -19,7 +19,7 @@ use krb_fields::Second;
 use principal_rows::Policy;
 use std::fmt;
 
-/// A field that holds or doesn't.
+/// A boolean field.
 #[derive(Clone, Copy, PartialEq, Eq)]
 pub enum FlagField {
     Disabled,
@@ -31,14 +31,14 @@ pub enum FlagField {
     Service,
 }
 
-/// A field of so many seconds.
+/// A field that is a number of seconds.
 #[derive(Clone, Copy, PartialEq, Eq)]
 pub enum LifeField {
     GreatestLife,
     GreatestRenewable,
 }
 
-/// A field of a second, or of none.
+/// A field that is a moment, or none.
 #[derive(Clone, Copy, PartialEq, Eq)]
 pub enum TimeField {
     Expires,
@@ -58,7 +58,7 @@ pub enum Setting {
 }
 
 impl FlagField {
-    /// Its name, in the text of databases and in commands.
+    /// Returns the field's name in the database's text and in commands.
     pub fn name(self) -> &'static str
         ensures name { result.now ≡ flag_name self }
         ensures found { flag_of result.now ≡ Some self }
@@ -76,7 +76,7 @@ impl FlagField {
 }
 
 impl LifeField {
-    /// Its name, in the text of databases and in commands.
+    /// Returns the field's name in the database's text and in commands.
     pub fn name(self) -> &'static str
         ensures name { result.now ≡ life_name self }
         ensures found { life_of result.now ≡ Some self }
@@ -89,7 +89,7 @@ impl LifeField {
 }
 
 impl TimeField {
-    /// Its name, in the text of databases and in commands.
+    /// Returns the field's name in the database's text and in commands.
     pub fn name(self) -> &'static str
         ensures name { result.now ≡ time_name self }
         ensures found { time_of result.now ≡ Some self }
@@ -103,7 +103,7 @@ impl TimeField {
 }
 
 impl Setting {
-    /// A field's name and its value, with an equals sign between them.
+    /// Reads a field's name and its value, with an equals sign between them.
     pub fn parse(text: &str) -> Option<Setting>
         ensures read { IfSome result (λ setting. IsSettingText setting text.now) }
         ensures none { IfNone result ((setting : settings.Setting) → ¬ IsSettingText setting text.now) }
@@ -112,7 +112,8 @@ impl Setting {
         Setting::of(name, value)
     }
 
-    /// The field of this name with the value that this text spells. `None` for another name, or no value of that field.
+    /// Reads the value of the field with this name. Returns `None` if there is no such field or the value isn't valid
+    /// for it.
     pub fn of(name: &str, value: &str) -> Option<Setting>
         ensures read { IfSome result (λ setting. IsSettingOf setting name.now value.now) }
         ensures none { IfNone result ((setting : settings.Setting) → ¬ IsSettingOf setting name.now value.now) }
@@ -126,8 +127,8 @@ impl Setting {
         time_setting(name, value)
     }
 
-    /// The field of this name, which is a time, with the date that this text spells. `None` for
-    /// another name, or no date.
+    /// Reads a date as the value of the field with this name. Returns `None` if there is no such field, its value is
+    /// not a time, or this is not a date.
     pub fn of_date(name: &str, value: &str) -> Option<Setting>
         ensures read { IfSome result (λ setting. IsDateOf setting name.now value.now) }
         ensures none { IfNone result ((setting : settings.Setting) → ¬ IsDateOf setting name.now value.now) }
@@ -135,7 +136,7 @@ impl Setting {
         Some(Setting::Time(time_field(name)?, Some(date(value)?)))
     }
 
-    /// The name of its field.
+    /// Returns the name of the field.
     pub fn name(self) -> &'static str
         ensures { result.now ≡ setting_name self }
     {
@@ -146,7 +147,7 @@ impl Setting {
         }
     }
 
-    /// The settings of a policy, in the order of their names.
+    /// Returns the settings of a policy, in the order of their names.
     pub fn all(policy: Policy) -> [Setting; SETTINGS]
         ensures settings { result ≡ settings_of policy }
         ensures same { (other : policies.Policy)
@@ -168,7 +169,7 @@ impl Setting {
         ]
     }
 
-    /// The policy with this field set.
+    /// Returns the policy with this field set.
     pub fn on(self, policy: Policy) -> Policy
         ensures { result ≡ with_setting self policy }
     {
@@ -191,7 +192,7 @@ impl Setting {
     }
 }
 
-/// The field's name and its value, with a space between them; behind a second stands its date too.
+/// The field's name and its value, with a space between them. A second is followed by its date.
 impl fmt::Display for Setting {
     fn fmt<W: fmt::Write>(&self, f: &mut fmt::Formatter<W>) -> fmt::Result {
         match self {
@@ -288,7 +289,7 @@ fn flag(text: &str) -> Option<bool>
     }
 }
 
-/// A second in decimal, or `never`.
+/// Reads a second in decimal, or `never`.
 fn time(text: &str) -> Option<Option<Second>>
     ensures read { IfSome result (λ time. IsTimeText time text.now) }
     ensures none { IfNone result ((time : Option ℤ) → ¬ IsTimeText time text.now) }

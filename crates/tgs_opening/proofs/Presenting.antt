@@ -1,4 +1,4 @@
--- What is presented, where the ticket was opened.
+-- The result for a decrypted ticket.
 use Rattle.std.proofs.Common.{◌≡◌, ◌<◌, ℕ, List, length, Option, Some, None, Ok, Err, refl, ap, sym, ◌∙◌, arith}
 use Rattle.std.specs.Prelude.{IfSome}
 use Rattle.refusals.specs.RefusalLaws.{decided_found}
@@ -17,7 +17,7 @@ use Rattle.tgs_opening.specs.declared.opened.OpenedTicket.{OpenedTicket}
 use Rattle.tgs_opening.specs.declared.refusal.TgsRefusal.{TgsRefusal}
 use Rattle.tgs_opening.specs.declared.refusal.TgsRefusal.TheVariants.{MalformedApReq}
 
--- the cipher is shorter than the value that it came in
+-- the cipher is shorter than the value that contains it
 cipher_short : (message : Received) (ap : ApReq) → ap_req_of message ≡ Ok ap
     → IfSome (tgs_data message) (λ value. length value < 2147483648)
     → IfSome (tgs_data message) (λ value. length ap.ticket.enc_part.cipher < length value)
@@ -39,7 +39,7 @@ pub few_presented : (message : Received) (ap : ApReq) (part : EncTicketPart) →
 few_presented message ap part read few short within =
     few_data 2147483648 part ap.ticket.enc_part.cipher (cipher_short message ap read few short) within
 
--- what the last stage refuses is refused
+-- if the last step refuses, the request is refused
 pub refused_last : (v : TicketView) (message : Received) (o : OpenedTicket) (key : Key) (auth : Authenticator)
     (body : List ℕ) (refusal : TgsRefusal)
     → session_key_of v o.part ≡ Ok key → authenticator_of key o.ap.authenticator ≡ Ok auth

@@ -1,5 +1,5 @@
--- The session key of a presented ticket, and the authenticator under it, with its checksum of the request (RFC 4120,
--- sections 3.2.3, 3.3.2 and 5.5.1). At each rule stands its section.
+-- The session key of a presented ticket, and the authenticator that it encrypts, with a checksum of the request (RFC
+-- 4120, sections 3.2.3, 3.3.2 and 5.5.1). Each rule has its section beside it.
 use Rattle.std.specs.Prelude.{ℕ, Bool, not, ◌||◌, nat_eq, if◌then◌else◌, is_some, is_none, List, [], ◌∷◌, Option, Some}
 use Rattle.std.specs.Prelude.{None, Result, option_map}
 use Rattle.std.specs.Ordering.{int_eq}
@@ -32,33 +32,33 @@ part_rules v part =
     ∷ (is_some part.caddr, BoundAddress)  -- 3.2.3
     ∷ []
 
--- the key in the ticket, else the last reason (section 3.2.3)
+-- the key in the ticket, or else the last reason (section 3.2.3)
 abbrev pub session_key_of : TicketView → EncTicketPart → Result Key TgsRefusal
 session_key_of v part = decided (part_rules v part) (key_of part.key.number part.key.octets) BadSessionKey
 
 -- ---- the authenticator
 
--- what the session key opens, where the authenticator's type is its own
+-- the authenticator, decrypted with the session key, if it names that key's encryption type
 abbrev pub authenticator_in : Key → EncryptedData → Option Authenticator
 authenticator_in key sealed =
     if int_eq sealed.etype (number key.etype)
     then opened_with authenticator (usage_number TgsReqAuthenticator) (Some key) sealed.cipher
     else None
 
--- what is opened, else the only reason (section 3.2.3)
+-- the decrypted authenticator, or else the only reason (section 3.2.3)
 abbrev pub authenticator_of : Key → EncryptedData → Result Authenticator TgsRefusal
 authenticator_of key sealed = decided [] (authenticator_in key sealed) AuthenticatorNotOpened
 
--- ---- what the authenticator says
+-- ---- the authenticator's contents
 
--- another client's than the ticket's
+-- it names another client than the ticket
 abbrev pub is_mismatched : EncTicketPart → Authenticator → Bool
 is_mismatched part auth = not (pointwise nat_eq auth.crealm part.crealm) || not (is_same auth.cname part.cname)
 
 abbrev pub is_other_type : Key → Option Typed → Bool
 is_other_type key = holds_of (λ cksum. not (int_eq cksum.number (checksum_type key.etype)))
 
--- not the checksum of the request's body, as it was sent
+-- it is not the checksum of the request's body, as that was sent
 abbrev pub is_modified : Key → List ℕ → Option Typed → Bool
 is_modified key body = holds_of (λ cksum.
     not (pointwise nat_eq cksum.octets (mac key.etype key.bytes (usage_number TgsReqAuthenticatorChecksum) body)))
@@ -71,11 +71,11 @@ authenticator_rules part key body auth =
     ∷ (is_modified key body auth.cksum, Modified)  -- 3.3.2
     ∷ []
 
--- none is chosen, or one that is a key
+-- no subkey, or one that is a valid key
 abbrev pub subkey_in : Option Typed → Option (Option Key)
 subkey_in (Some subkey) = option_map Some (key_of subkey.number subkey.octets)
 subkey_in None = Some None
 
--- the subkey, by which the reply is to be sealed, else the last reason (section 3.3.3)
+-- the subkey, with which the reply will be encrypted, or else the last reason (section 3.3.3)
 abbrev pub subkey_of : EncTicketPart → Key → List ℕ → Authenticator → Result (Option Key) TgsRefusal
 subkey_of part key body auth = decided (authenticator_rules part key body auth) (subkey_in auth.subkey) BadSubkey

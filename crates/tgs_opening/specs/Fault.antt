@@ -1,4 +1,4 @@
--- What a call gave, where memory may run out.
+-- The result of a call that may run out of memory.
 use Rattle.std.specs.Prelude.{◌≡◌, ⊤, Result, Ok, Err}
 use Rattle.tgs_opening.specs.declared.fault.TgsFault.{TgsFault}
 use Rattle.tgs_opening.specs.declared.fault.TgsFault.TheVariants.{Refused, Memory}
@@ -8,7 +8,7 @@ abbrev pub Fails : {A : Type 0} → TgsFault → Result A TgsRefusal → Type 0
 Fails (Refused refusal) wanted = wanted ≡ Err refusal
 Fails Memory wanted = ⊤
 
--- It is what is wanted, found or refused, unless memory ran out.
+-- The result is the wanted value or refusal, unless memory ran out.
 abbrev pub Gives : {A : Type 0} → Result A TgsFault → Result A TgsRefusal → Type 0
 Gives (Ok x) wanted = wanted ≡ Ok x
 Gives (Err fault) wanted = Fails fault wanted

@@ -4,7 +4,7 @@ pub mod Fault
 pub mod Tickets
 pub mod Authenticators
 pub mod Opening
--- laws that proofs cite: no reader of a contract needs them
+-- laws that proofs cite; readers of a contract don't need them
 pub mod OpeningLaws
 pub mod PartLaws
 pub mod RequestLaws

@@ -1,4 +1,5 @@
--- What a TGS-REQ presents, or the first rule by which that is refused (RFC 4120, sections 3.2.3 and 3.3.2).
+-- The ticket and the authenticator of a TGS-REQ, or the first rule that refuses it (RFC 4120, sections 3.2.3 and
+-- 3.3.2).
 use Rattle.std.specs.Prelude.{Some, None, Result, Ok, Err}
 use Rattle.krb_types.specs.KdcReq.{Received}
 use Rattle.refusals.specs.Stages.{◌>>=◌}
@@ -11,14 +12,14 @@ use Rattle.tgs_opening.specs.declared.presented.Presented.{Presented}
 use Rattle.tgs_opening.specs.declared.refusal.TgsRefusal.{TgsRefusal}
 use Rattle.tgs_opening.specs.declared.rejection.Rejection.{Rejection}
 
--- the ticket that is presented, opened
+-- the presented ticket, decrypted
 abbrev pub opened_ticket : TicketView → Received → Result OpenedTicket TgsRefusal
 opened_ticket v message = do
   ap ← ap_req_of message
   part ← shown_ticket v message.body.value ap
   Ok (record { ap = ap; part = part })
 
--- what shows that who presents it has its session key
+-- the proof that the sender has its session key
 abbrev pub authenticated : TicketView → Received → OpenedTicket → Result Authenticated TgsRefusal
 authenticated v message o = do
   key ← session_key_of v o.part
@@ -35,7 +36,7 @@ presented_as o a = record {
   subkey = a.subkey;
 }
 
--- what is refused once the ticket was opened names its client
+-- a refusal after the ticket was decrypted names its client
 abbrev pub by_authenticated : OpenedTicket → Result Authenticated TgsRefusal → Result Presented Rejection
 by_authenticated o (Ok a) = Ok (presented_as o a)
 by_authenticated o (Err rule) = Err (record { rule = rule; client = Some o.part.cname })
@@ -44,6 +45,6 @@ abbrev pub by_ticket : TicketView → Received → Result OpenedTicket TgsRefusa
 by_ticket v message (Ok o) = by_authenticated o (authenticated v message o)
 by_ticket v message (Err rule) = Err (record { rule = rule; client = None })
 
--- what the request presents
+-- the request's ticket and authenticator, decrypted and checked
 abbrev pub presented : TicketView → Received → Result Presented Rejection
 presented v message = by_ticket v message (opened_ticket v message)

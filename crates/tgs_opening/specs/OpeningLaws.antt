@@ -1,4 +1,4 @@
--- What is presented has the ticket that was opened, and so has what is rejected, where one was opened.
+-- The result holds the decrypted ticket, or names its client if the request is refused after that.
 use Rattle.std.proofs.Common.{◌≡◌, Option, Some, None, Result, Ok, Err, refl, ap}
 use Rattle.krb_fields.specs.PrincipalName.{Name}
 use Rattle.krb_types.specs.KdcReq.{Received}
@@ -26,7 +26,7 @@ module _ (v : TicketView) (message : Received) (p : Presented) where
       → (o : OpenedTicket) × (opened_ticket v message ≡ Ok o) × (o.part ≡ p.ticket)
   ticket_opened e = ticket_of (opened_ticket v message) refl e
 
--- the client of a ticket that was opened
+-- the client of a decrypted ticket
 abbrev pub client_of : Result OpenedTicket TgsRefusal → Option Name
 client_of (Ok o) = Some o.part.cname
 client_of (Err rule) = None
@@ -50,6 +50,6 @@ module _ (v : TicketView) (message : Received) (rejected : Rejection) where
       again (Ok p) = None
       again (Err r) = r.client
 
-  -- what is rejected names the client of the ticket that was opened, and none where none was
+  -- a refusal names the client of the decrypted ticket, or none if the ticket could not be decrypted
   pub rejected_client : presented v message ≡ Err rejected → client_of (opened_ticket v message) ≡ rejected.client
   rejected_client e = client_opened (opened_ticket v message) e

@@ -1,4 +1,4 @@
--- The authorization data of a ticket are no longer than the octets that spell what the ticket holds.
+-- A ticket's authorization data are no longer than the bytes that encode its encrypted part.
 use Rattle.std.proofs.Common.{ℕ, ◌<◌, List, length, Option, Some, None, refl, ap, arith}
 use Rattle.std.specs.Prelude.{IfSome}
 use Rattle.krb_elements.specs.Codec.{sequence, list_of, string}
@@ -47,7 +47,7 @@ in_part =
     in_contents size 99 (sequence (enc_ticket_part_form typed string name (list_of typed))).Spells
     (λ x. part_of (λ list. Some list) x.authorization_data) (λ (x : EncTicketPart). x) in_fields
 
--- fewer octets than n
+-- fewer bytes than n
 abbrev pub AreFew : ℕ → Option (List Typed) → Type 0
 AreFew n o = IfSome o (λ list. length ((list_of typed).text list) < n)
 

@@ -1,5 +1,5 @@
--- The ticket that a TGS-REQ presents, and the key that opens it (RFC 4120, sections 3.2.3 and 3.3.2). At each rule
--- stands its section.
+-- The ticket that a TGS-REQ presents, and the key that decrypts it (RFC 4120, sections 3.2.3 and 3.3.2). Each rule has
+-- its section beside it.
 use Rattle.std.specs.Prelude.{ℕ, ℤ, pos, Bool, true, false, not, ◌&&◌, ◌||◌, nat_eq, if◌then◌else◌, is_some, is_none}
 use Rattle.std.specs.Prelude.{List, [], ◌∷◌, Option, Some, None, Result}
 use Rattle.std.specs.List.{list_any}
@@ -56,11 +56,11 @@ request_rules message =
     ∷ (is_none (tgs_data message), NoApReq)  -- 3.3.2
     ∷ []
 
--- the AP-REQ that comes with the request (section 5.2.7.1)
+-- the AP-REQ in the request (section 5.2.7.1)
 abbrev pub ap_req_of : Received → Result ApReq TgsRefusal
 ap_req_of message = decided (request_rules message) (ap_req_in (tgs_data message)) MalformedApReq
 
--- ---- whom the ticket is for
+-- ---- the service that the ticket is for
 
 -- names are compared by their components: the name-type is a hint (RFC 4120, section 6.2)
 abbrev pub is_same : Name → Name → Bool
@@ -74,7 +74,7 @@ abbrev pub is_named : Option Name → Name → Bool
 is_named (Some name) service = is_same name service
 is_named None service = false
 
--- the service that is asked for, which counts where the ticket is to be renewed or validated (section 3.3.2)
+-- the requested service, which counts if the ticket is to be renewed or validated (section 3.3.2)
 abbrev pub is_for_asked : ReqBody → Name → Bool
 is_for_asked body ticket_service = keeps_ticket body && is_named body.sname ticket_service
 
@@ -84,7 +84,7 @@ addressee realm body ticket_service =
     else if is_for_asked body ticket_service then AskedFor
     else Other
 
--- the row whose keys the ticket may be sealed under
+-- the row whose keys may have encrypted the ticket
 abbrev pub row_of : TicketView → Addressee → Option Row
 row_of v Granter = v.granter
 row_of v AskedFor = v.service
@@ -95,28 +95,29 @@ is_other Granter = false
 is_other AskedFor = false
 is_other Other = true
 
--- another realm's, or another service's
+-- it is for another realm or another service
 abbrev pub is_not_for_us : TicketView → ReqBody → Ticket → Bool
 is_not_for_us v body ticket =
     not (pointwise nat_eq ticket.realm v.realm) || is_other (addressee v.realm body ticket.sname)
 
--- ---- the key that it is sealed under
+-- ---- the key that encrypts it
 
--- the key of the ticket's type in the version that it names, else in the current one
+-- the key of the ticket's encryption type in the version that it names, or else in the current one
 abbrev pub ticket_key : Option Row → EncryptedData → Option Key
 ticket_key row sealed = key_named row sealed.etype sealed.kvno
 
--- whether any version has a key of the type
+-- whether any version has a key of this encryption type
 abbrev pub holds_type : List KeyVersion → ℤ → Bool
 holds_type versions etype = list_any (λ v. has_key v.keys etype) versions
 
--- there is no row; or it has no key of the type; or no version is named, and the current one has none
+-- there is no row, no version has a key of the encryption type, or the ticket names no version and the current one has
+-- none
 abbrev pub lacks_key : Option Row → EncryptedData → Bool
 lacks_key (Some row) sealed =
     not (holds_type row.versions sealed.etype) || (is_none sealed.kvno && is_none (ticket_key (Some row) sealed))
 lacks_key None sealed = true
 
--- a version is named that has no key of the type
+-- the ticket names a key version that has no key of the encryption type
 abbrev pub lacks_version : Option Row → EncryptedData → Bool
 lacks_version row sealed = is_some sealed.kvno && is_none (ticket_key row sealed)
 
@@ -136,17 +137,17 @@ ticket_rules v body ap =
     ∷ (lacks_version (holder v body ap.ticket) ap.ticket.enc_part, BadKeyVersion)  -- 3.2.3
     ∷ []
 
--- what the key opens, if there is one
+-- the part, decrypted with the key if there is one
 abbrev pub opened_with : {A : Type 0} → Codec A → ℕ → Option Key → List ℕ → Option A
 opened_with c usage (Some key) cipher = opened_as c key.etype key.bytes usage cipher
 opened_with c usage None cipher = None
 
--- what the ticket holds
+-- the ticket's encrypted part, decrypted
 abbrev pub part_of : TicketView → ReqBody → Ticket → Option EncTicketPart
 part_of v body ticket =
     opened_with enc_ticket_part (usage_number TicketUsage)
     (ticket_key (holder v body ticket) ticket.enc_part) ticket.enc_part.cipher
 
--- a ticket that is not opened is the last reason (section 3.2.3)
+-- that the ticket can't be decrypted is the last reason (section 3.2.3)
 abbrev pub shown_ticket : TicketView → ReqBody → ApReq → Result EncTicketPart TgsRefusal
 shown_ticket v body ap = decided (ticket_rules v body ap) (part_of v body ap.ticket) TicketNotOpened

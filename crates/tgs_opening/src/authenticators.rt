@@ -1,5 +1,5 @@
-//! The session key of a presented ticket, and the authenticator under it, with its checksum of the
-//! request (RFC 4120, sections 3.2.3, 3.3.2 and 5.5.1).
+//! The session key of a presented ticket, and the authenticator that it encrypts, with a checksum of the request (RFC
+//! 4120, sections 3.2.3, 3.3.2 and 5.5.1).
 ghost use Rattle.std.specs.Prelude.{◌≡◌, nat_eq, IfOk, option_copied};
 ghost use Rattle.std.specs.Cmp.Lexicographic.{pointwise};
 ghost use Rattle.enctypes.specs.KeyUsage.{usage_number};
@@ -20,7 +20,7 @@ use sealed_parts::{ReadyKeys, key_of};
 use std::alloc::{AllocError, Global};
 use std::cmp::Ordering;
 
-/// The session key of a ticket that is bound to no address, of a client of this realm.
+/// Returns the session key, after checking that the client is of this realm and that the ticket is bound to no address.
 pub fn session_key_of(view: &TicketView<'_>, part: &EncTicketPart) -> Result<Key, TgsRefusal>
     ensures { result ≡ session_key_of view.now part.now }
 {
@@ -41,7 +41,7 @@ fn part_rules(view: &TicketView<'_>, part: &EncTicketPart) -> [(bool, TgsRefusal
     ]
 }
 
-/// The authenticator that the session key opens.
+/// Decrypts the authenticator with the session key.
 pub fn authenticator_of(
     alloc: Global,
     ready: &ReadyKeys,
@@ -69,7 +69,7 @@ fn authenticator_in(
     ready.open_part(alloc, key, usage, sealed.cipher.as_slice())
 }
 
-/// The subkey of an authenticator that fits the ticket and the octets of the request's body.
+/// Returns the subkey, after checking that the authenticator matches the ticket and the bytes of the request's body.
 pub fn subkey_of(
     part: &EncTicketPart,
     key: &Key,
@@ -100,7 +100,7 @@ fn authenticator_rules(
     ]
 }
 
-/// It names another client than the ticket.
+/// Checks whether the authenticator names another client than the ticket.
 fn is_mismatched(part: &EncTicketPart, authenticator: &Authenticator) -> bool
     ensures { result ≡ is_mismatched part.now authenticator.now }
 {
@@ -117,7 +117,7 @@ fn is_other_type(key: &Key, cksum: Option<&Typed>) -> bool
     }
 }
 
-/// It isn't the checksum of the body as it was sent.
+/// Checks whether this is not the checksum of the body as it was sent.
 fn is_modified(key: &Key, body: &[u8], cksum: Option<&Typed>) -> bool
     ensures { result ≡ is_modified key.now body.now (option_copied cksum.entry) }
 {
@@ -135,7 +135,7 @@ fn is_checksum(key: &Key, body: &[u8], octets: &[u8]) -> bool
     verify(key, KeyUsage::TgsReqAuthenticatorChecksum, body, octets)
 }
 
-/// None is chosen, or one that is a key.
+/// Returns the subkey, `Some(None)` if there is none, and `None` if it is not a valid key.
 fn subkey_in(subkey: Option<&Typed>) -> Option<Option<Key>>
     ensures { result ≡ subkey_in (option_copied subkey.entry) }
 {

@@ -1,14 +1,14 @@
-//! Why nothing is opened.
+//! Errors of opening a request.
 ghost use Rattle.std.specs.Prelude.{◌≡◌};
 ghost use Rattle.tgs_opening.specs.declared.fault.TgsFault.TheVariants.{Refused, Memory};
 
 use crate::refusal::TgsRefusal;
 use std::alloc::AllocError;
 
-/// Why what a TGS-REQ presents is not opened.
+/// Why the ticket and the authenticator of a TGS-REQ were not accepted.
 #[derive(Clone, Copy, Debug, PartialEq, Eq)]
 pub enum TgsFault {
-    /// By this rule.
+    /// This rule refuses the request.
     Refused(TgsRefusal),
     Memory,
 }

@@ -1,7 +1,7 @@
-//! The ticket and the authenticator that a TGS-REQ presents, opened and checked (RFC 4120, sections
-//! 3.2.3 and 3.3.2).
+//! The ticket and the authenticator that a TGS-REQ presents, decrypted and checked (RFC 4120, sections 3.2.3 and
+//! 3.3.2).
 //!
-//! Nothing that is remembered takes part here, nor the row of the client or the moment.
+//! Nothing here depends on the replay cache, on the client's row or on the time.
 #![tactic(auto)]
 
 mod authenticators;

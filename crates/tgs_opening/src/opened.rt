@@ -1,16 +1,16 @@
-//! What a TGS-REQ presents, as far as it was opened.
+//! The decrypted parts of a TGS-REQ, before all are checked.
 use enctypes::Key;
 use krb_ap::ApReqRef;
 use krb_parts::{Authenticator, EncTicketPart};
 
-/// An AP-REQ, and what its ticket holds.
+/// An AP-REQ, and its decrypted ticket.
 #[derive(Debug, Drop)]
 pub struct OpenedTicket<'a> {
     pub ap: ApReqRef<'a>,
     pub part: EncTicketPart,
 }
 
-/// What shows that who presents a ticket has its session key.
+/// The proof that the sender of a ticket has its session key.
 #[derive(Debug, Drop)]
 pub struct Authenticated {
     pub session_key: Key,

@@ -1,4 +1,4 @@
-//! What a TGS-REQ presents (RFC 4120, sections 3.2.3 and 3.3.2).
+//! Decrypts and checks what a TGS-REQ presents (RFC 4120, sections 3.2.3 and 3.3.2).
 ghost use Rattle.std.specs.Prelude.{◌≡◌, ◌<◌, length, IfOk, IfSome, Result};
 ghost use Rattle.krb_elements.specs.Codec.{list_of};
 ghost use Rattle.krb_fields.specs.Typed.{typed};
@@ -18,10 +18,10 @@ use crate::view::TicketView;
 use krb_types::KdcReqRef;
 use std::alloc::{AllocError, Global};
 
-/// What a TGS-REQ presents, or the first rule by which that is refused, with the client of the ticket where that was
-/// opened.
+/// Decrypts and checks what a TGS-REQ presents. Otherwise returns the first rule that refuses it, with the ticket's
+/// client if the ticket could be decrypted.
 ///
-/// Until the ticket is opened, it takes no more memory than names of the request and the ticket's cipher need.
+/// Until the ticket is decrypted, this allocates no more than names of the request and the ticket's cipher need.
 pub fn tgs_open(
     alloc: Global,
     view: &TicketView<'_>,
@@ -37,7 +37,7 @@ pub fn tgs_open(
     by_ticket(alloc, view, message, ticket)
 }
 
-/// The ticket that is presented, opened.
+/// Decrypts the presented ticket.
 fn open_ticket<'a>(
     alloc: Global,
     view: &TicketView<'_>,
@@ -53,7 +53,7 @@ fn open_ticket<'a>(
     Ok(OpenedTicket { ap, part })
 }
 
-/// What is presented, by what became of the ticket.
+/// Returns what is presented, given the result for the ticket.
 fn by_ticket(
     alloc: Global,
     view: &TicketView<'_>,
@@ -77,7 +77,7 @@ fn by_ticket(
     }
 }
 
-/// What shows that who presents the ticket has its session key.
+/// Checks that the sender of the ticket has its session key.
 fn authenticated(
     alloc: Global,
     view: &TicketView<'_>,
@@ -102,7 +102,7 @@ fn authenticated(
     })
 }
 
-/// What is presented with a ticket that was opened, by what became of its authenticator.
+/// Returns what is presented with this ticket, given the result for the authenticator.
 fn by_authenticated(
     alloc: Global,
     ticket: OpenedTicket<'_>,
@@ -132,7 +132,7 @@ fn by_authenticated(
     }
 }
 
-/// The octets of the request's body, as they were sent.
+/// Returns the bytes of the request's body, as they were sent.
 fn body_octets<'a>(message: &KdcReqRef<'a>) -> &'a [u8]
     ensures { result.now ≡ message.now.body.octets }
 {

@@ -1,9 +1,9 @@
-//! What a TGS-REQ presents.
+//! The ticket and the authenticator of a TGS-REQ.
 use enctypes::Key;
 use krb_fields::Name;
 use krb_parts::{Authenticator, EncTicketPart};
 
-/// A ticket and an authenticator that fit together and to the request.
+/// A ticket and an authenticator that match each other and the request.
 #[derive(Drop)]
 pub struct Presented {
     /// The service that the ticket is for.

@@ -1,12 +1,11 @@
-//! Why a TGS-REQ is refused.
+//! The reasons to refuse a TGS-REQ.
 ghost use Rattle.std.specs.Prelude.{◌≡◌};
 ghost use Rattle.tgs_opening.specs.Refusal.{code_of};
 
 use krb_fields::Code;
 
-/// The rules by which TGS-REQs are refused, in the order in which they are asked: those of receipt
-/// (RFC 4120, sections 3.2.3 and 3.3.2), of revoked tickets (section 3.3.3.1) and of the ticket
-/// that is generated (section 3.3.3).
+/// The rules that refuse a TGS-REQ, in the order in which they are checked. They concern its receipt (RFC 4120,
+/// sections 3.2.3 and 3.3.2), revoked tickets (section 3.3.3.1) and the new ticket (section 3.3.3).
 #[derive(Debug, Clone, Copy, PartialEq, Eq)]
 pub enum TgsRefusal {
     // what the request presents (sections 3.2.3 and 3.3.2; a foreign client, 3.3.3.2)
@@ -30,7 +29,7 @@ pub enum TgsRefusal {
     BadChecksumType,
     Modified,
     BadSubkey,
-    // who presents it (section 3.3.3.1), and whether that came before (section 3.2.3)
+    // who presents it (section 3.3.3.1), and whether the authenticator is timely and new (section 3.2.3)
     ClientUnknown,
     ClientRevoked,
     ClientExpired,
@@ -38,8 +37,8 @@ pub enum TgsRefusal {
     Skewed,
     Repeated,
     Full,
-    // what it is presented for (the ticket's times, section 3.2.3; another service, 3.3.2; else 3.3.3): from here on
-    // the authenticator is remembered
+    // what it is presented for (the ticket's times, section 3.2.3; another service, 3.3.2; else 3.3.3); by now the
+    // authenticator is recorded
     NotYetValid,
     TicketExpired,
     ServiceUnknown,

@@ -1,11 +1,11 @@
-//! What a TGS-REQ presents, rejected.
+//! A TGS-REQ whose ticket or authenticator is refused.
 use crate::refusal::TgsRefusal;
 use krb_fields::Name;
 
-/// By which rule a ticket or its authenticator is refused, and whose ticket it is.
+/// The rule that refuses a ticket or its authenticator, and the ticket's client.
 #[derive(Debug, Drop)]
 pub struct Rejection {
     pub rule: TgsRefusal,
-    /// The client of the ticket, where that was opened.
+    /// The client of the ticket, if the ticket could be decrypted.
     pub client: Option<Name>,
 }

@@ -1,5 +1,4 @@
-//! The ticket that a TGS-REQ presents, and the key that opens it (RFC 4120, sections 3.2.3 and
-//! 3.3.2).
+//! The ticket that a TGS-REQ presents, and the key that decrypts it (RFC 4120, sections 3.2.3 and 3.3.2).
 ghost use Rattle.std.specs.Prelude.{◌≡◌, ◌<◌, length, ◌&&◌, ◌||◌, not, nat_eq, IfOk, IfSome, is_none, is_some};
 ghost use Rattle.std.specs.Prelude.{option_copied};
 ghost use Rattle.std.specs.Cmp.Lexicographic.{pointwise};
@@ -30,17 +29,17 @@ use std::alloc::{AllocError, Global};
 use std::cmp::Ordering;
 use ticket_times::keeps_ticket;
 
-/// Whom a ticket is for.
+/// The service that a ticket is for.
 #[derive(Clone, Copy, PartialEq, Eq)]
 pub enum Addressee {
     /// The ticket-granting service.
     Granter,
-    /// The service that is asked for, where the ticket is to be renewed or validated.
+    /// The requested service, if the ticket is to be renewed or validated.
     AskedFor,
     Other,
 }
 
-/// The AP-REQ that comes with the request.
+/// Returns the AP-REQ in the request.
 pub fn ap_req_of<'a>(message: &KdcReqRef<'a>) -> Result<ApReqRef<'a>, TgsRefusal>
     ensures value { result ≡ ap_req_of message.now }
     ensures short { IfOk result (λ ap.
@@ -65,7 +64,7 @@ fn request_rules(message: &KdcReqRef<'_>, lacks_value: bool) -> [(bool, TgsRefus
     ]
 }
 
-/// The AP-REQ that the value of a PA-TGS-REQ spells.
+/// Reads the AP-REQ from the value of a PA-TGS-REQ.
 fn ap_req_in(value: Option<OctetsRef<'_>>) -> Option<ApReqRef<'_>>
     ensures value { result ≡ ap_req_in value.entry }
     ensures short { IfSome result (λ ap.
@@ -74,7 +73,7 @@ fn ap_req_in(value: Option<OctetsRef<'_>>) -> Option<ApReqRef<'_>>
     read_ap_req(value?.as_slice()).ok()
 }
 
-/// What the presented ticket holds.
+/// Decrypts the presented ticket, or returns the first rule that refuses it.
 pub fn shown_ticket(
     alloc: Global,
     view: &TicketView<'_>,
@@ -127,7 +126,7 @@ fn ticket_rules(
     ]
 }
 
-/// Whom a ticket for this service is for.
+/// Returns the addressee of a ticket for this service.
 fn addressee_of(
     alloc: Global,
     realm: &[u8],
@@ -145,7 +144,7 @@ fn addressee_of(
     Ok(Addressee::Other)
 }
 
-/// Whether it is the service that is asked for, where a ticket of it is to be renewed or validated.
+/// Checks whether it is the requested service, and the request renews or validates a ticket for it.
 fn is_for_asked(
     alloc: Global,
     body: &ReqBodyRef<'_>,
@@ -160,7 +159,7 @@ fn is_for_asked(
     Ok(is_named(body.sname.as_ref(), &ticket_service))
 }
 
-/// Whether the name is that of this service, by its components.
+/// Checks whether the name is this service's. Only the components count.
 pub fn is_named(name: Option<&NameRef<'_>>, service: &Name) -> bool
     ensures { result ≡ is_named (option_copied name.entry) service.now }
 {
@@ -170,7 +169,7 @@ pub fn is_named(name: Option<&NameRef<'_>>, service: &Name) -> bool
     }
 }
 
-/// The row whose keys a ticket may be sealed under.
+/// Returns the row whose keys may have encrypted the ticket.
 fn row_of<'v>(view: &TicketView<'v>, whom: Addressee) -> Option<&'v Row>
     ensures { option_copied result ≡ row_of view.now whom }
 {
@@ -181,14 +180,15 @@ fn row_of<'v>(view: &TicketView<'v>, whom: Addressee) -> Option<&'v Row>
     }
 }
 
-/// Another realm's ticket, or another service's.
+/// Checks whether the ticket is for another realm or another service.
 fn is_not_for_us(view: &TicketView<'_>, ticket: &TicketRef<'_>, whom: Addressee) -> bool
     ensures { result ≡ (not (pointwise nat_eq ticket.now.realm view.now.realm) || is_other whom) }
 {
     ticket.realm.as_slice() != view.realm || matches!(whom, Addressee::Other)
 }
 
-/// There is no row; or it has no key of the type; or no version is named, and the current one has none.
+/// Checks whether there is no row, no version has a key of the encryption type, or the ticket names no key version and
+/// the current one has no such key.
 fn lacks_key(row: Option<&Row>, sealed: &EncryptedDataRef<'_>, key: Option<&Key>) -> bool
     requires { option_copied key ≡ ticket_key (option_copied row) sealed.now }
     ensures { result ≡ lacks_key (option_copied row.entry) sealed.now }
@@ -201,14 +201,14 @@ fn lacks_key(row: Option<&Row>, sealed: &EncryptedDataRef<'_>, key: Option<&Key>
     }
 }
 
-/// A version is named that has no key of the type.
+/// Checks whether the ticket names a key version that has no key of the encryption type.
 fn lacks_version(sealed: &EncryptedDataRef<'_>, key: Option<&Key>) -> bool
     ensures { result ≡ (is_some sealed.now.kvno && is_none (option_copied key.entry)) }
 {
     sealed.kvno.is_some() && key.is_none()
 }
 
-/// Whether any version has a key of the type.
+/// Checks whether any version has a key of this encryption type.
 fn holds_type(versions: &Versions, etype: i32) -> bool
     ensures { result ≡ holds_type versions.now etype }
 {
@@ -218,14 +218,14 @@ fn holds_type(versions: &Versions, etype: i32) -> bool
         .any(|version| key_numbered(&version.keys, etype).is_some())
 }
 
-/// The key that the ticket names by its type and version; without a version, that of the current one.
+/// Returns the key with the ticket's encryption type and key version; without a key version, the current one.
 fn ticket_key<'r>(row: Option<&'r Row>, sealed: &EncryptedDataRef<'_>) -> Option<&'r Key>
     ensures { option_copied result ≡ ticket_key (option_copied row.entry) sealed.now }
 {
     key_by(&row?.versions, sealed.etype, sealed.kvno)
 }
 
-/// What the key opens, if there is one.
+/// Decrypts the part with the key, if there is one.
 fn part_of(
     alloc: Global,
     ready: &ReadyKeys,

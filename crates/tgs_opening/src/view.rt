@@ -1,18 +1,18 @@
-//! What a ticket is opened from, beside the request.
+//! What decrypting a ticket needs beside the request.
 use principal_rows::Row;
 use sealed_parts::ReadyKeys;
 use std::marker::Model;
 
-/// The rows whose keys may have sealed the ticket that a TGS-REQ presents.
+/// The rows whose keys may have encrypted the ticket that a TGS-REQ presents.
 #[derive(Drop)]
 pub struct TicketView<'a> {
-    /// The realm's octets, 1 to 255.
+    /// The realm, 1 to 255 bytes.
     pub realm: &'a [u8],
     /// The row of the ticket-granting service.
     pub granter: Option<&'a Row>,
-    /// The row of the service that is asked for, where it has one.
+    /// The row of the requested service, if it has one.
     pub service: Option<&'a Row>,
-    /// The keys that are kept ready. They save time alone: contracts don't see them.
+    /// A cache of recently used keys. It affects speed only: contracts don't see it.
     pub ready: &'a ReadyKeys,
 }
 

@@ -6,10 +6,10 @@ use Rattle.krb_fields.specs.declared.kdc_option.KdcOption.TheVariants.{Renew, Va
 use Rattle.krb_fields.specs.KdcOption.{kdc_option_number}
 use Rattle.krb_types.specs.ReqBody.{ReqBody}
 
--- whether it asks for the option
+-- the request asks for the option
 abbrev pub asks : ReqBody → KdcOption → Bool
 asks body option = has_bit body.kdc_options (kdc_option_number option)
 
--- whether the ticket that is presented is to be renewed or validated
+-- the request renews or validates the presented ticket
 abbrev pub keeps_ticket : ReqBody → Bool
 keeps_ticket body = asks body Renew || asks body Validate

@@ -31,7 +31,7 @@ as_conditions body client service good times =
 abbrev pub as_flags : ReqBody → Policy → Policy → Bool → Times → ℕ
 as_flags body client service good times = flags_where (as_conditions body client service good times)
 
--- the TGS exchange, for a ticket that is neither renewed nor validated
+-- the TGS exchange, for a ticket that is neither a renewed nor a validated one
 abbrev pub tgs_conditions : ReqBody → TicketTerms → Policy → Times → Conditions
 tgs_conditions body ticket service times =
     (Forwardable, asks body options.TheVariants.Forwardable)
@@ -46,7 +46,7 @@ tgs_conditions body ticket service times =
     ∷ (OkAsDelegate, service.ok_as_delegate)
     ∷ []
 
--- a ticket that is renewed or validated keeps its flags, also those without a name
+-- a renewed or validated ticket keeps its flags, also those without a name
 abbrev pub kept_flags : TicketTerms → ℕ
 kept_flags ticket = without_bit (without_bit ticket.flags (ticket_flag_number Initial)) (ticket_flag_number Invalid)
 

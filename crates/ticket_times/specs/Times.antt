@@ -1,5 +1,5 @@
--- The times of a ticket (RFC 4120 sections 3.1.3 and 3.3.3), in whole seconds since 1970. Each bound is the least
--- element of a set.
+-- The times of a ticket (RFC 4120 sections 3.1.3 and 3.3.3), in whole seconds since 1970. Each is the least of a set of
+-- bounds.
 use Rattle.std.specs.Prelude.{ℕ, ℤ, pos, ◌+ℤ◌, ◌-ℤ◌, ◌<ℤ◌, IfSome, int_lt, int_le, Bool, true, not, ◌&&◌, if◌then◌else◌}
 use Rattle.std.specs.Prelude.{List, [], ◌∷◌, Option, Some, None, option_map}
 use Rattle.std.specs.Bool.{then_some}
@@ -21,22 +21,22 @@ use Rattle.ticket_times.specs.Least.{last_second, least}
 use Rattle.ticket_times.specs.Asked.{asks}
 use Rattle.ticket_times.specs.TicketTerms.{has_flag, start_of_ticket, renewal_of_ticket}
 
--- a time that is asked for: zero asks for no bound
+-- a requested time; zero asks for no bound
 abbrev pub bound_asked : ℤ → ℤ
 bound_asked time = if int_eq time (pos 0) then last_second else time
 
--- so many seconds later
+-- this many seconds later
 abbrev pub later : ℤ → ℕ → ℤ
 later time seconds = time +ℤ pos seconds
 
--- a start that is asked for without POSTDATED, and lies beyond the skew
+-- the requested start lies beyond the clock skew, without the option POSTDATED
 abbrev pub starts_too_late : ℤ → ReqBody → Bool
 starts_too_late now body = not (asks body Postdated) && int_lt (later now skew) (unwrap_or body.from now)
 
 abbrev pub start_of : ℤ → ReqBody → ℤ
 start_of now body = if asks body Postdated then int_max now (unwrap_or body.from now) else now
 
--- what the end may not be after
+-- the bounds on the end
 abbrev pub ends : ℤ → Ceiling → Policy → Policy → Limits → ReqBody → List ℤ
 ends start ceiling client service limits body =
     bound_asked body.till
@@ -50,7 +50,7 @@ ends start ceiling client service limits body =
 abbrev pub end_of : ℤ → Ceiling → Policy → Policy → Limits → ReqBody → ℤ
 end_of start ceiling client service limits body = least (ends start ceiling client service limits body)
 
--- until when the ticket is wanted renewable, if at all
+-- until when the ticket should be renewable, if at all
 abbrev pub wanted : Ceiling → ReqBody → ℤ → Option ℤ
 wanted ceiling body end =
     if asks body Renewable then Some (unwrap_or (option_map bound_asked body.rtime) last_second)
@@ -58,7 +58,7 @@ wanted ceiling body end =
     then Some body.till
     else None
 
--- what renew-till may not be after
+-- the bounds on the renew-till
 abbrev pub renewals : ℤ → ℤ → Ceiling → Policy → Policy → Limits → List ℤ
 renewals start wanted ceiling client service limits =
     wanted
@@ -69,7 +69,7 @@ renewals start wanted ceiling client service limits =
     ∷ last_second
     ∷ []
 
--- none where it would not be after the start
+-- none if it would not be after the start
 abbrev pub renewable_until : ℤ → ℤ → Ceiling → Policy → Policy → Limits → Option ℤ
 renewable_until start wanted ceiling client service limits =
     let until : ℤ = least (renewals start wanted ceiling client service limits) in then_some (int_lt start until) until
@@ -83,19 +83,19 @@ renew_till_of start (Some wanted) ceiling client service limits =
 abbrev pub is_never_valid : ℤ → ℤ → Bool
 is_never_valid start end = int_le end start
 
--- none where it would never be valid
+-- none if it would never be valid
 abbrev pub valid_times : ℤ → ℤ → Option ℤ → Option Times
 valid_times start end renew_till =
     if is_never_valid start end then None else Some (record { start = start; end = end; renew_till = renew_till })
 
--- times that a ticket can say, and a life of at least a second
+-- times that a ticket can hold, and a lifetime of at least a second
 pub record IsTimes (times : Times) : Type 0 where
   pub start : IsCivilSecond times.start
   pub end : IsCivilSecond times.end
   pub renew_till : IfSome times.renew_till IsCivilSecond
   pub lasting : times.start <ℤ times.end
 
--- a new ticket below a ceiling
+-- a new ticket within these bounds
 abbrev pub fresh_times : ℤ → Ceiling → Policy → Policy → Limits → ReqBody → Option Times
 fresh_times now ceiling client service limits body =
     let start : ℤ = start_of now body in
@@ -104,7 +104,7 @@ fresh_times now ceiling client service limits body =
 
 -- ---- the AS exchange
 
--- nothing is above
+-- no bounds
 abbrev pub no_ceiling : Ceiling
 no_ceiling = record { end = last_second; renew_till = last_second; renewable_ok = true }
 
@@ -113,7 +113,7 @@ as_times now client service limits body = fresh_times now no_ceiling client serv
 
 -- ---- the TGS exchange
 
--- the ticket that is presented
+-- the bounds of the presented ticket
 abbrev pub ceiling_of : TicketTerms → Ceiling
 ceiling_of ticket =
     record { end = ticket.endtime; renew_till = renewal_of_ticket ticket; renewable_ok = has_flag ticket RenewableFlag }
@@ -125,7 +125,7 @@ kept_renewal ticket = then_some (has_flag ticket RenewableFlag) (renewal_of_tick
 abbrev pub validated_times : TicketTerms → Option Times
 validated_times ticket = valid_times (start_of_ticket ticket) ticket.endtime (kept_renewal ticket)
 
--- when a ticket ends that starts now and lives as long as this one
+-- the end of a ticket that starts now and has the lifetime of this one
 abbrev pub lived_again : ℤ → TicketTerms → ℤ
 lived_again now ticket = now +ℤ (ticket.endtime -ℤ start_of_ticket ticket)
 

@@ -5,14 +5,14 @@ ghost use Rattle.ticket_times.specs.Asked.{asks, keeps_ticket};
 use krb_fields::KdcOption;
 use krb_types::ReqBodyRef;
 
-/// Whether the request asks for the option.
+/// Checks whether the request asks for the option.
 pub fn asks(body: &ReqBodyRef<'_>, option: KdcOption) -> bool
     ensures { result ≡ asks body.now option }
 {
     body.kdc_options.has(option)
 }
 
-/// Whether the ticket that is presented is to be renewed or validated.
+/// Checks whether the request renews or validates the presented ticket.
 pub fn keeps_ticket(body: &ReqBodyRef<'_>) -> bool
     ensures { result ≡ keeps_ticket body.now }
 {

@@ -18,7 +18,7 @@ use krb_fields::{KdcOption, Moment, SKEW, TicketFlag};
 use krb_types::ReqBodyRef;
 use principal_rows::{Limits, Policy};
 
-/// When a ticket is valid, and until when it may be renewed, if at all.
+/// When a ticket is valid, and until when it is renewable, if at all.
 #[derive(Clone, Copy, Debug, PartialEq, Eq)]
 pub struct Times {
     pub start: KTime,
@@ -26,7 +26,7 @@ pub struct Times {
     pub renew_till: Option<KTime>,
 }
 
-/// The times of a ticket of the AS exchange; `None` where it would end no later than it starts.
+/// Returns the times of a ticket of the AS exchange, or `None` if it would not end after it starts.
 pub fn as_times(
     at: Moment,
     client: &Policy,
@@ -40,8 +40,8 @@ pub fn as_times(
     fresh_times(at.sec, &Ceiling::none(), client, service, limits, body)
 }
 
-/// The times of a ticket of the TGS exchange for which this one is presented; `None` where it would end no later than
-/// it starts.
+/// Returns the times of a ticket of the TGS exchange, for which this ticket is presented, or `None` if it would not end
+/// after it starts.
 pub fn tgs_times(
     at: Moment,
     ticket: &TicketTerms,
@@ -62,7 +62,7 @@ pub fn tgs_times(
     fresh_times(at.sec, &Ceiling::of(ticket), client, service, limits, body)
 }
 
-/// A new ticket's times.
+/// Returns the times of a new ticket.
 fn fresh_times(
     now: i64,
     ceiling: &Ceiling,
@@ -84,7 +84,7 @@ fn fresh_times(
     valid_times(start, end, renew_till)
 }
 
-/// A validated ticket keeps its times.
+/// Returns the times of a validated ticket, which keeps those that it had.
 fn validated_times(ticket: &TicketTerms) -> Option<Times>
     ensures value { result ≡ validated_times ticket.now }
     ensures range { IfSome result IsTimes }
@@ -96,7 +96,7 @@ fn validated_times(ticket: &TicketTerms) -> Option<Times>
     )
 }
 
-/// A renewed ticket lives as long as it did, and no longer than until its renew-till.
+/// Returns the times of a renewed ticket: it keeps its lifetime, but ends no later than its renew-till.
 fn renewed_times(now: i64, ticket: &TicketTerms) -> Option<Times>
     requires { IsSecond now }
     ensures value { result ≡ renewed_times now ticket.now }
@@ -113,7 +113,7 @@ fn renewed_end(now: i64, ticket: &TicketTerms) -> i64
     earliest(&[lived_again(now, ticket), ticket.renewal()])
 }
 
-/// When a ticket ends that starts now and lives as long as this one.
+/// Returns the end of a ticket that starts now and has the lifetime of this one.
 fn lived_again(now: i64, ticket: &TicketTerms) -> i64
     requires { IsSecond now }
     ensures { result ≡ lived_again now ticket.now }
@@ -121,7 +121,7 @@ fn lived_again(now: i64, ticket: &TicketTerms) -> i64
     now + (ticket.endtime.seconds() - ticket.start())
 }
 
-/// The renew-till of a ticket that is renewed or validated.
+/// Returns the renew-till of a ticket that is renewed or validated.
 fn kept_renewal(ticket: &TicketTerms) -> Option<KTime>
     ensures value { result ≡ kept_renewal ticket.now }
     ensures range { IfSome result IsCivilSecond }
@@ -133,7 +133,7 @@ fn kept_renewal(ticket: &TicketTerms) -> Option<KTime>
     }
 }
 
-/// These times, where the end is after the start.
+/// Returns these times, if the end is after the start.
 fn valid_times(start: i64, end: i64, renew_till: Option<KTime>) -> Option<Times>
     requires start { IsCivilSecond start }
     requires end { end ≤ℤ last_second }
@@ -151,7 +151,7 @@ fn valid_times(start: i64, end: i64, renew_till: Option<KTime>) -> Option<Times>
     })
 }
 
-/// A start is asked for without POSTDATED, and lies beyond the skew.
+/// Checks whether the request asks for a start beyond the clock skew without the option POSTDATED.
 pub fn starts_too_late(now: i64, body: &ReqBodyRef<'_>) -> bool
     requires { IsSecond now }
     ensures { result ≡ starts_too_late now body.now }
@@ -171,7 +171,7 @@ fn start_of(now: i64, body: &ReqBodyRef<'_>) -> i64
     }
 }
 
-/// The start that is asked for, if any.
+/// Returns the requested start, or now.
 fn from_or(now: i64, body: &ReqBodyRef<'_>) -> i64
     requires { IsSecond now }
     ensures value { result ≡ unwrap_or body.now.from now }
@@ -183,7 +183,7 @@ fn from_or(now: i64, body: &ReqBodyRef<'_>) -> i64
     }
 }
 
-/// When a ticket that starts then ends at the latest.
+/// Returns the latest end of a ticket with this start.
 fn end_of(
     start: i64,
     ceiling: &Ceiling,
@@ -206,7 +206,7 @@ fn end_of(
     ])
 }
 
-/// Until when the ticket is wanted renewable, if at all.
+/// Returns until when the ticket should be renewable, if at all.
 fn wanted(ceiling: &Ceiling, body: &ReqBodyRef<'_>, end: i64) -> Option<i64>
     ensures { result ≡ wanted ceiling.now body.now end }
 {
@@ -223,7 +223,7 @@ fn wanted(ceiling: &Ceiling, body: &ReqBodyRef<'_>, end: i64) -> Option<i64>
     None
 }
 
-/// Until when a ticket that starts then may be renewed: not at all where that wouldn't be after its start.
+/// Returns until when a ticket with this start is renewable, or `None` if that would not be after its start.
 fn renewable_until(
     start: i64,
     wanted: i64,
@@ -251,7 +251,7 @@ fn renewable_until(
     }
 }
 
-/// A time that is asked for; zero asks for no bound.
+/// Returns a requested time; zero asks for no bound.
 fn bound_asked(time: KTime) -> i64
     ensures { result ≡ bound_asked time }
 {

@@ -8,7 +8,7 @@ use Rattle.enctypes.specs.Etype.{key_len}
 use Rattle.enctypes.proofs.Sizes.{key_len-cases, derived_len-most, length-derived_key}
 use Rattle.enctypes.proofs.ready_key.sealing_keys.Goals as goal
 
--- what a call for a usage's constant writes into the front of an array is the derived key
+-- what a call with the usage's constant writes into the front of an array is the derived key
 written : (etype : Etype) (key constant out : List ℕ) (usage len : ℕ) (purpose : Purpose)
     → out ≡ derived etype key constant (length (take len (replicate {A = ℕ} 32 0))) → constant ≡ usage_constant usage purpose
     → len ≡ derived_len etype purpose → out ≡ derived_key etype key usage purpose

@@ -1,4 +1,4 @@
--- What was taken so far has no line feed, and is the line.
+-- What was read so far has no line feed and stands in `line`.
 use Rattle.std.proofs.Common.{◌≡◌, ◌≢◌, All, length}
 use Rattle.std.specs.Io.KnownBytes.{Consumes}
 use Rattle.kdc_script.specs.Octets.{octets_of}

@@ -3,7 +3,7 @@ use Rattle.krb5_conf.specs.Place.{place_of}
 use Rattle.krb5_conf.specs.Values.{values_from, values_of}
 use Rattle.krb5_conf.proofs.values.values.Given as goal
 
--- the values so far, and those of the lines that are left, are all
+-- the values so far, with those of the remaining lines, are all values
 abbrev pub invariant-loop-text : goal.invariant-loop-text
 invariant-loop-text l = record {
   found :

@@ -4,7 +4,7 @@ use Rattle.std.proofs.lemmas.List.{append_assoc, length-take-le, take_more}
 use Rattle.std.proofs.lemmas.List.Edits.{insert-append_right}
 use Rattle.krb_der.proofs.writer.replace_at.Goals as goal
 
--- one octet more
+-- one more byte
 inserted : (old octets : List ℕ) (at i : ℕ) → at < length old → i < length octets
     → insert (take at old ++ (take i octets ++ drop (at + 1) old)) (at + i) (get_or octets i 0)
     ≡ take at old ++ (take (i + 1) octets ++ drop (at + 1) old)

@@ -11,7 +11,7 @@ use Rattle.krb_fields.specs.declared.name_text.NameFault.TheVariants.{Memory}
 use Rattle.krb_fields.proofs.TextLaws.{parts_of, parts_spelled, count_spelled, part_spelled, parts_nonempty, one_more_part, all_parts, text_of-parts, texts-injective}
 use Rattle.krb_fields.proofs.name_text.components_from_text.Goals as goal
 
--- the fault is passed on
+-- the error is passed on
 same_fault : {A : Type 0} (P : A → Type 0) (r : Result A NameFault) (fault : NameFault) → IsErrAnd r (λ f. f ≡ fault) → fault ≡ Memory → MatchResult r P (λ f. f ≡ Memory)
 same_fault P (Ok x) fault e m = absurd e
 same_fault P (Err f) fault e m = e ∙ m

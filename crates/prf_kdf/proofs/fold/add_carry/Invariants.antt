@@ -2,7 +2,7 @@ use Rattle.std.proofs.Common.{◌≡◌, ℕ, ◌+◌, ◌-◌, ◌*◌, ◌^◌
 use Rattle.prf_kdf.specs.Fold.{number}
 use Rattle.prf_kdf.proofs.fold.add_carry.Given as goal
 
--- the octets from i on hold the sum of those of the total and the carry that came in, less the carry
+-- the bytes from i on hold the sum of those of the total and the incoming carry, without the outgoing carry
 abbrev pub invariant-loop-i : goal.invariant-loop-i
 invariant-loop-i l = record {
   len : length l.total ≡ length l.fn.total;

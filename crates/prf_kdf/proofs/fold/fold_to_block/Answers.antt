@@ -7,7 +7,7 @@ use Rattle.std.specs.Int.{IsGcd}
 use Rattle.std.proofs.lemmas.Nat.Gcd.{IsGcd-from_zero, IsGcd-from_mod}
 use Rattle.prf_kdf.proofs.fold.fold_to_block.Goals as goal
 
--- sixteen copies of five octets are the fewest that are whole blocks
+-- sixteen is the least number of copies of five bytes that fill whole blocks
 gcd_five : IsGcd 5 16 1
 gcd_five = IsGcd-from_mod 5 16 1 (IsGcd-from_mod 16 5 1 (IsGcd-from_mod 5 1 1 (IsGcd-from_zero 1 0 refl)))
 

@@ -1,4 +1,4 @@
--- `none` holds no box: its pointer is null, and owns nothing.
+-- `none` holds no box: its pointer is null and owns nothing.
 use mathlib.Core.Path.{refl, sym, subst}
 use mathlib.Core.List.{List, [], ◌∷◌, ◌++◌}
 use Rattle.std.proofs.Common.{lit<, w64}

@@ -7,7 +7,7 @@ use Rattle.krb_der.proofs.TimeLaws.{time_from}
 use Rattle.krb_der.proofs.time.KTime.from_octets.Goals as goal
 use Rattle.krb_der.proofs.time.KTime.from_octets.Goals.{In_ok-seconds}
 
--- the seconds that were read are a time's, and the octets are its spelling
+-- the seconds that were read are a time's, and the bytes are its encoding
 read : (c : In_ok-seconds) → IsCivilSecond c.in_ok-seconds.seconds × (c.args.octets.now ≡ time_octets c.in_ok-seconds.seconds)
 read c =
     let passed : is_spelled c.args.octets.now ≡ true = sym c.is_spelled.ensures ∙ c.if-not-is_spelled.false in

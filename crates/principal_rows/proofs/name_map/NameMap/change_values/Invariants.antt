@@ -3,6 +3,6 @@ use Rattle.sorted_entries.proofs.Changed.{changed_first}
 use Rattle.principal_rows.specs.NameMap.{pairs}
 use Rattle.principal_rows.proofs.name_map.NameMap.change_values.Given as goal
 
--- so many values are changed
+-- the values before this index are changed
 abbrev pub invariant-loop-entry : goal.invariant-loop-entry
 invariant-loop-entry g l = pairs l.entry-items ≡ changed_first (g.C.ValueChange.changed l.change) l.entry-index (pairs l.initial.entry-items)

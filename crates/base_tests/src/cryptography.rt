@@ -1,0 +1,12 @@
+//! The crates of cryptography, `aes_cts` to `sealed_parts`. The values are the standards' own vectors, and those of other
+//! implementations: Python's hashlib and its package cryptography.
+
+mod aes;
+mod checksums;
+mod derivations;
+mod given;
+mod macs;
+mod parts;
+mod passwords;
+mod sealing;
+mod types;

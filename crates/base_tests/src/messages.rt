@@ -1,0 +1,11 @@
+//! The crates of messages, `krb_der` to `krb_ap`: a module for each, with values that come from elsewhere, as the standards
+//! or another encoder.
+
+mod ap_messages;
+mod der;
+mod elements;
+mod fields;
+mod parts;
+mod replies;
+mod times;
+mod whole_messages;

@@ -1,0 +1,171 @@
+//! Databases and where names stand in them (`principals`).
+use crate::expect::{holds, same};
+use crate::realm::given::{LONGEST, Step, TOO_LONG, change, database, first, has, is, name};
+use krb_elements::read;
+use krb_fields::NameRef;
+use principals::{ChangeFault, Database, FirstFault, granter_name};
+use std::alloc::{AllocError, Global};
+use std::process::Abort;
+
+#[test]
+fn a_first_database_grants_tickets(rt: HostRuntime) {
+    match database(rt.alloc()) {
+        Ok(database) => grants_tickets(&rt, rt.alloc(), &database),
+        Err(fault) => panic!(rt; "{fault:?}"),
+    }
+}
+
+fn grants_tickets(rt: &impl Abort, alloc: Global, database: &Database) {
+    same(rt, &"the realm", &database.realm(), &b"A.B".as_slice());
+    same(rt, &"the rows", &database.len(), &1);
+    same(
+        rt,
+        &"the granter",
+        &granter_version(alloc, database),
+        &Ok(Some(1)),
+    );
+}
+
+/// The version of the granter's current keys.
+fn granter_version(alloc: Global, database: &Database) -> Result<Option<u32>, AllocError> {
+    let row = database.get(&name(alloc, &[b"krbtgt", b"A.B"])?);
+    Ok(row.map(|row| row.versions.current().number))
+}
+
+#[test]
+fn a_realm_has_1_to_255_octets(rt: HostRuntime) {
+    same(&rt, &"255 octets", &fault_of(rt.alloc(), LONGEST), &None);
+    same(
+        &rt,
+        &"no octets",
+        &fault_of(rt.alloc(), b""),
+        &Some(FirstFault::BadName),
+    );
+    same(
+        &rt,
+        &"256 octets",
+        &fault_of(rt.alloc(), TOO_LONG),
+        &Some(FirstFault::BadName),
+    );
+}
+
+fn fault_of(alloc: Global, realm: &[u8]) -> Option<FirstFault> {
+    first(alloc, realm).err()
+}
+
+/// Adds four principals, in another order than theirs.
+fn add_principals(alloc: Global, database: &mut Database) -> Result<(), ChangeFault> {
+    for component in [b"u", b"h", b"b", b"a"] {
+        change(alloc, database, &[component], Step::Add)?;
+    }
+    Ok(())
+}
+
+/// Whether the name stands at this place, and is found.
+fn stands_at(
+    alloc: Global,
+    database: &Database,
+    place: usize,
+    components: &[&[u8]],
+) -> Result<bool, AllocError> {
+    let Some((name, _)) = database.at(place) else {
+        return Ok(false);
+    };
+    Ok(is(name, components) && has(alloc, database, components)?)
+}
+
+/// The first place that does not hold its name of these, or whose name is not found.
+fn misplaced(alloc: Global, database: &Database, names: &[&[&[u8]]]) -> Option<usize> {
+    for (place, components) in names.iter().enumerate() {
+        if stands_at(alloc, database, place, components) != Ok(true) {
+            return Some(place);
+        }
+    }
+    None
+}
+
+const RISING: &[&[&[u8]]] = &[&[b"a"], &[b"b"], &[b"h"], &[b"krbtgt", b"A.B"], &[b"u"]];
+
+#[test]
+fn principals_stand_in_the_order_of_their_components(rt: HostRuntime) {
+    match database(rt.alloc()) {
+        Ok(mut database) => stand_in_order(&rt, rt.alloc(), &mut database),
+        Err(fault) => panic!(rt; "{fault:?}"),
+    }
+}
+
+fn stand_in_order(rt: &impl Abort, alloc: Global, database: &mut Database) {
+    same(rt, &"four more", &add_principals(alloc, database), &Ok(()));
+    same(rt, &"the rows", &database.len(), &5);
+    same(
+        rt,
+        &"what is misplaced",
+        &misplaced(alloc, database, RISING),
+        &None,
+    );
+    holds(rt, database.at(5).is_none(), "there is no sixth row");
+    same(
+        rt,
+        &"krbtgt",
+        &has(alloc, database, &[b"krbtgt"]),
+        &Ok(false),
+    );
+}
+
+#[test]
+fn a_name_is_looked_up_where_it_stands(rt: HostRuntime) {
+    match database(rt.alloc()) {
+        Ok(mut database) => is_looked_up(&rt, rt.alloc(), &mut database),
+        Err(fault) => panic!(rt; "{fault:?}"),
+    }
+}
+
+fn is_looked_up(rt: &impl Abort, alloc: Global, database: &mut Database) {
+    // the PrincipalNames `u` and `v`, of name-type 1
+    let u = b"\x30\x0c\xa0\x03\x02\x01\x01\xa1\x05\x30\x03\x1b\x01u";
+    let v = b"\x30\x0c\xa0\x03\x02\x01\x01\xa1\x05\x30\x03\x1b\x01v";
+    same(rt, &"four more", &add_principals(alloc, database), &Ok(()));
+    same(rt, &"u", &has_ref(database, u), &Some(true));
+    same(rt, &"v", &has_ref(database, v), &Some(false));
+}
+
+/// Whether the database has the name that these octets spell.
+fn has_ref(database: &Database, octets: &[u8]) -> Option<bool> {
+    let name: NameRef<'_> = read(octets).ok()?;
+    Some(database.get_ref(&name).is_some())
+}
+
+// Passes whichever allocation is refused.
+#[test]
+fn a_first_database_without_memory_is_made_when_asked_again(rt: HostRuntime) {
+    let made = rows(rt.alloc());
+    holds(
+        &rt,
+        matches!(made, Ok(1) | Err(FirstFault::Memory)),
+        "there may be no memory",
+    );
+    if made.is_err() {
+        same(&rt, &"the next call", &rows(rt.alloc()), &Ok(1));
+    }
+}
+
+/// How many rows a first database has.
+fn rows(alloc: Global) -> Result<usize, FirstFault> {
+    Ok(database(alloc)?.len())
+}
+
+#[test]
+fn the_ticket_granting_service_is_named_by_its_realm(rt: HostRuntime) {
+    same(
+        &rt,
+        &"the granter",
+        &is_granter_of_a_b(rt.alloc()),
+        &Ok(true),
+    );
+}
+
+/// Whether the granter of `A.B` is `krbtgt/A.B`, of name-type 2.
+fn is_granter_of_a_b(alloc: Global) -> Result<bool, AllocError> {
+    let granter = granter_name(alloc, b"A.B")?;
+    Ok(granter.name_type == 2 && is(&granter, &[b"krbtgt", b"A.B"]))
+}

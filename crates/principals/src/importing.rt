@@ -1,0 +1,48 @@
+//! Principals that come with versions of their keys, as from another realm's database.
+ghost use Rattle.std.specs.Prelude.{◌≡◌, Err, IfNone, IfSome, IsOkUnless, OnErr, OnOk};
+ghost use Rattle.refusals.specs.Refusals.{first_holding};
+ghost use Rattle.principal_rows.specs.Policy.{default_policy};
+ghost use Rattle.principal_rows.specs.Row.{IsRow};
+ghost use Rattle.principals.specs.Change.{add_rules};
+ghost use Rattle.principals.specs.Importing.{imported};
+
+use crate::{ChangeFault, Database};
+use krb_fields::Name;
+use principal_rows::{Policy, Row, Versions};
+use std::alloc::Global;
+
+impl Database {
+    /// Adds a principal with these versions of its keys and the default policy. What is refused leaves the database as it
+    /// was.
+    pub fn import(
+        &mut self,
+        alloc: Global,
+        name: &Name,
+        versions: Versions,
+    ) -> Result<(), ChangeFault>
+        ensures imported { OnOk result (self.new ≡ imported self.old name.now.components versions) }
+        ensures refused { IfSome (first_holding (add_rules self.old name.now.components)) (λ fault. result ≡ Err fault) }
+        ensures otherwise { IfNone (first_holding (add_rules self.old name.now.components))
+            (IsOkUnless result ChangeFault.Memory) }
+        ensures err { OnErr result (self.new ≡ self.old) }
+    {
+        if let Some(fault) = self.add_refusal(name) {
+            return Err(fault);
+        }
+        self.rows.put(name.copy(alloc)?, row_of(versions))?;
+        Ok(())
+    }
+}
+
+/// The row of a principal with these versions, and the default policy.
+fn row_of(versions: Versions) -> Row
+    ensures row { result ≡ record { versions = versions; policy = default_policy } }
+    ensures valid { IsRow result }
+{
+    // what holds of every list of versions is known where one is looked at
+    let _versions = versions.as_slice();
+    Row {
+        versions,
+        policy: Policy::default(),
+    }
+}

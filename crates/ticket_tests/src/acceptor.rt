@@ -1,0 +1,7 @@
+//! The acceptor, `ap_accept`.
+
+mod acceptances;
+mod given;
+mod made_by_mit;
+mod mit;
+mod requests;

@@ -1,0 +1,8 @@
+//! `client_core`. The values are those of the standards, and of models of the messages and of the cryptography in Python.
+
+mod given;
+mod hostile;
+mod passwords;
+mod replies;
+mod requests;
+mod services;

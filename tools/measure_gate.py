@@ -1,0 +1,79 @@
+#!/usr/bin/env python3
+"""Measures what each crate costs the gate: runs `rt ci`, and prints for each crate the processor seconds of its check and build, of its
+tests with their check, of its edits, and of all else (links, runs). Linux and Python 3 alone are needed.
+
+    python3 tools/measure_gate.py
+
+The lines of `rt ci` come first; its last line and its status are this script's too. The seconds are those that the system counts for each
+process that `rt` waits for, so they grow with what runs beside them."""
+
+import collections
+import os
+import pathlib
+import re
+import subprocess
+import sys
+import tempfile
+
+TOP = pathlib.Path(__file__).resolve().parent.parent
+# What Python reads as it starts `rt`: behind each process that was waited for, a line with its seconds, its folder and its words.
+NOTES = '''
+import os, subprocess
+class Popen(subprocess.Popen):
+    def __init__(self, args, *rest, **how):
+        self.place = how.get("cwd") or os.getcwd()
+        super().__init__(args, *rest, **how)
+    def _try_wait(self, flags):
+        try:
+            number, status, usage = os.wait4(self.pid, flags)
+        except ChildProcessError:
+            return self.pid, 0
+        if number == self.pid:
+            words = self.args if isinstance(self.args, str) else " ".join(map(os.fspath, self.args))
+            with open(os.environ["GATE_COSTS"], "a", errors="replace") as file:
+                print(usage.ru_utime + usage.ru_stime, self.place, words.replace("\\n", " "), sep="\\t", file=file)
+        return number, status
+subprocess.Popen = Popen
+'''
+KINDS = ("check", "tests", "edits", "else")
+
+
+def kind(place, words):
+    """The crate that a process was for, and what it did there."""
+    named = re.search(r" --crate-name (\w+)", words)
+    crate = named[1] if named else (re.search(r"/crates/(\w+)", f"{place} {words}") or ["", "others"])[1]
+    if "/rt-edit-" in place:
+        return crate, "edits"
+    if not named:
+        return crate, "else"
+    return crate, "tests" if re.search(r" --test( |$)", words) else "check"
+
+
+def main():
+    with tempfile.TemporaryDirectory() as folder:
+        pathlib.Path(folder, "sitecustomize.py").write_text(NOTES)
+        costs = pathlib.Path(folder, "costs")
+        costs.touch()
+        ran = subprocess.Popen(["rt", "ci"], cwd=TOP, stdout=subprocess.PIPE, stderr=subprocess.STDOUT, text=True, errors="replace",
+                               env={**os.environ, "PYTHONPATH": folder, "GATE_COSTS": str(costs)})
+        line = ""
+        for line in ran.stdout:
+            print(line, end="", flush=True)
+        status = ran.wait()
+        found = collections.defaultdict(collections.Counter)
+        for cost in costs.read_text(errors="replace").splitlines():
+            seconds, place, words = cost.split("\t", 2)
+            crate, what = kind(place, words)
+            found[crate][what] += float(seconds)
+    print("crate", *KINDS, sep="\t")
+    for crate, of in sorted(found.items(), key=lambda each: -each[1].total()):
+        print(crate, *[f"{of[what]:.0f}" for what in KINDS], sep="\t")
+    whole = sum(map(collections.Counter.total, found.values()))
+    print("minutes of all crates", *[f"{sum(of[what] for of in found.values()) / 60:.0f}" for what in KINDS], sep="\t")
+    print(f"{whole / 60:.0f} processor minutes")
+    print(line, end="")
+    sys.exit(status)
+
+
+if __name__ == "__main__":
+    main()
