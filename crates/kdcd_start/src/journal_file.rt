@@ -321,7 +321,7 @@ impl<'a, F: Files<File = File>, W: Write + Drop> JournalFile<'a, F, W> {
         match self.turned(alloc, at, &tail.check) {
             Ok(turned) => turned,
             Err(error) => {
-                self.say(&error);
+                say(&mut self.lines, self.paths.newer, &error);
                 Tail {
                     last: at.sec.saturating_add(BETWEEN_TURNS),
                     ..tail
@@ -349,43 +349,16 @@ impl<'a, F: Files<File = File>, W: Write + Drop> JournalFile<'a, F, W> {
     {
         match self.begun_anew(alloc, at) {
             Ok(tail) => {
+                say_mended(&mut self.lines, &mut self.is_said, self.paths.newer);
                 self.tail = Some(tail);
-                self.say_mended();
                 Ok(())
             }
             Err(error) => {
+                say_lost(&mut self.lines, &mut self.is_said, self.paths.newer, &error);
                 self.tail = None;
-                self.say_once(&error);
                 Err(NotKept)
             }
         }
-    }
-
-    fn say(&mut self, error: &Error) {
-        let path = self.paths.newer;
-        let _ = writeln!(self.lines, "kdcd: journal {path}: {error}");
-    }
-
-    /// Says that an authenticator could not be kept, unless that is said.
-    fn say_once(&mut self, error: &Error) {
-        if self.is_said {
-            return;
-        }
-        self.is_said = true;
-        let path = self.paths.newer;
-        let _ = writeln!(
-            self.lines,
-            "kdcd: journal {path}: {error}; no reply is sent until it can be written"
-        );
-    }
-
-    fn say_mended(&mut self) {
-        if !self.is_said {
-            return;
-        }
-        self.is_said = false;
-        let path = self.paths.newer;
-        let _ = writeln!(self.lines, "kdcd: journal {path}: it can be written again");
     }
 }
 
@@ -400,7 +373,7 @@ impl<F: Files<File = File>, W: Write + Drop> JournalWriter for JournalFile<'_, F
         }
         if let Err(error) = self.append_seen(alloc, at, seen) {
             self.tail = None;
-            self.say_once(&error);
+            say_lost(&mut self.lines, &mut self.is_said, self.paths.newer, &error);
         }
         self.mend(alloc, at)
     }
@@ -411,6 +384,31 @@ impl<F: Files<File = File>, W: Write + Drop> JournalWriter for JournalFile<'_, F
         }
         self.begin_anew(alloc, at)
     }
+}
+
+fn say<W: Write>(lines: &mut W, path: &str, error: &Error) {
+    let _ = writeln!(lines, "kdcd: journal {path}: {error}");
+}
+
+/// Says that an authenticator could not be kept, unless that is said.
+fn say_lost<W: Write>(lines: &mut W, is_said: &mut bool, path: &str, error: &Error) {
+    if *is_said {
+        return;
+    }
+    *is_said = true;
+    let _ = writeln!(
+        lines,
+        "kdcd: journal {path}: {error}; no reply is sent until it can be written"
+    );
+}
+
+/// Says that all can be kept again, if it is said that it could not.
+fn say_mended<W: Write>(lines: &mut W, is_said: &mut bool, path: &str) {
+    if !*is_said {
+        return;
+    }
+    *is_said = false;
+    let _ = writeln!(lines, "kdcd: journal {path}: it can be written again");
 }
 
 /// Appends a text by one write.

@@ -223,6 +223,6 @@ fn a_journal_is_behind_the_one_that_it_links_to(rt: HostRuntime) -> Result<(), F
             &wanted,
         );
     }
-    holds(&rt, &"its check", check != [0; 16]);
+    holds(&rt, check != [0; 16], "its check");
     Ok(())
 }
