@@ -26,6 +26,7 @@ import subprocess
 import tempfile
 import time
 
+from kerberos import key_of, ticket_in
 from trial import (
     PATIENCE, REALM, SINKS, SLOWNESS, Server, Trial, answer, ask_tcp, ask_udp, datagrams, drained, ending, flood, free_port,
     login, programs_in, sink_of,
@@ -292,6 +293,23 @@ def try_limits(trial):
     trial.with_server(f"--first --greatest-life {MOST} --greatest-renewable {MOST}", longest)
     trial.with_server("--first --greatest-life 0", "KINIT u --password-file pw -> 1 =refused 11")
     trial.with_server("", f"{right}KVNO h -> 1 =refused 37")
+    try_seeds(trial)
+
+
+def try_seeds(trial):
+    """Of two servers with one seed the first tickets have the same session key; another seed makes others, and so does the system's."""
+    trial.write("another", os.urandom(32))
+    keys = [first_key(trial, words) for words in ("--seed seed", "--seed seed", "--seed another", "", "")]
+    is_right = None not in keys and keys[0] == keys[1] and len({*keys}) == 4
+    trial.note("--seed decides the keys of tickets, else they are the system's", "" if is_right else f"not so: {keys}")
+
+
+def first_key(trial, words):
+    """The session key of a server's first ticket."""
+    server = Server(trial, f"--first {words}")
+    reply = ask_tcp(server.addresses[1][1], login("v"))
+    server.end()
+    return ticket_in(key_of(b"a password", REALM.encode() + b"v"), reply)[1] if answer(reply) == "ticket" else None
 
 
 def seconds_of(text):
