@@ -276,6 +276,7 @@ def try_limits(trial):
     trial.cases("KINIT u --password-file pw -> 0 =ok\nKVNO h -> 0 =h kvno 1\nKVNO host/n -> 1 =refused 29")
     status = served.end()
     trial.note("SIGTERM ends a server at once", "" if status == -15 else f"status {status}")
+    try_seeds(trial)
     wrong, right = "KINIT u --password-file other -> 1 =refused 24\n", "KINIT u --password-file pw -> 0 =ok\n"
     most = f"--rounds {MOST} --remembered 65536 --lock-after {MOST} --lock-seconds {MOST}"
     trial.with_server(f"--first {most}", f"{4 * wrong}{right}KVNO h --name host/n -> 0 h kvno 1; host/n kvno 1")
@@ -293,7 +294,10 @@ def try_limits(trial):
     trial.with_server(f"--first --greatest-life {MOST} --greatest-renewable {MOST}", longest)
     trial.with_server("--first --greatest-life 0", "KINIT u --password-file pw -> 1 =refused 11")
     trial.with_server("", f"{right}KVNO h -> 1 =refused 37")
-    try_seeds(trial)
+
+
+def seconds_of(text):
+    return time.mktime(time.strptime(text, "%Y-%m-%dT%H:%M:%SZ"))
 
 
 def try_seeds(trial):
@@ -310,10 +314,6 @@ def first_key(trial, words):
     reply = ask_tcp(server.addresses[1][1], login("v"))
     server.end()
     return ticket_in(key_of(b"a password", REALM.encode() + b"v"), reply)[1] if answer(reply) == "ticket" else None
-
-
-def seconds_of(text):
-    return time.mktime(time.strptime(text, "%Y-%m-%dT%H:%M:%SZ"))
 
 
 def try_kclient(trial):
