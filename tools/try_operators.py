@@ -26,6 +26,7 @@ import subprocess
 import tempfile
 import time
 
+from kerberos import key_of, ticket_in
 from trial import (
     PATIENCE, REALM, SINKS, SLOWNESS, Server, Trial, answer, ask_tcp, ask_udp, datagrams, drained, ending, flood, free_port,
     login, programs_in, sink_of,
@@ -294,6 +295,7 @@ def try_limits(trial):
     trial.cases("KINIT u --password-file pw -> 0 =ok\nKVNO h -> 0 =h kvno 1\nKVNO host/n -> 1 =refused 29")
     status = served.end()
     trial.note("SIGTERM ends a server at once", "" if status == -15 else f"status {status}")
+    try_seeds(trial)
     wrong, right = "KINIT u --password-file other -> 1 =refused 24\n", "KINIT u --password-file pw -> 0 =ok\n"
     most = f"--rounds {MOST} --remembered 65536 --lock-after {MOST} --lock-seconds {MOST}"
     trial.with_server(f"--first {most}", f"{4 * wrong}{right}KVNO h --name host/n -> 0 h kvno 1; host/n kvno 1")
@@ -319,6 +321,22 @@ def try_limits(trial):
 
 def seconds_of(text):
     return time.mktime(time.strptime(text, "%Y-%m-%dT%H:%M:%SZ"))
+
+
+def try_seeds(trial):
+    """Of two servers with one seed the first tickets have the same session key; another seed makes others, and so does the system's."""
+    trial.write("another", os.urandom(32))
+    keys = [first_key(trial, words) for words in ("--seed seed", "--seed seed", "--seed another", "", "")]
+    is_right = None not in keys and keys[0] == keys[1] and len({*keys}) == 4
+    trial.note("--seed decides the keys of tickets, else they are the system's", "" if is_right else f"not so: {keys}")
+
+
+def first_key(trial, words):
+    """The session key of a server's first ticket."""
+    server = Server(trial, f"--first {words}")
+    reply = ask_tcp(server.addresses[1][1], login("v"))
+    server.end()
+    return ticket_in(key_of(b"a password", REALM.encode() + b"v"), reply)[1] if answer(reply) == "ticket" else None
 
 
 def try_kclient(trial):
