@@ -1,5 +1,5 @@
 -- What a journal is handed over the life of a server is what its KDC remembers.
-use Rattle.std.proofs.Common.{◌≡◌, ◌⊎◌, ◌×◌, ℕ, zero, suc, Bool, true, false, List, [], ◌∷◌, ◌++◌, length, map, take, Option, Some, None, if◌then◌else◌, inl, inr, refl, sym, ap, ◌∙◌, append_assoc}
+use Rattle.std.proofs.Common.{◌≡◌, ◌⊎◌, ℕ, zero, suc, Bool, true, false, List, [], ◌∷◌, ◌++◌, length, map, take, Option, Some, None, if◌then◌else◌, inl, inr, refl, sym, ap, ◌∙◌, append_assoc}
 use Rattle.std.specs.Prelude.{nat_lt}
 use Rattle.std.specs.FinMap as finmap
 use Rattle.std.specs.List.{flat_map}
@@ -20,7 +20,7 @@ use Rattle.kdc_hub.specs.declared.event.Peer.{Peer}
 use Rattle.kdc_hub.specs.declared.reply.Reply.{Reply}
 use Rattle.kdc_hub.specs.declared.wires.Did.{Did}
 use Rattle.kdc_hub.specs.declared.wires.Did.TheVariants.{Polled, Waited, Missed, Acted, Failed}
-use Rattle.kdc_hub.specs.History.{Stepped, Turn, after_turns, all_seen_by, asked, others_after, piece_requests, remembered_in, replies_by, reply_in, requests_by, seen_by, stream_requests, turn_remembers}
+use Rattle.kdc_hub.specs.History.{Stepped, Turn, after_turn, after_turns, all_seen_by, asked, others_after, piece_requests, remembered_in, replies_by, reply_in, requests_by, seen_by, stream_requests, turn_remembers}
 use Rattle.kdc_hub.specs.Hub.{Standing, Step, brings, datagram_room, hub_step, most_connections, nothing, opened, sent}
 use Rattle.kdc_hub.specs.Issuing.{Issuing, after, reply_of, too_long}
 use Rattle.kdc_hub.specs.Logged.{Entry, Stop, logged, step_by, step_of}
@@ -37,6 +37,9 @@ use Rattle.kdcd_start.specs.Journal.{Handed, handed_at, handed_by}
 abbrev seens : List Action → List Seen
 seens [] = []
 seens (action ∷ actions) = seen_by (reply_in action) ++ seens actions
+
+abbrev no_events : List KdcEvent
+no_events = []
 
 -- of a step's actions, the replies to its requests are all that do
 abbrev OnlyReplies : ℕ → List Action → Type 0
@@ -58,7 +61,7 @@ module _ (at : Moment) (conn : ℕ) where
   ends_some i None d = refl
   ends_some i (Some fault) d = close_none d
 
-  closed_only : (d : ℕ) → OnlyReplies (suc (length (take d {A = KdcEvent} []))) (Close conn NoRequest ∷ take d [])
+  closed_only : (d : ℕ) → OnlyReplies (suc (length (take d no_events))) (Close conn NoRequest ∷ take d [])
   unfolding replies_by
   closed_only zero = refl
   closed_only (suc d) = refl
@@ -111,7 +114,7 @@ opened_none : (hub : Standing) (conn : ℕ) → seens (opened hub conn).actions 
 opened_none hub conn =
     either_none (finmap.contains_key hub.connections conn) (nat_lt (finmap.len hub.connections) most_connections) _ _ _ refl refl refl
 
-none_taken : (d : ℕ) → OnlyReplies (length (take d {A = KdcEvent} [])) (take d [])
+none_taken : (d : ℕ) → OnlyReplies (length (take d no_events)) (take d [])
 unfolding replies_by
 none_taken zero = refl
 none_taken (suc d) = refl
@@ -250,8 +253,8 @@ remembered_on : (hub : Standing) (turns more : List Turn)
     → remembered_in hub (turns ++ more) ≡ remembered_in hub turns ++ remembered_in (after_turns hub turns) more
 remembered_on hub [] more = refl
 remembered_on hub (turn ∷ turns) more =
-    ap (λ l. turn_remembers hub turn ++ l) (remembered_on _ turns more)
-    ∙ sym (append_assoc (turn_remembers hub turn) (remembered_in _ turns) (remembered_in (after_turns hub (turn ∷ turns)) more))
+    ap (λ l. turn_remembers hub turn ++ l) (remembered_on (after_turn hub turn) turns more)
+    ∙ sym (append_assoc (turn_remembers hub turn) (remembered_in (after_turn hub turn) turns) (remembered_in (after_turns hub (turn ∷ turns)) more))
 
 replaced_none : (hub : Standing) (look : Look) (more : List Turn)
     → remembered_in hub (replacement look ++ more) ≡ remembered_in (after_turns hub (replacement look)) more

@@ -1,2 +1,3 @@
 pub mod Ready
 mod Handings
+mod Decided
