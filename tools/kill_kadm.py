@@ -26,6 +26,7 @@ COMMANDS = {
     "random --db db --name h --seed seed --replace": "db",
     "policy --db db --name h --field disabled --value true": "db",
     "keytab --db db --name h --out kt --append": "kt",
+    "import --db db --name i --keytab i.kt": "db",
 }
 # The calls that change what is on the disk, at each of which it is killed: opens only where they make a file.
 CHANGES = re.compile(
@@ -60,8 +61,8 @@ class Kadm:
     def __init__(self, program, folder):
         self.program, self.folder = os.path.abspath(program), pathlib.Path(folder)
         (self.folder / "seed").write_bytes(bytes(range(32)))
-        for words in ("init --db db --realm A.B --seed seed", "random --db db --name h --seed seed",
-                      "keytab --db db --name h --out kt"):
+        for words in ("init --db db --realm A.B --seed seed", "random --db db --name i --seed seed", "keytab --db db --name i --out i.kt",
+                      "remove --db db --name i", "random --db db --name h --seed seed", "keytab --db db --name h --out kt"):
             self.run(words).check_returncode()
         self.before = {name: (self.folder / name).read_bytes() for name in ("db", "kt")}
 

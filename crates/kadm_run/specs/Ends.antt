@@ -1,5 +1,5 @@
 -- How a command line ends, and what it leaves.
-use Rattle.std.specs.Prelude.{◌≡◌, ◌≤◌, ◌⊎◌, ℕ, List, Option}
+use Rattle.std.specs.Prelude.{◌≡◌, ◌⊎◌, ℕ, List, Option}
 use Rattle.enctypes.specs.declared.etype.Etype.{Etype}
 use Rattle.file_store.specs.World.{World}
 use Rattle.file_store.specs.declared.faults.Amiss.{Amiss}
@@ -8,8 +8,17 @@ use Rattle.kadm_run.specs.Worlds.{Did, DidSome}
 use Rattle.kadm_run.specs.declared.order.Order.{Order}
 use Rattle.kadm_run.specs.declared.order.Task.{Task}
 use Rattle.kadm_run.specs.declared.order.Task.TheVariants.{Print, Write}
+use Rattle.kadm_run.specs.declared.status.Status.{Status}
+use Rattle.kadm_run.specs.declared.status.Status.TheVariants as statuses
 use Rattle.kadm_run.specs.declared.stop.Stop.{Stop}
 use Rattle.kadm_run.specs.declared.stop.Stop.TheVariants.{Usage, Refused, File}
+
+-- the exit status of the program
+abbrev pub status_code : Status → ℕ
+status_code statuses.Done = 0
+status_code statuses.Refused = 1
+status_code statuses.Usage = 2
+status_code statuses.Failed = 3
 
 abbrev pub IsFailure : Amiss → Type 0
 IsFailure LongFile = ⊥
@@ -23,15 +32,22 @@ IsFailed Usage = ⊥
 IsFailed (Refused reason) = ⊥
 IsFailed (File fault) = IsFailure fault.amiss
 
-abbrev pub IsAmissStatus : Amiss → ℕ → Type 0
-IsAmissStatus LongFile status = (1 ≤ status) × (status ≤ 3)
-IsAmissStatus ShortSeed status = (1 ≤ status) × (status ≤ 3)
-IsAmissStatus LongPassword status = (1 ≤ status) × (status ≤ 3)
-IsAmissStatus (Failed error) status = status ≡ 3
+-- refused or failed
+abbrev pub IsNotDone : Status → Type 0
+IsNotDone statuses.Done = ⊥
+IsNotDone statuses.Refused = Unit {0}
+IsNotDone statuses.Usage = ⊥
+IsNotDone statuses.Failed = Unit {0}
 
-abbrev pub IsStatusOf : Stop → ℕ → Type 0
-IsStatusOf Usage status = status ≡ 2
-IsStatusOf (Refused reason) status = status ≡ 1
+abbrev pub IsAmissStatus : Amiss → Status → Type 0
+IsAmissStatus LongFile status = IsNotDone status
+IsAmissStatus ShortSeed status = IsNotDone status
+IsAmissStatus LongPassword status = IsNotDone status
+IsAmissStatus (Failed error) status = status ≡ statuses.Failed
+
+abbrev pub IsStatusOf : Stop → Status → Type 0
+IsStatusOf Usage status = status ≡ statuses.Usage
+IsStatusOf (Refused reason) status = status ≡ statuses.Refused
 IsStatusOf (File fault) status = IsAmissStatus fault.amiss status
 
 -- a command that stops leaves all as it was, but where it was done and the output then failed
@@ -45,6 +61,7 @@ IsTaskDone before db etypes (Write work) after = Did before db etypes work after
 abbrev pub IsDone : Option World → Order → Option World → Type 0
 IsDone before order after = IsTaskDone before order.db.now order.etypes.items order.task after
 
--- all is as it was, or one command was done: then the status is 0, or 3 if the output failed
-abbrev pub IsEnd : Option World → ℕ → Option World → Type 0
-IsEnd before status after = (status ≤ 3) × ((after ≡ before) ⊎ (((status ≡ 0) ⊎ (status ≡ 3)) × DidSome before after))
+-- all is as it was, or one command was done, and then at most the output failed
+abbrev pub IsEnd : Option World → Status → Option World → Type 0
+IsEnd before status after =
+    (after ≡ before) ⊎ (((status ≡ statuses.Done) ⊎ (status ≡ statuses.Failed)) × DidSome before after)

@@ -17,7 +17,9 @@ mod passwords;
 mod patterns;
 mod reason;
 mod run;
+mod status;
 mod stop;
 mod values;
 
-pub use run::{DONE, FAILED, REFUSED, USAGE, kadm_run};
+pub use run::kadm_run;
+pub use status::Status;

@@ -2,6 +2,7 @@
 ghost use Rattle.std.specs.Prelude.{◌≡◌, ◌⊎◌, IfErr, IfOk, OnErr, OnOk};
 ghost use Rattle.kadm_run.specs.Ends.{IsDone, IsEnd, IsStopped};
 ghost use Rattle.kadm_run.specs.Worlds.{Did, DidSome};
+ghost use Rattle.kadm_run.specs.declared.status.Status.TheVariants.{Failed};
 
 use crate::changes::{change, make_realm, migrate};
 use crate::granting::{grant_password, grant_random};
@@ -10,6 +11,7 @@ use crate::keytabs::write_keytab;
 use crate::linting::print_lint;
 use crate::listing::{print_list, print_row};
 use crate::order::{Order, OrderFault, Print, Task, Work, read_args, read_order};
+use crate::status::Status;
 use crate::stop::{Stop, report};
 use crate::values::taken_by;
 use clap::ArgMatches;
@@ -20,38 +22,25 @@ use std::convert::AsStr;
 use std::io;
 use std::io::{BufWriter, Write};
 
-/// The status of a command that did what it was to do.
-pub const DONE: u8 = 0;
-
-/// The status of a command that is refused, by a file that it reads or by the database.
-pub const REFUSED: u8 = 1;
-
-/// The status of a fault of the command line.
-pub const USAGE: u8 = 2;
-
-/// The status of a command that failed on a file, or ran out of memory.
-pub const FAILED: u8 = 3;
-
 /// Does what a command line says, the program's name in front. What came of it goes to `writer`; what refused or failed
-/// it, and why, to `errors`. The status is `DONE`, `REFUSED`, `USAGE` or `FAILED`; but for `DONE` the files are as they
-/// were.
+/// it, and why, to `errors`. The files are as they were unless the command is `Done`, or has `Failed` only to print.
 pub fn kadm_run<S: AsStr, T: Store, W: Write + Drop, E: Write + Drop>(
     alloc: Global,
     args: &[S],
     store: &mut T,
     writer: W,
     errors: E,
-) -> u8
+) -> Status
     ensures { IsEnd (T.world store.old) result (T.world store.new) }
 {
     let Ok(mut out) = BufWriter::new(alloc, writer) else {
-        return FAILED;
+        return Status::Failed;
     };
     let Ok(mut errors) = BufWriter::new(alloc, errors) else {
-        return FAILED;
+        return Status::Failed;
     };
     let matches = read_args(alloc, args);
-    run_and_report(alloc, &matches, store, &mut out, &mut errors).unwrap_or(FAILED)
+    run_and_report(alloc, &matches, store, &mut out, &mut errors).unwrap_or(Status::Failed)
 }
 
 /// The status; an error is a failed write of what is printed.
@@ -61,12 +50,12 @@ fn run_and_report<T: Store, W: Write, E: Write>(
     store: &mut T,
     out: &mut W,
     errors: &mut E,
-) -> io::Result<u8>
+) -> io::Result<Status>
     ensures ended { IfOk result (λ status. IsEnd (T.world store.old) status (T.world store.new)) }
-    ensures failed { OnErr result (IsEnd (T.world store.old) 3 (T.world store.new)) }
+    ensures failed { OnErr result (IsEnd (T.world store.old) Failed (T.world store.new)) }
 {
     let status = match run_to_end(alloc, matches, store, out, errors) {
-        Ok(()) => DONE,
+        Ok(()) => Status::Done,
         Err(stop) => report(out, errors, matches, stop)?,
     };
     // the errors first: they tell of an output that is not taken

@@ -1,9 +1,10 @@
 //! Why a command ends before it is done, and what it then prints.
 ghost use Rattle.std.specs.Prelude.{◌≡◌, IfOk};
 ghost use Rattle.kadm_run.specs.Ends.{IsFailed, IsStatusOf};
+ghost use Rattle.kadm_run.specs.declared.status.Status.TheVariants.{Failed, Refused};
 
 use crate::reason::{KEYTAB, Reason};
-use crate::run::{FAILED, REFUSED, USAGE};
+use crate::status::Status;
 use clap::ArgMatches;
 use clap::error::Error;
 use file_store::{Amiss, FileFault};
@@ -152,11 +153,11 @@ pub(crate) fn report<W: Write, E: Write>(
     errors: &mut E,
     matches: &Result<ArgMatches<'_>, Error>,
     stop: Stop<'_>,
-) -> io::Result<u8>
+) -> io::Result<Status>
     ensures { IfOk result (λ status. IsStatusOf stop.entry status) }
 {
     match stop {
-        Stop::Usage => Ok(USAGE),
+        Stop::Usage => Ok(Status::Usage),
         Stop::Refused(reason) => {
             tell_reason(errors, word_of(matches, reason.option()), reason);
             print_refusal(out, reason.name())
@@ -207,16 +208,16 @@ fn tell_spelling<E: Write>(errors: &mut E, word: &str) -> io::Result<()> {
     Ok(())
 }
 
-fn print_refusal<W: Write>(out: &mut W, name: &str) -> io::Result<u8>
-    ensures { IfOk result (λ status. status ≡ 1) }
+fn print_refusal<W: Write>(out: &mut W, name: &str) -> io::Result<Status>
+    ensures { IfOk result (λ status. status ≡ Refused) }
 {
     writeln!(out, "refused {name}")?;
-    Ok(REFUSED)
+    Ok(Status::Refused)
 }
 
-fn print_failure<W: Write>(out: &mut W) -> io::Result<u8>
-    ensures { IfOk result (λ status. status ≡ 3) }
+fn print_failure<W: Write>(out: &mut W) -> io::Result<Status>
+    ensures { IfOk result (λ status. status ≡ Failed) }
 {
     writeln!(out, "failed")?;
-    Ok(FAILED)
+    Ok(Status::Failed)
 }

@@ -2,10 +2,9 @@
 use crate::steps::Step::{
     Absent, Copy, FailsAtEach, Holds, Input, IsAtFault, Keep, Leaves, Put, PutTooLong, Refuses, Run,
 };
-use crate::steps::{Step, file_after, run};
+use crate::steps::{DONE, FAILED, REFUSED, Step, file_after, run};
 use cred_files::Keytab;
 use enctypes::Etype;
-use kadm_run::{DONE, FAILED, REFUSED};
 use krb_fields::Name;
 use principal_keys::{password_keys, random_keys};
 use std::alloc::Global;

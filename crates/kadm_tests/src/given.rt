@@ -3,8 +3,7 @@ use crate::commands::INIT;
 use crate::steps::Step::{
     Absent, Asked, Copy, Draw, Input, Keep, Leaves, Letters, Run, Same, Says, Tells,
 };
-use crate::steps::{Step, run};
-use kadm_run::{DONE, FAILED, REFUSED};
+use crate::steps::{DONE, FAILED, REFUSED, Step, run};
 use std::io;
 
 const ADD: &str = "kadm add --db db --name u";

@@ -4,8 +4,7 @@ use crate::commands::INIT;
 use crate::steps::Step::{
     Clock, Copy, Draw, IsAtFault, KeepFor, Leaves, Put, Refuses, Run, Same, Tells,
 };
-use crate::steps::{Step, run};
-use kadm_run::{DONE, REFUSED};
+use crate::steps::{DONE, REFUSED, Step, run};
 use std::io;
 
 const RANDOM: &str = "kadm random --db db --name h --seed seed --types 18";

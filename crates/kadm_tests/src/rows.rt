@@ -3,10 +3,9 @@ use crate::commands::INIT;
 use crate::steps::Step::{
     Contains, Copy, FailsAtEach, Holds, NamesFields, Put, Refuses, Run, Same,
 };
-use crate::steps::{Step, file_after, run};
+use crate::steps::{DONE, REFUSED, Step, file_after, run};
 use cred_files::Keytab;
 use enctypes::Etype;
-use kadm_run::{DONE, REFUSED};
 use krb_fields::Name;
 use std::alloc::Global;
 use std::io;

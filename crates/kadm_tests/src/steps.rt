@@ -2,12 +2,21 @@
 //!
 //! A store is let go in `file_after` alone, and all else borrows it: proofs about its end take long for each place.
 use file_store::{LONGEST_FILE, MemoryStore};
-use kadm_run::{DONE, FAILED, REFUSED, USAGE, kadm_run};
+use kadm_run::kadm_run;
 use principal_rows::Policy;
 use std::alloc::{AllocError, Global};
 use std::io;
 use std::process::Abort;
 use text_fields::Setting;
+
+// The exit statuses of `docs/ADMINISTRATION.md`.
+pub const DONE: u8 = 0;
+
+pub const REFUSED: u8 = 1;
+
+pub const USAGE: u8 = 2;
+
+pub const FAILED: u8 = 3;
 
 /// What is done with a store, or is looked at in it.
 #[derive(Clone, Copy, Debug)]
@@ -88,7 +97,7 @@ fn run_line(alloc: Global, store: &mut MemoryStore, line: &str) -> io::Result<En
     let args: Vec<&str> = line.split(' ').collect(alloc)?;
     let mut written = Vec::new(alloc);
     let mut errors = Vec::new(alloc);
-    let status = kadm_run(alloc, args.as_slice(), store, &mut written, &mut errors);
+    let status = kadm_run(alloc, args.as_slice(), store, &mut written, &mut errors).code();
     Ok(Ended {
         written,
         errors,
