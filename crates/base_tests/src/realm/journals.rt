@@ -196,7 +196,10 @@ fn a_start_resumes_or_says_why_not(rt: HostRuntime) -> Result<(), Fail> {
 /// The last check of the journal.
 fn last_check(journal: &Found) -> Result<[u8; 16], Fail> {
     match journal {
-        Found::Whole(Journal { check, .. }) => Ok(*check),
+        Found::Whole(Journal { check, .. }) => {
+            let check = *check;
+            Ok(check)
+        }
         Found::Nothing | Found::Broken => Err("a journal")?,
     }
 }
