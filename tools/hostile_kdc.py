@@ -1,19 +1,20 @@
 #!/usr/bin/env python3
 """Tries `kclient` against programs in a KDC's place that answer too much, too slowly, nothing, or from elsewhere; and behind a
 proxy that changes the good replies of `kdcd serve`: each octet of an AS-REP (`kinit`) and of a TGS-REP (`kvno`) XORed with 01,
-and each of their proper prefixes. Each time it compares the status, what is printed, how long it took, and the cache with
-what it was before; where a changed reply is taken, with the cache that this script writes of it. No command has more memory
-than 16 MiB. Linux and Python 3 alone are needed.
+and each of their proper prefixes. It also tries caches and keytabs that are pipes, devices or files of other users. Each time
+it compares the status, what is printed, how long it took, and the cache with what it was before; if a changed reply is taken,
+with the cache that this script writes of it. No command has more memory than 16 MiB. It needs only Linux and Python 3.
 
     for program in kadm kdcd kclient; do (cd crates/$program && rt run -- --help); done
     python3 tools/hostile_kdc.py [--programs FOLDER] [--only PART ..]
 
 The first line proves and builds the programs. The folder is that of the three, or that of the crates. The second takes about
-two minutes for the part `answers`, and as long for `octets`; it prints a line for each thing that it tried, with `ok` or what
-was wrong, and ends with status 1 if anything was."""
+two minutes for the part `answers`, as long for `octets`, and seconds for `files`. It prints a line for each thing that it
+tried, with `ok` or what was wrong, and ends with status 1 if anything was."""
 
 import argparse
 import calendar
+import os
 import pathlib
 import socket
 import tempfile
@@ -28,6 +29,8 @@ from trial import ask_udp, datagrams, ending, programs_in
 
 REALM = b"A.B"
 CACHE = b"what the cache was before\n"
+# A cache of u in A.B without credentials (version 4).
+EMPTY = bytes.fromhex("0504" "0000" "00000001" "00000001" "00000003") + b"A.B" + bytes.fromhex("00000001") + b"u"
 # By how many seconds a command may be slower than it has to be, beside other work on the machine.
 SLACK = 3 * trial.SLOWNESS
 # The address space of a command, in KiB: what needs more memory fails.
@@ -38,11 +41,11 @@ REMEMBERED = 65536
 WITH_TICKET = (b"\x6b", b"\x6d")
 
 
-def error(code, e_data=None):
-    """KRB-ERROR (RFC 4120, section 5.9.1)."""
+def error(code, e_data=None, ahead=0):
+    """KRB-ERROR (RFC 4120, section 5.9.1), by a clock that is this number of seconds ahead."""
     more = [] if e_data is None else [field(12, octet_string(e_data))]
     return tlv(0x7E, sequence(
-        field(0, integer(5)), field(1, integer(30)), field(4, time_of(int(time.time()))), field(5, integer(0)),
+        field(0, integer(5)), field(1, integer(30)), field(4, time_of(int(time.time()) + ahead)), field(5, integer(0)),
         field(6, integer(code)), field(9, general_string(REALM)), field(10, name(2, b"krbtgt", REALM)), *more,
     ))
 
@@ -323,7 +326,7 @@ COUNTS = (
     *((etype, 1, WEAK) for etype in (17, 18, 19, 20)),
     *((etype, 4095, WEAK) for etype in (17, 18)),
     *((etype, 32767, WEAK) for etype in (19, 20)),
-    (18, 0, WEAK),
+    (18, 0, OUT_OF_RANGE),
     (18, (1 << 20) + 1, OUT_OF_RANGE),
     (18, (1 << 32) - 1, OUT_OF_RANGE),
 )
@@ -383,6 +386,11 @@ def try_answers(hostile):
         kdcs = [Kdc(datagram(error(code)), no_connection), Kdc(datagram(error(29)), no_connection)]
         said = f"{kdcs[0].address}: error {code}"
         hostile.expect_kinit(f"error {code}, and error 29", kdcs, (), 1, f"refused {code}", said, 0, 0, (1, 0))
+    for ahead, said in ((3600, "seconds ahead of this"), (-3600, "seconds behind this")):
+        kdc = Kdc(datagram(error(37, ahead=ahead)), no_connection)
+        hostile.expect_kinit(f"error 37 again and again, {said}", [kdc], (), 1, "refused 37", said, 0, 0, (2, 0))
+    kdc = Kdc(datagram(error(37, ahead=-(1 << 32))), no_connection)
+    hostile.expect_kinit("error 37 with a year before 1970", [kdc], (), 1, "refused 37", "error 37", 0, 0, (1, 0))
     kdc = Kdc(datagram(error(6), 1.5), no_connection)
     hostile.expect_kinit("a reply after a second and a half", [kdc], (), 1, "refused 6", kdc.address, 1.4, 2)
     kdc = Kdc(datagram(error(52)), connection(framed(hello)))
@@ -452,6 +460,7 @@ def try_octets(hostile):
     hostile.expect("kadm keytab --db database --name u --out u.keytab", 0, "=ok")
     server = hostile.serve(f"--first --remembered {REMEMBERED}")
     proxy = Proxy(server.udp)
+    try_next(hostile, server.udp)
     # the same nonce each time, so that all replies have the same length
     known = ["--kdc", proxy.address, "--seed", "seed", "--cache", "cc"]
     key = key_of(b"a password", REALM + b"u")
@@ -466,7 +475,62 @@ def try_octets(hostile):
     server.end()
 
 
-PARTS = {"answers": try_answers, "octets": try_octets}
+def try_next(hostile, good):
+    """A KDC that refuses so that the next one is asked, which is a good one."""
+    for code in (29, 37):
+        kdc = Kdc(datagram(error(code)), no_connection)
+        words = ["kinit", "--kdc", kdc.address, "--kdc", good, "--realm", "A.B", "--name", "u", "--keytab", "u.keytab"]
+        ran, took = hostile.begin([*words, "--cache", "new"], CACHE)
+        faults = hostile.faults(ran, took, 0, "ok", (), CACHE)
+        if kdc.datagrams != 1:
+            faults.append(f"sends {kdc.datagrams} datagrams to the first")
+        hostile.note(f"error {code}, then a good KDC", "; ".join(faults))
+        (hostile.folder / "new").unlink(missing_ok=True)
+
+
+def try_files(hostile):
+    """Caches and keytabs that are no files, and caches that are not the user's own."""
+    hostile.folder = hostile.folder.parent / "files"
+    hostile.folder.mkdir()
+    hostile.write("cc", CACHE)
+    hostile.write("pw", "a password\n")
+    os.mkfifo(hostile.folder / "pipe")
+    kdc = Kdc(no_datagram, no_connection)
+    to_kdc = ["--kdc", kdc.address]
+    as_u = [*to_kdc, "--realm", "A.B", "--name", "u"]
+    no_file = 3, "failed", ("it is no file",)
+    for path in ("pipe", "/dev/zero"):
+        for words in (
+            ["klist", "--cache", path], ["klist", "--keytab", path], ["kdestroy", "--cache", path],
+            ["kvno", *to_kdc, "--cache", path, "--name", "h"], ["kinit", "--renew", *to_kdc, "--cache", path],
+            ["kinit", *as_u, "--cache", "cc", "--keytab", path],
+            ["kvno", *to_kdc, "--cache", "own", "--name", "h", "--keytab", path],
+        ):
+            hostile.folder.joinpath("own").write_bytes(EMPTY)
+            hostile.folder.joinpath("own").chmod(0o600)
+            ran, took = hostile.begin(words, CACHE)
+            hostile.note(" ".join(words), "; ".join(hostile.faults(ran, took, *no_file, CACHE)))
+    not_ours = 1, "refused NotOurs", ("belongs to another user",)
+    changes = [("other users may write", lambda path: path.chmod(0o602)), ("a group may write", lambda path: path.chmod(0o620))]
+    if os.geteuid() == 0:
+        changes.append(("of another user", lambda path: os.chown(path, 65534, 65534)))
+    for what, change in changes:
+        for command in (["klist"], ["kdestroy"], ["kvno", *to_kdc, "--name", "h"], ["kinit", "--renew", *to_kdc]):
+            path = hostile.folder / "theirs"
+            path.unlink(missing_ok=True)
+            path.write_bytes(EMPTY)
+            path.chmod(0o600)
+            change(path)
+            ran, took = hostile.begin([*command, "--cache", "theirs"], CACHE)
+            faults = hostile.faults(ran, took, *not_ours, CACHE)
+            if not path.exists():
+                faults.append("the cache is gone")
+            hostile.note(f"a cache {what}: {command[0]}", "; ".join(faults))
+    if kdc.datagrams or kdc.connections:
+        hostile.note("nothing is sent", "something is sent")
+
+
+PARTS = {"answers": try_answers, "octets": try_octets, "files": try_files}
 
 
 def main():

@@ -230,7 +230,7 @@ def parts(stock):
     return [
         Part("services in C by MIT's library", script("services_in_c.py", "--quick", *words), stock.services_and_clients, True),
         Part("services in C", script("services_in_c.py", "--without-mit", *words), stock.services, True),
-        *[Part(f"hostile {each}", script("hostile_kdc.py", "--only", each)) for each in ("answers", "octets")],
+        *[Part(f"hostile {each}", script("hostile_kdc.py", "--only", each)) for each in ("answers", "octets", "files")],
         *map(operator, ("stock", "words", "log", "limits", "pairs", "kclient")),
         *map(fault, ("memory", "each", "killed", "sockets")),
         Part("kadm killed at its calls", script("kill_kadm.py", "--every", 7), stock.strace),

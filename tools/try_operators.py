@@ -72,7 +72,9 @@ COMMANDS = {
     "kadm drop": "db! name! version older-",
     "kadm policy": "db! name! field! value!",
     "kadm remove": "db! name!",
+    "kadm import": "db! name! keytab! types",
     "kadm list": "db! like long-",
+    "kadm lint": "db!",
     "kadm show": "db! name!",
     "kadm keytab": "db! name! out! append-",
     "kadm migrate": "db! users-are-no-services-",
@@ -173,7 +175,15 @@ def try_kadm(trial):
         kadm add --db database --name x --random --password-file pw -> 2 --random
         kadm drop --db database --name s --older --version 1 -> 2 --older
         kadm list --db database --like t --long -> 0 =t 2 17 never never false 1 true
+        kadm policy --db database --name t --field preauth --value false -> 0 =ok
+        kadm policy --db database --name t --field expires --value 2020-01-01 -> 0 =ok
+        kadm lint --db database -> 0 a older_versions 1; t expired 2020-01-01T00:00:00Z; t no_preauth; t may_be_service
+        kadm keytab --db database --name t --out t.keytab -> 0 =ok
         kadm remove --db database --name s -> 0 =ok
+        kadm remove --db database --name t -> 0 =ok
+        kadm import --db database --name t --keytab t.keytab -> 0 =ok
+        kadm import --db database --name t --keytab t.keytab -> 1 =refused Exists
+        kadm list --db database --like t -> 0 =t 2 17
         kadm remove --db database --name t -> 0 =ok
         kadm --version -> 0 kadm 
         kadm keytab --db database --name a --out a.keytab -> 0 =ok
@@ -232,6 +242,15 @@ def try_kadm(trial):
         kadm keytab --db ./database --name a --out database --append -> 1 =refused IsDatabase
         kadm keytab --db database --name a --out folder/../database -> 1 =refused IsDatabase
         kadm keytab --db database --name a --out new -> 1 =refused IsDatabase
+        kadm keytab --db database --name a --out database.lock -> 1 =refused IsLock; database.lock: a name that ends in
+        kadm keytab --db database --name a --out ./new.lock --append -> 1 =refused IsLock
+        cp database copy -> 0
+        kadm keytab --db database --name a --out copy -> 1 =refused BadMagic; copy: it is no keytab
+        cmp database copy -> 0
+        kadm import --db database --name x --keytab a.keytab -> 1 =refused NoKeys; a.keytab: it has no key
+        kadm import --db database --name x --keytab text -> 1 =refused BadMagic; text: it is no keytab
+        kadm import --db database --name x --keytab none -> 3 =failed; none: No such file
+        kadm list --db text -> 1 =refused NotJson; text: invalid JSON at line 1 column
     """)
     changed = (trial.folder / "database").read_bytes() != before
     trial.note("the database is as it was before these", "it is another" if changed else "")

@@ -1,6 +1,7 @@
 -- Keys that are found are keys of the client.
-use Rattle.std.proofs.Common.{◌≡◌, ℤ, ℕ, List, [], ◌∷◌, Option, Some, None, false, Result, Ok, Err, refl, sym, ◌∙◌}
-use Rattle.std.specs.Prelude.{IfOk}
+use Rattle.std.proofs.Common.{◌≡◌, ℤ, ℕ, List, [], ◌∷◌, Option, Some, None, false, Result, Ok, Err, refl, sym, subst, ap}
+use Rattle.std.proofs.Common.{◌∙◌}
+use Rattle.std.specs.Prelude.{IfErr, IfOk}
 use Rattle.client_core.specs.Passwords as passwords
 use Rattle.cred_files.specs.declared.keytab_entry.KeytabEntry.{KeytabEntry}
 use Rattle.enctypes.specs.declared.key.Key.{Key}
@@ -8,7 +9,10 @@ use Rattle.krb_fields.specs.Name.{Components}
 use Rattle.krb_fields.specs.PrincipalName.{Name}
 use Rattle.krb_parts.specs.EtypeInfo2Entry.{EtypeInfo2Entry}
 use Rattle.client_login.specs.Keys.{IsKeytabKey, IsPasswordKey, is_weak, key_named, key_numbered, or_later}
+use Rattle.client_login.specs.Faults.{IsNoKeytabKey}
+use Rattle.client_login.specs.Infos.{default_info}
 use Rattle.client_login.specs.declared.faults.Why.{Why}
+use Rattle.client_login.specs.declared.faults.Why.TheVariants as says
 use Rattle.client_login.specs.declared.secrets.Password.{Password}
 
 held_at : (keytab : List KeytabEntry) (who : Components) (number : ℤ) (key : Key)
@@ -45,3 +49,19 @@ pub strong_key : (password : Password) (realm : List ℕ) (name : Name) (info : 
     → IfOk found (λ key. IsPasswordKey password realm name key)
 strong_key password realm name info (Ok key) strong e = record { info = info; made = sym e; strong = strong }
 strong_key password realm name info (Err why) strong e = tt
+
+-- ---- and where none is found, there is none
+
+pub unnumbered : (keytab : List KeytabEntry) (who : Components) (number : ℤ) (found : Result Key Why)
+    → IfErr found (λ why. (key_numbered keytab who number ≡ None) × (why ≡ says.NoKey))
+    → IfErr found (λ why. IsNoKeytabKey keytab who (default_info number) why)
+unnumbered keytab who number (Ok key) e = tt
+unnumbered keytab who number (Err why) e =
+    subst (λ (why : Why). IsNoKeytabKey keytab who (default_info number) why) (sym e.1)
+    (ap (λ (first : Option Key). or_later first None) e.0)
+
+pub unnamed : (keytab : List KeytabEntry) (who : Components) (info : List EtypeInfo2Entry) (found : Result Key Why)
+    → IfErr found (λ why. (key_named keytab who info ≡ None) × (why ≡ says.NoKey))
+    → IfErr found (λ why. IsNoKeytabKey keytab who info why)
+unnamed keytab who info (Ok key) e = tt
+unnamed keytab who info (Err why) e = subst (λ (why : Why). IsNoKeytabKey keytab who info why) (sym e.1) e.0

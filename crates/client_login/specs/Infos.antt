@@ -6,7 +6,7 @@ use Rattle.krb_elements.specs.Codec.{list_of}
 use Rattle.krb_elements.specs.Format.{whole}
 use Rattle.krb_fields.specs.PaData.{PaData, pa_data}
 use Rattle.krb_parts.specs.EtypeInfo2Entry.{EtypeInfo2Entry, etype_info2_entry}
-use Rattle.krb_replies.specs.KdcRep.{KdcRep, kdc_rep}
+use Rattle.krb_replies.specs.KdcRep.{KdcRep}
 use Rattle.sealed_parts.specs.Parts.{ok_of}
 
 -- the list that octets spell; an empty one where they spell none
@@ -31,9 +31,6 @@ info_or_default number None = default_info number
 
 abbrev pub info_in_reply : KdcRep 11 → List EtypeInfo2Entry
 info_in_reply reply = info_or_default reply.enc_part.etype (first_info reply.padata)
-
-abbrev pub info_of_reply : List ℕ → Option (List EtypeInfo2Entry)
-info_of_reply octets = option_map info_in_reply (ok_of (whole (kdc_rep 11).at octets))
 
 -- ---- in the e-data of a refusal
 

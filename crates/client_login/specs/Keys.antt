@@ -1,7 +1,6 @@
 -- The keys of a client: of its password or its keytab, by what a KDC names.
-use Rattle.std.specs.Prelude.{◌≡◌, ℕ, ℤ, ◌==◌, nat_lt, Bool, false, if◌then◌else◌, List, [], ◌∷◌, ◌++◌, length}
+use Rattle.std.specs.Prelude.{◌≡◌, ℕ, ℤ, nat_lt, Bool, false, if◌then◌else◌, List, [], ◌∷◌, ◌++◌}
 use Rattle.std.specs.Prelude.{Option, Some, None, option_map, is_some, Ok}
-use Rattle.std.specs.Int.{w32, from_be_bytes}
 use Rattle.client_core.specs.Passwords as passwords
 use Rattle.cred_files.specs.Keytab.{newest, passes}
 use Rattle.cred_files.specs.declared.keytab_entry.KeytabEntry.{KeytabEntry}
@@ -11,16 +10,13 @@ use Rattle.enctypes.specs.declared.etype.Etype.{Etype}
 use Rattle.enctypes.specs.declared.etype.Etype.TheVariants.{Aes128CtsHmacSha1_96, Aes256CtsHmacSha1_96}
 use Rattle.enctypes.specs.declared.etype.Etype.TheVariants.{Aes128CtsHmacSha256_128, Aes256CtsHmacSha384_192}
 use Rattle.enctypes.specs.declared.key.Key.{Key}
-use Rattle.krb_elements.specs.Format.{whole}
 use Rattle.krb_fields.specs.Name.{Components}
 use Rattle.krb_fields.specs.PrincipalName.{Name}
 use Rattle.krb_parts.specs.EtypeInfo2Entry.{EtypeInfo2Entry}
-use Rattle.krb_replies.specs.KdcRep.{KdcRep, kdc_rep}
 use Rattle.client_login.specs.declared.secrets.Secret.{Secret}
 use Rattle.client_login.specs.declared.secrets.Secret.TheVariants as secrets
 use Rattle.client_login.specs.declared.secrets.Password.{Password}
 use Rattle.sealed_parts.specs.Keys.{type_numbered}
-use Rattle.sealed_parts.specs.Parts.{ok_of}
 
 -- ---- a keytab
 
@@ -42,10 +38,6 @@ abbrev pub key_named : List KeytabEntry → Components → List EtypeInfo2Entry 
 key_named keytab who [] = None
 key_named keytab who (entry ∷ entries) = or_later (key_numbered keytab who entry.etype) (key_named keytab who entries)
 
--- the type by whose key an AS-REP is sealed, where the octets are one
-abbrev pub type_of_reply : List ℕ → Option ℤ
-type_of_reply octets = option_map (λ (reply : KdcRep 11). reply.enc_part.etype) (ok_of (whole (kdc_rep 11).at octets))
-
 -- a key of the keytab, of one of the four types
 pub record IsKeytabKey (keytab : List KeytabEntry) (who : Components) (key : Key) : Type 0 where
   pub number : ℤ
@@ -58,28 +50,19 @@ abbrev pub least_count : Option ℕ → Etype → ℕ
 least_count (Some least) etype = least
 least_count None etype = default_count etype
 
--- four octets, the most significant first
-abbrev pub count_in : List ℕ → Option ℕ
-count_in params = if length params == 4 then Some (from_be_bytes w32 params) else None
-
--- the count that an entry asks for: that of its parameters, or else the type's default
-abbrev pub stated_count : Etype → Option (List ℕ) → Option ℕ
-stated_count etype (Some params) = count_in params
-stated_count etype None = Some (default_count etype)
-
 abbrev pub is_below : ℕ → Option ℕ → Bool
 is_below least (Some count) = nat_lt count least
 is_below least None = false
 
 abbrev pub is_weak_as : Option ℕ → Option (List ℕ) → Option Etype → Bool
-is_weak_as least params (Some etype) = is_below (least_count least etype) (stated_count etype params)
+is_weak_as least params (Some etype) = is_below (least_count least etype) (passwords.count_of etype params)
 is_weak_as least params None = false
 
 abbrev pub is_weak_if : Option ℕ → Option EtypeInfo2Entry → Bool
 is_weak_if least (Some entry) = is_weak_as least entry.s2kparams (type_numbered entry.etype)
 is_weak_if least None = false
 
--- the entry of which a key is made asks for fewer iterations than the least count
+-- the entry from which a key is made asks for fewer iterations than the least count
 abbrev pub is_weak : Option ℕ → List EtypeInfo2Entry → Bool
 is_weak least info = is_weak_if least (passwords.entry_of info)
 
@@ -98,15 +81,10 @@ IsOwnKey (secrets.Keytab keytab) realm name key = IsKeytabKey keytab (realm ∷ 
 
 -- ---- the key by which the reply to a request with a timestamp is opened
 
--- of a keytab that of the type by which the reply is sealed; where the octets are no reply, the timestamp's
-abbrev pub keytab_key : List KeytabEntry → Components → Key → Option ℤ → Option Key
-keytab_key keytab who key (Some number) = key_numbered keytab who number
-keytab_key keytab who key None = Some key
-
--- of a password the timestamp's
-abbrev pub next_key : Secret → Components → Key → List ℕ → Option Key
-next_key (secrets.Password password) who key reply = Some key
-next_key (secrets.Keytab keytab) who key reply = keytab_key keytab who key (type_of_reply reply)
+-- of a password the timestamp's; of a keytab that of the type by which the reply is sealed
+abbrev pub next_key : Secret → Components → Key → ℤ → Option Key
+next_key (secrets.Password password) who key number = Some key
+next_key (secrets.Keytab keytab) who key number = key_numbered keytab who number
 
 -- ---- the types that are asked for
 

@@ -1,4 +1,5 @@
 pub mod Asking
+pub mod Clocks
 pub mod Draws
 pub mod Faults
 pub mod Infos
@@ -6,3 +7,4 @@ pub mod Keys
 pub mod LoginLaws
 pub mod Logins
 pub mod Moments
+pub mod Replies

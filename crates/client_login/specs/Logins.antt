@@ -1,5 +1,6 @@
 -- What a client sends to log in and to get further tickets, and what it gets.
 use Rattle.std.specs.Prelude.{◌≡◌, ℕ, ℤ, List, None, Some}
+use Rattle.std.specs.declared.net.socket_addr.SocketAddr.{SocketAddr}
 use Rattle.client_core.specs.Requests.{asks_as, asks_tgs, asks_with_timestamp}
 use Rattle.client_core.specs.Sessions.{session, session_key}
 use Rattle.client_core.specs.Taken.{IsTaken}
@@ -12,8 +13,12 @@ use Rattle.krb_elements.specs.Codec.{written}
 use Rattle.krb_fields.specs.declared.moment.Moment.{Moment}
 use Rattle.krb_types.specs.KdcReq.{message}
 use Rattle.krb_types.specs.declared.kdc_req.Exchange.TheVariants.{As, Tgs}
+use Rattle.rand_core.specs.Stream.{Stream}
+use Rattle.client_login.specs.Replies.{IsAnswered}
 use Rattle.client_login.specs.Asking.{first_asked}
+use Rattle.client_login.specs.Draws.{after_confounder, drawn_confounder}
 use Rattle.client_login.specs.Keys.{IsOwnKey, etypes_for}
+use Rattle.client_login.specs.Moments.{IsNext}
 use Rattle.client_login.specs.declared.secrets.Secret.{Secret}
 use Rattle.client_login.specs.declared.wishes.Login.{Login}
 
@@ -30,19 +35,28 @@ plain_request asked = written (message As) (asks_as None asked)
 abbrev pub stamped_request : Asked → Key → Moment → List ℕ → List ℕ
 stamped_request asked key at confounder = written (message As) (asks_with_timestamp asked key at confounder)
 
--- An exchange takes these requests. A timestamp is under a key of the client, and of a password under none that a KDC
--- weakened.
-pub record CarriesFirst (carries : List ℕ → Type 0) (secret : Secret) (asked : Asked) : Type 0 where
+-- An exchange takes these requests: without a timestamp, and with one of the moment under a key of the client, sealed by
+-- the octets that are drawn; and after a replay error with one of the next microsecond, sealed by the next octets. Of a
+-- password no key is one that a KDC weakened.
+pub record CarriesFirst (carries : List ℕ → Type 0) (secret : Secret) (asked : Asked) (at : Moment) (random : Stream)
+    : Type 0 where
   pub plain : carries (plain_request asked)
-  pub stamped : (key : Key) (at : Moment) (confounder : List ℕ) → IsOwnKey secret asked.realm asked.client key
-      → carries (stamped_request asked key at confounder)
+  pub stamped : (key : Key) → IsOwnKey secret asked.realm asked.client key
+      → carries (stamped_request asked key at (drawn_confounder random))
+  pub again : (key : Key) (next : Moment) → IsOwnKey secret asked.realm asked.client key → IsNext at next
+      → carries (stamped_request asked key next (drawn_confounder (after_confounder random)))
 
--- The credential was taken from a reply to what was asked, under a key of the client.
-pub record IsFirst (secret : Secret) (asked : Asked) (now : ℤ) (credential : Credential) : Type 0 where
+-- the credential was taken from these octets, under a key of the client
+pub record TakesFirst (secret : Secret) (asked : Asked) (now : ℤ) (credential : Credential) (octets : List ℕ) : Type 0 where
   pub key : Key
-  pub reply : List ℕ
   pub own : IsOwnKey secret asked.realm asked.client key
-  pub taken : IsTaken 11 Client asked key now reply credential
+  pub taken : IsTaken 11 Client asked key now octets credential
+
+-- the credential was taken from a KDC's reply to what was asked, under a key of the client
+pub record IsFirst (answers : SocketAddr → List ℕ → List ℕ → Type 0) (secret : Secret) (asked : Asked) (now : ℤ)
+    (credential : Credential) : Type 0 where
+  pub kdc : SocketAddr
+  pub replied : IsAnswered answers kdc (TakesFirst secret asked now credential)
 
 -- ---- a further one
 
@@ -51,14 +65,23 @@ abbrev pub presented_request : Credential → Asked → sessions.Session → Mom
 presented_request granting asked held at confounder =
     written (message Tgs) (asks_tgs asked granting.client held at None confounder)
 
--- an exchange takes these requests
-pub record CarriesPresented (carries : List ℕ → Type 0) (granting : Credential) (asked : Asked) : Type 0 where
-  pub presented : (held : sessions.Session) (at : Moment) (confounder : List ℕ) → session granting ≡ Some held
-      → carries (presented_request granting asked held at confounder)
+-- an exchange takes these requests: at the moment, and after a replay error a microsecond later
+pub record CarriesPresented (carries : List ℕ → Type 0) (granting : Credential) (asked : Asked) (at : Moment)
+    (random : Stream) : Type 0 where
+  pub presented : (held : sessions.Session) → session granting ≡ Some held
+      → carries (presented_request granting asked held at (drawn_confounder random))
+  pub again : (held : sessions.Session) (next : Moment) → session granting ≡ Some held → IsNext at next
+      → carries (presented_request granting asked held next (drawn_confounder (after_confounder random)))
 
--- The credential was taken from a reply to what was asked, under the session key of the ticket that was presented.
-pub record IsFurther (granting : Credential) (asked : Asked) (now : ℤ) (credential : Credential) : Type 0 where
+-- the credential was taken from these octets, under the session key of the ticket that was presented
+pub record TakesFurther (granting : Credential) (asked : Asked) (now : ℤ) (credential : Credential) (octets : List ℕ)
+    : Type 0 where
   pub key : Key
-  pub reply : List ℕ
   pub shared : session_key granting ≡ Some key
-  pub taken : IsTaken 13 Session asked key now reply credential
+  pub taken : IsTaken 13 Session asked key now octets credential
+
+-- the credential was taken from a KDC's reply to what was asked, under that key
+pub record IsFurther (answers : SocketAddr → List ℕ → List ℕ → Type 0) (granting : Credential) (asked : Asked) (now : ℤ)
+    (credential : Credential) : Type 0 where
+  pub kdc : SocketAddr
+  pub replied : IsAnswered answers kdc (TakesFurther granting asked now credential)

@@ -1,14 +1,24 @@
 //! Sends a request to the KDCs of a realm, and takes the first reply that is of use (RFC 4120, section 7.2).
-ghost use Rattle.std.specs.Prelude.{◌≡◌, IfErr, IfOk, Err, Ok};
+ghost use Rattle.std.specs.Prelude.{◌≡◌, IfErr, IfOk, IfSome};
+ghost use Rattle.client_core.specs.Replies as replies;
+ghost use Rattle.client_login.specs.Replies.{IsReply, counted, said_of};
+ghost use Rattle.client_login.specs.Faults.{IsUnheard};
 
 use crate::exchange::{Exchange, Transport};
 use crate::faults::{LoginFault, Why};
 use client_core::{ClientFault, Refusal, refusal_in};
-use cred_files::Credential;
 use krb_fields::Code;
 use std::alloc::{AllocError, Global};
 use std::io::{Error, ErrorKind};
 use std::net::SocketAddr;
+
+/// By which transports KDCs are asked.
+#[derive(Clone, Copy, PartialEq, Eq)]
+pub enum Transports {
+    /// By UDP; and by TCP if no reply comes, or if the reply is too big for a datagram.
+    UdpFirst,
+    TcpOnly,
+}
 
 /// The KDCs of a realm, and the way to them.
 #[derive(Drop)]
@@ -16,9 +26,8 @@ pub struct Kdcs<X> {
     pub exchange: X,
     /// In the order in which they are asked.
     pub addresses: Vec<SocketAddr>,
-    /// Whether they are asked by TCP alone; else by UDP first.
-    pub tcp_only: bool,
-    /// The KDC whose reply came last.
+    pub transports: Transports,
+    /// The KDC that is asked first, since its reply came last.
     answered: Option<SocketAddr>,
     /// How many messages got no reply.
     failures: u64,
@@ -26,11 +35,11 @@ pub struct Kdcs<X> {
 
 impl<X> Kdcs<X> {
     /// KDCs that were not yet asked.
-    pub fn new(exchange: X, addresses: Vec<SocketAddr>, tcp_only: bool) -> Kdcs<X> {
+    pub fn new(exchange: X, addresses: Vec<SocketAddr>, transports: Transports) -> Kdcs<X> {
         Kdcs {
             exchange,
             addresses,
-            tcp_only,
+            transports,
             answered: None,
             failures: 0,
         }
@@ -46,53 +55,23 @@ impl<X> Kdcs<X> {
     pub fn failures(&self) -> u64 {
         self.failures
     }
-
-    /// Says of a fault from which KDC it came.
-    pub(crate) fn located(&self, found: Result<Credential, Why>) -> Result<Credential, LoginFault>
-        ensures ok { IfOk result (λ credential. found ≡ Ok credential) }
-        ensures err { IfErr result (λ fault. found ≡ Err fault.why) }
-    {
-        match found {
-            Ok(credential) => Ok(credential),
-            Err(why) => Err(self.fault(why)),
-        }
-    }
-
-    fn fault(&self, why: Why) -> LoginFault
-        ensures { result.why ≡ why }
-    {
-        let kdc = if why.is_of_reply() {
-            self.answered
-        } else {
-            None
-        };
-        LoginFault { why, kdc }
-    }
 }
 
-/// What came back from a KDC.
+/// What a KDC replied.
 #[derive(Drop)]
-pub(crate) enum Reply {
-    /// A KRB-ERROR.
-    Refused(Refusal),
-    /// Other octets, perhaps a reply with a ticket.
-    Other(Vec<u8>),
+pub(crate) struct Reply {
+    pub kdc: SocketAddr,
+    pub octets: Vec<u8>,
+    /// What they say if they are a KRB-ERROR.
+    pub refusal: Option<Refusal>,
 }
 
 impl Reply {
-    /// The octets, unless they are a KRB-ERROR.
-    pub(crate) fn octets(self) -> Result<Vec<u8>, Why> {
-        match self {
-            Reply::Refused(refusal) => Err(Why::Refused(refusal.code)),
-            Reply::Other(octets) => Ok(octets),
-        }
-    }
-
-    /// The error code of a KRB-ERROR.
-    fn code(&self) -> Option<i32> {
-        match self {
-            Reply::Refused(refusal) => Some(refusal.code),
-            Reply::Other(_) => None,
+    /// Whether it is a KRB-ERROR with this code.
+    pub(crate) fn is_error(&self, code: Code) -> bool {
+        match &self.refusal {
+            Some(refusal) => refusal.error.code == code as i32,
+            None => false,
         }
     }
 }
@@ -100,35 +79,41 @@ impl Reply {
 /// Sends a request to the KDCs and returns the first reply that is of use. The KDC that replied last is asked first, so
 /// that all requests of a login go to one; then the others, in their order. A KDC that gives no reply, or says that it is
 /// not available or that the clocks differ, is passed over. If no KDC does better, the first such error counts.
+#[tactic(auto, using(crate::proofs::Takings::counted_unheard))]
 pub(crate) fn ask<X: Exchange>(
     alloc: Global,
     kdcs: &mut Kdcs<X>,
     request: &[u8],
-) -> Result<Reply, Why>
+) -> Result<Reply, LoginFault>
     requires { X.carries request.now }
+    ensures ok { IfOk result (λ reply. IsReply X.answers reply) }
+    ensures err { IfErr result (λ fault. IsUnheard X.answers fault.why fault.kdc) }
 {
     let before = kdcs.answered;
-    let mut end = Why::Silence(Error::from(ErrorKind::TimedOut));
+    let mut end = LoginFault::new(Why::Silence(Error::from(ErrorKind::TimedOut)));
     if let Some(kdc) = before {
         match ask_kdc(alloc, kdcs, kdc, request) {
             Ok(reply) => return Ok(reply),
-            Err(why) => end = why,
+            Err(fault) => end = passed_over(end, fault)?,
         }
     }
     ask_others(alloc, kdcs, before, end, request)
 }
 
 /// Asks all KDCs but the one that was asked before, which ended by `end`.
+#[tactic(auto, using(crate::proofs::Takings::counted_unheard))]
 fn ask_others<X: Exchange>(
     alloc: Global,
     kdcs: &mut Kdcs<X>,
     asked: Option<SocketAddr>,
-    mut end: Why,
+    mut end: LoginFault,
     request: &[u8],
-) -> Result<Reply, Why>
-    requires { X.carries request.now }
+) -> Result<Reply, LoginFault>
+    requires carried { X.carries request.now }
+    requires unheard { IsUnheard X.answers end.why end.kdc }
+    ensures ok { IfOk result (λ reply. IsReply X.answers reply) }
+    ensures err { IfErr result (λ fault. IsUnheard X.answers fault.why fault.kdc) }
 {
-    let mut refuser = asked;
     for place in 0..kdcs.addresses.len() {
         let Some(kdc) = kdc_at(&kdcs.addresses, place) else {
             break;
@@ -138,14 +123,10 @@ fn ask_others<X: Exchange>(
         }
         match ask_kdc(alloc, kdcs, kdc, request) {
             Ok(reply) => return Ok(reply),
-            Err(why) if !end.is_of_reply() => {
-                end = why;
-                refuser = Some(kdc);
-            }
-            Err(_) => {}
+            Err(fault) => end = passed_over(end, fault)?,
         }
     }
-    kdcs.answered = refuser;
+    kdcs.answered = end.kdc;
     Err(end)
 }
 
@@ -156,19 +137,37 @@ fn kdc_at(addresses: &[SocketAddr], place: usize) -> Option<SocketAddr> {
     }
 }
 
+/// The fault that counts if no other KDC does better: the first error of a KDC, else the last silence. Nothing more is
+/// asked once memory ran out.
+fn passed_over(before: LoginFault, fault: LoginFault) -> Result<LoginFault, LoginFault>
+    ensures ok { IfOk result (λ counts. counts ≡ counted before fault) }
+    ensures err { IfErr result (λ counts. counts ≡ fault) }
+{
+    match fault.why {
+        Why::Memory => Err(fault),
+        _ if before.kdc.is_some() => Ok(before),
+        _ => Ok(fault),
+    }
+}
+
 /// The reply of one KDC. Another may do better where it says that it is not available or that the clocks differ.
+#[tactic(auto, using(crate::proofs::Takings::refused_reply))]
 fn ask_kdc<X: Exchange>(
     alloc: Global,
     kdcs: &mut Kdcs<X>,
     kdc: SocketAddr,
     request: &[u8],
-) -> Result<Reply, Why>
+) -> Result<Reply, LoginFault>
     requires { X.carries request.now }
+    ensures ok { IfOk result (λ reply. IsReply X.answers reply) }
+    ensures err { IfErr result (λ fault. IsUnheard X.answers fault.why fault.kdc) }
 {
     let reply = exchange_with(alloc, kdcs, kdc, request)?;
     kdcs.answered = Some(kdc);
-    match reply.code() {
-        Some(code) if is_passed_over(code) => Err(Why::Refused(code)),
+    match &reply.refusal {
+        Some(refusal) if is_passed_over(refusal.error.code) => {
+            Err(LoginFault::of_reply(Why::Refused(refusal.error), reply.kdc))
+        }
         _ => Ok(reply),
     }
 }
@@ -185,33 +184,41 @@ fn exchange_with<X: Exchange>(
     kdcs: &mut Kdcs<X>,
     kdc: SocketAddr,
     request: &[u8],
-) -> Result<Reply, Why>
+) -> Result<Reply, LoginFault>
     requires { X.carries request.now }
+    ensures ok { IfOk result (λ reply. IsReply X.answers reply) }
+    ensures err { IfErr result (λ fault. IsUnheard X.answers fault.why fault.kdc) }
 {
-    if !kdcs.tcp_only
-        && let Some(reply) = by_datagram(alloc, kdcs, kdc, request)
+    if kdcs.transports == Transports::UdpFirst
+        && let Some(reply) = by_datagram(alloc, kdcs, kdc, request)?
     {
         return Ok(reply);
     }
     send(alloc, kdcs, Transport::Tcp, kdc, request)
 }
 
+/// What comes back by UDP; `None` if nothing does, or the reply is too big.
 fn by_datagram<X: Exchange>(
     alloc: Global,
     kdcs: &mut Kdcs<X>,
     kdc: SocketAddr,
     request: &[u8],
-) -> Option<Reply>
+) -> Result<Option<Reply>, LoginFault>
     requires { X.carries request.now }
+    ensures ok { IfOk result (λ found. IfSome found (λ reply. IsReply X.answers reply)) }
+    ensures err { IfErr result (λ fault. IsUnheard X.answers fault.why fault.kdc) }
 {
     match send(alloc, kdcs, Transport::Udp, kdc, request) {
         Ok(reply) => {
-            if reply.code() == Some(Code::KrbErrResponseTooBig as i32) {
-                return None;
+            if reply.is_error(Code::KrbErrResponseTooBig) {
+                return Ok(None);
             }
-            Some(reply)
+            Ok(Some(reply))
         }
-        Err(_) => None,
+        Err(fault) => match fault.why {
+            Why::Silence(_) => Ok(None),
+            _ => Err(fault),
+        },
     }
 }
 
@@ -221,21 +228,33 @@ fn send<X: Exchange>(
     by: Transport,
     kdc: SocketAddr,
     request: &[u8],
-) -> Result<Reply, Why>
+) -> Result<Reply, LoginFault>
     requires { X.carries request.now }
+    ensures ok { IfOk result (λ reply. IsReply X.answers reply) }
+    ensures err { IfErr result (λ fault. IsUnheard X.answers fault.why fault.kdc) }
 {
     match kdcs.exchange.exchange(alloc, by, kdc, request) {
-        Ok(octets) => Ok(read_reply(alloc, octets)?),
+        Ok(octets) => {
+            let refusal = refusal_in_octets(alloc, &octets)?;
+            Ok(Reply {
+                kdc,
+                octets,
+                refusal,
+            })
+        }
+        Err(error) if error.kind() == ErrorKind::OutOfMemory => Err(LoginFault::new(Why::Memory)),
         Err(error) => {
             kdcs.failures = kdcs.failures.saturating_add(1);
-            Err(Why::Silence(error))
+            Err(LoginFault::new(Why::Silence(error)))
         }
     }
 }
 
-fn read_reply(alloc: Global, octets: Vec<u8>) -> Result<Reply, AllocError> {
-    match refusal_in(alloc, &octets)? {
-        ClientFault::Refused(refusal) => Ok(Reply::Refused(refusal)),
-        _ => Ok(Reply::Other(octets)),
+fn refusal_in_octets(alloc: Global, octets: &[u8]) -> Result<Option<Refusal>, AllocError>
+    ensures { IfOk result (λ refusal. replies.refusal_in octets.now ≡ said_of refusal) }
+{
+    match refusal_in(alloc, octets)? {
+        ClientFault::Refused(refusal) => Ok(Some(refusal)),
+        _ => Ok(None),
     }
 }

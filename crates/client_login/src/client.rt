@@ -1,6 +1,6 @@
 //! A client of the KDCs of a realm.
 ghost use Rattle.std.specs.Prelude.{◌≡◌};
-ghost use Rattle.client_login.specs.Moments.{next_microsecond, next_second};
+ghost use Rattle.client_login.specs.Moments.{IsNext};
 
 use crate::asking::Kdcs;
 use crate::moments::next_moment;
@@ -19,8 +19,7 @@ impl<X> KdcClient<X> {
     /// Takes the moment of a request.
     pub(crate) fn take_moment(&mut self) -> Moment
         ensures taken { result ≡ self.old.at }
-        ensures second { self.new.at.sec ≡ next_second self.old.at }
-        ensures microsecond { self.new.at.usec ≡ next_microsecond self.old.at }
+        ensures next { IsNext self.old.at self.new.at }
     {
         let at = self.at;
         self.at = next_moment(at);

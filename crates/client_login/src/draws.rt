@@ -1,7 +1,6 @@
 //! What a client draws at random. Each call takes its octets from the generator once.
 ghost use Rattle.std.specs.Prelude.{◌≡◌, ◌<◌};
-ghost use Rattle.client_login.specs.Draws.{drawn_confounder, drawn_nonce};
-ghost use Rattle.rand_core.specs.Stream.{fill_bytes};
+ghost use Rattle.client_login.specs.Draws.{after_confounder, after_nonce, drawn_confounder, drawn_nonce};
 
 use rand_core::Rng;
 
@@ -9,7 +8,7 @@ use rand_core::Rng;
 pub fn draw_nonce<R: Rng>(rng: &mut R) -> u32
     ensures value { result ≡ drawn_nonce (R.stream rng.old) }
     ensures small { result < 2147483648 }
-    ensures drawn { R.stream rng.new ≡ (fill_bytes 4 (R.stream rng.old)).1 }
+    ensures drawn { R.stream rng.new ≡ after_nonce (R.stream rng.old) }
 {
     let mut octets = [0; 4];
     rng.fill_bytes(&mut octets);
@@ -19,7 +18,7 @@ pub fn draw_nonce<R: Rng>(rng: &mut R) -> u32
 /// The confounder of what the client seals: 16 octets.
 pub fn draw_confounder<R: Rng>(rng: &mut R) -> [u8; 16]
     ensures value { result ≡ drawn_confounder (R.stream rng.old) }
-    ensures drawn { R.stream rng.new ≡ (fill_bytes 16 (R.stream rng.old)).1 }
+    ensures drawn { R.stream rng.new ≡ after_confounder (R.stream rng.old) }
 {
     let mut octets = [0; 16];
     rng.fill_bytes(&mut octets);

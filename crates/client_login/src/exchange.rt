@@ -1,5 +1,6 @@
 //! Where the messages of a client go.
-ghost use Rattle.std.specs.Prelude.{ℕ, List};
+ghost use Rattle.std.specs.Prelude.{ℕ, List, IfOk};
+ghost use Rattle.std.specs.declared.net.socket_addr.SocketAddr as addresses;
 
 use std::alloc::Global;
 use std::io;
@@ -17,6 +18,12 @@ pub trait Exchange {
     // Which messages it may be given. An exchange over a real network says `λ message. ⊤`: any.
     ghost carries: { List ℕ → Type 0 };
 
+    // Which octets an address answers to a message. An exchange over a real network says `λ to message reply. ⊤`: any.
+    ghost answers: { addresses.SocketAddr → List ℕ → List ℕ → Type 0 };
+
+    /// Begins a login, or a request for a further ticket. The time that the exchange waits counts from here.
+    fn begin(&mut self);
+
     /// Sends a message to an address and returns the message that comes back. Fails if none comes in the time that the
     /// exchange waits.
     fn exchange(
@@ -26,7 +33,14 @@ pub trait Exchange {
         to: SocketAddr,
         message: &[u8],
     ) -> io::Result<Vec<u8>>
-        requires { carries message.now };
+        requires { carries message.now }
+        ensures { IfOk result (λ reply. answers to message.now reply.items) };
+}
+
+/// Looks up hosts by their names.
+pub trait HostNames {
+    /// Returns the addresses of a host, each with this port.
+    fn look_up(&mut self, alloc: Global, host: &str, port: u16) -> io::Result<Vec<SocketAddr>>;
 }
 
 /// An exchange that may be given any message.

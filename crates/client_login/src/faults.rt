@@ -1,23 +1,57 @@
 //! Why a client gets no ticket.
-ghost use Rattle.std.specs.Prelude.{◌≡◌};
-ghost use Rattle.client_login.specs.Faults.{why_of};
+ghost use Rattle.std.specs.Prelude.{◌≡◌, Err, IfErr, IfOk, None, Ok};
+ghost use Rattle.client_login.specs.Faults.{named_by};
 ghost use Rattle.client_login.specs.declared.faults.Why.TheVariants.{Memory};
 
-use client_core::{ClientFault, Mismatch};
+use client_core::{Mismatch, ServerError};
 use std::alloc::{AllocError, AllocFailed};
+use std::error::Error;
 use std::net::SocketAddr;
 use std::{fmt, io};
 
 /// Why a client gets no ticket, and from which KDC.
-#[derive(Clone, Copy)]
+#[derive(Clone, Copy, Debug)]
 pub struct LoginFault {
     pub why: Why,
-    /// The KDC whose reply is refused, or that refuses; `None` if no reply is to blame.
+    /// The KDC whose reply ended the login; `None` if no reply did.
     pub kdc: Option<SocketAddr>,
 }
 
+impl LoginFault {
+    /// A fault that no reply shows.
+    pub(crate) fn new(why: Why) -> LoginFault
+        ensures { result ≡ record { why = why; kdc = None } }
+    {
+        LoginFault { why, kdc: None }
+    }
+
+    /// A fault that a KDC's reply shows.
+    pub(crate) fn of_reply(why: Why, kdc: SocketAddr) -> LoginFault
+        ensures { result ≡ record { why = why; kdc = named_by why kdc } }
+    {
+        match why {
+            Why::Memory => LoginFault::new(why),
+            _ => LoginFault {
+                why,
+                kdc: Some(kdc),
+            },
+        }
+    }
+}
+
+/// What is found in a KDC's reply, or the fault that it is.
+pub(crate) fn said_by<T: Drop>(kdc: SocketAddr, found: Result<T, Why>) -> Result<T, LoginFault>
+    ensures ok { IfOk result (λ value. found ≡ Ok value) }
+    ensures err { IfErr result (λ fault. (found ≡ Err fault.why) × (fault.kdc ≡ named_by fault.why kdc)) }
+{
+    match found {
+        Ok(value) => Ok(value),
+        Err(why) => Err(LoginFault::of_reply(why, kdc)),
+    }
+}
+
 /// Why a client gets no ticket.
-#[derive(Clone, Copy)]
+#[derive(Clone, Copy, Debug)]
 pub enum Why {
     /// The realm or a name is beyond the limits of a request.
     NotAskable,
@@ -29,8 +63,8 @@ pub enum Why {
     NoKey,
     /// No KDC replied. The error is that of the last one.
     Silence(io::Error),
-    /// The KDC refuses, with this error code (RFC 4120, section 7.5.9).
-    Refused(i32),
+    /// The KDC refuses with this error.
+    Refused(ServerError),
     /// The octets are neither the reply nor a KRB-ERROR.
     NotAReply,
     /// The reply answers another request.
@@ -46,21 +80,6 @@ pub enum Why {
     /// The KDC asks for fewer iterations of string-to-key than the client takes.
     WeakCount,
     Memory,
-}
-
-impl Why {
-    /// Whether a reply is to blame, or a KDC that refuses.
-    pub(crate) fn is_of_reply(self) -> bool {
-        match self {
-            Why::NotAskable
-            | Why::NotPresentable
-            | Why::NoClientKey
-            | Why::NoKey
-            | Why::Silence(_)
-            | Why::Memory => false,
-            _ => true,
-        }
-    }
 }
 
 impl From<AllocError> for Why {
@@ -79,18 +98,11 @@ impl<T: Drop> From<AllocFailed<T>> for Why {
     }
 }
 
-impl From<ClientFault> for Why {
-    ghost from_gives = { λ fault why. why ≡ why_of fault };
+impl From<AllocError> for LoginFault {
+    ghost from_gives = { λ _ fault. fault ≡ record { why = Memory; kdc = None } };
 
-    fn from(fault: ClientFault) -> Why {
-        match fault {
-            ClientFault::NotAReply => Why::NotAReply,
-            ClientFault::Refused(refusal) => Why::Refused(refusal.code),
-            ClientFault::Mismatch(what) => Why::Mismatch(what),
-            ClientFault::CannotOpen => Why::CannotOpen,
-            ClientFault::CountTooLarge => Why::CountTooLarge,
-            ClientFault::Memory => Why::Memory,
-        }
+    fn from(_: AllocError) -> LoginFault {
+        LoginFault::new(Why::Memory)
     }
 }
 
@@ -107,7 +119,7 @@ impl fmt::Display for Why {
     fn fmt<W: fmt::Write>(&self, f: &mut fmt::Formatter<W>) -> fmt::Result {
         match self {
             Why::Silence(error) => write!(f, "no KDC replied: {error}"),
-            Why::Refused(code) => write!(f, "the KDC refuses with error {code}"),
+            Why::Refused(error) => write!(f, "the KDC refuses with error {}", error.code),
             why => f.write_str(why.text()),
         }
     }
@@ -134,3 +146,7 @@ impl Why {
         }
     }
 }
+
+impl Error for LoginFault {}
+
+impl Error for Why {}

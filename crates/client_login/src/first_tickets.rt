@@ -1,25 +1,33 @@
 //! A first ticket: the Authentication Service exchange (RFC 4120, section 3.1).
-ghost use Rattle.std.specs.Prelude.{◌≡◌, List, ℕ, IfOk};
+ghost use Rattle.std.specs.Prelude.{◌≡◌, ◌<◌, ◌^◌, length, IfErr, IfOk, Ok, OnOk};
 ghost use Rattle.client_core.specs.Asked.{IsAskable};
-ghost use Rattle.client_core.specs.Taken.{IsTaken};
+ghost use Rattle.client_core.specs.Replies as replies;
+ghost use Rattle.client_core.specs.declared.fault.ClientFault.TheVariants as found;
 ghost use Rattle.client_core.specs.declared.key_role.KeyRole.TheVariants as roles;
 ghost use Rattle.krb_fields.specs.declared.moment.Moment as moments;
-ghost use Rattle.client_login.specs.Draws.{drawn_nonce};
+ghost use Rattle.krb_types.specs.Ticket as tickets;
+ghost use Rattle.client_login.specs.Draws.{after_confounder, after_nonce, drawn_confounder, drawn_nonce};
+ghost use Rattle.client_login.specs.Faults.{IsFirstFault, IsRejection, IsUnheard, SaysFirst, SaysRefused};
 ghost use Rattle.client_login.specs.Keys.{IsOwnKey};
-ghost use Rattle.client_login.specs.Logins.{CarriesFirst, IsFirst, logs_in, stamped_request};
+ghost use Rattle.client_login.specs.Logins.{CarriesFirst, IsFirst, TakesFirst, logs_in, stamped_request};
+ghost use Rattle.client_login.specs.Moments.{IsNext};
+ghost use Rattle.client_login.specs.Replies.{IsReply, said_of};
 
 use crate::asking::{Reply, ask};
 use crate::client::KdcClient;
 use crate::draws::{draw_confounder, draw_nonce};
 use crate::exchange::Exchange;
-use crate::faults::{LoginFault, Why};
+use crate::faults::{LoginFault, Why, said_by};
 use crate::infos::info_of_refusal;
 use crate::secrets::{Secret, etypes_for, key_of_next_reply, key_of_reply, key_wanted};
 use crate::wishes::{Login, first_asked};
-use client_core::{Asked, EtypeInfo2, Refusal, as_request, read_as_reply, with_timestamp};
+use client_core::{
+    Asked, ClientFault, Refusal, as_request, judge_as_reply, ticket_reply_in, with_timestamp,
+};
 use cred_files::Credential;
 use enctypes::Key;
 use krb_fields::{Code, Moment};
+use krb_replies::KdcRepRef;
 use rand_core::Rng;
 use std::alloc::Global;
 
@@ -37,14 +45,19 @@ impl<X: Exchange> KdcClient<X> {
         // The exchange is given no message but a request without a timestamp, and requests with one under a key of the
         // client.
         requires { CarriesFirst X.carries secret.now
-            (logs_in login.now secret.now self.old.at.sec (drawn_nonce (R.stream rng.old))) }
+            (logs_in login.now secret.now self.old.at.sec (drawn_nonce (R.stream rng.old)))
+            self.old.at (after_nonce (R.stream rng.old)) }
         // What is returned is the ticket of a reply to these requests, under a key of the client.
-        ensures { IfOk result (λ credential. IsFirst secret.now
+        ensures ok { IfOk result (λ credential. IsFirst X.answers secret.now
             (logs_in login.now secret.now self.old.at.sec (drawn_nonce (R.stream rng.old)))
             self.old.at.sec credential) }
+        // A fault is the one that the octets of the KDC that it names say, or names none.
+        ensures err { IfErr result (λ fault. IsFirstFault X.answers secret.now
+            (logs_in login.now secret.now self.old.at.sec (drawn_nonce (R.stream rng.old)))
+            self.old.at.sec fault.why fault.kdc) }
     {
-        let found = first_ticket(alloc, self, rng, login, secret);
-        self.kdcs.located(found)
+        self.kdcs.exchange.begin();
+        first_ticket(alloc, self, rng, login, secret)
     }
 }
 
@@ -54,44 +67,54 @@ fn first_ticket<X: Exchange, R: Rng>(
     rng: &mut R,
     login: &Login,
     secret: &Secret,
-) -> Result<Credential, Why>
+) -> Result<Credential, LoginFault>
     requires { CarriesFirst X.carries secret.now
-        (logs_in login.now secret.now client.old.at.sec (drawn_nonce (R.stream rng.old))) }
-    ensures { IfOk result (λ credential. IsFirst secret.now
+        (logs_in login.now secret.now client.old.at.sec (drawn_nonce (R.stream rng.old)))
+        client.old.at (after_nonce (R.stream rng.old)) }
+    ensures ok { IfOk result (λ credential. IsFirst X.answers secret.now
         (logs_in login.now secret.now client.old.at.sec (drawn_nonce (R.stream rng.old)))
         client.old.at.sec credential) }
+    ensures err { IfErr result (λ fault. IsFirstFault X.answers secret.now
+        (logs_in login.now secret.now client.old.at.sec (drawn_nonce (R.stream rng.old)))
+        client.old.at.sec fault.why fault.kdc) }
 {
     let nonce = draw_nonce(rng);
     let etypes = etypes_for(alloc, secret, &login.client)?;
     if etypes.is_empty() {
-        return Err(Why::NoClientKey);
+        return Err(LoginFault::new(Why::NoClientKey));
     }
     let asked = first_asked(alloc, login, etypes, client.at, nonce)?;
     ask_plainly(alloc, client, rng, &asked, secret)
 }
 
 /// Asks without a timestamp.
+#[tactic(auto, using(crate::proofs::Takings::first_blamed, crate::proofs::Takings::first_taken, crate::proofs::Takings::first_unheard))]
 fn ask_plainly<X: Exchange, R: Rng>(
     alloc: Global,
     client: &mut KdcClient<X>,
     rng: &mut R,
     asked: &Asked,
     secret: &Secret,
-) -> Result<Credential, Why>
-    requires { CarriesFirst X.carries secret.now asked.now }
-    ensures { IfOk result (λ credential. IsFirst secret.now asked.now client.old.at.sec credential) }
+) -> Result<Credential, LoginFault>
+    requires { CarriesFirst X.carries secret.now asked.now client.old.at (R.stream rng.old) }
+    ensures ok { IfOk result (λ credential.
+        IsFirst X.answers secret.now asked.now client.old.at.sec credential) }
+    ensures err { IfErr result (λ fault.
+        IsFirstFault X.answers secret.now asked.now client.old.at.sec fault.why fault.kdc) }
 {
     if !asked.is_askable() {
-        return Err(Why::NotAskable);
+        return Err(LoginFault::new(Why::NotAskable));
     }
     let request = as_request(alloc, asked)?;
-    match ask(alloc, &mut client.kdcs, &request)? {
-        Reply::Other(octets) => take_plain(alloc, asked, secret, client.at, &octets),
-        Reply::Refused(refusal) => {
-            let key = key_for_timestamp(alloc, secret, asked, &refusal)?;
-            ask_with_timestamp(alloc, client, rng, asked, secret, &key)
-        }
-    }
+    let reply = ask(alloc, &mut client.kdcs, &request)?;
+    let Some(refusal) = &reply.refusal else {
+        return said_by(
+            reply.kdc,
+            take_plain(alloc, asked, secret, client.at, &reply),
+        );
+    };
+    let key = said_by(reply.kdc, key_for_timestamp(alloc, secret, asked, refusal))?;
+    ask_with_timestamp(alloc, client, rng, asked, secret, &key)
 }
 
 /// The key by which a KDC that wants preauthentication is shown who asks; else why it gives no ticket.
@@ -101,21 +124,19 @@ fn key_for_timestamp(
     asked: &Asked,
     refusal: &Refusal,
 ) -> Result<Key, Why>
-    ensures { IfOk result (λ key. IsOwnKey secret.now asked.now.realm asked.now.client key) }
+    ensures own { IfOk result (λ key. IsOwnKey secret.now asked.now.realm asked.now.client key) }
+    ensures err { IfErr result (λ why. SaysRefused secret.now asked.now refusal.now why) }
 {
-    let info = info_wanted(alloc, refusal)?;
+    let error = refusal.error;
+    if error.code != Code::KdcErrPreauthRequired as i32 {
+        return Err(Why::Refused(error));
+    }
+    let info = info_of_refusal(alloc, &refusal.e_data)?;
     key_wanted(alloc, secret, asked, &info)
 }
 
-/// What the KDC says of the client's keys where it wants preauthentication.
-fn info_wanted(alloc: Global, refusal: &Refusal) -> Result<EtypeInfo2, Why> {
-    if refusal.code != Code::KdcErrPreauthRequired as i32 {
-        return Err(Why::Refused(refusal.code));
-    }
-    Ok(info_of_refusal(alloc, &refusal.e_data)?)
-}
-
 /// Asks with a timestamp under the client's key.
+#[tactic(auto, using(crate::proofs::Takings::first_blamed, crate::proofs::Takings::first_taken, crate::proofs::Takings::first_unheard))]
 fn ask_with_timestamp<X: Exchange, R: Rng>(
     alloc: Global,
     client: &mut KdcClient<X>,
@@ -123,16 +144,21 @@ fn ask_with_timestamp<X: Exchange, R: Rng>(
     asked: &Asked,
     secret: &Secret,
     key: &Key,
-) -> Result<Credential, Why>
+) -> Result<Credential, LoginFault>
     requires askable { IsAskable asked.now }
     requires own { IsOwnKey secret.now asked.now.realm asked.now.client key.now }
-    requires carried { CarriesFirst X.carries secret.now asked.now }
-    ensures { IfOk result (λ credential. IsFirst secret.now asked.now client.old.at.sec credential) }
+    requires carried { CarriesFirst X.carries secret.now asked.now client.old.at (R.stream rng.old) }
+    ensures ok { IfOk result (λ credential.
+        IsFirst X.answers secret.now asked.now client.old.at.sec credential) }
+    ensures err { IfErr result (λ fault.
+        IsFirstFault X.answers secret.now asked.now client.old.at.sec fault.why fault.kdc) }
 {
     let at = client.at;
-    let octets = stamped_reply(alloc, client, rng, asked, key)?;
-    let key = key_of_next_reply(secret, asked, key, &octets)?;
-    take(alloc, asked, &key, at, &octets)
+    let reply = stamped_reply(alloc, client, rng, asked, key)?;
+    said_by(
+        reply.kdc,
+        take_stamped(alloc, asked, secret, key, at, &reply),
+    )
 }
 
 /// What comes back. A KDC that has seen another request of the client of the same moment is asked once more, with
@@ -143,17 +169,20 @@ fn stamped_reply<X: Exchange, R: Rng>(
     rng: &mut R,
     asked: &Asked,
     key: &Key,
-) -> Result<Vec<u8>, Why>
+) -> Result<Reply, LoginFault>
     requires askable { IsAskable asked.now }
-    requires stamped { (at : moments.Moment) (confounder : List ℕ)
-        → X.carries (stamped_request asked.now key.now at confounder) }
+    requires stamped { X.carries
+        (stamped_request asked.now key.now client.old.at (drawn_confounder (R.stream rng.old))) }
+    requires again { (next : moments.Moment) → IsNext client.old.at next → X.carries
+        (stamped_request asked.now key.now next (drawn_confounder (after_confounder (R.stream rng.old)))) }
+    ensures ok { IfOk result (λ reply. IsReply X.answers reply) }
+    ensures err { IfErr result (λ fault. IsUnheard X.answers fault.why fault.kdc) }
 {
-    match send_timestamp(alloc, client, rng, asked, key) {
-        Err(Why::Refused(code)) if code == Code::KrbApErrRepeat as i32 => {
-            send_timestamp(alloc, client, rng, asked, key)
-        }
-        done => done,
+    let reply = send_timestamp(alloc, client, rng, asked, key)?;
+    if reply.is_error(Code::KrbApErrRepeat) {
+        return send_timestamp(alloc, client, rng, asked, key);
     }
+    Ok(reply)
 }
 
 fn send_timestamp<X: Exchange, R: Rng>(
@@ -162,29 +191,66 @@ fn send_timestamp<X: Exchange, R: Rng>(
     rng: &mut R,
     asked: &Asked,
     key: &Key,
-) -> Result<Vec<u8>, Why>
+) -> Result<Reply, LoginFault>
     requires askable { IsAskable asked.now }
-    requires stamped { (at : moments.Moment) (confounder : List ℕ)
-        → X.carries (stamped_request asked.now key.now at confounder) }
+    requires stamped { X.carries
+        (stamped_request asked.now key.now client.old.at (drawn_confounder (R.stream rng.old))) }
+    ensures ok { IfOk result (λ reply. IsReply X.answers reply) }
+    ensures err { IfErr result (λ fault. IsUnheard X.answers fault.why fault.kdc) }
+    ensures next { OnOk result (IsNext client.old.at client.new.at) }
+    ensures drawn { OnOk result (R.stream rng.new ≡ after_confounder (R.stream rng.old)) }
 {
     let at = client.take_moment();
     let confounder = draw_confounder(rng);
     let request = with_timestamp(alloc, asked, key, at, &confounder)?;
-    ask(alloc, &mut client.kdcs, &request)?.octets()
+    ask(alloc, &mut client.kdcs, &request)
 }
 
-/// The ticket of a reply to a request without a timestamp.
+/// The ticket of a reply to a request without a timestamp, which is no KRB-ERROR.
+#[tactic(auto, using(crate::proofs::Takings::took_first, crate::proofs::Takings::rejected_first, crate::proofs::Takings::keyless_first))]
 fn take_plain(
     alloc: Global,
     asked: &Asked,
     secret: &Secret,
     at: Moment,
-    octets: &[u8],
+    reply: &Reply,
 ) -> Result<Credential, Why>
-    ensures { IfOk result (λ credential. IsFirst secret.now asked.now at.sec credential) }
+    requires { replies.refusal_in reply.now.octets.items ≡ found.NotAReply }
+    ensures ok { IfOk result (λ credential.
+        TakesFirst secret.now asked.now at.sec credential reply.now.octets.items) }
+    ensures err { IfErr result (λ why. SaysFirst secret.now asked.now at.sec why reply.now.octets.items) }
 {
-    let key = key_of_reply(alloc, secret, asked, octets)?;
-    take(alloc, asked, &key, at, octets)
+    let Some(ticket) = ticket_reply_in(&reply.octets) else {
+        return Err(Why::NotAReply);
+    };
+    let key = key_of_reply(alloc, secret, asked, &ticket)?;
+    take(alloc, asked, &key, at, &ticket)
+}
+
+/// The ticket of a reply to a request with a timestamp under a key of the client.
+#[tactic(auto, using(crate::proofs::Takings::took_first, crate::proofs::Takings::rejected_first, crate::proofs::Takings::keyless_first))]
+fn take_stamped(
+    alloc: Global,
+    asked: &Asked,
+    secret: &Secret,
+    key: &Key,
+    at: Moment,
+    reply: &Reply,
+) -> Result<Credential, Why>
+    requires own { IsOwnKey secret.now asked.now.realm asked.now.client key.now }
+    requires read { replies.refusal_in reply.now.octets.items ≡ said_of reply.now.refusal }
+    ensures ok { IfOk result (λ credential.
+        TakesFirst secret.now asked.now at.sec credential reply.now.octets.items) }
+    ensures err { IfErr result (λ why. SaysFirst secret.now asked.now at.sec why reply.now.octets.items) }
+{
+    if let Some(refusal) = &reply.refusal {
+        return Err(Why::Refused(refusal.error));
+    }
+    let Some(ticket) = ticket_reply_in(&reply.octets) else {
+        return Err(Why::NotAReply);
+    };
+    let key = key_of_next_reply(secret, asked, key, &ticket)?;
+    take(alloc, asked, &key, at, &ticket)
 }
 
 fn take(
@@ -192,12 +258,18 @@ fn take(
     asked: &Asked,
     key: &Key,
     at: Moment,
-    octets: &[u8],
+    ticket: &KdcRepRef<'_, 11>,
 ) -> Result<Credential, Why>
-    ensures { IfOk result (λ credential. IsTaken 11 roles.Client asked.now key.now at.sec octets.now credential) }
+    requires { length (tickets.ticket.text ticket.now.ticket) < 2 ^ 32 }
+    ensures ok { IfOk result (λ credential.
+        replies.judged 11 roles.Client asked.now key.now at.sec ticket.now ≡ Ok credential) }
+    ensures err { IfErr result (λ why. IsRejection (replies.judged 11 roles.Client asked.now key.now at.sec ticket.now) why) }
 {
-    match read_as_reply(alloc, asked, key, at, octets) {
+    match judge_as_reply(alloc, asked, key, at, ticket) {
         Ok(credential) => Ok(credential),
-        Err(fault) => Err(Why::from(fault)),
+        Err(ClientFault::Mismatch(what)) => Err(Why::Mismatch(what)),
+        Err(ClientFault::CannotOpen) => Err(Why::CannotOpen),
+        // a reply has no other fault
+        Err(_) => Err(Why::Memory),
     }
 }

@@ -1,23 +1,33 @@
 //! Tickets by a ticket-granting ticket: the Ticket-Granting Service exchange (RFC 4120, section 3.3).
-ghost use Rattle.std.specs.Prelude.{IfOk};
+ghost use Rattle.std.specs.Prelude.{◌≡◌, ◌<◌, ◌^◌, length, IfErr, IfOk, Ok, OnOk, Some};
 ghost use Rattle.client_core.specs.Asked.{IsAskable};
+ghost use Rattle.client_core.specs.Replies as replies;
 ghost use Rattle.client_core.specs.Sessions as sessions;
 ghost use Rattle.client_core.specs.Taken.{IsTaken};
 ghost use Rattle.client_core.specs.declared.key_role.KeyRole.TheVariants as roles;
+ghost use Rattle.client_core.specs.declared.sessions.Session as session;
+ghost use Rattle.krb_fields.specs.declared.moment.Moment as moments;
+ghost use Rattle.krb_types.specs.Ticket as tickets;
 ghost use Rattle.client_login.specs.Asking.{again_options, further_asked};
-ghost use Rattle.client_login.specs.Draws.{drawn_nonce};
-ghost use Rattle.client_login.specs.Logins.{CarriesPresented, IsFurther};
+ghost use Rattle.client_login.specs.Draws.{after_confounder, after_nonce, drawn_confounder, drawn_nonce};
+ghost use Rattle.client_login.specs.Faults.{IsFurtherFault, IsTgsRejection, IsUnheard, SaysTgs};
+ghost use Rattle.client_login.specs.Logins.{CarriesPresented, IsFurther, presented_request};
+ghost use Rattle.client_login.specs.Moments.{IsNext};
+ghost use Rattle.client_login.specs.Replies.{IsReply, said_of};
 
-use crate::asking::ask;
+use crate::asking::{Reply, ask};
 use crate::client::KdcClient;
 use crate::draws::{draw_confounder, draw_nonce};
 use crate::exchange::Exchange;
-use crate::faults::{LoginFault, Why};
+use crate::faults::{LoginFault, Why, said_by};
 use crate::wishes::{Again, again_options, further_asked};
-use client_core::{Asked, ClientFault, is_presentable, read_tgs_reply, session_key, tgs_request};
+use client_core::{
+    Asked, ClientFault, is_presentable, judge_tgs_reply, session_key, tgs_request, ticket_reply_in,
+};
 use cred_files::Credential;
 use enctypes::Key;
 use krb_fields::{Code, Flags, Moment, Name};
+use krb_replies::KdcRepRef;
 use rand_core::Rng;
 use std::alloc::Global;
 
@@ -32,14 +42,19 @@ impl<X: Exchange> KdcClient<X> {
     ) -> Result<Credential, LoginFault>
         // The exchange is given no message but these: requests that present the ticket.
         requires { CarriesPresented X.carries granting.now
-            (further_asked 0 granting.now.client service.now (drawn_nonce (R.stream rng.old))) }
+            (further_asked 0 granting.now.client service.now (drawn_nonce (R.stream rng.old)))
+            self.old.at (after_nonce (R.stream rng.old)) }
         // What is returned is the ticket of a reply to such a request, under the session key of the ticket.
-        ensures { IfOk result (λ credential. IsFurther granting.now
+        ensures ok { IfOk result (λ credential. IsFurther X.answers granting.now
             (further_asked 0 granting.now.client service.now (drawn_nonce (R.stream rng.old)))
             self.old.at.sec credential) }
+        // A fault is the one that the octets of the KDC that it names say, or names none.
+        ensures err { IfErr result (λ fault. IsFurtherFault X.answers granting.now
+            (further_asked 0 granting.now.client service.now (drawn_nonce (R.stream rng.old)))
+            self.old.at.sec fault.why fault.kdc) }
     {
-        let found = ticket_for(alloc, self, rng, granting, service);
-        self.kdcs.located(found)
+        self.kdcs.exchange.begin();
+        ticket_for(alloc, self, rng, granting, service)
     }
 
     /// Gets a ticket again: renewed, with a new start; or validated, if it was postdated (RFC 4120, sections 2.3 and 2.4).
@@ -52,14 +67,19 @@ impl<X: Exchange> KdcClient<X> {
     ) -> Result<Credential, LoginFault>
         requires { CarriesPresented X.carries granting.now
             (further_asked (again_options again granting.now.flags) granting.now.client granting.now.server.name
-            (drawn_nonce (R.stream rng.old))) }
-        ensures { IfOk result (λ credential. IsFurther granting.now
+            (drawn_nonce (R.stream rng.old)))
+            self.old.at (after_nonce (R.stream rng.old)) }
+        ensures ok { IfOk result (λ credential. IsFurther X.answers granting.now
             (further_asked (again_options again granting.now.flags) granting.now.client granting.now.server.name
             (drawn_nonce (R.stream rng.old)))
             self.old.at.sec credential) }
+        ensures err { IfErr result (λ fault. IsFurtherFault X.answers granting.now
+            (further_asked (again_options again granting.now.flags) granting.now.client granting.now.server.name
+            (drawn_nonce (R.stream rng.old)))
+            self.old.at.sec fault.why fault.kdc) }
     {
-        let found = same_ticket(alloc, self, rng, granting, again);
-        self.kdcs.located(found)
+        self.kdcs.exchange.begin();
+        same_ticket(alloc, self, rng, granting, again)
     }
 }
 
@@ -69,12 +89,16 @@ fn ticket_for<X: Exchange, R: Rng>(
     rng: &mut R,
     granting: &Credential,
     service: &Name,
-) -> Result<Credential, Why>
+) -> Result<Credential, LoginFault>
     requires { CarriesPresented X.carries granting.now
-        (further_asked 0 granting.now.client service.now (drawn_nonce (R.stream rng.old))) }
-    ensures { IfOk result (λ credential. IsFurther granting.now
+        (further_asked 0 granting.now.client service.now (drawn_nonce (R.stream rng.old)))
+        client.old.at (after_nonce (R.stream rng.old)) }
+    ensures ok { IfOk result (λ credential. IsFurther X.answers granting.now
         (further_asked 0 granting.now.client service.now (drawn_nonce (R.stream rng.old)))
         client.old.at.sec credential) }
+    ensures err { IfErr result (λ fault. IsFurtherFault X.answers granting.now
+        (further_asked 0 granting.now.client service.now (drawn_nonce (R.stream rng.old)))
+        client.old.at.sec fault.why fault.kdc) }
 {
     let nonce = draw_nonce(rng);
     let options = Flags::from_bits(0);
@@ -88,14 +112,19 @@ fn same_ticket<X: Exchange, R: Rng>(
     rng: &mut R,
     granting: &Credential,
     again: Again,
-) -> Result<Credential, Why>
+) -> Result<Credential, LoginFault>
     requires { CarriesPresented X.carries granting.now
         (further_asked (again_options again granting.now.flags) granting.now.client granting.now.server.name
-        (drawn_nonce (R.stream rng.old))) }
-    ensures { IfOk result (λ credential. IsFurther granting.now
+        (drawn_nonce (R.stream rng.old)))
+        client.old.at (after_nonce (R.stream rng.old)) }
+    ensures ok { IfOk result (λ credential. IsFurther X.answers granting.now
         (further_asked (again_options again granting.now.flags) granting.now.client granting.now.server.name
         (drawn_nonce (R.stream rng.old)))
         client.old.at.sec credential) }
+    ensures err { IfErr result (λ fault. IsFurtherFault X.answers granting.now
+        (further_asked (again_options again granting.now.flags) granting.now.client granting.now.server.name
+        (drawn_nonce (R.stream rng.old)))
+        client.old.at.sec fault.why fault.kdc) }
 {
     let nonce = draw_nonce(rng);
     let options = again_options(again, granting.flags);
@@ -109,25 +138,32 @@ fn same_ticket<X: Exchange, R: Rng>(
     ask_with_ticket(alloc, client, rng, granting, &asked)
 }
 
+#[tactic(auto, using(crate::proofs::Takings::further_blamed, crate::proofs::Takings::further_taken, crate::proofs::Takings::further_unheard))]
 fn ask_with_ticket<X: Exchange, R: Rng>(
     alloc: Global,
     client: &mut KdcClient<X>,
     rng: &mut R,
     granting: &Credential,
     asked: &Asked,
-) -> Result<Credential, Why>
-    requires { CarriesPresented X.carries granting.now asked.now }
-    ensures { IfOk result (λ credential. IsFurther granting.now asked.now client.old.at.sec credential) }
+) -> Result<Credential, LoginFault>
+    requires { CarriesPresented X.carries granting.now asked.now client.old.at (R.stream rng.old) }
+    ensures ok { IfOk result (λ credential.
+        IsFurther X.answers granting.now asked.now client.old.at.sec credential) }
+    ensures err { IfErr result (λ fault.
+        IsFurtherFault X.answers granting.now asked.now client.old.at.sec fault.why fault.kdc) }
 {
-    if !is_presentable(granting) || !asked.is_askable() {
-        return Err(Why::NotPresentable);
-    }
     let Some(key) = session_key(granting) else {
-        return Err(Why::NotPresentable);
+        return Err(LoginFault::new(Why::NotPresentable));
     };
+    if !is_presentable(granting) {
+        return Err(LoginFault::new(Why::NotPresentable));
+    }
+    if !asked.is_askable() {
+        return Err(LoginFault::new(Why::NotAskable));
+    }
     let at = client.at;
-    let octets = presented_reply(alloc, client, rng, granting, asked)?;
-    take(alloc, asked, &key, at, &octets)
+    let reply = presented_reply(alloc, client, rng, granting, asked)?;
+    said_by(reply.kdc, take_presented(alloc, asked, &key, at, &reply))
 }
 
 /// What comes back. A KDC that has seen another authenticator of the client of the same moment is asked once more, with
@@ -138,17 +174,22 @@ fn presented_reply<X: Exchange, R: Rng>(
     rng: &mut R,
     granting: &Credential,
     asked: &Asked,
-) -> Result<Vec<u8>, Why>
+) -> Result<Reply, LoginFault>
     requires askable { IsAskable asked.now }
     requires presentable { sessions.IsPresentable granting.now }
-    requires carried { CarriesPresented X.carries granting.now asked.now }
+    requires presented { (held : session.Session) → sessions.session granting.now ≡ Some held → X.carries
+        (presented_request granting.now asked.now held client.old.at (drawn_confounder (R.stream rng.old))) }
+    requires again { (held : session.Session) (next : moments.Moment) → sessions.session granting.now ≡ Some held
+        → IsNext client.old.at next → X.carries (presented_request granting.now asked.now held next
+        (drawn_confounder (after_confounder (R.stream rng.old)))) }
+    ensures ok { IfOk result (λ reply. IsReply X.answers reply) }
+    ensures err { IfErr result (λ fault. IsUnheard X.answers fault.why fault.kdc) }
 {
-    match send_ticket(alloc, client, rng, granting, asked) {
-        Err(Why::Refused(code)) if code == Code::KrbApErrRepeat as i32 => {
-            send_ticket(alloc, client, rng, granting, asked)
-        }
-        done => done,
+    let reply = send_ticket(alloc, client, rng, granting, asked)?;
+    if reply.is_error(Code::KrbApErrRepeat) {
+        return send_ticket(alloc, client, rng, granting, asked);
     }
+    Ok(reply)
 }
 
 fn send_ticket<X: Exchange, R: Rng>(
@@ -157,15 +198,42 @@ fn send_ticket<X: Exchange, R: Rng>(
     rng: &mut R,
     granting: &Credential,
     asked: &Asked,
-) -> Result<Vec<u8>, Why>
+) -> Result<Reply, LoginFault>
     requires askable { IsAskable asked.now }
     requires presentable { sessions.IsPresentable granting.now }
-    requires carried { CarriesPresented X.carries granting.now asked.now }
+    requires presented { (held : session.Session) → sessions.session granting.now ≡ Some held → X.carries
+        (presented_request granting.now asked.now held client.old.at (drawn_confounder (R.stream rng.old))) }
+    ensures ok { IfOk result (λ reply. IsReply X.answers reply) }
+    ensures err { IfErr result (λ fault. IsUnheard X.answers fault.why fault.kdc) }
+    ensures next { OnOk result (IsNext client.old.at client.new.at) }
+    ensures drawn { OnOk result (R.stream rng.new ≡ after_confounder (R.stream rng.old)) }
 {
     let at = client.take_moment();
     let confounder = draw_confounder(rng);
     let request = tgs_request(alloc, asked, granting, None, at, &confounder)?;
-    ask(alloc, &mut client.kdcs, &request)?.octets()
+    ask(alloc, &mut client.kdcs, &request)
+}
+
+/// The ticket of a reply under the session key of the ticket that was presented.
+#[tactic(auto, using(crate::proofs::Takings::took_tgs, crate::proofs::Takings::rejected_tgs))]
+fn take_presented(
+    alloc: Global,
+    asked: &Asked,
+    key: &Key,
+    at: Moment,
+    reply: &Reply,
+) -> Result<Credential, Why>
+    requires { replies.refusal_in reply.now.octets.items ≡ said_of reply.now.refusal }
+    ensures ok { IfOk result (λ credential. IsTaken 13 roles.Session asked.now key.now at.sec reply.now.octets.items credential) }
+    ensures err { IfErr result (λ why. SaysTgs key.now asked.now at.sec why reply.now.octets.items) }
+{
+    if let Some(refusal) = &reply.refusal {
+        return Err(Why::Refused(refusal.error));
+    }
+    let Some(ticket) = ticket_reply_in(&reply.octets) else {
+        return Err(Why::NotAReply);
+    };
+    take(alloc, asked, key, at, &ticket)
 }
 
 fn take(
@@ -173,13 +241,19 @@ fn take(
     asked: &Asked,
     key: &Key,
     at: Moment,
-    octets: &[u8],
+    ticket: &KdcRepRef<'_, 13>,
 ) -> Result<Credential, Why>
-    ensures { IfOk result (λ credential. IsTaken 13 roles.Session asked.now key.now at.sec octets.now credential) }
+    requires { length (tickets.ticket.text ticket.now.ticket) < 2 ^ 32 }
+    ensures ok { IfOk result (λ credential.
+        replies.judged 13 roles.Session asked.now key.now at.sec ticket.now ≡ Ok credential) }
+    ensures err { IfErr result (λ why.
+        IsTgsRejection (replies.judged 13 roles.Session asked.now key.now at.sec ticket.now) why) }
 {
-    match read_tgs_reply(alloc, asked, key, false, at, octets) {
+    match judge_tgs_reply(alloc, asked, key, false, at, ticket) {
         Ok(credential) => Ok(credential),
+        Err(ClientFault::Mismatch(what)) => Err(Why::Mismatch(what)),
         Err(ClientFault::CannotOpen) => Err(Why::SessionCannotOpen),
-        Err(fault) => Err(Why::from(fault)),
+        // a reply has no other fault
+        Err(_) => Err(Why::Memory),
     }
 }

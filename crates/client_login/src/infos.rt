@@ -2,30 +2,21 @@
 //! the padata of an AS-REP.
 ghost use Rattle.std.specs.Prelude.{◌≡◌, IfOk, option_copied};
 ghost use Rattle.client_login.specs.Infos.{default_info, first_info, info_in, info_in_reply, info_of_refusal};
-ghost use Rattle.client_login.specs.Infos.{info_of_method_data, info_of_reply};
+ghost use Rattle.client_login.specs.Infos.{info_of_method_data};
 
 use client_core::EtypeInfo2;
 use krb_elements::{MakeOwned, Octets, OctetsRef, Seq, SeqRef, read};
 use krb_fields::{PA_ETYPE_INFO2, PaDataRef};
 use krb_parts::{EtypeInfo2Entry, EtypeInfo2EntryRef};
-use krb_replies::{KdcRepRef, read_kdc_rep};
+use krb_replies::KdcRepRef;
 use std::alloc::{AllocError, Global};
 
-/// The message type of an AS-REP.
-pub(crate) const AS_REP: u8 = 11;
-
-/// What an AS-REP says; `None` where the octets are none.
-pub(crate) fn info_of_reply(alloc: Global, bytes: &[u8]) -> Result<Option<EtypeInfo2>, AllocError>
-    ensures { IfOk result (λ info. info ≡ info_of_reply bytes.now) }
-{
-    match read_kdc_rep::<AS_REP>(bytes) {
-        Ok(reply) => Ok(Some(info_in_reply(alloc, &reply)?)),
-        Err(_) => Ok(None),
-    }
-}
-
-/// Where an AS-REP says nothing of keys, that of the type by which it is sealed has the default salt and parameters.
-fn info_in_reply(alloc: Global, reply: &KdcRepRef<'_, AS_REP>) -> Result<EtypeInfo2, AllocError>
+/// What an AS-REP says. Where it says nothing of keys, that of the type by which it is sealed has the default salt and
+/// parameters.
+pub(crate) fn info_in_reply(
+    alloc: Global,
+    reply: &KdcRepRef<'_, 11>,
+) -> Result<EtypeInfo2, AllocError>
     ensures { IfOk result (λ info. info ≡ info_in_reply reply.now) }
 {
     match first_info(reply.padata.as_ref()) {

@@ -9,10 +9,13 @@
 //! | [`KdcClient::log_in`] | a first ticket, mostly of the ticket-granting service |
 //! | [`KdcClient::service_ticket`] | a ticket of a service, by a ticket-granting ticket |
 //! | [`KdcClient::ticket_again`] | the ticket that it is given, renewed or validated |
+//!
+//! If a KDC refuses because the clocks differ, [`KdcClient::take_clock`] sets the client's moment by the KDC's clock.
 #![tactic(auto)]
 
 mod asking;
 mod client;
+mod clocks;
 mod draws;
 mod exchange;
 mod faults;
@@ -23,10 +26,10 @@ mod moments;
 mod secrets;
 mod wishes;
 
-pub use asking::Kdcs;
+pub use asking::{Kdcs, Transports};
 pub use client::KdcClient;
 pub use draws::{draw_confounder, draw_nonce};
-pub use exchange::{AnyMessage, Exchange, Transport};
+pub use exchange::{AnyMessage, Exchange, HostNames, Transport};
 pub use faults::{LoginFault, Why};
 pub use secrets::{Password, Secret};
 pub use wishes::{Again, Login, Wishes, granting_service};

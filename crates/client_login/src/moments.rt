@@ -1,14 +1,12 @@
 //! The moments of the requests of one command.
-ghost use Rattle.std.specs.Prelude.{◌≡◌};
-ghost use Rattle.client_login.specs.Moments.{next_microsecond, next_second};
+ghost use Rattle.client_login.specs.Moments.{IsNext};
 
 use krb_fields::Moment;
 
 /// The moment a microsecond later; the last one of the year 9999 stays. A KDC takes each moment of a client once, so
 /// each request with a ticket has its own.
 pub(crate) fn next_moment(at: Moment) -> Moment
-    ensures second { result.sec ≡ next_second at }
-    ensures microsecond { result.usec ≡ next_microsecond at }
+    ensures { IsNext at result }
 {
     if at.usec < 999_999 {
         return Moment {

@@ -1,22 +1,23 @@
 //! By what a client shows that it is itself: a password, or a keytab (RFC 4120, section 5.2.7.5).
-ghost use Rattle.std.specs.Prelude.{◌≡◌, ◌∷◌, true, Err, Some, option_copied, option_map, Ok, IfOk, OnOk};
+ghost use Rattle.std.specs.Prelude.{◌≡◌, ◌∷◌, true, Err, None, Some, option_copied, Ok, IfErr, IfOk, OnOk};
 ghost use Rattle.client_core.specs.Passwords as passwords;
-ghost use Rattle.client_login.specs.Infos.{info_of_reply};
+ghost use Rattle.client_login.specs.Faults.{IsNoKey, IsNoKeytabKey, IsNoPasswordKey, info_for};
+ghost use Rattle.client_login.specs.Infos.{default_info};
 ghost use Rattle.client_login.specs.declared.faults.Why.TheVariants as causes;
-ghost use Rattle.client_login.specs.Keys.{IsKeytabKey, IsOwnKey, IsPasswordKey, count_in, etypes_for, held_types, is_below};
-ghost use Rattle.client_login.specs.Keys.{is_weak, is_weak_if, key_named, key_numbered, key_typed, keytab_key};
-ghost use Rattle.client_login.specs.Keys.{least_count, next_key, stated_count, type_of_reply, with_held};
+ghost use Rattle.client_login.specs.Keys.{IsKeytabKey, IsOwnKey, IsPasswordKey, etypes_for, held_types, is_below};
+ghost use Rattle.client_login.specs.Keys.{is_weak, is_weak_if, key_named, key_numbered, key_typed};
+ghost use Rattle.client_login.specs.Keys.{least_count, next_key, with_held};
 
 use crate::faults::Why;
-use crate::infos::{AS_REP, info_of_reply};
+use crate::infos::info_in_reply;
 use crate::wishes::offered;
-use client_core::{Asked, ClientFault, EtypeInfo2, password_key};
+use client_core::{Asked, ClientFault, EtypeInfo2, count_of, entry_of, password_key};
 use cred_files::{Keytab, Principal};
 use enctypes::{Etype, Key};
 use krb_elements::{Octets, Seq};
 use krb_fields::Name;
 use krb_parts::EtypeInfo2Entry;
-use krb_replies::read_kdc_rep;
+use krb_replies::KdcRepRef;
 use sealed_parts::type_numbered;
 use std::alloc::{AllocError, Global};
 
@@ -27,7 +28,7 @@ pub enum Secret {
     Keytab(Keytab),
 }
 
-/// A password, of which a key is made as the KDC says.
+/// A password, from which a key is made as the KDC says.
 #[derive(Drop)]
 pub struct Password {
     pub octets: Octets,
@@ -86,7 +87,8 @@ pub(crate) fn key_wanted(
     asked: &Asked,
     info: &EtypeInfo2,
 ) -> Result<Key, Why>
-    ensures { IfOk result (λ key. IsOwnKey secret.now asked.now.realm asked.now.client key) }
+    ensures own { IfOk result (λ key. IsOwnKey secret.now asked.now.realm asked.now.client key) }
+    ensures err { IfErr result (λ why. IsNoKey secret.now asked.now.realm asked.now.client info.now why) }
 {
     match secret {
         Secret::Password(password) => key_of_password(alloc, password, asked, info),
@@ -99,13 +101,18 @@ pub(crate) fn key_of_reply(
     alloc: Global,
     secret: &Secret,
     asked: &Asked,
-    reply: &[u8],
+    reply: &KdcRepRef<'_, 11>,
 ) -> Result<Key, Why>
-    ensures { IfOk result (λ key. IsOwnKey secret.now asked.now.realm asked.now.client key) }
+    ensures own { IfOk result (λ key. IsOwnKey secret.now asked.now.realm asked.now.client key) }
+    ensures err { IfErr result (λ why.
+        IsNoKey secret.now asked.now.realm asked.now.client (info_for secret.now reply.now) why) }
 {
     match secret {
-        Secret::Password(password) => password_for_reply(alloc, password, asked, reply),
-        Secret::Keytab(keytab) => keytab_for_reply(keytab, asked, reply),
+        Secret::Password(password) => {
+            let info = info_in_reply(alloc, reply)?;
+            key_of_password(alloc, password, asked, &info)
+        }
+        Secret::Keytab(keytab) => numbered_key(keytab, asked, reply.enc_part.etype),
     }
 }
 
@@ -114,63 +121,33 @@ pub(crate) fn key_of_next_reply(
     secret: &Secret,
     asked: &Asked,
     key: &Key,
-    reply: &[u8],
+    reply: &KdcRepRef<'_, 11>,
 ) -> Result<Key, Why>
     requires { IsOwnKey secret.now asked.now.realm asked.now.client key.now }
     // Of a keytab it is that of the type by which the reply is sealed.
     ensures next { IfOk result (λ found. Some found
-        ≡ next_key secret.now (asked.now.realm ∷ asked.now.client.components) key.now reply.now) }
+        ≡ next_key secret.now (asked.now.realm ∷ asked.now.client.components) key.now reply.now.enc_part.etype) }
     ensures own { IfOk result (λ found. IsOwnKey secret.now asked.now.realm asked.now.client found) }
+    ensures err { IfErr result (λ why.
+        IsNoKey secret.now asked.now.realm asked.now.client (info_for secret.now reply.now) why) }
 {
-    match secret {
-        Secret::Password(_) => Ok(*key),
-        Secret::Keytab(keytab) => keytab_key(keytab, asked, key, reply),
-    }
-}
-
-/// The key of the reply's type; the timestamp's where the octets are no reply.
-fn keytab_key(keytab: &Keytab, asked: &Asked, key: &Key, reply: &[u8]) -> Result<Key, Why>
-    requires { IsKeytabKey keytab.now (asked.now.realm ∷ asked.now.client.components) key.now }
-    ensures next { IfOk result (λ found. Some found ≡ keytab_key
-        keytab.now
-        (asked.now.realm ∷ asked.now.client.components)
-        key.now
-        (type_of_reply reply.now)) }
-    ensures own { IfOk result (λ found.
-        IsKeytabKey keytab.now (asked.now.realm ∷ asked.now.client.components) found) }
-{
-    match type_of_reply(reply) {
-        Some(number) => numbered_key(keytab, asked, number),
-        None => Ok(*key),
-    }
+    let Secret::Keytab(keytab) = secret else {
+        return Ok(*key);
+    };
+    numbered_key(keytab, asked, reply.enc_part.etype)
 }
 
 /// The client's key of a type.
-#[tactic(auto, using(crate::proofs::OwnKeys::numbered_held))]
+#[tactic(auto, using(crate::proofs::OwnKeys::numbered_held, crate::proofs::OwnKeys::unnumbered))]
 fn numbered_key(keytab: &Keytab, asked: &Asked, number: i32) -> Result<Key, Why>
     ensures value { IfOk result (λ key. Some key
         ≡ key_numbered keytab.now (asked.now.realm ∷ asked.now.client.components) number) }
     ensures own { IfOk result (λ key.
         IsKeytabKey keytab.now (asked.now.realm ∷ asked.now.client.components) key) }
+    ensures err { IfErr result (λ why.
+        IsNoKeytabKey keytab.now (asked.now.realm ∷ asked.now.client.components) (default_info number) why) }
 {
     given(key_numbered(keytab, asked.realm.as_slice(), &asked.client, number))
-}
-
-/// The key of a password by what an AS-REP says of it.
-fn password_for_reply(
-    alloc: Global,
-    password: &Password,
-    asked: &Asked,
-    reply: &[u8],
-) -> Result<Key, Why>
-    ensures value { IfOk result (λ key. Some (Ok key) ≡ option_map
-        (passwords.password_key password.now.octets asked.now.realm asked.now.client) (info_of_reply reply.now)) }
-    ensures own { IfOk result (λ key. IsPasswordKey password.now asked.now.realm asked.now.client key) }
-{
-    let Some(info) = info_of_reply(alloc, reply)? else {
-        return Err(Why::NotAReply);
-    };
-    key_of_password(alloc, password, asked, &info)
 }
 
 /// The key of a password, unless the KDC asks for fewer iterations than the least count.
@@ -185,6 +162,8 @@ fn key_of_password(
         ≡ passwords.password_key password.now.octets asked.now.realm asked.now.client info.now) }
     ensures own { IfOk result (λ key. IsPasswordKey password.now asked.now.realm asked.now.client key) }
     ensures weak { is_weak password.now.least_count info.now ≡ true → result ≡ Err causes.WeakCount }
+    ensures err { IfErr result (λ why.
+        IsNoPasswordKey password.now asked.now.realm asked.now.client info.now why) }
 {
     if is_weak(password.least_count, info.as_slice()) {
         return Err(Why::WeakCount);
@@ -198,18 +177,22 @@ fn made_key(
     asked: &Asked,
     info: &EtypeInfo2,
 ) -> Result<Key, Why>
-    ensures { IfOk result (λ key. Ok key
+    ensures value { IfOk result (λ key. Ok key
         ≡ passwords.password_key password.now.octets asked.now.realm asked.now.client info.now) }
+    ensures err { IfErr result (λ why.
+        IsNoPasswordKey password.now asked.now.realm asked.now.client info.now why) }
 {
     let octets = password.octets.as_slice();
     match password_key(alloc, octets, asked.realm.as_slice(), &asked.client, info) {
         Ok(key) => Ok(key),
         Err(ClientFault::CannotOpen) => Err(Why::NoKnownType),
-        Err(fault) => Err(Why::from(fault)),
+        Err(ClientFault::CountTooLarge) => Err(Why::CountTooLarge),
+        // a password gives no other fault
+        Err(_) => Err(Why::Memory),
     }
 }
 
-/// Whether the entry of which a key is made asks for fewer iterations than the least count.
+/// Whether the entry from which a key is made asks for fewer iterations than the least count.
 fn is_weak(least: Option<u32>, info: &[EtypeInfo2Entry]) -> bool
     ensures { result ≡ is_weak least info.now }
 {
@@ -223,10 +206,7 @@ fn is_weak_entry(least: Option<u32>, entry: &EtypeInfo2Entry) -> bool
     ensures { result ≡ is_weak_if least (Some entry.now) }
 {
     match type_numbered(entry.etype) {
-        Some(etype) => is_below(
-            least_count(least, etype),
-            stated_count(etype, &entry.s2kparams),
-        ),
+        Some(etype) => is_below(least_count(least, etype), count_of(etype, &entry.s2kparams)),
         None => false,
     }
 }
@@ -249,54 +229,13 @@ fn least_count(least: Option<u32>, etype: Etype) -> u32
     }
 }
 
-/// The count that an entry asks for; `None` if its parameters have not four octets.
-fn stated_count(etype: Etype, params: &Option<Octets>) -> Option<u32>
-    ensures { result ≡ stated_count etype params.now }
-{
-    match params {
-        Some(params) => count_in(params.as_slice()),
-        None => Some(etype.default_count()),
-    }
-}
-
-fn count_in(params: &[u8]) -> Option<u32>
-    ensures { result ≡ count_in params.now }
-{
-    let Some((octets, rest)) = params.split_first_chunk::<4>() else {
-        return None;
-    };
-    if !rest.is_empty() {
-        return None;
-    }
-    Some(u32::from_be_bytes(*octets))
-}
-
-/// The first entry of one of the four types.
-fn entry_of(info: &[EtypeInfo2Entry]) -> Option<&EtypeInfo2Entry>
-    ensures { option_copied result ≡ passwords.entry_of info.now }
-{
-    for entry in info {
-        if type_numbered(entry.etype).is_some() {
-            return Some(entry);
-        }
-    }
-    None
-}
-
-fn keytab_for_reply(keytab: &Keytab, asked: &Asked, reply: &[u8]) -> Result<Key, Why>
-    ensures { IfOk result (λ key. IsKeytabKey keytab.now (asked.now.realm ∷ asked.now.client.components) key) }
-{
-    let Some(number) = type_of_reply(reply) else {
-        return Err(Why::NotAReply);
-    };
-    numbered_key(keytab, asked, number)
-}
-
-#[tactic(auto, using(crate::proofs::OwnKeys::named_held))]
+#[tactic(auto, using(crate::proofs::OwnKeys::named_held, crate::proofs::OwnKeys::unnamed))]
 fn named_key(keytab: &Keytab, asked: &Asked, info: &EtypeInfo2) -> Result<Key, Why>
     ensures value { IfOk result (λ key. Some key
         ≡ key_named keytab.now (asked.now.realm ∷ asked.now.client.components) info.now) }
     ensures own { IfOk result (λ key. IsKeytabKey keytab.now (asked.now.realm ∷ asked.now.client.components) key) }
+    ensures err { IfErr result (λ why.
+        IsNoKeytabKey keytab.now (asked.now.realm ∷ asked.now.client.components) info.now why) }
 {
     given(key_named(
         keytab,
@@ -307,21 +246,12 @@ fn named_key(keytab: &Keytab, asked: &Asked, info: &EtypeInfo2) -> Result<Key, W
 }
 
 fn given(found: Option<&Key>) -> Result<Key, Why>
-    ensures { IfOk result (λ key. Some key ≡ option_copied found.entry) }
+    ensures ok { IfOk result (λ key. Some key ≡ option_copied found.entry) }
+    ensures err { IfErr result (λ why. (option_copied found.entry ≡ None) × (why ≡ causes.NoKey)) }
 {
     match found {
         Some(key) => Ok(*key),
         None => Err(Why::NoKey),
-    }
-}
-
-/// The type by whose key an AS-REP is sealed; `None` where the octets are none.
-fn type_of_reply(bytes: &[u8]) -> Option<i32>
-    ensures { result ≡ type_of_reply bytes.now }
-{
-    match read_kdc_rep::<AS_REP>(bytes) {
-        Ok(reply) => Some(reply.enc_part.etype),
-        Err(_) => None,
     }
 }
 

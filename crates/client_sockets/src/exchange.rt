@@ -23,7 +23,7 @@ const UDP_WAITS: [u64; 3] = [1, 2, 4];
 /// For how many seconds a connection is held.
 const TCP_WAIT: u64 = 8;
 
-/// For how many seconds all messages of an exchange are waited for, from the first one on.
+/// For how many seconds all messages of a login are waited for, from the first one on.
 const WHOLE_WAIT: u64 = 30;
 
 /// The longest datagram.
@@ -34,8 +34,14 @@ const LONGEST_DATAGRAM: usize = 65_535;
 #[derive(Drop)]
 pub struct SocketExchange<'a, R> {
     system: &'a R,
-    /// When all waiting ends; `None` before the first message.
+    /// When all waiting of a login ends; `None` before its first message.
     end: Option<Deadline>,
+}
+
+impl<'a, R> SocketExchange<'a, R> {
+    pub(crate) fn system(&self) -> &'a R {
+        self.system
+    }
 }
 
 impl<'a, R: Net + Clock> SocketExchange<'a, R> {
@@ -43,7 +49,7 @@ impl<'a, R: Net + Clock> SocketExchange<'a, R> {
         SocketExchange { system, end: None }
     }
 
-    /// When all waiting ends: so many seconds after the first message.
+    /// When all waiting of a login ends: so many seconds after its first message.
     fn end(&mut self) -> io::Result<Deadline> {
         let end = match self.end {
             Some(end) => end,
@@ -57,8 +63,14 @@ impl<'a, R: Net + Clock> SocketExchange<'a, R> {
 impl<'a, R: Net + Clock> Exchange for SocketExchange<'a, R> {
     ghost carries = { λ message. ⊤ };
 
+    ghost answers = { λ to message reply. ⊤ };
+
+    fn begin(&mut self) {
+        self.end = None;
+    }
+
     /// Sends a datagram three times, and waits for its reply for 1, 2 and 4 seconds; or holds a connection for 8
-    /// seconds. All of it ends 30 seconds after the first message was sent.
+    /// seconds. All of it ends 30 seconds after the first message of the login was sent.
     fn exchange(
         &mut self,
         alloc: Global,

@@ -1,2 +1,5 @@
 mod Doing
+mod Imports
+mod Older
+mod Paths
 mod Users

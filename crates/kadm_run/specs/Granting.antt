@@ -1,13 +1,15 @@
 -- What the commands make of a database.
-use Rattle.std.specs.Prelude.{◌≡◌, ◌⊎◌, ◌+◌, ℕ, pos, Bool, List, [], ◌∷◌, map, drop, Option, Some, None, IsSome, is_some}
-use Rattle.std.specs.Prelude.{if◌then◌else◌}
-use Rattle.std.specs.FinMap.{get}
+use Rattle.std.specs.Prelude.{◌≡◌, ◌⊎◌, ◌+◌, ◌≤ℤ◌, ◌<ℤ◌, ℕ, ℤ, pos, Bool, List, map, take, drop, Option, Some, None, is_some}
+use Rattle.std.specs.Prelude.{⊤, if◌then◌else◌}
+use Rattle.std.specs.FinMap.{get, insert}
 use Rattle.enctypes.specs.Key.{ProtocolKey}
+use Rattle.file_store.specs.World.{World, IsNow}
 use Rattle.krb_fields.specs.Name.{Components}
 use Rattle.principal_rows.specs.declared.row.KeyVersion.{KeyVersion}
 use Rattle.principal_rows.specs.declared.row.Row.{Row}
-use Rattle.principals.specs.Change.{row_changed}
+use Rattle.principals.specs.Change.{row_changed, row_refusal}
 use Rattle.principals.specs.Database.{Principals}
+use Rattle.principals.specs.declared.change.RowChange.{RowChange}
 use Rattle.principals.specs.declared.change.RowChange.TheVariants as row_changes
 use Rattle.text_fields.specs.Settings.{IsDateOf, IsSettingOf, life_of, time_of, with_setting}
 use Rattle.text_fields.specs.declared.settings.Setting.{Setting}
@@ -21,34 +23,37 @@ use Rattle.kadm_run.specs.declared.order.Grant.TheVariants.{New, NewUser, Next, 
 use Rattle.kadm_run.specs.declared.order.KeyChange.{KeyChange}
 use Rattle.kadm_run.specs.declared.order.KeyChange.TheVariants as changes
 
+-- a change of a principal that no rule refuses, so that the principal is there, or is not there yet, as the change wants
+pub record Makes (p : Principals) (who : Components) (what : RowChange) (new : Principals) : Type 0 where
+  pub allowed : row_refusal p who what ≡ None
+  pub made : new ≡ row_changed p who what
+
 -- ---- older versions
 
 -- the numbers of all versions but the current one, which comes first
 abbrev pub older_numbers : List KeyVersion → List ℕ
 older_numbers versions = map (λ version. version.number) (drop 1 versions)
 
--- the keys of these versions dropped, one after the other
-abbrev pub dropped : Components → List ℕ → Principals → Principals
-dropped who [] p = p
-dropped who (number ∷ numbers) p = dropped who numbers (row_changed p who (row_changes.DropKeys number))
+-- with the current version of its keys alone
+abbrev pub current_alone : Row → Row
+current_alone row = record row { versions = take 1 row.versions }
 
-abbrev pub without_older : Components → Option Row → Principals → Principals
-without_older who None p = p
-without_older who (Some row) p = dropped who (older_numbers row.versions) p
+-- the principal is there, and keeps its current version alone
+abbrev pub IsOlderDropped : Components → Principals → Principals → Type 0
+IsOlderDropped who p new =
+    (row : Row) × (get p.rows who ≡ Some row) × (new ≡ record p { rows = insert p.rows who (current_alone row) })
 
 -- ---- new keys
 
-abbrev pub added : Components → List ProtocolKey → Principals → Principals
-added who keys p = row_changed p who (row_changes.Add keys)
+-- a new principal, and no tickets are for it
+abbrev pub IsUserAdded : Components → List ProtocolKey → Principals → Principals → Type 0
+IsUserAdded who keys p new =
+    (added : Principals) × Makes p who (row_changes.Add keys) added × (new ≡ denied who added)
 
-abbrev pub added_user : Components → List ProtocolKey → Principals → Principals
-added_user who keys p = denied who (added who keys p)
-
-abbrev pub renewed : Components → List ProtocolKey → Principals → Principals
-renewed who keys p = row_changed p who (row_changes.NewKeys keys)
-
-abbrev pub replaced : Components → List ProtocolKey → Principals → Principals
-replaced who keys p = let new = renewed who keys p in without_older who (get new.rows who) new
+-- the keys become the next version, and all older versions go
+abbrev pub IsReplaced : Components → List ProtocolKey → Principals → Principals → Type 0
+IsReplaced who keys p new =
+    (renewed : Principals) × Makes p who (row_changes.NewKeys keys) renewed × IsOlderDropped who renewed new
 
 -- what is done for a principal that is there, or is not
 abbrev pub key_change : Grant → Bool → KeyChange
@@ -59,21 +64,36 @@ key_change Replace there = changes.Replace
 key_change Either there = if there then changes.Next else changes.New
 key_change EitherReplace there = if there then changes.Replace else changes.New
 
-abbrev pub with_keys_by : KeyChange → Components → List ProtocolKey → Principals → Principals
-with_keys_by changes.New who keys p = added who keys p
-with_keys_by changes.NewUser who keys p = added_user who keys p
-with_keys_by changes.Next who keys p = renewed who keys p
-with_keys_by changes.Replace who keys p = replaced who keys p
+abbrev pub IsGiven : KeyChange → Components → List ProtocolKey → Principals → Principals → Type 0
+IsGiven changes.New who keys p new = Makes p who (row_changes.Add keys) new
+IsGiven changes.NewUser who keys p new = IsUserAdded who keys p new
+IsGiven changes.Next who keys p new = Makes p who (row_changes.NewKeys keys) new
+IsGiven changes.Replace who keys p new = IsReplaced who keys p new
 
-abbrev pub granted : Grant → Components → List ProtocolKey → Principals → Principals
-granted grant who keys p = with_keys_by (key_change grant (is_some (get p.rows who))) who keys p
+abbrev pub IsGranted : Grant → Components → List ProtocolKey → Principals → Principals → Type 0
+IsGranted grant who keys p new = IsGiven (key_change grant (is_some (get p.rows who))) who keys p new
 
 -- ---- policies
 
--- all stays, or a password's expiry is cleared
-abbrev pub IsCleared : Components → Principals → Principals → Type 0
-IsCleared who p new = (new ≡ p) ⊎ ((row : Row) × (get p.rows who ≡ Some row) × IsSome row.policy.password_expires
-    × (new ≡ row_changed p who (row_changes.SetPolicy (record row.policy { password_expires = None }))))
+abbrev pub password_expiry : Option Row → Option ℤ
+password_expiry None = None
+password_expiry (Some row) = row.policy.password_expires
+
+-- at the clock's moment the password has expired, or has not
+abbrev pub IsPast : Option World → Option ℤ → Type 0
+IsPast world None = ⊥
+IsPast world (Some expires) = (now : ℕ) × IsNow world now × (expires ≤ℤ pos now)
+
+abbrev pub IsLasting : Option World → Option ℤ → Type 0
+IsLasting world None = ⊤
+IsLasting world (Some expires) = (now : ℕ) × IsNow world now × (pos now <ℤ expires)
+
+-- a password's expiry that is past is cleared, and any other stays
+abbrev pub IsCleared : Option World → Components → Principals → Principals → Type 0
+IsCleared world who p new =
+    (IsLasting world (password_expiry (get p.rows who)) × (new ≡ p))
+    ⊎ ((row : Row) × (get p.rows who ≡ Some row) × IsPast world row.policy.password_expires
+    × Makes p who (row_changes.SetPolicy (record row.policy { password_expires = None })) new)
 
 -- a field that is a lifetime, with the span that is its value
 abbrev pub IsLifeOf : Setting → List ℕ → List ℕ → Type 0
@@ -89,22 +109,26 @@ IsTimeFrom now (settings.Time field None) name value = ⊥
 IsTimeFrom now (settings.Flag field on) name value = ⊥
 IsTimeFrom now (settings.Life field life) name value = ⊥
 
--- a field with its value, in an administrator's words
-abbrev pub IsValueOf : Setting → List ℕ → List ℕ → Type 0
-IsValueOf setting name value =
+-- a field with its value, in an administrator's words, whatever the clock shows
+abbrev pub IsFixedValue : Setting → List ℕ → List ℕ → Type 0
+IsFixedValue setting name value =
     IsSettingOf setting name value ⊎ IsDateOf setting name value ⊎ IsLifeOf setting name value
-    ⊎ ((now : ℕ) × IsTimeFrom now setting name value)
+
+-- a field with its value; a time span of a time counts from the clock's moment
+abbrev pub IsValueOf : Option World → Setting → List ℕ → List ℕ → Type 0
+IsValueOf world setting name value =
+    IsFixedValue setting name value ⊎ ((now : ℕ) × IsNow world now × IsTimeFrom now setting name value)
 
 -- ---- changes without keys
 
 -- the field has the value, whatever it had; what else the policy has stays
-abbrev pub IsPolicySet : List ℕ → List ℕ → Components → Principals → Principals → Type 0
-IsPolicySet field value who p new =
-    (row : Row) × (get p.rows who ≡ Some row) × (setting : Setting) × IsValueOf setting field value
-    × (new ≡ row_changed p who (row_changes.SetPolicy (with_setting setting row.policy)))
+abbrev pub IsPolicySet : Option World → List ℕ → List ℕ → Components → Principals → Principals → Type 0
+IsPolicySet world field value who p new =
+    (row : Row) × (get p.rows who ≡ Some row) × (setting : Setting) × IsValueOf world setting field value
+    × Makes p who (row_changes.SetPolicy (with_setting setting row.policy)) new
 
-abbrev pub IsChanged : ChangeArgs → Components → Principals → Principals → Type 0
-IsChanged (Drop version) who p new = new ≡ row_changed p who (row_changes.DropKeys version)
-IsChanged DropOlder who p new = new ≡ without_older who (get p.rows who) p
-IsChanged (Policy field value) who p new = IsPolicySet field.now value.now who p new
-IsChanged Remove who p new = new ≡ row_changed p who row_changes.Remove
+abbrev pub IsChanged : Option World → ChangeArgs → Components → Principals → Principals → Type 0
+IsChanged world (Drop version) who p new = Makes p who (row_changes.DropKeys version) new
+IsChanged world DropOlder who p new = IsOlderDropped who p new
+IsChanged world (Policy field value) who p new = IsPolicySet world field.now value.now who p new
+IsChanged world Remove who p new = Makes p who row_changes.Remove new

@@ -1,5 +1,5 @@
 -- What a command leaves of the files.
-use Rattle.std.specs.Prelude.{◌≡◌, ℕ, Bool, false, List, map, Option, Some, None, option_map, Ok}
+use Rattle.std.specs.Prelude.{◌≡◌, ℕ, Bool, false, List, ◌∷◌, map, Option, Some, None, option_map, Ok}
 use Rattle.std.specs.Borrow.{Bor}
 use Rattle.serde_json.specs.Written.{compact_text}
 use Rattle.enctypes.specs.declared.etype.Etype.{Etype}
@@ -7,18 +7,22 @@ use Rattle.krb_fields.specs.Name.{Components}
 use Rattle.krb_fields.specs.NameText.{IsComponentText, IsNameText}
 use Rattle.krb_fields.specs.Salt.{default_salt}
 use Rattle.principal_keys.specs.Keys.{drawn_keys, password_key, seeded}
+use Rattle.principal_rows.specs.declared.row.KeyVersion.{KeyVersion}
 use Rattle.principals.specs.Database.{Principals, first_database}
 use Rattle.principals.specs.Value.{text_database}
 use Rattle.principals.specs.Written.{database_value}
 use Rattle.file_store.specs.World.{World, with_file, HasFirstLine, HasSeed, IsRead, IsThere}
 use Rattle.kadm_run.specs.Denying.{migrated_rows}
-use Rattle.kadm_run.specs.Granting.{IsChanged, IsCleared, granted}
+use Rattle.kadm_run.specs.Granting.{IsChanged, IsCleared, IsGranted}
+use Rattle.kadm_run.specs.Importing.{HasVersions, Imports}
+use Rattle.kadm_run.specs.Keytabs.{IsFreePath, IsKeytabFor}
 use Rattle.kadm_run.specs.declared.order.ChangeArgs.{ChangeArgs}
+use Rattle.kadm_run.specs.declared.order.ImportOrder.{ImportOrder}
 use Rattle.kadm_run.specs.declared.order.KeytabOrder.{KeytabOrder}
 use Rattle.kadm_run.specs.declared.order.PasswordGrant.{PasswordGrant}
 use Rattle.kadm_run.specs.declared.order.RandomGrant.{RandomGrant}
 use Rattle.kadm_run.specs.declared.order.Work.{Work}
-use Rattle.kadm_run.specs.declared.order.Work.TheVariants.{Init, Password, Random, Change, Keytab, Migrate}
+use Rattle.kadm_run.specs.declared.order.Work.TheVariants.{Init, Password, Random, Change, Keytab, Import, Migrate}
 
 -- what a path has is the text of a database
 abbrev pub HoldsDatabase : Option World → List ℕ → Principals → Type 0
@@ -58,8 +62,10 @@ pub record GavePassword (before : Option World) (db : List ℕ) (etypes : List E
   pub given : IsPasswordOf before (path_of to.password.file) pass
   pub old : Principals
   pub read : HoldsDatabase before db old
+  pub given_to : Principals
+  pub granted : IsGranted to.grant who (map (password_key pass (default_salt old.realm who)) etypes) old given_to
   pub new : Principals
-  pub cleared : IsCleared who (granted to.grant who (map (password_key pass (default_salt old.realm who)) etypes) old) new
+  pub cleared : IsCleared before who given_to new
   pub written : after ≡ with_database db new before
 
 pub record GaveRandom (before : Option World) (db : List ℕ) (etypes : List Etype) (to : RandomGrant) (after : Option World) : Type 0 where
@@ -69,7 +75,9 @@ pub record GaveRandom (before : Option World) (db : List ℕ) (etypes : List Ety
   pub read : HoldsDatabase before db old
   pub seed : List ℕ
   pub drawn : HasSeed before (path_of to.seed) seed
-  pub written : after ≡ with_database db (granted to.grant who (drawn_keys (seeded seed) etypes) old) before
+  pub new : Principals
+  pub granted : IsGranted to.grant who (drawn_keys (seeded seed) etypes) old new
+  pub written : after ≡ with_database db new before
 
 pub record Changed (before : Option World) (db : List ℕ) (name : List ℕ) (how : ChangeArgs) (after : Option World) : Type 0 where
   pub who : Components
@@ -77,7 +85,19 @@ pub record Changed (before : Option World) (db : List ℕ) (name : List ℕ) (ho
   pub old : Principals
   pub read : HoldsDatabase before db old
   pub new : Principals
-  pub changed : IsChanged how who old new
+  pub changed : IsChanged before how who old new
+  pub written : after ≡ with_database db new before
+
+-- a new principal, with the keys that a keytab has of it
+pub record Imported (before : Option World) (db : List ℕ) (etypes : List Etype) (to : ImportOrder) (after : Option World) : Type 0 where
+  pub who : Components
+  pub spelled : IsNameText who to.name.now
+  pub old : Principals
+  pub read : HoldsDatabase before db old
+  pub versions : List KeyVersion
+  pub taken : HasVersions before to.keytab.now (old.realm ∷ who) etypes versions
+  pub new : Principals
+  pub imports : Imports old who versions new
   pub written : after ≡ with_database db new before
 
 pub record Migrated (before : Option World) (db : List ℕ) (users_are_no_services : Bool) (after : Option World) : Type 0 where
@@ -85,13 +105,16 @@ pub record Migrated (before : Option World) (db : List ℕ) (users_are_no_servic
   pub read : HoldsDatabase before db old
   pub written : after ≡ with_database db (migrated_rows users_are_no_services old) before
 
--- some octets are written at a path; every other path has what it had
-abbrev pub WroteFile : Option World → List ℕ → Option World → Type 0
-WroteFile before path after = (octets : List ℕ) × (after ≡ option_map (with_file path octets) before)
-
--- a keytab is written, and no other file
-abbrev pub WroteKeytab : Option World → List ℕ → KeytabOrder → Option World → Type 0
-WroteKeytab before db to after = (old : Principals) × HoldsDatabase before db old × WroteFile before to.out.now after
+-- a keytab of a principal's current keys is written, where no database and no lock is, and no other file
+pub record WroteKeytab (before : Option World) (db : List ℕ) (to : KeytabOrder) (after : Option World) : Type 0 where
+  pub who : Components
+  pub spelled : IsNameText who to.name.now
+  pub old : Principals
+  pub read : HoldsDatabase before db old
+  pub free : IsFreePath before to.out.now
+  pub octets : List ℕ
+  pub holds : IsKeytabFor before to who old octets
+  pub written : after ≡ option_map (with_file to.out.now octets) before
 
 abbrev pub Did : Option World → List ℕ → List Etype → Work → Option World → Type 0
 Did before db etypes (Init realm seed) after = MadeRealm before db etypes realm.now (path_of seed) after
@@ -99,6 +122,7 @@ Did before db etypes (Password to) after = GavePassword before db etypes to afte
 Did before db etypes (Random to) after = GaveRandom before db etypes to after
 Did before db etypes (Change name how) after = Changed before db name.now how after
 Did before db etypes (Keytab to) after = WroteKeytab before db to after
+Did before db etypes (Import to) after = Imported before db etypes to after
 Did before db etypes (Migrate users_are_no_services) after = Migrated before db users_are_no_services after
 
 -- some one of these was done

@@ -1,9 +1,8 @@
 //! The commands that make a database, and change one without giving keys.
 ghost use Rattle.std.specs.Prelude.{◌≡◌, IfOk, OnOk, OnErr};
-ghost use Rattle.principals.specs.Change.{row_changed};
 ghost use Rattle.principals.specs.declared.change.RowChange.TheVariants as row_changes;
 ghost use Rattle.kadm_run.specs.Denying.{migrated_rows};
-ghost use Rattle.kadm_run.specs.Granting.{IsChanged, IsPolicySet, IsValueOf};
+ghost use Rattle.kadm_run.specs.Granting.{IsChanged, IsPolicySet, IsValueOf, Makes};
 ghost use Rattle.kadm_run.specs.Worlds.{Changed, MadeNew, MadeRealm, Migrated, path_of};
 
 use crate::databases::{apply, lock_database, open_database, write_database};
@@ -87,7 +86,7 @@ fn change_row<T: Store>(
     who: &Name,
     how: ChangeArgs<'_>,
 ) -> Result<(), Stop<'static>>
-    ensures changed { OnOk result (IsChanged how.entry who.now.components database.old database.new) }
+    ensures changed { OnOk result (IsChanged (T.world store.old) how.entry who.now.components database.old database.new) }
     ensures kept { T.world store.new ≡ T.world store.old }
 {
     match how {
@@ -107,7 +106,7 @@ fn drop_keys(
     who: &Name,
     version: u32,
 ) -> Result<(), Stop<'static>>
-    ensures { OnOk result (database.new ≡ row_changed database.old who.now.components (row_changes.DropKeys version)) }
+    ensures { OnOk result (Makes database.old who.now.components (row_changes.DropKeys version) database.new) }
 {
     if lacks_version(database, who, version) {
         return Err(Stop::Refused(Reason::NoVersion));
@@ -131,7 +130,7 @@ fn set_policy<T: Store>(
     field: &str,
     value: &str,
 ) -> Result<(), Stop<'static>>
-    ensures changed { OnOk result (IsPolicySet field.now value.now who.now.components database.old database.new) }
+    ensures changed { OnOk result (IsPolicySet (T.world store.old) field.now value.now who.now.components database.old database.new) }
     ensures kept { T.world store.new ≡ T.world store.old }
 {
     let Some(row) = database.get(who) else {
@@ -144,7 +143,7 @@ fn set_policy<T: Store>(
 
 /// A field with its value, for which the clock is read if the value is a time from now.
 fn setting<T: Store>(store: &mut T, field: &str, value: &str) -> Result<Setting, Stop<'static>>
-    ensures setting { IfOk result (λ setting. IsValueOf setting field.now value.now) }
+    ensures setting { IfOk result (λ setting. IsValueOf (T.world store.old) setting field.now value.now) }
     ensures kept { T.world store.new ≡ T.world store.old }
 {
     if let Some(setting) = setting_of(field, value) {

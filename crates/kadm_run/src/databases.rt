@@ -1,6 +1,6 @@
 //! The database in its file.
 ghost use Rattle.std.specs.Prelude.{◌≡◌, IfOk, OnOk, OnErr};
-ghost use Rattle.principals.specs.Change.{row_changed};
+ghost use Rattle.kadm_run.specs.Granting.{Makes};
 ghost use Rattle.kadm_run.specs.Worlds.{HoldsDatabase, with_database};
 
 use crate::order::Order;
@@ -8,7 +8,7 @@ use crate::reason::Reason;
 use crate::stop::Stop;
 use file_store::{Store, lock_file, read_at_most, update_file};
 use krb_fields::Name;
-use principals::{Change, ChangeFault, Database, LONGEST_TEXT, RowChange};
+use principals::{Change, ChangeFault, Database, LONGEST_TEXT, ReadFault, RowChange, fault_place};
 use std::alloc::Global;
 use std::io::Write;
 use std::str;
@@ -61,13 +61,14 @@ pub(crate) fn open_database<'p, T: Store, E: Write>(
     ensures kept { T.world store.new ≡ T.world store.old }
 {
     lock_database(alloc, order, store, errors)?;
-    read_database(alloc, store, order.db)
+    read_database(alloc, store, errors, order.db)
 }
 
-/// Reads the database as it is at this moment.
-pub(crate) fn read_database<'p, T: Store>(
+/// Reads the database as it is at this moment. If its text is refused, says where it is wrong.
+pub(crate) fn read_database<'p, T: Store, E: Write>(
     alloc: Global,
     store: &mut T,
+    errors: &mut E,
     db: &'p str,
 ) -> Result<Database, Stop<'p>>
     ensures read { IfOk result (λ database. HoldsDatabase (T.world store.old) db.now database) }
@@ -77,7 +78,26 @@ pub(crate) fn read_database<'p, T: Store>(
     let Ok(text) = str::from_utf8(&octets) else {
         return Err(Stop::Refused(Reason::NotJson));
     };
-    Ok(Database::read(alloc, text)?)
+    match Database::read(alloc, text) {
+        Ok(database) => Ok(database),
+        Err(fault) => {
+            tell_place(alloc, errors, db, text, fault);
+            Err(Stop::from(fault))
+        }
+    }
+}
+
+/// Says where a text is wrong, if that can be found and written.
+fn tell_place<E: Write>(alloc: Global, errors: &mut E, db: &str, text: &str, fault: ReadFault) {
+    if !matches!(fault, ReadFault::NotJson | ReadFault::BadRow) {
+        return;
+    }
+    let Ok(place) = fault_place(alloc, text) else {
+        return;
+    };
+    if !place.is_empty() {
+        let _ = writeln!(errors, "kadm: {db}: {place}");
+    }
 }
 
 /// Writes the database. Its file keeps its owner, group and mode.
@@ -96,13 +116,14 @@ pub(crate) fn write_database<'p, T: Store>(
 }
 
 /// Makes a change of a principal's row. A change that is refused leaves the database as it was.
+#[tactic(auto, using(crate::proofs::Doing::made_by))]
 pub(crate) fn apply(
     alloc: Global,
     database: &mut Database,
     who: &Name,
     what: RowChange,
 ) -> Result<(), ChangeFault>
-    ensures changed { OnOk result (database.new ≡ row_changed database.old who.now.components what) }
+    ensures changed { OnOk result (Makes database.old who.now.components what database.new) }
     ensures kept { OnErr result (database.new ≡ database.old) }
 {
     let name = who.copy(alloc)?;

@@ -35,7 +35,7 @@ fn users_of(alloc: Global, database: &Database) -> Result<Vec<Name>, AllocError>
 }
 
 /// Checks whether a name has one component, as that of a user has.
-fn is_user(name: &Name) -> bool
+pub(crate) fn is_user(name: &Name) -> bool
     ensures { result ≡ is_user name.now.components }
 {
     name.components.len() == 1

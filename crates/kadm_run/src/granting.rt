@@ -1,11 +1,12 @@
 //! The commands that give a principal new keys.
-ghost use Rattle.std.specs.Prelude.{◌≡◌, IfOk, IfSome, IsSome, OnOk, OnErr, Some, is_some, map};
+ghost use Rattle.std.specs.Prelude.{◌≡◌, IfNone, IfOk, IfSome, None, OnOk, OnErr, Some, is_some, map};
 ghost use Rattle.std.specs.FinMap as finite;
 ghost use Rattle.krb_fields.specs.Salt.{default_salt};
 ghost use Rattle.principal_keys.specs.Keys.{password_key};
 ghost use Rattle.principal_rows.specs.declared.row.Row as rows;
-ghost use Rattle.kadm_run.specs.Granting.{IsCleared, added, added_user, granted, older_numbers, renewed, replaced};
-ghost use Rattle.kadm_run.specs.Granting.{without_older};
+ghost use Rattle.principals.specs.declared.change.RowChange.TheVariants as row_changes;
+ghost use Rattle.kadm_run.specs.Granting.{IsCleared, IsGiven, IsGranted, IsOlderDropped, IsReplaced, IsUserAdded};
+ghost use Rattle.kadm_run.specs.Granting.{Makes, older_numbers, password_expiry};
 ghost use Rattle.kadm_run.specs.Worlds.{GavePassword, GaveRandom};
 
 use crate::databases::{apply, open_database, write_database};
@@ -13,10 +14,10 @@ use crate::denying::deny_service;
 use crate::order::{Grant, KeyChange, Order, PasswordGrant, RandomGrant};
 use crate::passwords::new_password;
 use crate::stop::Stop;
-use crate::values::second_of;
+use crate::values::is_past;
 use enctypes::Etype;
 use file_store::{Store, read_clock, read_or_draw_seed};
-use krb_fields::Name;
+use krb_fields::{Name, Second};
 use principal_keys::{password_keys, random_keys};
 use principal_rows::{KeyList, KeyVersion, Policy};
 use principals::{ChangeFault, Database, RowChange};
@@ -35,7 +36,7 @@ pub(crate) fn grant_password<'p, T: Store, E: Write>(
     ensures kept { OnErr result (T.world store.new ≡ T.world store.old) }
 {
     let who = Name::from_text(alloc, to.name)?;
-    let pass = new_password(alloc, order, store, to.name, to.password)?;
+    let pass = new_password(alloc, order, store, errors, to.name, to.password)?;
     let mut database = open_database(alloc, order, store, errors)?;
     let keys = keys_of(alloc, &order.etypes, &pass, &who, &database)?;
     give(alloc, &mut database, &who, keys, to.grant)?;
@@ -91,10 +92,23 @@ fn give(
     keys: KeyList,
     grant: Grant,
 ) -> Result<(), ChangeFault>
-    ensures { OnOk result (database.new ≡ granted grant who.now.components keys database.old) }
+    ensures { OnOk result (IsGranted grant who.now.components keys database.old database.new) }
 {
-    match grant.key_change(is_there(database, who)) {
-        KeyChange::New => add(alloc, database, who, keys),
+    let how = grant.key_change(is_there(database, who));
+    give_by(alloc, database, who, keys, how)
+}
+
+fn give_by(
+    alloc: Global,
+    database: &mut Database,
+    who: &Name,
+    keys: KeyList,
+    how: KeyChange,
+) -> Result<(), ChangeFault>
+    ensures { OnOk result (IsGiven how who.now.components keys database.old database.new) }
+{
+    match how {
+        KeyChange::New => apply(alloc, database, who, RowChange::Add(keys)),
         KeyChange::NewUser => add_user(alloc, database, who, keys),
         KeyChange::Next => renew(alloc, database, who, keys),
         KeyChange::Replace => replace(alloc, database, who, keys),
@@ -111,12 +125,6 @@ fn is_there(database: &Database, who: &Name) -> bool
     }
 }
 
-fn add(alloc: Global, database: &mut Database, who: &Name, keys: KeyList) -> Result<(), ChangeFault>
-    ensures { OnOk result (database.new ≡ added who.now.components keys database.old) }
-{
-    apply(alloc, database, who, RowChange::Add(keys))
-}
-
 /// Adds a principal for whom there are to be no tickets.
 fn add_user(
     alloc: Global,
@@ -124,19 +132,20 @@ fn add_user(
     who: &Name,
     keys: KeyList,
 ) -> Result<(), ChangeFault>
-    ensures { OnOk result (database.new ≡ added_user who.now.components keys database.old) }
+    ensures { OnOk result (IsUserAdded who.now.components keys database.old database.new) }
 {
-    add(alloc, database, who, keys)?;
+    apply(alloc, database, who, RowChange::Add(keys))?;
     deny_service(alloc, database, who)
 }
 
+/// Gives a principal that is there new keys, as its next version.
 fn renew(
     alloc: Global,
     database: &mut Database,
     who: &Name,
     keys: KeyList,
 ) -> Result<(), ChangeFault>
-    ensures { OnOk result (database.new ≡ renewed who.now.components keys database.old) }
+    ensures { OnOk result (Makes database.old who.now.components (row_changes.NewKeys keys) database.new) }
 {
     apply(alloc, database, who, RowChange::NewKeys(keys))
 }
@@ -148,7 +157,7 @@ fn replace(
     who: &Name,
     keys: KeyList,
 ) -> Result<(), ChangeFault>
-    ensures { OnOk result (database.new ≡ replaced who.now.components keys database.old) }
+    ensures { OnOk result (IsReplaced who.now.components keys database.old database.new) }
 {
     renew(alloc, database, who, keys)?;
     drop_older(alloc, database, who)
@@ -160,8 +169,7 @@ pub(crate) fn drop_older(
     database: &mut Database,
     who: &Name,
 ) -> Result<(), ChangeFault>
-    ensures { OnOk result (database.new
-        ≡ without_older who.now.components (finite.get database.old.rows who.now.components) database.old) }
+    ensures { OnOk result (IsOlderDropped who.now.components database.old database.new) }
 {
     let Some(row) = database.get(who) else {
         return Err(ChangeFault::Absent);
@@ -193,20 +201,20 @@ fn numbers_of(alloc: Global, versions: &[KeyVersion]) -> Result<Vec<u32>, AllocE
     Ok(numbers)
 }
 
-/// Clears a `password_expires` that is past, and tells whether it was.
+/// Clears a `password_expires` that is past, and returns whether it was.
 fn clear_expiry<'p, T: Store>(
     alloc: Global,
     store: &mut T,
     database: &mut Database,
     who: &Name,
 ) -> Result<bool, Stop<'p>>
-    ensures cleared { OnOk result (IsCleared who.now.components database.old database.new) }
+    ensures cleared { OnOk result (IsCleared (T.world store.old) who.now.components database.old database.new) }
     ensures kept { T.world store.new ≡ T.world store.old }
 {
-    let Some(policy) = expiring(database, who) else {
+    let Some((policy, expires)) = expiring(database, who) else {
         return Ok(false);
     };
-    if !is_past(policy, read_clock(store)?) {
+    if !is_past(expires, read_clock(store)?) {
         return Ok(false);
     }
     let policy = Policy {
@@ -217,27 +225,22 @@ fn clear_expiry<'p, T: Store>(
     Ok(true)
 }
 
-/// The policy of a principal whose password expires.
-fn expiring(database: &Database, who: &Name) -> Option<Policy>
-    ensures { IfSome result (λ policy. (row : rows.Row) × (finite.get database.now.rows who.now.components ≡ Some row)
-        × (row.policy ≡ policy) × IsSome policy.password_expires) }
+/// The policy of a principal whose password expires, and when it does.
+fn expiring(database: &Database, who: &Name) -> Option<(Policy, Second)>
+    ensures some { IfSome result (λ found. (row : rows.Row) × (finite.get database.now.rows who.now.components ≡ Some row)
+        × (row.policy ≡ found.0) × (row.policy.password_expires ≡ Some found.1)) }
+    ensures none { IfNone result (password_expiry (finite.get database.now.rows who.now.components) ≡ None) }
 {
-    let policy = database.get(who)?.policy;
-    match policy.password_expires {
-        Some(_) => Some(policy),
+    let Some(row) = database.get(who) else {
+        return None;
+    };
+    match row.policy.password_expires {
+        Some(expires) => Some((row.policy, expires)),
         None => None,
     }
 }
 
-/// Checks whether a password has expired at a second since 1970.
-fn is_past(policy: Policy, now: u64) -> bool {
-    match (policy.password_expires, second_of(now)) {
-        (Some(expires), Some(now)) => expires.get() <= now.get(),
-        _ => false,
-    }
-}
-
-/// If it can't be written there is no one to tell.
+/// Says that `password_expires` was cleared, if that can be written.
 fn tell_cleared<E: Write>(errors: &mut E, name: &str) {
     let _ = writeln!(
         errors,

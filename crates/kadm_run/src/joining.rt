@@ -1,5 +1,5 @@
 //! Two keytabs joined, octet by octet, so that entries of other key types and all times stay as they are.
-ghost use Rattle.std.specs.Prelude.{◌<◌, IfSome, length};
+ghost use Rattle.std.specs.Prelude.{◌≡◌, ◌++◌, ◌<◌, ℕ, IfOk, IfSome, drop, length, take};
 
 use cred_files::FileFault;
 use std::alloc::Global;
@@ -8,7 +8,9 @@ use std::alloc::Global;
 const MAGIC_LEN: usize = 2;
 
 /// The keytab with the parts of the old one, which was read as one, and then those of the new one.
-pub(crate) fn joined(alloc: Global, old: &[u8], new: &[u8]) -> Result<Vec<u8>, FileFault> {
+pub(crate) fn joined(alloc: Global, old: &[u8], new: &[u8]) -> Result<Vec<u8>, FileFault>
+    ensures { IfOk result (λ all. (size : ℕ) × (all.items ≡ take size old.now ++ drop 2 new.now)) }
+{
     let (Some(parts), Some(added)) = (old.get(MAGIC_LEN..), new.get(MAGIC_LEN..)) else {
         return Err(FileFault::BadMagic);
     };

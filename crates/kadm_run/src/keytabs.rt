@@ -1,6 +1,8 @@
 //! The command that writes a keytab.
-ghost use Rattle.std.specs.Prelude.{◌≡◌, OnOk, OnErr};
-ghost use Rattle.kadm_run.specs.Worlds.{WroteFile, WroteKeytab};
+ghost use Rattle.std.specs.Prelude.{◌≡◌, IfOk, IsFalse, OnOk, OnErr, map, option_map};
+ghost use Rattle.file_store.specs.World.{IsRead, IsThere, with_file};
+ghost use Rattle.kadm_run.specs.Keytabs.{IsBehind, IsFreePath, IsKeytabFor, IsKeytabStart, IsNewKeytab, IsOldKeytab, entry_of, lock_of};
+ghost use Rattle.kadm_run.specs.Worlds.{WroteKeytab};
 
 use crate::databases::open_database;
 use crate::joining::joined;
@@ -9,13 +11,20 @@ use crate::reason::Reason;
 use crate::stop::Stop;
 use cred_files::{Keytab, KeytabEntry};
 use enctypes::Key;
-use file_store::{Amiss, FileFault, Store, has_file, read_file, update_file, write_file};
+use file_store::{
+    Amiss, FileFault, Store, first_octet, has_file, read_file, update_file, write_file,
+};
 use krb_elements::KerberosString;
 use krb_fields::Name;
-use principal_rows::Row;
 use principals::{ChangeFault, Database};
 use std::alloc::{AllocError, Global};
 use std::io::Write;
+
+/// What the path of a lock ends in.
+const LOCK_END: &str = ".lock";
+
+/// The octet that a keytab begins with, and no text of a database.
+const KEYTAB_START: u8 = 5;
 
 /// Writes a keytab of a principal's current keys. With `append` the keytab keeps what it has, in front of them, and its
 /// owner, group and mode.
@@ -31,38 +40,46 @@ pub(crate) fn write_keytab<'p, T: Store, E: Write>(
 {
     let name = Name::from_text(alloc, to.name)?;
     let database = open_database(alloc, order, store, errors)?;
-    write_keys(alloc, store, &database, &name, to)
+    check_path(alloc, store, to.out)?;
+    let octets = new_octets(alloc, store, &database, &name, to)?;
+    put_octets(alloc, store, to, &octets)
 }
 
-fn write_keys<'p, T: Store>(
-    alloc: Global,
-    store: &mut T,
-    database: &Database,
-    name: &Name,
-    to: KeytabOrder<'p>,
-) -> Result<(), Stop<'p>>
-    ensures done { OnOk result (WroteFile (T.world store.old) to.entry.out.now (T.world store.new)) }
-    ensures kept { OnErr result (T.world store.new ≡ T.world store.old) }
+/// Refuses a path that is a lock's or has a lock beside it, as each database has that a command writes and the one that
+/// this command locks, whatever its path is called; and one that has anything but a keytab.
+fn check_path<'p, T: Store>(alloc: Global, store: &mut T, path: &'p str) -> Result<(), Stop<'p>>
+    ensures free { OnOk result (IsFreePath (T.world store.old) path.now) }
+    ensures kept { T.world store.new ≡ T.world store.old }
 {
-    if has_lock(alloc, store, to.out)? {
+    if path.ends_with(LOCK_END) {
+        return Err(Stop::Refused(Reason::IsLock));
+    }
+    if has_lock(alloc, store, path)? {
         return Err(Stop::Refused(Reason::IsDatabase));
     }
-    let old = read_old(alloc, store, to.out, to.append)?;
-    let octets = keytab_behind(alloc, database, name, old)?;
-    if to.append {
-        update_file(alloc, store, to.out, &octets)?;
-    } else {
-        write_file(alloc, store, to.out, &octets)?;
+    let first = first_octet(alloc, store, path)?;
+    if is_other_file(first) {
+        return Err(Stop::Refused(Reason::BadMagic));
     }
     Ok(())
 }
 
-/// Whether a lock stands beside a file, as it does beside each database that a command writes, and beside the one that
-/// this command locks, whatever its path is called.
+/// Checks whether a file that begins so is no keytab and not empty.
+fn is_other_file(first: Option<u8>) -> bool
+    ensures { IsFalse result → IsKeytabStart first }
+{
+    match first {
+        Some(octet) => octet != KEYTAB_START,
+        None => false,
+    }
+}
+
+/// Checks whether a lock stands beside a file.
 fn has_lock<'p, T: Store>(alloc: Global, store: &mut T, path: &'p str) -> Result<bool, Stop<'p>>
+    ensures there { IfOk result (λ found. IsThere (T.world store.old) (lock_of path.now) found) }
     ensures kept { T.world store.new ≡ T.world store.old }
 {
-    let beside = format!(in alloc; "{path}.lock")?;
+    let beside = format!(in alloc; "{path}{LOCK_END}")?;
     match store.exists(&beside) {
         Ok(found) => Ok(found),
         Err(error) => Err(Stop::from(FileFault {
@@ -72,6 +89,40 @@ fn has_lock<'p, T: Store>(alloc: Global, store: &mut T, path: &'p str) -> Result
     }
 }
 
+/// The octets of the keytab.
+fn new_octets<'p, T: Store>(
+    alloc: Global,
+    store: &mut T,
+    database: &Database,
+    name: &Name,
+    to: KeytabOrder<'p>,
+) -> Result<Vec<u8>, Stop<'p>>
+    ensures holds { IfOk result (λ octets. IsKeytabFor (T.world store.old) to.entry name.now.components database.now octets.items) }
+    ensures kept { T.world store.new ≡ T.world store.old }
+{
+    let old = read_old(alloc, store, to.out, to.append)?;
+    let new = keytab_of(alloc, database, name)?;
+    Ok(behind(alloc, old, new)?)
+}
+
+/// Writes the octets of the keytab.
+fn put_octets<'p, T: Store>(
+    alloc: Global,
+    store: &mut T,
+    to: KeytabOrder<'p>,
+    octets: &[u8],
+) -> Result<(), Stop<'p>>
+    ensures written { OnOk result (T.world store.new ≡ option_map (with_file to.entry.out.now octets.now) (T.world store.old)) }
+    ensures kept { OnErr result (T.world store.new ≡ T.world store.old) }
+{
+    if to.append {
+        update_file(alloc, store, to.out, octets)?;
+    } else {
+        write_file(alloc, store, to.out, octets)?;
+    }
+    Ok(())
+}
+
 /// What a keytab has that is added to.
 fn read_old<'p, T: Store>(
     alloc: Global,
@@ -79,6 +130,7 @@ fn read_old<'p, T: Store>(
     path: &'p str,
     append: bool,
 ) -> Result<Option<Vec<u8>>, Stop<'p>>
+    ensures old { IfOk result (λ old. IsOldKeytab (T.world store.old) append path.now (option_map (λ octets. octets.items) old)) }
     ensures kept { T.world store.new ≡ T.world store.old }
 {
     if append && has_file(store, path)? {
@@ -94,6 +146,7 @@ fn read_judged<'p, T: Store>(
     store: &mut T,
     path: &'p str,
 ) -> Result<Vec<u8>, Stop<'p>>
+    ensures read { IfOk result (λ octets. IsRead (T.world store.old) path.now octets.items) }
     ensures kept { T.world store.new ≡ T.world store.old }
 {
     let octets = read_file(alloc, store, path)?;
@@ -101,40 +154,46 @@ fn read_judged<'p, T: Store>(
     Ok(octets)
 }
 
-/// A keytab of a principal's current keys, behind what an old one has that was judged.
-fn keytab_behind(
+/// What an old keytab has that was judged, and behind it the entries of a new one.
+fn behind(
     alloc: Global,
-    database: &Database,
-    name: &Name,
     old: Option<Vec<u8>>,
-) -> Result<Vec<u8>, Stop<'static>> {
-    let new = keytab_of(alloc, database, name)?;
+    new: Vec<u8>,
+) -> Result<Vec<u8>, cred_files::FileFault>
+    ensures { IfOk result (λ all. IsBehind (option_map (λ octets. octets.items) old) new.items all.items) }
+{
     match old {
-        Some(old) => Ok(joined(alloc, &old, &new)?),
+        Some(old) => joined(alloc, &old, &new),
         None => Ok(new),
     }
 }
 
 /// A keytab of a principal's current keys.
-fn keytab_of(alloc: Global, database: &Database, name: &Name) -> Result<Vec<u8>, Stop<'static>> {
+fn keytab_of(alloc: Global, database: &Database, name: &Name) -> Result<Vec<u8>, Stop<'static>>
+    ensures { IfOk result (λ octets. IsNewKeytab database.now name.now octets.items) }
+{
     let Some(row) = database.get(name) else {
         return Err(Stop::from(ChangeFault::Absent));
     };
-    let entries = entries_of(alloc, database.realm(), name, row)?;
+    let current = row.versions.current();
+    let keys = current.keys.keys();
+    let entries = entries_of(alloc, database.realm(), name, current.number, keys)?;
     Ok(Keytab::new(alloc, &entries)?.write(alloc)?)
 }
 
-/// The current keys of a row, as entries of a keytab.
+/// The keys of a version, as entries of a keytab.
 fn entries_of(
     alloc: Global,
     realm: &[u8],
     name: &Name,
-    row: &Row,
-) -> Result<Vec<KeytabEntry>, AllocError> {
-    let current = row.versions.current();
+    version: u32,
+    keys: &[Key],
+) -> Result<Vec<KeytabEntry>, AllocError>
+    ensures { IfOk result (λ entries. entries.items ≡ map (entry_of realm.now name.now version) keys.now) }
+{
     let mut entries = Vec::new(alloc);
-    for key in current.keys.keys() {
-        entries.push(entry_of(alloc, realm, name, current.number, key)?)?;
+    for key in keys {
+        entries.push(entry_of(alloc, realm, name, version, key)?)?;
     }
     Ok(entries)
 }
@@ -145,7 +204,9 @@ fn entry_of(
     name: &Name,
     version: u32,
     key: &Key,
-) -> Result<KeytabEntry, AllocError> {
+) -> Result<KeytabEntry, AllocError>
+    ensures { IfOk result (λ entry. entry ≡ entry_of realm.now name.now version key.now) }
+{
     Ok(KeytabEntry {
         realm: KerberosString::from_slice(alloc, realm)?,
         name: name.copy(alloc)?,

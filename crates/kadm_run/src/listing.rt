@@ -15,22 +15,23 @@ use text_fields::{Setting, UtcDate};
 
 /// Prints `NAME VERSION TYPES` for each principal whose name fits, in the order of the names' texts. A long line goes on
 /// with `EXPIRES PASSWORD_EXPIRES DISABLED VERSIONS SERVICE`.
-pub(crate) fn print_list<'p, T: Store, W: Write>(
+pub(crate) fn print_list<'p, T: Store, W: Write, E: Write>(
     alloc: Global,
     db: &'p str,
     like: Option<&str>,
     long: bool,
     store: &mut T,
     out: &mut W,
+    errors: &mut E,
 ) -> Result<(), Stop<'p>>
     ensures kept { T.world store.new ≡ T.world store.old }
 {
-    let database = read_database(alloc, store, db)?;
+    let database = read_database(alloc, store, errors, db)?;
     let lines = sorted_lines(alloc, &database, like, long)?;
     Ok(print_lines(&lines, out)?)
 }
 
-fn print_lines<W: Write>(lines: &[String], out: &mut W) -> io::Result<()> {
+pub(crate) fn print_lines<W: Write>(lines: &[String], out: &mut W) -> io::Result<()> {
     for line in lines {
         writeln!(out, "{line}")?;
     }
@@ -120,17 +121,18 @@ fn types_of(alloc: Global, keys: &KeyList) -> Result<String, AllocError> {
 
 /// Prints a principal's policy, a field a line as `policy` takes it, and then `version NUMBER TYPES` for each version,
 /// the current one first.
-pub(crate) fn print_row<'p, T: Store, W: Write>(
+pub(crate) fn print_row<'p, T: Store, W: Write, E: Write>(
     alloc: Global,
     store: &mut T,
     db: &'p str,
     name: &str,
     out: &mut W,
+    errors: &mut E,
 ) -> Result<(), Stop<'p>>
     ensures kept { T.world store.new ≡ T.world store.old }
 {
     let name = Name::from_text(alloc, name)?;
-    let database = read_database(alloc, store, db)?;
+    let database = read_database(alloc, store, errors, db)?;
     match database.get(&name) {
         Some(row) => print_found(alloc, row, out),
         None => Err(Stop::from(ChangeFault::Absent)),

@@ -46,6 +46,8 @@ pub(crate) enum Task<'a> {
 pub(crate) enum Print<'a> {
     /// A line for each principal, or for those whose names fit a pattern. A long line has more columns.
     List { like: Option<&'a str>, long: bool },
+    /// A line for each thing that is odd about a principal.
+    Lint,
     Show { name: &'a str },
 }
 
@@ -66,6 +68,8 @@ pub(crate) enum Work<'a> {
         how: ChangeArgs<'a>,
     },
     Keytab(KeytabOrder<'a>),
+    /// A principal is added with the keys of a keytab.
+    Import(ImportOrder<'a>),
     Migrate {
         users_are_no_services: bool,
     },
@@ -93,6 +97,13 @@ pub(crate) struct KeytabOrder<'a> {
     pub name: &'a str,
     pub out: &'a str,
     pub append: bool,
+}
+
+/// A principal that is added, and the keytab that has its keys.
+#[derive(Clone, Copy)]
+pub(crate) struct ImportOrder<'a> {
+    pub name: &'a str,
+    pub keytab: &'a str,
 }
 
 /// Where a password comes from.
@@ -162,8 +173,8 @@ A first realm:
   kadm keytab --db database --name host/www.example.com --out www.keytab
   kadm list --db database
 
-Each command prints `ok`, but `list` and `show`; `refused` and the reason, with status 1; or `failed`, with status 3,
-where a file, or memory, failed: standard error says which, and why. A faulty command line has status 2.
+Each command prints `ok`, but `list`, `lint` and `show`; `refused` and the reason, with status 1; or `failed`, with
+status 3, where a file, or memory, failed: standard error says which, and why. A faulty command line has status 2.
 
 Names are components joined by `/`. Octets but 21 to 7e, and `/`, `\\` and `@` inside a component, are written `\\` and
 two lower case hexadecimal digits.";
@@ -286,6 +297,10 @@ fn work_on<'a>(sub: &str, name: &'a str, args: &ArgMatches<'a>) -> Option<Work<'
             out: keytab_path(args)?,
             append: args.get_flag(APPEND),
         })),
+        "import" => Some(Work::Import(ImportOrder {
+            name,
+            keytab: args.get_str("keytab")?,
+        })),
         _ => Some(Work::Change {
             name,
             how: change_args(sub, args)?,
@@ -385,6 +400,7 @@ fn task_on_all<'a>(sub: &str, args: &ArgMatches<'a>) -> Option<Task<'a>> {
             like: args.get_str("like"),
             long: args.get_flag(LONG),
         })),
+        "lint" => Some(Task::Print(Print::Lint)),
         "migrate" => Some(Task::Write(Work::Migrate {
             users_are_no_services: args.get_flag(NO_SERVICES),
         })),
@@ -478,6 +494,13 @@ const OUT: OptionRow = OptionRow {
     times: Times::Once,
 };
 
+const KEYTAB: OptionRow = OptionRow {
+    name: "keytab",
+    shape: "FILE",
+    help: "The keytab that has its keys",
+    times: Times::Once,
+};
+
 const TYPES: OptionRow = OptionRow {
     name: "types",
     shape: "TYPES",
@@ -567,6 +590,12 @@ const SUBCOMMANDS: &[SubcommandRow] = &[
         flags: &[REPLACES],
     },
     SubcommandRow {
+        name: "import",
+        about: "Adds a principal with the keys that a keytab has of it, in all their versions",
+        options: &[DB, NAME, KEYTAB, TYPES],
+        flags: &[],
+    },
+    SubcommandRow {
         name: "drop",
         about: "Drops the keys of an old version, or of all old ones",
         options: &[DB, NAME, VERSION],
@@ -589,6 +618,12 @@ const SUBCOMMANDS: &[SubcommandRow] = &[
         about: "Prints a line for each principal: its name, its current version, and the types of its keys",
         options: &[DB, LIKE],
         flags: &[LONGS],
+    },
+    SubcommandRow {
+        name: "lint",
+        about: "Prints what to look at again: what has expired, older keys, no preauthentication, tickets for users",
+        options: &[DB],
+        flags: &[],
     },
     SubcommandRow {
         name: "show",

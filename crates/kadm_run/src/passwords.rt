@@ -9,12 +9,14 @@ use crate::stop::Stop;
 use file_store::{Store, ask_password, read_password};
 use krb_fields::component_to_text;
 use std::alloc::Global;
+use std::io::Write;
 
 /// Gets the password of a principal, before the database is locked: from its file, or from standard input.
-pub(crate) fn new_password<'p, T: Store>(
+pub(crate) fn new_password<'p, T: Store, E: Write>(
     alloc: Global,
     order: &Order<'p>,
     store: &mut T,
+    errors: &mut E,
     name: &str,
     args: PasswordArgs<'p>,
 ) -> Result<Vec<u8>, Stop<'p>>
@@ -23,7 +25,7 @@ pub(crate) fn new_password<'p, T: Store>(
 {
     let pass = match args.file {
         Some(path) => read_password(alloc, store, path)?,
-        None => asked_password(alloc, order, store, name)?,
+        None => asked_password(alloc, order, store, errors, name)?,
     };
     if !args.any && is_unlikely(&pass) {
         return Err(Stop::Refused(Reason::BadPassword));
@@ -40,27 +42,41 @@ fn is_unlikely(pass: &[u8]) -> bool {
 }
 
 /// Asks for the password of a principal, by its name and realm.
-fn asked_password<'p, T: Store>(
+fn asked_password<'p, T: Store, E: Write>(
     alloc: Global,
     order: &Order<'p>,
     store: &mut T,
+    errors: &mut E,
     name: &str,
 ) -> Result<Vec<u8>, Stop<'p>>
     ensures kept { T.world store.new ≡ T.world store.old }
 {
-    let realm = realm_text(alloc, order, store)?;
+    let realm = realm_text(alloc, order, store, errors)?;
+    if store.is_terminal() {
+        tell_echo(errors);
+    }
     ask_twice(alloc, store, name, &realm)
 }
 
+/// Says that a terminal shows what is typed, and how to hide it, if that can be written.
+fn tell_echo<E: Write>(errors: &mut E) {
+    let _ = writeln!(
+        errors,
+        "kadm: a terminal shows what is typed, unless `stty -echo` came before"
+    );
+    let _ = errors.flush();
+}
+
 /// The text of the realm's name.
-fn realm_text<'p, T: Store>(
+fn realm_text<'p, T: Store, E: Write>(
     alloc: Global,
     order: &Order<'p>,
     store: &mut T,
+    errors: &mut E,
 ) -> Result<String, Stop<'p>>
     ensures kept { T.world store.new ≡ T.world store.old }
 {
-    let database = read_database(alloc, store, order.db)?;
+    let database = read_database(alloc, store, errors, order.db)?;
     Ok(component_to_text(alloc, database.realm())?)
 }
 

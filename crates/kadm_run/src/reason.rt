@@ -31,10 +31,17 @@ pub(crate) enum Reason {
     CurrentKeys,
     /// A keytab would replace a database.
     IsDatabase,
+    /// A keytab would replace a lock.
+    IsLock,
     BadMagic,
     Truncated,
     BadEntry,
+    /// A keytab has no key of the principal, or one of version 0.
+    NoKeys,
 }
+
+/// The option whose word is a keytab that is read.
+pub(crate) const KEYTAB: &str = "keytab";
 
 impl Reason {
     /// The word for it on standard output.
@@ -55,9 +62,11 @@ impl Reason {
             Reason::LastVersion => "LastVersion",
             Reason::CurrentKeys => "CurrentKeys",
             Reason::IsDatabase => "IsDatabase",
+            Reason::IsLock => "IsLock",
             Reason::BadMagic => "BadMagic",
             Reason::Truncated => "Truncated",
             Reason::BadEntry => "BadEntry",
+            Reason::NoKeys => "NoKeys",
         }
     }
 
@@ -69,7 +78,7 @@ impl Reason {
             Reason::Locked => "another kadm still works on it after ten seconds",
             Reason::FileExists | Reason::Exists => "it is there already",
             Reason::NotJson => "it is no database: its text is no JSON object",
-            Reason::BadVersion => "it is no database of version 1 or 2",
+            Reason::BadVersion => "it is no database of version 1, 2 or 3",
             Reason::BadRow => "its realm, or a row, is amiss",
             Reason::NoTicketGranter => "it has no row of krbtgt/REALM",
             Reason::Mismatch => "the two passwords differ",
@@ -83,9 +92,11 @@ impl Reason {
             Reason::LastVersion => "its keys have the last version, 4294967295",
             Reason::CurrentKeys => "its keys of this version are the current ones, which stay",
             Reason::IsDatabase => "a lock stands beside it, as beside a database",
+            Reason::IsLock => "a name that ends in `.lock` is a lock's",
             Reason::BadMagic => "it is no keytab of version 2",
             Reason::Truncated => "it ends too early",
             Reason::BadEntry => "an entry is amiss, or has no room in a keytab",
+            Reason::NoKeys => "it has no key of the principal in this realm, or one of version 0",
         }
     }
 
@@ -100,7 +111,12 @@ impl Reason {
             | Reason::BadVersion
             | Reason::BadRow
             | Reason::NoTicketGranter => "db",
-            Reason::IsDatabase | Reason::BadMagic | Reason::Truncated | Reason::BadEntry => "out",
+            Reason::IsDatabase
+            | Reason::IsLock
+            | Reason::BadMagic
+            | Reason::Truncated
+            | Reason::BadEntry => "out",
+            Reason::NoKeys => KEYTAB,
             Reason::BadName
             | Reason::Mismatch
             | Reason::BadPassword

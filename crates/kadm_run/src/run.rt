@@ -5,7 +5,9 @@ ghost use Rattle.kadm_run.specs.Worlds.{Did, DidSome};
 
 use crate::changes::{change, make_realm, migrate};
 use crate::granting::{grant_password, grant_random};
+use crate::importing::import;
 use crate::keytabs::write_keytab;
+use crate::linting::print_lint;
 use crate::listing::{print_list, print_row};
 use crate::order::{Order, OrderFault, Print, Task, Work, read_args, read_order};
 use crate::stop::{Stop, report};
@@ -150,7 +152,7 @@ fn run_order<'a, T: Store, W: Write, E: Write>(
     ensures stopped { IfErr result (λ stop. IsStopped stop (T.world store.old) (T.world store.new)) }
 {
     match order.task {
-        Task::Print(print) => run_print(alloc, order, print, store, out),
+        Task::Print(print) => run_print(alloc, order.db, print, store, out, errors),
         Task::Write(work) => {
             run_work(alloc, order, work, store, errors)?;
             writeln!(out, "ok")?;
@@ -160,18 +162,20 @@ fn run_order<'a, T: Store, W: Write, E: Write>(
 }
 
 /// Prints what the database holds.
-fn run_print<'a, T: Store, W: Write>(
+fn run_print<'a, T: Store, W: Write, E: Write>(
     alloc: Global,
-    order: &Order<'a>,
+    db: &'a str,
     print: Print<'a>,
     store: &mut T,
     out: &mut W,
+    errors: &mut E,
 ) -> Result<(), Stop<'a>>
     ensures kept { T.world store.new ≡ T.world store.old }
 {
     match print {
-        Print::List { like, long } => print_list(alloc, order.db, like, long, store, out),
-        Print::Show { name } => print_row(alloc, store, order.db, name, out),
+        Print::List { like, long } => print_list(alloc, db, like, long, store, out, errors),
+        Print::Lint => print_lint(alloc, db, store, out, errors),
+        Print::Show { name } => print_row(alloc, store, db, name, out, errors),
     }
 }
 
@@ -192,6 +196,7 @@ fn run_work<'a, T: Store, E: Write>(
         Work::Random(to) => grant_random(alloc, order, store, errors, to),
         Work::Change { name, how } => change(alloc, order, store, errors, name, how),
         Work::Keytab(to) => write_keytab(alloc, order, store, errors, to),
+        Work::Import(to) => import(alloc, order, store, errors, to),
         Work::Migrate {
             users_are_no_services,
         } => migrate(alloc, order, store, errors, users_are_no_services),

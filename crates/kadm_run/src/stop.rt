@@ -2,12 +2,13 @@
 ghost use Rattle.std.specs.Prelude.{◌≡◌, IfOk};
 ghost use Rattle.kadm_run.specs.Ends.{IsFailed, IsStatusOf};
 
-use crate::reason::Reason;
+use crate::reason::{KEYTAB, Reason};
 use crate::run::{FAILED, REFUSED, USAGE};
 use clap::ArgMatches;
 use clap::error::Error;
 use file_store::{Amiss, FileFault};
 use krb_fields::NameFault;
+use principal_rows::KeyListFault;
 use principals::{ChangeFault, FirstFault, ReadFault};
 use std::alloc::{AllocError, AllocFailed};
 use std::io;
@@ -120,6 +121,16 @@ impl From<cred_files::FileFault> for Stop<'_> {
     }
 }
 
+/// Of the keys that a keytab has of a principal.
+impl From<KeyListFault> for Stop<'_> {
+    fn from(fault: KeyListFault) -> Self {
+        match fault {
+            KeyListFault::Empty | KeyListFault::Doubled => Stop::Refused(Reason::NoKeys),
+            KeyListFault::Memory => Stop::from(AllocError),
+        }
+    }
+}
+
 impl<'p> From<FileFault<'p>> for Stop<'p> {
     fn from(fault: FileFault<'p>) -> Stop<'p> {
         Stop::File(fault)
@@ -160,13 +171,13 @@ pub(crate) fn report<W: Write, E: Write>(
     }
 }
 
-/// The word of an option, if it is not empty.
+/// The word of an option, if it is not empty; where the subcommand has no such option, that of the keytab which it reads.
 fn word_of<'a>(matches: &Result<ArgMatches<'a>, Error>, option: &str) -> Option<&'a str> {
     let Ok(matches) = matches else {
         return None;
     };
     let (_, args) = matches.subcommand()?;
-    let word = args.get_str(option)?;
+    let word = args.get_str(option).or(args.get_str(KEYTAB))?;
     if word.is_empty() { None } else { Some(word) }
 }
 

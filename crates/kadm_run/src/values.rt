@@ -1,7 +1,7 @@
 //! The values of a policy's fields, as an administrator writes them.
-ghost use Rattle.std.specs.Prelude.{◌≡◌, ◌++◌, IfSome, pos};
+ghost use Rattle.std.specs.Prelude.{◌≡◌, ◌≤ℤ◌, ◌<ℤ◌, ◌++◌, IfSome, IsFalse, IsTrue, pos};
 ghost use Rattle.kadm_run.specs.Spans.{IsSpanText, unit_mark, unit_seconds};
-ghost use Rattle.kadm_run.specs.Granting.{IsLifeOf, IsTimeFrom, IsValueOf};
+ghost use Rattle.kadm_run.specs.Granting.{IsFixedValue, IsLifeOf, IsTimeFrom};
 
 use krb_fields::Second;
 use text_fields::{Setting, number_u32};
@@ -55,7 +55,7 @@ pub(crate) fn is_setting(field: &str, value: &str) -> bool {
 
 /// Reads a field with its value, which is not a time from now.
 pub(crate) fn setting_of(field: &str, value: &str) -> Option<Setting>
-    ensures { IfSome result (λ setting. IsValueOf setting field.now value.now) }
+    ensures { IfSome result (λ setting. IsFixedValue setting field.now value.now) }
 {
     if let Some(setting) = Setting::of(field, value) {
         return Some(setting);
@@ -94,6 +94,17 @@ pub(crate) fn second_of(seconds: u64) -> Option<Second>
     ensures { IfSome result (λ second. second ≡ pos seconds) }
 {
     Second::new(i64::try_from(seconds).ok()?)
+}
+
+/// Checks whether a second is past, or is this one.
+pub(crate) fn is_past(expires: Second, now: u64) -> bool
+    ensures past { IsTrue result → expires ≤ℤ pos now }
+    ensures lasting { IsFalse result → pos now <ℤ expires }
+{
+    match u64::try_from(expires.get()) {
+        Ok(expires) => expires <= now,
+        Err(_) => true,
+    }
 }
 
 /// Reads a time span, in seconds: a decimal number with a unit behind it, which is `s`, `m`, `h` or `d`.

@@ -82,6 +82,14 @@ const REFUSALS: &[Step] = &[
     Put("empty", b"{}"),
     Put("rows", b"{\"version\":2}"),
     Put(
+        "row",
+        b"{\"principals\":{\"krbtgt/A.B\":{\"disabled\":false}},\"realm\":\"A.B\",\"version\":3}",
+    ),
+    Put(
+        "named",
+        b"{\"principals\":{\"a@b\":{}},\"realm\":\"A.B\",\"version\":3}",
+    ),
+    Put(
         "bare",
         b"{\"principals\":{},\"realm\":\"A.B\",\"version\":2}",
     ),
@@ -181,17 +189,39 @@ const REFUSALS: &[Step] = &[
     Refuses(
         "kadm list --db pass",
         "refused NotJson\n",
-        "kadm: pass: it is no database: its text is no JSON object\n",
+        "\
+kadm: pass: invalid JSON at line 1 column 1
+kadm: pass: it is no database: its text is no JSON object
+",
     ),
     Refuses(
         "kadm list --db empty",
         "refused BadVersion\n",
-        "kadm: empty: it is no database of version 1 or 2\n",
+        "kadm: empty: it is no database of version 1, 2 or 3\n",
     ),
     Refuses(
         "kadm migrate --db rows",
         "refused BadRow\n",
-        "kadm: rows: its realm, or a row, is amiss\n",
+        "\
+kadm: rows: its members are not principals, realm and version
+kadm: rows: its realm, or a row, is amiss
+",
+    ),
+    Refuses(
+        "kadm show --db row --name u",
+        "refused BadRow\n",
+        "\
+kadm: row: principal \"krbtgt/A.B\": expires
+kadm: row: its realm, or a row, is amiss
+",
+    ),
+    Refuses(
+        "kadm lint --db named",
+        "refused BadRow\n",
+        "\
+kadm: named: principal \"a@b\": its name
+kadm: named: its realm, or a row, is amiss
+",
     ),
     Refuses(
         "kadm list --db bare",
@@ -202,6 +232,21 @@ const REFUSALS: &[Step] = &[
         "kadm keytab --db db --name krbtgt/A.B --out last",
         "refused IsDatabase\n",
         "kadm: last: a lock stands beside it, as beside a database\n",
+    ),
+    Refuses(
+        "kadm keytab --db db --name krbtgt/A.B --out db.lock",
+        "refused IsLock\n",
+        "kadm: db.lock: a name that ends in `.lock` is a lock's\n",
+    ),
+    Refuses(
+        "kadm keytab --db db --name krbtgt/A.B --out before",
+        "refused BadMagic\n",
+        "kadm: before: it is no keytab of version 2\n",
+    ),
+    Refuses(
+        "kadm keytab --db db --name krbtgt/A.B --out seed",
+        "refused BadMagic\n",
+        "kadm: seed: it is no keytab of version 2\n",
     ),
     Refuses(
         "kadm keytab --db db --name krbtgt/A.B --out pass --append",
@@ -223,7 +268,10 @@ const REFUSALS: &[Step] = &[
     Refuses(
         "kadm add --db db --name u",
         "refused Mismatch\n",
-        "kadm: u: the two passwords differ\n",
+        "\
+kadm: a terminal shows what is typed, unless `stty -echo` came before
+kadm: u: the two passwords differ
+",
     ),
     Keep,
     Refuses(
@@ -445,9 +493,10 @@ const FAILURES: &[Step] = &[
     ),
     FailsAtEach("kadm remove --db db --name h", 3),
     FailsAtEach("kadm list --db db", 1),
+    FailsAtEach("kadm lint --db db", 2),
     FailsAtEach("kadm show --db db --name h", 1),
-    FailsAtEach("kadm keytab --db db --name h --out kt", 4),
-    FailsAtEach("kadm keytab --db db --name h --out old --append", 6),
+    FailsAtEach("kadm keytab --db db --name h --out kt", 5),
+    FailsAtEach("kadm keytab --db db --name h --out old --append", 7),
     FailsAtEach("kadm migrate --db db", 3),
     Holds("old", b"\x05\x02"),
     Absent("kt"),

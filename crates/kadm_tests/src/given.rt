@@ -1,7 +1,7 @@
 //! What commands take where no file is named, and the lock between two commands.
 use crate::commands::INIT;
 use crate::steps::Step::{
-    Absent, Asked, Copy, Draw, Input, Keep, Leaves, Letters, Run, Same, Says,
+    Absent, Asked, Copy, Draw, Input, Keep, Leaves, Letters, Run, Same, Says, Tells,
 };
 use crate::steps::{Step, run};
 use kadm_run::{DONE, FAILED, REFUSED};
@@ -75,6 +75,12 @@ const TERMINALS: &[Step] = &[
     Run(ADD, "ok\n", DONE),
     Same("db", "wanted"),
     Asked("Password for u@A.B: Password for u@A.B: "),
+    Copy("before", "db"),
+    Input(b"password\npassword\n", true),
+    Tells(
+        ADD,
+        "kadm: a terminal shows what is typed, unless `stty -echo` came before\n",
+    ),
     Copy("before", "db"),
     Input(b"password\npasswort\n", true),
     Leaves(ADD, "refused Mismatch\n", REFUSED),

@@ -344,6 +344,68 @@ fn a_list_is_of_the_names_that_fit(rt: HostRuntime) -> io::Result<()> {
     run(&rt, rt.alloc(), LISTS)
 }
 
+/// What has expired by the clock, older keys, and a client that gets tickets without preauthentication.
+const ODD: &[Step] = &[
+    Run(INIT, "ok\n", DONE),
+    Clock(1_798_761_600),
+    Run("kadm lint --db db", "", DONE),
+    Run(RANDOM, "ok\n", DONE),
+    Run(RANDOM, "ok\n", DONE),
+    Run(
+        "kadm add --db db --name u --password-file pass --types 18",
+        "ok\n",
+        DONE,
+    ),
+    Run(
+        "kadm policy --db db --name u --field preauth --value false",
+        "ok\n",
+        DONE,
+    ),
+    Run(
+        "kadm policy --db db --name u --field expires --value 2027-01-01",
+        "ok\n",
+        DONE,
+    ),
+    Run(
+        "kadm policy --db db --name u --field password_expires --value 1s",
+        "ok\n",
+        DONE,
+    ),
+    Run(
+        "kadm lint --db db",
+        "\
+h may_be_service
+h older_versions 1
+u expired 2027-01-01T00:00:00Z
+u no_preauth
+",
+        DONE,
+    ),
+    Clock(1_798_761_601),
+    Run(RANDOM, "ok\n", DONE),
+    Run(
+        "kadm lint --db db",
+        "\
+h may_be_service
+h older_versions 2
+u expired 2027-01-01T00:00:00Z
+u no_preauth
+u password_expired 2027-01-01T00:00:01Z
+",
+        DONE,
+    ),
+    Run("kadm drop --db db --name h --older", "ok\n", DONE),
+    Run("kadm remove --db db --name u", "ok\n", DONE),
+    Run("kadm lint --db db", "h may_be_service\n", DONE),
+    Run("kadm migrate --db db --users-are-no-services", "ok\n", DONE),
+    Run("kadm lint --db db", "", DONE),
+];
+
+#[test]
+fn what_is_odd_about_a_principal_is_listed(rt: HostRuntime) -> io::Result<()> {
+    run(&rt, rt.alloc(), ODD)
+}
+
 /// A lock that another command has for so long, in tenths of a second.
 const WAITS: &[Step] = &[
     KeepFor(10),

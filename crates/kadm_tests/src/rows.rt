@@ -1,6 +1,8 @@
 //! What a row shows: policies by seconds and by dates, types of keys, and keytabs with older keys.
 use crate::commands::INIT;
-use crate::steps::Step::{Contains, Holds, NamesFields, Put, Run};
+use crate::steps::Step::{
+    Contains, Copy, FailsAtEach, Holds, NamesFields, Put, Refuses, Run, Same,
+};
 use crate::steps::{Step, file_after, run};
 use cred_files::Keytab;
 use enctypes::Etype;
@@ -235,6 +237,32 @@ const DATABASES: &[Step] = &[
         REFUSED,
     ),
     Holds("other", b"{}"),
+    // a copy of a database, and locks, also of no database
+    Copy("db", "copy"),
+    Run(
+        "kadm keytab --db db --name u --out copy",
+        "refused BadMagic\n",
+        REFUSED,
+    ),
+    Same("copy", "db"),
+    Run(
+        "kadm keytab --db db --name u --out other.lock",
+        "refused IsLock\n",
+        REFUSED,
+    ),
+    Holds("other.lock", b""),
+    Run(
+        "kadm keytab --db db --name u --out .lock --append",
+        "refused IsLock\n",
+        REFUSED,
+    ),
+    // an empty file is replaced, and so is a keytab
+    Put("kt", b""),
+    Run("kadm keytab --db db --name u --out kt", "ok\n", DONE),
+    Run("kadm keytab --db db --name u --out locks", "ok\n", DONE),
+    Same("kt", "locks"),
+    Run("kadm keytab --db db --name u --out kt", "ok\n", DONE),
+    Same("kt", "locks"),
 ];
 
 #[test]
@@ -245,4 +273,57 @@ fn a_database_is_not_replaced_by_a_keytab(rt: HostRuntime) -> io::Result<()> {
 #[test]
 fn what_is_no_keytab_is_left(rt: HostRuntime) -> io::Result<()> {
     run(&rt, rt.alloc(), NO_KEYTABS)
+}
+
+/// A principal comes back out of a keytab with its keys in both versions, so that the database is the same, octet by
+/// octet.
+const IMPORTED: &[Step] = &[
+    Run(INIT, "ok\n", DONE),
+    Run("kadm random --db db --name h --seed seed", "ok\n", DONE),
+    Run("kadm keytab --db db --name h --out kt", "ok\n", DONE),
+    Run("kadm random --db db --name h", "ok\n", DONE),
+    Run(
+        "kadm keytab --db db --name h --out kt --append",
+        "ok\n",
+        DONE,
+    ),
+    Copy("db", "both"),
+    Run("kadm remove --db db --name h", "ok\n", DONE),
+    Copy("db", "before"),
+    Put("other", OTHER_TYPE),
+    Refuses(
+        "kadm import --db db --name x --keytab kt",
+        "refused NoKeys\n",
+        "kadm: kt: it has no key of the principal in this realm, or one of version 0\n",
+    ),
+    Refuses(
+        "kadm import --db db --name h --keytab other",
+        "refused NoKeys\n",
+        "kadm: other: it has no key of the principal in this realm, or one of version 0\n",
+    ),
+    Refuses(
+        "kadm import --db db --name krbtgt/A.B --keytab pass",
+        "refused BadMagic\n",
+        "kadm: pass: it is no keytab of version 2\n",
+    ),
+    FailsAtEach("kadm import --db db --name h --keytab kt", 4),
+    Run("kadm import --db db --name h --keytab kt", "ok\n", DONE),
+    Same("db", "both"),
+    Run(
+        "kadm import --db db --name h --keytab kt",
+        "refused Exists\n",
+        REFUSED,
+    ),
+    Run("kadm remove --db db --name h", "ok\n", DONE),
+    Run(
+        "kadm import --db db --name h --keytab kt --types 20",
+        "ok\n",
+        DONE,
+    ),
+    Run("kadm list --db db --like h", "h 2 20\n", DONE),
+];
+
+#[test]
+fn a_principal_is_imported_with_its_keys(rt: HostRuntime) -> io::Result<()> {
+    run(&rt, rt.alloc(), IMPORTED)
 }

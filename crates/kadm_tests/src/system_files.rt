@@ -50,6 +50,28 @@ fn a_file_that_is_updated_keeps_its_rights(rt: HostRuntime) -> Result<(), Fail> 
     Ok(())
 }
 
+const BEGUN: &str = "tested.begun";
+
+/// The first octets of a file that is absent, one that is empty, and one that has three.
+fn first_octets(rt: &HostRuntime) -> io::Result<[Option<u8>; 3]> {
+    let mut store = FileStore::new(rt);
+    let absent = store.first_octet(rt.alloc(), BEGUN)?;
+    store.write(rt.alloc(), BEGUN, b"")?;
+    let empty = store.first_octet(rt.alloc(), BEGUN)?;
+    store.write(rt.alloc(), BEGUN, b"\x05\x02\x00")?;
+    Ok([absent, empty, store.first_octet(rt.alloc(), BEGUN)?])
+}
+
+#[test]
+fn the_first_octet_is_that_of_a_file(rt: HostRuntime) -> Result<(), Fail> {
+    let octets = first_octets(&rt)?;
+    fs::remove_file(&rt, BEGUN)?;
+    assert!(rt; octets == [None, None, Some(5)]);
+    let mut store = FileStore::new(&rt);
+    assert!(rt; store.first_octet(rt.alloc(), "/dev/null").is_err());
+    Ok(())
+}
+
 #[test]
 fn a_device_is_not_replaced(rt: HostRuntime) -> Result<(), Fail> {
     let mut store = FileStore::new(&rt);

@@ -1,7 +1,7 @@
 //! The client's tool: `kclient kinit ..`, `kclient kvno ..` and `kclient klist ..`, as `kclient --help` lists them.
 #![tactic(auto)]
 
-use client_login::{KdcClient, Kdcs};
+use client_login::{KdcClient, Kdcs, Transports};
 use client_sockets::{SocketExchange, now};
 use file_store::FileStore;
 use kclient_run::{Context, Defaults, FAILED, USAGE, Variable, kclient_run};
@@ -63,11 +63,13 @@ fn run(rt: &HostRuntime) -> Result<u8, Fault> {
         cache: variable(&cache)?,
         config: variable(&config)?,
     };
-    let kdcs = Kdcs::new(SocketExchange::new(rt), Vec::new(alloc), false);
+    let exchange = SocketExchange::new(rt);
+    let kdcs = Kdcs::new(exchange, Vec::new(alloc), Transports::UdpFirst);
     let mut context = Context {
         alloc,
         store: FileStore::new(rt),
         client: KdcClient { kdcs, at },
+        ahead: None,
     };
     Ok(kclient_run(
         &mut context,

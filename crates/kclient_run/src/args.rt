@@ -1,5 +1,6 @@
 //! What the words of a command line say.
 use crate::file_names::{NameOf, path_in};
+use crate::options::asks_for_first;
 use clap::ArgMatches;
 use client_login::{Again, Wishes};
 use text_fields::number_u32;
@@ -13,6 +14,7 @@ pub(crate) enum Task<'a> {
     Again(AgainArgs<'a>),
     Kvno(KvnoArgs<'a>),
     Klist(KlistArgs<'a>),
+    Kdestroy,
 }
 
 /// The words of a first ticket.
@@ -64,21 +66,9 @@ pub(crate) struct KvnoArgs<'a> {
 pub(crate) struct KlistArgs<'a> {
     /// The path of the keytab; absent: a cache is listed.
     pub keytab: Option<&'a str>,
+    /// Whether nothing is printed, and the status alone says whether the cache has a good ticket.
+    pub silent: bool,
 }
-
-/// What is said of a first ticket alone: options with a value, and those that have none.
-const FIRST_ALONE: &[&str] = &[
-    "realm",
-    "name",
-    "password-file",
-    "keytab",
-    "service",
-    "life",
-    "start",
-    "least-count",
-];
-
-const FIRST_FLAGS: &[&str] = &["renewable", "forwardable", "proxiable"];
 
 // What stands behind `error:` where options don't go together, or a value is none.
 
@@ -91,6 +81,8 @@ const NO_START: &str =
 const TWO_REALMS: &str = "--realm and a realm behind the name of --name don't go together";
 
 const NO_COUNT: &str = "--least-count takes a number, 0 to 4294967295";
+
+const SILENT_KEYTAB: &str = "-s and --keytab don't go together";
 
 const NO_NAME: &str = "--name is missing";
 
@@ -110,10 +102,18 @@ pub(crate) fn task_of<'a>(command: &str, args: &ArgMatches<'a>) -> Result<Task<'
             seed: args.get_str("seed"),
             fresh: args.get_flag("fresh"),
         })),
-        _ => Ok(Task::Klist(KlistArgs {
-            keytab: keytab_path(args)?,
-        })),
+        "kdestroy" => Ok(Task::Kdestroy),
+        _ => Ok(Task::Klist(klist_args(args)?)),
     }
+}
+
+fn klist_args<'a>(args: &ArgMatches<'a>) -> Result<KlistArgs<'a>, &'static str> {
+    let keytab = keytab_path(args)?;
+    let silent = args.get_flag("s");
+    if silent && keytab.is_some() {
+        return Err(SILENT_KEYTAB);
+    }
+    Ok(KlistArgs { keytab, silent })
 }
 
 /// The path of a keytab, which may be absent; else what is wrong with its name.
@@ -146,21 +146,6 @@ fn again(args: &ArgMatches<'_>) -> Result<Option<Again>, &'static str> {
         return Err(AGAIN);
     }
     Ok(Some(again))
-}
-
-/// Whether an option stands there that says what a first ticket is to be.
-fn asks_for_first(args: &ArgMatches<'_>) -> bool {
-    for name in FIRST_ALONE {
-        if args.get_str(name).is_some() {
-            return true;
-        }
-    }
-    for name in FIRST_FLAGS {
-        if args.get_flag(name) {
-            return true;
-        }
-    }
-    false
 }
 
 fn first_args<'a>(args: &ArgMatches<'a>) -> Result<FirstArgs<'a>, &'static str> {

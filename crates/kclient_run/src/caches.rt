@@ -4,10 +4,11 @@ ghost use Rattle.cred_files.specs.Cache.{put_first};
 ghost use Rattle.kclient_run.specs.Caches.{new_cache};
 
 use crate::faults::{Place, Reason, Stop};
-use crate::files::of;
+use crate::files::{check_ours, of};
+use crate::guarding::{CacheStore, Standing};
 use client_login::granting_service;
 use cred_files::{Cache, Credential};
-use file_store::{Store, read_file, write_file};
+use file_store::{read_file, write_file};
 use std::alloc::Global;
 
 /// Makes a new cache of the credential's client, with the credential.
@@ -37,7 +38,7 @@ pub(crate) fn put(alloc: Global, cache: &mut Cache, credential: &Credential) -> 
 }
 
 /// Writes a new cache of the credential's client, with the credential.
-pub(crate) fn write_new_cache<T: Store>(
+pub(crate) fn write_new_cache<T: CacheStore>(
     alloc: Global,
     store: &mut T,
     path: &str,
@@ -47,11 +48,12 @@ pub(crate) fn write_new_cache<T: Store>(
     write_cache(alloc, store, path, &cache)
 }
 
-pub(crate) fn read_cache<T: Store>(
+pub(crate) fn read_cache<T: CacheStore>(
     alloc: Global,
     store: &mut T,
     path: &str,
 ) -> Result<Cache, Stop> {
+    check_ours(store.standing(path))?;
     let octets = of(read_file(alloc, store, path), Place::Cache)?;
     match Cache::read(alloc, &octets) {
         Ok(cache) => Ok(cache),
@@ -59,7 +61,7 @@ pub(crate) fn read_cache<T: Store>(
     }
 }
 
-pub(crate) fn write_cache<T: Store>(
+pub(crate) fn write_cache<T: CacheStore>(
     alloc: Global,
     store: &mut T,
     path: &str,
@@ -75,5 +77,18 @@ pub(crate) fn granting_ticket(alloc: Global, cache: &Cache) -> Result<&Credentia
     match cache.find(&service) {
         Ok(granting) => Ok(granting),
         Err(_) => Err(Stop::Refused(Reason::Absent, Place::Cache)),
+    }
+}
+
+/// Removes a cache of the user's own.
+pub(crate) fn remove_cache<T: CacheStore>(store: &mut T, path: &str) -> Result<(), Stop> {
+    let found = store.standing(path);
+    if matches!(&found, Ok(Standing::Free)) {
+        return Err(Stop::Refused(Reason::NoCache, Place::Cache));
+    }
+    check_ours(found)?;
+    match store.remove(path) {
+        Ok(()) => Ok(()),
+        Err(error) => Err(Stop::Failed(error, Place::Cache)),
     }
 }

@@ -57,7 +57,7 @@ const CODES: &[(i32, &str)] = &[
     ),
     (
         37,
-        "the clocks of the client and of the KDC differ by more than 300 seconds, or the KDC has just started",
+        "the KDC was just started, and takes no request for five minutes: try again then; or the clocks differ by more than 300 seconds",
     ),
     (38, "the ticket is for other network addresses"),
     (39, "the versions of the protocol differ"),

@@ -30,12 +30,12 @@ const CACHE_NOT_UTF8: &str = "KRB5CCNAME is not UTF-8: --cache takes a file";
 const CONFIG_NOT_UTF8: &str = "KRB5_CONFIG, which names the krb5.conf to be read, is not UTF-8";
 
 impl<'a> Defaults<'a> {
-    /// The path of the cache; else what is wrong with its name.
-    pub(crate) fn cache_path(&self) -> Result<&'a str, &'static str> {
+    /// The path of the cache, if it is named; else what is wrong with its name.
+    pub(crate) fn cache_path(&self) -> Option<Result<&'a str, &'static str>> {
         match self.cache {
-            Variable::Absent => Err(NameOf::CacheVariable.no_path()),
-            Variable::NotUtf8 => Err(CACHE_NOT_UTF8),
-            Variable::Text(name) => path_in(name, NameOf::CacheVariable),
+            Variable::Absent => None,
+            Variable::NotUtf8 => Some(Err(CACHE_NOT_UTF8)),
+            Variable::Text(name) => Some(path_in(name, NameOf::CacheVariable)),
         }
     }
 

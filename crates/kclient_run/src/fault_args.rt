@@ -25,11 +25,6 @@ pub(crate) enum Subject<'a> {
         option: &'static str,
         word: Option<&'a str>,
     },
-    /// A `kdc` of the `krb5.conf` of this path.
-    KdcLine {
-        path: &'a str,
-        value: &'a str,
-    },
 }
 
 /// What a fault is of where memory ran out.
@@ -45,7 +40,6 @@ impl fmt::Display for Subject<'_> {
                 word: Some(word),
             } if !word.is_empty() => write!(f, "{option} {word}"),
             Subject::Word { option, .. } => f.write_str(option),
-            Subject::KdcLine { path, value } => write!(f, "{path}: kdc = {value}"),
         }
     }
 }

@@ -1,12 +1,13 @@
 //! Why a command ends before it is done.
-use client_core::Mismatch;
+use client_core::{Mismatch, ServerError};
 use client_login::{LoginFault, Why};
 use cred_files::FileFault;
-use krb_fields::NameFault;
+use krb_fields::{NameFault, Second};
 use std::alloc::{AllocError, AllocFailed};
-use std::io;
 use std::io::ErrorKind;
 use std::net::SocketAddr;
+use std::{fmt, io};
+use text_fields::UtcDate;
 
 /// Of what a fault is: a word of the command line, a file, the KDC, or the memory of the program.
 #[derive(Clone, Copy, PartialEq, Eq)]
@@ -37,8 +38,12 @@ pub(crate) enum Reason {
     BadEntry,
     TooLate,
     Absent,
-    /// The cache's ticket-granting ticket has ended.
-    Ended,
+    /// The cache's ticket-granting ticket ended, at this second since 1970.
+    Ended(i64),
+    /// No cache is there.
+    NoCache,
+    /// The cache belongs to another user, or others may write it.
+    NotOurs,
     /// It is not renewable.
     NotRenewable,
     NotAReply,
@@ -59,7 +64,7 @@ pub(crate) enum Reason {
     BadRealm,
     /// A `krb5.conf` has no KDC of the realm.
     NoKdc,
-    /// What stands for a KDC in a `krb5.conf` is no address.
+    /// Of no host that a `krb5.conf` names as a KDC an address is known.
     NotAnAddress,
     /// It is no keytab.
     NoKeytab,
@@ -79,8 +84,8 @@ pub(crate) enum Reason {
 #[derive(Clone, Copy)]
 pub(crate) enum Stop {
     Refused(Reason, Place),
-    /// By the KDC, with the code of its KRB-ERROR.
-    Error(i32, Place),
+    /// By the KDC, with the error of its KRB-ERROR.
+    Error(ServerError, Place),
     Failed(io::Error, Place),
 }
 
@@ -106,7 +111,9 @@ impl Reason {
             Reason::BadEntry => "BadEntry",
             Reason::TooLate => "TooLate",
             Reason::Absent => "Absent",
-            Reason::Ended => "Ended",
+            Reason::Ended(_) => "Ended",
+            Reason::NoCache => "Absent",
+            Reason::NotOurs => "NotOurs",
             Reason::NotRenewable => "NotRenewable",
             Reason::NotAReply => "NotAReply",
             Reason::Mismatch(_) => "Mismatch",
@@ -128,8 +135,8 @@ impl Reason {
         }
     }
 
-    /// What it means, for standard error.
-    pub(crate) fn text(self) -> &'static str {
+    /// What it means.
+    fn text(self) -> &'static str {
         match self {
             Reason::BadName => "no name is written so",
             Reason::LongFile => "the file has more than 16777216 octets",
@@ -140,7 +147,10 @@ impl Reason {
             Reason::BadEntry => "the credential has no room in a cache",
             Reason::TooLate => "a cache has no room for a time after the year 2106",
             Reason::Absent => "no usable ticket-granting ticket of the realm is there: run kinit",
-            Reason::Ended => "the ticket-granting ticket has ended: run kinit",
+            Reason::Ended(_) => "the ticket-granting ticket has ended: run kinit",
+            Reason::NoCache => "no cache is there",
+            Reason::NotOurs =>
+                "the cache belongs to another user, or other users may write it: name a cache of your own, or chmod go-w",
             Reason::NotRenewable => "the ticket is not renewable: use kinit --renewable",
             Reason::NotAReply => "what came back is no reply of a KDC",
             Reason::Mismatch(what) => mismatch_text(what),
@@ -164,10 +174,31 @@ impl Reason {
                 "its key does not open the ticket: it is another of the same version",
             Reason::NoRealm => "it has no default_realm in [libdefaults]; --realm names one",
             Reason::BadRealm => "its default_realm has not 1 to 255 octets; --realm names one",
-            Reason::NoKdc => "it has no kdc of the realm in [realms]; --kdc takes its address",
-            Reason::NotAnAddress =>
-                "it is no address, and no name is looked up; --kdc takes its address",
+            Reason::NoKdc => "the realm has no kdc there; --kdc takes its address",
+            Reason::NotAnAddress => "no address is known; --kdc takes one",
         }
+    }
+}
+
+/// What it means, for standard error.
+impl fmt::Display for Reason {
+    fn fmt<W: fmt::Write>(&self, f: &mut fmt::Formatter<W>) -> fmt::Result {
+        match self {
+            Reason::Ended(end) => write_end(f, *end),
+            reason => f.write_str(reason.text()),
+        }
+    }
+}
+
+/// Says when a ticket-granting ticket ended, where the second is one from 1970 on.
+fn write_end<W: fmt::Write>(f: &mut fmt::Formatter<W>, end: i64) -> fmt::Result {
+    match Second::new(end) {
+        Some(end) => write!(
+            f,
+            "the ticket-granting ticket ended at {}: run kinit",
+            UtcDate(end)
+        ),
+        None => f.write_str(Reason::Ended(end).text()),
     }
 }
 
@@ -228,7 +259,7 @@ impl From<LoginFault> for Stop {
 /// What a KDC replied that ends a command.
 fn of_reply(why: Why, kdc: Place) -> Stop {
     let reason = match why {
-        Why::Refused(code) => return Stop::Error(code, kdc),
+        Why::Refused(error) => return Stop::Error(error, kdc),
         Why::Mismatch(what) => Reason::Mismatch(what),
         Why::CannotOpen => Reason::CannotOpen,
         Why::SessionCannotOpen => Reason::SessionCannotOpen,

@@ -16,8 +16,7 @@ impl NameOf {
     pub(crate) fn no_path(self) -> &'static str {
         match self {
             NameOf::Cache => "--cache takes a file: no path stands behind FILE:",
-            NameOf::CacheVariable =>
-                "--cache has to stand there, or the environment variable KRB5CCNAME name a file",
+            NameOf::CacheVariable => "KRB5CCNAME names no file: no path stands behind FILE:",
             NameOf::Keytab => "--keytab takes a file: no path stands behind FILE:",
         }
     }

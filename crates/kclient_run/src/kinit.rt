@@ -4,10 +4,11 @@ use crate::caches::write_new_cache;
 use crate::context::Context;
 use crate::faults::{Place, Stop, of_name};
 use crate::files::{of, read_keytab};
+use crate::guarding::CacheStore;
 use crate::places::Places;
-use client_login::{AnyMessage, Login, Password, Secret, granting_service};
+use client_login::{AnyMessage, Login, LoginFault, Password, Secret, granting_service};
 use cred_files::{Credential, Principal};
-use file_store::{Store, ask_password, read_or_draw_seed, read_password};
+use file_store::{ask_password, read_or_draw_seed, read_password};
 use krb_elements::{KerberosString, Octets};
 use krb_fields::{Name, component_from_text};
 use rand_chacha::ChaCha20Rng;
@@ -15,7 +16,7 @@ use rand_core::SeedableRng;
 use std::alloc::Global;
 
 /// Gets a first ticket, and writes a cache of it.
-pub(crate) fn log_in<T: Store, X: AnyMessage>(
+pub(crate) fn log_in<T: CacheStore, X: AnyMessage>(
     context: &mut Context<T, X>,
     places: &Places,
     args: &FirstArgs<'_>,
@@ -30,7 +31,7 @@ pub(crate) fn log_in<T: Store, X: AnyMessage>(
     )
 }
 
-fn ticket_of<T: Store, X: AnyMessage>(
+fn ticket_of<T: CacheStore, X: AnyMessage>(
     context: &mut Context<T, X>,
     places: &Places,
     args: &FirstArgs<'_>,
@@ -39,14 +40,36 @@ fn ticket_of<T: Store, X: AnyMessage>(
     let alloc = context.alloc;
     let secret = read_secret(alloc, &mut context.store, places, args)?;
     let mut rng = generator(alloc, &mut context.store, args.seed)?;
-    match context.client.log_in(alloc, &mut rng, login, &secret) {
+    ask_by_clock(context, &mut rng, login, &secret)
+}
+
+/// Asks once more if the KDC's clock is taken.
+fn ask_by_clock<T, X: AnyMessage>(
+    context: &mut Context<T, X>,
+    rng: &mut ChaCha20Rng,
+    login: &Login,
+    secret: &Secret,
+) -> Result<Credential, Stop> {
+    match ask(context, rng, login, secret) {
         Ok(credential) => Ok(credential),
-        Err(fault) => Err(Stop::from(fault)),
+        Err(fault) => {
+            context.take_clock(fault)?;
+            Ok(ask(context, rng, login, secret)?)
+        }
     }
 }
 
+fn ask<T, X: AnyMessage>(
+    context: &mut Context<T, X>,
+    rng: &mut ChaCha20Rng,
+    login: &Login,
+    secret: &Secret,
+) -> Result<Credential, LoginFault> {
+    context.client.log_in(context.alloc, rng, login, secret)
+}
+
 /// The generator of what a command draws: ChaCha20 under the seed of a file, or under the system's random octets.
-pub(crate) fn generator<T: Store>(
+pub(crate) fn generator<T: CacheStore>(
     alloc: Global,
     store: &mut T,
     seed: Option<&str>,
@@ -106,7 +129,7 @@ fn read_service(alloc: Global, text: Option<&str>, realm: &KerberosString) -> Re
 }
 
 /// What a file has of the client's key, or a password from standard input.
-fn read_secret<T: Store>(
+fn read_secret<T: CacheStore>(
     alloc: Global,
     store: &mut T,
     places: &Places,

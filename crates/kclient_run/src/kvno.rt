@@ -1,16 +1,16 @@
 //! `kvno`: tickets for services, one after the other.
 use crate::args::KvnoArgs;
-use crate::caches::{granting_ticket, put, read_cache, write_cache};
+use crate::caches::{granting_ticket, put, write_cache};
 use crate::context::Context;
 use crate::faults::{Place, Reason, Stop};
 use crate::files::read_keytab;
+use crate::guarding::CacheStore;
 use crate::holding::good_credential;
 use crate::kinit::{generator, read_name};
 use crate::opening::check_ticket;
 use crate::places::Places;
-use client_login::AnyMessage;
+use client_login::{AnyMessage, LoginFault};
 use cred_files::{Cache, Credential, Keytab};
-use file_store::Store;
 use krb_elements::read;
 use krb_fields::{Moment, Name};
 use krb_types::TicketRef;
@@ -60,18 +60,19 @@ struct Wallet {
 
 /// Gets a ticket for each service, unless the cache has a good one, and puts it into the cache. It gives the versions
 /// of the keys that the tickets are sealed under, in the order of the names.
-pub(crate) fn get_tickets<T: Store, X: AnyMessage>(
+pub(crate) fn get_tickets<T: CacheStore, X: AnyMessage>(
     context: &mut Context<T, X>,
-    places: &Places,
+    places: &mut Places,
     args: &KvnoArgs<'_>,
     names: &[&str],
 ) -> Result<Vec<i64>, KvnoStop> {
     let services = read_services(context.alloc, names)?;
-    let mut wallet = read_wallet(context.alloc, &mut context.store, places, args)?;
+    let cache = places.take_held()?;
+    let mut wallet = read_wallet(context.alloc, &mut context.store, cache, args)?;
     get_and_write(context, places, args.fresh, &mut wallet, &services)
 }
 
-fn get_and_write<T: Store, X: AnyMessage>(
+fn get_and_write<T: CacheStore, X: AnyMessage>(
     context: &mut Context<T, X>,
     places: &Places,
     fresh: bool,
@@ -103,13 +104,12 @@ fn add_service(alloc: Global, services: &mut Vec<Name>, name: &str) -> Result<()
     Ok(services.push(service)?)
 }
 
-fn read_wallet<T: Store>(
+fn read_wallet<T: CacheStore>(
     alloc: Global,
     store: &mut T,
-    places: &Places,
+    cache: Cache,
     args: &KvnoArgs<'_>,
 ) -> Result<Wallet, Stop> {
-    let cache = read_cache(alloc, store, places.cache.as_str())?;
     let keytab = read_checking_keytab(alloc, store, args.keytab)?;
     let rng = generator(alloc, store, args.seed)?;
     Ok(Wallet {
@@ -120,7 +120,7 @@ fn read_wallet<T: Store>(
     })
 }
 
-fn read_checking_keytab<T: Store>(
+fn read_checking_keytab<T: CacheStore>(
     alloc: Global,
     store: &mut T,
     path: Option<&str>,
@@ -190,18 +190,45 @@ fn service_ticket<T, X: AnyMessage>(
     wallet: &mut Wallet,
     service: &Name,
 ) -> Result<Credential, Stop> {
-    let alloc = context.alloc;
-    let granting = granting_ticket(alloc, &wallet.cache)?;
-    if granting.times.end_time.seconds() <= context.client.at.sec {
-        return Err(Stop::Refused(Reason::Ended, Place::Cache));
-    }
-    match context
-        .client
-        .service_ticket(alloc, &mut wallet.rng, granting, service)
-    {
+    let granting = granting_ticket(context.alloc, &wallet.cache)?;
+    check_end(granting, context.client.at)?;
+    ask_by_clock(context, &mut wallet.rng, granting, service)
+}
+
+/// Asks once more if the KDC's clock is taken.
+fn ask_by_clock<T, X: AnyMessage>(
+    context: &mut Context<T, X>,
+    rng: &mut ChaCha20Rng,
+    granting: &Credential,
+    service: &Name,
+) -> Result<Credential, Stop> {
+    match ask(context, rng, granting, service) {
         Ok(credential) => Ok(credential),
-        Err(fault) => Err(Stop::from(fault)),
+        Err(fault) => {
+            context.take_clock(fault)?;
+            Ok(ask(context, rng, granting, service)?)
+        }
     }
+}
+
+fn ask<T, X: AnyMessage>(
+    context: &mut Context<T, X>,
+    rng: &mut ChaCha20Rng,
+    granting: &Credential,
+    service: &Name,
+) -> Result<Credential, LoginFault> {
+    context
+        .client
+        .service_ticket(context.alloc, rng, granting, service)
+}
+
+/// Whether a ticket has not ended.
+fn check_end(granting: &Credential, at: Moment) -> Result<(), Stop> {
+    let end = granting.times.end_time.seconds();
+    if at.sec < end {
+        return Ok(());
+    }
+    Err(Stop::Refused(Reason::Ended(end), Place::Cache))
 }
 
 /// Puts a credential into the cache, and gives the version of its key.

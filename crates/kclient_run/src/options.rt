@@ -12,12 +12,16 @@ A first ticket, and one for a service:
   kclient kinit --kdc 127.0.0.1:88 --realm EXAMPLE.COM --name alice --cache cache
   kclient kvno --kdc 127.0.0.1:88 --cache cache --name host/www.example.com
 
-Without --cache it is the file that KRB5CCNAME names. Without --realm or --kdc it is the default realm, and the
-addresses of the realm's KDCs, of the file that KRB5_CONFIG names, or /etc/krb5.conf.
+Without --cache it is the file that KRB5CCNAME names, or else /tmp/krb5cc_ and the user's number. Without --realm or
+--kdc it is the default realm, and the realm's KDCs, of the file that KRB5_CONFIG names, or /etc/krb5.conf.
 
-`kinit` prints `ok`, `kvno` prints for each service its name and the version of its key. Else `refused` is printed with
-a reason, or with the error code of the KDC, and the status is 1; or `failed`, with status 3, where a file, a socket,
-the clock or memory failed. A faulty command line has status 2. Standard error says in words what it was, and where.
+A password that `kinit` asks for at a terminal shows as you type it. To hide it:
+  stty -echo; kclient kinit --name alice; stty echo
+
+`kinit` and `kdestroy` print `ok`, and `kvno` prints for each service its name and the version of its key. Else `refused`
+is printed with a reason, or with the error code of the KDC, and the status is 1; or `failed`, with status 3, where a
+file, a socket, the clock or memory failed. A faulty command line has status 2. Standard error says in words what it
+was, and where.
 
 Names are components joined by `/`. Octets but 21 to 7e, and `/`, `\\` and `@` inside a component, are written `\\` and
 two lower case hexadecimal digits.";
@@ -25,7 +29,7 @@ two lower case hexadecimal digits.";
 const KDC: OptionRow = OptionRow {
     name: "kdc",
     shape: "ADDRESS:PORT",
-    help: "Where a KDC is, as 127.0.0.1:88 or [::1]:88; of several the next is asked where one gives nothing",
+    help: "A KDC's address, as 127.0.0.1:88 or [::1]:88; of several the next is asked if one gives nothing",
     times: Times::Any,
 };
 
@@ -125,47 +129,52 @@ const TCP: FlagRow = FlagRow {
     help: "Asks by TCP alone; else by UDP first",
 };
 
+const KINIT: SubcommandRow = SubcommandRow {
+    name: "kinit",
+    about: "Gets a ticket-granting ticket by a password or a keytab, and makes a credential cache of it",
+    options: &[
+        REALM,
+        CLIENT,
+        PASSWORD,
+        CLIENT_KEYTAB,
+        SERVICE,
+        LIFE,
+        START,
+        LEAST_COUNT,
+        SEED,
+        KDC,
+        CACHE,
+    ],
+    flags: &[
+        FlagRow {
+            name: "renewable",
+            help: "Asks for a renewable ticket",
+        },
+        FlagRow {
+            name: "forwardable",
+            help: "Asks for a forwardable ticket",
+        },
+        FlagRow {
+            name: "proxiable",
+            help: "Asks for a proxiable ticket",
+        },
+        FlagRow {
+            name: "renew",
+            help: "Renews the cache's ticket-granting ticket",
+        },
+        FlagRow {
+            name: "validate",
+            help: "Validates the cache's ticket-granting ticket, which was postdated",
+        },
+        TCP,
+    ],
+};
+
+/// The options and flags of `kinit` that `--renew` and `--validate` take. All others say what a first ticket is to be.
+const OF_RENEWAL: &[&str] = &["seed", "kdc", "cache", "renew", "validate", "tcp"];
+
 const SUBCOMMANDS: &[SubcommandRow] = &[
-    SubcommandRow {
-        name: "kinit",
-        about: "Gets a ticket-granting ticket by a password or a keytab, and makes a credential cache of it",
-        options: &[
-            REALM,
-            CLIENT,
-            PASSWORD,
-            CLIENT_KEYTAB,
-            SERVICE,
-            LIFE,
-            START,
-            LEAST_COUNT,
-            SEED,
-            KDC,
-            CACHE,
-        ],
-        flags: &[
-            FlagRow {
-                name: "renewable",
-                help: "Asks for a renewable ticket",
-            },
-            FlagRow {
-                name: "forwardable",
-                help: "Asks for a forwardable ticket",
-            },
-            FlagRow {
-                name: "proxiable",
-                help: "Asks for a proxiable ticket",
-            },
-            FlagRow {
-                name: "renew",
-                help: "Renews the cache's ticket-granting ticket",
-            },
-            FlagRow {
-                name: "validate",
-                help: "Validates the cache's ticket-granting ticket, which was postdated",
-            },
-            TCP,
-        ],
-    },
+    KINIT,
     SubcommandRow {
         name: "kvno",
         about: "Gets tickets for services, puts them into the cache, and prints the versions of the services' keys",
@@ -182,6 +191,15 @@ const SUBCOMMANDS: &[SubcommandRow] = &[
         name: "klist",
         about: "Prints what a credential cache or a keytab holds, but no key",
         options: &[CACHE, LISTED_KEYTAB],
+        flags: &[FlagRow {
+            name: "s",
+            help: "Prints nothing; the status says whether the cache has a ticket-granting ticket that has not ended",
+        }],
+    },
+    SubcommandRow {
+        name: "kdestroy",
+        about: "Removes a credential cache",
+        options: &[CACHE],
         flags: &[],
     },
 ];
@@ -195,4 +213,27 @@ pub(crate) fn read_args<'a, S: AsStr>(
         .about(ABOUT)
         .after_help(AFTER_HELP);
     with_subcommands(alloc, kclient, SUBCOMMANDS)?.try_get_matches_from(args)
+}
+
+/// Checks whether an option of `kinit` is there that says what a first ticket is to be.
+pub(crate) fn asks_for_first(args: &ArgMatches<'_>) -> bool {
+    for row in KINIT.options {
+        if is_first_option(args, row) {
+            return true;
+        }
+    }
+    for row in KINIT.flags {
+        if is_first_flag(args, row) {
+            return true;
+        }
+    }
+    false
+}
+
+fn is_first_option(args: &ArgMatches<'_>, row: &OptionRow) -> bool {
+    !OF_RENEWAL.contains(&row.name) && args.get_str(row.name).is_some()
+}
+
+fn is_first_flag(args: &ArgMatches<'_>, row: &FlagRow) -> bool {
+    !OF_RENEWAL.contains(&row.name) && args.get_flag(row.name)
 }

@@ -1,17 +1,20 @@
 //! Where a command works: its cache, its realm and its KDCs, as its words say, or else what stands for them.
 use crate::args::{FirstArgs, Task};
 use crate::caches::read_cache;
+use crate::configs::{configured_kdcs, configured_realm, read_config};
+use crate::context::Context;
 use crate::environment::Defaults;
 use crate::faults::{Place, Reason, Stop, of_name};
 use crate::file_names::{NameOf, path_in};
-use crate::files::of;
+use crate::guarding::CacheStore;
 use crate::kinit::check_names;
 use crate::kvno::{KvnoStop, read_services};
 use clap::ArgMatches;
-use file_store::{Store, read_file};
-use krb_fields::{component_from_text, component_to_text, is_component};
-use krb5_conf::{KdcFault, default_realm, kdcs};
+use client_login::{HostNames, Transports};
+use cred_files::Cache;
+use krb_fields::component_from_text;
 use std::alloc::{AllocError, AllocFailed, Global};
+use std::io;
 use std::net::SocketAddr;
 
 /// Why a command does not begin.
@@ -21,8 +24,12 @@ pub(crate) enum Unplaced {
     Usage(&'static str),
     /// This word of `--kdc` is no address.
     BadKdc(String),
-    /// A `kdc` of the `krb5.conf` is no address. This is its text, as that of a name's component.
-    BadKdcLine(String),
+    /// The realm of this name has no KDC in the `krb5.conf`.
+    NoKdc(String),
+    /// No address is known of the hosts that a `krb5.conf` names as KDCs. These are their names, as those of components.
+    UnknownHosts(String),
+    /// At the cache of this path, or at a file or a folder that a `krb5.conf` includes.
+    AtFile(String, Stop),
     /// At the name of this place, where it is at one of several.
     Stopped(Stop, Option<usize>),
 }
@@ -51,20 +58,54 @@ impl<T: Drop> From<AllocFailed<T>> for Unplaced {
     }
 }
 
+/// A command does not begin because of the file or the folder of this path.
+pub(crate) fn at_file(alloc: Global, path: &str, stop: Stop) -> Unplaced {
+    if stop.place() == Place::Memory {
+        return Unplaced::from(stop);
+    }
+    match String::from_str(alloc, path) {
+        Ok(path) => Unplaced::AtFile(path, stop),
+        Err(error) => Unplaced::from(error),
+    }
+}
+
 /// KDCs, and what is said of them where they fail.
 #[derive(Drop)]
 pub(crate) struct Kdcs {
     /// In the order in which they are asked.
     pub addresses: Vec<SocketAddr>,
     pub text: String,
+    /// The hosts of which no address is known.
+    pub unknown: String,
 }
 
-/// A realm, and its KDCs.
-#[derive(Drop)]
-struct Realm {
-    /// The text of its name.
-    text: String,
-    kdcs: Kdcs,
+impl Kdcs {
+    pub(crate) fn new(alloc: Global) -> Kdcs {
+        Kdcs {
+            addresses: Vec::new(alloc),
+            text: String::new(alloc),
+            unknown: String::new(alloc),
+        }
+    }
+
+    pub(crate) fn add(&mut self, address: SocketAddr) -> Result<(), AllocError> {
+        begin_item(&mut self.text)?;
+        write!(self.text, "{address}")?;
+        Ok(self.addresses.push(address)?)
+    }
+
+    pub(crate) fn add_unknown(&mut self, host: &str) -> Result<(), AllocError> {
+        begin_item(&mut self.unknown)?;
+        self.unknown.push_str(host)
+    }
+}
+
+/// Separates an item from those before it.
+fn begin_item(list: &mut String) -> Result<(), AllocError> {
+    if list.is_empty() {
+        return Ok(());
+    }
+    list.push_str(", ")
 }
 
 /// Where a command works. What it needs none of is empty.
@@ -72,102 +113,134 @@ struct Realm {
 pub(crate) struct Places {
     /// The path of the cache.
     pub cache: String,
+    /// What the cache holds, where the command asks with its ticket.
+    held: Option<Cache>,
     /// The text of the realm's name.
     pub realm: String,
     pub kdcs: Kdcs,
-    /// Whether the KDCs are asked by TCP alone.
-    pub tcp_only: bool,
+    pub transports: Transports,
+}
+
+impl Places {
+    fn has_kdcs(&self) -> bool {
+        !self.kdcs.addresses.is_empty()
+    }
+
+    /// Takes what the cache holds out of the places.
+    pub(crate) fn take_held(&mut self) -> Result<Cache, Stop> {
+        match self.held.take() {
+            Some(cache) => Ok(cache),
+            None => Err(Stop::Refused(Reason::Absent, Place::Cache)),
+        }
+    }
 }
 
 const TWO_FILES: &str = "--cache and --keytab don't go together";
 
 /// Where a command works.
-pub(crate) fn find_places<T: Store>(
-    alloc: Global,
+pub(crate) fn find_places<T: CacheStore, X: HostNames>(
+    context: &mut Context<T, X>,
     task: &Task<'_>,
     args: &ArgMatches<'_>,
     defaults: &Defaults<'_>,
-    store: &mut T,
 ) -> Result<Places, Unplaced> {
     match task {
-        Task::First(first) => first_places(alloc, first, args, defaults, store),
+        Task::First(first) => first_places(context, first, args, defaults),
         // the realm is the cache's
-        Task::Again(_) | Task::Kvno(_) => kvno_places(alloc, args, defaults, store),
-        Task::Klist(_) => klist_places(alloc, args, defaults),
+        Task::Again(_) | Task::Kvno(_) => kvno_places(context, args, defaults),
+        Task::Klist(_) if args.get_str("keytab").is_some() => keytab_places(context.alloc, args),
+        Task::Klist(_) | Task::Kdestroy => {
+            named_places(context.alloc, args, defaults, &mut context.store)
+        }
     }
 }
 
-fn first_places<T: Store>(
-    alloc: Global,
+/// The names of `kinit` are looked at before a file is read.
+fn first_places<T: CacheStore, X: HostNames>(
+    context: &mut Context<T, X>,
     first: &FirstArgs<'_>,
     args: &ArgMatches<'_>,
     defaults: &Defaults<'_>,
-    store: &mut T,
 ) -> Result<Places, Unplaced> {
-    let cache = cache_path(alloc, args, defaults)?;
-    let Realm { text, kdcs } = find_realm(alloc, first, args, defaults, store)?;
-    Ok(Places {
-        cache,
-        realm: text,
-        kdcs,
-        tcp_only: args.get_flag("tcp"),
-    })
+    let mut places = named_places(context.alloc, args, defaults, &mut context.store)?;
+    check_names(context.alloc, first)?;
+    find_realm(context, first.realm, defaults, &mut places)?;
+    Ok(places)
 }
 
-fn kvno_places<T: Store>(
-    alloc: Global,
-    args: &ArgMatches<'_>,
-    defaults: &Defaults<'_>,
-    store: &mut T,
-) -> Result<Places, Unplaced> {
-    let cache = cache_path(alloc, args, defaults)?;
-    let kdcs = find_kdcs(alloc, args, defaults, store, cache.as_str())?;
-    Ok(Places {
-        cache,
-        realm: String::new(alloc),
-        kdcs,
-        tcp_only: args.get_flag("tcp"),
-    })
-}
-
-fn klist_places(
-    alloc: Global,
+/// The names of services are looked at before the cache is read, whose realm is that of the KDCs.
+fn kvno_places<T: CacheStore, X: HostNames>(
+    context: &mut Context<T, X>,
     args: &ArgMatches<'_>,
     defaults: &Defaults<'_>,
 ) -> Result<Places, Unplaced> {
-    Ok(Places {
-        cache: listed_path(alloc, args, defaults)?,
-        realm: String::new(alloc),
-        kdcs: no_kdcs(alloc),
-        tcp_only: false,
-    })
+    let mut places = named_places(context.alloc, args, defaults, &mut context.store)?;
+    check_services(context.alloc, args)?;
+    read_held(context, defaults, &mut places)?;
+    Ok(places)
 }
 
-/// The path of the cache that is listed; empty where it is a keytab.
-fn listed_path(
-    alloc: Global,
-    args: &ArgMatches<'_>,
-    defaults: &Defaults<'_>,
-) -> Result<String, Unplaced> {
-    if args.get_str("keytab").is_none() {
-        return cache_path(alloc, args, defaults);
-    }
+fn keytab_places(alloc: Global, args: &ArgMatches<'_>) -> Result<Places, Unplaced> {
     if args.get_str("cache").is_some() {
         return Err(Unplaced::Usage(TWO_FILES));
     }
-    Ok(String::new(alloc))
+    Ok(Places {
+        cache: String::new(alloc),
+        held: None,
+        realm: String::new(alloc),
+        kdcs: Kdcs::new(alloc),
+        transports: Transports::UdpFirst,
+    })
 }
 
-/// The path of the cache.
-fn cache_path(
+/// The cache, and the KDCs that words name.
+fn named_places<T: CacheStore>(
     alloc: Global,
     args: &ArgMatches<'_>,
     defaults: &Defaults<'_>,
+    store: &mut T,
+) -> Result<Places, Unplaced> {
+    let cache = cache_path(alloc, args, defaults, store)?;
+    let kdcs = given_kdcs(alloc, args)?;
+    Ok(Places {
+        cache,
+        held: None,
+        realm: String::new(alloc),
+        kdcs,
+        transports: transports(args),
+    })
+}
+
+fn transports(args: &ArgMatches<'_>) -> Transports {
+    if args.get_flag("tcp") {
+        Transports::TcpOnly
+    } else {
+        Transports::UdpFirst
+    }
+}
+
+/// The path of the cache.
+fn cache_path<T: CacheStore>(
+    alloc: Global,
+    args: &ArgMatches<'_>,
+    defaults: &Defaults<'_>,
+    store: &mut T,
 ) -> Result<String, Unplaced> {
     if let Some(name) = args.get_str("cache") {
         return copied(alloc, path_in(name, NameOf::Cache));
     }
-    copied(alloc, defaults.cache_path())
+    match defaults.cache_path() {
+        Some(path) => copied(alloc, path),
+        None => own_path(alloc, store.user()),
+    }
+}
+
+/// The path of the user's own cache, as MIT's and Heimdal's clients have it.
+fn own_path(alloc: Global, user: io::Result<u32>) -> Result<String, Unplaced> {
+    match user {
+        Ok(user) => Ok(format!(in alloc; "/tmp/krb5cc_{user}")?),
+        Err(error) => Err(Unplaced::from(Stop::Failed(error, Place::Cache))),
+    }
 }
 
 /// A path of a command's own; else the fault of the command line.
@@ -178,37 +251,62 @@ fn copied(alloc: Global, path: Result<&str, &'static str>) -> Result<String, Unp
     }
 }
 
-/// The realm and the KDCs of `kinit`. Its names are looked at before a file is read.
-fn find_realm<T: Store>(
-    alloc: Global,
-    first: &FirstArgs<'_>,
-    args: &ArgMatches<'_>,
+/// The realm of `kinit`, and its KDCs.
+fn find_realm<T: CacheStore, X: HostNames>(
+    context: &mut Context<T, X>,
+    realm: Option<&str>,
     defaults: &Defaults<'_>,
-    store: &mut T,
-) -> Result<Realm, Unplaced> {
-    let realm = first.realm;
-    let given = given_kdcs(alloc, args)?;
-    check_names(alloc, first)?;
-    let is_needed = realm.is_none() || given.is_none();
-    let config = config_if(alloc, defaults, store, is_needed)?;
-    configured(alloc, &config, realm, given)
+    places: &mut Places,
+) -> Result<(), Unplaced> {
+    match realm {
+        Some(realm) if places.has_kdcs() => {
+            places.realm = String::from_str(context.alloc, realm)?;
+            Ok(())
+        }
+        realm => configure(context, realm, defaults, places),
+    }
 }
 
-/// The KDCs of the realm of a cache. The names of services are looked at before a file is read.
-fn find_kdcs<T: Store>(
-    alloc: Global,
-    args: &ArgMatches<'_>,
+/// The realm and its KDCs, of a `krb5.conf` where words lack.
+fn configure<T: CacheStore, X: HostNames>(
+    context: &mut Context<T, X>,
+    realm: Option<&str>,
     defaults: &Defaults<'_>,
-    store: &mut T,
-    path: &str,
-) -> Result<Kdcs, Unplaced> {
-    if let Some(kdcs) = given_kdcs(alloc, args)? {
-        return Ok(kdcs);
+    places: &mut Places,
+) -> Result<(), Unplaced> {
+    let config = read_config(context.alloc, defaults, &mut context.store)?;
+    places.realm = realm_in(context.alloc, realm, &config)?;
+    if !places.has_kdcs() {
+        places.kdcs = kdcs_of_realm(context, &config, places.realm.as_str())?;
     }
-    check_services(alloc, args)?;
-    let cache = read_cache(alloc, store, path)?;
-    let realm = cache.principal().realm.as_slice();
-    kdcs_in_config(alloc, defaults, store, realm)
+    Ok(())
+}
+
+fn realm_in(alloc: Global, realm: Option<&str>, config: &[u8]) -> Result<String, Stop> {
+    match realm {
+        Some(realm) => Ok(String::from_str(alloc, realm)?),
+        None => configured_realm(alloc, config),
+    }
+}
+
+fn kdcs_of_realm<T, X: HostNames>(
+    context: &mut Context<T, X>,
+    config: &[u8],
+    realm: &str,
+) -> Result<Kdcs, Unplaced> {
+    match component_from_text(context.alloc, realm) {
+        Ok(realm) => kdcs_in(context, config, realm.as_slice()),
+        Err(fault) => Err(Unplaced::from(of_name(fault, Place::Realm))),
+    }
+}
+
+fn kdcs_in<T, X: HostNames>(
+    context: &mut Context<T, X>,
+    config: &[u8],
+    realm: &[u8],
+) -> Result<Kdcs, Unplaced> {
+    let names = &mut context.client.kdcs.exchange;
+    configured_kdcs(context.alloc, names, config, realm)
 }
 
 fn check_services(alloc: Global, args: &ArgMatches<'_>) -> Result<(), KvnoStop> {
@@ -218,129 +316,51 @@ fn check_services(alloc: Global, args: &ArgMatches<'_>) -> Result<(), KvnoStop> 
     Ok(())
 }
 
-fn kdcs_in_config<T: Store>(
-    alloc: Global,
+/// Reads the cache, and finds the KDCs of its realm in a `krb5.conf` where no word names one.
+fn read_held<T: CacheStore, X: HostNames>(
+    context: &mut Context<T, X>,
     defaults: &Defaults<'_>,
-    store: &mut T,
-    realm: &[u8],
-) -> Result<Kdcs, Unplaced> {
-    let config = read_config(alloc, defaults, store)?;
-    configured_kdcs(alloc, &config, realm)
+    places: &mut Places,
+) -> Result<(), Unplaced> {
+    let cache = cache_at(context.alloc, &mut context.store, places.cache.as_str())?;
+    if !places.has_kdcs() {
+        places.kdcs = kdcs_of_cache(context, defaults, &cache)?;
+    }
+    places.held = Some(cache);
+    Ok(())
 }
 
-/// The KDCs of the words; `None` where no word names one.
-fn given_kdcs(alloc: Global, args: &ArgMatches<'_>) -> Result<Option<Kdcs>, Unplaced> {
-    let Some(texts) = args.get_strs("kdc") else {
-        return Ok(None);
-    };
-    let mut kdcs = no_kdcs(alloc);
+fn cache_at<T: CacheStore>(alloc: Global, store: &mut T, path: &str) -> Result<Cache, Unplaced> {
+    match read_cache(alloc, store, path) {
+        Ok(cache) => Ok(cache),
+        Err(stop) => Err(at_file(alloc, path, stop)),
+    }
+}
+
+fn kdcs_of_cache<T: CacheStore, X: HostNames>(
+    context: &mut Context<T, X>,
+    defaults: &Defaults<'_>,
+    cache: &Cache,
+) -> Result<Kdcs, Unplaced> {
+    let config = read_config(context.alloc, defaults, &mut context.store)?;
+    kdcs_in(context, &config, cache.principal().realm.as_slice())
+}
+
+/// The KDCs that words name.
+fn given_kdcs(alloc: Global, args: &ArgMatches<'_>) -> Result<Kdcs, Unplaced> {
+    let mut kdcs = Kdcs::new(alloc);
+    if let Some(texts) = args.get_strs("kdc") {
+        add_given(alloc, &mut kdcs, texts)?;
+    }
+    Ok(kdcs)
+}
+
+fn add_given(alloc: Global, kdcs: &mut Kdcs, texts: &[&str]) -> Result<(), Unplaced> {
     for text in texts {
         let Ok(address) = text.parse() else {
             return Err(Unplaced::BadKdc(String::from_str(alloc, text)?));
         };
-        add_kdc(&mut kdcs, address, text)?;
+        kdcs.add(address)?;
     }
-    Ok(Some(kdcs))
-}
-
-fn no_kdcs(alloc: Global) -> Kdcs {
-    Kdcs {
-        addresses: Vec::new(alloc),
-        text: String::new(alloc),
-    }
-}
-
-fn add_kdc(kdcs: &mut Kdcs, address: SocketAddr, text: &str) -> Result<(), AllocError> {
-    if !kdcs.text.is_empty() {
-        kdcs.text.push_str(", ")?;
-    }
-    kdcs.text.push_str(text)?;
-    Ok(kdcs.addresses.push(address)?)
-}
-
-/// The `krb5.conf`, where a word lacks; else no text.
-fn config_if<T: Store>(
-    alloc: Global,
-    defaults: &Defaults<'_>,
-    store: &mut T,
-    is_needed: bool,
-) -> Result<Vec<u8>, Unplaced> {
-    if !is_needed {
-        return Ok(Vec::new(alloc));
-    }
-    read_config(alloc, defaults, store)
-}
-
-fn read_config<T: Store>(
-    alloc: Global,
-    defaults: &Defaults<'_>,
-    store: &mut T,
-) -> Result<Vec<u8>, Unplaced> {
-    match defaults.config_path() {
-        Ok(path) => Ok(of(read_file(alloc, store, path), Place::Config)?),
-        Err(fault) => Err(Unplaced::Usage(fault)),
-    }
-}
-
-/// The realm and its KDCs, of a `krb5.conf` where words lack.
-fn configured(
-    alloc: Global,
-    config: &[u8],
-    realm: Option<&str>,
-    given: Option<Kdcs>,
-) -> Result<Realm, Unplaced> {
-    let text = match realm {
-        Some(realm) => String::from_str(alloc, realm)?,
-        None => configured_realm(alloc, config)?,
-    };
-    let kdcs = match given {
-        Some(kdcs) => kdcs,
-        None => kdcs_of_realm(alloc, config, text.as_str())?,
-    };
-    Ok(Realm { text, kdcs })
-}
-
-/// The text of the default realm's name.
-fn configured_realm(alloc: Global, config: &[u8]) -> Result<String, Stop> {
-    match default_realm(alloc, config)? {
-        Some(realm) if is_component(realm) => Ok(component_to_text(alloc, realm)?),
-        Some(_) => Err(Stop::Refused(Reason::BadRealm, Place::Config)),
-        None => Err(Stop::Refused(Reason::NoRealm, Place::Config)),
-    }
-}
-
-fn kdcs_of_realm(alloc: Global, config: &[u8], realm: &str) -> Result<Kdcs, Unplaced> {
-    match component_from_text(alloc, realm) {
-        Ok(realm) => configured_kdcs(alloc, config, realm.as_slice()),
-        Err(fault) => Err(Unplaced::from(of_name(fault, Place::Realm))),
-    }
-}
-
-fn configured_kdcs(alloc: Global, config: &[u8], realm: &[u8]) -> Result<Kdcs, Unplaced> {
-    match kdcs(alloc, config, realm) {
-        Ok(addresses) if addresses.is_empty() => Err(Unplaced::from(NO_KDC)),
-        Ok(addresses) => Ok(described(alloc, addresses)?),
-        Err(KdcFault::NotAnAddress(value)) => Err(bad_kdc_line(alloc, value)),
-        Err(KdcFault::Memory) => Err(Unplaced::from(AllocError)),
-    }
-}
-
-const NO_KDC: Stop = Stop::Refused(Reason::NoKdc, Place::Config);
-
-fn bad_kdc_line(alloc: Global, value: &[u8]) -> Unplaced {
-    match component_to_text(alloc, value) {
-        Ok(text) => Unplaced::BadKdcLine(text),
-        Err(error) => Unplaced::from(error),
-    }
-}
-
-fn described(alloc: Global, addresses: Vec<SocketAddr>) -> Result<Kdcs, AllocError> {
-    let mut text = String::new(alloc);
-    for address in &addresses {
-        if !text.is_empty() {
-            text.push_str(", ")?;
-        }
-        write!(text, "{address}")?;
-    }
-    Ok(Kdcs { addresses, text })
+    Ok(())
 }

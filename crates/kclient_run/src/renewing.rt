@@ -1,19 +1,20 @@
 //! `kinit --renew` and `kinit --validate`: the ticket-granting ticket, once more (RFC 4120, sections 2.3 and 2.4).
 use crate::args::AgainArgs;
-use crate::caches::{granting_ticket, read_cache, write_new_cache};
+use crate::caches::{granting_ticket, write_new_cache};
 use crate::context::Context;
 use crate::faults::{Place, Reason, Stop};
+use crate::guarding::CacheStore;
 use crate::kinit::generator;
 use crate::places::Places;
-use client_login::{Again, AnyMessage};
+use client_login::{Again, AnyMessage, LoginFault};
 use cred_files::Credential;
-use file_store::Store;
 use krb_fields::TicketFlag;
+use rand_chacha::ChaCha20Rng;
 
 /// Gets the cache's ticket-granting ticket again, and writes a new cache of it.
-pub(crate) fn get_again<T: Store, X: AnyMessage>(
+pub(crate) fn get_again<T: CacheStore, X: AnyMessage>(
     context: &mut Context<T, X>,
-    places: &Places,
+    places: &mut Places,
     args: &AgainArgs<'_>,
 ) -> Result<(), Stop> {
     let credential = ticket_of(context, places, args)?;
@@ -25,25 +26,45 @@ pub(crate) fn get_again<T: Store, X: AnyMessage>(
     )
 }
 
-fn ticket_of<T: Store, X: AnyMessage>(
+fn ticket_of<T: CacheStore, X: AnyMessage>(
     context: &mut Context<T, X>,
-    places: &Places,
+    places: &mut Places,
     args: &AgainArgs<'_>,
 ) -> Result<Credential, Stop> {
-    let alloc = context.alloc;
-    let cache = read_cache(alloc, &mut context.store, places.cache.as_str())?;
-    let mut rng = generator(alloc, &mut context.store, args.seed)?;
-    let granting = granting_ticket(alloc, &cache)?;
+    let cache = places.take_held()?;
+    let mut rng = generator(context.alloc, &mut context.store, args.seed)?;
+    let granting = granting_ticket(context.alloc, &cache)?;
     if is_refused(granting, args.again) {
         return Err(Stop::Refused(Reason::NotRenewable, Place::Cache));
     }
-    match context
-        .client
-        .ticket_again(alloc, &mut rng, granting, args.again)
-    {
+    ask_by_clock(context, &mut rng, granting, args.again)
+}
+
+/// Asks once more if the KDC's clock is taken.
+fn ask_by_clock<T, X: AnyMessage>(
+    context: &mut Context<T, X>,
+    rng: &mut ChaCha20Rng,
+    granting: &Credential,
+    again: Again,
+) -> Result<Credential, Stop> {
+    match ask(context, rng, granting, again) {
         Ok(credential) => Ok(credential),
-        Err(fault) => Err(Stop::from(fault)),
+        Err(fault) => {
+            context.take_clock(fault)?;
+            Ok(ask(context, rng, granting, again)?)
+        }
     }
+}
+
+fn ask<T, X: AnyMessage>(
+    context: &mut Context<T, X>,
+    rng: &mut ChaCha20Rng,
+    granting: &Credential,
+    again: Again,
+) -> Result<Credential, LoginFault> {
+    context
+        .client
+        .ticket_again(context.alloc, rng, granting, again)
 }
 
 /// Whether a KDC would not renew the ticket.

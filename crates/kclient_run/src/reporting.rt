@@ -26,7 +26,7 @@ pub(crate) fn report<W: Write, E: Write>(
 {
     match stop {
         Stop::Refused(reason, _) => print_refusal(out, errors, subject, reason),
-        Stop::Error(code, _) => print_error(out, errors, subject, code),
+        Stop::Error(error, _) => print_error(out, errors, subject, error.code),
         Stop::Failed(error, Place::Kdc(_)) => print_silence(out, errors, subject, failures, error),
         Stop::Failed(error, _) => print_failure(out, errors, subject, error),
     }
@@ -41,7 +41,7 @@ fn print_refusal<W: Write, E: Write>(
     ensures { IfOk result (λ status. status ≤ 3) }
 {
     writeln!(out, "refused {}", reason.name())?;
-    writeln!(errors, "kclient: {subject}: {}", reason.text())?;
+    writeln!(errors, "kclient: {subject}: {reason}")?;
     Ok(REFUSED)
 }
 
@@ -107,15 +107,39 @@ pub(crate) fn report_unplaced<W: Write, E: Write>(
     match unplaced {
         Unplaced::Usage(fault) => print_fault(out, fault),
         Unplaced::BadKdc(word) => print_bad_kdc(out, word.as_str()),
-        Unplaced::BadKdcLine(value) => {
+        Unplaced::NoKdc(realm) => {
             let path = config_word(defaults);
-            let value = value.as_str();
-            let subject = Subject::KdcLine { path, value };
-            print_refusal(out, errors, subject, Reason::NotAnAddress)
+            print_in_config(out, errors, path, realm.as_str(), Reason::NoKdc)
         }
+        Unplaced::UnknownHosts(hosts) => {
+            let path = config_word(defaults);
+            print_in_config(out, errors, path, hosts.as_str(), Reason::NotAnAddress)
+        }
+        Unplaced::AtFile(path, stop) => report(
+            out,
+            errors,
+            Subject::Thing(path.as_str()),
+            0,
+            *stop,
+        ),
         Unplaced::Stopped(stop, None) => report_stopped(out, errors, *stop, options, defaults),
         Unplaced::Stopped(stop, Some(index)) => report_at_name(out, errors, *stop, options, *index),
     }
+}
+
+/// Prints what is wrong with a realm or with hosts in the `krb5.conf` of a path.
+fn print_in_config<W: Write, E: Write>(
+    out: &mut W,
+    errors: &mut E,
+    path: &str,
+    value: &str,
+    reason: Reason,
+) -> io::Result<u8>
+    ensures { IfOk result (λ status. status ≤ 3) }
+{
+    writeln!(out, "refused {}", reason.name())?;
+    writeln!(errors, "kclient: {path}: {value}: {reason}")?;
+    Ok(REFUSED)
 }
 
 /// Prints why it is not known where a command works.
@@ -130,7 +154,7 @@ fn report_stopped<W: Write, E: Write>(
 {
     match stop.place() {
         Place::Config => report(out, errors, Subject::Thing(config_word(defaults)), 0, stop),
-        Place::Cache => report_cache(out, errors, stop, options, defaults),
+        Place::Cache => report(out, errors, Subject::Thing("--cache"), 0, stop),
         Place::Realm if options.get_str("realm").is_some() => {
             report_word(out, errors, stop, "--realm", options.get_str("realm"))
         }
@@ -193,35 +217,11 @@ pub(crate) fn name_at<'a>(names: &[&'a str], index: Option<usize>) -> Option<&'a
     Some(*names.get(index?)?)
 }
 
-/// Prints why the cache can't be read, which the words or the environment name.
-fn report_cache<W: Write, E: Write>(
-    out: &mut W,
-    errors: &mut E,
-    stop: Stop,
-    options: &ArgMatches<'_>,
-    defaults: &Defaults<'_>,
-) -> io::Result<u8>
-    ensures { IfOk result (λ status. status ≤ 3) }
-{
-    match options.get_str("cache") {
-        Some(path) => report(out, errors, Subject::Thing(path), 0, stop),
-        None => report(out, errors, Subject::Thing(cache_word(defaults)), 0, stop),
-    }
-}
-
 /// The path of the `krb5.conf`, or the variable that has to name it.
 fn config_word<'a>(defaults: &Defaults<'a>) -> &'a str {
     match defaults.config_path() {
         Ok(path) => path,
         Err(_) => "KRB5_CONFIG",
-    }
-}
-
-/// The path of the cache, or the variable that has to name it.
-fn cache_word<'a>(defaults: &Defaults<'a>) -> &'a str {
-    match defaults.cache_path() {
-        Ok(path) => path,
-        Err(_) => "KRB5CCNAME",
     }
 }
 
@@ -268,4 +268,28 @@ fn print_bad_kdc<W: Write>(out: &mut W, word: &str) -> io::Result<u8>
 pub(crate) fn tell_unwritten<E: Write>(errors: &mut E, error: io::Error) {
     let _ = writeln!(errors, "kclient: standard output: {error}");
     let _ = errors.flush();
+}
+
+/// Says by how much the KDC's clock differs, if a command took the KDC's time.
+pub(crate) fn tell_clock<E: Write>(errors: &mut E, ahead: Option<i64>) -> io::Result<()> {
+    let Some(ahead) = ahead else {
+        return Ok(());
+    };
+    let seconds = ahead.unsigned_abs();
+    let way = if ahead < 0 { "behind" } else { "ahead of" };
+    writeln!(
+        errors,
+        "kclient: the KDC's clock is {seconds} seconds {way} this computer's: the KDC's time was taken"
+    )
+}
+
+/// Says which KDCs are not asked, since no address of theirs is known.
+pub(crate) fn tell_unknown<E: Write>(errors: &mut E, hosts: &str) -> io::Result<()> {
+    if hosts.is_empty() {
+        return Ok(());
+    }
+    writeln!(
+        errors,
+        "kclient: {hosts}: no address is known, so it is not asked"
+    )
 }

@@ -5,18 +5,19 @@ use crate::args::{AgainArgs, FirstArgs, KvnoArgs, Task, task_of};
 use crate::context::Context;
 use crate::environment::Defaults;
 use crate::fault_args::{common_subject, first_subject, kvno_subject};
+use crate::guarding::CacheStore;
 use crate::kinit::log_in;
-use crate::klist::run_klist;
+use crate::klist::{run_kdestroy, run_klist};
 use crate::kvno::{KvnoStop, get_tickets};
 use crate::options::read_args;
 use crate::places::{Places, find_places};
 use crate::renewing::get_again;
 use crate::reporting::{
-    name_at, print_fault, report, report_args, report_unplaced, tell_name, tell_unwritten,
+    name_at, print_fault, report, report_args, report_unplaced, tell_clock, tell_name,
+    tell_unknown, tell_unwritten,
 };
 use clap::ArgMatches;
-use client_login::AnyMessage;
-use file_store::Store;
+use client_login::{AnyMessage, HostNames};
 use std::convert::AsStr;
 use std::io;
 use std::io::{BufWriter, Write};
@@ -37,13 +38,13 @@ pub const FAILED: u8 = 3;
 /// Does what a command line says, the program's name in front, at the context's moment. What came of it goes to
 /// `writer`, and why it was not done, in words, to `errors`. The status is `DONE`, `REFUSED`, `USAGE` or `FAILED`. But
 /// for `DONE` the cache is as it was, unless the printing alone failed: then it is `FAILED`, and the cache is written.
-pub fn kclient_run<S: AsStr, T: Store, X: AnyMessage, W: Write + Drop, E: Write + Drop>(
-    context: &mut Context<T, X>,
-    args: &[S],
-    defaults: &Defaults<'_>,
-    writer: W,
-    errors: E,
-) -> u8
+pub fn kclient_run<
+    S: AsStr,
+    T: CacheStore,
+    X: AnyMessage + HostNames,
+    W: Write + Drop,
+    E: Write + Drop,
+>(context: &mut Context<T, X>, args: &[S], defaults: &Defaults<'_>, writer: W, errors: E) -> u8
     ensures { result ≤ 3 }
 {
     let Ok(mut errors) = BufWriter::new(context.alloc, errors) else {
@@ -66,7 +67,7 @@ pub fn kclient_run<S: AsStr, T: Store, X: AnyMessage, W: Write + Drop, E: Write 
 }
 
 /// The status; an error is a failed write.
-fn run_to_end<S: AsStr, T: Store, X: AnyMessage, W: Write, E: Write>(
+fn run_to_end<S: AsStr, T: CacheStore, X: AnyMessage + HostNames, W: Write, E: Write>(
     context: &mut Context<T, X>,
     args: &[S],
     defaults: &Defaults<'_>,
@@ -75,13 +76,15 @@ fn run_to_end<S: AsStr, T: Store, X: AnyMessage, W: Write, E: Write>(
 ) -> io::Result<u8>
     ensures { IfOk result (λ status. status ≤ 3) }
 {
+    context.ahead = None;
     let status = run_args(context, args, defaults, out, errors)?;
+    tell_clock(errors, context.ahead)?;
     out.flush()?;
     errors.flush()?;
     Ok(status)
 }
 
-fn run_args<S: AsStr, T: Store, X: AnyMessage, W: Write, E: Write>(
+fn run_args<S: AsStr, T: CacheStore, X: AnyMessage + HostNames, W: Write, E: Write>(
     context: &mut Context<T, X>,
     args: &[S],
     defaults: &Defaults<'_>,
@@ -96,7 +99,7 @@ fn run_args<S: AsStr, T: Store, X: AnyMessage, W: Write, E: Write>(
     }
 }
 
-fn run_subcommand<T: Store, X: AnyMessage, W: Write, E: Write>(
+fn run_subcommand<T: CacheStore, X: AnyMessage + HostNames, W: Write, E: Write>(
     context: &mut Context<T, X>,
     matches: &ArgMatches<'_>,
     defaults: &Defaults<'_>,
@@ -115,7 +118,7 @@ fn run_subcommand<T: Store, X: AnyMessage, W: Write, E: Write>(
 }
 
 /// Finds where the command works, and does it there.
-fn run_placed<T: Store, X: AnyMessage, W: Write, E: Write>(
+fn run_placed<T: CacheStore, X: AnyMessage + HostNames, W: Write, E: Write>(
     context: &mut Context<T, X>,
     task: &Task<'_>,
     options: &ArgMatches<'_>,
@@ -125,23 +128,35 @@ fn run_placed<T: Store, X: AnyMessage, W: Write, E: Write>(
 ) -> io::Result<u8>
     ensures { IfOk result (λ status. status ≤ 3) }
 {
-    match find_places(context.alloc, task, options, defaults, &mut context.store) {
-        Ok(mut places) => {
-            let kdcs = &mut context.client.kdcs;
-            kdcs.restart();
-            kdcs.tcp_only = places.tcp_only;
-            swap(&mut kdcs.addresses, &mut places.kdcs.addresses);
-            run_task(context, task, options, &places, out, errors)
-        }
+    match find_places(context, task, options, defaults) {
+        Ok(mut places) => run_found(context, task, options, &mut places, out, errors),
         Err(unplaced) => report_unplaced(out, errors, &unplaced, options, defaults),
     }
 }
 
-fn run_task<T: Store, X: AnyMessage, W: Write, E: Write>(
+fn run_found<T: CacheStore, X: AnyMessage, W: Write, E: Write>(
     context: &mut Context<T, X>,
     task: &Task<'_>,
     options: &ArgMatches<'_>,
-    places: &Places,
+    places: &mut Places,
+    out: &mut W,
+    errors: &mut E,
+) -> io::Result<u8>
+    ensures { IfOk result (λ status. status ≤ 3) }
+{
+    tell_unknown(errors, places.kdcs.unknown.as_str())?;
+    let kdcs = &mut context.client.kdcs;
+    kdcs.restart();
+    kdcs.transports = places.transports;
+    swap(&mut kdcs.addresses, &mut places.kdcs.addresses);
+    run_task(context, task, options, places, out, errors)
+}
+
+fn run_task<T: CacheStore, X: AnyMessage, W: Write, E: Write>(
+    context: &mut Context<T, X>,
+    task: &Task<'_>,
+    options: &ArgMatches<'_>,
+    places: &mut Places,
     out: &mut W,
     errors: &mut E,
 ) -> io::Result<u8>
@@ -154,18 +169,12 @@ fn run_task<T: Store, X: AnyMessage, W: Write, E: Write>(
             Some(names) => run_kvno(context, places, args, names, out, errors),
             None => Ok(USAGE),
         },
-        Task::Klist(args) => run_klist(
-            context.alloc,
-            places,
-            args,
-            &mut context.store,
-            out,
-            errors,
-        ),
+        Task::Klist(args) => run_klist(context, places, args, out, errors),
+        Task::Kdestroy => run_kdestroy(context, places, out, errors),
     }
 }
 
-fn run_first<T: Store, X: AnyMessage, W: Write, E: Write>(
+fn run_first<T: CacheStore, X: AnyMessage, W: Write, E: Write>(
     context: &mut Context<T, X>,
     places: &Places,
     args: &FirstArgs<'_>,
@@ -184,9 +193,9 @@ fn run_first<T: Store, X: AnyMessage, W: Write, E: Write>(
     }
 }
 
-fn run_again<T: Store, X: AnyMessage, W: Write, E: Write>(
+fn run_again<T: CacheStore, X: AnyMessage, W: Write, E: Write>(
     context: &mut Context<T, X>,
-    places: &Places,
+    places: &mut Places,
     args: &AgainArgs<'_>,
     out: &mut W,
     errors: &mut E,
@@ -203,7 +212,7 @@ fn run_again<T: Store, X: AnyMessage, W: Write, E: Write>(
     }
 }
 
-fn print_done<W: Write>(out: &mut W) -> io::Result<u8>
+pub(crate) fn print_done<W: Write>(out: &mut W) -> io::Result<u8>
     ensures { IfOk result (λ status. status ≤ 3) }
 {
     writeln!(out, "ok")?;
@@ -211,9 +220,9 @@ fn print_done<W: Write>(out: &mut W) -> io::Result<u8>
 }
 
 /// Where `kvno` ends early at one of several names, that is said too.
-fn run_kvno<T: Store, X: AnyMessage, W: Write, E: Write>(
+fn run_kvno<T: CacheStore, X: AnyMessage, W: Write, E: Write>(
     context: &mut Context<T, X>,
-    places: &Places,
+    places: &mut Places,
     args: &KvnoArgs<'_>,
     names: &[&str],
     out: &mut W,

@@ -1,3 +1,3 @@
-mod AddressLaws
 mod FirstLaws
 mod LineLaws
+mod TextLaws

@@ -1,10 +1,8 @@
--- The addresses that stand for KDCs.
-use Rattle.std.specs.Prelude.{◌==◌, ◌++◌, ◌⊎◌, ℕ, Bool, List, [], ◌∷◌, codes, filter, not}
-use Rattle.std.specs.List.{IsAmong, list_any}
+-- The texts that stand for KDCs.
+use Rattle.std.specs.Prelude.{◌==◌, ◌++◌, ◌⊎◌, ℕ, Bool, List, codes, filter, not}
+use Rattle.std.specs.List.{list_any}
 use Rattle.std.specs.declared.net.socket_addr.SocketAddr.{SocketAddr}
 use Rattle.std.specs.Net.Grammar.{IsSocketText}
-use Rattle.krb5_conf.specs.declared.kdc.KdcFault.{KdcFault}
-use Rattle.krb5_conf.specs.declared.kdc.KdcFault.TheVariants.{NotAnAddress, Memory}
 
 -- an address and a port, which is 88 where it lacks
 abbrev pub IsKdcText : List ℕ → SocketAddr → Type 0
@@ -16,15 +14,3 @@ is_other_way text = list_any (λ o. o == 0x2F) text
 
 abbrev pub kdc_texts : List (List ℕ) → List (List ℕ)
 kdc_texts values = filter (λ text. not (is_other_way text)) values
-
--- each address is that of the text in its place
-abbrev pub AreKdcs : List SocketAddr → List (List ℕ) → Type 0
-AreKdcs [] [] = Unit {0}
-AreKdcs (address ∷ addresses) (text ∷ texts) = IsKdcText text address × AreKdcs addresses texts
-AreKdcs [] (text ∷ texts) = ⊥
-AreKdcs (address ∷ addresses) [] = ⊥
-
--- one of the texts is no address
-abbrev pub IsKdcFault : KdcFault → List (List ℕ) → Type 0
-IsKdcFault (NotAnAddress text) texts = IsAmong texts text.now × ((address : SocketAddr) → ¬ IsKdcText text.now address)
-IsKdcFault Memory texts = Unit {0}

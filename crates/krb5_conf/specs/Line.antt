@@ -11,6 +11,8 @@ pub data Said : Type 0 where
   Section : List ℕ → Said
   -- a group opens
   Open : List ℕ → Said
+  -- a brace on a line of its own: the group opens that the relation before it names
+  Brace : Said
   -- the group that was opened last is closed
   Close : Said
   -- a relation holds: its tag and its value
@@ -21,6 +23,7 @@ abbrev pub said : lines.Line → Said
 said says.Nothing = Nothing
 said (says.Section name) = Section name.now
 said (says.Open name) = Open name.now
+said says.Brace = Brace
 said says.Close = Close
 said (says.Relation tag value) = Relation tag.now value.now
 
@@ -32,6 +35,11 @@ unindented text = drop (prefix_len is_ascii_whitespace text) text
 unfoldable pub trimmed : List ℕ → List ℕ
 trimmed text = take (length (unindented text) - suffix_len is_ascii_whitespace (unindented text)) (unindented text)
 
+-- what stands between quotation marks (22), without them
+abbrev pub unquoted : List ℕ → List ℕ
+unquoted [] = []
+unquoted (first ∷ rest) = if first == 0x22 then before_first (λ o. o == 0x22) rest else first ∷ rest
+
 -- `TAG = VALUE`, or `TAG = {`
 abbrev pub tag_of : List ℕ → List ℕ
 tag_of text = trimmed (before_first (λ o. o == 0x3D) text)
@@ -41,18 +49,19 @@ value_of text = trimmed (after_first (λ o. o == 0x3D) text)
 
 abbrev pub relation_said : List ℕ → Said
 relation_said text = if nat_lt (position_or_len (λ o. o == 0x3D) text) (length text)
-    then (if bytes_eq (value_of text) (codes "{") then Open (tag_of text) else Relation (tag_of text) (value_of text))
+    then (if bytes_eq (value_of text) (codes "{") then Open (tag_of text) else Relation (tag_of text) (unquoted (value_of text)))
     else Nothing
 
--- what is told by the first octet: `#`, `;`, `[` or `}`
+-- what is told by the first octet: `#`, `;`, `[`, `{` or `}`
 abbrev pub trimmed_said : List ℕ → Said
 trimmed_said [] = Nothing
 trimmed_said (first ∷ rest) =
     if first == 0x23 then Nothing
     else (if first == 0x3B then Nothing
     else (if first == 0x5B then Section (trimmed (before_first (λ o. o == 0x5D) rest))
+    else (if first == 0x7B then Brace
     else (if first == 0x7D then Close
-    else relation_said (first ∷ rest))))
+    else relation_said (first ∷ rest)))))
 
 abbrev pub line_said : List ℕ → Said
 line_said text = trimmed_said (trimmed text)

@@ -1,6 +1,6 @@
 -- Where a line of a krb5.conf stands.
-use Rattle.std.specs.Prelude.{◌==◌, ◌&&◌, ◌+◌, ◌-◌, ℕ, Bool, List, [], bytes_eq, nat_lt, if◌then◌else◌}
-use Rattle.krb5_conf.specs.Line.{Said, Nothing, Section, Open, Close, Relation}
+use Rattle.std.specs.Prelude.{◌==◌, ◌&&◌, ◌+◌, ◌-◌, ℕ, Bool, List, [], ◌∷◌, bytes_eq, nat_lt, if◌then◌else◌}
+use Rattle.krb5_conf.specs.Line.{Said, Nothing, Section, Open, Brace, Close, Relation}
 use Rattle.krb5_conf.specs.declared.place.Place as places
 
 pub record Place : Type 0 where
@@ -9,16 +9,18 @@ pub record Place : Type 0 where
   pub group : List ℕ
   -- how many groups are open
   pub depth : ℕ
+  -- the tag of a relation without a value, whose group may open on a later line; else empty
+  pub waiting : List ℕ
 
 -- the same of the code's type
 abbrev pub place_of : places.Place → Place
-place_of p = record { section = p.section.now; group = p.group.now; depth = p.depth }
+place_of p = record { section = p.section.now; group = p.group.now; depth = p.depth; waiting = p.waiting.now }
 
 abbrev pub section_place : List ℕ → Place
-section_place name = record { section = name; group = []; depth = 0 }
+section_place name = record { section = name; group = []; depth = 0; waiting = [] }
 
 abbrev pub group_place : List ℕ → List ℕ → Place
-group_place section name = record { section = section; group = name; depth = 1 }
+group_place section name = record { section = section; group = name; depth = 1; waiting = [] }
 
 abbrev pub is_place : Place → Place → Bool
 is_place p q = (p.depth == q.depth) && bytes_eq p.section q.section && bytes_eq p.group q.group
@@ -29,16 +31,23 @@ opened p name = record {
   section = p.section;
   group = (if p.depth == 0 then name else p.group);
   depth = p.depth + 1;
+  waiting = [];
 }
 
 -- in one group less
 abbrev pub closed : Place → Place
-closed p = if nat_lt 1 p.depth then record p { depth = p.depth - 1 } else section_place p.section
+closed p = if nat_lt 1 p.depth then record p { depth = p.depth - 1; waiting = [] } else section_place p.section
+
+-- a relation without a value names the group that may open next
+abbrev pub named : List ℕ → List ℕ → List ℕ
+named tag [] = tag
+named tag (octet ∷ octets) = []
 
 -- where the next line stands
 abbrev pub behind : Place → Said → Place
 behind p Nothing = p
 behind p (Section name) = section_place name
 behind p (Open name) = opened p name
+behind p Brace = opened p p.waiting
 behind p Close = closed p
-behind p (Relation tag value) = p
+behind p (Relation tag value) = record p { waiting = named tag value }

@@ -2,7 +2,7 @@
 use Rattle.std.specs.Prelude.{◌==◌, ◌&&◌, ◌++◌, ℕ, List, [], ◌∷◌, Option, Some, None, codes, bytes_eq, if◌then◌else◌}
 use Rattle.std.specs.List.{slice_split}
 use Rattle.std.specs.Option.{option_to_list}
-use Rattle.krb5_conf.specs.Line.{Said, Nothing, Section, Open, Close, Relation, line_said}
+use Rattle.krb5_conf.specs.Line.{Said, Nothing, Section, Open, Brace, Close, Relation, line_said}
 use Rattle.krb5_conf.specs.Place.{Place, behind, group_place, is_place, section_place}
 
 -- lines are separated by line feeds
@@ -14,6 +14,7 @@ abbrev pub value_by : Place → List ℕ → Place → Said → Option (List ℕ
 value_by wanted tag p Nothing = None
 value_by wanted tag p (Section name) = None
 value_by wanted tag p (Open name) = None
+value_by wanted tag p Brace = None
 value_by wanted tag p Close = None
 value_by wanted tag p (Relation found value) = if is_place p wanted && bytes_eq found tag then Some value else None
 

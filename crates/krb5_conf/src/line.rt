@@ -1,7 +1,7 @@
 //! What a line says.
 ghost use Rattle.std.specs.Prelude.{◌≡◌, ◌==◌, ◌<◌, ◌≤◌, length, IfSome, IfNone};
 ghost use Rattle.std.specs.List.{after_first, before_first, position, position_or_len};
-ghost use Rattle.krb5_conf.specs.Line.{line_said, relation_said, said, trimmed};
+ghost use Rattle.krb5_conf.specs.Line.{line_said, relation_said, said, trimmed, unquoted};
 
 /// What a line says.
 #[derive(Clone, Copy)]
@@ -11,6 +11,8 @@ pub(crate) enum Line<'a> {
     Section(&'a [u8]),
     /// A group opens.
     Open(&'a [u8]),
+    /// A brace on a line of its own: the group opens that the relation before it names.
+    Brace,
     /// The group that was opened last is closed.
     Close,
     /// A relation holds: its tag and its value.
@@ -29,6 +31,7 @@ impl<'a> Line<'a> {
         match *first {
             b'#' | b';' => Line::Nothing,
             b'[' => Line::Section(trim(before(rest, b']'))),
+            b'{' => Line::Brace,
             b'}' => Line::Close,
             _ => relation(text),
         }
@@ -47,7 +50,17 @@ fn relation(text: &[u8]) -> Line<'_>
     if value == b"{".as_slice() {
         Line::Open(tag)
     } else {
-        Line::Relation(tag, value)
+        Line::Relation(tag, unquoted(value))
+    }
+}
+
+/// What stands between quotation marks, or the value as it is.
+fn unquoted(value: &[u8]) -> &[u8]
+    ensures { result.now ≡ unquoted value.now }
+{
+    match value.split_first() {
+        Some((first, rest)) if *first == b'"' => before(rest, b'"'),
+        _ => value,
     }
 }
 

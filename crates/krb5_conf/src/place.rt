@@ -1,7 +1,7 @@
 //! Where a line stands.
 ghost use Rattle.std.specs.Prelude.{◌≡◌, ◌<◌, ◌≤◌, ◌+◌, ◌-◌, ◌^◌};
 ghost use Rattle.krb5_conf.specs.Line.{said};
-ghost use Rattle.krb5_conf.specs.Place.{behind, closed, group_place, is_place, opened, place_of, section_place};
+ghost use Rattle.krb5_conf.specs.Place.{behind, closed, group_place, is_place, named, opened, place_of, section_place};
 
 use crate::line::Line;
 
@@ -13,6 +13,8 @@ pub(crate) struct Place<'a> {
     pub group: &'a [u8],
     /// How many groups are open.
     pub depth: usize,
+    /// The tag of a relation without a value, whose group may open on a later line; else empty.
+    pub waiting: &'a [u8],
 }
 
 impl<'a> Place<'a> {
@@ -25,6 +27,7 @@ impl<'a> Place<'a> {
             section,
             group: b"",
             depth: 0,
+            waiting: b"",
         }
     }
 
@@ -36,6 +39,7 @@ impl<'a> Place<'a> {
             section,
             group,
             depth: 1,
+            waiting: b"",
         }
     }
 
@@ -52,10 +56,25 @@ impl<'a> Place<'a> {
         ensures depth { result.depth ≤ self.entry.depth + 1 }
     {
         match line {
-            Line::Nothing | Line::Relation(..) => self,
+            Line::Nothing => self,
+            Line::Relation(tag, value) => self.waiting_for(named(tag, value)),
             Line::Section(section) => Place::of_section(section),
             Line::Open(group) => self.opened(group),
+            Line::Brace => self.opened(self.waiting),
             Line::Close => self.closed(),
+        }
+    }
+
+    /// At the same place, where the group of this tag may open next.
+    fn waiting_for(self, tag: &'a [u8]) -> Place<'a>
+        ensures place { place_of result ≡ record (place_of self.entry) { waiting = tag.now } }
+        ensures depth { result.depth ≤ self.entry.depth + 1 }
+    {
+        Place {
+            section: self.section,
+            group: self.group,
+            depth: self.depth,
+            waiting: tag,
         }
     }
 
@@ -70,6 +89,7 @@ impl<'a> Place<'a> {
             section: self.section,
             group,
             depth: self.depth + 1,
+            waiting: b"",
         }
     }
 
@@ -85,6 +105,17 @@ impl<'a> Place<'a> {
             section: self.section,
             group: self.group,
             depth: self.depth - 1,
+            waiting: b"",
         }
+    }
+}
+
+/// The tag of a relation without a value; else no tag.
+fn named<'a>(tag: &'a [u8], value: &[u8]) -> &'a [u8]
+    ensures { result.now ≡ named tag.now value.now }
+{
+    match value.split_first() {
+        None => tag,
+        Some(_) => b"",
     }
 }

@@ -3,7 +3,7 @@
 #![tactic(auto)]
 
 use client_login::{
-    KdcClient, Kdcs, Login, LoginFault, Password, Secret, Wishes, granting_service,
+    KdcClient, Kdcs, Login, LoginFault, Password, Secret, Transports, Wishes, granting_service,
 };
 use client_sockets::{SocketExchange, now};
 use cred_files::{Credential, Principal};
@@ -75,7 +75,7 @@ fn get_ticket(
     rt.fill_bytes(&mut seed)?;
     let mut rng = ChaCha20Rng::from_seed(seed);
     let addresses = Vec::from_array(alloc, [kdc])?;
-    let kdcs = Kdcs::new(SocketExchange::new(rt), addresses, false);
+    let kdcs = Kdcs::new(SocketExchange::new(rt), addresses, Transports::UdpFirst);
     let mut client = KdcClient { kdcs, at: now(rt)? };
     match client.log_in(alloc, &mut rng, login, secret) {
         Ok(granting) => Ok(client.service_ticket(alloc, &mut rng, &granting, service)),

@@ -1,8 +1,8 @@
-use Rattle.std.proofs.Common.{rules, ◌≡◌, ◌+◌, ◌≤◌, ℕ, suc, arith, Bool, true, false, List, [], ◌∷◌, ◌++◌, length, map, take, option_map, Option, Some, None, refl, sym, ap, ◌∙◌}
+use Rattle.std.proofs.Common.{rules, ◌≡◌, ◌+◌, ◌≤◌, suc, arith, true, false, [], ◌∷◌, ◌++◌, length, map, take, option_map, None, sym, ap, ◌∙◌}
 use Rattle.std.specs.Prelude.{cond}
 use Rattle.std.specs.FinMap.{entries, len-entries}
 use Rattle.std.proofs.lemmas.List.{map-append, take_all}
-use Rattle.kadm_run.specs.Denying.{is_user, users}
+use Rattle.kadm_run.specs.Denying.{is_user}
 use Rattle.kadm_run.proofs.Users.{passing, stepped, with_entry}
 use Rattle.kadm_run.proofs.denying.users_of.Goals as goal
 use Rattle.kadm_run.proofs.denying.users_of.Goals.{in-Some+then-is_user+in_ok-copy+in_ok-push, in-Some+else-is_user, in_default}

@@ -1,5 +1,5 @@
 use Rattle.std.proofs.Common.{◌≡◌, drop}
-use Rattle.kadm_run.specs.Granting.{dropped}
+use Rattle.kadm_run.proofs.Older.{dropped}
 use Rattle.kadm_run.proofs.granting.drop_older.Given as goal
 
 -- what is left to drop makes of the database what all numbers made of the first one

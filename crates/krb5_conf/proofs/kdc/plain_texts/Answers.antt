@@ -1,5 +1,5 @@
 use Rattle.std.proofs.Common.{map}
-use Rattle.krb5_conf.proofs.AddressLaws.{one_text}
+use Rattle.krb5_conf.proofs.TextLaws.{one_text}
 use Rattle.krb5_conf.proofs.kdc.plain_texts.Goals as goal
 
 pub loop-text-preserved : goal.loop-text-preserved

@@ -1,0 +1,203 @@
+//! The command that adds a principal with the keys that a keytab has of it, in all their versions.
+ghost use Rattle.std.specs.Prelude.{◌≡◌, ◌∷◌, ◌&&◌, IfOk, OnErr, OnOk};
+ghost use Rattle.cred_files.specs.Keytab.{is_of};
+ghost use Rattle.kadm_run.specs.Importing.{AreTaken, AreVersionsOf, HasVersions, Imports, greater, is_below, key_at};
+ghost use Rattle.kadm_run.specs.Importing.{keys_at, next_number, with_version};
+ghost use Rattle.kadm_run.specs.Worlds.{Imported};
+
+use crate::databases::{open_database, write_database};
+use crate::order::{ImportOrder, Order};
+use crate::reason::Reason;
+use crate::stop::Stop;
+use cred_files::{Keytab, KeytabEntry};
+use enctypes::{Etype, Key};
+use file_store::{Store, read_file};
+use krb_fields::Name;
+use principal_rows::{KeyList, KeyVersion, Versions};
+use principals::{ChangeFault, Database};
+use std::alloc::{AllocError, Global};
+use std::io::Write;
+
+/// Adds a principal with the keys that a keytab has of it.
+pub(crate) fn import<'p, T: Store, E: Write>(
+    alloc: Global,
+    order: &Order<'p>,
+    store: &mut T,
+    errors: &mut E,
+    to: ImportOrder<'p>,
+) -> Result<(), Stop<'p>>
+    ensures done { OnOk result (Imported (T.world store.old) order.now.db.now order.now.etypes.items to.entry (T.world store.new)) }
+    ensures kept { OnErr result (T.world store.new ≡ T.world store.old) }
+{
+    let who = Name::from_text(alloc, to.name)?;
+    let mut database = open_database(alloc, order, store, errors)?;
+    let versions = read_versions(alloc, store, to.keytab, &database, &who, &order.etypes)?;
+    add_imported(alloc, &mut database, &who, versions)?;
+    write_database(alloc, store, order.db, &database)
+}
+
+/// Adds a principal with these versions of its keys.
+#[tactic(auto, using(crate::proofs::Doing::imports_by))]
+fn add_imported(
+    alloc: Global,
+    database: &mut Database,
+    who: &Name,
+    versions: Versions,
+) -> Result<(), ChangeFault>
+    ensures { OnOk result (Imports database.old who.now.components versions database.new) }
+{
+    database.import(alloc, who, versions)
+}
+
+/// Reads the keys of these types that the keytab at a path has of a principal.
+fn read_versions<'p, T: Store>(
+    alloc: Global,
+    store: &mut T,
+    path: &'p str,
+    database: &Database,
+    who: &Name,
+    etypes: &[Etype],
+) -> Result<Versions, Stop<'p>>
+    ensures read { IfOk result (λ versions. HasVersions (T.world store.old) path.now
+        (database.now.realm ∷ who.now.components) etypes.now versions) }
+    ensures kept { T.world store.new ≡ T.world store.old }
+{
+    let octets = read_file(alloc, store, path)?;
+    let keytab = Keytab::read(alloc, &octets)?;
+    versions_of(alloc, &keytab, database.realm(), who, etypes)
+}
+
+/// The versions of a principal's keys, of these types.
+fn versions_of(
+    alloc: Global,
+    keytab: &Keytab,
+    realm: &[u8],
+    who: &Name,
+    etypes: &[Etype],
+) -> Result<Versions, Stop<'static>>
+    ensures { IfOk result (λ versions. AreVersionsOf keytab.now (realm.now ∷ who.now.components) etypes.now versions) }
+{
+    let versions = taken_versions(alloc, keytab, realm, who, etypes)?;
+    match Versions::new(versions) {
+        Some(versions) => Ok(versions),
+        None => Err(Stop::Refused(Reason::NoKeys)),
+    }
+}
+
+/// Each version of a principal, if the keytab has a key of it of these types; the greatest number first.
+fn taken_versions(
+    alloc: Global,
+    keytab: &Keytab,
+    realm: &[u8],
+    who: &Name,
+    etypes: &[Etype],
+) -> Result<Vec<KeyVersion>, Stop<'static>>
+    ensures { IfOk result (λ versions. AreTaken keytab.now (realm.now ∷ who.now.components) etypes.now versions.items) }
+{
+    let mut versions = Vec::new(alloc);
+    let mut bound = None;
+    while let Some(number) = number_below(keytab.entries(), realm, who, bound) {
+        let keys = keys_at(alloc, keytab, realm, who, etypes, number)?;
+        push_version(alloc, &mut versions, number, &keys)?;
+        bound = Some(number);
+    }
+    Ok(versions)
+}
+
+/// Adds a version with these keys, if there is one.
+#[tactic(auto, using(crate::proofs::Imports::some_keys))]
+fn push_version(
+    alloc: Global,
+    versions: &mut Vec<KeyVersion>,
+    number: u32,
+    keys: &[Key],
+) -> Result<(), Stop<'static>>
+    ensures { OnOk result (versions.new.items ≡ with_version number keys.now versions.old.items) }
+{
+    if keys.is_empty() {
+        return Ok(());
+    }
+    let keys = KeyList::new(alloc, keys)?;
+    versions.push(KeyVersion { number, keys })?;
+    Ok(())
+}
+
+/// The greatest number below a bound, if there is one, of a version of a principal's keys.
+fn number_below(
+    entries: &[KeytabEntry],
+    realm: &[u8],
+    who: &Name,
+    bound: Option<u32>,
+) -> Option<u32>
+    ensures { result ≡ next_number (realm.now ∷ who.now.components) bound entries.now }
+{
+    let mut found = None;
+    for i in (0..entries.len()).rev() {
+        let entry = &entries[i];
+        if may_be_next(entry, realm, who, bound) {
+            found = Some(greater(entry.version, found));
+        }
+    }
+    found
+}
+
+/// Checks whether an entry is of the principal, and its version below the bound.
+fn may_be_next(entry: &KeytabEntry, realm: &[u8], who: &Name, bound: Option<u32>) -> bool
+    ensures { result ≡ (is_of (realm.now ∷ who.now.components) entry.now && is_below bound entry.now.version) }
+{
+    is_entry_of(entry, realm, who) && is_below(bound, entry.version)
+}
+
+fn is_below(bound: Option<u32>, number: u32) -> bool
+    ensures { result ≡ is_below bound number }
+{
+    match bound {
+        Some(bound) => number < bound,
+        None => true,
+    }
+}
+
+fn greater(number: u32, found: Option<u32>) -> u32
+    ensures { result ≡ greater number found }
+{
+    match found {
+        Some(other) => number.max(other),
+        None => number,
+    }
+}
+
+fn is_entry_of(entry: &KeytabEntry, realm: &[u8], who: &Name) -> bool
+    ensures { result ≡ is_of (realm.now ∷ who.now.components) entry.now }
+{
+    entry.realm.as_slice() == realm && entry.name.is_same(who)
+}
+
+/// The keys of a version, of these types and in their order.
+fn keys_at(
+    alloc: Global,
+    keytab: &Keytab,
+    realm: &[u8],
+    who: &Name,
+    etypes: &[Etype],
+    number: u32,
+) -> Result<Vec<Key>, AllocError>
+    ensures { IfOk result (λ keys. keys.items ≡ keys_at keytab.now (realm.now ∷ who.now.components) etypes.now number) }
+{
+    let mut keys = Vec::new(alloc);
+    for etype in etypes {
+        if let Some(key) = key_at(keytab, realm, who, *etype, number) {
+            keys.push(key)?;
+        }
+    }
+    Ok(keys)
+}
+
+/// The key of a version and of a type.
+fn key_at(keytab: &Keytab, realm: &[u8], who: &Name, etype: Etype, number: u32) -> Option<Key>
+    ensures { result ≡ key_at keytab.now (realm.now ∷ who.now.components) number etype }
+{
+    match keytab.find(realm, who, etype, Some(number)) {
+        Ok(key) => Some(*key),
+        Err(_) => None,
+    }
+}
