@@ -38,6 +38,8 @@ SERVICES = [(b"host", b"n%d" % number) for number in range(10)]
 # A service of the longest name that a request of 4,096 bytes can ask for, if the realm has one.
 LONG_SERVICE = (b"a" * 255,) * 13
 TICKET, ERROR = 0x6D, 0x7E
+# How many requests are sent on a connection before their replies are read. The server keeps 150,000 bytes of replies at the most.
+BATCH = 16
 
 
 def clock(seconds):
@@ -221,12 +223,12 @@ def pins(words, folder, what, remembered, make, wanted):
     # Ahead, so that none is too old before the last one came.
     ahead = lambda: int(time.time()) + SKEW - 5
     with server.connect() as connection:
-        for number in range(remembered):
-            request = make(known, ahead(), number)
-            connection.sendall(framed(request))
-            reply = read_message(connection)
-            odd += reply[0] != wanted
-            lengths = len(request), len(reply)
+        for place in range(0, remembered, BATCH):
+            requests = [make(known, ahead(), number) for number in range(place, min(place + BATCH, remembered))]
+            connection.sendall(b"".join(map(framed, requests)))
+            replies = [read_message(connection) for _ in requests]
+            odd += sum(reply[0] != wanted for reply in replies)
+            lengths = len(requests[-1]), len(replies[-1])
         connection.sendall(framed(make(known, ahead(), remembered)))
         last = answer(read_message(connection))
     kib = server.resident_kib() - begun
