@@ -299,7 +299,7 @@ class Server:
     """`kdcd serve` on a port of 127.0.0.1 that was free, or on the addresses of `words`. Standard error goes to a file,
     or elsewhere."""
 
-    def __init__(self, trial, words="--first", errors=None, environment=None):
+    def __init__(self, trial, words="--first", errors=None, environment=None, **more):
         self.file, self.out = trial.folder / f"log{len(RUNNING)}", trial.folder / f"out{len(RUNNING)}"
         address = f"127.0.0.1:{free_port()}"
         words += "" if "--udp" in words else f" --udp {address} --tcp {address}"
@@ -307,7 +307,7 @@ class Server:
         with open(self.file, "wb") as file, open(self.out, "wb") as out:
             words = ["kdcd", "serve", "--db", "database", *shlex.split(words)]
             how = {"stdin": subprocess.DEVNULL, "stdout": out, "stderr": file if errors is None else errors}
-            how["env"] = environment or trial.environment
+            how |= {"env": environment or trial.environment, **more}
             self.process = trial.start(words, **how)
         self.is_up = self.wait(self.read_addresses if errors is None else lambda: self.answer("nobody", 1) == "6")
         if not self.is_up:

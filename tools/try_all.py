@@ -232,7 +232,7 @@ def parts(stock):
         Part("services in C", script("services_in_c.py", "--without-mit", *words), stock.services, True),
         *[Part(f"hostile {each}", script("hostile_kdc.py", "--only", each)) for each in ("answers", "octets", "files")],
         *map(operator, ("stock", "words", "log", "limits", "pairs", "kclient")),
-        *map(fault, ("memory", "each", "killed", "sockets")),
+        *map(fault, ("memory", "each", "killed", "journal", "sockets")),
         Part("kadm killed at its calls", script("kill_kadm.py", "--every", 7), stock.strace),
         client("kdcd"), client("mit", lambda: stock.need("mit")), client("heimdal", lambda: stock.need("heimdal")),
         *map(operator, ("lock", "change", "kadm", "addresses", "terminal")),

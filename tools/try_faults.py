@@ -10,14 +10,17 @@ refused, one in a run. It prints a line for each thing that it tried, with `ok` 
 
 import argparse
 import contextlib
+import functools
 import json
 import pathlib
 import random
+import resource
 import shutil
 import signal
 import socket
 import subprocess
 import tempfile
+import threading
 import time
 
 from kerberos import body, field, integer, key_of, sequence, tgs_req, ticket_in, tlv
@@ -280,6 +283,149 @@ def try_killed(trial):
     trial.note("what is left of them is the owner's alone", "" if modes <= {0o600} else str(modes))
 
 
+# How often a server with a journal is killed, and how often it gets SIGTERM while requests come.
+JOURNAL_KILLS, JOURNAL_RESTARTS = 20, 5
+# How many octets a journal may have where the disk is full: some thirty records.
+FULL = 2048
+
+
+class Buyer:
+    """A client that buys tickets of a server with a journal, each with an authenticator of its own."""
+
+    def __init__(self, trial, server):
+        self.trial, self.turn = trial, 0
+        with datagrams(server.udp) as peer:
+            reply = ask_udp(peer, login("v"))
+        self.ticket, self.key = ticket_in(key_of(b"a password", REALM.encode() + b"v"), reply)
+
+    def request(self):
+        self.turn += 1
+        return tgs_req(REALM.encode(), b"v", (b"h",), self.ticket, self.key, int(time.time()), self.turn)
+
+    def buy(self, server, request=None, tries=3):
+        """What a request gets; the next new one unless it is given."""
+        with datagrams(server.udp) as peer:
+            return answer(ask_udp(peer, request or self.request(), tries))
+
+
+def again(trial, server, kill=False, words=""):
+    """The server of this realm once more, after its end."""
+    if kill:
+        server.process.kill()
+        server.process.wait(PATIENCE)
+    else:
+        server.end()
+    return trial.serve(f"--journal run/journal {words}")
+
+
+def resumed(server, what="resumed with"):
+    """What is wrong unless it says this of its journal."""
+    return "" if f"journal run/journal: {what}" in server.said() else f"it says {server.said()!r}"
+
+
+def try_journal(trial):
+    """A server with a journal: restarts under load, kills, files that are cut, changed, of others, and a disk that is full."""
+    trial.realm("journal")
+    folder = trial.folder / "run"
+    folder.mkdir()
+    server = trial.serve("--first --journal run/journal")
+    buyer = Buyer(trial, server)
+    requests = [buyer.request() for _ in range(3)]
+    found = [buyer.buy(server, request) for request in requests]
+    trial.note("a server with a new journal sells tickets", "" if found == ["ticket"] * 3 else str(found))
+    second = trial.run("kdcd serve --db database --udp 127.0.0.1:0 --journal run/journal --rounds 0")
+    trial.note("a second process does not take its journal", second.fault(3, "=failed", "another process appends to it"))
+    server = again(trial, server)
+    trial.note("a restart resumes", resumed(server, "resumed with 3 authenticators"))
+    found = [buyer.buy(server, request) for request in requests] + [buyer.buy(server)]
+    trial.note("what was answered before gets 34, and a new request a ticket", "" if found == ["34"] * 3 + ["ticket"] else str(found))
+    server.end()
+    first = trial.run("kdcd serve --db database --udp 127.0.0.1:0 --journal run/journal --first --rounds 0")
+    trial.note("--first is refused beside a journal", first.fault(3, "=failed", "--first is for the first start alone"))
+    try_restarts(trial, buyer)
+    try_kills(trial, buyer)
+    try_doubts(trial, folder / "journal", buyer)
+    try_full(trial, folder, buyer)
+
+
+def try_restarts(trial, buyer):
+    """SIGTERM while requests come: each gets a ticket, if it is asked again where no reply comes."""
+    server, found = trial.serve("--journal run/journal"), []
+    for _ in range(JOURNAL_RESTARTS):
+        found += [buyer.buy(server) for _ in range(50)]
+        server = again(trial, server)
+        found.append(buyer.buy(server))
+    others = [each for each in found if each != "ticket"]
+    trial.note(f"{JOURNAL_RESTARTS} restarts, and {len(found)} requests around them: each gets a ticket", str(others) if others else "")
+    server.end()
+
+
+def try_kills(trial, buyer):
+    """Killed at a random moment: no request that was answered buys another ticket."""
+    server, faults, count = trial.serve("--journal run/journal"), [], 0
+    for _ in range(JOURNAL_KILLS):
+        end, sold = time.monotonic() + random.uniform(0.05, 0.5), []
+        killer = threading.Timer(end - time.monotonic(), server.process.kill)
+        killer.start()
+        while time.monotonic() < end:
+            request = buyer.request()
+            if buyer.buy(server, request, 1) == "ticket":
+                sold.append(request)
+        killer.join()
+        server = again(trial, server, kill=True)
+        faults += [fault for fault in [resumed(server)] if fault]
+        found = [buyer.buy(server, request) for request in sold[-200:]]
+        faults += [each for each in found if each != "34"]
+        count += len(found)
+    trial.note(f"{JOURNAL_KILLS} kills, and {count} requests of before once more: each gets 34", "; ".join(faults[:3]))
+    server.end()
+
+
+def try_doubts(trial, file, buyer):
+    """Journals that a start does not resume."""
+    whole = file.read_bytes()
+    changed = bytes([*whole[:100], whole[100] ^ 1, *whole[101:]])
+    for what, octets, mode in (
+        ("cut", whole[:-1], 0o600), ("changed", changed, 0o600), ("empty", b"", 0o600), ("another file", b"text", 0o600),
+        ("what others may write", whole, 0o666),
+    ):
+        file.write_bytes(octets)
+        file.chmod(mode)
+        server = trial.serve("--journal run/journal")
+        fault = resumed(server, "not resumed: it is damaged, or others may write it")
+        found = buyer.buy(server)
+        trial.note(f"a journal that is {what} is not resumed", fault or ("" if found == "37" else f"a request gets {found}"))
+        server.end()
+    file.unlink()
+    server = trial.serve("--journal run/journal")
+    trial.note("a journal that was removed is not resumed", resumed(server, "not resumed: there is none"))
+    server.end()
+
+
+def try_full(trial, folder, buyer):
+    """No room for a record: no reply is sent until there is, and then the journal goes on."""
+    for file in folder.iterdir():
+        file.unlink()
+    limits = functools.partial(resource.setrlimit, resource.RLIMIT_FSIZE, (FULL, FULL))
+    server = trial.serve("--first --journal run/journal", preexec_fn=limits, restore_signals=False)
+    (folder / "journal").unlink()
+    folder.rmdir()
+    sold = 0
+    while sold < 100 and buyer.buy(server, tries=1) == "ticket":
+        sold += 1
+    trial.note(f"where a record can't be written, no reply is sent ({sold} were)", "" if 0 < sold < 100 else "they are")
+    trial.note("nor is any other", "" if server.answer("v", 1) != "ticket" else "a login gets a ticket")
+    folder.mkdir()
+    found = [buyer.buy(server), server.answer("v")]
+    trial.note("once it can be, they are sent", "" if found == ["ticket"] * 2 else str(found))
+    said = server.said()
+    fault = "" if "no reply is sent until it can be written" in said and "it can be written again" in said else f"it says {said!r}"
+    trial.note("both are said", fault)
+    server = again(trial, server)
+    trial.note("and the next start resumes", resumed(server))
+    server.end()
+
+
 # Refuses the allocation whose number REFUSED says, and writes how many there were into the file COUNTED.
 LINES = r"""
 #define _GNU_SOURCE
@@ -405,7 +551,7 @@ def try_server_memory(trial, environment):
     trial.note(what, "; ".join(faults[:3]))
 
 
-PARTS = {"sockets": try_sockets, "each": try_each, "killed": try_killed, "memory": try_memory}
+PARTS = {"sockets": try_sockets, "each": try_each, "killed": try_killed, "journal": try_journal, "memory": try_memory}
 
 
 def main():

@@ -78,8 +78,8 @@ COMMANDS = {
     "kadm show": "db! name!",
     "kadm keytab": "db! name! out! append-",
     "kadm migrate": "db! users-are-no-services-",
-    "kdcd serve": "db! udp!* tcp* log- log-format first- fixed- seed rounds remembered lock-after lock-seconds greatest-life "
-    "greatest-renewable",
+    "kdcd serve": "db! udp!* tcp* log- log-format first- journal quiet-start- fixed- seed rounds remembered lock-after lock-seconds "
+    "greatest-life greatest-renewable",
     "kclient kinit": "kdc* realm name! password-file keytab cache! service seed life start least-count renewable- "
     "forwardable- proxiable- tcp- renew- validate-",
     "kclient kvno": "kdc* cache! name!* keytab seed fresh- tcp-",
@@ -311,6 +311,10 @@ def try_limits(trial):
     trial.with_server(f"--first --greatest-life {MOST} --greatest-renewable {MOST}", longest)
     trial.with_server("--first --greatest-life 0", "KINIT u --password-file pw -> 1 =refused 11")
     trial.with_server("", f"{right}KVNO h -> 1 =refused 37")
+    # A login as before, and the next KDC is asked for a ticket that a quiet one says nothing of.
+    other = Server(trial, "--first")
+    trial.with_server("--quiet-start", f"{right}KVNO h --kdc {other.udp} -> 0 =h kvno 1")
+    other.end()
 
 
 def seconds_of(text):

@@ -4,6 +4,7 @@ mod changes;
 mod database_texts;
 mod databases;
 mod given;
+mod journals;
 mod replays;
 mod rows;
 mod times;

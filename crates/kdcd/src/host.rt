@@ -2,7 +2,9 @@
 ghost use Rattle.std.specs.Prelude.{None};
 
 use kdc_wire::{BindFault, SocketWire, now};
-use kdcd_start::{FileFault, Host, RowsFile, read_at_most};
+use kdcd_start::{
+    FileFault, Host, Journals, OpenedJournals, RowsFile, open_journals, read_at_most,
+};
 use krb_fields::Moment;
 use principals::Database;
 use std::alloc::Global;
@@ -24,6 +26,8 @@ const LONGEST_SEED: usize = 16_777_216;
 pub struct SystemHost<'a, W> {
     pub rt: &'a HostRuntime,
     pub rows: RowsFile<'a, HostRuntime, W>,
+    /// The file of the journal that was read, if there is one.
+    pub journal: Option<File>,
 }
 
 impl<W: Write + Drop> Host for SystemHost<'_, W> {
@@ -55,6 +59,12 @@ impl<W: Write + Drop> Host for SystemHost<'_, W> {
     ) -> Result<SocketWire<HostRuntime>, BindFault> {
         let wait = Duration::from_millis(WAIT);
         SocketWire::bind(alloc, self.rt.clone()?, self.rt, udp, tcp, wait)
+    }
+
+    fn read_journals(&mut self, alloc: Global, path: &str) -> Result<Journals, FileFault> {
+        let OpenedJournals { journals, file } = open_journals(alloc, self.rt, path)?;
+        self.journal = file;
+        Ok(journals)
     }
 
     fn now(&mut self) -> io::Result<Moment> {

@@ -1,12 +1,12 @@
 //! Serving a realm: `kdcd serve`.
 use crate::host::SystemHost;
-use kdc_core::Opening;
 use kdc_hub::Hub;
 use kdc_serving::serve_life;
 use kdc_wire::{BindFault, SocketWire};
 use kdcd_start::{
-    ClockWatch, LoggedWire, ReadyServer, RequestLines, RowsFile, ServeOptions, Started,
-    WatchedWire, start_server,
+    ClockWatch, FileFault, JournalFile, JournalFound, JournalNews, JournalWire, LoggedWire,
+    QuietWire, ReadyServer, Refused, RequestLines, RowsFile, ServeOptions, Started, WatchedWire,
+    quiet_until, refused_at_start, start_server, start_with_journal,
 };
 use rand_chacha::ChaCha20Rng;
 use ready_writer::{ReadyWriter, SharedWriter};
@@ -31,16 +31,24 @@ type StartFault<'a> = kdcd_start::StartFault<'a, BindFault>;
 /// Standard error, whose reader may stop reading while the server goes on. All that write to it hold the same one.
 type Errors = SharedWriter<Stderr>;
 
-/// The sockets, the log of the requests that are answered through them, and the lines about a clock that went back.
-type ServerWire = WatchedWire<LoggedWire<SocketWire<HostRuntime>, RequestLines<Errors>>, Errors>;
+/// The sockets, which may be quiet after a start.
+type Sockets = QuietWire<SocketWire<HostRuntime>>;
+
+/// The sockets behind the journal.
+type Journaled<'a> = JournalWire<Sockets, JournalFile<'a, HostRuntime, Errors>>;
+
+/// These, the log of the requests that are answered through them, and the lines about a clock that went back.
+type ServerWire<'a> = WatchedWire<LoggedWire<Journaled<'a>, RequestLines<Errors>>, Errors>;
 
 /// A server that listens.
 #[derive(Drop)]
 struct Server<'a> {
     hub: Hub<ChaCha20Rng>,
-    wire: ServerWire,
-    /// How its KDC was opened.
-    opening: Opening,
+    wire: ServerWire<'a>,
+    /// What its start made of the journal, if it has one.
+    journal: Option<JournalFound>,
+    /// Which requests are refused after the start, if any are.
+    refused: Option<Refused>,
     /// How many rows it starts with.
     row_count: usize,
     /// Where its rows come from, unless they are fixed.
@@ -85,7 +93,7 @@ fn say_start(
     server: &mut Server<'_>,
     options: &ServeOptions<'_>,
 ) -> io::Result<()> {
-    let sockets = server.wire.wire().wire();
+    let sockets = server.wire.wire().wire().wire().wire();
     let udp = sockets.udp_addresses(rt.alloc())?;
     let tcp = sockets.tcp_addresses(rt.alloc())?;
     let started = Started {
@@ -93,7 +101,9 @@ fn say_start(
         tcp: &tcp,
         db: options.db,
         rows: server.row_count,
-        opening: server.opening,
+        journal: news_of(options, server.journal),
+        refused: server.refused,
+        is_quiet: options.is_quiet,
         limits: options.limits,
     };
     say(&mut server.errors, &started);
@@ -101,7 +111,7 @@ fn say_start(
 }
 
 /// Says how many lines of the log were lost, if any.
-fn say_lost(errors: &mut Errors, wire: &ServerWire) {
+fn say_lost(errors: &mut Errors, wire: &ServerWire<'_>) {
     let lost = wire.wire().log().map_or(0, |log| log.unreported());
     if lost > 0 {
         say(errors, &format_args!("kdcd: log: {lost} lines are lost\n"));
@@ -128,6 +138,26 @@ fn report(rt: &HostRuntime, fault: &StartFault<'_>) -> io::Result<u8> {
     }
 }
 
+/// What is said of the journal, if there is one.
+fn news_of<'a>(
+    options: &ServeOptions<'a>,
+    found: Option<JournalFound>,
+) -> Option<JournalNews<'a>> {
+    match (options.journal, found) {
+        (Some(path), Some(found)) => Some(JournalNews { path, found }),
+        (None, _) | (_, None) => None,
+    }
+}
+
+/// What a server begins with.
+#[derive(Drop)]
+struct Begun<'a> {
+    server: ReadyServer<SocketWire<HostRuntime>>,
+    journal: Option<JournalFile<'a, HostRuntime, Errors>>,
+    found: Option<JournalFound>,
+    refused: Option<Refused>,
+}
+
 /// Starts a server that writes to standard error.
 fn start<'a>(
     rt: &'a HostRuntime,
@@ -136,25 +166,73 @@ fn start<'a>(
     let errors = errors_of(rt)?;
     let log = open_log(options, &errors)?;
     let rows = RowsFile::new(rt, options.db, errors.share()?);
-    let mut host = SystemHost { rt, rows };
-    let ReadyServer {
-        hub,
-        sockets,
-        opening,
-        row_count,
-    } = start_server(rt.alloc(), &mut host, options)?;
+    let mut host = SystemHost {
+        rt,
+        rows,
+        journal: None,
+    };
+    let begun = match options.journal {
+        Some(path) => begin_with_journal(rt, &mut host, options, path, errors.share()?)?,
+        None => begin(rt, &mut host, options)?,
+    };
+    let Begun {
+        server,
+        journal,
+        found,
+        refused,
+    } = begun;
+    let sockets = QuietWire::new(server.sockets, quiet_until(refused, options.is_quiet));
     Ok(Server {
-        hub,
+        hub: server.hub,
         wire: WatchedWire::new(
-            LoggedWire::new(sockets, log),
-            ClockWatch::new(opening),
+            LoggedWire::new(JournalWire::new(sockets, journal), log),
+            ClockWatch::new(server.opening),
             errors.share()?,
         ),
-        opening,
-        row_count,
+        journal: found,
+        refused,
+        row_count: server.row_count,
         rows: (!options.is_fixed).then_some(host.rows),
         errors,
     })
+}
+
+fn begin<'a>(
+    rt: &'a HostRuntime,
+    host: &mut SystemHost<'a, Errors>,
+    options: &ServeOptions<'a>,
+) -> Result<Begun<'a>, StartFault<'a>> {
+    let server = start_server(rt.alloc(), host, options)?;
+    let refused = refused_at_start(server.opening);
+    Ok(Begun {
+        server,
+        journal: None,
+        found: None,
+        refused,
+    })
+}
+
+/// The same with the journal at a path, which writes its lines to `errors`.
+fn begin_with_journal<'a>(
+    rt: &'a HostRuntime,
+    host: &mut SystemHost<'a, Errors>,
+    options: &ServeOptions<'a>,
+    path: &'a str,
+    errors: Errors,
+) -> Result<Begun<'a>, StartFault<'a>> {
+    let started = start_with_journal(rt.alloc(), host, options, path)?;
+    let refused = started.refused();
+    let found = JournalFound::of(&started.start);
+    let (server, begun) = started.begin_journal(rt.alloc(), rt, path, errors, host.journal.take());
+    match begun {
+        Ok(journal) => Ok(Begun {
+            server,
+            journal: Some(journal),
+            found: Some(found),
+            refused,
+        }),
+        Err(error) => Err(StartFault::File(path, FileFault::Failed(error))),
+    }
 }
 
 fn errors_of<'a>(rt: &HostRuntime) -> Result<Errors, StartFault<'a>> {

@@ -1,1 +1,2 @@
 pub mod Ready
+mod Handings

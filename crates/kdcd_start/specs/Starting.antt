@@ -1,5 +1,5 @@
 -- How a server starts: what it asks of its host, in which order, and the hub that it makes of it.
-use Rattle.std.specs.Prelude.{◌≡◌, ℕ, Bool, true, false, List, [], ◌∷◌, take, Option, Some, None, is_some}
+use Rattle.std.specs.Prelude.{◌≡◌, ◌||◌, ℕ, Bool, true, false, List, [], ◌∷◌, take, Option, Some, None, is_some}
 use Rattle.std.specs.FinMap as map
 use Rattle.std.specs.Option.{option_copied}
 use Rattle.std.specs.declared.net.socket_addr.SocketAddr.{SocketAddr}
@@ -14,15 +14,17 @@ use Rattle.kdc_state.specs.State.{opened_state}
 use Rattle.kdc_hub.specs.Hub.{Standing}
 use Rattle.kdc_hub.specs.Wire.{Records}
 use Rattle.kdcd_start.specs.declared.args.ServeOptions.{ServeOptions}
+use Rattle.kdcd_start.specs.declared.host.Journals.{Journals}
 
 -- A call of a host that succeeded, with its outcome: it read the rows of the database; it read the octets of the file
 -- of the seed at a path; the system gave random octets; sockets for datagrams and sockets that take connections are
--- held at these addresses from then on; the clock showed a moment.
+-- held at these addresses from then on; it holds the journal at a path, and read these; the clock showed a moment.
 pub data HostDid : Type 0 where
   ReadRows : Principals → HostDid
   ReadSeed : List ℕ → List ℕ → HostDid
   Drew : List ℕ → HostDid
   Held : List SocketAddr → List SocketAddr → HostDid
+  ReadJournals : List ℕ → Journals → HostDid
   Showed : Moment → HostDid
 
 -- the octets come from the file that the option names, or else from the system
@@ -66,6 +68,6 @@ pub record IsReady (options : ServeOptions) (before after : Option (List HostDid
   pub first : is_first opening ≡ options.is_first
   pub kdc : hub.issuing.kdc ≡ opened_state rows options.limits opening
   pub random : hub.issuing.random ≡ seeded (seed_by (option_copied options.seed) octets)
-  pub accounts : hub.issuing.accounts ≡ is_some options.log
+  pub accounts : hub.issuing.accounts ≡ (is_some options.log || options.is_quiet)
   pub connections : hub.connections ≡ map.empty
   pub count : row_count ≡ map.len rows.rows

@@ -24,6 +24,10 @@ pub struct ServeOptions<'a> {
     pub limits: Limits,
     /// Whether no request was ever answered with this database.
     pub is_first: bool,
+    /// Whether TGS-REQs get no reply as long as all of them are refused.
+    pub is_quiet: bool,
+    /// The path of the journal's file, if there is one.
+    pub journal: Option<&'a str>,
     /// Whether the database is read once, and never looked at again.
     pub is_fixed: bool,
     /// How each request is written to standard error, if it is.
@@ -69,6 +73,12 @@ and the limits. A port 0 is one that the system gives. While the clock shows an 
 says which TGS-REQs are refused for that, and until when. With --log each request is a line there: the time in UTC, the peer, udp or tcp, as or tgs, the
 client, the service, and what became of it: `ticket` with its lifetime, or `refused` with the error's code and a word for
 it; then rule=NAME for a refusal, and etype=, flags=, until= and renew= for a ticket. A line that can't be written is lost.
+
+With --journal each authenticator that enters a replay cache is a record of FILE before its reply is sent. A start finds
+the records of the last run, refuses those authenticators, and nothing else. It does so only if nothing is in doubt: the journal is
+of this realm and this boot of the system, whole, and not later than the clock. Else it starts as without a journal, and
+standard error says why. FILE and FILE.old take turns every ten minutes. While a record can't be written no reply is sent;
+standard error says so. --first is refused where there is a journal: it is for the first start alone.
 
 Status: 0 after the last round; 1 where a file is refused (`refused NAME`: NotJson, BadVersion, BadRow,
 NoTicketGranter, ShortSeed, LongFile); 2 for these words; 3 where a file, a socket, the clock or memory failed
@@ -139,6 +149,12 @@ const SERVE: SubcommandRow = SubcommandRow {
             times: Times::AtMostOnce,
         },
         OptionRow {
+            name: "journal",
+            shape: "FILE",
+            help: "The records of the replay caches, so that a restart goes on with them and refuses nothing new",
+            times: Times::AtMostOnce,
+        },
+        OptionRow {
             name: "log-format",
             shape: "FORMAT",
             help: "Each request is a line on standard error, as text, or as an object of JSON with json",
@@ -150,6 +166,10 @@ const SERVE: SubcommandRow = SubcommandRow {
             name: "first",
             help: "\
                 No request was ever answered with this database; else TGS-REQs are refused as skewed for 301 seconds",
+        },
+        FlagRow {
+            name: "quiet-start",
+            help: "While all TGS-REQs are refused after a start, they get no reply, so that clients ask another KDC",
         },
         FlagRow {
             name: "fixed",
@@ -220,6 +240,8 @@ fn with_addresses<'a>(
         seed: args.get_str("seed"),
         limits,
         is_first: args.get_flag("first"),
+        is_quiet: args.get_flag("quiet-start"),
+        journal: args.get_str("journal"),
         is_fixed: args.get_flag("fixed"),
         log,
     })

@@ -1,14 +1,27 @@
 //! What a server is started from.
 ghost use Rattle.std.specs.Prelude.{◌∷◌, [], List, Option, IfOk};
 ghost use Rattle.kdc_hub.specs.Wire.{Records};
-ghost use Rattle.kdcd_start.specs.Starting.{HostDid, ReadRows, ReadSeed, Drew, Held, Showed};
+ghost use Rattle.kdcd_start.specs.Starting.{HostDid, ReadRows, ReadSeed, Drew, Held, ReadJournals, Showed};
 
 use crate::files::FileFault;
+use journal::Found;
+use krb_elements::Octets;
 use krb_fields::Moment;
 use principals::Database;
 use std::alloc::Global;
 use std::io;
 use std::net::SocketAddr;
+
+/// What stands where a journal is to be.
+#[derive(Drop)]
+pub struct Journals {
+    /// The system's name for its boot.
+    pub boot: Octets,
+    /// The journal that went before the newer one.
+    pub older: Found,
+    /// The journal that is appended to.
+    pub newer: Found,
+}
 
 /// What a server is started from: a database, random octets, sockets and a clock. A host may keep a record, for
 /// contracts alone.
@@ -43,6 +56,12 @@ pub trait Host {
         tcp: &[SocketAddr],
     ) -> Result<Self::Sockets, Self::SocketFault>
         ensures { IfOk result (λ _. Records (recorded self.old) (Held udp.now tcp.now ∷ []) (recorded self.new)) };
+
+    /// Holds the journal at a path, and reads it with the one that went before it: no other process appends to it from
+    /// then on.
+    fn read_journals(&mut self, alloc: Global, path: &str) -> Result<Journals, FileFault>
+        ensures { IfOk result (λ journals.
+            Records (recorded self.old) (ReadJournals path.now journals ∷ []) (recorded self.new)) };
 
     /// Returns the moment that the clock shows.
     fn now(&mut self) -> io::Result<Moment>

@@ -1,12 +1,38 @@
 //! What a server says once it listens.
-use crate::clock_watch::refused_at_start;
-use kdc_core::Opening;
+use crate::clock_watch::Refused;
+use journal::{Doubt, Start};
+use krb_fields::Second;
 use principal_rows::Limits;
 use std::fmt;
 use std::net::SocketAddr;
 
-/// A server that listens. Its text is a line with the addresses, one with the database, one with what is refused after
-/// a restart, and one with the limits.
+/// What a start made of the journal at a path.
+#[derive(Clone, Copy)]
+pub struct JournalNews<'a> {
+    pub path: &'a str,
+    pub found: JournalFound,
+}
+
+#[derive(Clone, Copy)]
+pub enum JournalFound {
+    /// It resumed with this many authenticators.
+    Resumed(usize),
+    /// It could not resume.
+    Doubted(Doubt),
+}
+
+impl JournalFound {
+    /// What a start made of it.
+    pub fn of(start: &Start) -> JournalFound {
+        match start {
+            Start::Resumes { resumption, .. } => JournalFound::Resumed(resumption.seen.len()),
+            Start::Refuses { doubt } => JournalFound::Doubted(*doubt),
+        }
+    }
+}
+
+/// A server that listens. Its text is a line with the addresses, one with the database, one with the journal, if there is
+/// one, one with what is refused after a restart, and one with the limits.
 #[derive(Clone, Copy)]
 pub struct Started<'a> {
     pub udp: &'a [SocketAddr],
@@ -15,7 +41,11 @@ pub struct Started<'a> {
     pub db: &'a str,
     /// How many rows it has.
     pub rows: usize,
-    pub opening: Opening,
+    pub journal: Option<JournalNews<'a>>,
+    /// Which requests are refused after the start, if any are.
+    pub refused: Option<Refused>,
+    /// Whether they get no reply.
+    pub is_quiet: bool,
     pub limits: Limits,
 }
 
@@ -24,10 +54,46 @@ impl fmt::Display for Started<'_> {
         f.write_str("kdcd: serving on ")?;
         write_addresses(f, self.udp, self.tcp)?;
         writeln!(f, "\nkdcd: database {} with {} rows", self.db, self.rows)?;
-        if let Some(refused) = refused_at_start(self.opening) {
-            writeln!(f, "kdcd: restart: {refused}")?;
+        if let Some(news) = &self.journal {
+            write_news(f, news)?;
+        }
+        if let Some(refused) = self.refused {
+            write_refused(f, refused, self.is_quiet)?;
         }
         write_limits(f, &self.limits)
+    }
+}
+
+fn write_news<W: fmt::Write>(f: &mut fmt::Formatter<W>, news: &JournalNews<'_>) -> fmt::Result {
+    let path = news.path;
+    match news.found {
+        JournalFound::Resumed(count) => {
+            writeln!(
+                f,
+                "kdcd: journal {path}: resumed with {count} authenticators"
+            )
+        }
+        JournalFound::Doubted(doubt) => writeln!(f, "kdcd: journal {path}: not resumed: {doubt}"),
+    }
+}
+
+fn write_refused<W: fmt::Write>(
+    f: &mut fmt::Formatter<W>,
+    refused: Refused,
+    is_quiet: bool,
+) -> fmt::Result {
+    writeln!(f, "kdcd: restart: {refused}")?;
+    if is_quiet {
+        writeln!(f, "kdcd: quiet start: they get no reply until then")?;
+    }
+    Ok(())
+}
+
+/// The second before which all requests that are refused get no reply, if the start is quiet.
+pub fn quiet_until(refused: Option<Refused>, is_quiet: bool) -> Option<Second> {
+    match refused {
+        Some(Refused::All(until)) if is_quiet => Second::new(until),
+        Some(_) | None => None,
     }
 }
 

@@ -1,5 +1,5 @@
 //! Starting a server as its options say.
-ghost use Rattle.std.specs.Prelude.{◌≡◌, IfOk, Some};
+ghost use Rattle.std.specs.Prelude.{◌≡◌, ◌||◌, IfOk, Some, is_some};
 ghost use Rattle.std.specs.Option.{option_copied};
 ghost use Rattle.kdc_hub.specs.Hub.{standing};
 ghost use Rattle.kdc_hub.specs.Wire.{Records};
@@ -28,6 +28,8 @@ pub enum StartFault<'a, S> {
     Errors(io::Error),
     Clock(io::Error),
     Sockets(S),
+    /// A first start, with a journal at this path.
+    NotFirst(&'a str),
     Memory,
 }
 
@@ -39,6 +41,12 @@ impl<S: fmt::Display> fmt::Display for StartFault<'_, S> {
             StartFault::Errors(error) => write!(f, "standard error: {error}"),
             StartFault::Clock(error) => write!(f, "the clock: {error}"),
             StartFault::Sockets(fault) => write!(f, "{fault}"),
+            StartFault::NotFirst(path) => {
+                write!(
+                    f,
+                    "--first is for the first start alone, and there is a journal {path}"
+                )
+            }
             StartFault::Memory => f.write_str("out of memory"),
         }
     }
@@ -96,15 +104,22 @@ pub fn start_server<'a, H: Host>(
     let kdc = Kdc::open(alloc, rows, options.limits, opening)?;
     let rng = ChaCha20Rng::from_seed(seed);
     Ok(ReadyServer {
-        hub: Hub::new(alloc, kdc, rng, options.log.is_some()),
+        hub: Hub::new(alloc, kdc, rng, keeps_accounts(options)),
         sockets,
         opening,
         row_count,
     })
 }
 
+/// Whether the log or a quiet start has to know what became of each request.
+pub(crate) fn keeps_accounts(options: &ServeOptions<'_>) -> bool
+    ensures { result ≡ (is_some options.now.log || options.now.is_quiet) }
+{
+    options.log.is_some() || options.is_quiet
+}
+
 /// Takes the seed: the first 32 octets of the file at a path, or octets that the system draws.
-fn take_seed<'a, H: Host>(
+pub(crate) fn take_seed<'a, H: Host>(
     alloc: Global,
     host: &mut H,
     path: Option<&'a str>,

@@ -1,6 +1,11 @@
 //! Starting a server from a host in memory (`kdcd_start`): which calls it makes, and what a call that fails stops.
 use crate::rows::{GRANTER, text_of};
-use kdcd_start::{FileFault, Host, database_of, read_args, serve_options, start_server};
+use journal::Found;
+use kdcd_start::{
+    FileFault, Host, Journals, database_of, read_args, serve_options, start_server,
+    start_with_journal,
+};
+use krb_elements::Octets;
 use krb_fields::Moment;
 use principals::Database;
 use std::alloc::Global;
@@ -16,6 +21,7 @@ enum Call {
     ReadSeed,
     Draw,
     Hold,
+    ReadJournals,
     Now,
 }
 
@@ -32,6 +38,16 @@ const STARTS: &[(&str, &[Call])] = &[
     (
         "--db d --udp 127.0.0.1:88 --seed s",
         &[Call::ReadRows, Call::ReadSeed, Call::Hold, Call::Now],
+    ),
+    (
+        "--db d --udp 127.0.0.1:88 --journal j",
+        &[
+            Call::ReadRows,
+            Call::Draw,
+            Call::Hold,
+            Call::ReadJournals,
+            Call::Now,
+        ],
     ),
 ];
 
@@ -99,6 +115,17 @@ impl Host for ListedHost {
         Ok(())
     }
 
+    fn read_journals(&mut self, alloc: Global, _path: &str) -> Result<Journals, FileFault> {
+        if self.fails(Call::ReadJournals) {
+            return Err(FileFault::LongFile);
+        }
+        Ok(Journals {
+            boot: Octets::from_slice(alloc, b"boot")?,
+            older: Found::Nothing,
+            newer: Found::Nothing,
+        })
+    }
+
     fn now(&mut self) -> io::Result<Moment> {
         if self.fails(Call::Now) {
             return Err(Error::from(ErrorKind::Unsupported));
@@ -128,8 +155,14 @@ fn start(
         calls: Vec::new(alloc),
         failing,
     };
-    let fault = match start_server(alloc, &mut host, &options) {
-        Ok(ready) if ready.row_count == 1 => None,
+    let count = match options.journal {
+        Some(path) => start_with_journal(alloc, &mut host, &options, path).map(|started| started
+            .server
+            .row_count),
+        None => start_server(alloc, &mut host, &options).map(|ready| ready.row_count),
+    };
+    let fault = match count {
+        Ok(1) => None,
         Ok(_) => Err("the rows")?,
         Err(fault) => Some(format!(in alloc; "{fault}")?),
     };

@@ -8,6 +8,10 @@ mod clocks;
 #[cfg(test)]
 mod hosts;
 #[cfg(test)]
+mod journal_files;
+#[cfg(test)]
+mod journaled;
+#[cfg(test)]
 mod lines;
 #[cfg(test)]
 mod lives;
@@ -15,6 +19,8 @@ mod lives;
 mod logged;
 #[cfg(test)]
 mod octets;
+#[cfg(test)]
+mod quiet;
 #[cfg(test)]
 mod rows;
 #[cfg(test)]

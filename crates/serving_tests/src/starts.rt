@@ -1,9 +1,11 @@
 //! What the words of `kdcd serve` stand for, and which files are taken (`kdcd_start`).
 use crate::rows::{GRANTER, text_of};
 use clap::ArgMatches;
+use journal::Doubt;
 use kdc_core::Opening;
 use kdcd_start::{
-    ArgsFault, FileFault, Started, database_of, read_args, read_at_most, seed_of, serve_options,
+    ArgsFault, FileFault, JournalFound, JournalNews, Started, database_of, read_args, read_at_most,
+    refused_at_start, seed_of, serve_options,
 };
 use krb_fields::Moment;
 use principal_rows::Limits;
@@ -120,41 +122,55 @@ const OPTIONS: &[(&str, &str)] = &[
     (
         "\
             --db d --udp 127.0.0.1:88 --udp [::1]:89 --tcp [2001:db8::1]:90 --tcp 192.0.2.1:91 --tcp [::]:92 \
-            --rounds 7 --seed s --first --fixed --log --greatest-renewable 5 --greatest-life 4 --lock-seconds 3 \
+            --rounds 7 --seed s --first --quiet-start --fixed --log --greatest-renewable 5 --greatest-life 4 --lock-seconds 3 \
             --lock-after 2 --remembered 1",
         "\
             ServeOptions { db: \"d\", udp: [127.0.0.1:88, [::1]:89], \
             tcp: [[2001:db8::1]:90, 192.0.2.1:91, [::]:92], rounds: Some(7), seed: Some(\"s\"), \
             limits: Limits { remembered: 1, lock_after: 2, lock_seconds: 3, greatest_life: 4, \
-            greatest_renewable: 5 }, is_first: true, is_fixed: true, log: Some(Text) }",
+            greatest_renewable: 5 }, is_first: true, is_quiet: true, journal: None, is_fixed: true, log: Some(Text) }",
     ),
     (
         "--db d --udp [::]:88",
         "\
             ServeOptions { db: \"d\", udp: [[::]:88], tcp: [], rounds: None, seed: None, \
             limits: Limits { remembered: 4096, lock_after: 0, lock_seconds: 0, greatest_life: 36000, \
-            greatest_renewable: 604800 }, is_first: false, is_fixed: false, log: None }",
+            greatest_renewable: 604800 }, is_first: false, is_quiet: false, journal: None, is_fixed: false, log: None }",
     ),
     (
         "--db d --tcp [::]:88 --first",
         "\
             ServeOptions { db: \"d\", udp: [], tcp: [[::]:88], rounds: None, seed: None, \
             limits: Limits { remembered: 4096, lock_after: 0, lock_seconds: 0, greatest_life: 36000, \
-            greatest_renewable: 604800 }, is_first: true, is_fixed: false, log: None }",
+            greatest_renewable: 604800 }, is_first: true, is_quiet: false, journal: None, is_fixed: false, log: None }",
+    ),
+    (
+        "--db d --tcp [::]:88 --quiet-start",
+        "\
+            ServeOptions { db: \"d\", udp: [], tcp: [[::]:88], rounds: None, seed: None, \
+            limits: Limits { remembered: 4096, lock_after: 0, lock_seconds: 0, greatest_life: 36000, \
+            greatest_renewable: 604800 }, is_first: false, is_quiet: true, journal: None, is_fixed: false, log: None }",
+    ),
+    (
+        "--db d --tcp [::]:88 --journal j",
+        "\
+            ServeOptions { db: \"d\", udp: [], tcp: [[::]:88], rounds: None, seed: None, \
+            limits: Limits { remembered: 4096, lock_after: 0, lock_seconds: 0, greatest_life: 36000, \
+            greatest_renewable: 604800 }, is_first: false, is_quiet: false, journal: Some(\"j\"), is_fixed: false, log: None }",
     ),
     (
         "--db d --tcp [::]:88 --fixed",
         "\
             ServeOptions { db: \"d\", udp: [], tcp: [[::]:88], rounds: None, seed: None, \
             limits: Limits { remembered: 4096, lock_after: 0, lock_seconds: 0, greatest_life: 36000, \
-            greatest_renewable: 604800 }, is_first: false, is_fixed: true, log: None }",
+            greatest_renewable: 604800 }, is_first: false, is_quiet: false, journal: None, is_fixed: true, log: None }",
     ),
     (
         "--db d --tcp [::]:88 --log",
         "\
             ServeOptions { db: \"d\", udp: [], tcp: [[::]:88], rounds: None, seed: None, \
             limits: Limits { remembered: 4096, lock_after: 0, lock_seconds: 0, greatest_life: 36000, \
-            greatest_renewable: 604800 }, is_first: false, is_fixed: false, log: Some(Text) }",
+            greatest_renewable: 604800 }, is_first: false, is_quiet: false, journal: None, is_fixed: false, log: Some(Text) }",
     ),
 ];
 
@@ -207,19 +223,27 @@ fn options_are_those_of_the_args(rt: HostRuntime) -> Result<(), Fail> {
 const STARTED: &str = "\
 kdcd: serving on udp 192.0.2.1:88, udp [2001:db8::1]:88 and tcp 192.0.2.1:88
 kdcd: database /var/lib/kdcd/database with 3 rows
+kdcd: journal /run/kdcd/journal: not resumed: the system was booted since
 kdcd: restart: all TGS-REQs are refused until 2024-01-01T00:05:01Z
+kdcd: quiet start: they get no reply until then
 kdcd: limits: remembered 1, lock-after 2, lock-seconds 3, greatest-life 4, greatest-renewable 5
 ";
 
 #[test]
 fn a_server_says_what_it_serves(rt: HostRuntime) -> Result<(), Fail> {
     let limits = Limits::new(1, 2, 3, 4, 5).ok_or("limits")?;
+    let at = Moment::new(1_704_067_200, 0).ok_or("a moment")?;
     let started = Started {
         udp: &["192.0.2.1:88".parse()?, "[2001:db8::1]:88".parse()?],
         tcp: &["192.0.2.1:88".parse()?],
         db: "/var/lib/kdcd/database",
         rows: 3,
-        opening: Opening::Restart(Moment::new(1_704_067_200, 0).ok_or("a moment")?),
+        journal: Some(JournalNews {
+            path: "/run/kdcd/journal",
+            found: JournalFound::Doubted(Doubt::OtherBoot),
+        }),
+        refused: refused_at_start(Opening::Restart(at)),
+        is_quiet: true,
         limits,
     };
     let text = format!(in rt.alloc(); "{started}")?;

@@ -21,7 +21,7 @@ returns g c =
       first = c.in_ok-opening.ensures.first;
       kdc = c.new.ensures.kdc ∙ c.in_ok-kdc.ensures.opened;
       random = c.new.ensures.random ∙ ap (λ r. stream_of (steps_u32 (next_word 10)) r) c.from_seed-rng.ensures ∙ ap seeded seed.is;
-      accounts = c.new.ensures.accounts ∙ c.is_some.ensures;
+      accounts = c.new.ensures.accounts ∙ c.keeps_accounts.ensures;
       connections = c.new.ensures.connections;
       count = c.len-row_count.ensures;
     }

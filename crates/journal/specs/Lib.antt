@@ -1,0 +1,4 @@
+pub mod Forms
+pub mod Texts
+pub mod Decision
+pub mod Keeping

@@ -1,0 +1,256 @@
+//! What a start makes of the journals that it finds.
+ghost use Rattle.std.specs.Prelude.{◌≡◌, ◌++◌, map, IfOk, OnOk};
+ghost use Rattle.journal.specs.Decision.{any_later, came, doubt_of, entries_behind, floor_behind, is_first, is_later};
+ghost use Rattle.journal.specs.Decision.{is_other_boot, is_other_realm, is_unlinked, links_to, resumption_of};
+ghost use Rattle.journal.specs.Decision.{seen_of, start_by, start_of};
+
+use crate::entry::Entry;
+use crate::reading::Journal;
+use krb_elements::Seq;
+use krb_fields::{Moment, SKEW};
+use refusals::first_holding;
+use replay::{Resumption, Seen};
+use std::alloc::{AllocError, Global};
+use std::fmt;
+
+/// What stands where a journal is to be.
+#[derive(Drop)]
+pub enum Found {
+    /// There is no file.
+    Nothing,
+    /// The octets are no whole journal.
+    Broken,
+    Whole(Journal),
+}
+
+/// Where and when a server starts.
+#[derive(Clone, Copy)]
+pub struct Place<'a> {
+    pub realm: &'a [u8],
+    /// The system's name for its boot.
+    pub boot: &'a [u8],
+    pub at: Moment,
+}
+
+/// Why a start can't resume.
+#[derive(Clone, Copy, Debug, PartialEq, Eq)]
+pub enum Doubt {
+    /// There is no journal.
+    Absent,
+    /// It was cut or changed, or an entry was left out or added.
+    Damaged,
+    OtherRealm,
+    /// The system was booted since, and the end of the journal may be lost.
+    OtherBoot,
+    /// The clock is behind a moment of the journal.
+    Later,
+    /// The journal that goes before this one is not there.
+    Unlinked,
+}
+
+impl fmt::Display for Doubt {
+    fn fmt<W: fmt::Write>(&self, f: &mut fmt::Formatter<W>) -> fmt::Result {
+        f.write_str(match self {
+            Doubt::Absent => "there is none",
+            Doubt::Damaged => "it is damaged, or others may write it",
+            Doubt::OtherRealm => "it is of another realm",
+            Doubt::OtherBoot => "the system was booted since",
+            Doubt::Later => "the clock is behind it",
+            Doubt::Unlinked => "the journal that goes before it is missing",
+        })
+    }
+}
+
+/// How a server starts.
+#[derive(Drop)]
+pub enum Start {
+    /// It resumes with this, and its journal goes on behind this check.
+    Resumes {
+        resumption: Resumption,
+        check: [u8; 16],
+    },
+    /// It refuses all authenticators that may have come before.
+    Refuses {
+        doubt: Doubt,
+    },
+}
+
+/// Decides how a server starts that finds these two journals. `newer` is the one that is appended to, and `older` the
+/// one that went before it.
+pub fn start_of(
+    alloc: Global,
+    place: &Place<'_>,
+    older: &Found,
+    newer: &Found,
+) -> Result<Start, AllocError>
+    ensures { IfOk result (λ start. start ≡ start_of place.now older.now newer.now) }
+{
+    match newer {
+        Found::Nothing => Ok(Start::Refuses {
+            doubt: Doubt::Absent,
+        }),
+        Found::Broken => Ok(Start::Refuses {
+            doubt: Doubt::Damaged,
+        }),
+        Found::Whole(journal) => {
+            let doubt = doubt_of(place, older, journal);
+            start_by(alloc, place, older, journal, doubt)
+        }
+    }
+}
+
+fn start_by(
+    alloc: Global,
+    place: &Place<'_>,
+    older: &Found,
+    journal: &Journal,
+    doubt: Option<Doubt>,
+) -> Result<Start, AllocError>
+    ensures { IfOk result (λ start. start ≡ start_by place.now older.now journal.now doubt) }
+{
+    match doubt {
+        Some(doubt) => Ok(Start::Refuses { doubt }),
+        None => Ok(Start::Resumes {
+            resumption: resumption_of(alloc, place, older, journal)?,
+            check: journal.check,
+        }),
+    }
+}
+
+/// Why it can't resume with this journal, if it can't.
+fn doubt_of(place: &Place<'_>, older: &Found, journal: &Journal) -> Option<Doubt>
+    ensures { result ≡ doubt_of place.now older.now journal.now }
+{
+    first_holding(&[
+        (is_other_realm(place, journal), Doubt::OtherRealm),
+        (is_other_boot(place, journal), Doubt::OtherBoot),
+        (is_later(place, journal), Doubt::Later),
+        (is_unlinked(place, older, journal), Doubt::Unlinked),
+    ])
+}
+
+fn is_other_realm(place: &Place<'_>, journal: &Journal) -> bool
+    ensures { result ≡ is_other_realm place.now journal.now }
+{
+    journal.header.realm.as_slice() != place.realm
+}
+
+fn is_other_boot(place: &Place<'_>, journal: &Journal) -> bool
+    ensures { result ≡ is_other_boot place.now journal.now }
+{
+    journal.header.boot.as_slice() != place.boot
+}
+
+fn is_later(place: &Place<'_>, journal: &Journal) -> bool
+    ensures { result ≡ is_later place.now journal.now }
+{
+    place.at.sec < journal.header.at.seconds()
+        || any_later(place.at.sec, journal.entries.as_slice())
+}
+
+/// Whether one of the requests came after this second.
+fn any_later(second: i64, entries: &[Entry]) -> bool
+    ensures { result ≡ any_later second entries.now }
+{
+    entries.iter().any(|entry| second < came(entry))
+}
+
+/// The second in which the request of an entry came.
+fn came(entry: &Entry) -> i64
+    ensures { result ≡ came entry.now }
+{
+    entry.ctime.seconds() + i64::from(entry.age)
+}
+
+/// Whether no journal goes before it.
+fn is_first(journal: &Journal) -> bool
+    ensures { result ≡ is_first journal.now }
+{
+    let none: &[u8] = &[];
+    journal.header.link.as_slice() == none
+}
+
+fn is_unlinked(place: &Place<'_>, older: &Found, journal: &Journal) -> bool
+    ensures { result ≡ is_unlinked place.now older.now journal.now }
+{
+    !(is_first(journal) || links_to(place, journal, older))
+}
+
+/// Whether what goes before the journal is there, whole, of the same realm and boot, and no later.
+fn links_to(place: &Place<'_>, journal: &Journal, older: &Found) -> bool
+    ensures { result ≡ links_to place.now journal.now older.now }
+{
+    match older {
+        Found::Nothing | Found::Broken => false,
+        Found::Whole(before) => {
+            before.check.as_slice() == journal.header.link.as_slice()
+                && !(is_other_realm(place, before)
+                    || is_other_boot(place, before)
+                    || is_later(place, before))
+        }
+    }
+}
+
+/// What it resumes with.
+fn resumption_of(
+    alloc: Global,
+    place: &Place<'_>,
+    older: &Found,
+    journal: &Journal,
+) -> Result<Resumption, AllocError>
+    ensures { IfOk result (λ r. r ≡ resumption_of place.now older.now journal.now) }
+{
+    let mut seen = Vec::new(alloc);
+    see_behind(alloc, journal, older, &mut seen)?;
+    let floor = floor_behind(journal, older).max(place.at.sec - SKEW);
+    Ok(Resumption {
+        floor,
+        seen: Seq::from_vec(seen),
+    })
+}
+
+fn floor_behind(journal: &Journal, older: &Found) -> i64
+    ensures { result ≡ floor_behind journal.now older.now }
+{
+    match older {
+        Found::Nothing | Found::Broken => journal.header.floor.seconds(),
+        Found::Whole(before) => {
+            if is_first(journal) {
+                journal.header.floor.seconds()
+            } else {
+                before.header.floor.seconds()
+            }
+        }
+    }
+}
+
+/// Adds the authenticators of a journal behind those of the one before it, if one goes before it.
+fn see_behind(
+    alloc: Global,
+    journal: &Journal,
+    older: &Found,
+    seen: &mut Vec<Seen>,
+) -> Result<(), AllocError>
+    ensures { OnOk result (seen.new.items ≡ seen.old.items ++ map seen_of (entries_behind journal.now older.now)) }
+{
+    if let Found::Whole(before) = older {
+        if !is_first(journal) {
+            see_all(alloc, before.entries.as_slice(), seen)?;
+        }
+    }
+    see_all(alloc, journal.entries.as_slice(), seen)
+}
+
+/// Adds the authenticators of these entries.
+fn see_all(alloc: Global, entries: &[Entry], seen: &mut Vec<Seen>) -> Result<(), AllocError>
+    ensures { OnOk result (seen.new.items ≡ seen.old.items ++ map seen_of entries.now) }
+{
+    for entry in entries {
+        seen.push(Seen {
+            client: entry.client.copy(alloc)?,
+            ctime: entry.ctime.seconds(),
+            cusec: entry.cusec.get(),
+        })?;
+    }
+    Ok(())
+}

@@ -1,0 +1,76 @@
+//! Why a journal is not read, and why something is not written into one.
+ghost use Rattle.std.specs.Prelude.{◌≡◌};
+ghost use Rattle.journal.specs.declared.fault.JournalFault.TheVariants as faults;
+
+use krb_der::DerFault;
+use std::alloc::{AllocError, AllocFailed};
+use std::error::Error;
+use std::fmt;
+
+/// Why a journal is not read.
+#[derive(Clone, Copy, Debug, PartialEq, Eq)]
+pub enum JournalFault {
+    /// The octets are no journal, or an entry was cut, changed, left out or added.
+    Broken,
+    Memory,
+}
+
+impl fmt::Display for JournalFault {
+    fn fmt<W: fmt::Write>(&self, f: &mut fmt::Formatter<W>) -> fmt::Result {
+        f.write_str(match self {
+            JournalFault::Broken => "it is no whole journal",
+            JournalFault::Memory => "out of memory",
+        })
+    }
+}
+
+impl Error for JournalFault {}
+
+impl From<DerFault> for JournalFault {
+    ghost from_gives = { λ _ e. e ≡ faults.Broken };
+
+    fn from(_error: DerFault) -> JournalFault {
+        JournalFault::Broken
+    }
+}
+
+impl From<AllocError> for JournalFault {
+    ghost from_gives = { λ _ e. e ≡ faults.Memory };
+
+    fn from(_error: AllocError) -> JournalFault {
+        JournalFault::Memory
+    }
+}
+
+impl<T: Drop> From<AllocFailed<T>> for JournalFault {
+    ghost from_gives = { λ _ e. e ≡ faults.Memory };
+
+    fn from(_error: AllocFailed<T>) -> JournalFault {
+        JournalFault::Memory
+    }
+}
+
+/// Why something is not written into a journal.
+#[derive(Clone, Copy, Debug)]
+pub enum WriteFault {
+    /// A name or a number is beyond what an entry or a header has.
+    Unfit,
+    Memory,
+}
+
+impl fmt::Display for WriteFault {
+    fn fmt<W: fmt::Write>(&self, f: &mut fmt::Formatter<W>) -> fmt::Result {
+        f.write_str(match self {
+            WriteFault::Unfit => "a name or a number is too large",
+            WriteFault::Memory => "out of memory",
+        })
+    }
+}
+
+impl Error for WriteFault {}
+
+impl From<AllocError> for WriteFault {
+    fn from(_error: AllocError) -> WriteFault {
+        WriteFault::Memory
+    }
+}

@@ -1,0 +1,39 @@
+-- Which replies a server withholds while it refuses all service tickets.
+use Rattle.std.specs.Prelude.{ℤ, pos, Bool, true, false, ◌&&◌, int_lt, Option, Some, None}
+use Rattle.std.specs.Ordering.{int_eq}
+use Rattle.krb_fields.specs.Code.{number_of}
+use Rattle.krb_fields.specs.declared.moment.Moment.{Moment}
+use Rattle.kdc_core.specs.Account.{Account}
+use Rattle.kdc_core.specs.declared.account.Account.TheVariants.{NoRequest, As, Tgs}
+use Rattle.kdc_hub.specs.declared.event.Action.{Action}
+use Rattle.kdc_hub.specs.declared.event.Action.TheVariants.{SendTo, Pass, Write, Close}
+use Rattle.tgs_exchange.specs.declared.outcome.TgsOutcome.{TgsOutcome}
+use Rattle.tgs_exchange.specs.declared.outcome.TgsOutcome.TheVariants.{Refused, Issued, Resent, TooBig}
+use Rattle.tgs_opening.specs.Refusal.{code_of}
+
+-- a refusal with KRB_AP_ERR_SKEW (37)
+abbrev pub is_skew : TgsOutcome → Bool
+is_skew (Refused refusal) = int_eq (number_of (code_of refusal)) (pos 37)
+is_skew (Issued granted) = false
+is_skew (Resent bears) = false
+is_skew TooBig = false
+
+-- one of a TGS-REQ
+abbrev pub is_skewed : Option Account → Bool
+is_skewed (Some NoRequest) = false
+is_skewed (Some (As client service outcome)) = false
+is_skewed (Some (Tgs client service outcome)) = is_skew outcome
+is_skewed None = false
+
+-- whether the action sends such a reply
+abbrev pub sends_skew : Action → Bool
+sends_skew (SendTo peer reply) = is_skewed reply.account
+sends_skew (Pass peer) = false
+sends_skew (Write conn reply) = is_skewed reply.account
+sends_skew (Close conn reason) = false
+
+-- such a reply is withheld before the second up to which the server is quiet, if it is
+abbrev pub withholds : Option ℤ → Option Moment → Action → Bool
+withholds (Some until) (Some at) action = int_lt at.sec until && sends_skew action
+withholds (Some until) None action = false
+withholds None at action = false

@@ -1,0 +1,180 @@
+//! A wire with a journal (`kdcd_start`): what it hands over, and which actions wait for it.
+use kdc_core::Seen;
+use kdc_hub::{Action, CloseReason, Event, MemoryWire, Peer, Reply, Wire};
+use kdcd_start::{JournalWire, JournalWriter, NotKept};
+use krb_elements::Octets;
+use krb_fields::{Moment, Name};
+use std::alloc::{AllocError, Global};
+use std::collections::VecDeque;
+use std::net::{Ipv4Addr, SocketAddr};
+use std::test::Fail;
+
+/// When the only event comes.
+const AT: i64 = 1_704_067_200;
+
+/// A call of a journal.
+#[derive(Clone, Copy, Debug, PartialEq, Eq)]
+enum Call {
+    /// An authenticator of this time, at this second.
+    Keep(i64, i64),
+    Mend(i64),
+}
+
+/// A journal in memory that fails at first.
+#[derive(Drop)]
+struct ListedJournal {
+    calls: Vec<Call>,
+    /// How many calls fail.
+    failures: usize,
+}
+
+impl ListedJournal {
+    fn take(&mut self, call: Call) -> Result<(), NotKept> {
+        if self.calls.push(call).is_err() || self.failures > 0 {
+            self.failures = self.failures.saturating_sub(1);
+            return Err(NotKept);
+        }
+        Ok(())
+    }
+}
+
+impl JournalWriter for ListedJournal {
+    ghost use Rattle.std.specs.Prelude.{None};
+    ghost use Rattle.std.specs.Result.{is_ok};
+
+    ghost handed = { λ _. None };
+
+    ghost is_whole = { λ _. true };
+
+    fn keep(&mut self, _alloc: Global, at: Moment, seen: &Seen) -> Result<(), NotKept> {
+        self.take(Call::Keep(at.sec, seen.ctime))
+    }
+
+    fn mend(&mut self, _alloc: Global, at: Moment) -> Result<(), NotKept> {
+        self.take(Call::Mend(at.sec))
+    }
+}
+
+/// An action that answers a request.
+#[derive(Clone, Copy)]
+enum Answer {
+    /// A datagram, by whose request the KDC remembers an authenticator of this time.
+    Remembers(i64),
+    Datagram,
+    Message,
+    Nothing,
+    Close,
+}
+
+fn action(alloc: Global, answer: Answer) -> Result<Action, Fail> {
+    let peer = Peer {
+        address: SocketAddr::from((Ipv4Addr::LOCALHOST, 1)),
+        socket: 0,
+    };
+    match answer {
+        Answer::Remembers(ctime) => Ok(Action::SendTo {
+            peer,
+            reply: reply(alloc, Some(seen(alloc, ctime)?)),
+        }),
+        Answer::Datagram => Ok(Action::SendTo {
+            peer,
+            reply: reply(alloc, None),
+        }),
+        Answer::Message => Ok(Action::Write {
+            conn: 1,
+            reply: reply(alloc, None),
+        }),
+        Answer::Nothing => Ok(Action::Pass { peer }),
+        Answer::Close => Ok(Action::Close {
+            conn: 1,
+            reason: CloseReason::NoRequest,
+        }),
+    }
+}
+
+fn reply(alloc: Global, remembered: Option<Seen>) -> Reply {
+    Reply {
+        message: Octets::new(Vec::new(alloc)),
+        account: None,
+        remembered,
+    }
+}
+
+fn seen(alloc: Global, ctime: i64) -> Result<Seen, Fail> {
+    Ok(Seen {
+        client: Name::new(alloc, 1, &[b"u"])?,
+        ctime,
+        cusec: 7,
+    })
+}
+
+/// What a wire did with actions, of whose journal the first calls fail: the calls of the journal, how many of the actions
+/// were done, and how many calls failed.
+fn done(
+    alloc: Global,
+    answers: &[Answer],
+    failures: usize,
+) -> Result<(Vec<Call>, usize, u64), Fail> {
+    let at = Moment::new(AT, 0).ok_or("a moment")?;
+    let mut events = VecDeque::new(alloc);
+    events.push_back((at, Event::Opened { conn: 1 }))?;
+    let journal = ListedJournal {
+        calls: Vec::new(alloc),
+        failures,
+    };
+    let mut wire = JournalWire::new(MemoryWire::new(alloc, events, None), Some(journal));
+    let _ = wire.poll(alloc);
+    for answer in answers {
+        let _ = wire.act(alloc, &action(alloc, *answer)?);
+    }
+    let did = wire.wire().did().ok_or("a record")?;
+    let calls = match wire.journal() {
+        Some(journal) => copied(alloc, &journal.calls)?,
+        None => Err("the journal")?,
+    };
+    Ok((calls, did.len().saturating_sub(1), wire.faults()))
+}
+
+fn copied(alloc: Global, calls: &[Call]) -> Result<Vec<Call>, AllocError> {
+    let mut all = Vec::new(alloc);
+    all.extend_from_slice(calls)?;
+    Ok(all)
+}
+
+#[test]
+fn a_reply_waits_for_its_record(rt: HostRuntime) -> Result<(), Fail> {
+    let alloc = rt.alloc();
+    let kept = Call::Keep(AT, AT - 5);
+    let mended = Call::Mend(AT);
+    for (answers, failures, calls, count, faults) in [
+        (
+            [Answer::Remembers(AT - 5), Answer::Datagram],
+            0,
+            &[kept, mended] as &[Call],
+            2,
+            0,
+        ),
+        // Not even another reply is sent: it might be the one that was not sent.
+        (
+            [Answer::Remembers(AT - 5), Answer::Message],
+            2,
+            &[kept, mended],
+            0,
+            2,
+        ),
+        (
+            [Answer::Remembers(AT - 5), Answer::Message],
+            1,
+            &[kept, mended],
+            1,
+            1,
+        ),
+        // Without a reply there is nothing to wait for.
+        ([Answer::Nothing, Answer::Close], 1, &[], 2, 0),
+    ] {
+        let (found, done, failed) = done(alloc, &answers, failures)?;
+        assert!(rt; found.as_slice() == calls, "the calls");
+        assert_eq!(rt; (done, failed), (count, faults));
+    }
+    Ok(())
+}

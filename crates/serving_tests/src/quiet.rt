@@ -1,0 +1,59 @@
+//! A wire that is quiet after a start (`kdcd_start`): which actions it withholds, and until when.
+use kdc_core::{Account, TgsOutcome, TgsRefusal};
+use kdc_hub::{Action, Event, MemoryWire, Peer, Reply, Wire};
+use kdcd_start::QuietWire;
+use krb_elements::Octets;
+use krb_fields::{Moment, Second};
+use std::alloc::Global;
+use std::collections::VecDeque;
+use std::net::{Ipv4Addr, SocketAddr};
+use std::test::Fail;
+
+/// The second before which nothing is sent.
+const UNTIL: i64 = 1_704_067_501;
+
+/// How many polls and acts reach the inner wire, of a poll at this second and of an act that sends a TGS-REQ's refusal by
+/// this rule.
+fn calls(alloc: Global, second: i64, until: Option<i64>, rule: TgsRefusal) -> Result<usize, Fail> {
+    let at = Moment::new(second, 0).ok_or("a moment")?;
+    let mut events = VecDeque::new(alloc);
+    events.push_back((at, Event::Opened { conn: 1 }))?;
+    let until = until.and_then(Second::new);
+    let mut wire = QuietWire::new(MemoryWire::new(alloc, events, None), until);
+    let _ = wire.poll(alloc);
+    let _ = wire.act(alloc, &refusal(alloc, rule)?);
+    let did = wire.wire().did().ok_or("a record")?;
+    Ok(did.len())
+}
+
+fn refusal(alloc: Global, rule: TgsRefusal) -> Result<Action, Fail> {
+    let account = Account::Tgs {
+        client: None,
+        service: None,
+        outcome: TgsOutcome::Refused(rule),
+    };
+    Ok(Action::SendTo {
+        peer: Peer {
+            address: SocketAddr::from((Ipv4Addr::LOCALHOST, 1)),
+            socket: 0,
+        },
+        reply: Reply {
+            message: Octets::new(Vec::new(alloc)),
+            account: Some(account),
+            remembered: None,
+        },
+    })
+}
+
+#[test]
+fn refusals_as_skewed_are_withheld_up_to_the_second(rt: HostRuntime) -> Result<(), Fail> {
+    for (second, until, rule, wanted) in [
+        (UNTIL - 1, Some(UNTIL), TgsRefusal::Skewed, 1),
+        (UNTIL, Some(UNTIL), TgsRefusal::Skewed, 2),
+        (UNTIL - 1, None, TgsRefusal::Skewed, 2),
+        (UNTIL - 1, Some(UNTIL), TgsRefusal::Full, 2),
+    ] {
+        assert_eq!(rt; calls(rt.alloc(), second, until, rule)?, wanted);
+    }
+    Ok(())
+}
