@@ -1,12 +1,20 @@
 """The little of Kerberos that measuring a key distribution centre needs, in Python alone: DER, encryption type 18
 (RFC 3961 and RFC 3962), and the requests of a client (RFC 4120). It knows nothing of this repository's own code, and is
-too slow and too trusting for any other use."""
+too slow and too trusting for any other use. Where Python has the module `cryptography`, AES is that one's."""
 
+import functools
 import hashlib
 import hmac
 import math
 import os
 import time
+
+try:
+    from cryptography.hazmat.primitives.ciphers import Cipher
+    from cryptography.hazmat.primitives.ciphers.algorithms import AES
+    from cryptography.hazmat.primitives.ciphers.modes import CBC
+except ImportError:
+    Cipher = None
 
 # DER.
 
@@ -100,6 +108,7 @@ MIX = [[column(BOX[octet], (2, 1, 1, 3)[-row:] + (2, 1, 1, 3)[:-row]) for octet 
 UNMIX = [[column(octet, (14, 9, 13, 11)[-row:] + (14, 9, 13, 11)[:-row]) for octet in range(256)] for row in range(4)]
 
 
+@functools.lru_cache(1024)
 def round_keys(key):
     """The 15 round keys, of four words each."""
     words = [int.from_bytes(key[place:place + 4], "big") for place in range(0, 32, 4)]
@@ -157,24 +166,37 @@ def blocks(octets):
     return [octets[place:place + 16] for place in range(0, len(octets), 16)]
 
 
-def encrypt(key, text):
-    """CBC with ciphertext stealing (RFC 3962, section 5), of more than one block."""
+def cbc_encrypt(key, text):
+    """CBC of whole blocks, from a block of zeros."""
+    if Cipher:
+        return Cipher(AES(key), CBC(bytes(16))).encryptor().update(text)
     keys, last, ciphers = round_keys(key), bytes(16), []
     for block in blocks(text):
-        last = encrypt_block(keys, xor(block.ljust(16, b"\0"), last))
+        last = encrypt_block(keys, xor(block, last))
         ciphers.append(last)
+    return b"".join(ciphers)
+
+
+def cbc_decrypt(key, cipher):
+    if Cipher:
+        return Cipher(AES(key), CBC(bytes(16))).decryptor().update(cipher)
+    keys, last, texts = round_keys(key), bytes(16), []
+    for block in blocks(cipher):
+        texts.append(xor(decrypt_block(keys, block), last))
+        last = block
+    return b"".join(texts)
+
+
+def encrypt(key, text):
+    """CBC with ciphertext stealing (RFC 3962, section 5), of more than one block."""
+    ciphers = blocks(cbc_encrypt(key, text + bytes(-len(text) % 16)))
     return b"".join([*ciphers[:-2], ciphers[-1], ciphers[-2]])[:len(text)]
 
 
 def decrypt(key, cipher):
-    keys, last, texts = round_keys(key), bytes(16), []
     *whole, before, rest = blocks(cipher)
-    for block in whole:
-        texts.append(xor(decrypt_block(keys, block), last))
-        last = block
-    mixed = decrypt_block(keys, before)
-    full = rest + mixed[len(rest):]
-    return b"".join([*texts, xor(decrypt_block(keys, full), last), xor(mixed, rest)])
+    full = rest + cbc_decrypt(key, before)[len(rest):]
+    return cbc_decrypt(key, b"".join([*whole, full, before]))[:len(cipher)]
 
 
 # Encryption type 18, and its checksum of type 16 (RFC 3961, section 5, and RFC 3962).
@@ -194,17 +216,14 @@ def folded(octets, size):
     return total.to_bytes(size, "big")
 
 
+@functools.lru_cache(1024)
 def derived(key, usage, kind):
-    keys = round_keys(key)
-    first = encrypt_block(keys, folded(usage.to_bytes(4, "big") + bytes([kind]), 16))
-    return first + encrypt_block(keys, first)
+    return cbc_encrypt(key, folded(usage.to_bytes(4, "big") + bytes([kind]), 16) + bytes(16))
 
 
 def key_of(password, salt):
     """The key of a password, with the default count (RFC 3962, section 4)."""
-    keys = round_keys(hashlib.pbkdf2_hmac("sha1", password, salt, 4096, 32))
-    first = encrypt_block(keys, folded(b"kerberos", 16))
-    return first + encrypt_block(keys, first)
+    return cbc_encrypt(hashlib.pbkdf2_hmac("sha1", password, salt, 4096, 32), folded(b"kerberos", 16) + bytes(16))
 
 
 def mac(key, octets):

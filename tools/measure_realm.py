@@ -37,11 +37,11 @@ def database_text(rows):
 
 
 class RealmServer(Server):
-    """`kdcd serve` over the database of a path."""
+    """`kdcd serve` over the database of a path, with these options more."""
 
-    def __init__(self, kdcd, database):
+    def __init__(self, kdcd, database, *more):
         start = time.perf_counter()
-        words = [kdcd, "serve", "--db", database, "--udp", "127.0.0.1:0", "--tcp", "127.0.0.1:0", "--first"]
+        words = [kdcd, "serve", "--db", database, "--udp", "127.0.0.1:0", "--tcp", "127.0.0.1:0", "--first", *more]
         self.process = subprocess.Popen(words, stdout=subprocess.PIPE, stderr=subprocess.PIPE, text=True)
         RUNNING.append(self.process)
         line = self.process.stderr.readline()

@@ -25,7 +25,7 @@ from trial import RUNNING, ending
 REALM = b"EXAMPLE.COM"
 KEY = bytes([0x11]) * 32
 SERVICE = (b"host", b"n1")
-# Clients that need no preauthentication. Of each, 1,024 authenticators are remembered.
+# Clients that need no preauthentication. The replay cache of each holds 4,096 authenticators.
 CLIENTS = [b"bob%d" % number for number in range(5)]
 TICKS = os.sysconf("SC_CLK_TCK")
 
