@@ -207,7 +207,7 @@ module _ (c : Components) (S : Names) where
       by_test true same = same_text database.realm state.database.realm (sym same)
       by_test false other = refl
 
-  -- ---- clean-up
+  -- ---- tidying
 
   both_tidied : (state other : State) (at : Moment) → AgreesFor c S state other → AgreesFor c S (tidied_state state at) (tidied_state other at)
   both_tidied state other at a = record {

@@ -1,4 +1,4 @@
--- A run with clean-ups gives its requests the replies of one without: the caches agree from a second on.
+-- A run with tidyings gives its requests the replies of one without: the caches agree from a second on.
 use Rattle.std.proofs.Common.{◌≡◌, ℕ, ℤ, ◌≤ℤ◌, Bool, true, false, cond, if◌then◌else◌, List, [], ◌∷◌, Option, Some, None, refl, ap, sym, subst, ◌∙◌, arith}
 use Rattle.std.specs.Prelude.{nat_eq}
 use Rattle.std.specs.Int.{int_max}
@@ -197,7 +197,7 @@ as_other : (second : ℤ) (s t : State) → Alike second s t → with_memories t
 as_other second s t alike = λ i. record { database = sym alike.database i; limits = sym alike.limits i; floor = s.floor; memories = s.memories }
 
 module _ (second : ℤ) (s t : State) (alike : Alike second s t) where
-  -- any event but a clean-up
+  -- any event but a tidying
   reply_alike : (at : Moment) (random : List ℕ) (room : ℕ) (request : List ℕ) → second ≤ℤ at.sec → event_reply s (Request at random room request) ≡ event_reply t (Request at random room request)
   reply_alike at random room request le =
       ap (λ u. event_reply u (Request at random room request)) (sym (as_other second s t alike))

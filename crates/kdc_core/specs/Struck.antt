@@ -42,7 +42,7 @@ is_request_of c state (Reopen database limits at) = false
 is_request_of c state (Resume database limits resumption) = false
 
 -- whether an event stays for the client c, when the rows of S matter: a request of c, a change of the row of c or of a
--- name in S, and each replacement, clean-up and restart
+-- name in S, and each replacement, tidying and restart
 abbrev pub is_left : Components → Names → State → Event → Bool
 is_left c S state (Request at random room request) = is_client c (named state request).client
 is_left c S state (Change change) = eq_by_cmp name_cmp c change.name.components || S change.name.components

@@ -29,7 +29,7 @@ RestartsFrom now (Resume database limits resumption ∷ events) = RestartsFrom n
 
 -- No restart is before the second of an earlier request. That is all the law needs, and it is weaker than ordered
 -- moments: the moments of requests may go back while the KDC runs, those of restarts may go back among themselves, and
--- clean-ups may have any moment.
+-- tidyings may have any moment.
 abbrev pub RestartsFollow : List Event → Type 0
 RestartsFollow [] = ⊤
 RestartsFollow (Request at random room request ∷ events) = RestartsFrom at.sec events × RestartsFollow events

@@ -221,7 +221,7 @@ impl Kdc {
     /// then equals that of a client never seen. It allocates nothing.
     pub fn tidy(&mut self, at: Moment)
         ensures state { self.new ≡ tidied_state self.old at }
-        // Each client's cache is cleaned up; rows, realm and limits are unchanged.
+        // Each client's cache is tidied; rows, realm and limits are unchanged.
         ensures memories { (name : Components) → memory_of self.new name ≡ tidied (memory_of self.old name) at.sec }
         ensures database { self.new.database ≡ self.old.database }
         ensures limits { self.new.limits ≡ self.old.limits }

@@ -24,6 +24,6 @@ pub fn any_run()
     ensures marked { KeepsMarked }
     // What a process began with, and what it has recorded since, is enough to resume with.
     ensures resumable { CanBeResumed }
-    // If no request is before an earlier clean-up, requests get the replies that they get without any clean-up.
+    // If no request is before an earlier tidying, requests get the replies that they get without any tidying.
     ensures unseen { TidiesUnseen }
 {}
