@@ -1,4 +1,4 @@
-//! A client's messages over sockets of the system, and the moment that its clock shows.
+//! A client's messages over the system's sockets, and the moment on its clock.
 #![tactic(auto)]
 
 mod deadline;

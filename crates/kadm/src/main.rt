@@ -1,4 +1,4 @@
-//! The administrator's tool: `kadm SUB --db FILE ..`, as `kadm --help` lists them.
+//! The administration tool: `kadm SUB --db FILE ..`, as `kadm --help` lists its subcommands.
 #![tactic(auto)]
 
 use file_store::FileStore;
@@ -9,7 +9,7 @@ use std::{env, io};
 fn main(rt: HostRuntime) -> ExitCode {
     match run(&rt) {
         Ok(status) => ExitCode::from(status),
-        // where these can't be written there is no one to tell
+        // if these can't be written, there is nowhere to report it
         Err(error) if error.kind() == io::ErrorKind::InvalidData => {
             let _ = println!(rt; "error: a word is not UTF-8");
             ExitCode::from(USAGE)
@@ -22,7 +22,7 @@ fn main(rt: HostRuntime) -> ExitCode {
     }
 }
 
-/// The status of the program; an error is one of reading the words, `InvalidData` where one is not UTF-8.
+/// Runs the program and returns its status. Fails if the words can't be read, with `InvalidData` if one is not UTF-8.
 fn run(rt: &HostRuntime) -> io::Result<u8> {
     let alloc = rt.alloc();
     let args: Vec<String> = env::args(rt)?.collect(alloc)?;

@@ -16,39 +16,39 @@ use std::{fmt, io};
 /// The status of a run that served all its rounds.
 const DONE: u8 = 0;
 
-/// The status where a file is refused.
+/// The status if a file is refused.
 const REFUSED: u8 = 1;
 
-/// The status where a file, a socket, the clock or memory failed.
+/// The status if a file, a socket, the clock or memory failed.
 const FAILED: u8 = 3;
 
-/// As many rounds as no process serves.
+/// More rounds than any process serves.
 const ENDLESS: u64 = u64::MAX;
 
 /// Why a server did not start.
 type StartFault<'a> = kdcd_start::StartFault<'a, BindFault>;
 
-/// Standard error, whose reader may stop reading while the server goes on. All that write to it hold the same one.
+/// Standard error. Its reader may stop reading while the server goes on. Everything that writes to it shares this one.
 type Errors = SharedWriter<Stderr>;
 
-/// The sockets, the log of the requests that are answered through them, and the lines about a clock that went back.
+/// The sockets, the log of the requests that they answer, and the lines about a clock that went back.
 type ServerWire = WatchedWire<LoggedWire<SocketWire<HostRuntime>, RequestLines<Errors>>, Errors>;
 
-/// A server that listens.
+/// A server that is listening.
 #[derive(Drop)]
 struct Server<'a> {
     hub: Hub<ChaCha20Rng>,
     wire: ServerWire,
-    /// How its KDC was opened.
+    /// The opening of its KDC.
     opening: Opening,
     /// How many rows it starts with.
     row_count: usize,
-    /// Where its rows come from, unless they are fixed.
+    /// The source of its rows, unless they are fixed.
     rows: Option<RowsFile<'a, HostRuntime, Errors>>,
     errors: Errors,
 }
 
-/// Serves as the options say, and gives the status. An error is a failed write.
+/// Serves as the options say, and returns the status. An error is a failed write.
 pub fn serve_realm(rt: &HostRuntime, options: &ServeOptions<'_>) -> io::Result<u8> {
     match start(rt, options) {
         Ok(mut server) => serve_rounds(rt, &mut server, options),
@@ -79,7 +79,7 @@ fn serve_rounds(
     Ok(DONE)
 }
 
-/// Says where it listens, and what it serves. Only an address that isn't known is an error.
+/// Logs where it listens, and what it serves. Only an unknown address is an error.
 fn say_start(
     rt: &HostRuntime,
     server: &mut Server<'_>,
@@ -100,7 +100,7 @@ fn say_start(
     Ok(())
 }
 
-/// Says how many lines of the log were lost, if any.
+/// Reports how many lines of the log were lost, if any.
 fn say_lost(errors: &mut Errors, wire: &ServerWire) {
     let lost = wire.wire().log().map_or(0, |log| log.unreported());
     if lost > 0 {
@@ -108,12 +108,12 @@ fn say_lost(errors: &mut Errors, wire: &ServerWire) {
     }
 }
 
-/// Writes a text to standard error. If that fails, there is nobody to be told.
+/// Writes a text to standard error. If that fails, there is nowhere to report it.
 fn say(errors: &mut Errors, text: &impl fmt::Display) {
     let _ = write!(errors, "{text}");
 }
 
-/// Says why a server did not start.
+/// Reports why a server did not start.
 fn report(rt: &HostRuntime, fault: &StartFault<'_>) -> io::Result<u8> {
     let _ = eprintln!(rt; "kdcd: {fault}");
     match fault.refusal() {
@@ -164,7 +164,7 @@ fn errors_of<'a>(rt: &HostRuntime) -> Result<Errors, StartFault<'a>> {
     }
 }
 
-/// The log of requests, if the options ask for one.
+/// Opens the log of requests, if the options ask for one.
 fn open_log<'a>(
     options: &ServeOptions<'_>,
     errors: &Errors,
