@@ -1,4 +1,4 @@
--- How a command line ends, and what it leaves.
+-- How a command line ends, and its effect.
 use Rattle.std.specs.Prelude.{◌≡◌, ◌≤◌, ◌⊎◌, ℕ, List, Option}
 use Rattle.enctypes.specs.declared.etype.Etype.{Etype}
 use Rattle.file_store.specs.World.{World}
@@ -34,7 +34,7 @@ IsStatusOf Usage status = status ≡ 2
 IsStatusOf (Refused reason) status = status ≡ 1
 IsStatusOf (File fault) status = IsAmissStatus fault.amiss status
 
--- a command that stops leaves all as it was, but where it was done and the output then failed
+-- a command that stops changes nothing, unless it had succeeded and then the output failed
 abbrev pub IsStopped : Stop → Option World → Option World → Type 0
 IsStopped stop before after = (after ≡ before) ⊎ (IsFailed stop × DidSome before after)
 
@@ -45,6 +45,6 @@ IsTaskDone before db etypes (Write work) after = Did before db etypes work after
 abbrev pub IsDone : Option World → Order → Option World → Type 0
 IsDone before order after = IsTaskDone before order.db.now order.etypes.items order.task after
 
--- all is as it was, or one command was done: then the status is 0, or 3 if the output failed
+-- nothing changed, or one command succeeded: then the status is 0, or 3 if the output failed
 abbrev pub IsEnd : Option World → ℕ → Option World → Type 0
 IsEnd before status after = (status ≤ 3) × ((after ≡ before) ⊎ (((status ≡ 0) ⊎ (status ≡ 3)) × DidSome before after))

@@ -1,4 +1,4 @@
-//! One command line: from its words to the files.
+//! Running one command line, from its words to the files.
 ghost use Rattle.std.specs.Prelude.{◌≡◌, ◌⊎◌, IfErr, IfOk, OnErr, OnOk};
 ghost use Rattle.kadm_run.specs.Ends.{IsDone, IsEnd, IsStopped};
 ghost use Rattle.kadm_run.specs.Worlds.{Did, DidSome};
@@ -20,21 +20,21 @@ use std::convert::AsStr;
 use std::io;
 use std::io::{BufWriter, Write};
 
-/// The status of a command that did what it was to do.
+/// The status of a command that succeeded.
 pub const DONE: u8 = 0;
 
-/// The status of a command that is refused, by a file that it reads or by the database.
+/// The status of a command that was refused because of a file that it reads or of the database.
 pub const REFUSED: u8 = 1;
 
-/// The status of a fault of the command line.
+/// The status of a usage error.
 pub const USAGE: u8 = 2;
 
-/// The status of a command that failed on a file, or ran out of memory.
+/// The status of a command that failed because of a file, or ran out of memory.
 pub const FAILED: u8 = 3;
 
-/// Does what a command line says, the program's name in front. What came of it goes to `writer`; what refused or failed
-/// it, and why, to `errors`. The status is `DONE`, `REFUSED`, `USAGE` or `FAILED`; but for `DONE` the files are as they
-/// were.
+/// Runs a command line, whose first word is the program's name. It writes the result to `writer`, and explains refusals
+/// and failures on `errors`. The status is `DONE`, `REFUSED`, `USAGE` or `FAILED`; unless it is `DONE`, the files are
+/// unchanged, except that a command may have succeeded before its output failed.
 pub fn kadm_run<S: AsStr, T: Store, W: Write + Drop, E: Write + Drop>(
     alloc: Global,
     args: &[S],
@@ -54,7 +54,7 @@ pub fn kadm_run<S: AsStr, T: Store, W: Write + Drop, E: Write + Drop>(
     run_and_report(alloc, &matches, store, &mut out, &mut errors).unwrap_or(FAILED)
 }
 
-/// The status; an error is a failed write of what is printed.
+/// Runs the command line and returns the status. An error is a failed write of what is printed.
 fn run_and_report<T: Store, W: Write, E: Write>(
     alloc: Global,
     matches: &Result<ArgMatches<'_>, Error>,
@@ -69,13 +69,13 @@ fn run_and_report<T: Store, W: Write, E: Write>(
         Ok(()) => DONE,
         Err(stop) => report(out, errors, matches, stop)?,
     };
-    // the errors first: they tell of an output that is not taken
+    // the errors first: they report a failed output
     let _ = errors.flush();
     out.flush()?;
     Ok(status)
 }
 
-/// Does what the words say, up to where all that it prints is taken.
+/// Does what the words say, until all that it prints is written.
 fn run_to_end<'a, T: Store, W: Write, E: Write>(
     alloc: Global,
     matches: &Result<ArgMatches<'a>, Error>,
@@ -93,7 +93,7 @@ fn run_to_end<'a, T: Store, W: Write, E: Write>(
     Ok(out.flush()?)
 }
 
-/// Prints what is wrong with the words, or the help that they ask for.
+/// Prints what is wrong with the words, or the help that they request.
 fn print_args_fault<'a, W: Write>(out: &mut W, error: &Error) -> Result<(), Stop<'a>> {
     if error.kind() == ErrorKind::OutOfMemory {
         return Err(Stop::from(AllocError));
@@ -161,7 +161,7 @@ fn run_order<'a, T: Store, W: Write, E: Write>(
     }
 }
 
-/// Prints what the database holds.
+/// Prints the contents of the database.
 fn run_print<'a, T: Store, W: Write, E: Write>(
     alloc: Global,
     db: &'a str,
@@ -179,7 +179,7 @@ fn run_print<'a, T: Store, W: Write, E: Write>(
     }
 }
 
-/// Does what writes a file, and prints no more than `ok`.
+/// Runs a command that writes a file, and prints no more than `ok`.
 fn run_work<'a, T: Store, E: Write>(
     alloc: Global,
     order: &Order<'a>,
