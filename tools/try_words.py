@@ -25,19 +25,19 @@ KINDS = {
 }
 # A phrase, where a space may be the end of a line; what to write instead; and how often it still stands in pages, code and tools.
 PHRASES = (
-    ("wants? of memory|memory is wanting|refused memory|handed no allocator", "out of memory", 0, 11, 1),
+    ("wants? of memory|memory is wanting|refused memory|handed no allocator", "out of memory", 0, 4, 1),
     ("tickets? for tickets", "TGT", 0, 0, 0),
     ("ticket granters?", "ticket-granting service", 0, 0, 0),
     ("untimely|as skewed", "clock skew, refused with 37", 0, 1, 0),
-    ("the memories|(?:is|are) remembered", "replay cache, records", 0, 77, 11),
-    ("lets? go|letting go", "drops, evicts, frees, closes", 0, 31, 3),
-    ("(?:is|are) at fault|a fault of", "fails with, returns an error", 0, 18, 2),
-    ("whoever|who asks", "the caller, the peer, the client", 0, 9, 0),
-    ("of which|of whom|that which", "two sentences", 0, 73, 15),
+    ("the memories|(?:is|are) remembered", "replay cache, records", 0, 4, 11),
+    ("lets? go|letting go", "drops, evicts, frees, closes", 0, 8, 3),
+    ("(?:is|are) at fault|a fault of", "fails with, returns an error", 0, 7, 2),
+    ("whoever|who asks", "the caller, the peer, the client", 0, 2, 0),
+    ("of which|of whom|that which", "two sentences", 0, 12, 15),
     ("what it is that|in vain|all the same", "a verb", 0, 1, 1),
-    ("where there (?:is|are) none", "if it is absent", 0, 7, 1),
-    ("so many", "N, this many", 0, 94, 10),
-    ("tells?|told", "returns, logs, records", 4, 114, 42),
+    ("where there (?:is|are) none", "if it is absent", 0, 2, 1),
+    ("so many", "N, this many", 0, 39, 10),
+    ("tells?|told", "returns, logs, records", 4, 86, 42),
 )
 # A space of a phrase: in comments the next line begins with the comment's own sign.
 GAP = r"(?:[ \t]+|[ \t]*\n[ \t]*(?:///?|//!|--|\*|#)?[ \t]*)"

@@ -1,4 +1,4 @@
-//! The crates of cryptography, `aes_cts` to `sealed_parts`. The values are the standards' own vectors, and those of other
+//! The cryptographic crates, `aes_cts` to `sealed_parts`. The values are the standards' own vectors, and those of other
 //! implementations: Python's hashlib and its package cryptography.
 
 mod aes;

@@ -1,5 +1,6 @@
-//! The tests of the libraries under the KDC: messages, cryptography, and what a realm keeps. They stand apart, since a crate
-//! with tests is proved twice; and in one crate, since each takes a minute before its first test.
+//! The tests of the libraries under the KDC: messages, cryptography, and the data of a realm. They are a crate of their
+//! own because a crate with tests is proved twice. They are one crate because each takes a minute before its first
+//! test.
 #![tactic(auto)]
 
 #[cfg(test)]

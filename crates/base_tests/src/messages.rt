@@ -1,4 +1,4 @@
-//! The crates of messages, `krb_der` to `krb_ap`: a module for each, with values that come from elsewhere, as the standards
+//! The crates of messages, `krb_der` to `krb_ap`: a module for each, with values from elsewhere, such as the standards
 //! or another encoder.
 
 mod ap_messages;

@@ -1,4 +1,4 @@
-//! What a realm keeps: rows, the database, what is remembered of clients; preauthentication; and the times of tickets.
+//! The data of a realm: rows, the database, and replay caches; preauthentication; and the times of tickets.
 
 mod changes;
 mod database_texts;

@@ -1,4 +1,4 @@
--- A ticket is shorter than the octets that spell it.
+-- A ticket is shorter than the bytes that encode it.
 use Rattle.std.proofs.Common.{ℕ, ◌<◌, List, length, arith}
 use Rattle.krb_der.specs.Spelling.{IsBytes}
 use Rattle.krb_types.specs.Ticket.{Ticket, ticket}

@@ -1,4 +1,4 @@
--- Requests and what they are made of.
+-- Requests and their parts.
 use Rattle.std.proofs.Common.{◌≡◌, ◌∙◌, ◌≤◌, ℕ, ℤ, pos, List, [], ◌∷◌, length, Option, Some, None, Result, Ok, Err, IfOk, ap, to_z, of_z, w32}
 use Rattle.cred_files.specs.declared.principal.Principal.{Principal}
 use Rattle.enctypes.specs.KeyUsage.{usage_number}
@@ -51,7 +51,7 @@ as_req_is asked client padata body same is =
     ap (λ (b : ReqBody). request_of As padata b) is
     ∙ ap (λ (n : Name). request_of As padata (body_of (Some n) asked)) same
 
--- an AP-REQ that is short has short octets
+-- a short AP-REQ has a short encoding
 pub short_octets : {V E : Type 0} (octets : V → List ℕ) (x : ApReq) (r : Result V E) → length (ap_req.text x) ≤ 34000000 → IfOk r (λ v. octets v ≡ written ap_req x) → IfOk r (λ v. length (octets v) ≤ 34000006)
 short_octets octets x (Ok v) short is = presented_short x (octets v) short is
 short_octets octets x (Err e) short is = tt

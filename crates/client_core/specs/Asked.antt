@@ -1,9 +1,9 @@
--- What a client asks for: the limits of a request.
+-- What a client requests: the limits of a request.
 use Rattle.std.specs.Prelude.{Bool, ◌&&◌, nat_le, IsTrue, length}
 use Rattle.krb_fields.specs.NameLimits.{is_component, is_within_limits}
 use Rattle.client_core.specs.declared.asked.Asked.{Asked}
 
--- a realm, and names, that a database may hold, and at most 64 encryption types
+-- a realm and names within the limits of a database, and at most 64 encryption types
 abbrev pub is_askable : Asked → Bool
 is_askable asked =
     is_component asked.realm

@@ -1,4 +1,4 @@
--- The credential that a reply gives (RFC 4120, section 3.1.5): its ticket, and what the KDC says of it.
+-- The credential in a reply (RFC 4120, section 3.1.5): its ticket, and the KDC's description of it.
 use Rattle.std.specs.Prelude.{ℕ, ℤ, pos, ◌%◌, unsigned_abs, int_le, int_lt, Bool, true, ◌&&◌, List, [], map, Option}
 use Rattle.std.specs.Prelude.{Some, None}
 use Rattle.std.specs.Bool.{then_some}
@@ -20,7 +20,7 @@ use Rattle.krb_types.specs.Ticket.{ticket}
 abbrev pub has_16_bits : ℤ → Bool
 has_16_bits number = int_le (pos 0) number && int_lt number (pos 65536)
 
--- the number itself, where it has 16 bits
+-- the number itself, if it fits in 16 bits
 abbrev pub in_16_bits : ℤ → ℕ
 in_16_bits number = unsigned_abs number % 65536
 
@@ -39,7 +39,7 @@ has_room part = is_short_type part.key && are_short_types part.caddr
 abbrev pub address_of : Typed → TypedOctets
 address_of address = record { data_type = in_16_bits address.number; octets = address.octets }
 
--- none where none are sent
+-- none if none are sent
 abbrev pub addresses_of : Option (List Typed) → List TypedOctets
 addresses_of (Some list) = map address_of list
 addresses_of None = []
@@ -76,6 +76,6 @@ credential_of type reply part = record {
   second_ticket = [];
 }
 
--- the credential, where each type has 16 bits
+-- the credential, if each type fits in 16 bits
 abbrev pub credential_in : (type : ℕ) → KdcRep type → EncKdcRepPart → Option Credential
 credential_in type reply part = then_some (has_room part) (credential_of type reply part)

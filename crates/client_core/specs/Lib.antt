@@ -10,5 +10,5 @@ pub mod Taken
 pub mod ServiceReplies
 pub mod Passwords
 pub mod ShortLaws
--- laws that proofs cite: no reader of a contract needs them
+-- proofs cite these laws; no reader of a contract needs them
 pub mod TakenLaws

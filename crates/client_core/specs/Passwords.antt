@@ -1,4 +1,4 @@
--- The key of a password, by what a KDC says of its types (RFC 4120, section 5.2.7.5).
+-- The key of a password, given a KDC's information about its types (RFC 4120, section 5.2.7.5).
 use Rattle.std.specs.Prelude.{ℕ, ◌==◌, ◌&&◌, nat_le, if◌then◌else◌, List, length, Option, Some, None, Result, Ok, Err}
 use Rattle.std.specs.Prelude.{find, is_some}
 use Rattle.std.specs.Int.{w32, from_be_bytes}
@@ -14,7 +14,7 @@ use Rattle.sealed_parts.specs.Keys.{type_numbered}
 use Rattle.client_core.specs.declared.fault.ClientFault.{ClientFault}
 use Rattle.client_core.specs.declared.fault.ClientFault.TheVariants.{CannotOpen, CountTooLarge}
 
--- ---- the count of iterations: four octets, the most significant first; the type's own where there are none
+-- ---- the count of iterations: four bytes, the most significant first; without them the type's own
 
 abbrev pub count_if : ℕ → Option ℕ
 count_if n = if nat_le 1 n && nat_le n 1048576 then Some n else None
@@ -40,7 +40,7 @@ key_as pass realm name entry (Some etype) =
     key_by etype pass (salt_of realm name entry) (count_of etype entry.s2kparams)
 key_as pass realm name entry None = Err CannotOpen
 
--- the first entry of one of the four types
+-- the first entry with one of the four types
 abbrev pub entry_of : List EtypeInfo2Entry → Option EtypeInfo2Entry
 entry_of info = find (λ entry. is_some (type_numbered entry.etype)) info
 

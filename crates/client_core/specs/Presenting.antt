@@ -10,7 +10,7 @@ use Rattle.sealed_parts.specs.Encrypted.{encrypted}
 use Rattle.sealed_parts.specs.Keys.{key_part}
 use Rattle.client_core.specs.declared.sessions.Session.{Session}
 
--- a checksum of at most 16777216 octets
+-- a checksum of at most 16777216 bytes
 abbrev pub IsShortChecksum : Option Typed → Type 0
 IsShortChecksum checksum = IfSome checksum (λ c. length c.octets ≤ 16777216)
 
@@ -36,7 +36,8 @@ authenticator_of client at cksum subkey seq_number = record {
   authorization_data = None;
 }
 
--- the session's ticket, and the authenticator under its key; the options are bits, and `usage` is the key usage
+-- the session's ticket, and the authenticator encrypted with its key; the options are bits, and `usage` is the key
+-- usage
 abbrev pub presents : Session → ℕ → ℕ → List ℕ → Authenticator → ApReq
 presents session options usage confounder auth = record {
   pvno = pos 5;

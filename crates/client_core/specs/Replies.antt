@@ -1,4 +1,4 @@
--- What a client reads from a KDC's reply (RFC 4120, sections 3.1.5 and 3.3.4): a list of rules for each stage.
+-- How a client reads a KDC's reply (RFC 4120, sections 3.1.5 and 3.3.4): a list of rules for each stage.
 use Rattle.std.specs.Prelude.{ℕ, ℤ, pos, ◌-ℤ◌, unsigned_abs, int_lt, nat_lt, nat_eq, Bool, not, ◌&&◌, ◌||◌}
 use Rattle.std.specs.Prelude.{if◌then◌else◌, List, [], ◌∷◌, Option, Some, None, Result, Ok, Err}
 use Rattle.std.specs.Ordering.{int_eq, eq_by_cmp}
@@ -45,7 +45,7 @@ use Rattle.client_core.specs.Faults.{unless_rejected}
 abbrev pub server_error : KrbError → ServerError
 server_error error = record { code = error.error_code; stime = error.stime }
 
--- the refusal in a KRB-ERROR; other octets are no reply
+-- the refusal in a KRB-ERROR; other bytes are not a reply
 abbrev pub refusal_of : Option KrbError → ClientFault
 refusal_of (Some error) = Refused (record { error = server_error error; e_data = error.e_data })
 refusal_of None = NotAReply
@@ -53,22 +53,22 @@ refusal_of None = NotAReply
 abbrev pub refusal_in : List ℕ → ClientFault
 refusal_in bytes = refusal_of (ok_of (whole krb_error.at bytes))
 
--- the ticket has the version of the protocol, as the reply has
+-- the ticket has the version of the protocol, like the reply
 abbrev pub of_version : (type : ℕ) → Option (KdcRep type) → Option (KdcRep type)
 of_version type (Some reply) = if int_eq reply.ticket.tkt_vno (pos 5) then Some reply else None
 of_version type None = None
 
--- the AS-REP (type 11) or TGS-REP (type 13) that the octets spell
+-- the AS-REP (type 11) or TGS-REP (type 13) that the bytes encode
 abbrev pub ticket_reply_in : (type : ℕ) → List ℕ → Option (KdcRep type)
 ticket_reply_in type bytes = of_version type (ok_of (whole (kdc_rep type).at bytes))
 
--- that, or what they are in its place
+-- that, or what the bytes are instead
 abbrev pub reply_in : (type : ℕ) → List ℕ → Result (KdcRep type) ClientFault
 reply_in type bytes = unless_found (ticket_reply_in type bytes) (refusal_in bytes)
 
--- ---- the sealed part
+-- ---- the encrypted part
 
--- what the key opens to the part in the tag [APPLICATION tag]
+-- the part in the tag [APPLICATION tag], if the key decrypts it
 abbrev pub opened_in : ℕ → Key → ℕ → EncryptedData → Option EncKdcRepPart
 opened_in tag key usage sealed = decrypted (under tag enc_kdc_rep_part) key usage sealed
 
@@ -76,13 +76,13 @@ abbrev pub or_else : Option EncKdcRepPart → Option EncKdcRepPart → Option En
 or_else (Some part) other = Some part
 or_else None other = other
 
--- Of an AS-REP, under the client's key, in its own tag or, as some KDCs give it, in that of the other exchange (section
--- 5.4.2).
+-- For an AS-REP: under the client's key, in its own tag or, as some KDCs send it, in that of the other exchange
+-- (section 5.4.2).
 abbrev pub as_part : Key → EncryptedData → Option EncKdcRepPart
 as_part key sealed =
     or_else (opened_in 25 key (usage_number AsRepEncPart) sealed) (opened_in 26 key (usage_number AsRepEncPart) sealed)
 
--- Of a TGS-REP, under the subkey of the request's authenticator, else under the session key.
+-- For a TGS-REP: under the subkey of the request's authenticator, else under the session key.
 abbrev pub opened_as : KeyRole → Key → EncryptedData → Option EncKdcRepPart
 opened_as Client key sealed = as_part key sealed
 opened_as Subkey key sealed = opened_in 26 key (usage_number TgsRepEncPartSubkey) sealed
@@ -99,11 +99,11 @@ reply_rules type asked key reply =
     ∷ (not (int_eq reply.enc_part.etype (number key.etype)), Unopened)
     ∷ []
 
--- what the client's part opens to, if it is this client's and under this key
+-- the decrypted part, if it is this client's and under this key
 abbrev pub part_of : (type : ℕ) → Asked → Key → KdcRep type → Option EncKdcRepPart → Result EncKdcRepPart Rejection
 part_of type asked key reply opened = decided (reply_rules type asked key reply) opened Unopened
 
--- ---- what the part says
+-- ---- the contents of the part
 
 -- the part's service, or the ticket's
 abbrev pub is_other_service : Asked → Ticket → EncKdcRepPart → Bool
@@ -114,15 +114,15 @@ is_other_service asked ticket part =
 abbrev pub has_option : Asked → KdcOption → Bool
 has_option asked option = has_bit asked.options (kdc_option_number option)
 
--- the ticket ends later than was asked; a till of zero asks for no bound
+-- the ticket ends later than requested; a till of zero requests no bound
 abbrev pub ends_too_late : Asked → EncKdcRepPart → Bool
 ends_too_late asked part = not (int_eq asked.till (pos 0)) && int_lt asked.till part.endtime
 
--- a ticket that starts elsewhere may have been asked for
+-- the request may be for a ticket that starts at another time
 abbrev pub may_start_elsewhere : Asked → Bool
 may_start_elsewhere asked = has_option asked Postdated || has_option asked Renew || has_option asked Validate
 
--- further from now than clocks may differ
+-- outside the clock skew
 abbrev pub is_skewed : ℤ → ℤ → Bool
 is_skewed now time = nat_lt skew (unsigned_abs (time -ℤ now))
 
@@ -146,7 +146,7 @@ abbrev pub if_part : (type : ℕ) → Asked → ℤ → KdcRep type → Result E
 if_part type asked now reply (Ok part) = taken type asked now reply part
 if_part type asked now reply (Err rejection) = Err rejection
 
--- the credential that a reply gives, or the first fault
+-- the credential in a reply, or the first fault
 abbrev pub judged : (type : ℕ) → KeyRole → Asked → Key → ℤ → KdcRep type → Result Credential ClientFault
 judged type role asked key now reply =
     unless_rejected (if_part type asked now reply (part_of type asked key reply (opened_as role key reply.enc_part)))
@@ -156,7 +156,7 @@ abbrev pub if_reply : (type : ℕ) → KeyRole → Asked → Key → ℤ → Res
 if_reply type role asked key now (Ok reply) = judged type role asked key now reply
 if_reply type role asked key now (Err fault) = Err fault
 
--- the credential that the reply gives, or the first fault
+-- the credential in the reply, or the first fault
 abbrev pub reads : (type : ℕ) → KeyRole → Asked → Key → ℤ → List ℕ → Result Credential ClientFault
 reads type role asked key now bytes = if_reply type role asked key now (reply_in type bytes)
 

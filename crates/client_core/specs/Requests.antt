@@ -1,4 +1,4 @@
--- What a client asks of a KDC: AS-REQ and TGS-REQ (RFC 4120, sections 3.1.1, 3.3.1 and 5.4.1).
+-- What a client sends to a KDC: AS-REQ and TGS-REQ (RFC 4120, sections 3.1.1, 3.3.1 and 5.4.1).
 use Rattle.std.specs.Prelude.{ℕ, pos, List, [], ◌∷◌, map, Option, Some, None}
 use Rattle.cred_files.specs.declared.principal.Principal.{Principal}
 use Rattle.enctypes.specs.declared.key.Key.{Key}
@@ -68,9 +68,9 @@ timestamp_data key at confounder =
 abbrev pub asks_with_timestamp : Asked → Key → Moment → List ℕ → KdcReq
 asks_with_timestamp asked key at confounder = asks_as (Some (timestamp_data key at confounder ∷ [])) asked
 
--- ---- TGS-REQ: it names no client, but presents a ticket of one
+-- ---- TGS-REQ: it names no client, but presents a client's ticket
 
--- over the body's octets, under the session key
+-- over the body's bytes, under the session key
 abbrev pub body_checksum : Key → ReqBody → Typed
 body_checksum key body = record {
   number = checksum_type key.etype;
@@ -93,7 +93,7 @@ tgs_data client session at subkey confounder body = record {
   padata_value = written ap_req (tgs_presents client session at subkey confounder body);
 }
 
--- `client` is the credential's, and `session` what it gives
+-- `client` is the credential's, and `session` is its session
 abbrev pub asks_tgs : Asked → Principal → Session → Moment → Option Key → List ℕ → KdcReq
 asks_tgs asked client session at subkey confounder =
     request_of Tgs (Some (tgs_data client session at subkey confounder (body_of None asked) ∷ [])) (body_of None asked)

@@ -1,4 +1,4 @@
--- What a client reads from a service's reply: AP-REP (RFC 4120, sections 3.2.5 and 5.5.2).
+-- How a client reads a service's reply: AP-REP (RFC 4120, sections 3.2.5 and 5.5.2).
 use Rattle.std.specs.Prelude.{ℕ, not, ◌||◌, nat_eq, List, [], ◌∷◌, Some, Result, Ok, Err}
 use Rattle.std.specs.Ordering.{int_eq}
 use Rattle.refusals.specs.Refusals.{Rule, decided, unless_found}
@@ -19,7 +19,7 @@ use Rattle.client_core.specs.declared.fault.Rejection.TheVariants.{Mismatched, U
 use Rattle.client_core.specs.Faults.{unless_rejected}
 use Rattle.client_core.specs.Replies.{refusal_in}
 
--- the AP-REP, or what the octets are in its place
+-- the AP-REP, or what the bytes are instead
 abbrev pub ap_reply_in : List ℕ → Result ApRep ClientFault
 ap_reply_in bytes = unless_found (ok_of (whole ap_rep.at bytes)) (refusal_in bytes)
 
@@ -46,6 +46,6 @@ abbrev pub if_ap_reply : Key → Moment → Result ApRep ClientFault → Result 
 if_ap_reply key sent (Ok reply) = unless_rejected (if_ap_part sent (ap_part key reply))
 if_ap_reply key sent (Err fault) = Err fault
 
--- what the service says, or the first fault
+-- the contents of the service's reply, or the first fault
 abbrev pub reads_ap : Key → Moment → List ℕ → Result EncApRepPart ClientFault
 reads_ap key sent bytes = if_ap_reply key sent (ap_reply_in bytes)

@@ -19,7 +19,7 @@ ap_options required = if required then with_bit 0 (ap_option_number MutualRequir
 abbrev pub ap_authenticator : Principal → Moment → ServiceAsked → Authenticator
 ap_authenticator client at asked = authenticator_of client at asked.checksum asked.subkey asked.seq_number
 
--- `client` is the credential's, and `session` what it gives
+-- `client` is the credential's, and `session` is its session
 abbrev pub asks_ap : Principal → Session → Moment → ServiceAsked → List ℕ → ApReq
 asks_ap client session at asked confounder =
     presents session (ap_options asked.mutual_required) (usage_number ApReqAuthenticator) confounder

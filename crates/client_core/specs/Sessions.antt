@@ -1,4 +1,4 @@
--- What a credential gives its client: a ticket, and the session key that the ticket holds.
+-- The session of a credential: a ticket, and the session key in the ticket.
 use Rattle.std.specs.Prelude.{ℕ, pos, Bool, ◌&&◌, nat_le, IsTrue, List, length, Option, Some, None, is_some}
 use Rattle.cred_files.specs.declared.credential.Credential.{Credential}
 use Rattle.enctypes.specs.declared.key.Key.{Key}
@@ -9,11 +9,11 @@ use Rattle.sealed_parts.specs.Keys.{key_of}
 use Rattle.sealed_parts.specs.Parts.{ok_of}
 use Rattle.client_core.specs.declared.sessions.Session.{Session}
 
--- the key, where its type is one of the four
+-- the key, if its type is one of the four
 abbrev pub session_key : Credential → Option Key
 session_key credential = key_of (pos credential.key.key_type) credential.key.octets
 
--- the Ticket that octets spell
+-- the Ticket that bytes encode
 abbrev pub ticket_in : List ℕ → Option Ticket
 ticket_in octets = ok_of (whole ticket.at octets)
 
@@ -25,7 +25,7 @@ abbrev pub session : Credential → Option Session
 session credential = session_by (ticket_in credential.ticket) (session_key credential)
 
 -- a credential that can be presented: it has a session, its client is within the limits of names, and its ticket has at
--- most 16777216 octets
+-- most 16777216 bytes
 abbrev pub is_presentable : Credential → Bool
 is_presentable credential =
     is_some (session_key credential)

@@ -56,7 +56,7 @@ askable_facts asked is =
 pub presentable_realm : (credential : Credential) → IsPresentable credential → IsComponent credential.client.realm
 presentable_realm credential is = (both _ _ (both _ _ (both _ _ is).0).0).1
 
--- ---- what is absent takes nothing
+-- ---- an absent field takes no space
 
 time_most : (o : Option ℤ) → most_maybe {A = ℤ} (λ z. 15) o ≤ 27
 time_most None = omega arith
@@ -99,7 +99,7 @@ body_short cname asked is short =
 pub body_text_short : (body : ReqBody) → req_body.most body ≤ 20000 → length (req_body.text body) < 2 ^ 32
 body_text_short body short = omega (arith, short, req_body.bounded body)
 
--- padata that a request has room for
+-- padata for which a request has room
 abbrev pub AreShortData : Option (List PaData) → Type 0
 AreShortData padata = most_maybe (list_of pa_data).most padata ≤ 40000000
 
@@ -118,7 +118,7 @@ unfolding kdc_req_form
 request_short exchange padata body few short =
     omega (arith, few, short, (message exchange).bounded (request_of exchange padata body))
 
--- ---- what is sealed
+-- ---- encrypted parts
 
 pub sealed_most : (e : EncryptedData) → length (encrypted_data.text e) ≤ length e.cipher + 52
 unfolding encrypted_data_form
@@ -143,14 +143,14 @@ pub stamp_data_short : (part : PaEncTsEnc) (sealed : EncryptedData) (octets : Li
 stamp_data_short part sealed octets short same =
     omega (arith, short, stamp_most part, sealed_most sealed, ap length same, tlv_short 48 (encrypted_data.text sealed))
 
--- ---- what presents a ticket
+-- ---- messages that present a ticket
 
 checksum_most : (o : Option Typed) → IsShortChecksum o → most_maybe typed.most o ≤ 16777300
 unfolding typed_form
 checksum_most None short = omega arith
 checksum_most (Some c) short = omega (arith, short)
 
--- a key's octets, or none
+-- a key's bytes, or none
 abbrev pub IsShortKey : Option Typed → Type 0
 IsShortKey o = IfSome o (λ k. length k.octets ≤ 32)
 

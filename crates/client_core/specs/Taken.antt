@@ -1,5 +1,5 @@
--- What a credential that was taken from a reply says, in its own words: the octets are a reply to this request, and the
--- key opens its part.
+-- What it means that a credential was read from a reply, in terms of the credential: the bytes encode a reply to this
+-- request, and the key decrypts its part.
 use Rattle.std.specs.Prelude.{◌≡◌, ℕ, ℤ, pos, false, List, Some, Ok}
 use Rattle.cred_files.specs.declared.credential.Credential.{Credential}
 use Rattle.enctypes.specs.declared.key.Key.{Key}
@@ -21,7 +21,7 @@ pub record IsTaken (type : ℕ) (role : KeyRole) (asked : Asked) (key : Key) (no
     (credential : Credential) : Type 0 where
   pub reply : KdcRep type
   pub part : EncKdcRepPart
-  -- the octets are the reply, and the key opens its part
+  -- the bytes encode the reply, and the key decrypts its part
   pub spelled : whole (kdc_rep type).at bytes ≡ Ok reply
   pub opens : opened_as role key reply.enc_part ≡ Some part
   -- it answers the request: the client, the nonce, the service, the times
@@ -31,5 +31,5 @@ pub record IsTaken (type : ℕ) (role : KeyRole) (asked : Asked) (key : Key) (no
   pub ticket_service : AreSame reply.ticket.realm reply.ticket.sname asked.realm asked.service
   pub ends : ends_too_late asked part ≡ false
   pub starts : starts_elsewhere asked now part ≡ false
-  -- and this is what it gives
+  -- and this is its credential
   pub is : credential ≡ credential_of type reply part

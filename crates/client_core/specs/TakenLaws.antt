@@ -1,4 +1,4 @@
--- A credential that is read was taken from a reply to the request.
+-- A credential that a client reads is in a reply to the request.
 use Rattle.std.proofs.Common.{◌≡◌, ℕ, ℤ, pos, Bool, true, false, List, Option, Some, None, Result, Ok, Err, refl, ap}
 use Rattle.std.proofs.Common.{sym, ◌∙◌}
 use Rattle.std.specs.Prelude.{◌&&◌, ◌||◌, not, IfOk, if◌then◌else◌, nat_eq}
@@ -132,7 +132,7 @@ module _ (type : ℕ) (role : KeyRole) (asked : Asked) (key : Key) (now : ℤ) (
   pub taken_is : reads type role asked key now bytes ≡ Ok credential → IsTaken type role asked key now bytes credential
   taken_is e = by_reply (whole (kdc_rep type).at bytes) refl e
 
--- the same of what a call returned
+-- the same for what a call returned
 pub taken_if : (type : ℕ) (role : KeyRole) (asked : Asked) (key : Key) (now : ℤ) (bytes : List ℕ)
     (r : Result Credential ClientFault) → Gives r (reads type role asked key now bytes)
     → IfOk r (λ credential. IsTaken type role asked key now bytes credential)

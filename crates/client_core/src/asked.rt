@@ -1,4 +1,4 @@
-//! What a client asks of a KDC (RFC 4120, section 5.4.1).
+//! What a client requests from a KDC (RFC 4120, section 5.4.1).
 ghost use Rattle.std.specs.Prelude.{◌≡◌, ◌≤◌, IfOk, map};
 ghost use Rattle.enctypes.specs.Etype.{number};
 ghost use Rattle.krb_types.specs.ReqBody.{req_body};
@@ -13,10 +13,10 @@ use krb_fields::{Flags, Name, is_component};
 use krb_types::ReqBody;
 use std::alloc::{AllocError, Global};
 
-/// The most encryption types that a request names.
+/// The most encryption types in a request.
 pub const MAX_ETYPES: usize = 64;
 
-/// A ticket that a client asks for.
+/// A ticket that a client requests.
 #[derive(Drop)]
 pub struct Asked {
     /// Its named bits are those of `krb_fields::KdcOption`.
@@ -27,19 +27,19 @@ pub struct Asked {
     pub service: Name,
     /// When the ticket is to start; absent: at once.
     pub from: Option<KTime>,
-    /// When it is to end; the start of 1970 asks for no bound.
+    /// When it is to end; the start of 1970 requests no bound.
     pub till: KTime,
     /// Until when it is to be renewable.
     pub rtime: Option<KTime>,
-    /// The number that the reply repeats. Many KDCs take only one below 2147483648.
+    /// The number that the reply repeats. Many KDCs accept only one below 2147483648.
     pub nonce: u32,
-    /// The encryption types that the client takes, in the order of its preference.
+    /// The encryption types that the client accepts, in order of preference.
     pub etypes: Seq<Etype>,
 }
 
 impl Asked {
-    /// Whether it can be asked: the realm has 1 to 255 octets, the names are within the limits of a database, and there
-    /// are at most [`MAX_ETYPES`] encryption types.
+    /// Checks whether it can be requested: the realm has 1 to 255 bytes, the names are within the limits of a database,
+    /// and there are at most [`MAX_ETYPES`] encryption types.
     pub fn is_askable(&self) -> bool
         ensures { result ≡ is_askable self.now }
     {
@@ -49,7 +49,7 @@ impl Asked {
             && self.etypes.len() <= MAX_ETYPES
     }
 
-    /// KDC-REQ-BODY, which names the client in an AS-REQ alone.
+    /// Returns the KDC-REQ-BODY, which names the client only in an AS-REQ.
     #[tactic(auto, using(crate::specs::ShortLaws::body_short))]
     pub(crate) fn body(&self, alloc: Global, cname: Option<Name>) -> Result<ReqBody, AllocError>
         requires askable { IsAskable self.now }
@@ -74,7 +74,7 @@ impl Asked {
     }
 }
 
-/// The numbers of the types.
+/// Returns the numbers of the types.
 fn numbers(alloc: Global, etypes: &[Etype]) -> Result<Seq<i32>, AllocError>
     ensures { IfOk result (λ numbers. numbers ≡ map number etypes.now) }
 {

@@ -1,4 +1,4 @@
-//! The credential that a reply gives (RFC 4120, section 3.1.5).
+//! The credential in a reply (RFC 4120, section 3.1.5).
 ghost use Rattle.std.specs.Prelude.{◌≡◌, ◌<◌, ◌^◌, length, IfOk, map};
 ghost use Rattle.std.specs.List.{list_all};
 ghost use Rattle.krb_elements.specs.Codec.{written};
@@ -16,7 +16,7 @@ use krb_replies::KdcRepRef;
 use krb_types::TicketRef;
 use std::alloc::{AllocError, Global};
 
-/// The credential; `None` where its key or an address has a type of more than 16 bits, for which it has no room.
+/// Returns the credential; `None` if its key or an address has a type of more than 16 bits, for which it has no room.
 pub fn credential_in<const TYPE: u8>(
     alloc: Global,
     reply: &KdcRepRef<'_, TYPE>,
@@ -98,7 +98,7 @@ fn server_of(alloc: Global, part: &EncKdcRepPart) -> Result<Principal, AllocErro
     })
 }
 
-/// The session key, its type cut to 16 bits.
+/// Returns the session key, with its type cut to 16 bits.
 fn key_of(alloc: Global, key: &Typed) -> Result<SessionKey, AllocError>
     ensures { IfOk result (λ made. made ≡ key_of key.now) }
 {
@@ -120,7 +120,7 @@ fn times_of(part: &EncKdcRepPart) -> Times
     }
 }
 
-/// The octets of the ticket.
+/// Returns the bytes of the ticket.
 fn ticket_octets(alloc: Global, found: &TicketRef<'_>) -> Result<Octets, AllocError>
     requires { length (ticket.text found.now) < 2 ^ 32 }
     ensures { IfOk result (λ octets. octets ≡ written ticket found.now) }
@@ -151,7 +151,7 @@ fn addresses(alloc: Global, list: &[Typed]) -> Result<Seq<TypedOctets>, AllocErr
     Ok(addresses)
 }
 
-/// Whether the types of the session key and of all addresses have 16 bits.
+/// Checks whether the types of the session key and of all addresses fit in 16 bits.
 fn has_room(part: &EncKdcRepPart) -> bool
     ensures { result ≡ has_room part.now }
 {
@@ -185,7 +185,7 @@ fn has_16_bits(number: i32) -> bool
     0 <= number && number < 65536
 }
 
-/// The number, cut to 16 bits.
+/// Returns the number, cut to 16 bits.
 fn in_16_bits(number: i32) -> u16
     ensures { result ≡ in_16_bits number }
 {

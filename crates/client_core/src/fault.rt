@@ -1,4 +1,4 @@
-//! Why a reply is not taken.
+//! Why a reply is rejected.
 ghost use Rattle.std.specs.Prelude.{◌≡◌};
 ghost use Rattle.client_core.specs.Faults.{IsGiven, fault_of, unless_rejected};
 ghost use Rattle.client_core.specs.declared.fault.ClientFault.TheVariants.{Memory};
@@ -8,32 +8,32 @@ use std::alloc::{AllocError, AllocFailed};
 use std::error::Error;
 use std::fmt;
 
-/// What a client finds wrong with a reply, or with what a KDC says of its key.
+/// What a client finds wrong with a reply, or with a KDC's information about its key.
 #[derive(Debug, Drop)]
 pub enum ClientFault {
-    /// The octets are neither the reply nor a KRB-ERROR.
+    /// The bytes encode neither the reply nor a KRB-ERROR.
     NotAReply,
-    /// They are a KRB-ERROR.
+    /// The bytes encode a KRB-ERROR.
     Refused(Refusal),
     /// The reply answers another request.
     Mismatch(Mismatch),
-    /// The sealed part has another encryption type than the key, or the key doesn't open it to the part of such a
-    /// reply; or its session key, or an address, has a type for which a credential has no room. Of a password: no
+    /// The encrypted part has another encryption type than the key, or the key doesn't decrypt it to the part of such a
+    /// reply; or its session key, or an address, has a type for which a credential has no room. For a password: no
     /// entry has one of the four types.
     CannotOpen,
-    /// The parameters of string-to-key are not four octets, or their count is 0 or above [`crate::MAX_COUNT`].
+    /// The parameters of string-to-key are not four bytes, or their count is 0 or above [`crate::MAX_COUNT`].
     CountTooLarge,
     Memory,
 }
 
-/// What a KRB-ERROR says.
+/// The contents of a KRB-ERROR.
 #[derive(Debug, Drop)]
 pub struct Refusal {
     pub error: ServerError,
     pub e_data: Option<Octets>,
 }
 
-/// The error that a server reports, and its clock.
+/// The error that a server reports, and the time on its clock.
 #[derive(Clone, Copy, Debug, PartialEq, Eq)]
 pub struct ServerError {
     /// The error code (RFC 4120, section 7.5.9).
@@ -42,20 +42,20 @@ pub struct ServerError {
     pub stime: i64,
 }
 
-/// In what a reply differs from the request.
+/// How a reply differs from the request.
 #[derive(Clone, Copy, Debug, PartialEq, Eq)]
 pub enum Mismatch {
     /// The client's realm or name.
     Client,
     Nonce,
-    /// The service's realm or name, in the sealed part or in the ticket.
+    /// The service's realm or name, in the encrypted part or in the ticket.
     Service,
-    /// The ticket ends later than was asked, or starts elsewhere. Of an AP-REP: the moment is not the one that was
-    /// sent.
+    /// The ticket ends later than requested, or starts at another time. For an AP-REP: the moment is not the one that
+    /// was sent.
     Times,
 }
 
-/// Why a reply is not taken that is a reply.
+/// Why a KDC's or a service's reply is rejected.
 #[derive(Clone, Copy, Debug, PartialEq, Eq)]
 pub enum Rejection {
     Mismatched(Mismatch),
@@ -73,14 +73,14 @@ impl From<Rejection> for ClientFault {
     }
 }
 
-/// What is found, or the fault that the rejection is.
+/// Returns what is found, or the fault for the rejection.
 pub fn unless_rejected<T: Drop>(found: Result<T, Rejection>) -> Result<T, ClientFault>
     ensures { result ≡ unless_rejected found }
 {
     Ok(found?)
 }
 
-/// What is given, unless memory ran out.
+/// Returns what is given, unless memory ran out.
 pub fn given<T: Drop>(found: Result<Result<T, ClientFault>, AllocError>) -> Result<T, ClientFault>
     ensures { IsGiven found result }
 {

@@ -1,5 +1,4 @@
-//! A client of a KDC and of services: the requests that it writes, and what it reads from replies (RFC 4120, sections
-//! 3.1, 3.2 and 3.3).
+//! A client of a KDC and of services: writes the requests, and reads the replies (RFC 4120, sections 3.1, 3.2 and 3.3).
 //!
 //! | call | message | section |
 //! |---|---|---|
@@ -11,10 +10,11 @@
 //! | [`read_ap_reply`] | AP-REP, or KRB-ERROR | 3.2.5 |
 //! | [`password_key`] | ETYPE-INFO2 | 5.2.7.5 |
 //!
-//! A caller that has to look at a reply before it has the key reads it once, by [`refusal_in`] and [`ticket_reply_in`],
-//! and hands it to [`judge_as_reply`] or [`judge_tgs_reply`].
+//! A caller that has to look at a reply before it has the key reads it once, with [`refusal_in`] and
+//! [`ticket_reply_in`], and passes it to [`judge_as_reply`] or [`judge_tgs_reply`].
 //!
-//! Nothing here sends or waits, draws random octets or asks a clock: the moment and the confounders are handed in.
+//! Nothing here sends or waits, draws random bytes or reads a clock: the caller supplies the moment and the
+//! confounders.
 #![tactic(auto)]
 
 mod asked;

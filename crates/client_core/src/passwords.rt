@@ -1,4 +1,4 @@
-//! The key of a password, by what a KDC says of its types (RFC 4120, section 5.2.7.5).
+//! The key of a password, given a KDC's information about its types (RFC 4120, section 5.2.7.5).
 ghost use Rattle.std.specs.Prelude.{◌≡◌, ◌≤◌, IfOk, IfSome, option_copied};
 ghost use Rattle.sealed_parts.specs.Keys as keys;
 ghost use Rattle.client_core.specs.Faults.{Gives};
@@ -12,14 +12,14 @@ use krb_parts::EtypeInfo2Entry;
 use sealed_parts::type_numbered;
 use std::alloc::{AllocError, Global};
 
-/// The greatest count of iterations of string-to-key that a client takes from a KDC.
+/// The greatest count of iterations of string-to-key that a client accepts from a KDC.
 pub const MAX_COUNT: u32 = 1_048_576;
 
-/// What a KDC says of the types of a client's keys.
+/// A KDC's information about the types of a client's keys.
 pub type EtypeInfo2 = Seq<EtypeInfo2Entry>;
 
-/// The key of a password for the first entry of one of the four types. The salt is the default one, of the realm and
-/// the name, where the entry has none. It takes an HMAC for each of the entry's iterations, and two for type 18.
+/// Derives the key of a password for the first entry with one of the four types. If the entry has no salt, it uses the
+/// default one, of the realm and the name. It computes an HMAC for each of the entry's iterations, and two for type 18.
 pub fn password_key(
     alloc: Global,
     pass: &[u8],
@@ -47,7 +47,7 @@ fn key_in(
     }
 }
 
-/// Returns the entry of which a password's key is made: the first one of the four types.
+/// Returns the entry that a password's key is derived from: the first one with one of the four types.
 pub fn entry_of(info: &[EtypeInfo2Entry]) -> Option<&EtypeInfo2Entry>
     ensures { option_copied result ≡ entry_of info.now }
 {
@@ -80,7 +80,7 @@ fn key_as(
     Ok(Ok(key))
 }
 
-/// The entry's salt, else the default one.
+/// Returns the entry's salt, else the default one.
 fn salt_of(
     alloc: Global,
     realm: &[u8],
@@ -95,8 +95,8 @@ fn salt_of(
     }
 }
 
-/// Returns the count of iterations that an entry asks for: that of its parameters, or else the type's own. `None` if the
-/// parameters are not four octets, or the count is 0 or above [`MAX_COUNT`].
+/// Returns the count of iterations in an entry: that of its parameters, or else the type's own. `None` if the
+/// parameters are not four bytes, or the count is 0 or above [`MAX_COUNT`].
 pub fn count_of(etype: Etype, params: &Option<Octets>) -> Option<u32>
     ensures value { result ≡ count_of etype params.now }
     ensures some { IfSome result (λ count. 1 ≤ count) }
@@ -107,7 +107,7 @@ pub fn count_of(etype: Etype, params: &Option<Octets>) -> Option<u32>
     }
 }
 
-/// A count of four octets, from 1 to [`MAX_COUNT`].
+/// Reads a count of four bytes, from 1 to [`MAX_COUNT`].
 fn count_in(params: &[u8]) -> Option<u32>
     ensures value { result ≡ count_in params.now }
     ensures some { IfSome result (λ count. 1 ≤ count) }

@@ -20,7 +20,7 @@ use krb_types::PVNO;
 use sealed_parts::{encrypted, key_part};
 use std::alloc::{AllocError, Global};
 
-/// What the client says under the session key.
+/// Returns the authenticator, which the client encrypts with the session key.
 #[tactic(auto, using(crate::specs::ShortLaws::authenticator_short))]
 pub fn authenticator(
     alloc: Global,
@@ -66,7 +66,7 @@ fn number_part(number: Option<u32>) -> Option<UInt32>
     }
 }
 
-/// The octets of an AP-REQ with the session's ticket and this authenticator. `confounder` is 16 random octets.
+/// Returns the bytes of an AP-REQ with the session's ticket and this authenticator. `confounder` is 16 random bytes.
 pub fn present(
     alloc: Global,
     session: Session,

@@ -1,4 +1,4 @@
-//! What a client reads from a KDC's reply (RFC 4120, sections 3.1.5 and 3.3.4).
+//! Reads a KDC's reply (RFC 4120, sections 3.1.5 and 3.3.4).
 ghost use Rattle.std.specs.Prelude.{◌≡◌, ◌<◌, ◌^◌, ◌||◌, not, length, IfOk, IfSome, option_copied};
 ghost use Rattle.enctypes.specs.KeyUsage.{usage_number};
 ghost use Rattle.krb_types.specs.Ticket.{ticket};
@@ -31,7 +31,7 @@ use sealed_parts::open_part;
 use std::alloc::{AllocError, Global};
 use std::cmp::Ordering;
 
-/// The credential that an AS-REP gives under the client's key, or the first fault.
+/// Returns the credential in an AS-REP under the client's key, or the first fault.
 #[tactic(auto, using(crate::specs::TakenLaws::taken_if))]
 pub fn read_as_reply(
     alloc: Global,
@@ -41,14 +41,14 @@ pub fn read_as_reply(
     bytes: &[u8],
 ) -> Result<Credential, ClientFault>
     ensures value { Gives result (reads_as asked.now key.now at.sec bytes.now) }
-    // So the octets are the reply to this request.
+    // So the bytes are the reply to this request.
     ensures taken { IfOk result (λ credential. IsTaken 11 roles.Client asked.now key.now at.sec bytes.now credential) }
 {
     given(read_reply::<11>(alloc, KeyRole::Client, asked, key, at, bytes))
 }
 
-/// The credential that a TGS-REP gives under the subkey of the request, or else the session key of the ticket that was
-/// presented, or the first fault.
+/// Returns the credential in a TGS-REP, or the first fault. The part is under the subkey of the request, or else under
+/// the session key of the presented ticket.
 #[tactic(auto, using(crate::specs::TakenLaws::taken_if))]
 pub fn read_tgs_reply(
     alloc: Global,
@@ -59,14 +59,14 @@ pub fn read_tgs_reply(
     bytes: &[u8],
 ) -> Result<Credential, ClientFault>
     ensures value { Gives result (reads_tgs asked.now key.now subkey at.sec bytes.now) }
-    // So the octets are the reply to this request.
+    // So the bytes are the reply to this request.
     ensures taken { IfOk result (λ credential.
         IsTaken 13 (tgs_role subkey) asked.now key.now at.sec bytes.now credential) }
 {
     given(read_reply::<13>(alloc, tgs_role(subkey), asked, key, at, bytes))
 }
 
-/// The credential that an AS-REP gives, where it stands: as [`read_as_reply`], for a caller that has read the octets.
+/// Returns the credential in an AS-REP, like [`read_as_reply`], for a caller that has already read the bytes.
 pub fn judge_as_reply(
     alloc: Global,
     asked: &Asked,
@@ -80,7 +80,7 @@ pub fn judge_as_reply(
     given(judged(alloc, KeyRole::Client, asked, key, at, reply))
 }
 
-/// The same of a TGS-REP.
+/// Does the same for a TGS-REP.
 pub fn judge_tgs_reply(
     alloc: Global,
     asked: &Asked,
@@ -153,7 +153,7 @@ fn judged<const TYPE: u8>(
     Ok(unless_rejected(found))
 }
 
-/// The reply, or what the octets are in its place.
+/// Returns the reply, or what the bytes are instead.
 fn reply_in<'a, const TYPE: u8>(
     alloc: Global,
     bytes: &'a [u8],
@@ -167,7 +167,8 @@ fn reply_in<'a, const TYPE: u8>(
     }
 }
 
-/// Returns the AS-REP or the TGS-REP, by its type, that the octets are, if its ticket has the version of the protocol.
+/// Returns the AS-REP or the TGS-REP, by its type, that the bytes encode, if its ticket has the version of the
+/// protocol.
 pub fn ticket_reply_in<const TYPE: u8>(bytes: &[u8]) -> Option<KdcRepRef<'_, TYPE>>
     ensures value { result ≡ ticket_reply_in TYPE bytes.now }
     ensures short { IfSome result (λ reply. length (ticket.text reply.ticket) < 2 ^ 32) }
@@ -181,7 +182,7 @@ pub fn ticket_reply_in<const TYPE: u8>(bytes: &[u8]) -> Option<KdcRepRef<'_, TYP
     Some(reply)
 }
 
-/// Returns the refusal in a KRB-ERROR. Other octets are no reply.
+/// Returns the refusal in a KRB-ERROR. Other bytes are not a reply.
 pub fn refusal_in(alloc: Global, bytes: &[u8]) -> Result<ClientFault, AllocError>
     ensures { IfOk result (λ fault. fault ≡ refusal_in bytes.now) }
 {
@@ -206,7 +207,7 @@ fn copied(alloc: Global, found: &Option<OctetsRef<'_>>) -> Result<Option<Octets>
     }
 }
 
-/// What the reply's part opens to.
+/// Decrypts the reply's part.
 fn opened_as(
     alloc: Global,
     role: KeyRole,
@@ -222,7 +223,7 @@ fn opened_as(
     }
 }
 
-/// What an AS-REP's part opens to: in its own tag, or in that of a TGS-REP's part.
+/// Decrypts an AS-REP's part: in its own tag, or in that of a TGS-REP's part.
 fn as_part(
     alloc: Global,
     key: &Key,
@@ -236,7 +237,7 @@ fn as_part(
     }
 }
 
-/// The part in the tag `[APPLICATION TAG]`.
+/// Decrypts the part in the tag `[APPLICATION TAG]`.
 fn opened_in<const TAG: u8>(
     alloc: Global,
     key: &Key,
@@ -273,7 +274,7 @@ fn if_part<const TYPE: u8>(
     }
 }
 
-/// The part of a reply to this client, under this key.
+/// Returns the part of a reply to this client, under this key.
 fn part_of<const TYPE: u8>(
     asked: &Asked,
     key: &Key,
@@ -312,7 +313,7 @@ fn is_other_client<const TYPE: u8>(asked: &Asked, reply: &KdcRepRef<'_, TYPE>) -
         || reply.cname.order(&asked.client) != Ordering::Equal
 }
 
-/// The credential, where the part says what was asked.
+/// Returns the credential, if the part fits the request.
 fn taken<const TYPE: u8>(
     alloc: Global,
     asked: &Asked,
@@ -352,7 +353,7 @@ fn part_rules(
     ]
 }
 
-/// The part's service, or the ticket's.
+/// Checks whether the part's service, or the ticket's, is another one.
 fn is_other_service(asked: &Asked, ticket: &TicketRef<'_>, part: &EncKdcRepPart) -> bool
     ensures { result ≡ is_other_service asked.now ticket.now part.now }
 {
@@ -362,14 +363,14 @@ fn is_other_service(asked: &Asked, ticket: &TicketRef<'_>, part: &EncKdcRepPart)
         || ticket.sname.order(&asked.service) != Ordering::Equal
 }
 
-/// It ends later than was asked.
+/// Checks whether the ticket ends later than requested.
 fn ends_too_late(asked: &Asked, part: &EncKdcRepPart) -> bool
     ensures { result ≡ ends_too_late asked.now part.now }
 {
     asked.till.seconds() != 0 && part.endtime.seconds() > asked.till.seconds()
 }
 
-/// It starts at another time than now, which was not asked.
+/// Checks whether the ticket starts at another time than now, without a request for that.
 fn starts_elsewhere(asked: &Asked, at: Moment, part: &EncKdcRepPart) -> bool
     ensures { result ≡ starts_elsewhere asked.now at.sec part.now }
 {
@@ -384,7 +385,7 @@ fn may_start_elsewhere(asked: &Asked) -> bool
         || asked.options.has(KdcOption::Validate)
 }
 
-/// A time that is there, and further from now than clocks may differ.
+/// Checks whether there is a time, and it is outside the clock skew.
 fn is_skewed(now: i64, time: Option<KTime>) -> bool
     ensures { result ≡ holds_of (is_skewed now) time }
 {

@@ -24,7 +24,7 @@ use krb_types::{Exchange, KdcReq, PVNO, ReqBody, encode_kdc_req};
 use sealed_parts::encrypted;
 use std::alloc::{AllocError, Global};
 
-/// The octets of an AS-REQ without preauthentication.
+/// Returns the bytes of an AS-REQ without preauthentication.
 pub fn as_request(alloc: Global, asked: &Asked) -> Result<Vec<u8>, AllocError>
     requires { IsAskable asked.now }
     ensures written { IfOk result (λ v. v.items ≡ written (message As) (asks_as None asked.now)) }
@@ -33,8 +33,8 @@ pub fn as_request(alloc: Global, asked: &Asked) -> Result<Vec<u8>, AllocError>
     as_req(alloc, asked, None)
 }
 
-/// The octets of an AS-REQ with the moment, sealed under the client's key (RFC 4120, section 5.2.7.2). `confounder` is
-/// 16 random octets.
+/// Returns the bytes of an AS-REQ with the moment, encrypted with the client's key (RFC 4120, section 5.2.7.2).
+/// `confounder` is 16 random bytes.
 pub fn with_timestamp(
     alloc: Global,
     asked: &Asked,
@@ -47,7 +47,7 @@ pub fn with_timestamp(
         v.items ≡ written (message As) (asks_with_timestamp asked.now key.now at confounder.now)) }
     ensures spelled { IfOk result (λ v.
         SpellsKdcReq (As, asks_with_timestamp asked.now key.now at confounder.now) v.items) }
-    // The key opens the PA-ENC-TIMESTAMP in it to the moment.
+    // The key decrypts the PA-ENC-TIMESTAMP in it to the moment.
     ensures opens { IfOk result (λ v.
         decrypted parts.pa_enc_ts_enc key.now (usage_number usages.PaEncTimestamp)
         (sealed_timestamp key.now at confounder.now) ≡ Some (timestamp_part at)) }
@@ -57,7 +57,7 @@ pub fn with_timestamp(
     as_req(alloc, asked, Some(padata))
 }
 
-/// The data of a request that has one entry.
+/// Returns padata with one entry.
 pub fn one_entry(alloc: Global, entry: PaData) -> Result<Seq<PaData>, AllocError>
     ensures { IfOk result (λ padata. padata ≡ entry ∷ []) }
 {
@@ -77,7 +77,7 @@ fn as_req(alloc: Global, asked: &Asked, padata: Option<Seq<PaData>>) -> Result<V
     request(alloc, Exchange::As, padata, body)
 }
 
-/// The octets of a request.
+/// Returns the bytes of a request.
 pub fn request(
     alloc: Global,
     exchange: Exchange,
@@ -98,7 +98,7 @@ pub fn request(
     encode_kdc_req(alloc, exchange, &request)
 }
 
-/// PA-ENC-TIMESTAMP.
+/// Returns the PA-ENC-TIMESTAMP.
 fn timestamp_data(
     alloc: Global,
     key: &Key,

@@ -2,12 +2,12 @@
 use enctypes::Key;
 use krb_fields::Typed;
 
-/// What a client asks of a service, and sends it under the session key.
+/// What a client requests from a service, and sends it under the session key.
 #[derive(Drop)]
 pub struct ServiceAsked {
-    /// Whether the service is to answer with an AP-REP.
+    /// Whether the service has to answer with an AP-REP.
     pub mutual_required: bool,
-    /// The checksum of what goes with the ticket, by its type.
+    /// The checksum of the data that goes with the ticket, by its type.
     pub checksum: Option<Typed>,
     /// The key that the client chose for what follows.
     pub subkey: Option<Key>,

@@ -1,4 +1,4 @@
-//! What a client reads from a service's reply: AP-REP (RFC 4120, sections 3.2.5 and 5.5.2).
+//! Reads a service's reply: AP-REP (RFC 4120, sections 3.2.5 and 5.5.2).
 ghost use Rattle.std.specs.Prelude.{◌≡◌, IfOk};
 ghost use Rattle.krb_parts.specs.EncApRepPart.{enc_ap_rep_part};
 ghost use Rattle.sealed_parts.specs.Encrypted.{decrypted};
@@ -17,7 +17,7 @@ use refusals::decide;
 use sealed_parts::open_part;
 use std::alloc::{AllocError, Global};
 
-/// What a service says in an AP-REP under the session key, or the first fault. `sent` is the moment of the AP-REQ.
+/// Returns the contents of an AP-REP under the session key, or the first fault. `sent` is the moment of the AP-REQ.
 pub fn read_ap_reply(
     alloc: Global,
     key: &Key,
@@ -58,7 +58,7 @@ fn if_ap_reply(
     }
 }
 
-/// The AP-REP, or what the octets are in its place.
+/// Returns the AP-REP, or what the bytes are instead.
 fn ap_reply_in<'a>(
     alloc: Global,
     bytes: &'a [u8],
@@ -71,7 +71,7 @@ fn ap_reply_in<'a>(
     }
 }
 
-/// What the session key opens.
+/// Decrypts the part with the session key.
 fn ap_part(
     alloc: Global,
     key: &Key,
@@ -94,7 +94,7 @@ fn ap_rules(key: &Key, reply: &ApRepRef<'_>) -> [(bool, Rejection); 1]
     )]
 }
 
-/// The part, where it repeats the moment that was sent.
+/// Returns the part, if it repeats the moment that was sent.
 fn if_ap_part(
     sent: Moment,
     part: Result<EncApRepPart, Rejection>,

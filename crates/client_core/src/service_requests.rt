@@ -21,7 +21,7 @@ use krb_fields::{ApOption, Flags, Moment, Typed};
 use krb_parts::Authenticator;
 use std::alloc::{AllocError, Global};
 
-/// The octets of an AP-REQ that presents the credential's ticket. `confounder` is 16 random octets.
+/// Returns the bytes of an AP-REQ that presents the credential's ticket. `confounder` is 16 random bytes.
 pub fn ap_request(
     alloc: Global,
     credential: &Credential,
@@ -35,7 +35,7 @@ pub fn ap_request(
         v.items ≡ written ap_req (asks_ap credential.now.client session at asked.now confounder.now))) }
     ensures spelled { IfSome (definitions.session credential.now) (λ session. IfOk result (λ v.
         ap_req.Spells (asks_ap credential.now.client session at asked.now confounder.now) v.items)) }
-    // The session key opens its authenticator to what the client says.
+    // The session key decrypts its authenticator to the one of this client and moment.
     ensures opens { IfSome (definitions.session credential.now) (λ session. IfOk result (λ v.
         decrypted parts.authenticator session.key (usage_number ApReqAuthenticator)
         (asks_ap credential.now.client session at asked.now confounder.now).authenticator
@@ -72,7 +72,7 @@ fn ap_req(
     present(alloc, session, options, usage, confounder, &authenticator)
 }
 
-/// What the client says to the service.
+/// Returns the authenticator for the service.
 fn ap_authenticator(
     alloc: Global,
     client: &Principal,

@@ -1,4 +1,4 @@
-//! What a credential gives its client: a ticket, and its session key.
+//! The session of a credential: a ticket, and its session key.
 ghost use Rattle.std.specs.Prelude.{◌≡◌, ◌<◌, length, IfOk, IfSome, is_some};
 ghost use Rattle.krb_types.specs.Ticket.{ticket};
 ghost use Rattle.client_core.specs.Sessions.{IsPresentable, is_presentable, session, session_key, ticket_in};
@@ -12,18 +12,17 @@ use krb_types::{Ticket, TicketRef};
 use sealed_parts::key_of;
 use std::alloc::{AllocError, Global};
 
-/// The most octets of a ticket, or of a checksum, that a client sends.
+/// The greatest size of a ticket, or of a checksum, that a client sends, in bytes.
 pub const MAX_OCTETS_SENT: usize = 16_777_216;
 
-/// A ticket, and the session key that it holds.
+/// A ticket, and the session key in it.
 #[derive(Drop)]
 pub struct Session {
     pub ticket: Ticket,
     pub key: Key,
 }
 
-/// The credential's session key; `None` where its type isn't one of the four, or it hasn't as many octets as a key of
-/// its type.
+/// Returns the credential's session key; `None` if its type isn't one of the four, or its length doesn't fit its type.
 pub fn session_key(credential: &Credential) -> Option<Key>
     ensures { result ≡ session_key credential.now }
 {
@@ -33,8 +32,8 @@ pub fn session_key(credential: &Credential) -> Option<Key>
     )
 }
 
-/// Whether the credential can be presented: its key is of the four types, its ticket spells a Ticket and has at most
-/// [`MAX_OCTETS_SENT`] octets, and the client's realm and name are within the limits of a database.
+/// Checks whether the credential can be presented: its key has one of the four types, its ticket encodes a Ticket and
+/// has at most [`MAX_OCTETS_SENT`] bytes, and the client's realm and name are within the limits of a database.
 pub fn is_presentable(credential: &Credential) -> bool
     ensures { result ≡ is_presentable credential.now }
 {
@@ -46,14 +45,14 @@ pub fn is_presentable(credential: &Credential) -> bool
         && ticket.len() <= MAX_OCTETS_SENT
 }
 
-/// Whether the octets spell a Ticket.
+/// Checks whether the bytes encode a Ticket.
 fn is_ticket(octets: &[u8]) -> bool
     ensures { result ≡ is_some (ticket_in octets.now) }
 {
     read::<TicketRef<'_>>(octets).is_ok()
 }
 
-/// The Ticket that the octets spell.
+/// Returns the Ticket that the bytes encode.
 fn ticket_in(alloc: Global, octets: &[u8]) -> Result<Option<Ticket>, AllocError>
     ensures value { IfOk result (λ found. found ≡ ticket_in octets.now) }
     ensures short { IfOk result (λ found. IfSome found (λ t. length (ticket.text t) < length octets.now)) }
@@ -64,7 +63,7 @@ fn ticket_in(alloc: Global, octets: &[u8]) -> Result<Option<Ticket>, AllocError>
     }
 }
 
-/// What the credential gives.
+/// Returns the session of the credential.
 pub fn session_of(alloc: Global, credential: &Credential) -> Result<Session, AllocError>
     requires { IsPresentable credential.now }
     ensures value { IfOk result (λ found. definitions.session credential.now ≡ Some found) }

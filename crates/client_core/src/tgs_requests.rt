@@ -27,8 +27,8 @@ use krb_parts::Authenticator;
 use krb_types::{Exchange, ReqBody};
 use std::alloc::{AllocError, Global};
 
-/// The octets of a TGS-REQ that presents the credential's ticket, with the subkey for the reply, if one is chosen.
-/// `confounder` is 16 random octets.
+/// Returns the bytes of a TGS-REQ that presents the credential's ticket, with the subkey for the reply, if one is
+/// chosen. `confounder` is 16 random bytes.
 pub fn tgs_request(
     alloc: Global,
     asked: &Asked,
@@ -44,7 +44,7 @@ pub fn tgs_request(
         (asks_tgs asked.now credential.now.client session at subkey confounder.now))) }
     ensures spelled { IfSome (definitions.session credential.now) (λ session. IfOk result (λ v.
         SpellsKdcReq (Tgs, asks_tgs asked.now credential.now.client session at subkey confounder.now) v.items)) }
-    // The session key opens the authenticator in it to what the client says.
+    // The session key decrypts the authenticator in it to the one of this client and moment.
     ensures opens { IfSome (definitions.session credential.now) (λ session. IfOk result (λ v.
         decrypted parts.authenticator session.key (usage_number TgsReqAuthenticator)
         (tgs_presents credential.now.client session at subkey confounder.now (body_of None asked.now)).authenticator
@@ -90,7 +90,7 @@ fn tgs_req(
     request(alloc, Exchange::Tgs, Some(padata), body)
 }
 
-/// PA-TGS-REQ: the AP-REQ, whose authenticator bears a checksum of the body.
+/// Returns the PA-TGS-REQ: the AP-REQ, whose authenticator has a checksum of the body.
 fn tgs_data(
     alloc: Global,
     client: &Principal,
@@ -139,7 +139,7 @@ fn tgs_authenticator(
     authenticator(alloc, client, at, Some(cksum), subkey, None)
 }
 
-/// The checksum of the body's octets.
+/// Returns the checksum of the body's bytes.
 fn body_checksum(alloc: Global, key: &Key, body: &ReqBody) -> Result<Typed, AllocError>
     requires { req_body.most body.now ≤ 20000 }
     ensures value { IfOk result (λ cksum. cksum ≡ body_checksum key.now body.now) }

@@ -1,4 +1,4 @@
--- A copy of what a KDC says of keys is the same.
+-- A copy of a KDC's key information is equal to it.
 use Rattle.std.proofs.Common.{◌≡◌, ℕ, List, map, refl}
 use Rattle.std.specs.Prelude.{option_map}
 use Rattle.krb_elements.specs.CopyLaws.{map_all, option_all}

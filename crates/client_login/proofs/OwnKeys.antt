@@ -1,4 +1,4 @@
--- Keys that are found are keys of the client.
+-- The keys that are found are keys of the client.
 use Rattle.std.proofs.Common.{◌≡◌, ℤ, ℕ, List, [], ◌∷◌, Option, Some, None, false, Result, Ok, Err, refl, sym, subst, ap}
 use Rattle.std.proofs.Common.{◌∙◌}
 use Rattle.std.specs.Prelude.{IfErr, IfOk}
@@ -50,7 +50,7 @@ pub strong_key : (password : Password) (realm : List ℕ) (name : Name) (info : 
 strong_key password realm name info (Ok key) strong e = record { info = info; made = sym e; strong = strong }
 strong_key password realm name info (Err why) strong e = tt
 
--- ---- and where none is found, there is none
+-- ---- and if none is found, there is none
 
 pub unnumbered : (keytab : List KeytabEntry) (who : Components) (number : ℤ) (found : Result Key Why)
     → IfErr found (λ why. (key_numbered keytab who number ≡ None) × (why ≡ says.NoKey))

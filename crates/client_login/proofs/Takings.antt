@@ -1,5 +1,5 @@
--- A credential that was taken under a key of the client is one of a login, a fault is the one that a KDC's octets say,
--- and what is sent is what an exchange takes.
+-- A credential that was read under a key of the client is one of a login, a fault is the one that a KDC's bytes report,
+-- and each message that is sent is one that an exchange takes.
 use Rattle.std.proofs.Common.{◌≡◌, ℕ, ℤ, List, Option, Some, None, Result, Ok, Err, Bool, true, false, refl, sym, subst}
 use Rattle.std.proofs.Common.{ap, ◌∙◌}
 use Rattle.std.specs.Prelude.{◌&&◌, IfErr, IfOk, IfSome, if◌then◌else◌, is_some}
@@ -34,7 +34,7 @@ use Rattle.client_login.specs.declared.faults.Why.TheVariants as says
 use Rattle.client_login.specs.declared.secrets.Secret.{Secret}
 use Rattle.client_login.specs.declared.secrets.Secret.TheVariants as secrets
 
--- ---- octets that are a reply with a ticket are judged as it is
+-- ---- bytes that encode a reply with a ticket are judged as that reply
 
 reads_judged : (type : ℕ) (role : KeyRole) (asked : Asked) (key : Key) (now : ℤ) (octets : List ℕ) (ticket : KdcRep type)
     → ticket_reply_in type octets ≡ Some ticket
@@ -42,7 +42,7 @@ reads_judged : (type : ℕ) (role : KeyRole) (asked : Asked) (key : Key) (now : 
 reads_judged type role asked key now octets ticket read =
     ap (λ (o : Option (KdcRep type)). if_reply type role asked key now (unless_found o (refusal_in octets))) read
 
--- ---- what a reply with a ticket says
+-- ---- reading a reply with a ticket
 
 pub took_first : (secret : Secret) (asked : Asked) (now : ℤ) (key : Key) (octets : List ℕ) (ticket : KdcRep 11)
     (taken : Result Credential Why) → IsOwnKey secret asked.realm asked.client key
@@ -92,7 +92,7 @@ rejected_first secret asked now key octets ticket (Ok credential) own read is = 
 rejected_first secret asked now key octets ticket (Err why) own read is =
     rejected secret asked now key octets ticket why own read is
 
--- ---- no key, by what octets say
+-- ---- no key, given the bytes
 
 keyless : (secret : Secret) (asked : Asked) (now : ℤ) (octets : List ℕ) (why : Why)
     → IsNoKey secret asked.realm asked.client (info_said secret (refusal_in octets) (ticket_reply_in 11 octets)) why
@@ -121,7 +121,7 @@ keyless (secrets.Keytab keytab) asked now octets (says.Refused error) is = absur
 keyless (secrets.Keytab keytab) asked now octets says.NotAReply is = absurd is
 keyless (secrets.Keytab keytab) asked now octets says.SessionCannotOpen is = absurd is
 
--- of a reply with a ticket
+-- for a reply with a ticket
 pub keyless_first : (secret : Secret) (asked : Asked) (now : ℤ) (octets : List ℕ) (ticket : KdcRep 11) (why : Why)
     → refusal_in octets ≡ found.NotAReply → ticket_reply_in 11 octets ≡ Some ticket
     → IsNoKey secret asked.realm asked.client (info_for secret ticket) why
@@ -133,7 +133,7 @@ keyless_first secret asked now octets ticket why none read is =
     (subst (λ (o : Option (KdcRep 11)). IsNoKey secret asked.realm asked.client
     (info_said secret found.NotAReply o) why) (sym read) is))
 
--- of a KRB-ERROR
+-- for a KRB-ERROR
 by_refusal : (secret : Secret) (asked : Asked) (now : ℤ) (octets : List ℕ) (refusal : Refusal) (why : Why)
     → refusal_in octets ≡ found.Refused refusal
     → IsNoKey secret asked.realm asked.client (info_of_refusal refusal.e_data) why
@@ -293,7 +293,7 @@ module _ (answers : SocketAddr → List ℕ → List ℕ → Type 0) where
   first_unheard secret asked now says.CountTooLarge kdc is = absurd is
   first_unheard secret asked now says.WeakCount kdc is = absurd is
 
-  -- ---- the same of a further ticket
+  -- ---- the same for a further ticket
 
   further_blames : (granting : Credential) (asked : Asked) (now : ℤ) (key : Key) (reply : Reply) (why : Why)
       (kdc : Option SocketAddr) → session_key granting ≡ Some key → IsReply answers reply
@@ -395,7 +395,7 @@ module _ (answers : SocketAddr → List ℕ → List ℕ → Type 0) where
   further_unheard granting asked now key says.CountTooLarge kdc shared is = absurd is
   further_unheard granting asked now key says.WeakCount kdc shared is = absurd is
 
-  -- ---- the fault of one KDC, and the one that counts of two
+  -- ---- the fault of one KDC, and which of two faults counts
 
   pub refused_reply : (reply : Reply) (refusal : Refusal) → IsReply answers reply → reply.refusal ≡ Some refusal
       → IsUnheard answers (says.Refused refusal.error) (Some reply.kdc)
@@ -425,7 +425,7 @@ no_session (Some t) (Some key) realm name len none is = absurd cc
 no_session None (Some key) realm name len none is = absurd cc
 no_session t None realm name len none is = absurd cc
 
--- so an exchange that takes the request by it takes what is written
+-- so an exchange that takes the request for it takes what is written
 pub takes : (carries : List ℕ → Type 0) (granting : Credential) (asked : Asked) (at : Moment) (confounder octets : List ℕ)
     → IsPresentable granting
     → ((held : Session) → session granting ≡ Some held → carries (presented_request granting asked held at confounder))

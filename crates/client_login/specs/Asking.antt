@@ -1,4 +1,4 @@
--- What a client asks of a KDC (RFC 4120, section 5.4.1).
+-- What a client requests from a KDC (RFC 4120, section 5.4.1).
 use Rattle.std.specs.Prelude.{ℕ, ℤ, pos, ◌+◌, ◌+ℤ◌, int_lt, Bool, true, if◌then◌else◌, is_some}
 use Rattle.std.specs.Prelude.{codes, List, [], ◌∷◌, Option, Some, None, option_map}
 use Rattle.std.specs.Option.{unwrap_or}
@@ -23,13 +23,13 @@ use Rattle.client_login.specs.Keys.{offered}
 abbrev pub with_if : Bool → KdcOption → ℕ → ℕ
 with_if wanted option bits = if wanted then with_bit bits (kdc_option_number option) else bits
 
--- of a ticket that is wished for; one that starts later is asked to be postdated
+-- for a ticket with these wishes; one that starts later is requested as postdated
 abbrev pub options_of : Wishes → ℕ
 options_of w =
     with_if (is_some w.start) Postdated
     (with_if w.proxiable Proxiable (with_if w.forwardable Forwardable (with_if w.renewable Renewable 0)))
 
--- an option is kept where the ticket has the flag of its number
+-- an option is kept if the ticket has the flag with its number
 abbrev pub with_kept : ℕ → KdcOption → ℕ → ℕ
 with_kept flags option bits = with_if (has_bit flags (kdc_option_number option)) option bits
 
@@ -37,7 +37,8 @@ abbrev pub again_option : Again → KdcOption
 again_option Renew = options.Renew
 again_option Validate = options.Validate
 
--- of a ticket with these flags that is renewed or validated: some KDCs clear a flag whose option is not asked for again
+-- for a ticket with these flags that is renewed or validated: some KDCs clear a flag whose option is not requested
+-- again
 abbrev pub again_options : Again → ℕ → ℕ
 again_options again flags =
     with_kept flags Renewable
@@ -46,18 +47,18 @@ again_options again flags =
 
 -- ---- the times
 
--- the second, or the last one of the year 9999 where it is later
+-- the second, or the last one of the year 9999 if it is later
 abbrev pub up_to_last : ℤ → ℤ
 up_to_last second = if int_lt (pos 253402300799) second then pos 253402300799 else second
 
 abbrev pub time_after : ℤ → ℕ → ℤ
 time_after now seconds = up_to_last (now +ℤ pos seconds)
 
--- when it starts: so many seconds from now; absent: at once
+-- when it starts: this many seconds from now; absent: at once
 abbrev pub from_of : ℤ → Wishes → Option ℤ
 from_of now w = option_map (time_after now) w.start
 
--- when it ends: so many seconds after its start; the start of 1970 asks for no bound
+-- when it ends: this many seconds after its start; the start of 1970 requests no bound
 abbrev pub till_by : ℤ → ℕ → Option ℕ → ℤ
 till_by now start (Some life) = time_after now (life + start)
 till_by now start None = pos 0
@@ -65,11 +66,11 @@ till_by now start None = pos 0
 abbrev pub till_of : ℤ → Wishes → ℤ
 till_of now w = till_by now (unwrap_or w.start 0) w.life
 
--- until when it is to be renewable: the start of 1970 asks for no bound
+-- until when it is to be renewable: the start of 1970 requests no bound
 abbrev pub rtime_of : Wishes → Option ℤ
 rtime_of w = if w.renewable then Some (pos 0) else None
 
--- ---- the whole
+-- ---- the whole request
 
 -- krbtgt/REALM, with the name-type NT-SRV-INST (section 6.2)
 abbrev pub granting_service : List ℕ → Name

@@ -1,10 +1,10 @@
--- What a KDC says of its clock (RFC 4120, section 7.5.9: KRB_AP_ERR_SKEW).
+-- The clock in a KDC's error (RFC 4120, section 7.5.9: KRB_AP_ERR_SKEW).
 use Rattle.std.specs.Prelude.{◌≡◌, pos}
 use Rattle.krb_fields.specs.declared.moment.Moment.{Moment}
 use Rattle.client_login.specs.declared.faults.Why.{Why}
 use Rattle.client_login.specs.declared.faults.Why.TheVariants as says
 
--- the moment is in the second of the clock of a KDC that refuses since the clocks differ
+-- the moment is in the second on the clock of a KDC that refuses because the clocks differ
 abbrev pub IsByClock : Why → Moment → Type 0
 IsByClock (says.Refused error) at = (error.code ≡ pos 37) × (at.sec ≡ error.stime)
 IsByClock why at = ⊥

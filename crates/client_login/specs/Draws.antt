@@ -1,9 +1,9 @@
--- What a client draws at random, of what its generator gives.
+-- What a client draws at random from its generator.
 use Rattle.std.specs.Prelude.{ℕ, ◌%◌, List}
 use Rattle.std.specs.Int.{w32, from_be_bytes}
 use Rattle.rand_core.specs.Stream.{Stream, fill_bytes}
 
--- four octets as a number, the first the most significant, without its highest bit
+-- four bytes as a number, the first the most significant, without its highest bit
 abbrev pub drawn_nonce : Stream → ℕ
 drawn_nonce random = from_be_bytes w32 (fill_bytes 4 random).0 % 2147483648
 

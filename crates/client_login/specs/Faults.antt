@@ -25,7 +25,7 @@ use Rattle.client_login.specs.declared.secrets.Password.{Password}
 use Rattle.client_login.specs.declared.secrets.Secret.{Secret}
 use Rattle.client_login.specs.declared.secrets.Secret.TheVariants as secrets
 
--- ---- no key of the client, by what a KDC says of the client's types
+-- ---- no key of the client, given a KDC's information about the client's types
 
 abbrev pub IsNoPasswordKey : Password → List ℕ → Name → List EtypeInfo2Entry → Why → Type 0
 IsNoPasswordKey password realm name info says.WeakCount = is_weak password.least_count info ≡ true
@@ -44,23 +44,23 @@ abbrev pub IsNoKey : Secret → List ℕ → Name → List EtypeInfo2Entry → W
 IsNoKey (secrets.Password password) realm name info why = IsNoPasswordKey password realm name info why
 IsNoKey (secrets.Keytab keytab) realm name info why = IsNoKeytabKey keytab (realm ∷ name.components) info why
 
--- what an AS-REP says of the key that opens it: of a keytab's the type alone
+-- an AS-REP's information about the key that decrypts it; for a keytab only its type
 abbrev pub info_for : Secret → KdcRep 11 → List EtypeInfo2Entry
 info_for (secrets.Password password) reply = info_in_reply reply
 info_for (secrets.Keytab keytab) reply = default_info reply.enc_part.etype
 
--- what octets say of it: a KRB-ERROR in its e-data
+-- the information in these bytes; a KRB-ERROR has it in its e-data
 abbrev pub info_said : Secret → ClientFault → Option (KdcRep 11) → List EtypeInfo2Entry
 info_said secret (found.Refused refusal) reply = info_of_refusal refusal.e_data
 info_said secret fault (Some reply) = info_for secret reply
 info_said secret fault None = []
 
--- the client has no key by these octets
+-- the client has no key for these bytes
 abbrev pub SaysNoKey : Secret → Asked → Why → List ℕ → Type 0
 SaysNoKey secret asked why octets =
     IsNoKey secret asked.realm asked.client (info_said secret (refusal_in octets) (ticket_reply_in 11 octets)) why
 
--- ---- a reply that is not taken
+-- ---- a rejected reply
 
 -- under a key of the client
 pub record IsRejected (secret : Secret) (asked : Asked) (now : ℤ) (fault : ClientFault) (octets : List ℕ) : Type 0 where
@@ -70,7 +70,7 @@ pub record IsRejected (secret : Secret) (asked : Asked) (now : ℤ) (fault : Cli
 
 -- ---- why a first ticket is not given
 
--- what octets from a KDC say; nothing is known where memory ran out
+-- the fault that bytes from a KDC report; nothing is known if memory ran out
 abbrev pub SaysFirst : Secret → Asked → ℤ → Why → List ℕ → Type 0
 SaysFirst secret asked now (says.Refused error) octets = IsError error (refusal_in octets)
 SaysFirst secret asked now says.NotAReply octets = reply_in 11 octets ≡ Err found.NotAReply
@@ -83,7 +83,7 @@ SaysFirst secret asked now says.WeakCount octets = SaysNoKey secret asked says.W
 SaysFirst secret asked now says.Memory octets = Unit {0}
 SaysFirst secret asked now why octets = ⊥
 
--- The KDC that a fault names answered by octets that say why.
+-- The KDC that a fault names sent bytes that report the fault.
 abbrev pub IsNamed : (SocketAddr → List ℕ → List ℕ → Type 0) → (List ℕ → Type 0) → Option SocketAddr → Type 0
 IsNamed answers Says (Some kdc) = IsAnswered answers kdc Says
 IsNamed answers Says None = ⊥
@@ -97,7 +97,7 @@ IsFirstFault answers secret asked now why kdc = IsNamed answers (SaysFirst secre
 
 -- ---- why a further ticket is not given
 
--- what octets from a KDC say under a session key; nothing is known where memory ran out
+-- the fault that bytes from a KDC report under a session key; nothing is known if memory ran out
 abbrev pub SaysTgs : Key → Asked → ℤ → Why → List ℕ → Type 0
 SaysTgs key asked now (says.Refused error) octets = IsError error (refusal_in octets)
 SaysTgs key asked now says.NotAReply octets = reply_in 13 octets ≡ Err found.NotAReply
@@ -106,7 +106,7 @@ SaysTgs key asked now says.SessionCannotOpen octets = reads_tgs asked key false 
 SaysTgs key asked now says.Memory octets = Unit {0}
 SaysTgs key asked now why octets = ⊥
 
--- under that of the ticket that was presented
+-- under that of the presented ticket
 pub record SaysFurther (granting : Credential) (asked : Asked) (now : ℤ) (why : Why) (octets : List ℕ) : Type 0 where
   pub key : Key
   pub shared : session_key granting ≡ Some key
@@ -120,9 +120,9 @@ IsFurtherFault answers granting asked now (says.Silence error) kdc = kdc ≡ Non
 IsFurtherFault answers granting asked now says.Memory kdc = kdc ≡ None
 IsFurtherFault answers granting asked now why kdc = IsNamed answers (SaysFurther granting asked now why) kdc
 
--- ---- why no KDC of a realm gives a reply of use
+-- ---- why no KDC of a realm gives a useful reply
 
--- none replied; or the one that the fault names refused in such a way that the others were asked too
+-- none replied; or the one that the fault names refused in such a way that the others were tried too
 abbrev pub IsUnheard : (SocketAddr → List ℕ → List ℕ → Type 0) → Why → Option SocketAddr → Type 0
 IsUnheard answers (says.Silence error) kdc = kdc ≡ None
 IsUnheard answers says.Memory kdc = kdc ≡ None
@@ -136,14 +136,14 @@ named_by why kdc = Some kdc
 
 -- ---- the steps to these
 
--- what a KRB-ERROR says
+-- the fault in a KRB-ERROR
 abbrev pub SaysRefused : Secret → Asked → Refusal → Why → Type 0
 SaysRefused secret asked refusal (says.Refused error) = refusal.error ≡ error
 SaysRefused secret asked refusal says.Memory = Unit {0}
 SaysRefused secret asked refusal why =
     IsNoKey secret asked.realm asked.client (info_of_refusal refusal.e_data) why
 
--- a reply with a ticket that is not taken
+-- a reply with a ticket that is rejected
 abbrev pub IsRejection : Result Credential ClientFault → Why → Type 0
 IsRejection judged (says.Mismatch what) = judged ≡ Err (found.Mismatch what)
 IsRejection judged says.CannotOpen = judged ≡ Err found.CannotOpen

@@ -1,4 +1,4 @@
--- What a KDC says of the types of a client's keys (RFC 4120, section 5.2.7.5).
+-- A KDC's information about the types of a client's keys (RFC 4120, section 5.2.7.5).
 use Rattle.std.specs.Prelude.{ℕ, ℤ, pos, List, [], ◌∷◌, Option, Some, None, find, option_map}
 use Rattle.std.specs.Option.{unwrap_or}
 use Rattle.std.specs.Ordering.{int_eq}
@@ -9,7 +9,7 @@ use Rattle.krb_parts.specs.EtypeInfo2Entry.{EtypeInfo2Entry, etype_info2_entry}
 use Rattle.krb_replies.specs.KdcRep.{KdcRep}
 use Rattle.sealed_parts.specs.Parts.{ok_of}
 
--- the list that octets spell; an empty one where they spell none
+-- the list that the bytes encode, or an empty one
 abbrev pub info_in : List ℕ → List EtypeInfo2Entry
 info_in octets = unwrap_or (ok_of (whole (list_of etype_info2_entry).at octets)) []
 
@@ -24,7 +24,7 @@ first_info (Some padata) = option_map (λ p. p.padata_value) (find (λ p. int_eq
 abbrev pub default_info : ℤ → List EtypeInfo2Entry
 default_info number = record { etype = number; salt = None; s2kparams = None } ∷ []
 
--- what is said, or else the default of the type by which the reply is sealed
+-- the information given, or else the default for the type that the reply is encrypted with
 abbrev pub info_or_default : ℤ → Option (List ℕ) → List EtypeInfo2Entry
 info_or_default number (Some octets) = info_in octets
 info_or_default number None = default_info number
@@ -34,7 +34,7 @@ info_in_reply reply = info_or_default reply.enc_part.etype (first_info reply.pad
 
 -- ---- in the e-data of a refusal
 
--- an empty list where nothing is said
+-- an empty list if there is no information
 abbrev pub info_if : Option (List ℕ) → List EtypeInfo2Entry
 info_if (Some octets) = info_in octets
 info_if None = []

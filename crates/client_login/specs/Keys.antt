@@ -1,4 +1,4 @@
--- The keys of a client: of its password or its keytab, by what a KDC names.
+-- The keys of a client, from its password or its keytab, that a KDC names.
 use Rattle.std.specs.Prelude.{◌≡◌, ℕ, ℤ, nat_lt, Bool, false, if◌then◌else◌, List, [], ◌∷◌, ◌++◌}
 use Rattle.std.specs.Prelude.{Option, Some, None, option_map, is_some, Ok}
 use Rattle.client_core.specs.Passwords as passwords
@@ -20,7 +20,8 @@ use Rattle.sealed_parts.specs.Keys.{type_numbered}
 
 -- ---- a keytab
 
--- a principal is its realm and the components of its name; of its keys of a type the one of the greatest version
+-- a principal is its realm and the components of its name; of its keys with one type this is the one with the greatest
+-- version
 abbrev pub key_typed : List KeytabEntry → Components → Option Etype → Option Key
 key_typed keytab who (Some etype) = option_map (λ e. e.key) (newest (passes who (Some etype) None) keytab)
 key_typed keytab who None = None
@@ -28,17 +29,17 @@ key_typed keytab who None = None
 abbrev pub key_numbered : List KeytabEntry → Components → ℤ → Option Key
 key_numbered keytab who number = key_typed keytab who (type_numbered number)
 
--- the first of two that is there
+-- the first of two that is present
 abbrev pub or_later : Option Key → Option Key → Option Key
 or_later (Some key) later = Some key
 or_later None later = later
 
--- the key of the first type that the KDC names and the keytab has
+-- the key with the first type that the KDC names and the keytab has
 abbrev pub key_named : List KeytabEntry → Components → List EtypeInfo2Entry → Option Key
 key_named keytab who [] = None
 key_named keytab who (entry ∷ entries) = or_later (key_numbered keytab who entry.etype) (key_named keytab who entries)
 
--- a key of the keytab, of one of the four types
+-- a key of the keytab, with one of the four types
 pub record IsKeytabKey (keytab : List KeytabEntry) (who : Components) (key : Key) : Type 0 where
   pub number : ℤ
   pub held : key_numbered keytab who number ≡ Some key
@@ -62,11 +63,11 @@ abbrev pub is_weak_if : Option ℕ → Option EtypeInfo2Entry → Bool
 is_weak_if least (Some entry) = is_weak_as least entry.s2kparams (type_numbered entry.etype)
 is_weak_if least None = false
 
--- the entry from which a key is made asks for fewer iterations than the least count
+-- the entry that the key is derived from requests fewer iterations than the least count
 abbrev pub is_weak : Option ℕ → List EtypeInfo2Entry → Bool
 is_weak least info = is_weak_if least (passwords.entry_of info)
 
--- the password's key, by what a KDC says of the client's types; not a weak one
+-- the password's key, given a KDC's information about the client's types; not a weak one
 pub record IsPasswordKey (password : Password) (realm : List ℕ) (name : Name) (key : Key) : Type 0 where
   pub info : List EtypeInfo2Entry
   pub made : passwords.password_key password.octets realm name info ≡ Ok key
@@ -79,25 +80,25 @@ abbrev pub IsOwnKey : Secret → List ℕ → Name → Key → Type 0
 IsOwnKey (secrets.Password password) realm name key = IsPasswordKey password realm name key
 IsOwnKey (secrets.Keytab keytab) realm name key = IsKeytabKey keytab (realm ∷ name.components) key
 
--- ---- the key by which the reply to a request with a timestamp is opened
+-- ---- the key that decrypts the reply to a request with a timestamp
 
--- of a password the timestamp's; of a keytab that of the type by which the reply is sealed
+-- for a password the timestamp's; for a keytab the one with the type that the reply is encrypted with
 abbrev pub next_key : Secret → Components → Key → ℤ → Option Key
 next_key (secrets.Password password) who key number = Some key
 next_key (secrets.Keytab keytab) who key number = key_numbered keytab who number
 
--- ---- the types that are asked for
+-- ---- the requested types
 
--- those that a client takes, the preferred one first
+-- those that a client accepts, the preferred one first
 abbrev pub offered : List Etype
 offered = Aes256CtsHmacSha1_96 ∷ Aes128CtsHmacSha1_96 ∷ Aes256CtsHmacSha384_192 ∷ Aes128CtsHmacSha256_128 ∷ []
 
--- with a type where the keytab has a key of it
+-- with a type if the keytab has a key with it
 abbrev pub with_held : List KeytabEntry → Components → Etype → List Etype → List Etype
 with_held keytab who etype etypes =
     if is_some (newest (passes who (Some etype) None) keytab) then etypes ++ (etype ∷ []) else etypes
 
--- those of which the keytab has a key
+-- those that the keytab has a key of
 abbrev pub held_types : List KeytabEntry → Components → List Etype
 held_types keytab who =
     with_held keytab who Aes128CtsHmacSha256_128

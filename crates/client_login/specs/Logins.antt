@@ -1,4 +1,4 @@
--- What a client sends to log in and to get further tickets, and what it gets.
+-- The messages that a client sends to log in and to get further tickets, and the credentials that it gets.
 use Rattle.std.specs.Prelude.{◌≡◌, ℕ, ℤ, List, None, Some}
 use Rattle.std.specs.declared.net.socket_addr.SocketAddr.{SocketAddr}
 use Rattle.client_core.specs.Requests.{asks_as, asks_tgs, asks_with_timestamp}
@@ -24,20 +24,20 @@ use Rattle.client_login.specs.declared.wishes.Login.{Login}
 
 -- ---- a first ticket
 
--- what is asked by this secret
+-- the request with this secret
 abbrev pub logs_in : Login → Secret → ℤ → ℕ → Asked
 logs_in login secret now nonce = first_asked login (etypes_for secret login.client) now nonce
 
--- the octets of an AS-REQ: without a timestamp, and with the moment under a key
+-- the bytes of an AS-REQ: without a timestamp, and with the moment under a key
 abbrev pub plain_request : Asked → List ℕ
 plain_request asked = written (message As) (asks_as None asked)
 
 abbrev pub stamped_request : Asked → Key → Moment → List ℕ → List ℕ
 stamped_request asked key at confounder = written (message As) (asks_with_timestamp asked key at confounder)
 
--- An exchange takes these requests: without a timestamp, and with one of the moment under a key of the client, sealed by
--- the octets that are drawn; and after a replay error with one of the next microsecond, sealed by the next octets. Of a
--- password no key is one that a KDC weakened.
+-- An exchange takes these requests: one without a timestamp, and one with the moment under a key of the client,
+-- encrypted with the drawn bytes. After a replay error it takes one with the next microsecond, encrypted with the next
+-- bytes. No key from a password is one that a KDC weakened.
 pub record CarriesFirst (carries : List ℕ → Type 0) (secret : Secret) (asked : Asked) (at : Moment) (random : Stream)
     : Type 0 where
   pub plain : carries (plain_request asked)
@@ -46,21 +46,21 @@ pub record CarriesFirst (carries : List ℕ → Type 0) (secret : Secret) (asked
   pub again : (key : Key) (next : Moment) → IsOwnKey secret asked.realm asked.client key → IsNext at next
       → carries (stamped_request asked key next (drawn_confounder (after_confounder random)))
 
--- the credential was taken from these octets, under a key of the client
+-- the credential was read from these bytes, under a key of the client
 pub record TakesFirst (secret : Secret) (asked : Asked) (now : ℤ) (credential : Credential) (octets : List ℕ) : Type 0 where
   pub key : Key
   pub own : IsOwnKey secret asked.realm asked.client key
   pub taken : IsTaken 11 Client asked key now octets credential
 
--- the credential was taken from a KDC's reply to what was asked, under a key of the client
+-- the credential was read from a KDC's reply to the request, under a key of the client
 pub record IsFirst (answers : SocketAddr → List ℕ → List ℕ → Type 0) (secret : Secret) (asked : Asked) (now : ℤ)
     (credential : Credential) : Type 0 where
   pub kdc : SocketAddr
   pub replied : IsAnswered answers kdc (TakesFirst secret asked now credential)
 
--- ---- a further one
+-- ---- a further ticket
 
--- the octets of a TGS-REQ that presents a ticket, without a subkey
+-- the bytes of a TGS-REQ that presents a ticket, without a subkey
 abbrev pub presented_request : Credential → Asked → sessions.Session → Moment → List ℕ → List ℕ
 presented_request granting asked held at confounder =
     written (message Tgs) (asks_tgs asked granting.client held at None confounder)
@@ -73,14 +73,14 @@ pub record CarriesPresented (carries : List ℕ → Type 0) (granting : Credenti
   pub again : (held : sessions.Session) (next : Moment) → session granting ≡ Some held → IsNext at next
       → carries (presented_request granting asked held next (drawn_confounder (after_confounder random)))
 
--- the credential was taken from these octets, under the session key of the ticket that was presented
+-- the credential was read from these bytes, under the session key of the presented ticket
 pub record TakesFurther (granting : Credential) (asked : Asked) (now : ℤ) (credential : Credential) (octets : List ℕ)
     : Type 0 where
   pub key : Key
   pub shared : session_key granting ≡ Some key
   pub taken : IsTaken 13 Session asked key now octets credential
 
--- the credential was taken from a KDC's reply to what was asked, under that key
+-- the credential was read from a KDC's reply to the request, under that key
 pub record IsFurther (answers : SocketAddr → List ℕ → List ℕ → Type 0) (granting : Credential) (asked : Asked) (now : ℤ)
     (credential : Credential) : Type 0 where
   pub kdc : SocketAddr

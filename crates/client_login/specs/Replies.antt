@@ -1,4 +1,4 @@
--- What KDCs reply, as a login reads it.
+-- The replies of KDCs, as a login reads them.
 use Rattle.std.specs.Prelude.{◌≡◌, ℕ, ℤ, if◌then◌else◌, List, Option, Some, None, is_some}
 use Rattle.std.specs.declared.net.socket_addr.SocketAddr.{SocketAddr}
 use Rattle.client_core.specs.Replies.{refusal_in}
@@ -9,7 +9,7 @@ use Rattle.client_core.specs.declared.fault.ServerError.{ServerError}
 use Rattle.client_login.specs.declared.asking.Reply.{Reply}
 use Rattle.client_login.specs.declared.faults.LoginFault.{LoginFault}
 
--- A KDC answered a request by octets for which this holds.
+-- A KDC answered a request with bytes that satisfy this.
 pub record IsAnswered (answers : SocketAddr → List ℕ → List ℕ → Type 0) (kdc : SocketAddr) (Says : List ℕ → Type 0)
     : Type 0 where
   pub request : List ℕ
@@ -17,7 +17,7 @@ pub record IsAnswered (answers : SocketAddr → List ℕ → List ℕ → Type 0
   pub answered : answers kdc request reply
   pub says : Says reply
 
--- the refusal in octets, where they are a KRB-ERROR
+-- the refusal in the bytes, if they encode a KRB-ERROR
 abbrev pub said_of : Option Refusal → ClientFault
 said_of (Some refusal) = found.Refused refusal
 said_of None = found.NotAReply
@@ -27,12 +27,12 @@ abbrev pub IsError : ServerError → ClientFault → Type 0
 IsError error (found.Refused refusal) = refusal.error ≡ error
 IsError error fault = ⊥
 
--- a KDC answered so, and the octets are read
+-- a KDC sent these bytes as its answer, and they were read
 pub record IsReply (answers : SocketAddr → List ℕ → List ℕ → Type 0) (reply : Reply) : Type 0 where
   pub request : List ℕ
   pub answered : answers reply.kdc request reply.octets.items
   pub read : refusal_in reply.octets.items ≡ said_of reply.refusal
 
--- the fault that counts of two KDCs': the first one that a KDC's reply is
+-- which of two KDCs' faults counts: the first that a KDC's reply shows
 abbrev pub counted : LoginFault → LoginFault → LoginFault
 counted before fault = if is_some before.kdc then before else fault

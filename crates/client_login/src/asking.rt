@@ -1,4 +1,4 @@
-//! Sends a request to the KDCs of a realm, and takes the first reply that is of use (RFC 4120, section 7.2).
+//! Sends a request to the KDCs of a realm, and takes the first useful reply (RFC 4120, section 7.2).
 ghost use Rattle.std.specs.Prelude.{◌≡◌, IfErr, IfOk, IfSome};
 ghost use Rattle.client_core.specs.Replies as replies;
 ghost use Rattle.client_login.specs.Replies.{IsReply, counted, said_of};
@@ -12,10 +12,10 @@ use std::alloc::{AllocError, Global};
 use std::io::{Error, ErrorKind};
 use std::net::SocketAddr;
 
-/// By which transports KDCs are asked.
+/// The transports for requests to KDCs.
 #[derive(Clone, Copy, PartialEq, Eq)]
 pub enum Transports {
-    /// By UDP; and by TCP if no reply comes, or if the reply is too big for a datagram.
+    /// UDP first; then TCP if no reply comes, or if the reply is too big for a datagram.
     UdpFirst,
     TcpOnly,
 }
@@ -24,17 +24,17 @@ pub enum Transports {
 #[derive(Drop)]
 pub struct Kdcs<X> {
     pub exchange: X,
-    /// In the order in which they are asked.
+    /// In the order in which the client tries them.
     pub addresses: Vec<SocketAddr>,
     pub transports: Transports,
-    /// The KDC that is asked first, since its reply came last.
+    /// The KDC to try first, because it sent the last reply.
     answered: Option<SocketAddr>,
     /// How many messages got no reply.
     failures: u64,
 }
 
 impl<X> Kdcs<X> {
-    /// KDCs that were not yet asked.
+    /// Returns KDCs that have not been tried yet.
     pub fn new(exchange: X, addresses: Vec<SocketAddr>, transports: Transports) -> Kdcs<X> {
         Kdcs {
             exchange,
@@ -45,29 +45,29 @@ impl<X> Kdcs<X> {
         }
     }
 
-    /// Begins anew, as if none was asked yet.
+    /// Forgets which KDC replied last, and how many messages got no reply.
     pub fn restart(&mut self) {
         self.answered = None;
         self.failures = 0;
     }
 
-    /// How many messages got no reply. The count stops at the greatest `u64`.
+    /// Returns how many messages got no reply. The count stops at the greatest `u64`.
     pub fn failures(&self) -> u64 {
         self.failures
     }
 }
 
-/// What a KDC replied.
+/// A KDC's reply.
 #[derive(Drop)]
 pub(crate) struct Reply {
     pub kdc: SocketAddr,
     pub octets: Vec<u8>,
-    /// What they say if they are a KRB-ERROR.
+    /// The refusal, if the reply is a KRB-ERROR.
     pub refusal: Option<Refusal>,
 }
 
 impl Reply {
-    /// Whether it is a KRB-ERROR with this code.
+    /// Checks whether it is a KRB-ERROR with this code.
     pub(crate) fn is_error(&self, code: Code) -> bool {
         match &self.refusal {
             Some(refusal) => refusal.error.code == code as i32,
@@ -76,9 +76,9 @@ impl Reply {
     }
 }
 
-/// Sends a request to the KDCs and returns the first reply that is of use. The KDC that replied last is asked first, so
-/// that all requests of a login go to one; then the others, in their order. A KDC that gives no reply, or says that it is
-/// not available or that the clocks differ, is passed over. If no KDC does better, the first such error counts.
+/// Sends a request to the KDCs and returns the first useful reply. It tries the KDC that replied last first, so that
+/// all requests of a login go to one, and then the others in order. It skips a KDC that doesn't reply, or says that it
+/// is not available or that the clocks differ. If no KDC does better, the first such error counts.
 #[tactic(auto, using(crate::proofs::Takings::counted_unheard))]
 pub(crate) fn ask<X: Exchange>(
     alloc: Global,
@@ -100,7 +100,7 @@ pub(crate) fn ask<X: Exchange>(
     ask_others(alloc, kdcs, before, end, request)
 }
 
-/// Asks all KDCs but the one that was asked before, which ended by `end`.
+/// Tries all KDCs but `asked`, which was tried before and ended with `end`.
 #[tactic(auto, using(crate::proofs::Takings::counted_unheard))]
 fn ask_others<X: Exchange>(
     alloc: Global,
@@ -137,8 +137,8 @@ fn kdc_at(addresses: &[SocketAddr], place: usize) -> Option<SocketAddr> {
     }
 }
 
-/// The fault that counts if no other KDC does better: the first error of a KDC, else the last silence. Nothing more is
-/// asked once memory ran out.
+/// Returns the fault that counts if no other KDC does better: the first error of a KDC, else the last silence. Once
+/// memory ran out, no further KDC is tried.
 fn passed_over(before: LoginFault, fault: LoginFault) -> Result<LoginFault, LoginFault>
     ensures ok { IfOk result (λ counts. counts ≡ counted before fault) }
     ensures err { IfErr result (λ counts. counts ≡ fault) }
@@ -150,7 +150,8 @@ fn passed_over(before: LoginFault, fault: LoginFault) -> Result<LoginFault, Logi
     }
 }
 
-/// The reply of one KDC. Another may do better where it says that it is not available or that the clocks differ.
+/// Returns the reply of one KDC. Another may do better if this one says that it is not available or that the clocks
+/// differ.
 #[tactic(auto, using(crate::proofs::Takings::refused_reply))]
 fn ask_kdc<X: Exchange>(
     alloc: Global,
@@ -172,13 +173,13 @@ fn ask_kdc<X: Exchange>(
     }
 }
 
-/// Whether another KDC may do better than one that refuses with this code.
+/// Checks whether another KDC may do better than one that refuses with this code.
 fn is_passed_over(code: i32) -> bool {
     code == Code::KdcErrSvcUnavailable as i32 || code == Code::KrbApErrSkew as i32
 }
 
-/// What comes back from a KDC. The request goes by UDP, and by TCP if no reply comes or the reply is too big for a
-/// datagram.
+/// Sends a request to a KDC and returns the reply. The request goes by UDP, and by TCP if no reply comes or the reply
+/// is too big for a datagram.
 fn exchange_with<X: Exchange>(
     alloc: Global,
     kdcs: &mut Kdcs<X>,
@@ -197,7 +198,7 @@ fn exchange_with<X: Exchange>(
     send(alloc, kdcs, Transport::Tcp, kdc, request)
 }
 
-/// What comes back by UDP; `None` if nothing does, or the reply is too big.
+/// Returns the reply by UDP; `None` if there is none, or it is too big.
 fn by_datagram<X: Exchange>(
     alloc: Global,
     kdcs: &mut Kdcs<X>,

@@ -10,13 +10,13 @@ use krb_fields::Moment;
 #[derive(Drop)]
 pub struct KdcClient<X> {
     pub kdcs: Kdcs<X>,
-    /// The moment of the next request. Each request that shows who asks moves it on by a microsecond, since a KDC takes
-    /// each moment of a client once.
+    /// The moment of the next request. Each request that proves who the client is moves it on by a microsecond, because
+    /// a KDC accepts each moment of a client once.
     pub at: Moment,
 }
 
 impl<X> KdcClient<X> {
-    /// Takes the moment of a request.
+    /// Returns the moment of a request, and moves on.
     pub(crate) fn take_moment(&mut self) -> Moment
         ensures taken { result ≡ self.old.at }
         ensures next { IsNext self.old.at self.new.at }

@@ -7,11 +7,11 @@ use crate::faults::Why;
 use krb_fields::{Code, Moment, SKEW};
 
 impl<X> KdcClient<X> {
-    /// Sets the moment by the clock of a KDC that refuses because the clocks differ. Returns by how many seconds its clock
-    /// is ahead. `None` if the KDC refuses for another reason, or if the clocks differ by at most 300 seconds, as those of
-    /// a KDC that was just restarted.
+    /// Sets the moment by the clock of a KDC that refuses because the clocks differ. Returns by how many seconds its
+    /// clock is ahead. Returns `None` if the KDC refuses for another reason, or if the clocks differ by at most 300
+    /// seconds, which happens if a KDC was just restarted.
     ///
-    /// Anyone on the path can name any time: take a clock once a login, and say so.
+    /// Anyone on the path can name any time: take a clock once per login, and say so.
     pub fn take_clock(&mut self, why: Why) -> Option<i64>
         ensures taken { IfSome result (λ ahead. IsByClock why self.new.at) }
         ensures ahead { IfSome result (λ ahead. ahead ≡ self.new.at.sec -ℤ self.old.at.sec) }
@@ -33,7 +33,7 @@ fn is_within_skew(ahead: i64) -> bool {
     (-SKEW..=SKEW).contains(&ahead)
 }
 
-/// The moment by the clock of a KDC that refuses because the clocks differ, if it is from 1970 on.
+/// Returns the moment on the clock of a KDC that refuses because the clocks differ, if it is from 1970 on.
 fn by_clock(why: Why, at: Moment) -> Option<Moment>
     ensures { IfSome result (λ next. IsByClock why next) }
 {

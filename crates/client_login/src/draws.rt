@@ -1,10 +1,10 @@
-//! What a client draws at random. Each call takes its octets from the generator once.
+//! What a client draws at random. Each call takes its bytes from the generator once.
 ghost use Rattle.std.specs.Prelude.{◌≡◌, ◌<◌};
 ghost use Rattle.client_login.specs.Draws.{after_confounder, after_nonce, drawn_confounder, drawn_nonce};
 
 use rand_core::Rng;
 
-/// The number that a reply repeats. It is below 2147483648, since many KDCs drop a request with a larger one.
+/// Returns the number that a reply repeats. It is below 2147483648, because many KDCs drop a request with a larger one.
 pub fn draw_nonce<R: Rng>(rng: &mut R) -> u32
     ensures value { result ≡ drawn_nonce (R.stream rng.old) }
     ensures small { result < 2147483648 }
@@ -15,7 +15,7 @@ pub fn draw_nonce<R: Rng>(rng: &mut R) -> u32
     u32::from_be_bytes(octets) % 0x8000_0000
 }
 
-/// The confounder of what the client seals: 16 octets.
+/// Returns the confounder for what the client encrypts: 16 bytes.
 pub fn draw_confounder<R: Rng>(rng: &mut R) -> [u8; 16]
     ensures value { result ≡ drawn_confounder (R.stream rng.old) }
     ensures drawn { R.stream rng.new ≡ after_confounder (R.stream rng.old) }

@@ -1,4 +1,4 @@
-//! Where the messages of a client go.
+//! The transport of a client's messages.
 ghost use Rattle.std.specs.Prelude.{ℕ, List, IfOk};
 ghost use Rattle.std.specs.declared.net.socket_addr.SocketAddr as addresses;
 
@@ -13,18 +13,19 @@ pub enum Transport {
     Tcp,
 }
 
-/// Sends messages to KDCs, and waits for what comes back.
+/// Sends messages to KDCs, and waits for their replies.
 pub trait Exchange {
-    // Which messages it may be given. An exchange over a real network says `λ message. ⊤`: any.
+    // The messages that it takes. An exchange over a real network says `λ message. ⊤`: any.
     ghost carries: { List ℕ → Type 0 };
 
-    // Which octets an address answers to a message. An exchange over a real network says `λ to message reply. ⊤`: any.
+    // The bytes with which an address answers a message. An exchange over a real network says `λ to message reply. ⊤`:
+    // any.
     ghost answers: { addresses.SocketAddr → List ℕ → List ℕ → Type 0 };
 
-    /// Begins a login, or a request for a further ticket. The time that the exchange waits counts from here.
+    /// Begins a login, or a request for a further ticket. The exchange's waiting time counts from here.
     fn begin(&mut self);
 
-    /// Sends a message to an address and returns the message that comes back. Fails if none comes in the time that the
+    /// Sends a message to an address and returns the reply. Fails if none comes in the exchange's waiting time.
     /// exchange waits.
     fn exchange(
         &mut self,
@@ -43,7 +44,7 @@ pub trait HostNames {
     fn look_up(&mut self, alloc: Global, host: &str, port: u16) -> io::Result<Vec<SocketAddr>>;
 }
 
-/// An exchange that may be given any message.
+/// An exchange that takes any message.
 pub trait AnyMessage: Exchange {
     ghost takes_any: { (message : List ℕ) → Self.carries message };
 }

@@ -18,14 +18,14 @@ pub struct LoginFault {
 }
 
 impl LoginFault {
-    /// A fault that no reply shows.
+    /// Returns a fault that no reply shows.
     pub(crate) fn new(why: Why) -> LoginFault
         ensures { result ≡ record { why = why; kdc = None } }
     {
         LoginFault { why, kdc: None }
     }
 
-    /// A fault that a KDC's reply shows.
+    /// Returns a fault that a KDC's reply shows.
     pub(crate) fn of_reply(why: Why, kdc: SocketAddr) -> LoginFault
         ensures { result ≡ record { why = why; kdc = named_by why kdc } }
     {
@@ -39,7 +39,7 @@ impl LoginFault {
     }
 }
 
-/// What is found in a KDC's reply, or the fault that it is.
+/// Returns what is found in a KDC's reply, or the fault.
 pub(crate) fn said_by<T: Drop>(kdc: SocketAddr, found: Result<T, Why>) -> Result<T, LoginFault>
     ensures ok { IfOk result (λ value. found ≡ Ok value) }
     ensures err { IfErr result (λ fault. (found ≡ Err fault.why) × (fault.kdc ≡ named_by fault.why kdc)) }
@@ -55,29 +55,29 @@ pub(crate) fn said_by<T: Drop>(kdc: SocketAddr, found: Result<T, Why>) -> Result
 pub enum Why {
     /// The realm or a name is beyond the limits of a request.
     NotAskable,
-    /// The ticket to ask with can't be presented: its session key has another type than the four, or it is no ticket.
+    /// The ticket to present can't be used: its session key has a type other than the four, or it is not a ticket.
     NotPresentable,
     /// The keytab has no key of the client.
     NoClientKey,
-    /// The keytab has no key of the client of a type that the KDC names.
+    /// The keytab has no key of the client with a type that the KDC names.
     NoKey,
     /// No KDC replied. The error is that of the last one.
     Silence(io::Error),
     /// The KDC refuses with this error.
     Refused(ServerError),
-    /// The octets are neither the reply nor a KRB-ERROR.
+    /// The bytes encode neither the reply nor a KRB-ERROR.
     NotAReply,
     /// The reply answers another request.
     Mismatch(Mismatch),
-    /// The client's key doesn't open the reply.
+    /// The client's key doesn't decrypt the reply.
     CannotOpen,
-    /// The session key of the ticket that was presented doesn't open the reply.
+    /// The session key of the presented ticket doesn't decrypt the reply.
     SessionCannotOpen,
-    /// The KDC names no key of the client of the four encryption types.
+    /// The KDC names no key of the client with one of the four encryption types.
     NoKnownType,
-    /// The KDC asks for more iterations of string-to-key than [`client_core::MAX_COUNT`].
+    /// The KDC requests more iterations of string-to-key than [`client_core::MAX_COUNT`].
     CountTooLarge,
-    /// The KDC asks for fewer iterations of string-to-key than the client takes.
+    /// The KDC requests fewer iterations of string-to-key than the client accepts.
     WeakCount,
     Memory,
 }

@@ -32,9 +32,9 @@ use rand_core::Rng;
 use std::alloc::Global;
 
 impl<X: Exchange> KdcClient<X> {
-    /// Gets a first ticket. The client asks without a timestamp, and once more with one if the KDC wants
-    /// preauthentication. It takes what the KDC says of the client's key, but not fewer iterations of string-to-key
-    /// than the password's least count. Of a keytab it asks for the types that it has for the client, and no others.
+    /// Gets a first ticket. The client sends a request without a timestamp, and another with one if the KDC requires
+    /// preauthentication. It derives its key as the KDC says, but with no fewer iterations of string-to-key than the
+    /// password's least count. With a keytab it requests exactly the types of the client's keys in it.
     pub fn log_in<R: Rng>(
         &mut self,
         alloc: Global,
@@ -42,16 +42,15 @@ impl<X: Exchange> KdcClient<X> {
         login: &Login,
         secret: &Secret,
     ) -> Result<Credential, LoginFault>
-        // The exchange is given no message but a request without a timestamp, and requests with one under a key of the
-        // client.
+        // The exchange has to take only a request without a timestamp, and requests with one under a key of the client.
         requires { CarriesFirst X.carries secret.now
             (logs_in login.now secret.now self.old.at.sec (drawn_nonce (R.stream rng.old)))
             self.old.at (after_nonce (R.stream rng.old)) }
-        // What is returned is the ticket of a reply to these requests, under a key of the client.
+        // The result is the ticket of a reply to these requests, under a key of the client.
         ensures ok { IfOk result (λ credential. IsFirst X.answers secret.now
             (logs_in login.now secret.now self.old.at.sec (drawn_nonce (R.stream rng.old)))
             self.old.at.sec credential) }
-        // A fault is the one that the octets of the KDC that it names say, or names none.
+        // A fault is the one that the bytes of the KDC that it names report, or it names none.
         ensures err { IfErr result (λ fault. IsFirstFault X.answers secret.now
             (logs_in login.now secret.now self.old.at.sec (drawn_nonce (R.stream rng.old)))
             self.old.at.sec fault.why fault.kdc) }
@@ -87,7 +86,7 @@ fn first_ticket<X: Exchange, R: Rng>(
     ask_plainly(alloc, client, rng, &asked, secret)
 }
 
-/// Asks without a timestamp.
+/// Sends the request without a timestamp.
 #[tactic(auto, using(crate::proofs::Takings::first_blamed, crate::proofs::Takings::first_taken, crate::proofs::Takings::first_unheard))]
 fn ask_plainly<X: Exchange, R: Rng>(
     alloc: Global,
@@ -117,7 +116,7 @@ fn ask_plainly<X: Exchange, R: Rng>(
     ask_with_timestamp(alloc, client, rng, asked, secret, &key)
 }
 
-/// The key by which a KDC that wants preauthentication is shown who asks; else why it gives no ticket.
+/// Returns the key for preauthentication, or why there is no ticket.
 fn key_for_timestamp(
     alloc: Global,
     secret: &Secret,
@@ -135,7 +134,7 @@ fn key_for_timestamp(
     key_wanted(alloc, secret, asked, &info)
 }
 
-/// Asks with a timestamp under the client's key.
+/// Sends the request with a timestamp under the client's key.
 #[tactic(auto, using(crate::proofs::Takings::first_blamed, crate::proofs::Takings::first_taken, crate::proofs::Takings::first_unheard))]
 fn ask_with_timestamp<X: Exchange, R: Rng>(
     alloc: Global,
@@ -161,7 +160,7 @@ fn ask_with_timestamp<X: Exchange, R: Rng>(
     )
 }
 
-/// What comes back. A KDC that has seen another request of the client of the same moment is asked once more, with
+/// Returns the reply. A KDC that has seen another request of the client with the same moment gets another one, with
 /// another timestamp.
 fn stamped_reply<X: Exchange, R: Rng>(
     alloc: Global,
@@ -206,7 +205,7 @@ fn send_timestamp<X: Exchange, R: Rng>(
     ask(alloc, &mut client.kdcs, &request)
 }
 
-/// The ticket of a reply to a request without a timestamp, which is no KRB-ERROR.
+/// Returns the ticket of a reply to a request without a timestamp. The reply is no KRB-ERROR.
 #[tactic(auto, using(crate::proofs::Takings::took_first, crate::proofs::Takings::rejected_first, crate::proofs::Takings::keyless_first))]
 fn take_plain(
     alloc: Global,
@@ -227,7 +226,7 @@ fn take_plain(
     take(alloc, asked, &key, at, &ticket)
 }
 
-/// The ticket of a reply to a request with a timestamp under a key of the client.
+/// Returns the ticket of a reply to a request with a timestamp under a key of the client.
 #[tactic(auto, using(crate::proofs::Takings::took_first, crate::proofs::Takings::rejected_first, crate::proofs::Takings::keyless_first))]
 fn take_stamped(
     alloc: Global,

@@ -1,4 +1,4 @@
-//! Tickets by a ticket-granting ticket: the Ticket-Granting Service exchange (RFC 4120, section 3.3).
+//! Getting tickets with a ticket-granting ticket: the ticket-granting service exchange (RFC 4120, section 3.3).
 ghost use Rattle.std.specs.Prelude.{◌≡◌, ◌<◌, ◌^◌, length, IfErr, IfOk, Ok, OnOk, Some};
 ghost use Rattle.client_core.specs.Asked.{IsAskable};
 ghost use Rattle.client_core.specs.Replies as replies;
@@ -32,7 +32,7 @@ use rand_core::Rng;
 use std::alloc::Global;
 
 impl<X: Exchange> KdcClient<X> {
-    /// Gets a ticket of a service of the client's realm, by a ticket-granting ticket. It ends as late as that one.
+    /// Gets a ticket for a service of the client's realm, with a ticket-granting ticket. It ends as late as that one.
     pub fn service_ticket<R: Rng>(
         &mut self,
         alloc: Global,
@@ -40,15 +40,15 @@ impl<X: Exchange> KdcClient<X> {
         granting: &Credential,
         service: &Name,
     ) -> Result<Credential, LoginFault>
-        // The exchange is given no message but these: requests that present the ticket.
+        // The exchange has to take only requests that present the ticket.
         requires { CarriesPresented X.carries granting.now
             (further_asked 0 granting.now.client service.now (drawn_nonce (R.stream rng.old)))
             self.old.at (after_nonce (R.stream rng.old)) }
-        // What is returned is the ticket of a reply to such a request, under the session key of the ticket.
+        // The result is the ticket of a reply to such a request, under the session key of the ticket.
         ensures ok { IfOk result (λ credential. IsFurther X.answers granting.now
             (further_asked 0 granting.now.client service.now (drawn_nonce (R.stream rng.old)))
             self.old.at.sec credential) }
-        // A fault is the one that the octets of the KDC that it names say, or names none.
+        // A fault is the one that the bytes of the KDC that it names report, or it names none.
         ensures err { IfErr result (λ fault. IsFurtherFault X.answers granting.now
             (further_asked 0 granting.now.client service.now (drawn_nonce (R.stream rng.old)))
             self.old.at.sec fault.why fault.kdc) }
@@ -166,8 +166,8 @@ fn ask_with_ticket<X: Exchange, R: Rng>(
     said_by(reply.kdc, take_presented(alloc, asked, &key, at, &reply))
 }
 
-/// What comes back. A KDC that has seen another authenticator of the client of the same moment is asked once more, with
-/// another authenticator.
+/// Returns the reply. A KDC that has seen another authenticator of the client with the same moment gets another
+/// request, with another authenticator.
 fn presented_reply<X: Exchange, R: Rng>(
     alloc: Global,
     client: &mut KdcClient<X>,
@@ -214,7 +214,7 @@ fn send_ticket<X: Exchange, R: Rng>(
     ask(alloc, &mut client.kdcs, &request)
 }
 
-/// The ticket of a reply under the session key of the ticket that was presented.
+/// Returns the ticket of a reply under the session key of the presented ticket.
 #[tactic(auto, using(crate::proofs::Takings::took_tgs, crate::proofs::Takings::rejected_tgs))]
 fn take_presented(
     alloc: Global,

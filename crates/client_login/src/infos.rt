@@ -1,5 +1,5 @@
-//! What a KDC says of the types of a client's keys (RFC 4120, section 5.2.7.5): in the METHOD-DATA of a refusal, or in
-//! the padata of an AS-REP.
+//! A KDC's information about the types of a client's keys (RFC 4120, section 5.2.7.5): in the METHOD-DATA of a refusal,
+//! or in the padata of an AS-REP.
 ghost use Rattle.std.specs.Prelude.{◌≡◌, IfOk, option_copied};
 ghost use Rattle.client_login.specs.Infos.{default_info, first_info, info_in, info_in_reply, info_of_refusal};
 ghost use Rattle.client_login.specs.Infos.{info_of_method_data};
@@ -11,8 +11,8 @@ use krb_parts::{EtypeInfo2Entry, EtypeInfo2EntryRef};
 use krb_replies::KdcRepRef;
 use std::alloc::{AllocError, Global};
 
-/// What an AS-REP says. Where it says nothing of keys, that of the type by which it is sealed has the default salt and
-/// parameters.
+/// Returns the information in an AS-REP. Without any, the key of the type that the reply is encrypted with has the
+/// default salt and parameters.
 pub(crate) fn info_in_reply(
     alloc: Global,
     reply: &KdcRepRef<'_, 11>,
@@ -37,7 +37,7 @@ fn default_info(alloc: Global, etype: i32) -> Result<EtypeInfo2, AllocError>
     Ok(info)
 }
 
-/// What the e-data of a refusal says; an empty list where it says nothing.
+/// Returns the information in the e-data of a refusal; an empty list if there is none.
 pub(crate) fn info_of_refusal(
     alloc: Global,
     e_data: &Option<Octets>,
@@ -62,7 +62,7 @@ fn info_of_method_data(alloc: Global, octets: &[u8]) -> Result<EtypeInfo2, Alloc
     }
 }
 
-/// The value of the first PA-ETYPE-INFO2.
+/// Returns the value of the first PA-ETYPE-INFO2.
 fn first_info<'p>(padata: Option<&SeqRef<'p, PaDataRef<'p>>>) -> Option<OctetsRef<'p>>
     ensures { result ≡ first_info (option_copied padata.entry) }
 {
@@ -74,7 +74,7 @@ fn first_info<'p>(padata: Option<&SeqRef<'p, PaDataRef<'p>>>) -> Option<OctetsRe
     None
 }
 
-/// The list that the octets spell; an empty one where they spell none.
+/// Returns the list that the bytes encode, or an empty one.
 fn info_in(alloc: Global, octets: &[u8]) -> Result<EtypeInfo2, AllocError>
     ensures { IfOk result (λ info. info ≡ info_in octets.now) }
 {

@@ -1,13 +1,13 @@
-//! Logging in to a realm: a first ticket by a password or a keytab, and tickets for services by that one (RFC 4120,
+//! Logging in to a realm: gets a first ticket with a password or a keytab, and service tickets with that one (RFC 4120,
 //! sections 3.1 and 3.3).
 //!
-//! A [`KdcClient`] sends the requests of `client_core` to the KDCs of a realm over an [`Exchange`] and reads the replies.
-//! It reads no file and no clock: the caller hands in the network, the moment and a source of random octets.
+//! A [`KdcClient`] sends the requests of `client_core` to the KDCs of a realm over an [`Exchange`] and reads the
+//! replies. It reads no file and no clock: the caller supplies the network, the moment and a source of random bytes.
 //!
 //! | call | what it returns |
 //! |---|---|
-//! | [`KdcClient::log_in`] | a first ticket, mostly of the ticket-granting service |
-//! | [`KdcClient::service_ticket`] | a ticket of a service, by a ticket-granting ticket |
+//! | [`KdcClient::log_in`] | a first ticket, usually for the ticket-granting service |
+//! | [`KdcClient::service_ticket`] | a ticket for a service, with a ticket-granting ticket |
 //! | [`KdcClient::ticket_again`] | the ticket that it is given, renewed or validated |
 //!
 //! If a KDC refuses because the clocks differ, [`KdcClient::take_clock`] sets the client's moment by the KDC's clock.

@@ -3,8 +3,8 @@ ghost use Rattle.client_login.specs.Moments.{IsNext};
 
 use krb_fields::Moment;
 
-/// The moment a microsecond later; the last one of the year 9999 stays. A KDC takes each moment of a client once, so
-/// each request with a ticket has its own.
+/// Returns the moment a microsecond later; the last one of the year 9999 stays. A KDC accepts each moment of a client
+/// once, so each request with a ticket has its own.
 pub(crate) fn next_moment(at: Moment) -> Moment
     ensures { IsNext at result }
 {

@@ -1,4 +1,4 @@
-//! By what a client shows that it is itself: a password, or a keytab (RFC 4120, section 5.2.7.5).
+//! How a client proves who it is: with a password, or a keytab (RFC 4120, section 5.2.7.5).
 ghost use Rattle.std.specs.Prelude.{◌≡◌, ◌∷◌, true, Err, None, Some, option_copied, Ok, IfErr, IfOk, OnOk};
 ghost use Rattle.client_core.specs.Passwords as passwords;
 ghost use Rattle.client_login.specs.Faults.{IsNoKey, IsNoKeytabKey, IsNoPasswordKey, info_for};
@@ -21,24 +21,24 @@ use krb_replies::KdcRepRef;
 use sealed_parts::type_numbered;
 use std::alloc::{AllocError, Global};
 
-/// By what a client shows that it is itself.
+/// A client's secret, which proves who it is.
 #[derive(Drop)]
 pub enum Secret {
     Password(Password),
     Keytab(Keytab),
 }
 
-/// A password, from which a key is made as the KDC says.
+/// A password, from which a key is derived as the KDC says.
 #[derive(Drop)]
 pub struct Password {
     pub octets: Octets,
-    /// The fewest iterations of string-to-key that the client takes. Absent: the type's default, 4,096 for the types 17
-    /// and 18 and 32,768 for the types 19 and 20. A program on the path to the KDC may name any count and salt, and sees
-    /// what is sealed by such a key; so fewer iterations make passwords cheaper to guess.
+    /// The fewest iterations of string-to-key that the client accepts. Absent: the type's default, 4,096 for the types
+    /// 17 and 18 and 32,768 for the types 19 and 20. A program on the path to the KDC may name any count and salt, and
+    /// sees what is encrypted with such a key; so fewer iterations make passwords cheaper to guess.
     pub least_count: Option<u32>,
 }
 
-/// The types that a client asks for: of a keytab those of which it has a key of the client.
+/// Returns the types that a client requests: with a keytab those of the client's keys in it.
 pub(crate) fn etypes_for(
     alloc: Global,
     secret: &Secret,
@@ -79,8 +79,8 @@ fn push_held(
     Ok(())
 }
 
-/// The key for a timestamp, by what the KDC says of the client's keys. Of a keytab it is that of the first type which
-/// the KDC names and the keytab has.
+/// Returns the key for a timestamp, given the KDC's information about the client's keys. With a keytab it is that of
+/// the first type which the KDC names and the keytab has.
 pub(crate) fn key_wanted(
     alloc: Global,
     secret: &Secret,
@@ -96,7 +96,7 @@ pub(crate) fn key_wanted(
     }
 }
 
-/// The key by which an AS-REP is opened. Of a keytab it is that of the reply's type.
+/// Returns the key that decrypts an AS-REP. With a keytab it is that of the reply's type.
 pub(crate) fn key_of_reply(
     alloc: Global,
     secret: &Secret,
@@ -116,7 +116,7 @@ pub(crate) fn key_of_reply(
     }
 }
 
-/// The key by which the reply to a request with a timestamp is opened: of a password the timestamp's.
+/// Returns the key that decrypts the reply to a request with a timestamp: with a password the timestamp's.
 pub(crate) fn key_of_next_reply(
     secret: &Secret,
     asked: &Asked,
@@ -124,7 +124,7 @@ pub(crate) fn key_of_next_reply(
     reply: &KdcRepRef<'_, 11>,
 ) -> Result<Key, Why>
     requires { IsOwnKey secret.now asked.now.realm asked.now.client key.now }
-    // Of a keytab it is that of the type by which the reply is sealed.
+    // With a keytab it is that of the type that the reply is encrypted with.
     ensures next { IfOk result (λ found. Some found
         ≡ next_key secret.now (asked.now.realm ∷ asked.now.client.components) key.now reply.now.enc_part.etype) }
     ensures own { IfOk result (λ found. IsOwnKey secret.now asked.now.realm asked.now.client found) }
@@ -137,7 +137,7 @@ pub(crate) fn key_of_next_reply(
     numbered_key(keytab, asked, reply.enc_part.etype)
 }
 
-/// The client's key of a type.
+/// Returns the client's key with a type.
 #[tactic(auto, using(crate::proofs::OwnKeys::numbered_held, crate::proofs::OwnKeys::unnumbered))]
 fn numbered_key(keytab: &Keytab, asked: &Asked, number: i32) -> Result<Key, Why>
     ensures value { IfOk result (λ key. Some key
@@ -150,7 +150,7 @@ fn numbered_key(keytab: &Keytab, asked: &Asked, number: i32) -> Result<Key, Why>
     given(key_numbered(keytab, asked.realm.as_slice(), &asked.client, number))
 }
 
-/// The key of a password, unless the KDC asks for fewer iterations than the least count.
+/// Returns the key of a password, unless the KDC requests fewer iterations than the least count.
 #[tactic(auto, using(crate::proofs::OwnKeys::strong_key))]
 fn key_of_password(
     alloc: Global,
@@ -192,7 +192,7 @@ fn made_key(
     }
 }
 
-/// Whether the entry from which a key is made asks for fewer iterations than the least count.
+/// Checks whether the entry that the key is derived from requests fewer iterations than the least count.
 fn is_weak(least: Option<u32>, info: &[EtypeInfo2Entry]) -> bool
     ensures { result ≡ is_weak least info.now }
 {
@@ -255,7 +255,7 @@ fn given(found: Option<&Key>) -> Result<Key, Why>
     }
 }
 
-/// The key of the first type that the KDC names and the keytab has.
+/// Returns the key of the first type that the KDC names and the keytab has.
 fn key_named<'k>(
     keytab: &'k Keytab,
     realm: &[u8],

@@ -1,14 +1,14 @@
-//! Until when a reply is waited for.
+//! The time to wait for a reply.
 use std::io::{Error, ErrorKind, Result};
 use std::rt::Clock;
 use std::time::{Duration, Instant};
 
-/// That nothing came in time.
+/// Returns the error for no reply in time.
 pub(crate) fn no_reply() -> Error {
     Error::new(ErrorKind::TimedOut, "no reply in time")
 }
 
-/// A time at which waiting ends.
+/// The moment when waiting ends.
 #[derive(Clone, Copy)]
 pub(crate) struct Deadline {
     begun: Instant,
@@ -16,7 +16,7 @@ pub(crate) struct Deadline {
 }
 
 impl Deadline {
-    /// So many seconds from now.
+    /// Returns the deadline this many seconds from now.
     pub(crate) fn after(clock: &impl Clock, seconds: u64) -> Result<Deadline> {
         Ok(Deadline {
             begun: Instant::now(clock)?,
@@ -24,7 +24,7 @@ impl Deadline {
         })
     }
 
-    /// So many seconds from now, or this one where it is sooner. Where it has passed that is an error.
+    /// Returns the deadline this many seconds from now, or this one if it is sooner. Fails if that has passed.
     pub(crate) fn sooner(&self, clock: &impl Clock, seconds: u64) -> Result<Deadline> {
         let left = self.left(clock)?;
         Ok(Deadline {
@@ -33,7 +33,7 @@ impl Deadline {
         })
     }
 
-    /// How long it is until then. Where it has passed that is an error.
+    /// Returns how long it is until the deadline. Fails if that has passed.
     pub(crate) fn left(&self, clock: &impl Clock) -> Result<Duration> {
         let gone = Instant::now(clock)?.saturating_duration_since(self.begun);
         match self.wait.checked_sub(gone) {

@@ -1,10 +1,10 @@
-//! The moment that a clock shows.
+//! The moment on a clock.
 use krb_fields::Moment;
 use std::io::{Error, ErrorKind, Result};
 use std::rt::Clock;
 use std::time::{SystemTime, UNIX_EPOCH};
 
-/// The moment that it is. A clock before 1970 or after the year 9999 is an error.
+/// Returns the current moment. A clock before 1970 or after the year 9999 is an error.
 pub fn now(clock: &impl Clock) -> Result<Moment> {
     let Ok(since) = SystemTime::now(clock)?.duration_since(UNIX_EPOCH) else {
         return Err(Error::from(ErrorKind::InvalidData));

@@ -1,4 +1,4 @@
-//! A connection that is given up at its deadline, however its peer sends.
+//! A connection that is closed at its deadline, however slowly its peer sends.
 ghost use Rattle.std.specs.Io.{ReadsAtMost, WritesAtMost};
 
 use crate::deadline::{Deadline, no_reply};
@@ -7,7 +7,7 @@ use std::io::{ErrorKind, Read, Write};
 use std::net::OpenStream;
 use std::rt::Clock;
 
-/// A connection, and when it is given up.
+/// A connection, and its deadline.
 #[derive(Drop)]
 pub(crate) struct TimedStream<'a, S, C> {
     stream: S,

@@ -1,17 +1,17 @@
-//! The subcommands of a program's command line and their options, as tables of words.
+//! The subcommands of a program's command line and their options, as tables.
 #![tactic(auto)]
 
 use clap::builder::ValueParser;
 use clap::{Arg, ArgAction, Command};
 use std::alloc::{AllocError, Global};
 
-/// The shape of a file's path. An empty word is none, and a fault of the command line that names the option.
+/// The shape of a file's path. An empty value is a usage error that names the option.
 const FILE: &str = "FILE";
 
-/// The version of the programs, which `--version` prints behind a program's name.
+/// The version of the programs. `--version` prints it after a program's name.
 pub const VERSION: &str = "0.1.0";
 
-/// How often an option stands on a command line.
+/// How often an option may appear on a command line.
 #[derive(Clone, Copy, Debug, PartialEq, Eq)]
 pub enum Times {
     AtMostOnce,
@@ -21,12 +21,12 @@ pub enum Times {
 }
 
 impl Times {
-    /// Whether it has to stand there.
+    /// Checks whether the option is required.
     fn is_needed(self) -> bool {
         self == Times::Once || self == Times::AtLeastOnce
     }
 
-    /// What a further value does.
+    /// Returns what a further value does.
     fn action(self) -> ArgAction {
         match self {
             Times::AtMostOnce | Times::Once => ArgAction::Set,
@@ -38,19 +38,19 @@ impl Times {
 /// The words of an option with a value.
 #[derive(Clone, Copy)]
 pub struct OptionRow {
-    /// What stands behind `--`, and the name by which its value is found.
+    /// The word after `--`, which is also the name that finds the value.
     pub name: &'static str,
-    /// What stands for its value in the help. A file's path has the shape `FILE`.
+    /// The placeholder for its value in the help. For a file's path it is `FILE`.
     pub shape: &'static str,
-    /// What the value is.
+    /// The help for the value.
     pub help: &'static str,
     pub times: Times,
 }
 
-/// The words of an option without a value, which is there or not.
+/// The words of an option without a value, which is present or not.
 #[derive(Clone, Copy)]
 pub struct FlagRow {
-    /// What stands behind `--`, or behind `-` if it is one letter.
+    /// The word after `--`, or after `-` if it is one letter.
     pub name: &'static str,
     pub help: &'static str,
 }
@@ -59,13 +59,13 @@ pub struct FlagRow {
 #[derive(Clone, Copy)]
 pub struct SubcommandRow {
     pub name: &'static str,
-    /// What it does.
+    /// What the subcommand does.
     pub about: &'static str,
     pub options: &'static [OptionRow],
     pub flags: &'static [FlagRow],
 }
 
-/// The command with its version and these subcommands, of which one has to be there.
+/// Returns the command with its version and these subcommands, one of which is required.
 pub fn with_subcommands<'a>(
     alloc: Global,
     command: Command<'a>,
@@ -112,7 +112,7 @@ fn option<'a>(alloc: Global, row: &OptionRow) -> Arg<'a> {
         .value_name(row.shape)
         .action(row.times.action())
         .required(row.times.is_needed())
-        // So that what reads the value names the option where it is none.
+        // So that the code that reads the value names the option if the value is invalid.
         .allow_negative_numbers(true)
         .help(row.help);
     if row.shape == FILE {
@@ -132,7 +132,7 @@ fn flag<'a>(alloc: Global, row: &FlagRow) -> Arg<'a> {
     }
 }
 
-/// The letter that a name is, if it is one.
+/// Returns the letter that a name consists of, if it is one letter.
 fn letter(name: &str) -> Option<char> {
     let mut letters = name.chars();
     match (letters.next(), letters.next()) {

@@ -1,10 +1,10 @@
--- What a store in memory holds.
+-- The files of a store in memory.
 use Rattle.std.specs.Prelude.{ℕ, List, [], ◌∷◌, Option, Some, None, if◌then◌else◌, string_bytes, bytes_eq}
 use Rattle.file_store.specs.World.{World}
 use Rattle.file_store.specs.declared.memory_store.MemoryStore.{MemoryStore}
 use Rattle.file_store.specs.declared.memory_store.StoredFile.{StoredFile}
 
--- the first file of a path, which was written last
+-- the first file with a path, which was written last
 abbrev pub file_at : List StoredFile → List ℕ → Option (List ℕ)
 file_at [] path = None
 file_at (file ∷ files) path = if bytes_eq (string_bytes file.path) path then Some file.octets.items else file_at files path

@@ -1,14 +1,14 @@
--- What a store holds. A store that can't tell has no world, and nothing is said of it.
+-- The content of a store. A store without a record of it has no world, and nothing is stated about it.
 use Rattle.std.specs.Prelude.{◌≡◌, ◌≤◌, ℕ, Bool, List, Option, Some, None, IfSome, is_some, if◌then◌else◌, bytes_eq}
 use Rattle.std.specs.Prelude.{length, slice_get, take}
 use Rattle.file_store.specs.Inputs.{first_line}
 
 pub record World : Type 0 where
-  pub files : List ℕ → Option (List ℕ)  -- what each path has
-  pub random : List ℕ  -- what each draw gives
-  pub now : ℕ  -- the second since the start of 1970 at which the clock stands
+  pub files : List ℕ → Option (List ℕ)  -- the file at each path
+  pub random : List ℕ  -- the result of each draw
+  pub now : ℕ  -- the clock's second since the start of 1970
 
--- with a file at a path, in place of the one that is there; every other path has what it had
+-- with a file at a path, which replaces the one there; every other path is unchanged
 abbrev pub with_file : List ℕ → List ℕ → World → World
 with_file path octets world =
     record world { files = λ asked. if bytes_eq path asked then Some octets else world.files asked }
@@ -22,7 +22,7 @@ IsRead world path octets = IfSome world (λ held. held.files path ≡ Some octet
 abbrev pub IsDrawn : Option World → List ℕ → Type 0
 IsDrawn world octets = IfSome world (λ held. octets ≡ held.random)
 
--- the first octet of what a path has: none of an empty file, nor where there is no file
+-- the first byte of the file at a path: none if the file is empty or absent
 abbrev pub first_octet : Option (List ℕ) → Option ℕ
 first_octet None = None
 first_octet (Some octets) = slice_get octets 0
@@ -33,7 +33,7 @@ IsFirst world path octet = IfSome world (λ held. octet ≡ first_octet (held.fi
 abbrev pub IsNow : Option World → ℕ → Type 0
 IsNow world seconds = IfSome world (λ held. seconds ≡ held.now)
 
--- the first 32 octets of a file, or of a draw where no file is named
+-- the first 32 bytes of a file, or of a draw if no file is named
 abbrev pub HasSeed : Option World → Option (List ℕ) → List ℕ → Type 0
 HasSeed world (Some path) seed = (octets : List ℕ) × IsRead world path octets × (32 ≤ length octets) × (seed ≡ take 32 octets)
 HasSeed world None seed = IsDrawn world seed

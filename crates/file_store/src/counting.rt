@@ -1,9 +1,9 @@
-//! Calls that fail are counted.
+//! Counting failed calls.
 ghost use Rattle.file_store.specs.Counting.{IsCounted};
 
 use std::io;
 
-/// The count of failed calls after a call, which stops at the greatest `u64`.
+/// Returns the count of failed calls after a call. It stops at the greatest `u64`.
 pub fn counted<T>(faults: u64, done: &io::Result<T>) -> u64
     ensures { IsCounted faults done.now result }
 {

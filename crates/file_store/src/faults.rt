@@ -1,30 +1,30 @@
-//! What is amiss with a file.
+//! What is wrong with a file.
 use std::error::Error;
 use std::{fmt, io};
 
-/// What is amiss, and with which file.
+/// What is wrong, and with which file.
 #[derive(Clone, Copy, Debug)]
 pub struct FileFault<'p> {
-    /// The path; of what is in no file, what it is.
+    /// The path; if there is no file, a name for the source.
     pub path: &'p str,
     pub amiss: Amiss,
 }
 
-/// Why what stands in a file is not taken, or could not be read or written.
+/// Why a file is not accepted, or could not be read or written.
 #[derive(Clone, Copy, Debug)]
 pub enum Amiss {
-    /// It has more octets than are taken.
+    /// It has more bytes than are accepted.
     LongFile,
-    /// A file of a seed has fewer than 32 octets.
+    /// A seed file has fewer than 32 bytes.
     ShortSeed,
-    /// The first line of a file of a password has more than 1,024 octets.
+    /// The first line of a password file has more than 1,024 bytes.
     LongPassword,
     /// A call of the store failed, or memory ran out.
     Failed(io::Error),
 }
 
 impl Amiss {
-    /// The word for it, where the file was read and is refused.
+    /// Returns the word for it, if the file was read and is refused.
     pub fn refusal(self) -> Option<&'static str> {
         match self {
             Amiss::LongFile => Some("LongFile"),

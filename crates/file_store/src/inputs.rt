@@ -1,4 +1,5 @@
-//! The files that a command reads and writes, and what it takes where no file is named. A fault says what it is of.
+//! The files that a command reads and writes, and the sources that it uses if no file is named. A fault names its
+//! source.
 ghost use Rattle.std.specs.Prelude.{◌≡◌, ◌≤◌, ◌<◌, IfErr, IfOk, IfNone, IfSome, length, take, vec_len};
 ghost use Rattle.std.specs.Prelude.{◌==◌, Option, OnOk, OnErr, Some, option_map};
 ghost use Rattle.std.specs.List.{position};
@@ -11,22 +12,22 @@ use crate::store::{LONGEST_FILE, Store};
 use std::alloc::Global;
 use std::io;
 
-/// How many octets of a seed's file count.
+/// How many bytes of a seed file are used.
 const SEED_LEN: usize = 32;
 
-/// The most octets of a password.
+/// The greatest size of a password, in bytes.
 const LONGEST_PASSWORD: usize = 1_024;
 
-/// What stands in place of a path where a seed is the system's.
+/// The name in place of a path if a seed is the system's.
 const SYSTEM_SOURCE: &str = "the system's random octets";
 
-/// What stands in place of a path where a moment is the system's.
+/// The name in place of a path if a moment is the system's.
 const SYSTEM_CLOCK: &str = "the system's clock";
 
-/// What stands in place of a path where a password is not in a file.
+/// The name in place of a path if a password is not in a file.
 const STANDARD_INPUT: &str = "standard input";
 
-/// Whether there is a file.
+/// Checks whether there is a file.
 pub fn has_file<'p, S: Store>(store: &mut S, path: &'p str) -> Result<bool, FileFault<'p>>
     ensures there { IfOk result (λ found. IsThere (S.world store.old) path.now found) }
     ensures kept { S.world store.new ≡ S.world store.old }
@@ -42,7 +43,7 @@ pub fn has_file<'p, S: Store>(store: &mut S, path: &'p str) -> Result<bool, File
     }
 }
 
-/// The whole of a file, at most 16,777,216 octets.
+/// Reads a whole file, of at most 16,777,216 bytes.
 pub fn read_file<'p, S: Store>(
     alloc: Global,
     store: &mut S,
@@ -57,7 +58,7 @@ pub fn read_file<'p, S: Store>(
     read_at_most(alloc, store, path, LONGEST_FILE)
 }
 
-/// The whole of a file, at most so many octets.
+/// Reads a whole file, of at most this many bytes.
 pub fn read_at_most<'p, S: Store>(
     alloc: Global,
     store: &mut S,
@@ -83,7 +84,7 @@ pub fn read_at_most<'p, S: Store>(
     }
 }
 
-/// The first octet of the file that a write would replace. `None` if there is none, or it is empty.
+/// Reads the first byte of the file that a write would replace. `None` if there is none, or it is empty.
 pub fn first_octet<'p, S: Store>(
     alloc: Global,
     store: &mut S,
@@ -103,8 +104,8 @@ pub fn first_octet<'p, S: Store>(
     }
 }
 
-/// Writes a new file, in place of the one that is there. Its owner alone may read and write it. After an `Err` the path
-/// has what it had.
+/// Writes a new file, which replaces the one there. Only its owner may read and write it. After an `Err` the path is
+/// unchanged.
 pub fn write_file<'p, S: Store>(
     alloc: Global,
     store: &mut S,
@@ -125,8 +126,7 @@ pub fn write_file<'p, S: Store>(
     }
 }
 
-/// Writes a file, and keeps the owner, the group and the mode of the one that is there. After an `Err` the path has what
-/// it had.
+/// Writes a file, and keeps the owner, the group and the mode of the one there. After an `Err` the path is unchanged.
 pub fn update_file<'p, S: Store>(
     alloc: Global,
     store: &mut S,
@@ -147,7 +147,7 @@ pub fn update_file<'p, S: Store>(
     }
 }
 
-/// Takes the lock of a file, until the store is dropped. `false` if another program has it.
+/// Takes the lock of a file, until the store is dropped. Returns `false` if another program has it.
 pub fn lock_file<'p, S: Store>(
     alloc: Global,
     store: &mut S,
@@ -166,7 +166,7 @@ pub fn lock_file<'p, S: Store>(
     }
 }
 
-/// The whole seconds since the start of 1970.
+/// Returns the whole seconds since the start of 1970.
 pub fn read_clock<S: Store>(store: &mut S) -> Result<u64, FileFault<'static>>
     ensures now { IfOk result (λ seconds. IsNow (S.world store.old) seconds) }
     ensures kept { S.world store.new ≡ S.world store.old }
@@ -181,7 +181,7 @@ pub fn read_clock<S: Store>(store: &mut S) -> Result<u64, FileFault<'static>>
     }
 }
 
-/// The seed that a file holds: its first 32 octets.
+/// Reads the seed in a file: its first 32 bytes.
 pub fn read_seed<'p, S: Store>(
     alloc: Global,
     store: &mut S,
@@ -202,7 +202,7 @@ pub fn read_seed<'p, S: Store>(
     }
 }
 
-/// The seed of a file, or of the system's own random octets where no file is named.
+/// Reads the seed in a file, or draws one from the system if no file is named.
 pub fn read_or_draw_seed<'p, S: Store>(
     alloc: Global,
     store: &mut S,
@@ -218,7 +218,7 @@ pub fn read_or_draw_seed<'p, S: Store>(
     }
 }
 
-/// A seed of the system's own random octets.
+/// Draws a seed from the system's random bytes.
 pub fn draw_seed<S: Store>(store: &mut S) -> Result<[u8; 32], FileFault<'static>>
     ensures drawn { IfOk result (λ seed. IsDrawn (S.world store.old) seed) }
     ensures kept { S.world store.new ≡ S.world store.old }
@@ -233,7 +233,7 @@ pub fn draw_seed<S: Store>(store: &mut S) -> Result<[u8; 32], FileFault<'static>
     }
 }
 
-/// The first 32 octets.
+/// Returns the first 32 bytes.
 pub fn seed_of(octets: &[u8]) -> Option<[u8; 32]>
     ensures some { IfSome result (λ seed. (32 ≤ length octets.now) × (seed ≡ take 32 octets.now)) }
     ensures none { IfNone result (length octets.now < 32) }
@@ -244,7 +244,7 @@ pub fn seed_of(octets: &[u8]) -> Option<[u8; 32]>
     }
 }
 
-/// The password that a file holds: its first line, without the line feed.
+/// Reads the password in a file: its first line, without the line feed.
 pub fn read_password<'p, S: Store>(
     alloc: Global,
     store: &mut S,
@@ -268,8 +268,8 @@ pub fn read_password<'p, S: Store>(
     Ok(octets)
 }
 
-/// The password that the next line of standard input is, of at most 1,024 octets. At a terminal it is asked for, as
-/// `Password for NAME@REALM:`; name and realm are given as their texts.
+/// Reads the password on the next line of standard input, of at most 1,024 bytes. At a terminal it asks for it, with
+/// `Password for NAME@REALM:`; `name` and `realm` are texts.
 pub fn ask_password<S: Store>(
     alloc: Global,
     store: &mut S,
@@ -307,7 +307,7 @@ fn ask_line<S: Store>(
     store.ask(alloc, &question, LONGEST_PASSWORD)
 }
 
-/// The first line without its line feed, where it has at most 1,024 octets.
+/// Returns the first line without its line feed, if it has at most 1,024 bytes.
 pub fn password_of(octets: &[u8]) -> Option<&[u8]>
     ensures some { IfSome result (λ pass. (pass.now ≡ first_line octets.now) × (length pass.now ≤ 1024)) }
     ensures none { IfNone result (1024 < length (first_line octets.now)) }
@@ -319,7 +319,7 @@ pub fn password_of(octets: &[u8]) -> Option<&[u8]>
     Some(line)
 }
 
-/// What stands before the first line feed.
+/// Returns the bytes before the first line feed.
 pub(crate) fn line_of(octets: &[u8]) -> &[u8]
     ensures { result.now ≡ first_line octets.now }
 {
@@ -329,7 +329,7 @@ pub(crate) fn line_of(octets: &[u8]) -> &[u8]
     }
 }
 
-/// Where the first line feed is.
+/// Returns the index of the first line feed.
 fn line_end(octets: &[u8]) -> Option<usize>
     ensures { result ≡ position (λ b. b == 0x0A) octets.now }
 {

@@ -1,7 +1,7 @@
-//! The files of the programs, and what they take where no file is named: random octets, and a
-//! password from standard input.
+//! The files of the programs, and the sources that they use if no file is named: random bytes, and a password from
+//! standard input.
 //!
-//! A program works on a `Store`, so that its tests run over files in memory. A fault says which file it is of.
+//! A program uses a `Store`, so that its tests run with files in memory. A fault says which file it concerns.
 #![tactic(auto)]
 
 mod counting;

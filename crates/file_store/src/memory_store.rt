@@ -1,4 +1,4 @@
-//! Files, random octets and an input in memory, for tests.
+//! Files, random bytes and an input in memory, for tests.
 ghost use Rattle.std.specs.Prelude.{◌≡◌, ◌≤◌, Some, IfOk, OnOk, OnErr, IfSome, vec_len, option_map, is_some};
 ghost use Rattle.file_store.specs.Memory.{file_at, world_of};
 ghost use Rattle.file_store.specs.World.{first_octet, with_file};
@@ -20,7 +20,7 @@ struct StoredFile {
 /// Files in memory, for tests. One call can be made to fail.
 #[derive(Drop)]
 pub struct MemoryStore {
-    /// A file that was written again stands in front of what it had before.
+    /// A file that was written again comes before its older version.
     files: Vec<StoredFile>,
     /// For how many pauses another program has the lock of each file.
     kept: u32,
@@ -30,7 +30,7 @@ pub struct MemoryStore {
     random: [u8; 32],
     input: Vec<u8>,
     terminal: bool,
-    /// What was asked at the terminal.
+    /// The questions at the terminal.
     asked: String,
     calls: u32,
     failing: u32,
@@ -38,7 +38,7 @@ pub struct MemoryStore {
 }
 
 impl MemoryStore {
-    /// A store without files. Its random octets are zeros, its clock stands at 0, and its input has ended.
+    /// Returns a store without files. Its random bytes are zeros, its clock stands at 0, and its input has ended.
     pub fn new(alloc: Global) -> MemoryStore {
         MemoryStore {
             files: Vec::new(alloc),
@@ -55,13 +55,13 @@ impl MemoryStore {
         }
     }
 
-    /// Makes the call of this number from now on fail, where the next one has the number 1. With 0 none does.
+    /// Makes the call with this number fail, where the next call has the number 1. With 0 none fails.
     pub fn fail_at(&mut self, call: u32) {
         self.calls = 0;
         self.failing = call;
     }
 
-    /// What a file holds.
+    /// Returns the content of a file.
     pub fn get(&self, path: &str) -> Option<&[u8]>
         ensures { option_map (λ octets. octets.now) result ≡ file_at self.now.files.items path.now }
     {
@@ -80,7 +80,7 @@ impl MemoryStore {
         self.files.len() < before
     }
 
-    /// Makes a file of these octets, in place of the one that is there.
+    /// Makes a file with these bytes, which replaces the one there.
     pub fn set(&mut self, alloc: Global, path: &str, octets: &[u8]) -> Result<(), AllocError>
         ensures written { OnOk result (world_of self.new ≡ with_file path.now octets.now (world_of self.old)) }
         ensures kept { OnErr result (world_of self.new ≡ world_of self.old) }
@@ -94,7 +94,7 @@ impl MemoryStore {
         Ok(())
     }
 
-    /// Gives another program the lock of each file for so many pauses.
+    /// Gives another program the lock of each file for this many pauses.
     pub fn keep_for(&mut self, pauses: u32) {
         self.kept = pauses;
     }
@@ -104,7 +104,7 @@ impl MemoryStore {
         self.keep_for(if kept { u32::MAX } else { 0 });
     }
 
-    /// How many pauses there were.
+    /// Returns how many pauses there were.
     pub fn pauses(&self) -> u32 {
         self.pauses
     }
@@ -114,12 +114,12 @@ impl MemoryStore {
         self.seconds = seconds;
     }
 
-    /// Makes these the random octets of each call.
+    /// Makes these the random bytes of each call.
     pub fn set_random(&mut self, octets: [u8; 32]) {
         self.random = octets;
     }
 
-    /// Makes these octets the input that is left, which comes from a terminal or from elsewhere.
+    /// Makes these bytes the remaining input, which comes from a terminal or from elsewhere.
     pub fn set_input(
         &mut self,
         alloc: Global,
@@ -131,12 +131,12 @@ impl MemoryStore {
         Ok(())
     }
 
-    /// All that was asked at the terminal, one question after the other.
+    /// Returns all questions at the terminal, one after another.
     pub fn asked(&self) -> &str {
         self.asked.as_str()
     }
 
-    /// Counts a call. One of them fails.
+    /// Counts a call, which fails if it is the chosen one.
     fn call(&mut self) -> io::Result<()>
         ensures world { world_of self.new ≡ world_of self.old }
         ensures faults { self.new.faults ≡ self.old.faults }
@@ -238,7 +238,7 @@ impl MemoryStore {
     }
 }
 
-/// The next line of an input, which is taken from it.
+/// Takes the next line from an input.
 fn take_line(alloc: Global, input: &mut Vec<u8>, most: usize) -> io::Result<Option<Vec<u8>>>
     ensures { IfOk result (λ found. IfSome found (λ octets. vec_len octets ≤ most)) }
 {

@@ -1,4 +1,4 @@
-//! What a program takes from its system.
+//! What a program uses of its system.
 ghost use Rattle.std.specs.Prelude.{◌≡◌, ◌≤◌, ℕ, Option, IfOk, OnOk, OnErr, IfSome, vec_len, option_map};
 ghost use Rattle.file_store.specs.Counting.{IsCounted};
 ghost use Rattle.file_store.specs.World.{World, with_file, IsThere, IsRead, IsDrawn, IsFirst, IsNow};
@@ -6,16 +6,16 @@ ghost use Rattle.file_store.specs.World.{World, with_file, IsThere, IsRead, IsDr
 use std::alloc::Global;
 use std::io;
 
-/// The most octets of a file that is read.
+/// The greatest size of a file to read, in bytes.
 pub const LONGEST_FILE: usize = 16_777_216;
 
-/// The files, the random octets, the clock and the standard input that a program works with. A store counts the calls
-/// that fail.
+/// The files, the random bytes, the clock and the standard input of a program. A store counts failed calls.
 pub trait Store {
     // How often a call has failed.
     ghost fault_count: { Self → ℕ };
 
-    // What the store holds. `None` of a store that can't tell: no contract knows what a system's file holds.
+    // The content of the store. `None` if the store has no record of it: no contract knows what a system's file
+    // contains.
     ghost world: { Self → Option World };
 
     /// Checks whether there is a file.
@@ -24,36 +24,36 @@ pub trait Store {
         ensures kept { world self.new ≡ world self.old }
         ensures counted { IsCounted (fault_count self.old) result (fault_count self.new) };
 
-    /// Reads the whole of a file. `None` if it has more than `most` octets.
+    /// Reads a whole file. `None` if it has more than `most` bytes.
     fn read(&mut self, alloc: Global, path: &str, most: usize) -> io::Result<Option<Vec<u8>>>
         ensures within { IfOk result (λ found. IfSome found (λ octets. vec_len octets ≤ most)) }
         ensures read { IfOk result (λ found. IfSome found (λ octets. IsRead (world self.old) path.now octets.items)) }
         ensures kept { world self.new ≡ world self.old }
         ensures counted { IsCounted (fault_count self.old) result (fault_count self.new) };
 
-    /// Reads the first octet of the file that a write would replace. `None` if there is none, or it is empty. A device or
-    /// a folder is an `Err`, since neither is replaced.
+    /// Reads the first byte of the file that a write would replace. `None` if there is none, or it is empty. A device
+    /// or a folder is an `Err`, because neither is replaced.
     fn first_octet(&mut self, alloc: Global, path: &str) -> io::Result<Option<u8>>
         ensures first { IfOk result (λ octet. IsFirst (world self.old) path.now octet) }
         ensures kept { world self.new ≡ world self.old }
         ensures counted { IsCounted (fault_count self.old) result (fault_count self.new) };
 
-    /// Writes a new file, in place of the one that is there. Its owner alone may read and write it. After an `Err` the
-    /// path has what it had.
+    /// Writes a new file, which replaces the one there. Only its owner may read and write it. After an `Err` the path
+    /// is unchanged.
     fn write(&mut self, alloc: Global, path: &str, octets: &[u8]) -> io::Result<()>
         ensures written { OnOk result (world self.new ≡ option_map (with_file path.now octets.now) (world self.old)) }
         ensures kept { OnErr result (world self.new ≡ world self.old) }
         ensures counted { IsCounted (fault_count self.old) result (fault_count self.new) };
 
-    /// Writes a file, and keeps the owner, the group and the mode of the one that is there. It fails where it can't keep
-    /// them. Without a file there it does as `write` does. After an `Err` the path has what it had.
+    /// Writes a file, and keeps the owner, the group and the mode of the one there. Fails if it can't keep them.
+    /// Without a file there it does what `write` does. After an `Err` the path is unchanged.
     fn update(&mut self, alloc: Global, path: &str, octets: &[u8]) -> io::Result<()>
         ensures written { OnOk result (world self.new ≡ option_map (with_file path.now octets.now) (world self.old)) }
         ensures kept { OnErr result (world self.new ≡ world self.old) }
         ensures counted { IsCounted (fault_count self.old) result (fault_count self.new) };
 
-    /// Takes the lock of a file, which other programs that ask for the same then don't get, until the store is dropped
-    /// or asked for the lock of another file. `false` if another program has it.
+    /// Takes the lock of a file, and keeps other programs from it until the store is dropped or is asked for the lock
+    /// of another file. Returns `false` if another program has it.
     fn lock(&mut self, alloc: Global, path: &str) -> io::Result<bool>
         ensures kept { world self.new ≡ world self.old }
         ensures counted { IsCounted (fault_count self.old) result (fault_count self.new) };
@@ -63,13 +63,13 @@ pub trait Store {
         ensures kept { world self.new ≡ world self.old }
         ensures counted { fault_count self.new ≡ fault_count self.old };
 
-    /// The whole seconds since the start of 1970.
+    /// Returns the whole seconds since the start of 1970.
     fn seconds(&mut self) -> io::Result<u64>
         ensures now { IfOk result (λ seconds. IsNow (world self.old) seconds) }
         ensures kept { world self.new ≡ world self.old }
         ensures counted { IsCounted (fault_count self.old) result (fault_count self.new) };
 
-    /// Draws 32 octets of the system's own source.
+    /// Draws 32 bytes from the system's own source.
     fn random(&mut self) -> io::Result<[u8; 32]>
         ensures drawn { IfOk result (λ seed. IsDrawn (world self.old) seed) }
         ensures kept { world self.new ≡ world self.old }
@@ -78,14 +78,14 @@ pub trait Store {
     /// Checks whether standard input is a terminal.
     fn is_terminal(&self) -> bool;
 
-    /// Reads the next line of standard input, without its line feed. `None` if it has more than `most` octets.
-    /// At a terminal the question is written first, to standard error. An input that has ended is an `Err`.
+    /// Reads the next line of standard input, without its line feed. `None` if it has more than `most` bytes. At a
+    /// terminal it first writes the question to standard error. An input that has ended is an `Err`.
     fn ask(&mut self, alloc: Global, question: &str, most: usize) -> io::Result<Option<Vec<u8>>>
         ensures within { IfOk result (λ found. IfSome found (λ octets. vec_len octets ≤ most)) }
         ensures kept { world self.new ≡ world self.old }
         ensures counted { IsCounted (fault_count self.old) result (fault_count self.new) };
 
-    /// How often a call has failed. The count stops at the greatest `u64`.
+    /// Returns how often a call has failed. The count stops at the greatest `u64`.
     fn faults(&self) -> u64
         ensures { result ≡ fault_count self.now };
 }

@@ -12,7 +12,7 @@ use std::rt::{Clock, Files};
 use std::time::{Duration, SystemTime, UNIX_EPOCH};
 use std::{fs, io, thread};
 
-/// The mode of a file that is made: its owner alone reads and writes it, since it holds keys.
+/// The mode of a new file: only its owner reads and writes it, because it contains keys.
 const OWNER_ONLY: u32 = 0o600;
 
 /// The bits of a mode that say who may read, write and run a file.
@@ -38,7 +38,7 @@ impl Rights {
         }
     }
 
-    /// Gives a file that was just made this owner, group and mode.
+    /// Gives a new file this owner, group and mode.
     fn give(self, file: &File) -> io::Result<()> {
         let made = Rights::of(&file.metadata()?);
         let is_others = self.owner != made.owner || self.group != made.group;
@@ -52,7 +52,7 @@ impl Rights {
     }
 }
 
-/// The files, the random octets and the standard input that a runtime reaches.
+/// The files, the random bytes and the standard input of a runtime.
 #[derive(Drop)]
 pub struct FileStore<'a, R: Files> {
     files: &'a R,
@@ -70,12 +70,13 @@ impl<'a, R: Files> FileStore<'a, R> {
         }
     }
 
-    /// The runtime that it reaches.
+    /// Returns the runtime.
     pub fn files(&self) -> &'a R {
         self.files
     }
 
-    /// What is at a path, or `None` if it is free. A device or a folder is an `Err`, since neither is replaced.
+    /// Returns what is at a path, or `None` if it is free. A device or a folder is an `Err`, because neither is
+    /// replaced.
     fn there(&self, path: &str) -> io::Result<Option<Metadata>> {
         match fs::metadata(self.files, path) {
             Ok(there) if there.is_file() => Ok(Some(there)),
@@ -85,7 +86,7 @@ impl<'a, R: Files> FileStore<'a, R> {
         }
     }
 
-    /// The first octet of a file, if it has one.
+    /// Reads the first byte of a file, if it has one.
     fn read_first(&self, alloc: Global, path: &str) -> io::Result<Option<u8>> {
         if self.there(path)?.is_none() {
             return Ok(None);
@@ -97,7 +98,7 @@ impl<'a, R: Files> FileStore<'a, R> {
         Ok(octets.first().copied())
     }
 
-    /// The whole of a file, or `None` where it has more than so many octets.
+    /// Reads a whole file. `None` if it has more than this many bytes.
     fn read_whole(&self, alloc: Global, path: &str, most: usize) -> io::Result<Option<Vec<u8>>>
         ensures { IfOk result (λ found. IfSome found (λ octets. vec_len octets ≤ most)) }
     {
@@ -105,7 +106,7 @@ impl<'a, R: Files> FileStore<'a, R> {
         if file.metadata()?.len() > most as u64 {
             return Ok(None);
         }
-        // reads one octet past the limit, to notice a file that grows or whose length is not known
+        // reads one byte past the limit, to notice a file that grows or has no known length
         let mut octets = Vec::new(alloc);
         file.take((most as u64).saturating_add(1))
             .read_to_end(&mut octets)?;
@@ -117,13 +118,13 @@ impl<'a, R: Files> FileStore<'a, R> {
 }
 
 impl<'a, R: Files<File = File> + RandomSource> FileStore<'a, R> {
-    /// Writes a file whose owner alone may read and write it.
+    /// Writes a file that only its owner may read and write.
     fn write_own(&self, alloc: Global, path: &str, octets: &[u8]) -> io::Result<()> {
         let _there = self.there(path)?;
         self.replace(alloc, path, octets, None)
     }
 
-    /// Writes a file with the rights of the one that is there.
+    /// Writes a file with the rights of the one there.
     fn write_over(&self, alloc: Global, path: &str, octets: &[u8]) -> io::Result<()> {
         let rights = match self.there(path)? {
             Some(there) => Some(Rights::of(&there)),
@@ -132,8 +133,8 @@ impl<'a, R: Files<File = File> + RandomSource> FileStore<'a, R> {
         self.replace(alloc, path, octets, rights)
     }
 
-    /// The new file has a name of its own until it is whole and synced; then it is renamed. So a kill at any moment
-    /// leaves the old file or the new one, and of two writes at once each fills its own file.
+    /// Replaces a file. The new file has a name of its own until it is complete and synced; then it is renamed. So a
+    /// kill at any moment leaves the old file or the new one, and two writes at once fill different files.
     fn replace(
         &self,
         alloc: Global,
@@ -152,7 +153,7 @@ impl<'a, R: Files<File = File> + RandomSource> FileStore<'a, R> {
         filled
     }
 
-    /// Writes the new file to its end, and only then puts it in place.
+    /// Writes the whole new file, and only then moves it into place.
     fn fill(
         &self,
         new: File,
@@ -171,7 +172,7 @@ impl<'a, R: Files<File = File> + RandomSource> FileStore<'a, R> {
     }
 }
 
-/// `PATH.HEX.new`: the path of a new file, with 16 random hexadecimal digits.
+/// Returns `PATH.HEX.new`: the path of a new file, with 16 random hexadecimal digits.
 fn name_beside(alloc: Global, source: &impl RandomSource, path: &str) -> io::Result<String> {
     let mut octets = [0; 8];
     source.fill_bytes(&mut octets)?;
@@ -179,8 +180,8 @@ fn name_beside(alloc: Global, source: &impl RandomSource, path: &str) -> io::Res
     Ok(format!(in alloc; "{path}.{number:016x}.new")?)
 }
 
-/// Locks `PATH.lock`, which stays there without a lock: another command that waited for it to be removed and made anew
-/// could hold the lock of a file that is gone. The system lets a lock go when its program ends, however it ends.
+/// Locks `PATH.lock`. The file stays when the lock is released: if it were removed and made again, a waiting command
+/// could hold the lock of a file that is gone. The system releases a lock when its program ends, however it ends.
 fn open_locked<R: Files<File = File>>(
     alloc: Global,
     files: &R,
@@ -195,7 +196,7 @@ fn open_locked<R: Files<File = File>>(
     }
 }
 
-/// Opens the file of a lock. What is there already keeps its owner, since who owns the folder may have put a link to
+/// Opens the file of a lock. An existing file keeps its owner, because the folder's owner may have put a link to
 /// another file there.
 fn open_lock<R: Files<File = File>>(files: &R, beside: &str, path: &str) -> io::Result<File> {
     match make_lock(files, beside) {
@@ -212,21 +213,21 @@ fn open_lock<R: Files<File = File>>(files: &R, beside: &str, path: &str) -> io::
     }
 }
 
-/// Makes the file of a lock, where nothing is there, not even a link.
+/// Makes the file of a lock, if nothing is there, not even a link.
 fn make_lock<R: Files<File = File>>(files: &R, beside: &str) -> io::Result<File> {
     let mut how = OpenOptions::new();
     how.write(true).create_new(true).mode(OWNER_ONLY);
     how.open(files, beside)
 }
 
-/// Gives a lock that was just made to the owner of the file that it is beside. Else the lock that a superuser's command
-/// made would keep the owner's commands out.
+/// Gives a new lock to the owner of the file beside it. Otherwise a lock that a superuser's command made would keep the
+/// owner's commands out.
 fn hand_over(files: &impl Files, lock: &File, path: &str) {
     let (Ok(there), Ok(made)) = (fs::metadata(files, path), lock.metadata()) else {
         return;
     };
     if there.uid() != made.uid() {
-        // only a superuser may: the lock that another user made stays that user's
+        // only a superuser may do this: the lock that another user made stays that user's
         let _ = fchown(lock, Some(there.uid()), Some(there.gid()));
     }
 }
@@ -244,12 +245,12 @@ fn random_octets(source: &impl RandomSource) -> io::Result<[u8; 32]> {
     Ok(octets)
 }
 
-/// The next line without its line feed, or `None` where it has more than so many octets.
+/// Reads the next line without its line feed. `None` if it has more than this many bytes.
 fn next_line<B: BufRead + Drop>(alloc: Global, input: B, most: usize) -> io::Result<Option<Vec<u8>>>
     ensures { IfOk result (λ found. IfSome found (λ octets. vec_len octets ≤ most)) }
 {
     let mut line = Vec::new(alloc);
-    // one octet past the limit is asked for, which the line feed may be
+    // asks for one byte past the limit, which may be the line feed
     let taken = input
         .take((most as u64).saturating_add(1))
         .read_until(b'\n', &mut line)?;
@@ -290,7 +291,7 @@ where
 {
     ghost fault_count = { λ s. s.faults };
 
-    // no contract knows what a file of the system holds
+    // no contract knows what a file of the system contains
     ghost world = { λ _. None };
 
     fn exists(&mut self, path: &str) -> io::Result<bool> {

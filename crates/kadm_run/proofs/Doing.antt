@@ -1,4 +1,4 @@
--- What a command did, from what each of its calls did.
+-- The effect of a command, from the effects of its calls.
 use Rattle.std.proofs.Common.{◌≡◌, ◌∙◌, ℕ, List, [], ◌∷◌, ◌++◌, Bool, true, false, Option, Some, None, Result, Ok}
 use Rattle.std.proofs.Common.{Err, OnOk, IfSome, MatchResult, map, flat_map, take, drop, option_map, ap, subst}
 use Rattle.std.proofs.Common.{refl, inl, inr}
@@ -31,7 +31,7 @@ use Rattle.kadm_run.specs.declared.order.RandomGrant.{RandomGrant}
 
 -- ---- a change of a row
 
--- where a change was made, no rule refuses it
+-- if a change was made, no rule refuses it
 unrefused : {T : Type 0} (refusal : Option ChangeFault) (x : T) → IfSome refusal (λ fault. Ok x ≡ Err fault) → refusal ≡ None
 unrefused None x refused = refl
 unrefused (Some fault) x refused = absurd (subst (λ r. MatchResult r (λ _. ⊤) (λ _. ⊥)) refused tt)
@@ -138,7 +138,7 @@ gave_password before asked opened cleared after db etypes to who pass p q new ke
 
 -- ---- keytabs
 
--- what stands in front of the entries, where an old keytab is added to or none
+-- what comes before the new entries: the content of an old keytab that is extended, or none
 front : (world : Option World) (append : Bool) (path : List ℕ) (old : Option (List ℕ)) (new entries all : List ℕ)
     → IsOldKeytab world append path old → new ≡ 5 ∷ 2 ∷ entries → IsBehind old new all
     → (first : List ℕ) × IsFront world append path first × (all ≡ first ++ entries)

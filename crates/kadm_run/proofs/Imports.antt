@@ -1,4 +1,4 @@
--- The versions that are taken of a keytab, one after the other.
+-- Reading the versions in a keytab, one after another.
 use Rattle.std.proofs.Common.{◌≡◌, ◌∙◌, ℕ, ◌^◌, ◌≤◌, ◌<◌, ◌==◌, ◌&&◌, ◌||◌, max, zero, refl, Bool, true}
 use Rattle.std.proofs.Common.{false, suc, List, [], ◌∷◌, ◌++◌, All, IsTrue, drop, length, get_or, Option, Some, None}
 use Rattle.std.proofs.Common.{ap, sym, subst, inl, inr, arith, if◌then◌else◌, append_assoc, filter_map}
@@ -17,7 +17,7 @@ use Rattle.kadm_run.specs.Importing.{next_number, with_version}
 
 -- ---- the next number
 
--- what is left from a place on
+-- what is left from an index on
 here_is : {A : Type 0} (es : List A) (i j : ℕ) (e : A) → j ≡ suc i → e ≡ get_or es i e → i < length es → drop i es ≡ e ∷ drop j es
 here_is [] i j e next is lt = absurd (omega (arith, lt))
 here_is (x ∷ es) zero j e next is lt = rw (next, is) refl
@@ -44,11 +44,11 @@ pub not_here : (s : Components) (bound : Option ℕ) (es : List KeytabEntry) (i 
     → next_number s bound (drop i es) ≡ found
 not_here s bound es i j e found next is lt fail so_far = ap (next_number s bound) (here_is es i j e next is lt) ∙ rw fail so_far
 
--- if an entry is of the principal and below the bound, it is at most a number
+-- an entry of the principal below the bound is at most this number
 abbrev IsAtMost : Components → Option ℕ → ℕ → KeytabEntry → Type 0
 IsAtMost s bound number e = IsTrue (is_of s e) → IsTrue (is_below bound e.version) → e.version ≤ number
 
--- if an entry is of the principal, it is not below the bound
+-- an entry of the principal is not below the bound
 abbrev IsNotBelow : Components → Option ℕ → KeytabEntry → Type 0
 IsNotBelow s bound e = IsTrue (is_of s e) → is_below bound e.version ≡ false
 
@@ -91,7 +91,7 @@ less_room None s es number fits is = fits
 less_room (Some bound) s es number fits is =
     let next = subst (IsNext s (Some bound) es) is (is_next s (Some bound) es) in grind (arith, nat_tests, next.0)
 
--- every version of a number that is not below the bound is there
+-- every version with a number that is not below the bound was read
 abbrev pub IsSeen : List KeytabEntry → Components → List Etype → Option ℕ → List KeyVersion → Type 0
 IsSeen es s etypes bound versions =
     All (λ e. IsTrue (is_of s e) → is_below bound e.version ≡ false → IsThereIfHeld es s etypes versions e.version) es
@@ -114,7 +114,7 @@ there_now es s etypes versions v =
     last true = refl
     last false = grind (arith, nat_tests)
 
--- with what is there of the next number
+-- with the version of the next number, if there is one
 seen : (es : List KeytabEntry) (s : Components) (etypes : List Etype) (bound : Option ℕ) (old new : List KeyVersion) (number : ℕ)
     → next_number s bound es ≡ Some number → ((n : ℕ) → IsThereIfHeld es s etypes old n → IsThereIfHeld es s etypes new n)
     → IsThereIfHeld es s etypes new number → IsSeen es s etypes bound old → IsSeen es s etypes (Some number) new
@@ -171,14 +171,14 @@ picked_all {A} {B} f xs i out le so_far =
     none_left (y ∷ ys) zero at = absurd (omega (arith, at))
     none_left (y ∷ ys) (suc k) at = none_left ys k (omega (arith, at))
 
--- ---- one version more
+-- ---- one more version
 
 pub some_keys : (number : ℕ) (keys : List ProtocolKey) (versions : List KeyVersion) → 0 < length keys
     → with_version number keys versions ≡ versions ++ record { number = number; keys = keys } ∷ []
 some_keys number [] versions some = absurd (omega (arith, some))
 some_keys number (key ∷ keys) versions some = refl
 
--- what is taken of all numbers that are not below the bound
+-- what was read for all numbers that are not below the bound
 abbrev pub IsTakenTo : List KeytabEntry → Components → List Etype → Option ℕ → List KeyVersion → Type 0
 IsTakenTo es s etypes bound versions = All (λ v. v.keys ≡ keys_at es s etypes v.number) versions × IsSeen es s etypes bound versions
 

@@ -1,4 +1,4 @@
--- All versions but the current one dropped, one after the other.
+-- Dropping all versions but the current one, one after another.
 use Rattle.std.proofs.Common.{◌≡◌, ◌∙◌, ℕ, ◌<◌, ◌==◌, not, Bool, true, false, cond, suc, List, [], ◌∷◌, All, AllPairs}
 use Rattle.std.proofs.Common.{map, take, Some, ap, sym, refl, arith}
 use Rattle.std.proofs.lemmas.Bool.Decides.{nat_tests}
@@ -15,14 +15,14 @@ use Rattle.principals.specs.Database.{Principals}
 use Rattle.principals.specs.declared.change.RowChange.TheVariants as row_changes
 use Rattle.kadm_run.specs.Granting.{IsOlderDropped, older_numbers}
 
--- the keys of these versions dropped, one after the other
+-- the keys of these versions dropped, one version after another
 abbrev pub dropped : Components → List ℕ → Principals → Principals
 dropped who [] p = p
 dropped who (number ∷ numbers) p = dropped who numbers (row_changed p who (row_changes.DropKeys number))
 
 -- ---- the row of one principal
 
--- a row that is set to what it is
+-- setting a row to itself
 same_row : (m : FinMap name_cmp Row) (who : Components) (row : Row) → get m who ≡ Some row → insert m who row ≡ m
 same_row m who row found = same_map name_total name_exact _ _ (λ q. get-insert name_total m who row q ∙ at q (eq_by_cmp name_cmp q who) refl)
   where
@@ -30,7 +30,7 @@ same_row m who row found = same_map name_total name_exact _ _ (λ q. get-insert 
     at q true same = sym (ap (get m) (same_name q who same) ∙ found)
     at q false other = refl
 
--- a row that is set twice
+-- setting a row twice
 set_twice : (m : FinMap name_cmp Row) (who : Components) (a b : Row) → insert (insert m who a) who b ≡ insert m who b
 set_twice m who a b = same_map name_total name_exact _ _ (λ q.
     get-insert name_total (insert m who a) who b q ∙ ap (cond (eq_by_cmp name_cmp q who) (Some b)) (get-insert name_total m who a q)
@@ -60,7 +60,7 @@ dropped_by who (number ∷ numbers) p row found =
     ∙ dropped_by who numbers (record p { rows = insert p.rows who less }) less (set_there p.rows who less)
     ∙ ap (λ rows. record p { rows = rows }) (set_twice p.rows who less (record row { versions = without_each numbers less.versions }))
 
--- a number above all of theirs is that of none
+-- a number above all of theirs belongs to none
 same_without : (number : ℕ) (versions : List KeyVersion) → All (λ v. v.number < number) versions → without number versions ≡ versions
 same_without number [] below = refl
 same_without number (v ∷ vs) below =

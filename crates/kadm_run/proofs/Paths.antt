@@ -1,4 +1,4 @@
--- A path at which a keytab may be written.
+-- A path where a keytab may be written.
 use Rattle.std.proofs.Common.{◌≡◌, ◌∙◌, ℕ, Bool, false, List, [], ◌∷◌, Option, Some, None}
 use Rattle.std.proofs.Common.{Result, Ok, Err, ap, sym, subst, refl}
 use Rattle.std.specs.Prelude.{⊤}
@@ -12,7 +12,7 @@ use Rattle.principals.specs.Value.{database_or, text_database}
 use Rattle.principals.specs.declared.read_fault.ReadFault.{ReadFault}
 use Rattle.kadm_run.specs.Keytabs.{IsFreePath, IsKeytabStart, IsNoDatabase, lock_of}
 
--- no JSON begins with the octet that a keytab begins with
+-- no JSON begins with the first byte of a keytab
 no_json : (octets : List ℕ) → read (5 ∷ octets) ≡ None
 unfolding lex punctuate value word after_number
 no_json octets = refl
@@ -28,7 +28,7 @@ is_err (Err fault) = ⊤
 refused : (text : List ℕ) (p : Principals) → read text ≡ None → text_database text ≡ Ok p → ⊥
 refused text p none is = subst is_err (sym (ap database_or none) ∙ is) tt
 
--- what begins so, or with nothing, is no database
+-- a file that begins with it, or is empty, is no database
 pub no_database : (world : Option World) (path : List ℕ) (octet : Option ℕ) → IsFirst world path octet → IsKeytabStart octet → IsNoDatabase world path
 no_database None path octet first five = tt
 no_database (Some held) path octet first five = λ text p has is. at text p is (subst IsKeytabStart (first ∙ ap first_octet has) five)

@@ -16,7 +16,7 @@ module _ {K V : Type 0} (test : K → Bool) where
   abbrev pub passing : List (K × V) → List K
   passing es = filter test (map (λ e. e.0) es)
 
-  -- an entry that passes is one more
+  -- an entry that passes adds one
   one_passes : (es : List (K × V)) (i : ℕ) (e : K × V) → slice_get es i ≡ Some e → test e.0 ≡ true
       → passing (take (suc i) es) ≡ passing (take i es) ++ e.0 ∷ []
   one_passes [] i e at passes = absurd cc
@@ -26,7 +26,7 @@ module _ {K V : Type 0} (test : K → Bool) where
   one_passes (x ∷ es) (suc i) e at passes =
       with_first (test x.0) x.0 e.0 (passing (take (suc i) es)) (passing (take i es)) (one_passes es i e at passes)
 
-  -- one that does not is none
+  -- one that does not adds none
   none_passes : (es : List (K × V)) (i : ℕ) (e : K × V) → slice_get es i ≡ Some e → test e.0 ≡ false
       → passing (take (suc i) es) ≡ passing (take i es)
   none_passes [] i e at fails = absurd cc
@@ -36,7 +36,7 @@ module _ {K V : Type 0} (test : K → Bool) where
   none_passes (x ∷ es) (suc i) e at fails =
       same_first (test x.0) x.0 (passing (take (suc i) es)) (passing (take i es)) (none_passes es i e at fails)
 
-  -- nothing stands there
+  -- there is no entry at this index
   past_all : (es : List (K × V)) (i : ℕ) → slice_get es i ≡ None → passing (take (suc i) es) ≡ passing (take i es)
   past_all [] zero at = refl
   past_all [] (suc i) at = refl
@@ -44,7 +44,7 @@ module _ {K V : Type 0} (test : K → Bool) where
   past_all (x ∷ es) (suc i) at =
       same_first (test x.0) x.0 (passing (take (suc i) es)) (passing (take i es)) (past_all es i at)
 
-  -- what comes of the entry at a place, if it is there
+  -- the effect of the entry at an index, if there is one
   abbrev pub with_entry : Option (K × V) → List K → List K
   with_entry (Some e) found = cond (test e.0) (found ++ e.0 ∷ []) found
   with_entry None found = found

@@ -1,4 +1,4 @@
--- Principals for whom there are to be no tickets.
+-- Principals that get no tickets issued for them.
 use Rattle.std.specs.Prelude.{◌==◌, Bool, true, false, List, [], ◌∷◌, length, map, Option, Some, None}
 use Rattle.std.specs.List.{filter}
 use Rattle.std.specs.FinMap.{entries, get}
@@ -12,24 +12,24 @@ abbrev pub denied_in : Components → Option Row → Principals → Principals
 denied_in who None p = p
 denied_in who (Some row) p = row_changed p who (row_changes.SetPolicy (record row.policy { service = false }))
 
--- no tickets may be for the principal; what else its row has stays
+-- no tickets may be issued for the principal; the rest of its row is unchanged
 abbrev pub denied : Components → Principals → Principals
 denied who p = denied_in who (get p.rows who) p
 
--- the same of each of these, one after the other
+-- the same for each of these, one after another
 abbrev pub all_denied : List Components → Principals → Principals
 all_denied [] p = p
 all_denied (who ∷ more) p = all_denied more (denied who p)
 
--- a user's name has one component, as alice; that of a service has two, as host/www.example.com
+-- a user's name has one component, such as alice; a service's has two, such as host/www.example.com
 abbrev pub is_user : Components → Bool
 is_user who = length who == 1
 
--- the names of users, in their order
+-- the names of users, in order
 abbrev pub users : Principals → List Components
 users p = filter is_user (map (λ entry. entry.0) (entries p.rows))
 
--- what `migrate` makes of the rows: users that are no services have no tickets
+-- what `migrate` does to the rows: no tickets may be issued for users that are not services
 abbrev pub migrated_rows : Bool → Principals → Principals
 migrated_rows true p = all_denied (users p) p
 migrated_rows false p = p

@@ -1,4 +1,4 @@
--- What the commands make of a database.
+-- The effect of the commands on a database.
 use Rattle.std.specs.Prelude.{◌≡◌, ◌⊎◌, ◌+◌, ◌≤ℤ◌, ◌<ℤ◌, ℕ, ℤ, pos, Bool, List, map, take, drop, Option, Some, None, is_some}
 use Rattle.std.specs.Prelude.{⊤, if◌then◌else◌}
 use Rattle.std.specs.FinMap.{get, insert}
@@ -23,7 +23,7 @@ use Rattle.kadm_run.specs.declared.order.Grant.TheVariants.{New, NewUser, Next, 
 use Rattle.kadm_run.specs.declared.order.KeyChange.{KeyChange}
 use Rattle.kadm_run.specs.declared.order.KeyChange.TheVariants as changes
 
--- a change of a principal that no rule refuses, so that the principal is there, or is not there yet, as the change wants
+-- a change of a principal that no rule refuses, so the principal exists, or doesn't yet, as the change requires
 pub record Makes (p : Principals) (who : Components) (what : RowChange) (new : Principals) : Type 0 where
   pub allowed : row_refusal p who what ≡ None
   pub made : new ≡ row_changed p who what
@@ -34,28 +34,28 @@ pub record Makes (p : Principals) (who : Components) (what : RowChange) (new : P
 abbrev pub older_numbers : List KeyVersion → List ℕ
 older_numbers versions = map (λ version. version.number) (drop 1 versions)
 
--- with the current version of its keys alone
+-- with only the current version of its keys
 abbrev pub current_alone : Row → Row
 current_alone row = record row { versions = take 1 row.versions }
 
--- the principal is there, and keeps its current version alone
+-- the principal exists, and keeps only its current version
 abbrev pub IsOlderDropped : Components → Principals → Principals → Type 0
 IsOlderDropped who p new =
     (row : Row) × (get p.rows who ≡ Some row) × (new ≡ record p { rows = insert p.rows who (current_alone row) })
 
 -- ---- new keys
 
--- a new principal, and no tickets are for it
+-- a new principal, and no tickets may be issued for it
 abbrev pub IsUserAdded : Components → List ProtocolKey → Principals → Principals → Type 0
 IsUserAdded who keys p new =
     (added : Principals) × Makes p who (row_changes.Add keys) added × (new ≡ denied who added)
 
--- the keys become the next version, and all older versions go
+-- the keys become the next version, and all older versions are dropped
 abbrev pub IsReplaced : Components → List ProtocolKey → Principals → Principals → Type 0
 IsReplaced who keys p new =
     (renewed : Principals) × Makes p who (row_changes.NewKeys keys) renewed × IsOlderDropped who renewed new
 
--- what is done for a principal that is there, or is not
+-- the change of a principal that exists, or doesn't
 abbrev pub key_change : Grant → Bool → KeyChange
 key_change New there = changes.New
 key_change NewUser there = changes.NewUser
@@ -88,20 +88,20 @@ abbrev pub IsLasting : Option World → Option ℤ → Type 0
 IsLasting world None = ⊤
 IsLasting world (Some expires) = (now : ℕ) × IsNow world now × (pos now <ℤ expires)
 
--- a password's expiry that is past is cleared, and any other stays
+-- a password's expiry that is past is cleared, and any other is unchanged
 abbrev pub IsCleared : Option World → Components → Principals → Principals → Type 0
 IsCleared world who p new =
     (IsLasting world (password_expiry (get p.rows who)) × (new ≡ p))
     ⊎ ((row : Row) × (get p.rows who ≡ Some row) × IsPast world row.policy.password_expires
     × Makes p who (row_changes.SetPolicy (record row.policy { password_expires = None })) new)
 
--- a field that is a lifetime, with the span that is its value
+-- a field that is a lifetime, with the time span that is its value
 abbrev pub IsLifeOf : Setting → List ℕ → List ℕ → Type 0
 IsLifeOf (settings.Life field life) name value = (life_of name ≡ Some field) × IsSpanText life value
 IsLifeOf (settings.Flag field on) name value = ⊥
 IsLifeOf (settings.Time field time) name value = ⊥
 
--- a field that is a time, with the span from a second on that is its value
+-- a field that is a time, whose value is a time span from a second on
 abbrev pub IsTimeFrom : ℕ → Setting → List ℕ → List ℕ → Type 0
 IsTimeFrom now (settings.Time field (Some second)) name value =
     (time_of name ≡ Some field) × (span : ℕ) × IsSpanText span value × (second ≡ pos (now + span))
@@ -109,19 +109,19 @@ IsTimeFrom now (settings.Time field None) name value = ⊥
 IsTimeFrom now (settings.Flag field on) name value = ⊥
 IsTimeFrom now (settings.Life field life) name value = ⊥
 
--- a field with its value, in an administrator's words, whatever the clock shows
+-- a field with its value, in an administrator's words, which doesn't depend on the clock
 abbrev pub IsFixedValue : Setting → List ℕ → List ℕ → Type 0
 IsFixedValue setting name value =
     IsSettingOf setting name value ⊎ IsDateOf setting name value ⊎ IsLifeOf setting name value
 
--- a field with its value; a time span of a time counts from the clock's moment
+-- a field with its value; if a time is given as a time span, it counts from the clock's moment
 abbrev pub IsValueOf : Option World → Setting → List ℕ → List ℕ → Type 0
 IsValueOf world setting name value =
     IsFixedValue setting name value ⊎ ((now : ℕ) × IsNow world now × IsTimeFrom now setting name value)
 
 -- ---- changes without keys
 
--- the field has the value, whatever it had; what else the policy has stays
+-- the field has the value, whatever it had before; the rest of the policy is unchanged
 abbrev pub IsPolicySet : Option World → List ℕ → List ℕ → Components → Principals → Principals → Type 0
 IsPolicySet world field value who p new =
     (row : Row) × (get p.rows who ≡ Some row) × (setting : Setting) × IsValueOf world setting field value

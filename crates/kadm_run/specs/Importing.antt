@@ -1,4 +1,4 @@
--- The keys that a keytab has of a principal, in all their versions.
+-- The keys of a principal in a keytab, in all their versions.
 use Rattle.std.specs.Prelude.{◌≡◌, ◌==◌, ◌&&◌, ◌⊎◌, ℕ, max, Bool, true, nat_lt, [], ◌∷◌, ◌++◌, List, All, IsTrue, filter_map}
 use Rattle.std.specs.Prelude.{if◌then◌else◌}
 use Rattle.std.specs.Prelude.{Option, Some, None, option_map}
@@ -14,18 +14,18 @@ use Rattle.principal_rows.specs.declared.row.KeyVersion.{KeyVersion}
 use Rattle.principals.specs.Database.{Principals}
 use Rattle.principals.specs.Importing.{import_refusal, imported}
 
--- the key of a version and of a type: of several the last one of the file
+-- the key with a version and a type: of several the last one in the file
 abbrev pub key_at : List KeytabEntry → Components → ℕ → Etype → Option ProtocolKey
 key_at entries service number etype = option_map (λ e. e.key) (newest (passes service (Some etype) (Some number)) entries)
 
--- the keys of a version, of these types, in the order of the types
+-- the keys with a version and these types, in the order of the types
 abbrev pub keys_at : List KeytabEntry → Components → List Etype → ℕ → List ProtocolKey
 keys_at entries service etypes number = filter_map (key_at entries service number) etypes
 
 abbrev pub has_number : ℕ → List KeyVersion → Bool
 has_number number versions = list_any (λ v. v.number == number) versions
 
--- a version of a principal is there, if the keytab has a key of it of these types
+-- a principal's version is there, if the keytab has a key of it with one of these types
 abbrev pub IsThereIfHeld : List KeytabEntry → Components → List Etype → List KeyVersion → ℕ → Type 0
 IsThereIfHeld entries service etypes versions number =
     (keys_at entries service etypes number ≡ []) ⊎ IsTrue (has_number number versions)
@@ -34,7 +34,7 @@ abbrev pub IsComplete : List KeytabEntry → Components → List Etype → List 
 IsComplete entries service etypes versions =
     All (λ e. IsTrue (is_of service e) → IsThereIfHeld entries service etypes versions e.version) entries
 
--- ---- one version after the other, the greatest number first
+-- ---- one version after another, the greatest number first
 
 abbrev pub is_below : Option ℕ → ℕ → Bool
 is_below None number = true
@@ -44,7 +44,7 @@ abbrev pub greater : ℕ → Option ℕ → ℕ
 greater number None = number
 greater number (Some other) = max number other
 
--- the greatest number below a bound of a version of a principal, if there is one
+-- the greatest number below a bound among a principal's versions, if there is one
 abbrev pub next_number : Components → Option ℕ → List KeytabEntry → Option ℕ
 next_number service bound [] = None
 next_number service bound (e ∷ es) =
@@ -58,23 +58,23 @@ with_version number (key ∷ keys) versions = versions ++ record { number = numb
 
 -- ---- all of them
 
--- each version with the keys that the keytab has of it
+-- each version with its keys in the keytab
 abbrev pub AreTaken : List KeytabEntry → Components → List Etype → List KeyVersion → Type 0
 AreTaken entries service etypes versions =
     All (λ v. v.keys ≡ keys_at entries service etypes v.number) versions × IsComplete entries service etypes versions
 
--- each version of a principal with the keys that the keytab has of it, the greatest number first
+-- each version of a principal with its keys in the keytab, the greatest number first
 pub record AreVersionsOf (entries : List KeytabEntry) (service : Components) (etypes : List Etype) (versions : List KeyVersion) : Type 0 where
   pub fit : IsVersions versions
   pub taken : AreTaken entries service etypes versions
 
--- the same, of the keytab that a path has
+-- the same for the keytab at a path
 abbrev pub HasVersions : Option World → List ℕ → Components → List Etype → List KeyVersion → Type 0
 HasVersions world path service etypes versions =
     (octets : List ℕ) × IsRead world path octets × (entries : List KeytabEntry) × IsKeytab entries octets
     × AreVersionsOf entries service etypes versions
 
--- a new principal has these versions of its keys
+-- a new principal with these versions of its keys
 pub record Imports (p : Principals) (who : Components) (versions : List KeyVersion) (new : Principals) : Type 0 where
   pub allowed : import_refusal p who ≡ None
   pub made : new ≡ imported p who versions

@@ -15,31 +15,31 @@ use Rattle.principals.specs.Database.{Principals}
 use Rattle.principals.specs.Value.{text_database}
 use Rattle.kadm_run.specs.declared.order.KeytabOrder.{KeytabOrder}
 
--- ---- where one is written
+-- ---- where it may be written
 
--- the path of the lock of a file
+-- the path of a file's lock
 abbrev pub lock_of : List ℕ → List ℕ
 lock_of path = path ++ codes ".lock"
 
--- what a path has is no database
+-- the path has no database
 abbrev pub IsNoDatabase : Option World → List ℕ → Type 0
 IsNoDatabase world path =
     IfSome world (λ held. (text : List ℕ) → (p : Principals) → held.files path ≡ Some text → text_database text ≡ Ok p → ⊥)
 
--- what a file begins with that a keytab may replace: nothing, or the first octet of a keytab
+-- how a file begins that a keytab may replace: it is empty, or has the first byte of a keytab
 abbrev pub IsKeytabStart : Option ℕ → Type 0
 IsKeytabStart None = ⊤
 IsKeytabStart (Some octet) = octet ≡ 5
 
--- a path of no database, with no lock beside it, that is itself no lock's
+-- the path has no database, it has no lock beside it, and it is not a lock's path
 pub record IsFreePath (world : Option World) (path : List ℕ) : Type 0 where
   pub no_database : IsNoDatabase world path
   pub no_lock : (other : List ℕ) → path ≡ lock_of other → ⊥
   pub alone : IsThere world (lock_of path) false
 
--- ---- what one holds
+-- ---- its content
 
--- the entry of a key
+-- the entry for a key
 abbrev pub entry_of : List ℕ → Name → ℕ → ProtocolKey → KeytabEntry
 entry_of realm name number key = record { realm = realm; name = name; version = number; key = key }
 
@@ -47,31 +47,31 @@ entry_of realm name number key = record { realm = realm; name = name; version = 
 abbrev pub entries_of : List ℕ → Name → KeyVersion → List KeytabEntry
 entries_of realm name version = map (entry_of realm name version.number) version.keys
 
--- what stands before them: the first octets of a keytab, or the start of the one that is added to
+-- what comes before them: the first bytes of a keytab, or the content of the one that is extended
 abbrev pub IsFront : Option World → Bool → List ℕ → List ℕ → Type 0
 IsFront world false path front = front ≡ 5 ∷ 2 ∷ []
 IsFront world true path front =
     (IsThere world path false × (front ≡ 5 ∷ 2 ∷ []))
     ⊎ ((old : List ℕ) × IsRead world path old × (size : ℕ) × (front ≡ take size old))
 
--- the keytab that is added to, if there is one
+-- the keytab that is extended, if there is one
 abbrev pub IsOldKeytab : Option World → Bool → List ℕ → Option (List ℕ) → Type 0
 IsOldKeytab world append path (Some old) = (append ≡ true) × IsRead world path old
 IsOldKeytab world true path None = IsThere world path false
 IsOldKeytab world false path None = ⊤
 
--- a keytab of the current keys of a principal that is there
+-- a keytab with the current keys of a principal that exists
 abbrev pub IsNewKeytab : Principals → Name → List ℕ → Type 0
 IsNewKeytab p name octets =
     (row : Row) × (get p.rows name.components ≡ Some row)
     × (octets ≡ keytab_text (entries_of p.realm name (current row.versions)))
 
--- the entries of a new keytab behind the start of an old one
+-- the entries of a new keytab after the content of an old one
 abbrev pub IsBehind : Option (List ℕ) → List ℕ → List ℕ → Type 0
 IsBehind None new octets = octets ≡ new
 IsBehind (Some old) new octets = (size : ℕ) × (octets ≡ take size old ++ drop 2 new)
 
--- the current keys of a principal that is there, behind what stands before them
+-- the current keys of a principal that exists, after what comes before them
 pub record IsKeytabFor (world : Option World) (to : KeytabOrder) (who : Components) (p : Principals) (octets : List ℕ) : Type 0 where
   pub row : Row
   pub found : get p.rows who ≡ Some row

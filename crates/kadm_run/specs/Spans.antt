@@ -1,4 +1,4 @@
--- Time spans, each with the texts that spell it.
+-- Time spans, each with the texts that denote it.
 use Rattle.std.specs.Prelude.{◌≡◌, ◌*◌, ◌++◌, ℕ, List, codes}
 use Rattle.std.specs.Str.Parse.{IsNumeral, digits_value}
 use Rattle.kadm_run.specs.declared.values.Unit.{Unit}
@@ -16,7 +16,7 @@ unit_seconds Minute = 60
 unit_seconds Hour = 3600
 unit_seconds Day = 86400
 
--- a decimal number with the mark of its unit behind it
+-- a decimal number followed by the letter of its unit
 abbrev pub IsSpanText : ℕ → List ℕ → Type 0
 IsSpanText seconds text =
     (digits : List ℕ) × (unit : Unit) × (text ≡ digits ++ unit_mark unit) × IsNumeral 10 digits

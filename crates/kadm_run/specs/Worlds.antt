@@ -1,4 +1,4 @@
--- What a command leaves of the files.
+-- The effect of a command on the files.
 use Rattle.std.specs.Prelude.{◌≡◌, ℕ, Bool, false, List, ◌∷◌, map, Option, Some, None, option_map, Ok}
 use Rattle.std.specs.Borrow.{Bor}
 use Rattle.serde_json.specs.Written.{compact_text}
@@ -24,28 +24,28 @@ use Rattle.kadm_run.specs.declared.order.RandomGrant.{RandomGrant}
 use Rattle.kadm_run.specs.declared.order.Work.{Work}
 use Rattle.kadm_run.specs.declared.order.Work.TheVariants.{Init, Password, Random, Change, Keytab, Import, Migrate}
 
--- what a path has is the text of a database
+-- the path has the text of a database
 abbrev pub HoldsDatabase : Option World → List ℕ → Principals → Type 0
 HoldsDatabase world db p = (text : List ℕ) × IsRead world db text × (text_database text ≡ Ok p)
 
--- with the text of a database at a path, and every other path as it was
+-- with the text of a database at a path, and every other path unchanged
 abbrev pub with_database : List ℕ → Principals → Option World → Option World
 with_database db p world = option_map (with_file db (compact_text (database_value p))) world
 
--- the path of a file that is named, if one is
+-- the path of a named file, if there is one
 abbrev pub path_of : Option (Bor (List ℕ)) → Option (List ℕ)
 path_of named = option_map (λ path. path.now) named
 
--- ---- what each command does, from the world before it to the one after it
+-- ---- the effect of each command, from the world before it to the one after it
 
--- a first database of a realm, where there was no file
+-- a first database of a realm, at a path without a file
 pub record MadeNew (before : Option World) (db : List ℕ) (etypes : List Etype) (realm : List ℕ) (named : Option (List ℕ)) (after : Option World) : Type 0 where
   pub free : IsThere before db false
   pub seed : List ℕ
   pub drawn : HasSeed before named seed
   pub written : after ≡ with_database db (first_database realm (drawn_keys (seeded seed) etypes)) before
 
--- the same, of the realm that a text names
+-- the same for the realm that a text names
 abbrev pub MadeRealm : Option World → List ℕ → List Etype → List ℕ → Option (List ℕ) → Option World → Type 0
 MadeRealm before db etypes text named after =
     (realm : List ℕ) × IsComponentText realm text × MadeNew before db etypes realm named after
@@ -88,7 +88,7 @@ pub record Changed (before : Option World) (db : List ℕ) (name : List ℕ) (ho
   pub changed : IsChanged before how who old new
   pub written : after ≡ with_database db new before
 
--- a new principal, with the keys that a keytab has of it
+-- a new principal, with its keys from a keytab
 pub record Imported (before : Option World) (db : List ℕ) (etypes : List Etype) (to : ImportOrder) (after : Option World) : Type 0 where
   pub who : Components
   pub spelled : IsNameText who to.name.now
@@ -105,7 +105,7 @@ pub record Migrated (before : Option World) (db : List ℕ) (users_are_no_servic
   pub read : HoldsDatabase before db old
   pub written : after ≡ with_database db (migrated_rows users_are_no_services old) before
 
--- a keytab of a principal's current keys is written, where no database and no lock is, and no other file
+-- a keytab of a principal's current keys is written, at a path without a database or a lock, and no other file
 pub record WroteKeytab (before : Option World) (db : List ℕ) (to : KeytabOrder) (after : Option World) : Type 0 where
   pub who : Components
   pub spelled : IsNameText who to.name.now
@@ -125,6 +125,6 @@ Did before db etypes (Keytab to) after = WroteKeytab before db to after
 Did before db etypes (Import to) after = Imported before db etypes to after
 Did before db etypes (Migrate users_are_no_services) after = Migrated before db users_are_no_services after
 
--- some one of these was done
+-- one of these was done
 abbrev pub DidSome : Option World → Option World → Type 0
 DidSome before after = (db : List ℕ) × (etypes : List Etype) × (work : Work) × Did before db etypes work after

@@ -1,4 +1,4 @@
-//! The commands that make a database, and change one without giving keys.
+//! The commands that make a database, or change one without new keys.
 ghost use Rattle.std.specs.Prelude.{◌≡◌, IfOk, OnOk, OnErr};
 ghost use Rattle.principals.specs.declared.change.RowChange.TheVariants as row_changes;
 ghost use Rattle.kadm_run.specs.Denying.{migrated_rows};
@@ -61,7 +61,7 @@ fn make_new_realm<'p, T: Store, E: Write>(
     write_database(alloc, store, order.db, &database)
 }
 
-/// Changes a principal, and writes the database. A change that is refused writes nothing.
+/// Changes a principal, and writes the database. A refused change writes nothing.
 pub(crate) fn change<'p, T: Store, E: Write>(
     alloc: Global,
     order: &Order<'p>,
@@ -114,7 +114,7 @@ fn drop_keys(
     Ok(apply(alloc, database, who, RowChange::DropKeys(version))?)
 }
 
-/// Checks whether a principal is there, but no such version of it.
+/// Checks whether the principal exists, but has no such version.
 fn lacks_version(database: &Database, who: &Name, version: u32) -> bool {
     match database.get(who) {
         Some(row) => row.versions.find(version).is_none(),
@@ -141,7 +141,7 @@ fn set_policy<T: Store>(
     Ok(apply(alloc, database, who, RowChange::SetPolicy(policy))?)
 }
 
-/// A field with its value, for which the clock is read if the value is a time from now.
+/// Returns a field with its value. It reads the clock if the value is a time from now.
 fn setting<T: Store>(store: &mut T, field: &str, value: &str) -> Result<Setting, Stop<'static>>
     ensures setting { IfOk result (λ setting. IsValueOf (T.world store.old) setting field.now value.now) }
     ensures kept { T.world store.new ≡ T.world store.old }
@@ -155,7 +155,7 @@ fn setting<T: Store>(store: &mut T, field: &str, value: &str) -> Result<Setting,
     }
 }
 
-/// Writes what was read, in the version that is written.
+/// Writes the database that was read, in the current version of the format.
 pub(crate) fn migrate<'p, T: Store, E: Write>(
     alloc: Global,
     order: &Order<'p>,
@@ -172,7 +172,7 @@ pub(crate) fn migrate<'p, T: Store, E: Write>(
     write_database(alloc, store, order.db, &database)
 }
 
-/// Gives rows what older versions of the text do not say: whether tickets may be for users.
+/// Sets what older versions of the format lack: whether tickets may be issued for users.
 fn migrate_rows(
     alloc: Global,
     database: &mut Database,

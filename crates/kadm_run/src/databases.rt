@@ -1,4 +1,4 @@
-//! The database in its file.
+//! The database and its file.
 ghost use Rattle.std.specs.Prelude.{◌≡◌, IfOk, OnOk, OnErr};
 ghost use Rattle.kadm_run.specs.Granting.{Makes};
 ghost use Rattle.kadm_run.specs.Worlds.{HoldsDatabase, with_database};
@@ -13,13 +13,13 @@ use std::alloc::Global;
 use std::io::Write;
 use std::str;
 
-/// How often a command looks again whether the lock is free, a tenth of a second apart.
+/// How often a command checks again whether the lock is free, a tenth of a second apart.
 const LOOKS: u32 = 100;
 
-/// After how many looks a command says that it waits.
+/// How many checks a command makes before it reports that it waits.
 const QUIET_LOOKS: u32 = 10;
 
-/// Keeps other commands from the database until this one is done. Waits at most ten seconds for one that works on it.
+/// Keeps other commands from the database until this one is done. Waits at most ten seconds for another one.
 pub(crate) fn lock_database<'p, T: Store, E: Write>(
     alloc: Global,
     order: &Order<'p>,
@@ -44,13 +44,13 @@ pub(crate) fn lock_database<'p, T: Store, E: Write>(
     }
 }
 
-/// Says that the command waits. If that can't be written there is no one to tell.
+/// Reports that the command waits. If that can't be written, there is nowhere to report it.
 fn tell_waiting<E: Write>(errors: &mut E) {
     let _ = writeln!(errors, "kadm: waiting for another kadm");
     let _ = errors.flush();
 }
 
-/// Reads the database, after other commands are kept from it.
+/// Locks the database, and reads it.
 pub(crate) fn open_database<'p, T: Store, E: Write>(
     alloc: Global,
     order: &Order<'p>,
@@ -64,7 +64,7 @@ pub(crate) fn open_database<'p, T: Store, E: Write>(
     read_database(alloc, store, errors, order.db)
 }
 
-/// Reads the database as it is at this moment. If its text is refused, says where it is wrong.
+/// Reads the current database. If its text is refused, reports where it is wrong.
 pub(crate) fn read_database<'p, T: Store, E: Write>(
     alloc: Global,
     store: &mut T,
@@ -87,7 +87,7 @@ pub(crate) fn read_database<'p, T: Store, E: Write>(
     }
 }
 
-/// Says where a text is wrong, if that can be found and written.
+/// Reports where a text is wrong, if that can be found and written.
 fn tell_place<E: Write>(alloc: Global, errors: &mut E, db: &str, text: &str, fault: ReadFault) {
     if !matches!(fault, ReadFault::NotJson | ReadFault::BadRow) {
         return;
@@ -115,7 +115,7 @@ pub(crate) fn write_database<'p, T: Store>(
     Ok(())
 }
 
-/// Makes a change of a principal's row. A change that is refused leaves the database as it was.
+/// Changes a principal's row. A refused change leaves the database unchanged.
 #[tactic(auto, using(crate::proofs::Doing::made_by))]
 pub(crate) fn apply(
     alloc: Global,

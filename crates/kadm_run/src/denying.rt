@@ -1,4 +1,4 @@
-//! Principals for whom there are to be no tickets.
+//! Principals that get no tickets issued for them.
 ghost use Rattle.std.specs.Prelude.{◌≡◌, IfOk, OnOk, map};
 ghost use Rattle.kadm_run.specs.Denying.{all_denied, denied, is_user, users};
 
@@ -19,7 +19,7 @@ pub(crate) fn deny_users(alloc: Global, database: &mut Database) -> Result<(), C
     Ok(())
 }
 
-/// The names of users.
+/// Returns the names of users.
 fn users_of(alloc: Global, database: &Database) -> Result<Vec<Name>, AllocError>
     ensures { IfOk result (λ names. map (λ name. name.components) names.items ≡ users database.now) }
 {
@@ -34,7 +34,7 @@ fn users_of(alloc: Global, database: &Database) -> Result<Vec<Name>, AllocError>
     Ok(users)
 }
 
-/// Checks whether a name has one component, as that of a user has.
+/// Checks whether a name has one component, like a user's.
 pub(crate) fn is_user(name: &Name) -> bool
     ensures { result ≡ is_user name.now.components }
 {

@@ -24,7 +24,7 @@ use principals::{ChangeFault, Database, RowChange};
 use std::alloc::{AllocError, Global};
 use std::io::Write;
 
-/// Gives a principal the keys of a password, which is asked for before the database is locked.
+/// Gives a principal the keys of a password. It reads the password before it locks the database.
 pub(crate) fn grant_password<'p, T: Store, E: Write>(
     alloc: Global,
     order: &Order<'p>,
@@ -69,7 +69,7 @@ pub(crate) fn grant_random<'p, T: Store, E: Write>(
     Ok(())
 }
 
-/// The keys of a password, with the principal's default salt.
+/// Derives the keys of a password, with the principal's default salt.
 fn keys_of(
     alloc: Global,
     etypes: &[Etype],
@@ -84,7 +84,7 @@ fn keys_of(
     password_keys(alloc, etypes, pass, salt.as_slice())
 }
 
-/// Gives keys to whom `grant` says.
+/// Gives keys to the principal, as `grant` says.
 fn give(
     alloc: Global,
     database: &mut Database,
@@ -115,7 +115,7 @@ fn give_by(
     }
 }
 
-/// Checks whether a principal is there.
+/// Checks whether a principal exists.
 fn is_there(database: &Database, who: &Name) -> bool
     ensures { result ≡ is_some (finite.get database.now.rows who.now.components) }
 {
@@ -125,7 +125,7 @@ fn is_there(database: &Database, who: &Name) -> bool
     }
 }
 
-/// Adds a principal for whom there are to be no tickets.
+/// Adds a principal that gets no tickets issued for it.
 fn add_user(
     alloc: Global,
     database: &mut Database,
@@ -138,7 +138,7 @@ fn add_user(
     deny_service(alloc, database, who)
 }
 
-/// Gives a principal that is there new keys, as its next version.
+/// Gives an existing principal new keys, as its next version.
 fn renew(
     alloc: Global,
     database: &mut Database,
@@ -163,7 +163,7 @@ fn replace(
     drop_older(alloc, database, who)
 }
 
-/// Drops all versions of a principal's keys but the current one. After an `Err` some may be dropped.
+/// Drops all versions of a principal's keys but the current one. After an `Err` some may have been dropped.
 pub(crate) fn drop_older(
     alloc: Global,
     database: &mut Database,
@@ -181,7 +181,7 @@ pub(crate) fn drop_older(
     Ok(())
 }
 
-/// The numbers of all versions but the first, which is the current one.
+/// Returns the numbers of all versions but the first, which is the current one.
 fn older_numbers(alloc: Global, versions: &[KeyVersion]) -> Result<Vec<u32>, AllocError>
     ensures { IfOk result (λ numbers. numbers.items ≡ older_numbers versions.now) }
 {
@@ -225,7 +225,7 @@ fn clear_expiry<'p, T: Store>(
     Ok(true)
 }
 
-/// The policy of a principal whose password expires, and when it does.
+/// Returns the policy of a principal whose password expires, and when it does.
 fn expiring(database: &Database, who: &Name) -> Option<(Policy, Second)>
     ensures some { IfSome result (λ found. (row : rows.Row) × (finite.get database.now.rows who.now.components ≡ Some row)
         × (row.policy ≡ found.0) × (row.policy.password_expires ≡ Some found.1)) }
@@ -240,7 +240,7 @@ fn expiring(database: &Database, who: &Name) -> Option<(Policy, Second)>
     }
 }
 
-/// Says that `password_expires` was cleared, if that can be written.
+/// Reports that `password_expires` was cleared, if that can be written.
 fn tell_cleared<E: Write>(errors: &mut E, name: &str) {
     let _ = writeln!(
         errors,
@@ -248,7 +248,7 @@ fn tell_cleared<E: Write>(errors: &mut E, name: &str) {
     );
 }
 
-/// Says what became of a principal that got random keys.
+/// Reports the key version of a principal that got random keys.
 fn tell_version<E: Write>(errors: &mut E, to: RandomGrant<'_>, database: &Database, who: &Name) {
     let Some(row) = database.get(who) else {
         return;

@@ -1,4 +1,4 @@
-//! The command that adds a principal with the keys that a keytab has of it, in all their versions.
+//! The command that adds a principal with its keys from a keytab, in all their versions.
 ghost use Rattle.std.specs.Prelude.{◌≡◌, ◌∷◌, ◌&&◌, IfOk, OnErr, OnOk};
 ghost use Rattle.cred_files.specs.Keytab.{is_of};
 ghost use Rattle.kadm_run.specs.Importing.{AreTaken, AreVersionsOf, HasVersions, Imports, greater, is_below, key_at};
@@ -18,7 +18,7 @@ use principals::{ChangeFault, Database};
 use std::alloc::{AllocError, Global};
 use std::io::Write;
 
-/// Adds a principal with the keys that a keytab has of it.
+/// Adds a principal with its keys from a keytab.
 pub(crate) fn import<'p, T: Store, E: Write>(
     alloc: Global,
     order: &Order<'p>,
@@ -49,7 +49,7 @@ fn add_imported(
     database.import(alloc, who, versions)
 }
 
-/// Reads the keys of these types that the keytab at a path has of a principal.
+/// Reads a principal's keys with these types from the keytab at a path.
 fn read_versions<'p, T: Store>(
     alloc: Global,
     store: &mut T,
@@ -67,7 +67,7 @@ fn read_versions<'p, T: Store>(
     versions_of(alloc, &keytab, database.realm(), who, etypes)
 }
 
-/// The versions of a principal's keys, of these types.
+/// Returns the versions of a principal's keys with these types.
 fn versions_of(
     alloc: Global,
     keytab: &Keytab,
@@ -84,7 +84,7 @@ fn versions_of(
     }
 }
 
-/// Each version of a principal, if the keytab has a key of it of these types; the greatest number first.
+/// Returns each version of a principal that has a key with one of these types in the keytab; the greatest number first.
 fn taken_versions(
     alloc: Global,
     keytab: &Keytab,
@@ -104,7 +104,7 @@ fn taken_versions(
     Ok(versions)
 }
 
-/// Adds a version with these keys, if there is one.
+/// Adds a version with these keys, if there is a key.
 #[tactic(auto, using(crate::proofs::Imports::some_keys))]
 fn push_version(
     alloc: Global,
@@ -122,7 +122,7 @@ fn push_version(
     Ok(())
 }
 
-/// The greatest number below a bound, if there is one, of a version of a principal's keys.
+/// Returns the greatest number below a bound among the versions of a principal's keys, if there is one.
 fn number_below(
     entries: &[KeytabEntry],
     realm: &[u8],
@@ -141,7 +141,7 @@ fn number_below(
     found
 }
 
-/// Checks whether an entry is of the principal, and its version below the bound.
+/// Checks whether an entry is the principal's, and its version is below the bound.
 fn may_be_next(entry: &KeytabEntry, realm: &[u8], who: &Name, bound: Option<u32>) -> bool
     ensures { result ≡ (is_of (realm.now ∷ who.now.components) entry.now && is_below bound entry.now.version) }
 {
@@ -172,7 +172,7 @@ fn is_entry_of(entry: &KeytabEntry, realm: &[u8], who: &Name) -> bool
     entry.realm.as_slice() == realm && entry.name.is_same(who)
 }
 
-/// The keys of a version, of these types and in their order.
+/// Returns the keys of a version with these types, in their order.
 fn keys_at(
     alloc: Global,
     keytab: &Keytab,
@@ -192,7 +192,7 @@ fn keys_at(
     Ok(keys)
 }
 
-/// The key of a version and of a type.
+/// Returns the key with a version and a type.
 fn key_at(keytab: &Keytab, realm: &[u8], who: &Name, etype: Etype, number: u32) -> Option<Key>
     ensures { result ≡ key_at keytab.now (realm.now ∷ who.now.components) number etype }
 {

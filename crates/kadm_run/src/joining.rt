@@ -1,13 +1,13 @@
-//! Two keytabs joined, octet by octet, so that entries of other key types and all times stay as they are.
+//! Joins two keytabs byte by byte, so that entries with other key types and all times are unchanged.
 ghost use Rattle.std.specs.Prelude.{◌≡◌, ◌++◌, ◌<◌, ℕ, IfOk, IfSome, drop, length, take};
 
 use cred_files::FileFault;
 use std::alloc::Global;
 
-/// How many octets stand before the first part of a keytab.
+/// How many bytes come before the first part of a keytab.
 const MAGIC_LEN: usize = 2;
 
-/// The keytab with the parts of the old one, which was read as one, and then those of the new one.
+/// Returns the keytab with the parts of the old one, which was read as a keytab, and then those of the new one.
 pub(crate) fn joined(alloc: Global, old: &[u8], new: &[u8]) -> Result<Vec<u8>, FileFault>
     ensures { IfOk result (λ all. (size : ℕ) × (all.items ≡ take size old.now ++ drop 2 new.now)) }
 {
@@ -20,7 +20,7 @@ pub(crate) fn joined(alloc: Global, old: &[u8], new: &[u8]) -> Result<Vec<u8>, F
     Ok(all)
 }
 
-/// What is behind the parts: nothing, or a length of zero and what nobody reads.
+/// Returns what follows the parts: nothing, or a length of zero and unused bytes.
 fn end_of(parts: &[u8]) -> &[u8] {
     let mut rest = parts;
     while let Some(behind) = behind_part(rest) {
@@ -29,7 +29,7 @@ fn end_of(parts: &[u8]) -> &[u8] {
     rest
 }
 
-/// What is behind the part that octets begin with.
+/// Returns what follows the first part of the bytes.
 fn behind_part(octets: &[u8]) -> Option<&[u8]>
     ensures shorter { IfSome result (λ behind. length behind.now < length octets.now) }
 {

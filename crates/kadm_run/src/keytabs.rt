@@ -20,14 +20,14 @@ use principals::{ChangeFault, Database};
 use std::alloc::{AllocError, Global};
 use std::io::Write;
 
-/// What the path of a lock ends in.
+/// The end of a lock's path.
 const LOCK_END: &str = ".lock";
 
-/// The octet that a keytab begins with, and no text of a database.
+/// The first byte of a keytab. No text of a database begins with it.
 const KEYTAB_START: u8 = 5;
 
-/// Writes a keytab of a principal's current keys. With `append` the keytab keeps what it has, in front of them, and its
-/// owner, group and mode.
+/// Writes a keytab of a principal's current keys. With `append` the keytab keeps its content, before the new entries,
+/// and its owner, group and mode.
 pub(crate) fn write_keytab<'p, T: Store, E: Write>(
     alloc: Global,
     order: &Order<'p>,
@@ -45,8 +45,8 @@ pub(crate) fn write_keytab<'p, T: Store, E: Write>(
     put_octets(alloc, store, to, &octets)
 }
 
-/// Refuses a path that is a lock's or has a lock beside it, as each database has that a command writes and the one that
-/// this command locks, whatever its path is called; and one that has anything but a keytab.
+/// Refuses a path that is a lock's, or has a lock beside it, and one with anything but a keytab. Each database that a
+/// command writes has a lock, and so has the one that this command locks, whatever its path is called.
 fn check_path<'p, T: Store>(alloc: Global, store: &mut T, path: &'p str) -> Result<(), Stop<'p>>
     ensures free { OnOk result (IsFreePath (T.world store.old) path.now) }
     ensures kept { T.world store.new ≡ T.world store.old }
@@ -64,7 +64,7 @@ fn check_path<'p, T: Store>(alloc: Global, store: &mut T, path: &'p str) -> Resu
     Ok(())
 }
 
-/// Checks whether a file that begins so is no keytab and not empty.
+/// Checks whether a file with this first byte is no keytab and not empty.
 fn is_other_file(first: Option<u8>) -> bool
     ensures { IsFalse result → IsKeytabStart first }
 {
@@ -74,7 +74,7 @@ fn is_other_file(first: Option<u8>) -> bool
     }
 }
 
-/// Checks whether a lock stands beside a file.
+/// Checks whether there is a lock beside a file.
 fn has_lock<'p, T: Store>(alloc: Global, store: &mut T, path: &'p str) -> Result<bool, Stop<'p>>
     ensures there { IfOk result (λ found. IsThere (T.world store.old) (lock_of path.now) found) }
     ensures kept { T.world store.new ≡ T.world store.old }
@@ -89,7 +89,7 @@ fn has_lock<'p, T: Store>(alloc: Global, store: &mut T, path: &'p str) -> Result
     }
 }
 
-/// The octets of the keytab.
+/// Returns the bytes of the keytab.
 fn new_octets<'p, T: Store>(
     alloc: Global,
     store: &mut T,
@@ -105,7 +105,7 @@ fn new_octets<'p, T: Store>(
     Ok(behind(alloc, old, new)?)
 }
 
-/// Writes the octets of the keytab.
+/// Writes the bytes of the keytab.
 fn put_octets<'p, T: Store>(
     alloc: Global,
     store: &mut T,
@@ -123,7 +123,7 @@ fn put_octets<'p, T: Store>(
     Ok(())
 }
 
-/// What a keytab has that is added to.
+/// Returns the content of a keytab that is extended.
 fn read_old<'p, T: Store>(
     alloc: Global,
     store: &mut T,
@@ -140,7 +140,7 @@ fn read_old<'p, T: Store>(
     }
 }
 
-/// The octets of a file that is a keytab.
+/// Returns the bytes of a file that is a keytab.
 fn read_judged<'p, T: Store>(
     alloc: Global,
     store: &mut T,
@@ -154,7 +154,7 @@ fn read_judged<'p, T: Store>(
     Ok(octets)
 }
 
-/// What an old keytab has that was judged, and behind it the entries of a new one.
+/// Returns the content of an old keytab that was checked, followed by the entries of a new one.
 fn behind(
     alloc: Global,
     old: Option<Vec<u8>>,
@@ -168,7 +168,7 @@ fn behind(
     }
 }
 
-/// A keytab of a principal's current keys.
+/// Returns a keytab of a principal's current keys.
 fn keytab_of(alloc: Global, database: &Database, name: &Name) -> Result<Vec<u8>, Stop<'static>>
     ensures { IfOk result (λ octets. IsNewKeytab database.now name.now octets.items) }
 {
@@ -181,7 +181,7 @@ fn keytab_of(alloc: Global, database: &Database, name: &Name) -> Result<Vec<u8>,
     Ok(Keytab::new(alloc, &entries)?.write(alloc)?)
 }
 
-/// The keys of a version, as entries of a keytab.
+/// Returns the keys of a version, as entries of a keytab.
 fn entries_of(
     alloc: Global,
     realm: &[u8],

@@ -1,6 +1,6 @@
-//! The administrator's tool: a realm's database is made, changed and listed, and keys of it go into keytabs.
+//! The administration tool: makes, changes and lists a realm's database, and writes its keys to keytabs.
 //!
-//! `kadm_run` takes the words of one command line and does what they say to the files of a `Store`.
+//! `kadm_run` takes the words of one command line and does what they say with the files of a `Store`.
 #![tactic(auto)]
 
 mod changes;

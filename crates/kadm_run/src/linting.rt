@@ -1,4 +1,4 @@
-//! The command that prints what a careful administrator looks at again.
+//! The command that prints what an administrator should check.
 ghost use Rattle.std.specs.Prelude.{◌≡◌};
 
 use crate::databases::read_database;
@@ -14,8 +14,8 @@ use std::alloc::{AllocError, Global};
 use std::io::Write;
 use text_fields::UtcDate;
 
-/// Prints a line for each thing that is odd about a principal, in the order of the names' texts: `NAME expired DATE`,
-/// `NAME password_expired DATE`, `NAME older_versions COUNT`, `NAME no_preauth` or `NAME may_be_service`.
+/// Prints a line for each oddity of a principal, in the order of the names' texts: `NAME expired DATE`, `NAME
+/// password_expired DATE`, `NAME older_versions COUNT`, `NAME no_preauth` or `NAME may_be_service`.
 pub(crate) fn print_lint<'p, T: Store, W: Write, E: Write>(
     alloc: Global,
     db: &'p str,
@@ -37,7 +37,7 @@ fn sorted_findings(
     now: u64,
 ) -> Result<Vec<String>, AllocError> {
     let mut lines = findings(alloc, database, now)?;
-    // no text of a name has an octet as low as the space behind it, so lines are ordered as names are
+    // no text of a name has a byte as low as the space after it, so lines have the order of names
     lines.sort()?;
     Ok(lines)
 }
@@ -56,7 +56,7 @@ fn findings(alloc: Global, database: &Database, now: u64) -> Result<Vec<String>,
     Ok(lines)
 }
 
-/// Adds what of a principal has expired.
+/// Adds the times of a principal that have passed.
 fn push_times(
     alloc: Global,
     lines: &mut Vec<String>,
@@ -76,12 +76,12 @@ fn push_times(
     Ok(())
 }
 
-/// A time that is past.
+/// Returns a time, if it has passed.
 fn past(time: Option<Second>, now: u64) -> Option<Second> {
     time.filter(|second| is_past(*second, now))
 }
 
-/// Adds what the keys of a principal are open to.
+/// Adds the risks of a principal's keys.
 fn push_keys(
     alloc: Global,
     lines: &mut Vec<String>,
@@ -98,7 +98,8 @@ fn push_keys(
     Ok(())
 }
 
-/// Adds a user for whom there may be tickets, since such a ticket is sealed with a key that may be of a password.
+/// Adds a user for whom tickets may be issued: such a ticket is encrypted with a key that may be derived from a
+/// password.
 fn push_service(
     alloc: Global,
     lines: &mut Vec<String>,

@@ -1,4 +1,4 @@
-//! The commands that print what a database holds, but no key.
+//! The commands that print the contents of a database, without keys.
 ghost use Rattle.std.specs.Prelude.{◌≡◌};
 
 use crate::databases::read_database;
@@ -13,8 +13,8 @@ use std::io;
 use std::io::Write;
 use text_fields::{Setting, UtcDate};
 
-/// Prints `NAME VERSION TYPES` for each principal whose name fits, in the order of the names' texts. A long line goes on
-/// with `EXPIRES PASSWORD_EXPIRES DISABLED VERSIONS SERVICE`.
+/// Prints `NAME VERSION TYPES` for each principal whose name fits, in the order of the names' texts. A long line
+/// continues with `EXPIRES PASSWORD_EXPIRES DISABLED VERSIONS SERVICE`.
 pub(crate) fn print_list<'p, T: Store, W: Write, E: Write>(
     alloc: Global,
     db: &'p str,
@@ -45,7 +45,7 @@ fn sorted_lines(
     long: bool,
 ) -> Result<Vec<String>, AllocError> {
     let mut lines = lines_of(alloc, database, like, long)?;
-    // no text of a name has an octet as low as the space behind it, so lines are ordered as names are
+    // no text of a name has a byte as low as the space after it, so lines have the order of names
     lines.sort()?;
     Ok(lines)
 }
@@ -68,7 +68,7 @@ fn lines_of(
     Ok(lines)
 }
 
-/// Checks whether a name's text is one that is asked for.
+/// Checks whether a name's text fits the pattern, if there is one.
 fn fits(like: Option<&str>, name: &str) -> bool {
     match like {
         Some(pattern) => is_like(pattern, name),
@@ -107,7 +107,7 @@ fn push_time(line: &mut String, time: Option<Second>) -> Result<(), AllocError> 
     Ok(())
 }
 
-/// The numbers of the keys' types, joined by commas.
+/// Returns the numbers of the keys' types, joined by commas.
 fn types_of(alloc: Global, keys: &KeyList) -> Result<String, AllocError> {
     let mut types = String::new(alloc);
     for key in keys.keys() {
@@ -119,8 +119,8 @@ fn types_of(alloc: Global, keys: &KeyList) -> Result<String, AllocError> {
     Ok(types)
 }
 
-/// Prints a principal's policy, a field a line as `policy` takes it, and then `version NUMBER TYPES` for each version,
-/// the current one first.
+/// Prints a principal's policy, with one field on each line as `policy` accepts it, and then `version NUMBER TYPES` for
+/// each version, the current one first.
 pub(crate) fn print_row<'p, T: Store, W: Write, E: Write>(
     alloc: Global,
     store: &mut T,

@@ -1,4 +1,4 @@
-//! The words of a command line, and what they order.
+//! The words of a command line, and the order that they give.
 ghost use Rattle.std.specs.Prelude.{◌≡◌};
 ghost use Rattle.kadm_run.specs.Granting.{key_change};
 
@@ -12,70 +12,70 @@ use std::alloc::Global;
 use std::convert::AsStr;
 use text_fields::number_u32;
 
-/// What one command line orders.
+/// The order that one command line gives.
 #[derive(Drop)]
 pub(crate) struct Order<'a> {
     /// The path of the database.
     pub db: &'a str,
     pub task: Task<'a>,
-    /// The types of keys that are made.
+    /// The types of the new keys.
     pub etypes: Vec<Etype>,
 }
 
-/// Why words order nothing.
+/// Why words give no order.
 #[derive(Clone, Copy)]
 pub(crate) enum OrderFault<'a> {
-    /// The words don't fit, and this is what they should be.
+    /// The words don't fit. This is what they should be.
     BadValue(&'static str),
-    /// A policy has no field of this name.
+    /// A policy has no field with this name.
     NoField(&'a str),
-    /// A field of a policy does not take this value.
+    /// A field of a policy does not accept this value.
     NoSetting { field: &'a str, value: &'a str },
     Memory,
 }
 
-/// What is to be done. Paths and names stand as they were given.
+/// What to do. Paths and names are as they were given.
 #[derive(Clone, Copy)]
 pub(crate) enum Task<'a> {
     Print(Print<'a>),
     Write(Work<'a>),
 }
 
-/// What is printed of a database.
+/// What to print of a database.
 #[derive(Clone, Copy)]
 pub(crate) enum Print<'a> {
     /// A line for each principal, or for those whose names fit a pattern. A long line has more columns.
     List { like: Option<&'a str>, long: bool },
-    /// A line for each thing that is odd about a principal.
+    /// A line for each oddity of a principal.
     Lint,
     Show { name: &'a str },
 }
 
-/// What is written. A seed that is in no file is the system's.
+/// What to write. A seed without a file is the system's.
 #[derive(Clone, Copy)]
 pub(crate) enum Work<'a> {
     Init {
         realm: &'a str,
         seed: Option<&'a str>,
     },
-    /// A principal gets keys of a password.
+    /// Gives a principal the keys of a password.
     Password(PasswordGrant<'a>),
-    /// A principal gets random keys.
+    /// Gives a principal random keys.
     Random(RandomGrant<'a>),
-    /// A principal is changed, but gets no keys.
+    /// Changes a principal, without new keys.
     Change {
         name: &'a str,
         how: ChangeArgs<'a>,
     },
     Keytab(KeytabOrder<'a>),
-    /// A principal is added with the keys of a keytab.
+    /// Adds a principal with keys from a keytab.
     Import(ImportOrder<'a>),
     Migrate {
         users_are_no_services: bool,
     },
 }
 
-/// Who gets keys of a password.
+/// The principal that gets the keys of a password.
 #[derive(Clone, Copy)]
 pub(crate) struct PasswordGrant<'a> {
     pub name: &'a str,
@@ -83,7 +83,7 @@ pub(crate) struct PasswordGrant<'a> {
     pub grant: Grant,
 }
 
-/// Who gets random keys.
+/// The principal that gets random keys.
 #[derive(Clone, Copy)]
 pub(crate) struct RandomGrant<'a> {
     pub name: &'a str,
@@ -91,7 +91,7 @@ pub(crate) struct RandomGrant<'a> {
     pub grant: Grant,
 }
 
-/// Whose current keys go into which keytab, and whether it keeps what it has.
+/// The principal whose current keys are written, the keytab for them, and whether it keeps its content.
 #[derive(Clone, Copy)]
 pub(crate) struct KeytabOrder<'a> {
     pub name: &'a str,
@@ -99,7 +99,7 @@ pub(crate) struct KeytabOrder<'a> {
     pub append: bool,
 }
 
-/// A principal that is added, and the keytab that has its keys.
+/// The principal to add, and the keytab with its keys.
 #[derive(Clone, Copy)]
 pub(crate) struct ImportOrder<'a> {
     pub name: &'a str,
@@ -109,30 +109,30 @@ pub(crate) struct ImportOrder<'a> {
 /// Where a password comes from.
 #[derive(Clone, Copy)]
 pub(crate) struct PasswordArgs<'a> {
-    /// A password that is in no file is asked for.
+    /// A password without a file is read from standard input.
     pub file: Option<&'a str>,
-    /// Takes also a password that is empty, or ends in a carriage return.
+    /// Also accepts a password that is empty, or ends in a carriage return.
     pub any: bool,
 }
 
-/// To whom keys are given.
+/// The principal that gets keys.
 #[derive(Clone, Copy, PartialEq, Eq)]
 pub(crate) enum Grant {
-    /// To a new principal.
+    /// A new principal.
     New,
-    /// To a new principal, for whom there are to be no tickets.
+    /// A new principal that gets no tickets issued for it.
     NewUser,
-    /// To a principal that is there, as a new version beside the older ones.
+    /// A principal that exists. The keys are a new version beside the older ones.
     Next,
     /// The same, and the older versions are dropped.
     Replace,
-    /// To a principal that is there as `Next` says, or to a new one.
+    /// A principal that exists, as in `Next`, or a new one.
     Either,
-    /// To a principal that is there as `Replace` says, or to a new one.
+    /// A principal that exists, as in `Replace`, or a new one.
     EitherReplace,
 }
 
-/// What is done for a principal that is known to be there, or not.
+/// The change of a principal that is known to exist, or not to.
 #[derive(Clone, Copy)]
 pub(crate) enum KeyChange {
     New,
@@ -142,7 +142,7 @@ pub(crate) enum KeyChange {
 }
 
 impl Grant {
-    /// What is done, by whether the principal is there.
+    /// Returns the change, given whether the principal exists.
     pub(crate) fn key_change(self, there: bool) -> KeyChange
         ensures { result ≡ key_change self there }
     {
@@ -187,7 +187,7 @@ const VALUES: &str = "\
 true or false; a second since 1970, a date (2027-01-01, 2027-01-01T12:00:00Z), a time from now (10h, 7d) or never; \
 seconds, or a lifetime (10h, 7d)";
 
-// What stands behind `error:` where the words don't fit.
+// The text after `error:` if the words don't fit.
 
 const NO_VERSION: &str =
     "--version takes a number, 0 to 4294967295; '--older' drops all versions but the current one";
@@ -202,7 +202,7 @@ const NO_TYPES: &str = "\
 
 const NO_COMMAND: &str = "no command of 'kadm --help'";
 
-/// Reads the words, the program's name in front.
+/// Reads the words; the first is the program's name.
 pub(crate) fn read_args<'a, S: AsStr>(
     alloc: Global,
     args: &'a [S],
@@ -213,7 +213,7 @@ pub(crate) fn read_args<'a, S: AsStr>(
     with_subcommands(alloc, kadm, SUBCOMMANDS)?.try_get_matches_from(args)
 }
 
-/// What the words order.
+/// Returns the order that the words give.
 pub(crate) fn read_order<'a>(
     alloc: Global,
     matches: &ArgMatches<'a>,
@@ -232,7 +232,7 @@ pub(crate) fn read_order<'a>(
     }
 }
 
-/// Which words don't fit.
+/// Returns which words don't fit.
 fn fault_of<'a>(sub: &str, args: &ArgMatches<'a>) -> OrderFault<'a> {
     match sub {
         "add" => OrderFault::BadValue(NO_SOURCE),
@@ -253,7 +253,7 @@ fn policy_fault<'a>(args: &ArgMatches<'a>) -> OrderFault<'a> {
     OrderFault::NoSetting { field, value }
 }
 
-/// The types of the keys that are made: all four, where none are named.
+/// Returns the types of the new keys: all four, if none are named.
 fn read_key_types(alloc: Global, args: &ArgMatches<'_>) -> Result<Vec<Etype>, EtypesFault> {
     match args.get_str("types") {
         Some(text) => read_etypes(alloc, text),
@@ -261,7 +261,7 @@ fn read_key_types(alloc: Global, args: &ArgMatches<'_>) -> Result<Vec<Etype>, Et
     }
 }
 
-/// The path of the database and what is to be done; `None` if the words don't fit.
+/// Returns the path of the database and what to do; `None` if the words don't fit.
 fn task_of<'a>(sub: &str, args: &ArgMatches<'a>) -> Option<(&'a str, Task<'a>)> {
     let db = args.get_str("db")?;
     let task = match args.get_str("name") {
@@ -271,7 +271,7 @@ fn task_of<'a>(sub: &str, args: &ArgMatches<'a>) -> Option<(&'a str, Task<'a>)> 
     Some((db, task))
 }
 
-/// What is to be done to a principal, or with it.
+/// Returns what to do with a principal.
 fn task_on<'a>(sub: &str, name: &'a str, args: &ArgMatches<'a>) -> Option<Task<'a>> {
     match sub {
         "show" => Some(Task::Print(Print::Show { name })),
@@ -308,7 +308,7 @@ fn work_on<'a>(sub: &str, name: &'a str, args: &ArgMatches<'a>) -> Option<Work<'
     }
 }
 
-/// A principal that is added; `None` where random keys are to be of a password.
+/// Returns the principal to add; `None` if the words give a password with random keys.
 fn added<'a>(name: &'a str, args: &ArgMatches<'a>) -> Option<Work<'a>> {
     let password = password_args(args);
     if !args.get_flag(RANDOM) {
@@ -328,7 +328,7 @@ fn added<'a>(name: &'a str, args: &ArgMatches<'a>) -> Option<Work<'a>> {
     }))
 }
 
-/// A principal with a password is a user, unless it is to be a service.
+/// Returns the grant for a new principal: one with a password is a user, unless it is to be a service.
 fn new_grant(args: &ArgMatches<'_>) -> Grant {
     if args.get_flag(SERVICE) {
         Grant::New
@@ -360,7 +360,7 @@ fn either_grant(args: &ArgMatches<'_>) -> Grant {
     }
 }
 
-/// The path of a keytab; `None` where it is that of the database, which it would replace.
+/// Returns the path of a keytab; `None` if it is that of the database, which it would replace.
 fn keytab_path<'a>(args: &ArgMatches<'a>) -> Option<&'a str> {
     let out = args.get_str("out")?;
     if out == args.get_str("db")? {
@@ -378,7 +378,7 @@ fn change_args<'a>(sub: &str, args: &ArgMatches<'a>) -> Option<ChangeArgs<'a>> {
     }
 }
 
-/// A version, or the older ones; `None` where both are named, or neither is.
+/// Returns a version, or the older ones; `None` if both are named, or neither is.
 fn drop_args<'a>(args: &ArgMatches<'a>) -> Option<ChangeArgs<'a>> {
     match (args.get_str("version"), args.get_flag(OLDER)) {
         (Some(version), false) => Some(ChangeArgs::Drop {
@@ -389,7 +389,7 @@ fn drop_args<'a>(args: &ArgMatches<'a>) -> Option<ChangeArgs<'a>> {
     }
 }
 
-/// What is to be done to a whole database.
+/// Returns what to do with a whole database.
 fn task_on_all<'a>(sub: &str, args: &ArgMatches<'a>) -> Option<Task<'a>> {
     match sub {
         "init" => Some(Task::Write(Work::Init {

@@ -1,4 +1,4 @@
-//! Passwords that are set.
+//! New passwords.
 ghost use Rattle.std.specs.Prelude.{◌≡◌, IfOk};
 ghost use Rattle.kadm_run.specs.Worlds.{IsPasswordOf, path_of};
 
@@ -33,7 +33,7 @@ pub(crate) fn new_password<'p, T: Store, E: Write>(
     Ok(pass)
 }
 
-/// Checks whether a password is none that anybody means to set: it is empty, or its line ends as on other systems.
+/// Checks whether a password is one that nobody means to set: it is empty, or its line ends as on other systems.
 fn is_unlikely(pass: &[u8]) -> bool {
     match pass.last() {
         Some(octet) => *octet == b'\r',
@@ -41,7 +41,7 @@ fn is_unlikely(pass: &[u8]) -> bool {
     }
 }
 
-/// Asks for the password of a principal, by its name and realm.
+/// Asks for the password of a principal, with its name and realm.
 fn asked_password<'p, T: Store, E: Write>(
     alloc: Global,
     order: &Order<'p>,
@@ -58,7 +58,7 @@ fn asked_password<'p, T: Store, E: Write>(
     ask_twice(alloc, store, name, &realm)
 }
 
-/// Says that a terminal shows what is typed, and how to hide it, if that can be written.
+/// Warns that a terminal shows what is typed, and says how to hide it, if that can be written.
 fn tell_echo<E: Write>(errors: &mut E) {
     let _ = writeln!(
         errors,
@@ -67,7 +67,7 @@ fn tell_echo<E: Write>(errors: &mut E) {
     let _ = errors.flush();
 }
 
-/// The text of the realm's name.
+/// Returns the text of the realm's name.
 fn realm_text<'p, T: Store, E: Write>(
     alloc: Global,
     order: &Order<'p>,
@@ -80,7 +80,7 @@ fn realm_text<'p, T: Store, E: Write>(
     Ok(component_to_text(alloc, database.realm())?)
 }
 
-/// A terminal is asked twice, and what is given the second time has to be the same.
+/// Asks twice at a terminal. Both answers have to be the same.
 fn ask_twice<T: Store>(
     alloc: Global,
     store: &mut T,

@@ -1,6 +1,6 @@
 //! Patterns of names.
 
-/// Checks whether a text fits a pattern, in which each `*` stands for any octets.
+/// Checks whether a text fits a pattern, in which each `*` stands for any bytes.
 pub(crate) fn is_like(pattern: &str, text: &str) -> bool {
     let Some((front, rest)) = pattern.split_once('*') else {
         return pattern == text;
@@ -18,7 +18,7 @@ fn ends_like(pattern: &str, text: &str) -> bool {
     };
     let mut left = text;
     for part in parts.split('*') {
-        // the first place leaves the most for what is behind it
+        // the first match leaves the most for what follows it
         let Some((_, behind)) = left.split_once(part) else {
             return false;
         };

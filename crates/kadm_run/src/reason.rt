@@ -1,25 +1,25 @@
-//! Why a command is refused, in a word and in words.
+//! Why a command is refused, in one word and in a sentence.
 
 /// Why a command is refused.
 #[derive(Clone, Copy)]
 pub(crate) enum Reason {
-    /// What stands for a principal is no name.
+    /// The text for a principal is not a name.
     BadName,
-    /// What stands for a realm is none.
+    /// The text for a realm is not one.
     BadRealm,
-    /// Another command works on the database.
+    /// Another command is using the database.
     Locked,
-    /// The file of a new realm is there already.
+    /// The file of a new realm already exists.
     FileExists,
     NotJson,
     BadVersion,
     BadRow,
     NoTicketGranter,
-    /// A password that is given twice is another the second time.
+    /// The second answer for a password differs from the first.
     Mismatch,
     /// A password is empty, or ends in a carriage return.
     BadPassword,
-    /// A time from now is past the year 9999.
+    /// A time from now is after the year 9999.
     BadTime,
     Exists,
     Protected,
@@ -36,15 +36,15 @@ pub(crate) enum Reason {
     BadMagic,
     Truncated,
     BadEntry,
-    /// A keytab has no key of the principal, or one of version 0.
+    /// A keytab has no key of the principal, or one with version 0.
     NoKeys,
 }
 
-/// The option whose word is a keytab that is read.
+/// The option that names a keytab to read.
 pub(crate) const KEYTAB: &str = "keytab";
 
 impl Reason {
-    /// The word for it on standard output.
+    /// Returns the word for it on standard output.
     pub(crate) fn name(self) -> &'static str {
         match self {
             Reason::BadName | Reason::BadRealm => "BadName",
@@ -70,7 +70,7 @@ impl Reason {
         }
     }
 
-    /// What it means, for standard error.
+    /// Returns what it means, for standard error.
     pub(crate) fn text(self) -> &'static str {
         match self {
             Reason::BadName => "no name is written so; it stands without @REALM",
@@ -100,7 +100,7 @@ impl Reason {
         }
     }
 
-    /// The option whose word it is of.
+    /// Returns the option whose value it concerns.
     pub(crate) fn option(self) -> &'static str {
         match self {
             Reason::BadRealm => "realm",

@@ -1,4 +1,4 @@
-//! Why a command ends before it is done, and what it then prints.
+//! Why a command ends early, and what it then prints.
 ghost use Rattle.std.specs.Prelude.{◌≡◌, IfOk};
 ghost use Rattle.kadm_run.specs.Ends.{IsFailed, IsStatusOf};
 ghost use Rattle.kadm_run.specs.declared.status.Status.TheVariants.{Failed, Refused};
@@ -15,19 +15,19 @@ use std::alloc::{AllocError, AllocFailed};
 use std::io;
 use std::io::Write;
 
-/// What stands in place of a path where memory ran out.
+/// The name in place of a path if memory ran out.
 const MEMORY: &str = "memory";
 
-/// What stands in place of a path where what a command prints is not taken.
+/// The name in place of a path if standard output can't be written.
 const STANDARD_OUTPUT: &str = "standard output";
 
-/// Why a command ends before it is done.
+/// Why a command ends early.
 #[derive(Clone, Copy)]
 pub(crate) enum Stop<'p> {
-    /// The words are at fault, and that has been printed.
+    /// The words are wrong, and that has been printed.
     Usage,
     Refused(Reason),
-    /// A file is refused or failed, or what stands in place of one.
+    /// A file, or what takes its place, is refused or failed.
     File(FileFault<'p>),
 }
 
@@ -54,7 +54,7 @@ impl<T: Drop> From<AllocFailed<T>> for Stop<'_> {
     }
 }
 
-/// An error of what is written to standard output.
+/// Converts an error on standard output.
 impl From<io::Error> for Stop<'_> {
     ghost use Rattle.kadm_run.specs.Ends.{IsFailed};
 
@@ -65,7 +65,7 @@ impl From<io::Error> for Stop<'_> {
     }
 }
 
-/// Of a principal.
+/// Converts a fault in a principal's name.
 impl From<NameFault> for Stop<'_> {
     fn from(fault: NameFault) -> Self {
         match fault {
@@ -116,13 +116,13 @@ impl From<cred_files::FileFault> for Stop<'_> {
             cred_files::FileFault::BadMagic => Stop::Refused(Reason::BadMagic),
             cred_files::FileFault::Truncated => Stop::Refused(Reason::Truncated),
             cred_files::FileFault::BadEntry => Stop::Refused(Reason::BadEntry),
-            // the others are of caches
+            // the others concern caches
             _ => Stop::from(AllocError),
         }
     }
 }
 
-/// Of the keys that a keytab has of a principal.
+/// Converts a fault in a principal's keys from a keytab.
 impl From<KeyListFault> for Stop<'_> {
     fn from(fault: KeyListFault) -> Self {
         match fault {
@@ -138,7 +138,7 @@ impl<'p> From<FileFault<'p>> for Stop<'p> {
     }
 }
 
-/// What is wrong with the text of a realm.
+/// Returns what is wrong with the text of a realm.
 pub(crate) fn of_realm(fault: NameFault) -> Stop<'static> {
     match fault {
         NameFault::BadName => Stop::Refused(Reason::BadRealm),
@@ -146,8 +146,8 @@ pub(crate) fn of_realm(fault: NameFault) -> Stop<'static> {
     }
 }
 
-/// Prints why a command ended early: a word for programs to `out`; to `errors` what it was of, and why. The result is
-/// the status.
+/// Reports why a command ended early: a word for programs on `out`, and the subject and reason on `errors`. Returns the
+/// status.
 pub(crate) fn report<W: Write, E: Write>(
     out: &mut W,
     errors: &mut E,
@@ -172,7 +172,8 @@ pub(crate) fn report<W: Write, E: Write>(
     }
 }
 
-/// The word of an option, if it is not empty; where the subcommand has no such option, that of the keytab which it reads.
+/// Returns the word of an option, if it is not empty. If the subcommand has no such option, returns that of the keytab
+/// to read.
 fn word_of<'a>(matches: &Result<ArgMatches<'a>, Error>, option: &str) -> Option<&'a str> {
     let Ok(matches) = matches else {
         return None;
@@ -182,7 +183,7 @@ fn word_of<'a>(matches: &Result<ArgMatches<'a>, Error>, option: &str) -> Option<
     if word.is_empty() { None } else { Some(word) }
 }
 
-/// Says of what a refusal is, and what it means. If that can't be written there is no one to tell.
+/// Reports the subject of a refusal, and what it means. If that can't be written, there is nowhere to report it.
 fn tell_reason<E: Write>(errors: &mut E, word: Option<&str>, reason: Reason) {
     let _ = match word {
         Some(word) => writeln!(errors, "kadm: {word}: {}", reason.text()),
@@ -193,7 +194,7 @@ fn tell_reason<E: Write>(errors: &mut E, word: Option<&str>, reason: Reason) {
     }
 }
 
-/// Says how the characters of a name are written that can't stand in it as they are.
+/// Explains how to write the characters of a name that have to be escaped.
 fn tell_spelling<E: Write>(errors: &mut E, word: &str) -> io::Result<()> {
     for letter in word.chars() {
         if !letter.is_ascii_graphic() {

@@ -35,7 +35,7 @@ const LIVES: &str = "seconds (36000), or a number with s, m, h or d behind it (1
 const TIMES: &str = "\
 a date (2027-01-01, 2027-01-01T12:00:00Z), a second since 1970, a time from now (10h, 7d) or never";
 
-/// What the field of this name takes. `None` if a policy has no such field.
+/// Returns what the field with this name accepts. `None` if a policy has no such field.
 pub(crate) fn taken_by(field: &str) -> Option<&'static str> {
     if Setting::of(field, "true").is_some() {
         Some(FLAGS)
@@ -48,7 +48,7 @@ pub(crate) fn taken_by(field: &str) -> Option<&'static str> {
     }
 }
 
-/// Checks whether a field takes a value.
+/// Checks whether a field accepts a value.
 pub(crate) fn is_setting(field: &str, value: &str) -> bool {
     setting_of(field, value).is_some() || setting_from(field, value, 0).is_some()
 }
@@ -66,7 +66,7 @@ pub(crate) fn setting_of(field: &str, value: &str) -> Option<Setting>
     }
 }
 
-/// Reads a field with a lifetime of a unit.
+/// Reads a field with a lifetime, which is a number and a unit.
 fn life_setting(field: &str, value: &str) -> Option<Setting>
     ensures { IfSome result (λ setting. IsLifeOf setting field.now value.now) }
 {
@@ -89,7 +89,7 @@ pub(crate) fn setting_from(field: &str, value: &str, now: u64) -> Option<Setting
     }
 }
 
-/// The second of so many seconds since 1970.
+/// Returns the moment this many seconds after the start of 1970.
 pub(crate) fn second_of(seconds: u64) -> Option<Second>
     ensures { IfSome result (λ second. second ≡ pos seconds) }
 {
@@ -107,7 +107,7 @@ pub(crate) fn is_past(expires: Second, now: u64) -> bool
     }
 }
 
-/// Reads a time span, in seconds: a decimal number with a unit behind it, which is `s`, `m`, `h` or `d`.
+/// Reads a time span, in seconds: a decimal number followed by its unit, which is `s`, `m`, `h` or `d`.
 pub(crate) fn span(text: &str) -> Option<u32>
     ensures { IfSome result (λ seconds. IsSpanText seconds text.now) }
 {

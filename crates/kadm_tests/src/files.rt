@@ -1,4 +1,4 @@
-//! Files of the two formats, and files that stock tools wrote.
+//! Files of the two formats, and files from stock tools.
 ghost use Rattle.std.specs.Prelude.{IfOk, ◌<◌, ◌^◌, length};
 ghost use Rattle.cred_files.specs.Cache.{FitsButForTimes};
 ghost use Rattle.cred_files.specs.Principal as formats;

@@ -1,4 +1,4 @@
-//! What commands take where no file is named, and the lock between two commands.
+//! What commands use if no file is named, and the lock between two commands.
 use crate::commands::INIT;
 use crate::steps::Step::{
     Absent, Asked, Copy, Draw, Input, Keep, Leaves, Letters, Run, Same, Says, Tells,

@@ -1,4 +1,4 @@
-//! New keys, and what else an administrator does with principals: values in their own words, lists, and two commands at
+//! New keys, and an administrator's other work on principals: values in their own words, lists, and two commands at
 //! once.
 use crate::commands::INIT;
 use crate::steps::Step::{

@@ -1,4 +1,4 @@
-//! What a row shows: policies by seconds and by dates, types of keys, and keytabs with older keys.
+//! The contents of a row: policies with seconds and with dates, types of keys, and keytabs with older keys.
 use crate::commands::INIT;
 use crate::steps::Step::{
     Contains, Copy, FailsAtEach, Holds, NamesFields, Put, Refuses, Run, Same,

@@ -1,6 +1,7 @@
-//! Steps over files in memory: command lines, and what happens beside them, each with what it has to bring.
+//! Steps over files in memory: command lines, and what happens beside them, each with its expected result.
 //!
-//! A store is let go in `file_after` alone, and all else borrows it: proofs about its end take long for each place.
+//! A store is dropped only in `file_after`, and everything else borrows it: proofs about a drop take long at each
+//! place.
 use file_store::{LONGEST_FILE, MemoryStore};
 use kadm_run::kadm_run;
 use principal_rows::Policy;

@@ -1,4 +1,4 @@
-//! The store over the system's files (`file_store`). Each test removes its files in the end.
+//! The store over the system's files (`file_store`). Each test removes its files at the end.
 use file_store::{FileStore, Store};
 use std::fs::Permissions;
 use std::os::unix::fs::{MetadataExt, PermissionsExt};

@@ -1,4 +1,5 @@
-//! The client's tool: `kclient kinit ..`, `kclient kvno ..` and `kclient klist ..`, as `kclient --help` lists them.
+//! The command-line client: `kclient kinit ..`, `kclient kvno ..`, `kclient klist ..` and others, as `kclient --help`
+//! lists them.
 #![tactic(auto)]
 
 use client_login::{KdcClient, Kdcs, Transports};
@@ -10,12 +11,12 @@ use std::env::VarError;
 use std::process::ExitCode;
 use std::{env, fmt, io};
 
-/// Why the command line is not looked at.
+/// Why the command line can't be used.
 #[derive(Clone, Copy)]
 enum Fault {
     /// The clock can't be read, or shows no moment of the years 1970 to 9999.
     Clock(io::Error),
-    /// The words of the command line can't be read; `InvalidData` where one is not UTF-8.
+    /// The words of the command line can't be read; `InvalidData` if one is not UTF-8.
     Args(io::Error),
     Memory,
 }
@@ -39,7 +40,7 @@ impl From<AllocError> for Fault {
 fn main(rt: HostRuntime) -> ExitCode {
     match run(&rt) {
         Ok(status) => ExitCode::from(status),
-        // where these can't be written there is no one to tell
+        // if these can't be written, there is nowhere to report it
         Err(Fault::Args(error)) if error.kind() == io::ErrorKind::InvalidData => {
             let _ = println!(rt; "error: a word is not UTF-8");
             ExitCode::from(USAGE)
@@ -52,7 +53,7 @@ fn main(rt: HostRuntime) -> ExitCode {
     }
 }
 
-/// The status of the program.
+/// Runs the program and returns its status.
 fn run(rt: &HostRuntime) -> Result<u8, Fault> {
     let at = now(rt).map_err(Fault::Clock)?;
     let alloc = rt.alloc();
@@ -80,7 +81,7 @@ fn run(rt: &HostRuntime) -> Result<u8, Fault> {
     ))
 }
 
-/// A variable of the environment, of what was read of it.
+/// Returns the variable of the environment for this result of reading it.
 fn variable(read: &Result<String, VarError>) -> Result<Variable<'_>, Fault> {
     match read {
         Ok(value) if value.is_empty() => Ok(Variable::Absent),

@@ -1,4 +1,4 @@
--- A credential that is put into an empty cache.
+-- Putting a credential into an empty cache.
 use Rattle.std.proofs.Common.{◌≡◌, ◌∙◌, ap, List, ℕ, [], ◌∷◌}
 use Rattle.cred_files.specs.Cache.{CacheContents, put_first}
 use Rattle.cred_files.specs.declared.credential.Credential.{Credential}

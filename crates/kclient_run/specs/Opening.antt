@@ -1,4 +1,4 @@
--- A ticket that a service's keytab opens (RFC 4120, section 5.3).
+-- A ticket that a service's keytab decrypts (RFC 4120, section 5.3).
 use Rattle.std.specs.Prelude.{◌≡◌, ℕ, List, ◌∷◌, Option, Some, None, option_map}
 use Rattle.cred_files.specs.Keytab.{entry_for}
 use Rattle.cred_files.specs.declared.keytab_entry.KeytabEntry.{KeytabEntry}
@@ -23,12 +23,12 @@ ticket_key keytab ticket =
     (λ e. e.key)
     (entry_for keytab (service_of ticket) (type_numbered ticket.enc_part.etype) ticket.enc_part.kvno)
 
--- what a key opens a ticket to, by the usage of tickets
+-- what a key decrypts a ticket to, with the key usage of tickets
 abbrev pub part_under : Key → Ticket → Option EncTicketPart
 part_under key ticket =
     opened_as enc_ticket_part key.etype key.bytes (usage_number usages.Ticket) ticket.enc_part.cipher
 
--- the octets are a ticket that the keytab's key for it opens
+-- the bytes encode a ticket that the keytab's key for it decrypts
 pub record IsOpened (keytab : List KeytabEntry) (octets : List ℕ) : Type 0 where
   pub ticket : Ticket
   pub key : Key

@@ -1,30 +1,30 @@
-//! What the words of a command line say.
+//! Reading the words of a command line.
 use crate::file_names::{NameOf, path_in};
 use crate::options::asks_for_first;
 use clap::ArgMatches;
 use client_login::{Again, Wishes};
 use text_fields::number_u32;
 
-/// What a command line orders, but for its places.
+/// The order in a command line, without its places.
 #[derive(Clone, Copy)]
 pub(crate) enum Task<'a> {
     /// A first ticket, by `kinit`.
     First(FirstArgs<'a>),
-    /// A ticket that the client has, once more, by `kinit`.
+    /// A renewed or validated ticket, by `kinit`.
     Again(AgainArgs<'a>),
     Kvno(KvnoArgs<'a>),
     Klist(KlistArgs<'a>),
     Kdestroy,
 }
 
-/// The words of a first ticket.
+/// The words for a first ticket.
 #[derive(Clone, Copy)]
 pub(crate) struct FirstArgs<'a> {
     pub name: &'a str,
     /// The realm's name; absent: the default realm.
     pub realm: Option<&'a str>,
     pub secret: SecretArgs<'a>,
-    /// The name of the service; absent: the ticket-granting one.
+    /// The name of the service; absent: the ticket-granting service.
     pub service: Option<&'a str>,
     /// The path of the seed's file; absent: the seed is the system's.
     pub seed: Option<&'a str>,
@@ -40,7 +40,7 @@ pub(crate) struct AgainArgs<'a> {
     pub seed: Option<&'a str>,
 }
 
-/// Where the client's key is, or the password that it is made of.
+/// Where the client's key is, or the password that it is derived from.
 #[derive(Clone, Copy)]
 pub(crate) enum SecretArgs<'a> {
     /// The path of the password's file.
@@ -51,26 +51,26 @@ pub(crate) enum SecretArgs<'a> {
     Asked,
 }
 
-/// The words of `kvno`, but for its names.
+/// The words of `kvno`, without its names.
 #[derive(Clone, Copy)]
 pub(crate) struct KvnoArgs<'a> {
-    /// The path of the keytab that has to open each ticket.
+    /// The path of the keytab that has to decrypt each ticket.
     pub keytab: Option<&'a str>,
     /// The path of the seed's file; absent: the seed is the system's.
     pub seed: Option<&'a str>,
-    /// Whether each ticket is asked for, also where the cache has a good one.
+    /// Whether to request each ticket, even if the cache has one that can be used.
     pub fresh: bool,
 }
 
 #[derive(Clone, Copy)]
 pub(crate) struct KlistArgs<'a> {
-    /// The path of the keytab; absent: a cache is listed.
+    /// The path of the keytab; absent: lists a cache.
     pub keytab: Option<&'a str>,
-    /// Whether nothing is printed, and the status alone says whether the cache has a good ticket.
+    /// Whether to print nothing, so that only the status says whether the cache has a ticket that can be used.
     pub silent: bool,
 }
 
-// What stands behind `error:` where options don't go together, or a value is none.
+// The text after `error:` if options don't go together, or a value is invalid.
 
 const NO_LIFE: &str =
     "--life takes seconds, 0 to 4294967295, or minutes, hours or days, as 30m, 8h or 7d";
@@ -93,7 +93,7 @@ const TWO_WAYS: &str = "--renew and --validate don't go together";
 const AGAIN: &str = "\
 --renew and --validate take the ticket of the cache: no option of a first ticket goes with them";
 
-/// What the words behind a command's name order; else what is wrong with them.
+/// Returns the task that the words after a command's name order, or what is wrong with them.
 pub(crate) fn task_of<'a>(command: &str, args: &ArgMatches<'a>) -> Result<Task<'a>, &'static str> {
     match command {
         "kinit" => kinit_task(args),
@@ -116,7 +116,7 @@ fn klist_args<'a>(args: &ArgMatches<'a>) -> Result<KlistArgs<'a>, &'static str> 
     Ok(KlistArgs { keytab, silent })
 }
 
-/// The path of a keytab, which may be absent; else what is wrong with its name.
+/// Returns the path of a keytab, if there is one, or what is wrong with its name.
 fn keytab_path<'a>(args: &ArgMatches<'a>) -> Result<Option<&'a str>, &'static str> {
     match args.get_str("keytab") {
         Some(name) => Ok(Some(path_in(name, NameOf::Keytab)?)),
@@ -134,7 +134,8 @@ fn kinit_task<'a>(args: &ArgMatches<'a>) -> Result<Task<'a>, &'static str> {
     }
 }
 
-/// What is to be done with a ticket that the client has; `None` where a first ticket is asked. Else what is wrong.
+/// Returns what to do with a ticket that the client has; `None` if a first ticket is requested. Fails with what is
+/// wrong.
 fn again(args: &ArgMatches<'_>) -> Result<Option<Again>, &'static str> {
     let again = match (args.get_flag("renew"), args.get_flag("validate")) {
         (true, true) => return Err(TWO_WAYS),
@@ -162,7 +163,7 @@ fn first_args<'a>(args: &ArgMatches<'a>) -> Result<FirstArgs<'a>, &'static str> 
     })
 }
 
-/// A client's name and its realm, which stands behind an `@` or behind `--realm`.
+/// Returns a client's name and its realm, which follows an `@` or `--realm`.
 fn name_and_realm<'a>(
     name: &'a str,
     realm: Option<&'a str>,
@@ -193,7 +194,7 @@ fn wishes(args: &ArgMatches<'_>) -> Result<Wishes, &'static str> {
     })
 }
 
-/// The number behind an option, which may be absent; `None` where the word is no number.
+/// Returns the number after an option, which may be absent; `None` if the word is not a number.
 fn number_in(args: &ArgMatches<'_>, name: &str) -> Option<Option<u32>> {
     match args.get_str(name) {
         Some(text) => Some(Some(number_u32(text)?)),
@@ -201,10 +202,10 @@ fn number_in(args: &ArgMatches<'_>, name: &str) -> Option<Option<u32>> {
     }
 }
 
-/// How many seconds the units of a time have.
+/// The seconds in each unit of time.
 const UNITS: &[(char, u32)] = &[('s', 1), ('m', 60), ('h', 3_600), ('d', 86_400)];
 
-/// The seconds behind an option, which may be absent; `None` where the word is no time.
+/// Returns the seconds after an option, which may be absent; `None` if the word is not a time.
 fn seconds_in(args: &ArgMatches<'_>, name: &str) -> Option<Option<u32>> {
     match args.get_str(name) {
         Some(text) => Some(Some(seconds(text)?)),
@@ -212,7 +213,7 @@ fn seconds_in(args: &ArgMatches<'_>, name: &str) -> Option<Option<u32>> {
     }
 }
 
-/// A number of seconds, or of the unit that stands behind it; `None` where it is none, or more than 4294967295 seconds.
+/// Reads a number of seconds, or of the unit after it; `None` if it is no number, or more than 4294967295 seconds.
 fn seconds(text: &str) -> Option<u32> {
     for (unit, count) in UNITS {
         if let Some(number) = text.strip_suffix(*unit) {

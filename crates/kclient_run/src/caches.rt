@@ -1,4 +1,4 @@
-//! Credentials go into a cache, and the cache into its file.
+//! Puts credentials into a cache, and writes the cache to its file.
 ghost use Rattle.std.specs.Prelude.{◌≡◌, IfOk, OnErr, OnOk};
 ghost use Rattle.cred_files.specs.Cache.{put_first};
 ghost use Rattle.kclient_run.specs.Caches.{new_cache};
@@ -11,7 +11,7 @@ use cred_files::{Cache, Credential};
 use file_store::{read_file, write_file};
 use std::alloc::Global;
 
-/// Makes a new cache of the credential's client, with the credential.
+/// Makes a new cache for the credential's client, with the credential.
 #[tactic(auto, unfolding(cred_files::specs::Cache::cache_head))]
 fn make_cache(alloc: Global, credential: &Credential) -> Result<Cache, Stop>
     ensures { IfOk result (λ cache. cache ≡ new_cache credential.now) }
@@ -37,7 +37,7 @@ pub(crate) fn put(alloc: Global, cache: &mut Cache, credential: &Credential) -> 
     Ok(cache.put(alloc, credential)?)
 }
 
-/// Writes a new cache of the credential's client, with the credential.
+/// Writes a new cache for the credential's client, with the credential.
 pub(crate) fn write_new_cache<T: CacheStore>(
     alloc: Global,
     store: &mut T,
@@ -71,7 +71,7 @@ pub(crate) fn write_cache<T: CacheStore>(
     of(write_file(alloc, store, path, &octets), Place::Cache)
 }
 
-/// The cache's credential of the ticket-granting service.
+/// Returns the cache's ticket-granting ticket.
 pub(crate) fn granting_ticket(alloc: Global, cache: &Cache) -> Result<&Credential, Stop> {
     let service = granting_service(alloc, &cache.principal().realm)?;
     match cache.find(&service) {
@@ -80,7 +80,7 @@ pub(crate) fn granting_ticket(alloc: Global, cache: &Cache) -> Result<&Credentia
     }
 }
 
-/// Removes a cache of the user's own.
+/// Removes the user's own cache.
 pub(crate) fn remove_cache<T: CacheStore>(store: &mut T, path: &str) -> Result<(), Stop> {
     let found = store.standing(path);
     if matches!(&found, Ok(Standing::Free)) {

@@ -1,6 +1,6 @@
 //! The error codes of a KDC in words (RFC 4120, section 7.5.9).
 
-/// What a KDC says by each code.
+/// What each code of a KDC means.
 const CODES: &[(i32, &str)] = &[
     (1, "the client's entry in the database has expired"),
     (2, "the service's entry in the database has expired"),
@@ -104,7 +104,7 @@ const CODES: &[(i32, &str)] = &[
     (76, "the certificate is of another KDC"),
 ];
 
-/// What a KDC says by a code.
+/// Returns what a code of a KDC means.
 pub(crate) fn code_text(code: i32) -> &'static str {
     for (number, text) in CODES {
         if *number == code {

@@ -11,7 +11,7 @@ use krb5_conf::{default_realm, kdc_address, kdcs};
 use std::alloc::{AllocError, Global};
 use std::net::SocketAddr;
 
-/// Reads the `krb5.conf`. The lines of the files that it includes stand in place of the lines that include them.
+/// Reads the `krb5.conf`. The lines of an included file replace the line that includes it.
 pub(crate) fn read_config<T: CacheStore>(
     alloc: Global,
     defaults: &Defaults<'_>,
@@ -54,7 +54,7 @@ fn push_line<T: CacheStore>(
     Ok(whole.push(b'\n')?)
 }
 
-/// What stands behind a word and a blank at the start of a line.
+/// Returns what follows a word and a space at the start of a line.
 fn behind<'a>(line: &'a str, word: &str) -> Option<&'a str> {
     let rest = line.strip_prefix(word)?;
     let path = rest.trim();
@@ -92,7 +92,7 @@ fn push_files<T: CacheStore>(
     Ok(())
 }
 
-/// Whether MIT's library reads a file of this name in a folder that is included.
+/// Checks whether MIT's library reads a file with this name in an included folder.
 fn is_config_name(name: &str) -> bool {
     !name.starts_with('.') && (name.ends_with(".conf") || has_plain_name(name))
 }
@@ -125,8 +125,8 @@ pub(crate) fn configured_realm(alloc: Global, config: &[u8]) -> Result<String, S
     }
 }
 
-/// Returns the addresses of a realm's KDCs. Hosts are looked up by their names; those without an address are passed over,
-/// while there is an address of another.
+/// Returns the addresses of a realm's KDCs. It looks hosts up by name, and skips those without an address if another
+/// has one.
 pub(crate) fn configured_kdcs<X: HostNames>(
     alloc: Global,
     names: &mut X,
@@ -151,7 +151,7 @@ fn kdcs_of_texts<X: HostNames>(
     Ok(found)
 }
 
-/// Whether one of the KDCs has an address.
+/// Checks whether one of the KDCs has an address.
 fn check_found(alloc: Global, kdcs: &Kdcs, realm: &[u8]) -> Result<(), Unplaced> {
     if !kdcs.addresses.is_empty() {
         return Ok(());
@@ -195,7 +195,7 @@ fn add_each(kdcs: &mut Kdcs, addresses: &[SocketAddr]) -> Result<(), AllocError>
     Ok(())
 }
 
-/// The addresses of a host, where at least one is known.
+/// Returns the addresses of a host, if at least one is known.
 fn addresses_of<X: HostNames>(
     alloc: Global,
     names: &mut X,
@@ -212,7 +212,7 @@ fn addresses_of<X: HostNames>(
 /// The port of a KDC (RFC 4120, section 7.2.1).
 const KDC_PORT: u16 = 88;
 
-/// A host's name, and the port behind it or else that of a KDC.
+/// Returns a host's name, and the port after it, or else that of a KDC.
 fn host_and_port(text: &str) -> (&str, u16) {
     if let Some((host, port)) = text.rsplit_once(':')
         && let Ok(port) = port.parse()

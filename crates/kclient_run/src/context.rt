@@ -1,21 +1,21 @@
-//! What a command works with.
+//! The context of a command.
 use crate::faults::Stop;
 use client_login::{KdcClient, LoginFault};
 use std::alloc::Global;
 
-/// What a command takes from outside, beside its words: memory, files, and a client of KDCs, whose addresses the command
-/// finds.
+/// What a command uses besides its words: memory, files, and a client of KDCs, whose addresses the command finds.
 #[derive(Drop)]
 pub struct Context<T, X> {
     pub alloc: Global,
     pub store: T,
     pub client: KdcClient<X>,
-    /// By how many seconds the KDC's clock is ahead, if a command took the KDC's time in place of its own.
+    /// By how many seconds the KDC's clock is ahead, if the command uses the KDC's time instead of its own.
     pub ahead: Option<i64>,
 }
 
 impl<T, X> Context<T, X> {
-    /// Takes the time of a KDC that refuses because the clocks differ, once a command; else the fault ends the command.
+    /// Takes the time of a KDC that refuses because the clocks differ, once per command. Otherwise the fault ends the
+    /// command.
     pub(crate) fn take_clock(&mut self, fault: LoginFault) -> Result<(), Stop> {
         if self.ahead.is_some() {
             return Err(Stop::from(fault));

@@ -1,7 +1,7 @@
-//! What the environment says of words that a command line lacks.
+//! The environment's defaults for words that a command line lacks.
 use crate::file_names::{NameOf, path_in};
 
-/// What stands for words that a command line lacks.
+/// The defaults for words that a command line lacks.
 #[derive(Clone, Copy)]
 pub struct Defaults<'a> {
     /// The value of `KRB5CCNAME`: the cache, as `FILE:PATH` or as a path.
@@ -13,24 +13,24 @@ pub struct Defaults<'a> {
 /// The value of a variable of the environment.
 #[derive(Clone, Copy)]
 pub enum Variable<'a> {
-    /// It is not there, or empty.
+    /// It is not set, or empty.
     Absent,
     /// It is not UTF-8.
     NotUtf8,
     Text(&'a str),
 }
 
-/// The file that is read where `KRB5_CONFIG` names none.
+/// The file to read if `KRB5_CONFIG` names none.
 const CONFIG: &str = "/etc/krb5.conf";
 
-// What stands behind `error:` where a variable is not UTF-8.
+// The text after `error:` if a variable is not UTF-8.
 
 const CACHE_NOT_UTF8: &str = "KRB5CCNAME is not UTF-8: --cache takes a file";
 
 const CONFIG_NOT_UTF8: &str = "KRB5_CONFIG, which names the krb5.conf to be read, is not UTF-8";
 
 impl<'a> Defaults<'a> {
-    /// The path of the cache, if it is named; else what is wrong with its name.
+    /// Returns the path of the cache, if it is named, or what is wrong with its name.
     pub(crate) fn cache_path(&self) -> Option<Result<&'a str, &'static str>> {
         match self.cache {
             Variable::Absent => None,
@@ -39,7 +39,7 @@ impl<'a> Defaults<'a> {
         }
     }
 
-    /// The path of the `krb5.conf`; else what is wrong with its name.
+    /// Returns the path of the `krb5.conf`, or what is wrong with its name.
     pub(crate) fn config_path(&self) -> Result<&'a str, &'static str> {
         match self.config {
             Variable::Absent => Ok(CONFIG),

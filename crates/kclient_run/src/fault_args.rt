@@ -1,4 +1,4 @@
-//! What a fault is of, in the words of the command line.
+//! The subject of a fault, in the words of the command line.
 ghost use Rattle.std.specs.Prelude.{◌≡◌, ◌<◌, [], length};
 
 use crate::args::{FirstArgs, KvnoArgs, SecretArgs};
@@ -7,27 +7,27 @@ use crate::places::Places;
 use std::fmt;
 use std::net::SocketAddr;
 
-/// What stands for a password that is in no file.
+/// The name of a password that is in no file.
 const STANDARD_INPUT: &str = "standard input";
 
-/// What stands for a seed that is in no file.
+/// The name of a seed that is in no file.
 const SYSTEM_SOURCE: &str = "the system's random octets";
 
-/// What a fault is of, as standard error names it.
+/// The subject of a fault, as standard error names it.
 #[derive(Clone, Copy)]
 pub(crate) enum Subject<'a> {
-    /// A file, KDCs, or what stands in place of them.
+    /// A file, KDCs, or a name in their place.
     Thing(&'a str),
     /// A KDC that answered.
     Kdc(SocketAddr),
-    /// The word of an option. Where it lacks, or is empty, the option stands alone.
+    /// The word of an option. If it is missing or empty, the option is named alone.
     Word {
         option: &'static str,
         word: Option<&'a str>,
     },
 }
 
-/// What a fault is of where memory ran out.
+/// The subject of a fault if memory ran out.
 pub(crate) const MEMORY: Subject<'static> = Subject::Thing("memory");
 
 impl fmt::Display for Subject<'_> {
@@ -44,7 +44,7 @@ impl fmt::Display for Subject<'_> {
     }
 }
 
-/// The word behind an option, or the option where its word is empty: so each fault names what it is of.
+/// Returns the word after an option, or the option if its word is empty, so that each fault names its subject.
 pub(crate) fn word_of<'a>(option: &'static str, word: &'a str) -> &'a str
     ensures empty { word.now ≡ [] → result.now ≡ option.now }
     ensures other { 0 < length word.now → result.now ≡ word.now }
@@ -52,7 +52,7 @@ pub(crate) fn word_of<'a>(option: &'static str, word: &'a str) -> &'a str
     if word.is_empty() { option } else { word }
 }
 
-/// What a fault of a first ticket is of.
+/// Returns the subject of a fault of a first ticket.
 pub(crate) fn first_subject<'a>(
     places: &'a Places,
     args: &'a FirstArgs<'_>,
@@ -83,7 +83,7 @@ fn secret_word<'a>(secret: SecretArgs<'a>) -> &'a str {
     }
 }
 
-/// What a fault of tickets of services is of, at this name where it is of one.
+/// Returns the subject of a fault of service tickets, with this name if it concerns one.
 pub(crate) fn kvno_subject<'a>(
     places: &'a Places,
     args: &'a KvnoArgs<'_>,
@@ -107,7 +107,7 @@ fn keytab_word(path: Option<&str>) -> &str {
     }
 }
 
-/// What a fault of any ticket is of, where this is the path of the seed's file.
+/// Returns the subject of a fault of any ticket. `seed` is the path of the seed's file.
 pub(crate) fn common_subject<'a>(
     places: &'a Places,
     seed: Option<&'a str>,

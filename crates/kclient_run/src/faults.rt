@@ -1,4 +1,4 @@
-//! Why a command ends before it is done.
+//! Why a command ends early.
 use client_core::{Mismatch, ServerError};
 use client_login::{LoginFault, Why};
 use cred_files::FileFault;
@@ -9,7 +9,7 @@ use std::net::SocketAddr;
 use std::{fmt, io};
 use text_fields::UtcDate;
 
-/// Of what a fault is: a word of the command line, a file, the KDC, or the memory of the program.
+/// The subject of a fault: a word of the command line, a file, the KDC, or the program's memory.
 #[derive(Clone, Copy, PartialEq, Eq)]
 pub(crate) enum Place {
     Realm,
@@ -19,7 +19,7 @@ pub(crate) enum Place {
     Keytab,
     Cache,
     Seed,
-    /// The KDC that replied; all of them where none did.
+    /// The KDC that replied; all of them if none did.
     Kdc(Option<SocketAddr>),
     /// A `krb5.conf`.
     Config,
@@ -38,59 +38,59 @@ pub(crate) enum Reason {
     BadEntry,
     TooLate,
     Absent,
-    /// The cache's ticket-granting ticket ended, at this second since 1970.
+    /// The cache's ticket-granting ticket ended at this second since 1970.
     Ended(i64),
-    /// No cache is there.
+    /// There is no cache.
     NoCache,
     /// The cache belongs to another user, or others may write it.
     NotOurs,
-    /// It is not renewable.
+    /// The ticket is not renewable.
     NotRenewable,
     NotAReply,
-    /// In what the reply differs from the request.
+    /// How the reply differs from the request.
     Mismatch(Mismatch),
-    /// The client's key doesn't open the reply.
+    /// The client's key doesn't decrypt the reply.
     CannotOpen,
-    /// The session key of the cache's ticket doesn't open the reply.
+    /// The session key of the cache's ticket doesn't decrypt the reply.
     SessionCannotOpen,
-    /// The KDC names no key of the client of one of the four types.
+    /// The KDC names no key of the client with one of the four types.
     NoKnownType,
     CountTooLarge,
-    /// The KDC asks for fewer iterations of string-to-key than the client takes.
+    /// The KDC requests fewer iterations of string-to-key than the client accepts.
     WeakCount,
     /// A `krb5.conf` names no default realm.
     NoRealm,
-    /// The default realm of a `krb5.conf` is none.
+    /// The default realm of a `krb5.conf` is invalid.
     BadRealm,
     /// A `krb5.conf` has no KDC of the realm.
     NoKdc,
-    /// Of no host that a `krb5.conf` names as a KDC an address is known.
+    /// None of the hosts that a `krb5.conf` names as KDCs has a known address.
     NotAnAddress,
-    /// It is no keytab.
+    /// The file is not a keytab.
     NoKeytab,
-    /// An entry of a keytab has no key of its type.
+    /// An entry of a keytab has a key with the wrong length for its type.
     BadKey,
     /// The keytab has no key of the client.
     NoClientKey,
-    /// The keytab has no key of the client, of a type that the KDC names.
+    /// The keytab has no key of the client with a type that the KDC names.
     NoKey,
-    /// The keytab has no key of the type and version that a ticket names.
+    /// The keytab has no key with the type and version that a ticket names.
     NoTicketKey,
-    /// The keytab's key doesn't open the ticket.
+    /// The keytab's key doesn't decrypt the ticket.
     Unopened,
 }
 
-/// Why a command ends before it is done.
+/// Why a command ends early.
 #[derive(Clone, Copy)]
 pub(crate) enum Stop {
     Refused(Reason, Place),
-    /// By the KDC, with the error of its KRB-ERROR.
+    /// The KDC refused, with the error of its KRB-ERROR.
     Error(ServerError, Place),
     Failed(io::Error, Place),
 }
 
 impl Stop {
-    /// Of what it is.
+    /// Returns the subject.
     pub(crate) fn place(self) -> Place {
         match self {
             Stop::Refused(_, place) | Stop::Error(_, place) | Stop::Failed(_, place) => place,
@@ -99,7 +99,7 @@ impl Stop {
 }
 
 impl Reason {
-    /// The word for it on standard output.
+    /// Returns the word for it on standard output.
     pub(crate) fn name(self) -> &'static str {
         match self {
             Reason::BadName => "BadName",
@@ -135,7 +135,7 @@ impl Reason {
         }
     }
 
-    /// What it means.
+    /// Returns what it means.
     fn text(self) -> &'static str {
         match self {
             Reason::BadName => "no name is written so",
@@ -180,7 +180,7 @@ impl Reason {
     }
 }
 
-/// What it means, for standard error.
+/// Writes what it means, for standard error.
 impl fmt::Display for Reason {
     fn fmt<W: fmt::Write>(&self, f: &mut fmt::Formatter<W>) -> fmt::Result {
         match self {
@@ -190,7 +190,7 @@ impl fmt::Display for Reason {
     }
 }
 
-/// Says when a ticket-granting ticket ended, where the second is one from 1970 on.
+/// Writes when a ticket-granting ticket ended, if the second is from 1970 on.
 fn write_end<W: fmt::Write>(f: &mut fmt::Formatter<W>, end: i64) -> fmt::Result {
     match Second::new(end) {
         Some(end) => write!(
@@ -202,7 +202,7 @@ fn write_end<W: fmt::Write>(f: &mut fmt::Formatter<W>, end: i64) -> fmt::Result 
     }
 }
 
-/// In what a reply differs from the request, for standard error.
+/// Returns how a reply differs from the request, for standard error.
 fn mismatch_text(what: Mismatch) -> &'static str {
     match what {
         Mismatch::Client => "the reply is for another client than the one that asked",
@@ -256,7 +256,7 @@ impl From<LoginFault> for Stop {
     }
 }
 
-/// What a KDC replied that ends a command.
+/// Returns the stop for a KDC's reply that ends a command.
 fn of_reply(why: Why, kdc: Place) -> Stop {
     let reason = match why {
         Why::Refused(error) => return Stop::Error(error, kdc),
@@ -271,18 +271,18 @@ fn of_reply(why: Why, kdc: Place) -> Stop {
     Stop::Refused(reason, kdc)
 }
 
-/// What is wrong with a keytab.
+/// Returns what is wrong with a keytab.
 pub(crate) fn of_keytab(fault: FileFault) -> Stop {
     match fault {
         FileFault::BadMagic => Stop::Refused(Reason::NoKeytab, Place::Keytab),
         FileFault::Truncated => Stop::Refused(Reason::Truncated, Place::Keytab),
         FileFault::BadEntry => Stop::Refused(Reason::BadKey, Place::Keytab),
-        // the others are of caches
+        // the others concern caches
         FileFault::TooLate | FileFault::Absent | FileFault::Memory => out_of_memory(),
     }
 }
 
-/// A word that is no name.
+/// Returns the stop for a word that is not a name.
 pub(crate) fn of_name(fault: NameFault, place: Place) -> Stop {
     match fault {
         NameFault::BadName => Stop::Refused(Reason::BadName, place),

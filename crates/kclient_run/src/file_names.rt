@@ -1,18 +1,18 @@
-//! The names of caches and keytabs: a path, or `FILE:` and one, as MIT's and Heimdal's tools take them.
+//! The names of caches and keytabs: a path, or `FILE:` and a path, as MIT's and Heimdal's tools accept them.
 
-/// Where a name stands.
+/// Where a name comes from.
 #[derive(Clone, Copy)]
 pub(crate) enum NameOf {
-    /// Behind `--cache`.
+    /// After `--cache`.
     Cache,
     /// In `KRB5CCNAME`.
     CacheVariable,
-    /// Behind `--keytab`.
+    /// After `--keytab`.
     Keytab,
 }
 
 impl NameOf {
-    /// What stands behind `error:` where no path is there.
+    /// Returns the text after `error:` if there is no path.
     pub(crate) fn no_path(self) -> &'static str {
         match self {
             NameOf::Cache => "--cache takes a file: no path stands behind FILE:",
@@ -21,7 +21,7 @@ impl NameOf {
         }
     }
 
-    /// What stands behind `error:` where the name is of another type than a file's.
+    /// Returns the text after `error:` if the name has a type other than a file's.
     fn other_type(self) -> &'static str {
         match self {
             NameOf::Cache =>
@@ -34,8 +34,8 @@ impl NameOf {
     }
 }
 
-/// The path in a name; else what is wrong with the name. A word and a colon in front are the type of what it names, and
-/// a path of which they are a part is written with a slash before them, as `./a:b`.
+/// Returns the path in a name, or what is wrong with the name. A word and a colon at the start give the type of the
+/// name. To name a path that begins like that, put a slash before the colon, as in `./a:b`.
 pub(crate) fn path_in(name: &str, of: NameOf) -> Result<&str, &'static str> {
     match name.split_once(':') {
         Some(("FILE", path)) => path_there(path, of),

@@ -1,4 +1,4 @@
-//! The files of a command. A fault says which of them it is of.
+//! The files of a command. A fault says which of them it concerns.
 use crate::faults::{Place, Reason, Stop, of_keytab};
 use crate::guarding::{CacheStore, Standing};
 use cred_files::Keytab;
@@ -7,7 +7,7 @@ use std::alloc::Global;
 use std::io;
 use std::io::{Error, ErrorKind};
 
-/// What was read or written, or why a command ends here.
+/// Returns what was read or written, or why the command ends.
 pub(crate) fn of<T: Drop>(done: Result<T, FileFault<'_>>, place: Place) -> Result<T, Stop> {
     match done {
         Ok(value) => Ok(value),
@@ -37,7 +37,7 @@ pub(crate) fn read_keytab<T: CacheStore>(
     }
 }
 
-/// Whether what is there is a file, or nothing.
+/// Checks whether the path has a file, or nothing.
 fn check_plain(found: io::Result<Standing>, place: Place) -> Result<(), Stop> {
     match found {
         Ok(Standing::NoFile) => Err(Stop::Failed(no_file(), place)),
@@ -46,7 +46,7 @@ fn check_plain(found: io::Result<Standing>, place: Place) -> Result<(), Stop> {
     }
 }
 
-/// Whether the cache that is there is one of the user's own.
+/// Checks whether the cache at the path is the user's own.
 pub(crate) fn check_ours(found: io::Result<Standing>) -> Result<(), Stop> {
     match found {
         Ok(Standing::Others) => Err(Stop::Refused(Reason::NotOurs, Place::Cache)),

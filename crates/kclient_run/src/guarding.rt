@@ -1,5 +1,5 @@
-//! What a client asks of its files beyond what a [`Store`] does: whose they are, what a folder has, and that a file is
-//! removed.
+//! What a client requires of its files beyond a [`Store`]: who owns them, what a folder contains, and how to remove a
+//! file.
 use file_store::{FileStore, MemoryStore, Store};
 use std::alloc::{AllocError, Global};
 use std::fs::File;
@@ -9,7 +9,7 @@ use std::random::RandomSource;
 use std::rt::{Clock, Files};
 use std::{fs, io};
 
-/// What is at a path.
+/// What a path has.
 #[derive(Clone, Copy, PartialEq, Eq)]
 pub enum Standing {
     /// Nothing.
@@ -18,13 +18,13 @@ pub enum Standing {
     Ours,
     /// A file that another user owns, or may write.
     Others,
-    /// A folder, a device, a FIFO or a socket. Opening one may wait for ever.
+    /// A folder, a device, a FIFO or a socket. Opening one may wait forever.
     NoFile,
 }
 
-/// A store that knows whose its files are.
+/// A store that knows who owns its files.
 pub trait CacheStore: Store {
-    /// Checks what is at a path, without opening it.
+    /// Checks what a path has, without opening it.
     fn standing(&mut self, path: &str) -> io::Result<Standing>;
 
     /// Returns the number of the user whose rights the program has.
@@ -37,10 +37,10 @@ pub trait CacheStore: Store {
     fn names_in(&mut self, alloc: Global, path: &str) -> io::Result<Vec<String>>;
 }
 
-/// The rights of the group and of others to write a file.
+/// The group's and others' permissions to write a file.
 const OTHERS_WRITE: u32 = 0o022;
 
-/// Its owner is the user whose rights the program has, on Linux.
+/// A path that belongs to the user whose rights the program has, on Linux.
 const SELF: &str = "/proc/self";
 
 impl<
@@ -127,7 +127,7 @@ impl CacheStore for MemoryStore {
         }
     }
 
-    /// A folder in memory is a file of names, each on a line of its own.
+    /// A folder in memory is a file of names, one on each line.
     fn names_in(&mut self, alloc: Global, path: &str) -> io::Result<Vec<String>> {
         let text = match self.get(path) {
             Some(octets) => str::from_utf8(octets).unwrap_or(""),

@@ -1,11 +1,11 @@
-//! Credentials of a cache that are good for use, and need not be asked for again.
+//! Credentials of a cache that can be used, and need not be requested again.
 ghost use Rattle.std.specs.Prelude.{◌≡◌, option_copied};
 ghost use Rattle.kclient_run.specs.Holding.{good_credential, if_good, is_good};
 
 use cred_files::{Cache, Credential};
 use krb_fields::{Moment, Name, TicketFlag};
 
-/// The cache's credential of a service, where it is before its end, and not still to be validated.
+/// Returns the cache's credential for a service, if it has not ended and need not be validated first.
 pub(crate) fn good_credential<'c>(
     cache: &'c Cache,
     service: &Name,

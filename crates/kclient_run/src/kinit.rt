@@ -1,4 +1,4 @@
-//! `kinit`: a first ticket, and a cache of it.
+//! `kinit`: gets a first ticket, and makes a cache from it.
 use crate::args::{FirstArgs, SecretArgs};
 use crate::caches::write_new_cache;
 use crate::context::Context;
@@ -15,7 +15,7 @@ use rand_chacha::ChaCha20Rng;
 use rand_core::SeedableRng;
 use std::alloc::Global;
 
-/// Gets a first ticket, and writes a cache of it.
+/// Gets a first ticket, and writes a cache with it.
 pub(crate) fn log_in<T: CacheStore, X: AnyMessage>(
     context: &mut Context<T, X>,
     places: &Places,
@@ -43,7 +43,7 @@ fn ticket_of<T: CacheStore, X: AnyMessage>(
     ask_by_clock(context, &mut rng, login, &secret)
 }
 
-/// Asks once more if the KDC's clock is taken.
+/// Requests it once more if the KDC's time is taken.
 fn ask_by_clock<T, X: AnyMessage>(
     context: &mut Context<T, X>,
     rng: &mut ChaCha20Rng,
@@ -68,7 +68,7 @@ fn ask<T, X: AnyMessage>(
     context.client.log_in(context.alloc, rng, login, secret)
 }
 
-/// The generator of what a command draws: ChaCha20 under the seed of a file, or under the system's random octets.
+/// Returns the generator for a command's random draws: ChaCha20 with a file's seed, or with one from the system.
 pub(crate) fn generator<T: CacheStore>(
     alloc: Global,
     store: &mut T,
@@ -88,7 +88,7 @@ fn read_login(alloc: Global, places: &Places, args: &FirstArgs<'_>) -> Result<Lo
     })
 }
 
-/// Whether the words are names: the realm, where a word names it, the client and the service.
+/// Checks whether the words are names: the realm, if a word names it, the client and the service.
 pub(crate) fn check_names(alloc: Global, args: &FirstArgs<'_>) -> Result<(), Stop> {
     if let Some(realm) = args.realm {
         read_realm(alloc, realm)?;
@@ -120,7 +120,7 @@ pub(crate) fn read_name(alloc: Global, text: &str, place: Place) -> Result<Name,
     }
 }
 
-/// The service that is named, else the ticket-granting one.
+/// Returns the named service, else the ticket-granting service.
 fn read_service(alloc: Global, text: Option<&str>, realm: &KerberosString) -> Result<Name, Stop> {
     match text {
         Some(text) => read_name(alloc, text, Place::Service),
@@ -128,7 +128,7 @@ fn read_service(alloc: Global, text: Option<&str>, realm: &KerberosString) -> Re
     }
 }
 
-/// What a file has of the client's key, or a password from standard input.
+/// Reads the client's key from a file, or a password from standard input.
 fn read_secret<T: CacheStore>(
     alloc: Global,
     store: &mut T,

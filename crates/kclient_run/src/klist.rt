@@ -1,4 +1,4 @@
-//! `klist`: what a credential cache or a keytab holds. `kdestroy`: a cache is removed.
+//! `klist`: lists a credential cache or a keytab. `kdestroy`: removes a cache.
 ghost use Rattle.std.specs.Prelude.{◌≤◌, IfOk};
 
 use crate::args::KlistArgs;
@@ -19,7 +19,7 @@ use std::alloc::Global;
 use std::io;
 use std::io::Write;
 
-/// Prints what a keytab holds, or else a cache.
+/// Lists a keytab, or else a cache.
 pub(crate) fn run_klist<T: CacheStore, X, W: Write, E: Write>(
     context: &mut Context<T, X>,
     places: &Places,
@@ -43,7 +43,7 @@ pub(crate) fn run_klist<T: CacheStore, X, W: Write, E: Write>(
     print(out, errors, path, lines)
 }
 
-/// Whether a cache has a ticket-granting ticket that is good for use.
+/// Checks whether a cache has a ticket-granting ticket that can be used.
 fn has_good_ticket<T: CacheStore>(
     alloc: Global,
     store: &mut T,
@@ -55,7 +55,8 @@ fn has_good_ticket<T: CacheStore>(
     Ok(good_credential(&cache, &service, at).is_some())
 }
 
-/// The status alone, as that of MIT's `klist -s`: a cache that is not there or not read is like one without a ticket.
+/// Returns only the status, as MIT's `klist -s` does. A cache that is missing or can't be read counts as one without a
+/// ticket.
 fn status_of(found: Result<bool, Stop>) -> u8
     ensures { result ≤ 3 }
 {
@@ -92,7 +93,7 @@ fn list_keytab<T: CacheStore>(alloc: Global, store: &mut T, path: &str) -> Resul
     Ok(lines_of_keytab(alloc, &keytab)?)
 }
 
-/// Prints the lines, or why there are none. A line is printed only where all are known.
+/// Prints the lines, or why there are none. It prints no line before all are known.
 fn print<W: Write, E: Write>(
     out: &mut W,
     errors: &mut E,

@@ -1,4 +1,4 @@
-//! `kvno`: tickets for services, one after the other.
+//! `kvno`: gets tickets for services, one after another.
 use crate::args::KvnoArgs;
 use crate::caches::{granting_ticket, put, write_cache};
 use crate::context::Context;
@@ -17,11 +17,11 @@ use krb_types::TicketRef;
 use rand_chacha::ChaCha20Rng;
 use std::alloc::{AllocFailed, Global};
 
-/// Why `kvno` ends before it is done.
+/// Why `kvno` ends early.
 #[derive(Clone, Copy)]
 pub(crate) struct KvnoStop {
     pub stop: Stop,
-    /// The place of the name at which it ends; absent: at none.
+    /// The index of the name at which it ends; absent: it ends at no name.
     pub index: Option<usize>,
 }
 
@@ -37,7 +37,7 @@ impl<T: Drop> From<AllocFailed<T>> for KvnoStop {
     }
 }
 
-/// What is done, or why the command ends at the name of this place.
+/// Returns the result, or why the command ends at the name with this index.
 fn at_name<T: Drop>(done: Result<T, Stop>, index: usize) -> Result<T, KvnoStop> {
     match done {
         Ok(value) => Ok(value),
@@ -48,7 +48,7 @@ fn at_name<T: Drop>(done: Result<T, Stop>, index: usize) -> Result<T, KvnoStop> 
     }
 }
 
-/// The cache, and what tickets are got and looked at with.
+/// The cache, and what is needed to get and check tickets.
 #[derive(Drop)]
 struct Wallet {
     cache: Cache,
@@ -58,8 +58,8 @@ struct Wallet {
     is_changed: bool,
 }
 
-/// Gets a ticket for each service, unless the cache has a good one, and puts it into the cache. It gives the versions
-/// of the keys that the tickets are sealed under, in the order of the names.
+/// Gets a ticket for each service, unless the cache has one that can be used, and puts it into the cache. It returns
+/// the key versions of the tickets, in the order of the names.
 pub(crate) fn get_tickets<T: CacheStore, X: AnyMessage>(
     context: &mut Context<T, X>,
     places: &mut Places,
@@ -145,7 +145,7 @@ fn get_each<T, X: AnyMessage>(
     Ok(versions)
 }
 
-/// The version of the key that the service's ticket is sealed under.
+/// Returns the key version of the service's ticket.
 fn get_ticket<T, X: AnyMessage>(
     context: &mut Context<T, X>,
     fresh: bool,
@@ -158,7 +158,7 @@ fn get_ticket<T, X: AnyMessage>(
     }
 }
 
-/// The version of the key of the cache's own ticket, where it need not be asked for again.
+/// Returns the key version of the cache's own ticket, if it need not be requested again.
 fn held_version(
     alloc: Global,
     fresh: bool,
@@ -175,7 +175,7 @@ fn held_version(
     }
 }
 
-/// Asks for a ticket, puts it into the cache, and gives the version of its key.
+/// Requests a ticket, puts it into the cache, and returns its key version.
 fn new_version<T, X: AnyMessage>(
     context: &mut Context<T, X>,
     wallet: &mut Wallet,
@@ -195,7 +195,7 @@ fn service_ticket<T, X: AnyMessage>(
     ask_by_clock(context, &mut wallet.rng, granting, service)
 }
 
-/// Asks once more if the KDC's clock is taken.
+/// Requests it once more if the KDC's time is taken.
 fn ask_by_clock<T, X: AnyMessage>(
     context: &mut Context<T, X>,
     rng: &mut ChaCha20Rng,
@@ -222,7 +222,7 @@ fn ask<T, X: AnyMessage>(
         .service_ticket(context.alloc, rng, granting, service)
 }
 
-/// Whether a ticket has not ended.
+/// Checks whether a ticket has not ended.
 fn check_end(granting: &Credential, at: Moment) -> Result<(), Stop> {
     let end = granting.times.end_time.seconds();
     if at.sec < end {
@@ -231,7 +231,7 @@ fn check_end(granting: &Credential, at: Moment) -> Result<(), Stop> {
     Err(Stop::Refused(Reason::Ended(end), Place::Cache))
 }
 
-/// Puts a credential into the cache, and gives the version of its key.
+/// Puts a credential into the cache, and returns its key version.
 fn keep(alloc: Global, wallet: &mut Wallet, credential: &Credential) -> Result<i64, Stop> {
     let version = checked_version(alloc, &wallet.keytab, credential)?;
     put(alloc, &mut wallet.cache, credential)?;
@@ -239,7 +239,7 @@ fn keep(alloc: Global, wallet: &mut Wallet, credential: &Credential) -> Result<i
     Ok(version)
 }
 
-/// The version of the ticket's key. Where there is a keytab it has to open the ticket.
+/// Returns the ticket's key version. If there is a keytab, it has to decrypt the ticket.
 fn checked_version(
     alloc: Global,
     keytab: &Option<Keytab>,
@@ -251,7 +251,7 @@ fn checked_version(
     Ok(version_of(credential))
 }
 
-/// The version of the key that the ticket is sealed under; 0 where it names none.
+/// Returns the key version of the ticket; 0 if it names none.
 fn version_of(credential: &Credential) -> i64 {
     let Ok(ticket) = read::<TicketRef<'_>>(credential.ticket.as_slice()) else {
         return 0;

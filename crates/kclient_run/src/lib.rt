@@ -1,9 +1,9 @@
-//! The client's tool: `kinit` gets a ticket-granting ticket, by a password or a keytab, and makes a credential cache of
-//! it; `kvno` gets tickets for services and puts them into the cache; `klist` prints what a cache or a keytab holds;
+//! The command-line client: `kinit` gets a ticket-granting ticket with a password or a keytab, and makes a credential
+//! cache with it; `kvno` gets service tickets and puts them into the cache; `klist` lists a cache or a keytab;
 //! `kdestroy` removes a cache.
 //!
-//! `kclient_run` takes the words of one command line and does what they say in a `Context`: with the files of a
-//! `Store`, and a `KdcClient` of `client_login`.
+//! `kclient_run` takes the words of one command line and runs it in a `Context`: with the files of a `Store`, and a
+//! `KdcClient` of `client_login`.
 #![tactic(auto)]
 
 mod args;

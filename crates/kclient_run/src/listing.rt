@@ -1,4 +1,4 @@
-//! What a credential cache or a keytab holds, in lines, but no key.
+//! The lines that list a credential cache or a keytab. They contain no key.
 ghost use Rattle.std.specs.Prelude.{◌≡◌, ◌++◌, IfOk, codes};
 ghost use Rattle.std.specs.String.{string_bytes};
 ghost use Rattle.krb_fields.specs.NameText.{component_text, text_of};
@@ -11,14 +11,13 @@ use krb_types::TicketRef;
 use std::alloc::{AllocError, Global};
 use text_fields::UtcDate;
 
-/// The realm of what stock clients keep in a cache for themselves: a setting of the library, which is no credential.
+/// The realm of the settings that stock clients keep in a cache for themselves. A setting is no credential.
 const SETTINGS_REALM: &[u8] = b"X-CACHECONF:";
 
 /// The first component of its name.
 const SETTINGS_NAME: &[u8] = b"krb5_ccache_conf_data";
 
-/// The letters of a ticket's flags (RFC 4120, section 5.3; RFC 8062, section 3), as MIT's `klist -f` has them, in its
-/// order.
+/// The letters of a ticket's flags (RFC 4120, section 5.3; RFC 8062, section 3), as in MIT's `klist -f`, in its order.
 const LETTERS: &[(u32, char)] = &[
     // forwardable, forwarded
     (1 << 30, 'F'),
@@ -42,7 +41,7 @@ const LETTERS: &[(u32, char)] = &[
     (1 << 15, 'a'),
 ];
 
-/// A line `principal NAME@REALM`, and one for each credential of the cache.
+/// Returns a line `principal NAME@REALM`, and one for each credential of the cache.
 pub(crate) fn lines_of_cache(alloc: Global, cache: &Cache) -> Result<String, AllocError> {
     let holder = cache.principal();
     let mut lines = principal_line(alloc, holder)?;
@@ -67,8 +66,8 @@ fn is_setting(server: &Principal) -> bool {
     }
 }
 
-/// Appends `NAME@REALM from DATE till DATE renew DATE flags LETTERS key TYPE ticket TYPE`, with `-` for what is not
-/// there; and ` client NAME@REALM` where the credential is another one's than the holder's.
+/// Appends `NAME@REALM from DATE till DATE renew DATE flags LETTERS key TYPE ticket TYPE`, with `-` for what is absent,
+/// and ` client NAME@REALM` if the credential is not the cache owner's.
 fn push_credential(
     alloc: Global,
     lines: &mut String,
@@ -92,7 +91,8 @@ fn push_name(alloc: Global, lines: &mut String, principal: &Principal) -> Result
     lines.push_str(name.as_str())
 }
 
-/// The name's text and the realm's, of printable ASCII without spaces, with an `@` between them, which neither has.
+/// Returns the texts of the name and of the realm, in printable ASCII without spaces, with an `@` between them. Neither
+/// has an `@`.
 fn principal_text(alloc: Global, realm: &KerberosString, name: &Name) -> Result<String, AllocError>
     ensures { IfOk result (λ text.
         string_bytes text ≡ text_of name.now.components ++ codes "@" ++ component_text realm.now) }
@@ -104,7 +104,7 @@ fn principal_text(alloc: Global, realm: &KerberosString, name: &Name) -> Result<
     Ok(text)
 }
 
-/// The start is the time of authentication where there is no other.
+/// Appends the times. A ticket without a start has that of its authentication.
 fn push_times(lines: &mut String, credential: &Credential) -> Result<(), AllocError> {
     let times = &credential.times;
     let start = if times.start_time.seconds() == 0 {
@@ -124,7 +124,7 @@ fn push_time(lines: &mut String, word: &str, time: KTime) -> Result<(), AllocErr
     }
 }
 
-/// A time of a credential; `None` where it is the start of 1970, which stands for none.
+/// Returns a time of a credential; `None` if it is the start of 1970, which stands for no time.
 fn date_of(time: KTime) -> Option<UtcDate> {
     let seconds = time.seconds();
     if seconds == 0 {
@@ -147,7 +147,7 @@ fn push_flags(lines: &mut String, flags: Flags) -> Result<(), AllocError> {
     Ok(())
 }
 
-/// The types of the session key and of the key that the ticket is sealed under.
+/// Appends the types of the session key and of the key that the ticket is encrypted with.
 fn push_types(lines: &mut String, credential: &Credential) -> Result<(), AllocError> {
     write!(lines, " key {}", credential.key.key_type)?;
     match ticket_type(credential.ticket.as_slice()) {
@@ -163,7 +163,7 @@ fn ticket_type(octets: &[u8]) -> Option<i32> {
     }
 }
 
-/// A line `NAME@REALM version NUMBER type TYPE` for each key of the keytab.
+/// Returns a line `NAME@REALM version NUMBER type TYPE` for each key of the keytab.
 pub(crate) fn lines_of_keytab(alloc: Global, keytab: &Keytab) -> Result<String, AllocError> {
     let mut lines = String::new(alloc);
     for entry in keytab.entries() {

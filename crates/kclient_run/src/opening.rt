@@ -1,4 +1,4 @@
-//! Whether a service's keytab opens a ticket (RFC 4120, section 5.3).
+//! Checks whether a service's keytab decrypts a ticket (RFC 4120, section 5.3).
 ghost use Rattle.std.specs.Prelude.{◌≡◌, IfOk, option_copied};
 ghost use Rattle.kclient_run.specs.Opening.{IsOpened, part_under, ticket_key};
 
@@ -12,7 +12,7 @@ use krb_types::TicketRef;
 use sealed_parts::{open_part, type_numbered};
 use std::alloc::{AllocError, Global};
 
-/// Opens a ticket by the key that it names.
+/// Decrypts a ticket with the key that it names.
 pub(crate) fn check_ticket(alloc: Global, keytab: &Keytab, octets: &[u8]) -> Result<(), Stop>
     ensures { IfOk result (λ done. IsOpened keytab.now octets.now) }
 {
@@ -46,7 +46,7 @@ fn part_under(
     )
 }
 
-/// The key that the ticket names by its type and version.
+/// Returns the key with the type and version that the ticket names.
 fn ticket_key<'k>(keytab: &'k Keytab, ticket: &TicketRef<'_>, service: &Name) -> Option<&'k Key>
     requires { service.now ≡ ticket.now.sname }
     ensures { option_copied result ≡ ticket_key keytab.now ticket.now }

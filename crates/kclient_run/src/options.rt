@@ -1,4 +1,4 @@
-//! The subcommands of the command line with their options, and what `--help` says of them.
+//! The subcommands of the command line with their options, and their help texts.
 use clap::error::Error;
 use clap::{ArgMatches, Command};
 use command_options::{FlagRow, OptionRow, SubcommandRow, Times, with_subcommands};
@@ -170,7 +170,7 @@ const KINIT: SubcommandRow = SubcommandRow {
     ],
 };
 
-/// The options and flags of `kinit` that `--renew` and `--validate` take. All others say what a first ticket is to be.
+/// The options and flags of `kinit` that `--renew` and `--validate` allow. All others describe a first ticket.
 const OF_RENEWAL: &[&str] = &["seed", "kdc", "cache", "renew", "validate", "tcp"];
 
 const SUBCOMMANDS: &[SubcommandRow] = &[
@@ -204,7 +204,7 @@ const SUBCOMMANDS: &[SubcommandRow] = &[
     },
 ];
 
-/// Reads the words, the program's name in front.
+/// Reads the words; the first is the program's name.
 pub(crate) fn read_args<'a, S: AsStr>(
     alloc: Global,
     args: &'a [S],
@@ -215,7 +215,7 @@ pub(crate) fn read_args<'a, S: AsStr>(
     with_subcommands(alloc, kclient, SUBCOMMANDS)?.try_get_matches_from(args)
 }
 
-/// Checks whether an option of `kinit` is there that says what a first ticket is to be.
+/// Checks whether there is an option of `kinit` that describes a first ticket.
 pub(crate) fn asks_for_first(args: &ArgMatches<'_>) -> bool {
     for row in KINIT.options {
         if is_first_option(args, row) {

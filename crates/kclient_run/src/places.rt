@@ -1,4 +1,4 @@
-//! Where a command works: its cache, its realm and its KDCs, as its words say, or else what stands for them.
+//! The places of a command: its cache, its realm and its KDCs, from its words or from the defaults.
 use crate::args::{FirstArgs, Task};
 use crate::caches::read_cache;
 use crate::configs::{configured_kdcs, configured_realm, read_config};
@@ -17,20 +17,20 @@ use std::alloc::{AllocError, AllocFailed, Global};
 use std::io;
 use std::net::SocketAddr;
 
-/// Why a command does not begin.
+/// Why a command does not start.
 #[derive(Drop)]
 pub(crate) enum Unplaced {
-    /// By a fault of the command line.
+    /// A usage error.
     Usage(&'static str),
-    /// This word of `--kdc` is no address.
+    /// This word of `--kdc` is not an address.
     BadKdc(String),
-    /// The realm of this name has no KDC in the `krb5.conf`.
+    /// The `krb5.conf` has no KDC for the realm with this name.
     NoKdc(String),
-    /// No address is known of the hosts that a `krb5.conf` names as KDCs. These are their names, as those of components.
+    /// None of the hosts that a `krb5.conf` names as KDCs has a known address. These are their names.
     UnknownHosts(String),
-    /// At the cache of this path, or at a file or a folder that a `krb5.conf` includes.
+    /// The fault concerns the cache with this path, or a file or a folder that a `krb5.conf` includes.
     AtFile(String, Stop),
-    /// At the name of this place, where it is at one of several.
+    /// The fault concerns the name with this index, if it concerns one of several.
     Stopped(Stop, Option<usize>),
 }
 
@@ -58,7 +58,7 @@ impl<T: Drop> From<AllocFailed<T>> for Unplaced {
     }
 }
 
-/// A command does not begin because of the file or the folder of this path.
+/// Returns the fault for a command that does not start because of the file or the folder with this path.
 pub(crate) fn at_file(alloc: Global, path: &str, stop: Stop) -> Unplaced {
     if stop.place() == Place::Memory {
         return Unplaced::from(stop);
@@ -69,13 +69,13 @@ pub(crate) fn at_file(alloc: Global, path: &str, stop: Stop) -> Unplaced {
     }
 }
 
-/// KDCs, and what is said of them where they fail.
+/// KDCs, and the text that names them if they fail.
 #[derive(Drop)]
 pub(crate) struct Kdcs {
-    /// In the order in which they are asked.
+    /// In the order in which the client tries them.
     pub addresses: Vec<SocketAddr>,
     pub text: String,
-    /// The hosts of which no address is known.
+    /// The hosts without a known address.
     pub unknown: String,
 }
 
@@ -108,12 +108,12 @@ fn begin_item(list: &mut String) -> Result<(), AllocError> {
     list.push_str(", ")
 }
 
-/// Where a command works. What it needs none of is empty.
+/// The places of a command. Those that it doesn't need are empty.
 #[derive(Drop)]
 pub(crate) struct Places {
     /// The path of the cache.
     pub cache: String,
-    /// What the cache holds, where the command asks with its ticket.
+    /// The contents of the cache, if the command uses its ticket.
     held: Option<Cache>,
     /// The text of the realm's name.
     pub realm: String,
@@ -126,7 +126,7 @@ impl Places {
         !self.kdcs.addresses.is_empty()
     }
 
-    /// Takes what the cache holds out of the places.
+    /// Takes the contents of the cache out of the places.
     pub(crate) fn take_held(&mut self) -> Result<Cache, Stop> {
         match self.held.take() {
             Some(cache) => Ok(cache),
@@ -137,7 +137,7 @@ impl Places {
 
 const TWO_FILES: &str = "--cache and --keytab don't go together";
 
-/// Where a command works.
+/// Finds the places of a command.
 pub(crate) fn find_places<T: CacheStore, X: HostNames>(
     context: &mut Context<T, X>,
     task: &Task<'_>,
@@ -155,7 +155,7 @@ pub(crate) fn find_places<T: CacheStore, X: HostNames>(
     }
 }
 
-/// The names of `kinit` are looked at before a file is read.
+/// Finds the places of `kinit`. It checks the names before it reads a file.
 fn first_places<T: CacheStore, X: HostNames>(
     context: &mut Context<T, X>,
     first: &FirstArgs<'_>,
@@ -168,7 +168,8 @@ fn first_places<T: CacheStore, X: HostNames>(
     Ok(places)
 }
 
-/// The names of services are looked at before the cache is read, whose realm is that of the KDCs.
+/// Finds the places of `kvno`. It checks the names of services before it reads the cache. The cache's realm is that of
+/// the KDCs.
 fn kvno_places<T: CacheStore, X: HostNames>(
     context: &mut Context<T, X>,
     args: &ArgMatches<'_>,
@@ -193,7 +194,7 @@ fn keytab_places(alloc: Global, args: &ArgMatches<'_>) -> Result<Places, Unplace
     })
 }
 
-/// The cache, and the KDCs that words name.
+/// Returns the cache, and the KDCs that words name.
 fn named_places<T: CacheStore>(
     alloc: Global,
     args: &ArgMatches<'_>,
@@ -219,7 +220,7 @@ fn transports(args: &ArgMatches<'_>) -> Transports {
     }
 }
 
-/// The path of the cache.
+/// Returns the path of the cache.
 fn cache_path<T: CacheStore>(
     alloc: Global,
     args: &ArgMatches<'_>,
@@ -235,7 +236,7 @@ fn cache_path<T: CacheStore>(
     }
 }
 
-/// The path of the user's own cache, as MIT's and Heimdal's clients have it.
+/// Returns the path of the user's own cache, which is that of MIT's and Heimdal's clients.
 fn own_path(alloc: Global, user: io::Result<u32>) -> Result<String, Unplaced> {
     match user {
         Ok(user) => Ok(format!(in alloc; "/tmp/krb5cc_{user}")?),
@@ -243,7 +244,7 @@ fn own_path(alloc: Global, user: io::Result<u32>) -> Result<String, Unplaced> {
     }
 }
 
-/// A path of a command's own; else the fault of the command line.
+/// Copies a path, or returns the usage error.
 fn copied(alloc: Global, path: Result<&str, &'static str>) -> Result<String, Unplaced> {
     match path {
         Ok(path) => Ok(String::from_str(alloc, path)?),
@@ -251,7 +252,7 @@ fn copied(alloc: Global, path: Result<&str, &'static str>) -> Result<String, Unp
     }
 }
 
-/// The realm of `kinit`, and its KDCs.
+/// Finds the realm of `kinit`, and its KDCs.
 fn find_realm<T: CacheStore, X: HostNames>(
     context: &mut Context<T, X>,
     realm: Option<&str>,
@@ -267,7 +268,7 @@ fn find_realm<T: CacheStore, X: HostNames>(
     }
 }
 
-/// The realm and its KDCs, of a `krb5.conf` where words lack.
+/// Finds the realm and its KDCs, with a `krb5.conf` for what no word names.
 fn configure<T: CacheStore, X: HostNames>(
     context: &mut Context<T, X>,
     realm: Option<&str>,
@@ -316,7 +317,7 @@ fn check_services(alloc: Global, args: &ArgMatches<'_>) -> Result<(), KvnoStop> 
     Ok(())
 }
 
-/// Reads the cache, and finds the KDCs of its realm in a `krb5.conf` where no word names one.
+/// Reads the cache, and finds the KDCs of its realm in a `krb5.conf` if no word names one.
 fn read_held<T: CacheStore, X: HostNames>(
     context: &mut Context<T, X>,
     defaults: &Defaults<'_>,
@@ -346,7 +347,7 @@ fn kdcs_of_cache<T: CacheStore, X: HostNames>(
     kdcs_in(context, &config, cache.principal().realm.as_slice())
 }
 
-/// The KDCs that words name.
+/// Returns the KDCs that words name.
 fn given_kdcs(alloc: Global, args: &ArgMatches<'_>) -> Result<Kdcs, Unplaced> {
     let mut kdcs = Kdcs::new(alloc);
     if let Some(texts) = args.get_strs("kdc") {

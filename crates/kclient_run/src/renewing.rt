@@ -1,4 +1,4 @@
-//! `kinit --renew` and `kinit --validate`: the ticket-granting ticket, once more (RFC 4120, sections 2.3 and 2.4).
+//! `kinit --renew` and `kinit --validate`: gets the ticket-granting ticket again (RFC 4120, sections 2.3 and 2.4).
 use crate::args::AgainArgs;
 use crate::caches::{granting_ticket, write_new_cache};
 use crate::context::Context;
@@ -11,7 +11,7 @@ use cred_files::Credential;
 use krb_fields::TicketFlag;
 use rand_chacha::ChaCha20Rng;
 
-/// Gets the cache's ticket-granting ticket again, and writes a new cache of it.
+/// Gets the cache's ticket-granting ticket again, and writes a new cache with it.
 pub(crate) fn get_again<T: CacheStore, X: AnyMessage>(
     context: &mut Context<T, X>,
     places: &mut Places,
@@ -40,7 +40,7 @@ fn ticket_of<T: CacheStore, X: AnyMessage>(
     ask_by_clock(context, &mut rng, granting, args.again)
 }
 
-/// Asks once more if the KDC's clock is taken.
+/// Requests it once more if the KDC's time is taken.
 fn ask_by_clock<T, X: AnyMessage>(
     context: &mut Context<T, X>,
     rng: &mut ChaCha20Rng,
@@ -67,7 +67,7 @@ fn ask<T, X: AnyMessage>(
         .ticket_again(context.alloc, rng, granting, again)
 }
 
-/// Whether a KDC would not renew the ticket.
+/// Checks whether a KDC would refuse to renew the ticket.
 fn is_refused(granting: &Credential, again: Again) -> bool {
     match again {
         Again::Renew => !granting.flags.has(TicketFlag::Renewable),

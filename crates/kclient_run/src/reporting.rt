@@ -1,4 +1,4 @@
-//! What is printed of a command that ends early: in a word, and in words.
+//! Reports on a command that ends early: one word on standard output, and an explanation on standard error.
 ghost use Rattle.std.specs.Prelude.{◌≤◌, IfOk};
 
 use crate::codes::code_text;
@@ -13,8 +13,8 @@ use std::alloc::AllocError;
 use std::io;
 use std::io::Write;
 
-/// Prints why a command ended early, and at what: in a word, and in words. `failures` is how many messages got no
-/// reply.
+/// Reports why a command ended early, and its subject, on standard output and standard error. `failures` is how many
+/// messages got no reply.
 pub(crate) fn report<W: Write, E: Write>(
     out: &mut W,
     errors: &mut E,
@@ -76,7 +76,7 @@ fn print_failure<W: Write, E: Write>(
     Ok(FAILED)
 }
 
-/// Prints that the KDC gave no reply, and to how many messages.
+/// Prints that the KDC gave no reply, and how many messages got none.
 fn print_silence<W: Write, E: Write>(
     out: &mut W,
     errors: &mut E,
@@ -94,7 +94,7 @@ fn print_silence<W: Write, E: Write>(
     Ok(FAILED)
 }
 
-/// Prints why a command does not begin.
+/// Reports why a command does not start.
 pub(crate) fn report_unplaced<W: Write, E: Write>(
     out: &mut W,
     errors: &mut E,
@@ -127,7 +127,7 @@ pub(crate) fn report_unplaced<W: Write, E: Write>(
     }
 }
 
-/// Prints what is wrong with a realm or with hosts in the `krb5.conf` of a path.
+/// Reports what is wrong with a realm or with hosts in the `krb5.conf` at a path.
 fn print_in_config<W: Write, E: Write>(
     out: &mut W,
     errors: &mut E,
@@ -142,7 +142,7 @@ fn print_in_config<W: Write, E: Write>(
     Ok(REFUSED)
 }
 
-/// Prints why it is not known where a command works.
+/// Reports why the places of a command could not be found.
 fn report_stopped<W: Write, E: Write>(
     out: &mut W,
     errors: &mut E,
@@ -178,7 +178,7 @@ fn report_word<W: Write, E: Write>(
     report(out, errors, Subject::Word { option, word }, 0, stop)
 }
 
-/// Prints what is wrong with the name of this place; of several names also with which.
+/// Prints what is wrong with the name at this index, and which of several names it is.
 fn report_at_name<W: Write, E: Write>(
     out: &mut W,
     errors: &mut E,
@@ -197,7 +197,7 @@ fn report_at_name<W: Write, E: Write>(
     }
 }
 
-/// Says which of several names ended a command.
+/// Reports which of several names ended a command.
 pub(crate) fn tell_name<E: Write>(
     errors: &mut E,
     count: usize,
@@ -212,12 +212,12 @@ pub(crate) fn tell_name<E: Write>(
     Ok(())
 }
 
-/// The name that ended a command.
+/// Returns the name that ended a command.
 pub(crate) fn name_at<'a>(names: &[&'a str], index: Option<usize>) -> Option<&'a str> {
     Some(*names.get(index?)?)
 }
 
-/// The path of the `krb5.conf`, or the variable that has to name it.
+/// Returns the path of the `krb5.conf`, or the variable that has to name it.
 fn config_word<'a>(defaults: &Defaults<'a>) -> &'a str {
     match defaults.config_path() {
         Ok(path) => path,
@@ -225,7 +225,7 @@ fn config_word<'a>(defaults: &Defaults<'a>) -> &'a str {
     }
 }
 
-/// Prints what is wrong with the words, or the help that they ask for.
+/// Prints what is wrong with the words, or the help that they request.
 pub(crate) fn report_args<W: Write, E: Write>(
     out: &mut W,
     errors: &mut E,
@@ -248,7 +248,7 @@ pub(crate) fn print_fault<W: Write>(out: &mut W, fault: &str) -> io::Result<u8>
     Ok(USAGE)
 }
 
-/// Prints that a word of `--kdc` is no address.
+/// Prints that a word of `--kdc` is not an address.
 fn print_bad_kdc<W: Write>(out: &mut W, word: &str) -> io::Result<u8>
     ensures { IfOk result (λ status. status ≤ 3) }
 {
@@ -263,14 +263,13 @@ fn print_bad_kdc<W: Write>(out: &mut W, word: &str) -> io::Result<u8>
     Ok(USAGE)
 }
 
-/// Says on standard error that standard output does not take what is printed. Where that fails too there is no one to
-/// tell.
+/// Reports on standard error that standard output can't be written. If that fails too, there is nowhere to report it.
 pub(crate) fn tell_unwritten<E: Write>(errors: &mut E, error: io::Error) {
     let _ = writeln!(errors, "kclient: standard output: {error}");
     let _ = errors.flush();
 }
 
-/// Says by how much the KDC's clock differs, if a command took the KDC's time.
+/// Reports by how much the KDC's clock differs, if a command took the KDC's time.
 pub(crate) fn tell_clock<E: Write>(errors: &mut E, ahead: Option<i64>) -> io::Result<()> {
     let Some(ahead) = ahead else {
         return Ok(());
@@ -283,7 +282,7 @@ pub(crate) fn tell_clock<E: Write>(errors: &mut E, ahead: Option<i64>) -> io::Re
     )
 }
 
-/// Says which KDCs are not asked, since no address of theirs is known.
+/// Reports which KDCs are skipped because their addresses are unknown.
 pub(crate) fn tell_unknown<E: Write>(errors: &mut E, hosts: &str) -> io::Result<()> {
     if hosts.is_empty() {
         return Ok(());

@@ -1,4 +1,4 @@
-//! One command line: from its words to the files.
+//! Running one command line, from its words to the files.
 ghost use Rattle.std.specs.Prelude.{◌≤◌, IfOk};
 
 use crate::args::{AgainArgs, FirstArgs, KvnoArgs, Task, task_of};
@@ -23,21 +23,22 @@ use std::io;
 use std::io::{BufWriter, Write};
 use std::mem::swap;
 
-/// The status of a command that did what it was to do.
+/// The status of a command that succeeded.
 pub const DONE: u8 = 0;
 
-/// The status of a command that is refused, by a word, a file, the KDC or the client.
+/// The status of a command that was refused because of a word, a file, the KDC or the client.
 pub const REFUSED: u8 = 1;
 
-/// The status of a fault of the command line.
+/// The status of a usage error.
 pub const USAGE: u8 = 2;
 
-/// The status of a command that failed on a file, on the KDC's silence, or ran out of memory.
+/// The status of a command that failed because of a file, because no KDC replied, or because memory ran out.
 pub const FAILED: u8 = 3;
 
-/// Does what a command line says, the program's name in front, at the context's moment. What came of it goes to
-/// `writer`, and why it was not done, in words, to `errors`. The status is `DONE`, `REFUSED`, `USAGE` or `FAILED`. But
-/// for `DONE` the cache is as it was, unless the printing alone failed: then it is `FAILED`, and the cache is written.
+/// Runs a command line, whose first word is the program's name, at the context's moment. It writes the result to
+/// `writer`, and explains failures on `errors`. The status is `DONE`, `REFUSED`, `USAGE` or `FAILED`. Unless it is
+/// `DONE`, the cache is unchanged, with one exception: if only the printing failed, the status is `FAILED` and the
+/// cache is written.
 pub fn kclient_run<
     S: AsStr,
     T: CacheStore,
@@ -66,7 +67,7 @@ pub fn kclient_run<
     }
 }
 
-/// The status; an error is a failed write.
+/// Runs the command line and returns the status. An error is a failed write.
 fn run_to_end<S: AsStr, T: CacheStore, X: AnyMessage + HostNames, W: Write, E: Write>(
     context: &mut Context<T, X>,
     args: &[S],
@@ -117,7 +118,7 @@ fn run_subcommand<T: CacheStore, X: AnyMessage + HostNames, W: Write, E: Write>(
     }
 }
 
-/// Finds where the command works, and does it there.
+/// Finds the places of the command, and runs it there.
 fn run_placed<T: CacheStore, X: AnyMessage + HostNames, W: Write, E: Write>(
     context: &mut Context<T, X>,
     task: &Task<'_>,
@@ -219,7 +220,7 @@ pub(crate) fn print_done<W: Write>(out: &mut W) -> io::Result<u8>
     Ok(DONE)
 }
 
-/// Where `kvno` ends early at one of several names, that is said too.
+/// Runs `kvno`. If it ends at one of several names, it reports which.
 fn run_kvno<T: CacheStore, X: AnyMessage, W: Write, E: Write>(
     context: &mut Context<T, X>,
     places: &mut Places,
@@ -242,7 +243,7 @@ fn run_kvno<T: CacheStore, X: AnyMessage, W: Write, E: Write>(
     }
 }
 
-/// Prints a line for each service. Where its keytab has opened the ticket the line says so.
+/// Prints a line for each service. If the keytab has decrypted its ticket, the line says so.
 fn print_versions<W: Write>(
     out: &mut W,
     names: &[&str],
@@ -258,5 +259,5 @@ fn print_versions<W: Write>(
     Ok(DONE)
 }
 
-/// What stands behind a version where the keytab has opened the ticket.
+/// The text after a version if the keytab has decrypted the ticket.
 const OPENED: &str = ", keytab entry valid";

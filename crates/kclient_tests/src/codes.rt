@@ -1,4 +1,4 @@
-//! What is said of each error code of a KDC.
+//! The texts for the error codes of a KDC.
 use crate::runs::expect_codes;
 use std::test::Fail;
 

@@ -1,4 +1,4 @@
-//! Command lines: what comes of each, its messages, and its refusals.
+//! Command lines: the result of each, its messages, and its refusals.
 use crate::joined::Link;
 use crate::runs::{KINIT, KINIT_V, KVNO, Run, expect_runs, expect_unwritten};
 use crate::sent::AS_REP;

@@ -1,4 +1,4 @@
-//! What is read of a `krb5.conf`.
+//! Reading a `krb5.conf`.
 use krb5_conf::{default_realm, kdcs};
 use std::alloc::Global;
 use std::process::Abort;

@@ -1,4 +1,4 @@
-//! An exchange of messages that is joined to a KDC in memory.
+//! An exchange of messages that is connected to a KDC in memory.
 ghost use Rattle.std.specs.Prelude.{⊤};
 
 use client_login::{AnyMessage, Exchange, Transport};

@@ -1,4 +1,4 @@
-//! What `klist` prints.
+//! The output of `klist`.
 use crate::runs::{Memory, NO_DEFAULTS, context, run_to, text};
 use file_store::MemoryStore;
 use kclient_run::{DONE, FAILED, REFUSED, USAGE};

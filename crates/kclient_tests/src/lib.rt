@@ -1,5 +1,5 @@
-//! The tests of `kclient_run`: command lines over files in memory, and an exchange of messages that is joined to a
-//! KDC. They stand apart, since a crate with tests is proved twice.
+//! The tests of `kclient_run`: command lines over files in memory, and an exchange of messages that is connected to a
+//! KDC. They are a crate of their own because a crate with tests is proved twice.
 #![tactic(auto)]
 
 #[cfg(test)]

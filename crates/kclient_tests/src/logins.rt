@@ -1,4 +1,4 @@
-//! First tickets, by passwords and keytabs, and those that are renewed and validated.
+//! First tickets, with passwords and keytabs, and renewed and validated ones.
 use crate::joined::Link;
 use crate::runs::{KINIT, KINIT_V, KVNO, Run, expect_runs};
 use kclient_run::{FAILED, REFUSED};

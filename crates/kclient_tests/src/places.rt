@@ -1,4 +1,4 @@
-//! Where a command works: of several KDCs, and by what stands for words that a command line lacks.
+//! The places of a command: which of several KDCs, and the defaults for words that a command line lacks.
 use crate::joined::Link;
 use crate::runs::{KINIT, KVNO, Run, expect_runs};
 use kclient_run::{DONE, Defaults, FAILED, REFUSED, USAGE, Variable};

@@ -1,4 +1,4 @@
-//! A command line over files in memory and a KDC in memory, and what comes of it.
+//! A command line over files in memory and a KDC in memory, and its result.
 use crate::joined::{JoinedExchange, Link};
 use crate::realm::open;
 use client_login::{KdcClient, Kdcs};

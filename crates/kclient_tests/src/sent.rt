@@ -1,6 +1,6 @@
-//! The octets that are sent, as a model in Python writes and seals them (RFC 3961, RFC 3962 and RFC 4120). The nonces
-//! and the confounders are those that ChaCha20 gives under octets 7: a nonce four octets without the highest bit, and
-//! then a confounder 16.
+//! The bytes that are sent, as a model in Python writes and encrypts them (RFC 3961, RFC 3962 and RFC 4120). The nonces
+//! and the confounders are what ChaCha20 gives with a seed of bytes 7: four bytes without the highest bit for a nonce,
+//! and then 16 for a confounder.
 use crate::joined::Link;
 use crate::runs::{KINIT, KINIT_V, KVNO, Run, expect_runs};
 use kclient_run::REFUSED;

@@ -1,4 +1,4 @@
-//! Tickets for services: which are asked for, and which a keytab opens.
+//! Service tickets: which are requested, and which a keytab decrypts.
 use crate::joined::Link;
 use crate::runs::{KINIT, KVNO, Run, expect_runs};
 use kclient_run::REFUSED;

@@ -1,4 +1,4 @@
--- A change is refused by the row of its name alone, and changes that row alone.
+-- A change is refused because of the row of its name alone, and changes only that row.
 use Rattle.std.proofs.Common.{◌≡◌, ℕ, Bool, true, false, cond, not, List, [], ◌∷◌, Option, Some, None, option_map}
 use Rattle.std.proofs.Common.{is_some, refl, ap, sym, ◌∙◌}
 use Rattle.std.specs.FinMap as map
@@ -19,7 +19,7 @@ use Rattle.principals.specs.declared.change.RowChange.TheVariants.{Add, Remove, 
 use Rattle.principals.specs.declared.change.ChangeFault.{ChangeFault}
 use Rattle.principals.specs.declared.change.ChangeFault.TheVariants.{BadName, Exists, Protected, Absent}
 
--- the rules of a change, by the realm and the row of its name
+-- the rules for a change, given the realm and the row of its name
 abbrev rules_by : List ℕ → Components → RowChange → Option Row → List (Rule ChangeFault)
 rules_by realm name (Add keys) row = (not (is_within_limits name), BadName) ∷ (is_some row, Exists) ∷ []
 rules_by realm name Remove row =
@@ -44,7 +44,7 @@ same_refusal p q change realm row =
     ∙ (λ i. first_holding (rules_by (realm i) change.name.components change.what (row i)))
     ∙ sym (refused_by p change.name.components change.what)
 
--- what a change makes of the row of its name
+-- the row of its name after a change
 abbrev row_by : RowChange → Option Row → Option Row
 row_by (Add keys) row = Some (first_row keys)
 row_by Remove row = None
@@ -75,7 +75,7 @@ row_after p name (DropKeys version) n =
 row_after p name (SetPolicy policy) n =
     row_exchanged p name n (λ r. record r { policy = policy }) (map.get p.rows name) refl
 
--- a row that two databases share they share after the same change, where they share the row of its name
+-- if two databases share a row and the row of the change's name, they still share it after the change
 pub same_row_after : (p q : Principals) (change : Change) (n : Components)
     → map.get q.rows change.name.components ≡ map.get p.rows change.name.components
     → map.get q.rows n ≡ map.get p.rows n
@@ -85,7 +85,7 @@ same_row_after p q change n own row =
     ∙ (λ i. cond (eq_by_cmp name_cmp n change.name.components) (row_by change.what (own i)) (row i))
     ∙ sym (row_after p change.name.components change.what n)
 
--- the row of another name stays
+-- the rows of other names are unchanged
 pub other_row : (p : Principals) (change : Change) (n : Components)
     → eq_by_cmp name_cmp n change.name.components ≡ false → map.get (changed p change).rows n ≡ map.get p.rows n
 other_row p change n apart =

@@ -1,4 +1,4 @@
--- What a process began with, and what it has remembered since, cover its state.
+-- What a process started with, and what it has recorded since, cover its state.
 use Rattle.std.proofs.Common.{◌≡◌, ℤ, pos, ◌-ℤ◌, ◌≤ℤ◌, Bool, true, false, cond, if◌then◌else◌, List, [], ◌∷◌, ◌++◌, Option, Some, None, is_eq, refl, sym, ap, subst, ◌∙◌, append_assoc, arith}
 use Rattle.std.specs.Prelude.{IfSome, nat_eq}
 use Rattle.std.specs.Int.{int_max}
@@ -61,7 +61,7 @@ max_again : (floor low : ℤ) → int_max (int_max floor low) low ≡ int_max fl
 max_again floor low = grind (arith, ints, clamps)
 
 module _ (c : Components) (r : Resumption) (now : ℤ) where
-  -- what is resumed with afterwards
+  -- the resumption that a later start uses
   abbrev later : List Seen → Resumption
   later more = resumption_at now r more
 
@@ -69,7 +69,7 @@ module _ (c : Components) (r : Resumption) (now : ℤ) where
   HeldBy m more = Holds m (resumed_memory (later more) c)
 
   module _ (state : State) (covers : Covers state r) where
-    -- a memory that didn't change
+    -- a cache that didn't change
     stays : (more : List Seen) → HeldBy (memory_of state c) more
     stays more s is = extended_holds c r (int_max r.floor (now -ℤ pos skew)) more (no_lower r.floor now) s (covers c s is)
 
@@ -138,7 +138,7 @@ module _ (c : Components) (r : Resumption) (now : ℤ) where
     event_held (Reopen database limits at) in_time = absurd in_time
     event_held (Resume database limits resumption) in_time = absurd in_time
 
--- ---- what is said to be remembered is there
+-- ---- an authenticator that is reported as recorded is in the state
 
 module _ (state : State) (incoming : Incoming) where
   abbrev IsThere : State → Seen → Type 0

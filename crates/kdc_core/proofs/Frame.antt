@@ -1,4 +1,4 @@
--- A request changes no row, no limit, and no memory but the named client's.
+-- A request changes no row, no limit, and no replay cache but the named client's.
 use Rattle.std.proofs.Common.{◌≡◌, ◌≢◌, Bool, true, false, cond, Option, Some, None, Result, Ok, Err, OnOk, OnErr, refl, ap, sym, ◌∙◌}
 use Rattle.std.specs.FinMap as map
 use Rattle.std.specs.FinMap.{get-insert}
@@ -33,7 +33,7 @@ module _ (state : State) where
   other_kept (Some c) None n h = refl
   other_kept None m n h = refl
 
--- what holds of the state afterwards, of a call that keeps a memory or changes nothing
+-- a property of the state after a call that stores a cache or changes nothing
 pub of_either : {A B X : Type 0} (r : Result A B) (old new after : State) (f : State → X) → OnOk r (new ≡ after) → OnErr r (new ≡ old) → f after ≡ f old → f new ≡ f old
 of_either (Ok x) old new after f ok err same = ap f ok ∙ same
 of_either (Err x) old new after f ok err same = ap f err

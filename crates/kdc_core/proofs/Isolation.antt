@@ -1,4 +1,4 @@
--- What is left of a run for one client gets it the same replies, from any state that agrees for it.
+-- The events that concern one client get it the same replies, from any state that agrees for it.
 use Rattle.std.proofs.Common.{◌≡◌, ◌≢◌, ℕ, Bool, true, false, cond, ◌||◌, if◌then◌else◌, IsTrue, IfSome, ◌⊎◌, inl, inr, List, [], ◌∷◌, Option, Some, None, is_eq, refl, ap, sym, subst, ◌∙◌}
 use Rattle.std.specs.Prelude.{nat_eq}
 use Rattle.std.specs.Cmp.{tied_itself}
@@ -63,7 +63,7 @@ neither false b e = (refl, e)
 not_both : (b : Bool) → b ≡ true → b ≡ false → ⊥
 not_both b t f = cc
 
--- ---- memories
+-- ---- caches
 
 memory_kept : (state : State) (c : Components) (m : Option (Memory Kept)) → memory_of (keep state (Some c) m) c ≡ unwrap_or m (memory_of state c)
 memory_kept state c (Some m) =
@@ -76,7 +76,7 @@ memory_restarted state at c = ap (λ o. unwrap_or o (empty_memory (opening_floor
 module _ (c : Components) (S : Names) where
   -- ---- requests
 
-  -- whatever is kept on both sides, where c's memory is then the same
+  -- whatever both sides store, if c's cache is then the same
   kept_agrees : (state other : State) → AgreesFor c S state other → (n o : Option Components) (m k : Option (Memory Kept)) → memory_of (keep other o k) c ≡ memory_of (keep state n m) c
       → AgreesFor c S (keep state n m) (keep other o k)
   kept_agrees state other a n o m k same = record {
@@ -92,7 +92,7 @@ module _ (c : Components) (S : Names) where
   service_agrees state other a None within = tt
 
   module _ (state other : State) (incoming : Incoming) (a : AgreesFor c S state other) where
-    -- the request of another client is struck out
+    -- a request of another client is struck out
     other_request : is_client c (named state incoming.octets).client ≡ false → AgreesFor c S (after_incoming state incoming) other
     other_request apart =
         let kept = (answer_to (view state incoming.octets) incoming).kept in
@@ -118,7 +118,7 @@ module _ (c : Components) (S : Names) where
         ∙ sym (memory_kept state c (answer_to (view state incoming.octets) incoming).kept)
         ∙ sym (ap (λ o. memory_of (keep state o (answer_to (view state incoming.octets) incoming).kept) c) is)
 
-    -- a request of c changes both alike
+    -- a request of c changes both in the same way
     own_request : (named state incoming.octets).client ≡ Some c → Agrees state other incoming.octets → AgreesFor c S (after_incoming state incoming) (after_incoming other incoming)
     own_request is agrees =
         kept_agrees state other a (named state incoming.octets).client (named other incoming.octets).client (answer_to (view state incoming.octets) incoming).kept (answer_to (view other incoming.octets) incoming).kept
@@ -130,7 +130,7 @@ module _ (c : Components) (S : Names) where
   -- ---- changes
 
   module _ (state other : State) (change : PrincipalChange) (a : AgreesFor c S state other) where
-    -- both have the same row of a name that is c or in S
+    -- both have the same row for a name that is c or in S
     same_row : (eq_by_cmp name_cmp c change.name.components || S change.name.components) ≡ true → map.get other.database.rows change.name.components ≡ map.get state.database.rows change.name.components
     same_row left = elim (either (eq_by_cmp name_cmp c change.name.components) (S change.name.components) left) [
       | inl same ↦ subst (λ n. map.get other.database.rows n ≡ map.get state.database.rows n) (same_name c change.name.components same) a.row
@@ -152,7 +152,7 @@ module _ (c : Components) (S : Names) where
     alike_unless (Some fault) own = a
     alike_unless None own = changed_alike own
 
-    -- a change of such a name is refused in both or in neither, and changes both alike
+    -- a change of such a name is refused in both or in neither, and changes both in the same way
     own_change : (eq_by_cmp name_cmp c change.name.components || S change.name.components) ≡ true → AgreesFor c S (after_change state change) (after_change other change)
     own_change left =
         let own = same_row left in
@@ -181,7 +181,7 @@ module _ (c : Components) (S : Names) where
     elsewhere_unless (Some fault) apart without = a
     elsewhere_unless None apart without = changed_elsewhere apart without
 
-    -- a change of another name is struck out
+    -- a change of any other name is struck out
     other_change : (eq_by_cmp name_cmp c change.name.components || S change.name.components) ≡ false → AgreesFor c S (after_change state change) other
     other_change struck =
         let both = neither (eq_by_cmp name_cmp c change.name.components) (S change.name.components) struck in
@@ -189,7 +189,7 @@ module _ (c : Components) (S : Names) where
 
   -- ---- replacements
 
-  -- databases with the same rows for c and S take the place of both or of neither
+  -- databases with the same rows for c and S replace both or neither
   both_replaced : (state other : State) (database new : Principals) → HasSameRows c S database new → AgreesFor c S state other → AgreesFor c S (replaced state database) (replaced other new)
   both_replaced state other database new same a =
       subst (λ realm. AgreesFor c S (replaced state database) (if pointwise nat_eq new.realm realm then record other { database = new } else other)) (sym a.realm)
@@ -254,7 +254,7 @@ module _ (c : Components) (S : Names) where
   same_granted : (realm later : List ℕ) → later ≡ realm → IsTrue (S (ticket_granter realm)) → IsTrue (S (ticket_granter later))
   same_granted realm later is granter = subst (λ r. IsTrue (S (ticket_granter r))) (sym is) granter
 
-  -- S holds the ticket-granting service of the realm afterwards, too
+  -- S still holds the realm's ticket-granting service afterwards
   still_granted : (state : State) (event : Event) → NamesWithin c S state event → IsTrue (S (ticket_granter state.database.realm)) → IsTrue (S (ticket_granter (after_event state event).database.realm))
   still_granted state (Request at random room request) within granter =
       same_granted _ _ (ap (λ d. d.realm) (database_kept state (named state request).client (answer (view state request) at random room request).kept)) granter
@@ -265,7 +265,7 @@ module _ (c : Components) (S : Names) where
   still_granted state (Reopen database limits at) within granter = within
   still_granted state (Resume database limits resumption) within granter = same_granted _ _ (ap (λ (d : Principals). d.realm) (database_resumed database limits resumption)) within
 
-  -- an event that is left: the second state runs it, or one alike, and gives the same reply
+  -- an event that stays: the second state runs it, or one like it, and gives the same reply
   record IsLeft (state other : State) (event given : Event) : Type 0 where
     pub reply : event_reply other given ≡ event_reply state event
     pub is_own : is_request other given ≡ is_request_of c state event
@@ -296,7 +296,7 @@ module _ (c : Components) (S : Names) where
       subst (λ (e : Event). IsLeft state other (Resume database limits resumption) e) (sym is.2)
       (record { reply = refl; is_own = refl; agrees = both_resumed database is.0 limits resumption is.1 is.3 is.4 })
 
-  -- an event that is struck out: no request of c, and the first state alone runs it
+  -- an event that is struck out: no request of c, and only the first state runs it
   event_struck : (state other : State) (event : Event) → AgreesFor c S state other → is_left c S state event ≡ false → (is_request_of c state event ≡ false) × AgreesFor c S (after_event state event) other
   event_struck state other (Request at random room octets) a struck =
       (struck, other_request state other (record { at = at; random = random; room = room; octets = octets }) a struck)
@@ -327,7 +327,7 @@ module _ (c : Components) (S : Names) where
       afterwards = rest.afterwards;
     }
 
-  -- the second state runs what is left, or events alike
+  -- the second state runs the events that stay, or events like them
   isolated : (events : List Event) (state other : State) (others : List Event) → IsTrue (S (ticket_granter state.database.realm)) → ServicesWithin c S state events → AgreesFor c S state other
       → AreAlike c S (strike c S state events) others → IsIsolated c S state other events others
   isolated [] state other [] granter within a alike = record { own = refl; left = refl; afterwards = a }
@@ -373,7 +373,7 @@ module _ (c : Components) (S : Names) where
   agrees_itself : (state : State) → AgreesFor c S state state
   agrees_itself state = record { realm = refl; limits = refl; row = refl; memory = refl; rows = λ name within. refl }
 
-  -- two that agree with a third
+  -- two states that agree with a third
   both_agree : (a b third : State) → AgreesFor c S a third → AgreesFor c S b third → AgreesFor c S a b
   both_agree a b third s t = record {
     realm = sym t.realm ∙ s.realm;

@@ -1,4 +1,4 @@
--- What is kept of an authenticator says rightly whether its reply bears a ticket.
+-- What is stored for an authenticator says correctly whether its reply bears a ticket.
 use Rattle.std.proofs.Common.{◌≡◌, ℕ, ℤ, Bool, true, false, cond, ◌&&◌, if◌then◌else◌, IfSome, List, [], ◌∷◌, length}
 use Rattle.std.proofs.Common.{Option, Some, None, refl, ap, sym, subst}
 use Rattle.std.specs.Prelude.{nat_eq, nat_lt}
@@ -65,9 +65,9 @@ reply_bears_one : (r : KdcRep 13) → bears_ticket (written (kdc_rep 13) r) ≡ 
 unfolding tlv
 reply_bears_one r = refl
 
--- ---- what the TGS exchange keeps
+-- ---- what the TGS exchange stores
 
--- a request and its reply, or nothing of a request that is too long
+-- a request and its reply, or nothing if the request is too long
 kept_marked : (request : List ℕ) (bears : Bears) (octets : List ℕ) → is_ticket bears ≡ bears_ticket octets
     → IsMarked (kept_of request bears octets)
 kept_marked request bears octets is = by_length (nat_lt longest_kept (length request))
@@ -78,7 +78,7 @@ kept_marked request bears octets is = by_length (nat_lt longest_kept (length req
     by_length false = is
 
 module _ (v : TgsView) (incoming : Incoming) (body : ReqBody) (p : Presented) where
-  -- nothing is kept by either of two answers, or what is marked
+  -- neither of two answers stores anything, or what it stores is marked correctly
   either : (b : Bool) (x y : TgsAnswer) → IfSome x.kept IsMarked → IfSome y.kept IsMarked
       → IfSome (if b then x else y).kept IsMarked
   either true x y of_x of_y = of_x
@@ -100,7 +100,7 @@ module _ (v : TgsView) (incoming : Incoming) (body : ReqBody) (p : Presented) wh
   tgs_marked : IfSome (tgs_answer v incoming body p).kept IsMarked
   tgs_marked = decision_marked (decision v incoming.at.sec body p)
 
--- ---- memories
+-- ---- caches
 
 remembered_marked : (m : Memory Kept) (now : ℤ) (stamp : Stamp) (made : Kept) → AreMarked m → IsMarked made
     → AreMarked (remembered m now stamp made)
@@ -149,7 +149,7 @@ tidied_marked m now marked s =
 empty_marked : (floor : ℤ) → AreMarked (empty_memory floor)
 empty_marked floor stamp = subst (λ (o : Option Kept). IfSome o IsMarked) (sym (get-empty stamp_cmp stamp)) tt
 
--- where nothing is stored
+-- if nothing is stored
 unstored_marked : (floor : ℤ) (client : Components)
     → AreMarked (unwrap_or (map.get (map.empty {R = name_cmp}) client) (empty_memory floor))
 unstored_marked floor client =

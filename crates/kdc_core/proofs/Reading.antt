@@ -1,4 +1,4 @@
--- What was read is the request that the octets spell, and what it holds.
+-- What was read is the request that the bytes encode, and its contents.
 use Rattle.std.proofs.Common.{◌≡◌, ℕ, List, false, length, Option, Some, Result, Ok, Err, IfOk, refl, sym, ap, ◌∙◌}
 use Rattle.std.specs.Prelude.{nat_lt}
 use Rattle.krb_elements.specs.Format.{whole}

@@ -1,4 +1,4 @@
--- A run goes on by one event.
+-- Extending a run by one event.
 use Rattle.std.proofs.Common.{◌≡◌, ◌<◌, ◌≤◌, ◌+◌, ℕ, suc, List, [], ◌∷◌, ◌++◌, length, map, take, Option, arith, refl, ap, sym, ◌∙◌}
 use Rattle.std.specs.Prelude.{slice_index_or}
 use Rattle.std.proofs.Math.Seq.{take-suc}
@@ -7,7 +7,7 @@ use Rattle.kdc_state.specs.declared.state.State.{State}
 use Rattle.kdc_core.specs.Run.{after_event, event_reply, replies, run}
 use Rattle.kdc_core.specs.declared.run.Event.{Event}
 
--- a run of events and then of others
+-- a run of some events and then of others
 pub run_append : (state : State) (events others : List Event) → run state (events ++ others) ≡ run (run state events) others
 run_append state [] others = refl
 run_append state (e ∷ es) others = run_append (after_event state e) es others
@@ -44,7 +44,7 @@ module _ {start : State} {events : List Event} {n : ℕ} {given : List (Option (
         state_is = next_is ∙ ap (λ s. after_event s event) so_far.state_is ∙ sym (run_on start (take n events) event) ∙ ap (run start) (sym further);
       }
 
--- where the next event is not done, there are as many replies as events that are done
+-- if the next event is not handled, there are as many replies as handled events
 pub stopped : {X : Type 0} (f : X → Option (List ℕ)) {start : State} {events : List Event} {n : ℕ} {old new : List X} {now next : State} → AreDone start events n (map f old) now
     → n < length events → (next ≡ now) × (new ≡ old) → (len : ℕ) → len ≡ length new → (len < length events) × AreDone start events len (map f new) next
 stopped f {start} {events} {n} {old} {new} {now} {next} so_far lt same len is =

@@ -1,4 +1,5 @@
--- A run gets a client one reply with a ticket for each authenticator: the state is a machine that keeps its memory.
+-- A run gets a client one reply with a ticket for each authenticator: the state is a machine that moves its replay
+-- cache.
 use Rattle.std.proofs.Common.{◌≡◌, ℕ, ℤ, Bool, true, false, cond, ◌&&◌, if◌then◌else◌, IfSome, List, [], ◌∷◌, length, Option, Some, None, option_map, refl, ap, sym, subst, ◌∙◌}
 use Rattle.std.specs.Prelude.{⊤, nat_eq, nat_lt}
 use Rattle.std.specs.Cmp.Lexicographic.{pointwise}
@@ -60,8 +61,8 @@ use Rattle.kdc_core.specs.declared.contents.Contents.TheVariants.{NoRequest, AsR
 use Rattle.kdc_core.specs.declared.run.Event.{Event}
 use Rattle.kdc_core.specs.declared.run.Event.TheVariants.{Request, Change, Replace, Tidy, Restart, Reopen, Resume}
 
--- ---- what a memory gives: a fresh authenticator the reply that is made, of which what is kept has all or nothing; one
--- ---- that comes again the reply that was kept, if that bears a ticket
+-- ---- what a cache gives: a fresh authenticator gets the new reply, and the cache stores all of it or nothing;
+-- ---- a repeated one gets the stored reply, if that bears a ticket
 
 abbrev Give : Kept → Verdict Kept → List ℕ → Type 0
 Give made Fresh octets = bears_ticket made.reply ≡ true → octets ≡ made.reply
@@ -77,7 +78,7 @@ gives_kept = record {
   full = λ made x given. given;
 }
 
--- the reply with a ticket is what is kept, unless the request is too long for that
+-- the reply with a ticket is what is stored, unless the request is too long for that
 fresh_kept : (request octets : List ℕ) (long : Bool)
     → bears_ticket (if long then nothing_kept else record { request = request; reply = octets; bears = Ticket }).reply ≡ true
     → octets ≡ (if long then nothing_kept else record { request = request; reply = octets; bears = Ticket }).reply
@@ -86,7 +87,7 @@ fresh_kept request octets false bears = refl
 
 -- ---- errors bear no ticket
 
--- the octets with a stamp, if they bear a ticket
+-- the bytes with a stamp, if they bear a ticket
 abbrev handed : Stamp → List ℕ → Option (Stamp × List ℕ)
 handed stamp octets = if bears_ticket octets then Some (stamp, octets) else None
 
@@ -105,10 +106,10 @@ handed_none false x P e = tt
 error_handed : (stamp : Stamp) (e : KrbError) (P : Stamp × List ℕ → Type 0) → IfSome (handed stamp (written krb_error e)) P
 error_handed stamp e P = handed_none (bears_ticket (written krb_error e)) (stamp, written krb_error e) P (error_bears_none e)
 
--- ---- what the TGS exchange does to a client's memory
+-- ---- what the TGS exchange does to a client's cache
 
 module _ (v : TgsView) (incoming : Incoming) (body : ReqBody) (p : Presented) where
-  -- answers that leave no trace: these octets, or the error in place of a reply that is too long
+  -- answers that leave no trace: these bytes, or the error that replaces a reply that is too long
   abbrev no_trace : List ℕ → TgsAnswer
   no_trace octets = record { reply = octets; kept = None }
 
@@ -121,7 +122,7 @@ module _ (v : TgsView) (incoming : Incoming) (body : ReqBody) (p : Presented) wh
   abbrev answered : Decision Kept → TgsAnswer
   answered decided = answer_by v incoming body p decided
 
-  -- the memory is asked about an authenticator that is remembered with its reply, or that came before
+  -- the cache is asked about an authenticator that is recorded with its reply, or that came before
   abbrev happens_by : Decision Kept → Option (MemoryEvent Kept)
   happens_by (Refuses refusal) = None
   happens_by (Remembers refusal) = option_map asked (answered (Remembers refusal)).kept
@@ -190,9 +191,9 @@ module _ (v : TgsView) (incoming : Incoming) (body : ReqBody) (p : Presented) wh
   memory_gives : IfSome (handed (stamp_of p) (tgs_answer v incoming body p).reply) (Gives happens_now)
   memory_gives = decision_gives (decision v incoming.at.sec body p) (has_said v incoming.at.sec body p)
 
--- ---- what events do to a client's memory
+-- ---- what events do to a client's cache
 
--- the memory that is kept for a name
+-- the cache that is stored for a name
 pub memory_kept : (state : State) (c name : Components) (m : Option (Memory Kept)) → memory_of (keep state (Some name) m) c ≡ cond (eq_by_cmp name_cmp c name) (unwrap_or m (memory_of state name)) (memory_of state c)
 memory_kept state c name (Some m) = ap (λ o. unwrap_or o (empty_memory state.floor)) (get-insert name_total state.memories name m c) ∙ inside (eq_by_cmp name_cmp c name)
   where
@@ -235,7 +236,7 @@ module _ (c : Components) where
   abbrev happens : State → Event → Option (MemoryEvent Kept)
   happens state event = happened (changes state event)
 
-  -- ---- the memory moves as they say
+  -- ---- the cache moves as these events say
 
   moved_for : (limit : ℕ) (state : State) (name : Components) (m : Option (Memory Kept)) (o : Option (MemoryEvent Kept)) → unwrap_or m (memory_of state name) ≡ next_if limit (memory_of state name) o
       → memory_of (keep state (Some name) m) c ≡ next_if limit (memory_of state c) (for_name name o)
@@ -263,7 +264,7 @@ module _ (c : Components) where
       by_name (Some name) = refl
       by_name None = tt
 
-  -- of what is held, by the names of the view
+  -- by what the request contains, with the names of the view
   abbrev Moves : State → Incoming → Named → Contents → Type 0
   Moves state incoming names held =
       memory_of (keep state names.client (answer_of (view_of state names) incoming held).kept) c
@@ -306,7 +307,7 @@ module _ (c : Components) where
   moves state (Reopen database limits at) = opened_again at
   moves state (Resume database limits resumption) = memory_resumed c database limits resumption
 
-  -- ---- what is handed out is given
+  -- ---- what is handed out is what the cache gives
 
   given_for : (limit : ℕ) (state : State) (name : Components) (handed : Option (Stamp × List ℕ)) (o : Option (MemoryEvent Kept)) → IfSome handed (IsGiven Give limit (memory_of state name) o)
       → IfSome (if eq_by_cmp name_cmp c name then handed else None) (IsGiven Give limit (memory_of state c) (for_name name o))
@@ -351,7 +352,7 @@ module _ (c : Components) where
 
   -- ---- restarts
 
-  -- the second at which an authenticator is asked about is that of the request
+  -- an authenticator is checked at the second of its request
   abbrev IsAt : ℤ → Option (MemoryEvent Kept) → Type 0
   IsAt now None = ⊤
   IsAt now (Some (Checked second stamp made)) = second ≡ now

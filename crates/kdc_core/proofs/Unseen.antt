@@ -1,4 +1,4 @@
--- A run that is tidied gives its requests the replies of one that isn't: their memories are alike from a second on.
+-- A run with tidyings gives its requests the replies of one without: the caches agree from a second on.
 use Rattle.std.proofs.Common.{◌≡◌, ℕ, ℤ, ◌≤ℤ◌, Bool, true, false, cond, if◌then◌else◌, List, [], ◌∷◌, Option, Some, None, refl, ap, sym, subst, ◌∙◌, arith}
 use Rattle.std.specs.Prelude.{nat_eq}
 use Rattle.std.specs.Int.{int_max}
@@ -51,7 +51,7 @@ use Rattle.kdc_core.specs.declared.contents.Contents.TheVariants.{NoRequest, AsR
 use Rattle.kdc_core.specs.declared.run.Event.{Event}
 use Rattle.kdc_core.specs.declared.run.Event.TheVariants.{Request, Change, Replace, Tidy, Restart, Reopen, Resume}
 
--- two memories that are alike from a second on
+-- two caches that agree from a second on
 abbrev AreAlike : ℤ → Memory Kept → Memory Kept → Type 0
 AreAlike second m n = tidied m second ≡ tidied n second
 
@@ -66,7 +66,7 @@ same_remembered : (second now : ℤ) (m n : Memory Kept) (stamp : Stamp) (kept :
 same_remembered second now m n stamp kept le same =
     sym (remembered_tidied m second now le stamp kept) ∙ ap (λ k. remembered k now stamp kept) same ∙ remembered_tidied n second now le stamp kept
 
--- ---- what the TGS exchange answers
+-- ---- the answers of the TGS exchange
 
 module _ (v : TgsView) (m : Memory Kept) (incoming : Incoming) (body : ReqBody) (p : Presented) where
   abbrev other : TgsView
@@ -96,7 +96,7 @@ module _ (v : TgsView) (m : Memory Kept) (incoming : Incoming) (body : ReqBody) 
       answer_alike (decision other incoming.at.sec body p)
       ∙ ap (answer_by v incoming body p) (by_client_alike same (first_holding (client_rules v incoming.at.sec p.ticket.authtime)))
 
--- ---- answers: the same reply, and memories that are alike
+-- ---- answers: the same reply, and caches that agree
 
 record IsAnsweredAlike (second : ℤ) (m n : Memory Kept) (a b : Answer) : Type 0 where
   pub reply : a.reply ≡ b.reply
@@ -134,11 +134,11 @@ module _ (second : ℤ) (v : View) (m : Memory Kept) (incoming : Incoming) (le :
 
 -- ---- states
 
--- the state with these memories and this floor in place of its own
+-- the state with these caches and this floor in place of its own
 abbrev with_memories : State → ℤ → map.FinMap name_cmp (Memory Kept) → State
 with_memories state floor memories = record state { floor = floor; memories = memories }
 
--- the same database and limits, and memories that are alike from a second on
+-- the same database and limits, and caches that agree from a second on
 record Alike (second : ℤ) (s t : State) : Type 0 where
   pub database : s.database ≡ t.database
   pub limits : s.limits ≡ t.limits
@@ -197,7 +197,7 @@ as_other : (second : ℤ) (s t : State) → Alike second s t → with_memories t
 as_other second s t alike = λ i. record { database = sym alike.database i; limits = sym alike.limits i; floor = s.floor; memories = s.memories }
 
 module _ (second : ℤ) (s t : State) (alike : Alike second s t) where
-  -- an event but a tidying
+  -- any event but a tidying
   reply_alike : (at : Moment) (random : List ℕ) (room : ℕ) (request : List ℕ) → second ≤ℤ at.sec → event_reply s (Request at random room request) ≡ event_reply t (Request at random room request)
   reply_alike at random room request le =
       ap (λ u. event_reply u (Request at random room request)) (sym (as_other second s t alike))

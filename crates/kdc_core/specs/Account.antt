@@ -1,4 +1,4 @@
--- The account of a request, and what it says of the reply.
+-- The account of a request, and what it states about the reply.
 use Rattle.std.specs.Prelude.{◌≡◌, ℕ, ⊤, List, Option, Some, None, option_map}
 use Rattle.std.specs.FinMap as map
 use Rattle.as_exchange.specs.Outcome.{AsOutcomeHolds, OutcomeSpelled as AsOutcomeSpelled, as_outcome}
@@ -24,9 +24,9 @@ use Rattle.kdc_core.specs.declared.account.RequestNames.{RequestNames}
 use Rattle.kdc_core.specs.declared.contents.Contents.{Contents}
 use Rattle.kdc_core.specs.declared.contents.Contents.TheVariants.{NoRequest, AsReq, RefusedTgsReq, TgsReq}
 
--- ---- what it is
+-- ---- its definition
 
--- an account, whether its names are borrowed or owned
+-- an account, whether it borrows or owns its names
 abbrev pub Account : Type 0
 Account = AccountOf Name
 
@@ -43,12 +43,12 @@ account_of v incoming (TgsReq message p) =
 abbrev pub account_to : View → Incoming → Account
 account_to v incoming = account_of v incoming (contents v (request_of incoming.octets))
 
--- as `answer` of specs/Answer.antt: the account of that answer
+-- takes what `answer` of specs/Answer.antt takes, and gives the account of that answer
 abbrev pub account : View → Moment → List ℕ → ℕ → List ℕ → Account
 account v at random room octets =
     account_to v (record { at = at; random = random; room = room; octets = octets })
 
--- ---- whom it names
+-- ---- the names in it
 
 abbrev pub account_names : Account → Named
 account_names NothingAsked = record { client = None; service = None }
@@ -70,15 +70,15 @@ names_in (Some request) = record {
 }
 names_in None = record { client = None; service = None }
 
--- the account with these names in the place of those that the request gives
+-- the account with these names in place of those that the request gives
 abbrev pub with_names : RequestNames → Account → Account
 with_names names NothingAsked = NothingAsked
 with_names names (As client service outcome) = As names.client names.service outcome
 with_names names (Tgs client service outcome) = Tgs client names.service outcome
 
--- ---- what it says of the reply that was sent
+-- ---- what it states about the reply that was sent
 
--- there is a reply where there was a request, and only there
+-- there is a reply if and only if there was a request
 abbrev pub AccountHoldsOf : Option Kept → Option Issue → Account → Option (List ℕ) → Type 0
 AccountHoldsOf kept issue NothingAsked (Some octets) = ⊥
 AccountHoldsOf kept issue NothingAsked None = ⊤
@@ -87,14 +87,14 @@ AccountHoldsOf kept issue (As client service outcome) None = ⊥
 AccountHoldsOf kept issue (Tgs client service outcome) (Some octets) = TgsOutcomeHolds kept issue client service outcome octets
 AccountHoldsOf kept issue (Tgs client service outcome) None = ⊥
 
--- what was kept for the authenticator that is presented
+-- what was stored for the presented authenticator
 abbrev pub kept_for : View → Contents → Option Kept
 kept_for v NoRequest = None
 kept_for v (AsReq message) = None
 kept_for v (RefusedTgsReq message rejected) = None
 kept_for v (TgsReq message p) = map.get v.memory.pairs (stamp_of p)
 
--- the exchange that a request, or an account, is of
+-- the exchange of a request, or of an account
 abbrev pub exchange_in : Option Request → Option Exchange
 exchange_in request = option_map (λ (r : Request). r.exchange) request
 
@@ -103,15 +103,16 @@ account_exchange NothingAsked = None
 account_exchange (As client service outcome) = Some OfAs
 account_exchange (Tgs client service outcome) = Some OfTgs
 
--- The account is true. It is of the request's exchange, or of none where the octets are no request. Of a refusal, the reply is an error with its code; of a ticket, the reply is that of a ticket of
--- this client for this service, which the keys open to these types, flags and times; of a reply that was sent again,
--- that it was kept for the authenticator; without a request there is no reply.
+-- The account is true. Its exchange is the request's; it has none if the bytes encode no request. For a refusal, the
+-- reply is an error with its code. For a ticket, the reply bears a ticket of this client for this service, which the
+-- keys decrypt to these types, flags and times. For a reply that was sent again, it is the one stored for the
+-- authenticator. Without a request there is no reply.
 abbrev pub AccountHolds : View → Moment → List ℕ → Option Request → Account → Option (List ℕ) → Type 0
 AccountHolds v at random request account reply =
     (account_exchange account ≡ exchange_in request)
     × AccountHoldsOf (kept_for v (contents v request)) (issued v at random request) account reply
 
--- ---- what the octets spell, by cases on what they answer
+-- ---- what the bytes encode, by cases on the answer
 
 abbrev pub AccountSpelledOf : View → Incoming → Contents → List ℕ → Type 0
 AccountSpelledOf v incoming NoRequest octets = ⊥

@@ -31,7 +31,7 @@ use Rattle.kdc_core.specs.declared.account.Account.TheVariants.{NoRequest as Not
 use Rattle.kdc_core.specs.declared.contents.Contents.{Contents}
 use Rattle.kdc_core.specs.declared.contents.Contents.TheVariants.{NoRequest, AsReq, RefusedTgsReq, TgsReq}
 
--- ---- by the names that the contents give, it is the account
+-- ---- it is the account, with the names that the contents give
 
 module _ {A E : Type 0} (state : State) (incoming : Incoming) (r : Result A E) where
   abbrev Accounts : (A → Account) → Named → Contents → Type 0
@@ -73,7 +73,7 @@ module _ {A E : Type 0} (state : State) (incoming : Incoming) (r : Result A E) w
   spelled_by octets names (TgsReq message p) names_are h =
       subst (λ (n : Named). Spells state incoming r octets n (TgsReq message p)) (sym names_are) h
 
--- ---- of what was read from the octets
+-- ---- for what was read from the bytes
 
 module _ {A E : Type 0} (state : State) (incoming : Incoming) (r : Result A E) (held : Contents)
     (is : held ≡ contents (view state incoming.octets) (request_of incoming.octets)) where
@@ -130,7 +130,7 @@ module _ (v : View) (incoming : Incoming) (long : 32 ≤ length incoming.random)
       by_exchange OfAs message = refl
       by_exchange OfTgs message = presented_by message (presented (opening_view v) message)
 
-  -- the account that a call gives is true of its reply
+  -- the account that a call returns is true of its reply
   pub account_holds : {A E : Type 0} (account : A → Account) (octets : A → Option (List ℕ)) (r : Result A E)
       → IfOk r (λ a. account a ≡ account_to v incoming)
       → IfOk r (λ a. AccountSpelled v incoming (octets a) (contents v (request_of incoming.octets)))
@@ -144,9 +144,9 @@ module _ (v : View) (incoming : Incoming) (long : 32 ≤ length incoming.random)
       )
   account_holds account octets (Err e) is spelled opens = tt
 
--- ---- it names whom the request names
+-- ---- it names the client and the service that the request names
 
--- the client that is named is that of the ticket that was opened
+-- the named client is that of the decrypted ticket
 client_named : (r : Result OpenedTicket TgsRefusal) → components_of (opened_client r) ≡ client_of r
 client_named (Ok o) = refl
 client_named (Err rule) = refl
@@ -184,7 +184,7 @@ module _ (state : State) (incoming : Incoming) where
   pub names_are_named : account_names (account_to (view state incoming.octets) incoming) ≡ named state incoming.octets
   names_are_named = named_of (request_of incoming.octets) (are_names_of state (request_of incoming.octets))
 
--- ---- a request without a reply is none
+-- ---- only what is no request gets no reply
 
 unanswered_of : (v : View) (incoming : Incoming) (held : Contents) → (answer_of v incoming held).reply ≡ None
     → account_of v incoming held ≡ NothingAsked
@@ -215,7 +215,7 @@ named_for v incoming (Some request) = by_exchange request.exchange
     by_exchange OfTgs = named_with v incoming request _
 named_for v incoming None = refl
 
--- an account has these already
+-- an account already has these names
 pub names_are_given : (v : View) (incoming : Incoming)
     → with_names (names_in (request_of incoming.octets)) (account_to v incoming) ≡ account_to v incoming
 names_are_given v incoming = named_for v incoming (request_of incoming.octets)

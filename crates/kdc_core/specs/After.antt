@@ -1,4 +1,4 @@
--- What a request leaves to be kept of its client, and the state afterwards.
+-- What a request changes in its client's replay cache, and the state afterwards.
 use Rattle.std.specs.Prelude.{◌≡◌, ⊤, false, Option, Some, None}
 use Rattle.std.specs.FinMap as map
 use Rattle.krb_fields.specs.PrincipalName.{Name}
@@ -14,24 +14,24 @@ use Rattle.tgs_opening.specs.declared.presented.Presented.{Presented}
 use Rattle.kdc_core.specs.declared.mark.Mark.{Mark}
 use Rattle.kdc_core.specs.declared.mark.Mark.TheVariants.{Counted, Stamped}
 
--- a client that is named, and whose failures change
+-- a named client whose failures change
 abbrev pub counted_of : Option Name → Option Failures → Option Mark
 counted_of (Some name) (Some failures) = Some (Counted name failures)
 counted_of (Some name) None = None
 counted_of None failures = None
 
--- an authenticator that is to be remembered with what is kept for it
+-- an authenticator to record, with what is stored for it
 abbrev pub stamped_of : Moment → Presented → Option Kept → Option Mark
 stamped_of at p (Some kept) = Some (Stamped p.ticket.cname at p.authenticator.ctime p.authenticator.cusec kept)
 stamped_of at p None = None
 
--- the authenticator that is remembered by it, if one is
+-- the authenticator that it records, if any
 abbrev pub seen_in : Option Mark → Option Seen
 seen_in (Some (Counted client failures)) = None
 seen_in (Some (Stamped client at ctime cusec kept)) = Some (record { client = client; ctime = ctime; cusec = cusec })
 seen_in None = None
 
--- where there is no reply, none is
+-- without a reply none is recorded
 abbrev pub seen_left : Option (Option Mark) → Option Seen
 seen_left (Some mark) = seen_in mark
 seen_left None = None
@@ -46,12 +46,12 @@ abbrev pub after : State → Option Mark → State
 after state (Some mark) = after_mark state mark
 after state None = state
 
--- where there is no reply, the state stays
+-- without a reply the state doesn't change
 abbrev pub after_reply : State → Option (Option Mark) → State
 after_reply state (Some mark) = after state mark
 after_reply state None = state
 
--- an authenticator is to be remembered only where it is neither skewed nor a repeat
+-- an authenticator may be recorded only if it is within the clock skew and no repeat
 abbrev pub MayStay : State → Mark → Type 0
 MayStay state (Counted client failures) = ⊤
 MayStay state (Stamped client at ctime cusec kept) =

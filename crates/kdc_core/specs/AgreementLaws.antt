@@ -1,4 +1,4 @@
--- States that agree at what a request names show it the same view.
+-- States that agree at what a request names give it the same view.
 use Rattle.std.proofs.Common.{◌≡◌, ℕ, Bool, true, false, cond, List, Option, Some, None, refl, ap, sym, subst, ◌∙◌}
 use Rattle.std.specs.Prelude.{IfSome}
 use Rattle.std.specs.FinMap as map
@@ -43,7 +43,7 @@ same_client state other Tgs message e = ap (λ v. client_of (opened_ticket v mes
 module _ (state other : State) (realm : other.database.realm ≡ state.database.realm)
     (granter : map.get other.database.rows (ticket_granter other.database.realm) ≡ map.get state.database.rows
     (ticket_granter state.database.realm)) where
-  -- the service's rows agree, so the presented ticket is opened alike, and the clients are the same
+  -- the service's rows agree, so both decrypt the presented ticket alike, and the clients are the same
   same_names : (o : Option Request) → row_of other (named_by state o).service ≡ row_of state (named_by state o).service
       → named_by other o ≡ named_by state o
   same_names (Some request) service =
@@ -86,7 +86,7 @@ view_agrees state other bytes a =
 
 -- ---- and they agree there afterwards
 
--- a memory that both keep is the same in both, and the others are as before
+-- a cache that both store is the same in both, and the others are as before
 kept_alike : (state other : State) (c n : Components) (m : Memory Kept) → memory_of other n ≡ memory_of state n
     → memory_of (keep other (Some c) (Some m)) n ≡ memory_of (keep state (Some c) (Some m)) n
 kept_alike state other c n m h =

@@ -1,4 +1,4 @@
--- What a key distribution centre answers, made from its view of the state alone.
+-- The answer of a key distribution centre, which depends only on its view of the state.
 use Rattle.std.specs.Prelude.{◌≡◌, ℕ, ℤ, List, ⊤, Option, Some, None, option_map}
 use Rattle.std.specs.FinMap as map
 use Rattle.as_exchange.specs.Answer.{AsAnswer, as_answer, Spelled as AsSpelled, Opens as AsOpens, Sent as AsSent}
@@ -26,23 +26,23 @@ use Rattle.kdc_core.specs.View.{View, as_view, named, tgs_view, view}
 use Rattle.kdc_core.specs.declared.contents.Contents.{Contents}
 use Rattle.kdc_core.specs.declared.contents.Contents.TheVariants.{NoRequest, AsReq, RefusedTgsReq, TgsReq}
 
--- the octets of the error with this code, where no service was asked for
+-- the bytes of the error with this code, if no service was requested
 abbrev pub error_octets : State → Moment → Code → List ℕ
 error_octets state at code = written krb_error (error_reply state.database.realm at code None None)
 
--- the octets of the reply, or none, and the named client's memory afterwards: none, it stays as it was
+-- the bytes of the reply, if any, and the named client's replay cache afterwards; `None` leaves it unchanged
 pub record Answer : Type 0 where
   pub reply : Option (List ℕ)
   pub kept : Option (Memory Kept)
 
--- the client's memory with these failures, if they changed
+-- the client's cache with these failures, if they changed
 abbrev pub counted : Memory Kept → Option Failures → Option (Memory Kept)
 counted memory = option_map (λ failures. record memory { failures = failures })
 
 abbrev pub of_as : View → AsAnswer → Answer
 of_as v a = record { reply = Some a.reply; kept = counted v.memory a.failures }
 
--- what is remembered of the client with this authenticator, if it is to be remembered
+-- the client's cache with this authenticator recorded, if it is to be recorded
 abbrev pub stamped : Memory Kept → ℤ → Presented → Option Kept → Option (Memory Kept)
 stamped memory now presented = option_map (λ kept. remembered memory now (stamp_of presented) kept)
 
@@ -55,7 +55,7 @@ refused v at message refusal = record {
   kept = None;
 }
 
--- ---- read from what the octets hold
+-- ---- given the contents of the bytes
 
 abbrev pub answer_of : View → Incoming → Contents → Answer
 answer_of v incoming NoRequest = record { reply = None; kept = None }
@@ -64,7 +64,7 @@ answer_of v incoming (RefusedTgsReq message rejected) = refused v incoming.at me
 answer_of v incoming (TgsReq message p) =
     of_tgs v incoming.at.sec p (tgs_answer (tgs_view v) incoming message.body.value p)
 
--- the octets of a reply spell the message that answers
+-- the bytes of a reply encode the message that answers
 abbrev pub SpelledOf : View → Moment → List ℕ → Contents → List ℕ → Type 0
 SpelledOf v at random NoRequest octets = ⊥
 SpelledOf v at random (AsReq message) octets = AsSpelled (as_view v) at random message octets
@@ -72,7 +72,7 @@ SpelledOf v at random (RefusedTgsReq message rejected) octets =
     krb_error.Spells (tgs_error v.realm at message.body.value rejected.rule) octets
 SpelledOf v at random (TgsReq message p) octets = TgsSpelled (tgs_view v) at random message.body.value p octets
 
--- where a ticket is issued, the reply key opens the reply to the session key, flags and times that the service's key
+-- if a ticket is issued, the reply key decrypts the reply to the session key, flags and times that the service's key
 -- finds in the ticket
 abbrev pub OpensOf : View → Moment → List ℕ → Contents → Type 0
 OpensOf v at random NoRequest = ⊤
@@ -80,14 +80,14 @@ OpensOf v at random (AsReq message) = AsOpens (as_view v) at random message
 OpensOf v at random (RefusedTgsReq message rejected) = ⊤
 OpensOf v at random (TgsReq message p) = TgsOpens (tgs_view v) at random message.body.value p
 
--- where a ticket is issued, these octets spell its reply, which is opened so, or an error in its place
+-- if a ticket is issued, these bytes encode its reply, which is decrypted as above, or an error in its place
 abbrev pub SentOf : View → Moment → List ℕ → Contents → List ℕ → Type 0
 SentOf v at random NoRequest octets = ⊤
 SentOf v at random (AsReq message) octets = AsSent (as_view v) at random message octets
 SentOf v at random (RefusedTgsReq message rejected) octets = ⊤
 SentOf v at random (TgsReq message p) octets = TgsSent (tgs_view v) at random message.body.value p octets
 
--- there is no reply where there is no request, and only there
+-- there is a reply if and only if there is a request
 abbrev pub IsReplyTo : View → Moment → List ℕ → Option (List ℕ) → Contents → Type 0
 IsReplyTo v at random (Some octets) held = SpelledOf v at random held octets
 IsReplyTo v at random None held = held ≡ NoRequest
@@ -96,12 +96,12 @@ abbrev pub IsSentTo : View → Moment → List ℕ → Option (List ℕ) → Con
 IsSentTo v at random (Some octets) held = SentOf v at random held octets
 IsSentTo v at random None held = held ≡ NoRequest
 
--- ---- to a request
+-- ---- given the bytes of a request
 
 abbrev pub answer_to : View → Incoming → Answer
 answer_to v incoming = answer_of v incoming (contents v (request_of incoming.octets))
 
--- `random` are 64 random octets, `room` the most octets of a reply with a ticket, and `octets` the request's own
+-- `random` are 64 random bytes, `room` is the greatest size of a reply with a ticket, and `octets` is the request
 abbrev pub answer : View → Moment → List ℕ → ℕ → List ℕ → Answer
 answer v at random room octets = answer_to v (record { at = at; random = random; room = room; octets = octets })
 
@@ -111,14 +111,14 @@ IsReply v at random request reply = IsReplyTo v at random reply (contents v requ
 abbrev pub ReplyOpens : View → Moment → List ℕ → Option Request → Type 0
 ReplyOpens v at random request = OpensOf v at random (contents v request)
 
--- Where a ticket is issued, what is sent is its reply, and the reply key opens that to the session key, flags and times
--- that the service's key finds in the ticket; or what is sent is an error in its place.
+-- If a ticket is issued, its reply is sent, and the reply key decrypts that to the session key, flags and times that
+-- the service's key finds in the ticket; or an error is sent in its place.
 abbrev pub OneTicketTwoKeys : View → Moment → List ℕ → Option Request → Option (List ℕ) → Type 0
 OneTicketTwoKeys v at random request reply = IsSentTo v at random reply (contents v request)
 
 -- ---- the state afterwards
 
--- the state with a memory kept for a client
+-- the state with a cache stored for a client
 abbrev pub keep : State → Option Components → Option (Memory Kept) → State
 keep state (Some name) (Some memory) = record state { memories = map.insert state.memories name memory }
 keep state (Some name) None = state

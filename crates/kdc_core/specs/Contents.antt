@@ -1,5 +1,6 @@
--- What the octets of a request hold, as far as its ticket and its authenticator were opened. The answer, what that
--- spells, the keys that open it, and the ticket that is issued are each read from it by a line for each case.
+-- The contents of a request: what its bytes encode, with its ticket and authenticator as far as they can be decrypted.
+-- The answer, its encoding, the keys that decrypt it and the ticket that is issued are each read from the contents,
+-- with one line for each case.
 use Rattle.std.specs.Prelude.{◌<◌, ⊤, IfSome, length, Option, Some, None, Result, Ok, Err}
 use Rattle.krb_elements.specs.Codec.{list_of}
 use Rattle.krb_fields.specs.PrincipalName.{name}
@@ -27,15 +28,15 @@ abbrev pub contents : View → Option Request → Contents
 contents v (Some request) = contents_in v request.exchange request.message
 contents v None = NoRequest
 
--- what a TGS-REQ presents, where ticket and authenticator were opened
+-- what a TGS-REQ presents, if its ticket and authenticator can be decrypted
 abbrev pub presented_in : Contents → Option Presented
 presented_in NoRequest = None
 presented_in (AsReq message) = None
 presented_in (RefusedTgsReq message rejected) = None
 presented_in (TgsReq message p) = Some p
 
--- The names by which it is answered. A TGS-REQ that is refused may name a client and a service (`named` says whom), but
--- is answered by none: whatever is named gets the same answer.
+-- The names that the answer depends on. A refused TGS-REQ may name a client and a service (`named` says which), but its
+-- answer depends on neither: it is the same whatever the request names.
 abbrev pub names_answered : Contents → Named
 names_answered NoRequest = record { client = None; service = None }
 names_answered (AsReq message) = record {
@@ -45,7 +46,7 @@ names_answered (AsReq message) = record {
 names_answered (RefusedTgsReq message rejected) = record { client = None; service = None }
 names_answered (TgsReq message p) = names_presented message p
 
--- ---- the texts in them are short, as those of a request are
+-- ---- the texts in them are short, as in every request
 
 abbrev pub IsShortName : Received → Type 0
 IsShortName message = IfSome message.body.value.sname (λ n. length (name.text n) < 2147483648)

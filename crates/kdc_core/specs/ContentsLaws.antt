@@ -1,4 +1,4 @@
--- What the octets of a request hold names its client and its service, and so it is answered from the view of these.
+-- The contents of a request give the names of its client and its service, so it is answered from the view of these.
 use Rattle.std.proofs.Common.{◌≡◌, ℕ, List, Option, Some, None, Result, Ok, Err, refl, sym, ap, subst, ◌∙◌}
 use Rattle.std.specs.Prelude.{⊤, IfOk}
 use Rattle.krb_fields.specs.Name.{Components}
@@ -28,7 +28,7 @@ use Rattle.kdc_core.specs.declared.contents.Contents.{Contents}
 use Rattle.kdc_core.specs.declared.contents.Contents.TheVariants.{NoRequest, AsReq, RefusedTgsReq, TgsReq}
 use Rattle.kdc_core.specs.declared.mark.Mark.{Mark}
 
--- ---- what is presented has the client of the ticket that was opened
+-- ---- what is presented has the client of the decrypted ticket
 
 presented_client : (v : TicketView) (message : Received) (p : Presented) → presented v message ≡ Ok p
     → client_of (opened_ticket v message) ≡ Some p.ticket.cname.components
@@ -36,7 +36,7 @@ presented_client v message p e =
     let (o, opens, same) = ticket_opened v message p e in
     ap client_of opens ∙ ap (λ (part : EncTicketPart). Some part.cname.components) same
 
--- ---- so what the octets hold gives the names of the request
+-- ---- so the contents give the names of the request
 
 abbrev pub AreNamesOf : Named → Contents → Type 0
 AreNamesOf names NoRequest = ⊤
@@ -103,7 +103,7 @@ module _ {A E : Type 0} (state : State) (incoming : Incoming) (r : Result A E) w
   abbrev Spells : (A → Option (List ℕ)) → Named → Contents → Type 0
   Spells octets names held = IfOk r (λ a. IsReplyTo (view_of state names) incoming.at incoming.random (octets a) held)
 
-  -- the octets of the answer to a TGS-REQ that is refused depend on the realm alone
+  -- the bytes of the answer to a refused TGS-REQ depend on the realm alone
   refused_so : (o : Option (List ℕ)) (names other : Named) (message : Received) (rejected : Rejection)
       → IsReplyTo (view_of state names) incoming.at incoming.random o (RefusedTgsReq message rejected)
       → IsReplyTo (view_of state other) incoming.at incoming.random o (RefusedTgsReq message rejected)
@@ -142,7 +142,7 @@ module _ {A E : Type 0} (state : State) (incoming : Incoming) (r : Result A E) w
   opens_so names (RefusedTgsReq message rejected) names_are h = h
   opens_so names (TgsReq message p) names_are h = subst (λ (n : Named). Opens n (TgsReq message p)) (sym names_are) h
 
--- ---- of what was read from the octets
+-- ---- for what was read from the bytes
 
 module _ {A E : Type 0} (state : State) (incoming : Incoming) (r : Result A E) (held : Contents)
     (is : held ≡ contents (view state incoming.octets) (request_of incoming.octets)) where
@@ -176,7 +176,7 @@ module _ {A E : Type 0} (state : State) (incoming : Incoming) (r : Result A E) (
       (request_of incoming.octets))
   opens_held h = subst (λ (h : Contents). Opens state incoming r names h) is (opens_so state incoming r names held names_are h)
 
--- ---- what is kept of an authenticator
+-- ---- what is stored for an authenticator
 
 pub stamped_after : (state : State) (at : Moment) (p : Presented) (kept : Option Kept)
     → after state (stamped_of at p kept) ≡ keep state (Some p.ticket.cname.components)

@@ -1,4 +1,4 @@
--- The ticket that a request is issued, if it is issued one, and which replies are those of a ticket.
+-- The ticket that a request is issued, if any, and which replies bear a given ticket.
 use Rattle.std.specs.Prelude.{ℕ, List, Option, Some, None}
 use Rattle.as_exchange.specs.Issued as as_exchange
 use Rattle.tgs_exchange.specs.Issued as tgs_exchange
@@ -16,11 +16,11 @@ issued_of v at random (AsReq message) = as_exchange.issued (as_view v) at random
 issued_of v at random (RefusedTgsReq message rejected) = None
 issued_of v at random (TgsReq message p) = tgs_exchange.issued (tgs_view v) at random message.body.value p
 
--- what a request is issued at this moment, with these random octets; a reply that was kept is issued once
+-- what a request is issued at this moment, with these random bytes; a reply that is sent again issues nothing new
 abbrev pub issued : View → Moment → List ℕ → Option Request → Option Issue
 issued v at random request = issued_of v at random (contents v request)
 
--- a reply is the one that bears the ticket, or an error where it had no room
+-- a reply bears the ticket, or is an error because there was no room for it
 abbrev pub IsReplyOf : Issue → Option (List ℕ) → Type 0
 IsReplyOf issue (Some octets) = IsIssuedOrError issue octets
 IsReplyOf issue None = ⊥

@@ -1,4 +1,4 @@
--- The reply to a request that is issued a ticket is that ticket's.
+-- The reply to a request that is issued a ticket bears that ticket.
 use Rattle.std.proofs.Common.{◌≡◌, ◌≤◌, ℕ, List, length, Option, Some, None, Result, Ok, Err, IfOk, IfSome, refl, sym}
 use Rattle.std.proofs.Common.{subst}
 use Rattle.as_exchange.specs.IssuedLaws as as_exchange
@@ -33,7 +33,8 @@ module _ (v : View) (at : Moment) (random octets : List ℕ) where
     issued_so (TgsReq message p) sent e =
         tgs_exchange.reply_is_issued (tgs_view v) at random octets message.body.value p long issue sent e
 
-    -- The reply to a request that is issued a ticket is that ticket's, or an error where it has no room.
+    -- The reply to a request that is issued a ticket bears that ticket, or is an error because there was no room for
+    -- it.
     pub reply_is_issued : (request : Option Request) → OneTicketTwoKeys v at random request (Some octets)
         → issued v at random request ≡ Some issue → IsIssuedOrError issue octets
     reply_is_issued request sent e = issued_so (contents v request) sent e
@@ -44,7 +45,7 @@ module _ (v : View) (at : Moment) (random : List ℕ) where
   sent_to held (Some octets) spelled opens = sent_so v at random octets held spelled opens
   sent_to held None nothing opens = nothing
 
-  -- What a call sends spells what answers, and is opened as that is.
+  -- What a call sends encodes the answer, and is decrypted as the answer is.
   pub replies_sent : {A E : Type 0} (octets_of : A → Option (List ℕ)) (request : Option Request) (r : Result A E)
       → IfOk r (λ a. IsReply v at random request (octets_of a)) → IfOk r (λ a. ReplyOpens v at random request)
       → IfOk r (λ a. OneTicketTwoKeys v at random request (octets_of a))
@@ -63,7 +64,7 @@ module _ (v : View) (at : Moment) (random : List ℕ) where
     replied held None nothing =
         subst (λ (h : Contents). IfSome (issued_of v at random h) (λ issue. ⊥)) (sym nothing) tt
 
-    -- What a call sends to a request that is issued a ticket is that ticket's reply, or an error in its place.
+    -- What a call sends to a request that is issued a ticket bears that ticket, or is an error in its place.
     pub replies_issued : {A E : Type 0} (octets_of : A → Option (List ℕ)) (request : Option Request) (r : Result A E)
         → IfOk r (λ a. OneTicketTwoKeys v at random request (octets_of a))
         → IfOk r (λ a. IfSome (issued v at random request) (λ issue. IsReplyOf issue (octets_of a)))

@@ -11,7 +11,7 @@ pub mod Tickets
 pub mod Marked
 pub mod Unaffected
 pub mod Unseen
--- what private clauses and proofs cite: no reader of a public contract needs it
+-- private clauses and proofs cite these; no reader of a public contract needs them
 pub mod After
 pub mod ContentsLaws
 pub mod AgreementLaws

@@ -1,4 +1,4 @@
--- What is kept of an authenticator says whether its reply bears a ticket.
+-- What is stored for an authenticator says whether its reply bears a ticket.
 use Rattle.std.specs.Prelude.{◌≡◌, List, IfSome}
 use Rattle.std.specs.FinMap as map
 use Rattle.krb_fields.specs.Name.{Components}
@@ -15,14 +15,14 @@ use Rattle.kdc_core.specs.Run.{run}
 use Rattle.kdc_core.specs.Tickets.{bears_ticket}
 use Rattle.kdc_core.specs.declared.run.Event.{Event}
 
--- it says so rightly
+-- its mark is correct
 abbrev pub IsMarked : Kept → Type 0
 IsMarked kept = is_ticket kept.bears ≡ bears_ticket kept.reply
 
 abbrev pub AreMarked : Memory Kept → Type 0
 AreMarked memory = (stamp : Stamp) → IfSome (map.get memory.pairs stamp) IsMarked
 
--- whatever is kept of any client
+-- everything that is stored for any client
 abbrev pub AllMarked : State → Type 0
 AllMarked state = (client : Components) → AreMarked (memory_of state client)
 

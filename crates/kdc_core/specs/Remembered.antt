@@ -1,4 +1,4 @@
--- The authenticators that a run remembers, and what of them a start has to resume with.
+-- The authenticators that a run records, and those that a later start has to resume with.
 use Rattle.std.specs.Prelude.{◌≡◌, ℕ, ℤ, pos, ◌-ℤ◌, ◌≤ℤ◌, ⊤, IsTrue, List, [], ◌∷◌, ◌++◌, Option, Some, None, IfSome}
 use Rattle.std.specs.FinMap as map
 use Rattle.std.specs.Option.{is_some}
@@ -30,9 +30,9 @@ use Rattle.kdc_core.specs.declared.contents.Contents.TheVariants.{NoRequest, AsR
 use Rattle.kdc_core.specs.declared.run.Event.{Event}
 use Rattle.kdc_core.specs.declared.run.Event.TheVariants.{Request, Change, Replace, Tidy, Restart, Reopen, Resume}
 
--- ---- what is remembered
+-- ---- what is recorded
 
--- the authenticator that is presented, with the client of its ticket, where something is kept for it
+-- the presented authenticator, with the client of its ticket, if something is stored for it
 abbrev pub seen_of : Presented → Option Kept → Option Seen
 seen_of p (Some kept) = Some (record {
   client = p.ticket.cname;
@@ -51,12 +51,12 @@ remembered_of v incoming (TgsReq message p) =
 abbrev pub remembered_to : View → Incoming → Option Seen
 remembered_to v incoming = remembered_of v incoming (contents v (request_of incoming.octets))
 
--- as `answer` of specs/Answer.antt: what that answer makes the state remember
+-- takes what `answer` of specs/Answer.antt takes, and gives the authenticator that this answer records
 abbrev pub remembered : View → Moment → List ℕ → ℕ → List ℕ → Option Seen
 remembered v at random room octets =
     remembered_to v (record { at = at; random = random; room = room; octets = octets })
 
--- the authenticator that an event makes the state remember, if it does
+-- the authenticator that an event records, if any
 abbrev pub event_remembers : State → Event → Option Seen
 event_remembers state (Request at random room request) = remembered (view state request) at random room request
 event_remembers state (Change change) = None
@@ -66,7 +66,7 @@ event_remembers state (Restart at) = None
 event_remembers state (Reopen database limits at) = None
 event_remembers state (Resume database limits resumption) = None
 
--- all that a run remembers, in order
+-- all that a run records, in order
 abbrev pub run_remembers : State → List Event → List Seen
 run_remembers state [] = []
 run_remembers state (event ∷ events) =
@@ -74,12 +74,12 @@ run_remembers state (event ∷ events) =
 
 -- ---- what a start has to resume with
 
--- What is resumed with covers the state: an authenticator that is remembered of a client, or is too old, is so
--- afterwards too.
+-- The resumption covers the state: an authenticator of a client that is recorded in the state, or is too old for it, is
+-- recorded or too old afterwards too.
 abbrev pub Covers : State → Resumption → Type 0
 Covers state r = (c : Components) → Holds (memory_of state c) (resumed_memory r c)
 
--- an event of a process that goes on, which is no later than this second
+-- an event within one process, no later than this second
 abbrev pub IsUpTo : ℤ → Event → Type 0
 IsUpTo now (Request at random room request) = at.sec ≤ℤ now
 IsUpTo now (Change change) = ⊤
@@ -93,12 +93,12 @@ abbrev pub AreUpTo : ℤ → List Event → Type 0
 AreUpTo now [] = ⊤
 AreUpTo now (event ∷ events) = IsUpTo now event × AreUpTo now events
 
--- with what a run remembered, at a second
+-- with what a run recorded, at a second
 abbrev pub resumption_at : ℤ → Resumption → List Seen → Resumption
 resumption_at now r seen = record { floor = int_max r.floor (now -ℤ pos skew); seen = r.seen ++ seen }
 
--- Whatever covers a state, with what a run from there remembers, covers the state in the end: at any second that no
--- event of the run is later than.
+-- If a resumption covers a state, then it covers the state at the end of a run, once what the run recorded is added.
+-- Its second may be any that no event of the run is later than.
 abbrev pub CoversOn : Type 0
 CoversOn = (state : State) (events : List Event) (r : Resumption) (now : ℤ) → Covers state r → AreUpTo now events
     → Covers (run state events) (resumption_at now r (run_remembers state events))
@@ -114,14 +114,14 @@ CoversOpened = (database : Principals) (limits : Limits) (opening : Opening)
 abbrev pub CoversResumed : Type 0
 CoversResumed = (database : Principals) (limits : Limits) (r : Resumption) → Covers (resumed_state database limits r) r
 
--- nothing else is said to be remembered: the state has the authenticator afterwards
+-- nothing else is reported as recorded: the state has the authenticator afterwards
 abbrev pub HasRemembered : Type 0
 HasRemembered = (state : State) (event : Event)
     → IfSome (event_remembers state event) (λ seen.
     IsTrue (is_some (map.get (memory_of (after_event state event) seen.client.components).pairs (stamp_seen seen))))
 
--- A process that goes on from an opening, or from what another resumed with, can be resumed: what it began with and
--- what it has remembered since cover its state.
+-- A process that began with an opening, or with what another resumed with, can be resumed: what it began with and what
+-- it has recorded since cover its state.
 pub record CanBeResumed : Type 0 where
   pub remembered : HasRemembered
   pub on : CoversOn

@@ -1,4 +1,4 @@
--- What a request makes the state remember, by the names that its contents give.
+-- The authenticator that a request records, by the names that its contents give.
 use Rattle.std.proofs.Common.{◌≡◌, List, Option, None, Result, IfOk, refl, sym, subst}
 use Rattle.kdc_replies.specs.Incoming.{Incoming}
 use Rattle.replay.specs.declared.seen.Seen.{Seen}
@@ -24,7 +24,7 @@ module _ {A E : Type 0} (state : State) (incoming : Incoming) (r : Result A E) w
   remembered_by seen names (TgsReq message p) names_are h =
       subst (λ (n : Named). Remembers seen n (TgsReq message p)) (sym names_are) h
 
--- of what was read from the octets
+-- for what was read from the bytes
 module _ {A E : Type 0} (state : State) (incoming : Incoming) (r : Result A E) (held : Contents)
     (is : held ≡ contents (view state incoming.octets) (request_of incoming.octets)) where
   pub remembered_answered : (seen : A → Option Seen) → Remembers state incoming r seen (names_answered held) held
@@ -35,7 +35,7 @@ module _ {A E : Type 0} (state : State) (incoming : Incoming) (r : Result A E) (
       (subst (λ (h : Contents). AreNamesOf (named state incoming.octets) h) (sym is)
       (are_names_of state (request_of incoming.octets))) h)
 
--- ---- what gets no reply makes it remember nothing
+-- ---- a request without a reply records nothing
 
 unremembered_of : (v : View) (incoming : Incoming) (held : Contents) → (answer_of v incoming held).reply ≡ None
     → remembered_of v incoming held ≡ None

@@ -1,4 +1,4 @@
--- The request that octets are is the one that they spell.
+-- Reading bytes gives the request that they encode.
 use Rattle.std.proofs.Common.{◌≡◌, ◌↔◌, ℕ, ◌≤◌, Bool, true, false, cond, List, length, Option, Some, None, Result, Ok}
 use Rattle.std.proofs.Common.{Err, refl, ap}
 use Rattle.std.specs.Prelude.{nat_lt}
@@ -25,7 +25,7 @@ was_read false (Err fault) r e = absurd cc
 all_read : IsWhole SpellsReceived (whole received_at)
 all_read = whole_ok SpellsReceived received_at received_ok.reading
 
--- a request is spelled by octets, and they are no more than 2147483647
+-- bytes encode a request, and there are no more than 2147483647 of them
 request_spelled : (bytes : List ℕ) (r : Request) → IsBytes bytes → request_of bytes ≡ Some r
     → SpellsRequest r bytes × (length bytes ≤ 2147483647)
 request_spelled bytes r fits e =

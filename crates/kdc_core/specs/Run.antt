@@ -18,7 +18,7 @@ use Rattle.kdc_core.specs.View.{view}
 use Rattle.kdc_core.specs.declared.run.Event.{Event}
 use Rattle.kdc_core.specs.declared.run.Event.TheVariants.{Request, Change, Replace, Tidy, Restart, Reopen, Resume}
 
--- a request alone gets a reply
+-- only a request gets a reply
 abbrev pub event_reply : State → Event → Option (List ℕ)
 event_reply state (Request at random room request) = (answer (view state request) at random room request).reply
 event_reply state (Change change) = None
@@ -32,12 +32,12 @@ abbrev pub unless_faulty : Option ChangeFault → State → State → State
 unless_faulty (Some fault) old new = old
 unless_faulty None old new = new
 
--- a change that is refused leaves the state as it was
+-- a refused change leaves the state unchanged
 abbrev pub after_change : State → PrincipalChange → State
 after_change state change =
     unless_faulty (refusal state.database change) state (record state { database = changed state.database change })
 
--- another database of the same realm takes the place of the state's; one of another realm changes nothing
+-- another database of the same realm replaces the state's; one of another realm changes nothing
 abbrev pub replaced : State → Principals → State
 replaced state database =
     if pointwise nat_eq database.realm state.database.realm then record state { database = database } else state
@@ -56,12 +56,12 @@ abbrev pub replies : State → List Event → List (Option (List ℕ))
 replies state [] = []
 replies state (event ∷ events) = event_reply state event ∷ replies (after_event state event) events
 
--- the state in the end
+-- the final state
 abbrev pub run : State → List Event → State
 run state [] = state
 run state (event ∷ events) = run (after_event state event) events
 
--- each kind of event alone
+-- each kind of event on its own
 pub request_alone : (state : State) (at : Moment) (random : List ℕ) (room : ℕ) (request : List ℕ)
     → (replies state (Request at random room request ∷ []) ≡ (answer (view state request) at random room request).reply
     ∷ []) × (run state (Request at random room request ∷ []) ≡ after_request state at random room request)
@@ -86,7 +86,7 @@ pub resume_alone : (state : State) (database : Principals) (limits : Limits) (re
     → run state (Resume database limits resumption ∷ []) ≡ resumed_state database limits resumption
 resume_alone state database limits resumption = refl
 
--- a restart opens again with what there is
+-- a restart reopens with the database and the limits of the state
 pub restart_reopens : (state : State) (at : Moment)
     → restarted state at ≡ opened_state state.database state.limits (OpenedAgain at)
 restart_reopens state at = refl

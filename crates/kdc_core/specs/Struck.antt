@@ -1,4 +1,4 @@
--- Struck runs: what is left of a run for one client, when what others ask and change is struck out of it.
+-- Struck runs: the events of a run that concern one client, with the requests and changes of others struck out.
 use Rattle.std.proofs.Common.{◌≡◌, ℕ, Bool, true, false, ◌||◌, if◌then◌else◌, IsTrue, IfSome, List, [], ◌∷◌, Option}
 use Rattle.std.proofs.Common.{Some, None, refl, ap}
 use Rattle.std.specs.Prelude.{⊤}
@@ -41,8 +41,8 @@ is_request_of c state (Restart at) = false
 is_request_of c state (Reopen database limits at) = false
 is_request_of c state (Resume database limits resumption) = false
 
--- whether an event is left for the client c, where the rows of S count: a request of c, a change of c's row or of one
--- of S, and each replacement, tidying and restart
+-- whether an event stays for the client c, when the rows of S matter: a request of c, a change of the row of c or of a
+-- name in S, and each replacement, tidying and restart
 abbrev pub is_left : Components → Names → State → Event → Bool
 is_left c S state (Request at random room request) = is_client c (named state request).client
 is_left c S state (Change change) = eq_by_cmp name_cmp c change.name.components || S change.name.components
@@ -52,22 +52,22 @@ is_left c S state (Restart at) = true
 is_left c S state (Reopen database limits at) = true
 is_left c S state (Resume database limits resumption) = true
 
--- the events that are left, each judged at its place in the run
+-- the events that stay, each judged at its place in the run
 abbrev pub strike : Components → Names → State → List Event → List Event
 strike c S state [] = []
 strike c S state (event ∷ events) =
     if is_left c S state event then event ∷ strike c S (after_event state event) events
     else strike c S (after_event state event) events
 
--- the replies that a run gives to those events that pass a test at their places, in order
+-- the replies of a run to those events that pass a test at their places, in order
 abbrev pub replies_to : (State → Event → Bool) → State → List Event → List (Option (List ℕ))
 replies_to test state [] = []
 replies_to test state (event ∷ events) =
     if test state event then event_reply state event ∷ replies_to test (after_event state event) events
     else replies_to test (after_event state event) events
 
--- the service that an event names, where it is a request of c, is in S, and so is the ticket-granting service of a
--- realm that is opened
+-- the service that an event names, if it is a request of c, is in S; so is the ticket-granting service of a realm that
+-- the event starts with
 abbrev pub NamesWithin : Components → Names → State → Event → Type 0
 NamesWithin c S state (Request at random room request) =
     IsTrue (is_client c (named state request).client)
@@ -79,14 +79,14 @@ NamesWithin c S state (Restart at) = ⊤
 NamesWithin c S state (Reopen database limits at) = IsTrue (S (ticket_granter database.realm))
 NamesWithin c S state (Resume database limits resumption) = IsTrue (S (ticket_granter database.realm))
 
--- each service that a request of c names at its place in the run is in S, and the ticket-granting service of each realm
--- that is opened
+-- each service that a request of c names at its place in the run is in S, and so is the ticket-granting service of each
+-- realm that an event starts with
 abbrev pub ServicesWithin : Components → Names → State → List Event → Type 0
 ServicesWithin c S state [] = ⊤
 ServicesWithin c S state (event ∷ events) =
     NamesWithin c S state event × ServicesWithin c S (after_event state event) events
 
--- a second state has the same realm and limits, and agrees on c's row and memory, and on the rows of S
+-- a second state has the same realm and limits, and agrees on c's row and cache, and on the rows of S
 pub record AgreesFor (c : Components) (S : Names) (state other : State) : Type 0 where
   pub realm : other.database.realm ≡ state.database.realm
   pub limits : other.limits ≡ state.limits
@@ -94,25 +94,25 @@ pub record AgreesFor (c : Components) (S : Names) (state other : State) : Type 0
   pub memory : memory_of other c ≡ memory_of state c
   pub rows : (name : Components) → IsTrue (S name) → map.get other.database.rows name ≡ map.get state.database.rows name
 
--- what a run and the struck run of a second state have to do with each other
+-- how a run and the struck run of a second state are related
 pub record IsIsolated (c : Components) (S : Names) (state other : State) (events struck : List Event) : Type 0 where
   -- the replies to c's requests are, in order, those of the struck run to its requests
   pub own : replies_to is_request other struck ≡ replies_to (is_request_of c) state events
-  -- the struck run gives each event that is left what the run gives it
+  -- the struck run gives each event that stays the reply that the run gives it
   pub left : replies other struck ≡ replies_to (is_left c S) state events
-  -- the two agree for c in the end
+  -- the final states agree for c
   pub afterwards : AgreesFor c S (run state events) (run other struck)
 
--- What others ask and change doesn't change what a client gets: for every client c, every set S of names that holds the
--- ticket-granting service and each service that c's requests name, and every second state that agrees for c. No moment
--- has to follow another.
+-- What others request and change doesn't change what a client gets. This holds for every client c, for every set S of
+-- names that holds the ticket-granting service and each service that c's requests name, and for every second state that
+-- agrees for c. The moments need not be in order.
 abbrev pub Isolation : State → List Event → Type 0
 Isolation state events =
     (c : Components) (S : Names) (other : State) → IsTrue (S (ticket_granter state.database.realm))
     → ServicesWithin c S state events → AgreesFor c S state other
     → IsIsolated c S state other events (strike c S state events)
 
--- all replies of a run are those to whatever comes
+-- the replies of a run are its replies to all events
 pub replies_to_all : (state : State) (events : List Event)
     → replies_to (λ state event. true) state events ≡ replies state events
 replies_to_all state [] = refl

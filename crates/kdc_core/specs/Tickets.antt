@@ -1,4 +1,4 @@
--- The tickets that are issued in a run, each with the time of the authenticator that bought it.
+-- The tickets that are issued in a run, each with the time of its authenticator.
 use Rattle.std.specs.Prelude.{ℕ, ◌+◌, ℤ, ◌≤ℤ◌, Bool, nat_eq, get_or, if◌then◌else◌, ⊤, List, [], ◌∷◌, Option}
 use Rattle.std.specs.Prelude.{Some, None}
 use Rattle.krb_fields.specs.Name.{Components}
@@ -27,9 +27,9 @@ RestartsFrom now (Restart at ∷ events) = (now ≤ℤ at.sec) × RestartsFrom n
 RestartsFrom now (Reopen database limits at ∷ events) = (now ≤ℤ at.sec) × RestartsFrom now events
 RestartsFrom now (Resume database limits resumption ∷ events) = RestartsFrom now events
 
--- No restart is before the second of a request that came earlier. This is all that is asked, and less than that moments
--- rise: those of requests may go back while the KDC runs, those of restarts among themselves, and tidying may be of any
--- moment, so the law is stronger than one of runs whose moments rise.
+-- No restart is before the second of an earlier request. That is all the law needs, and it is weaker than ordered
+-- moments: the moments of requests may go back while the KDC runs, those of restarts may go back among themselves, and
+-- tidyings may have any moment.
 abbrev pub RestartsFollow : List Event → Type 0
 RestartsFollow [] = ⊤
 RestartsFollow (Request at random room request ∷ events) = RestartsFrom at.sec events × RestartsFollow events
@@ -40,7 +40,7 @@ RestartsFollow (Restart at ∷ events) = RestartsFollow events
 RestartsFollow (Reopen database limits at ∷ events) = RestartsFollow events
 RestartsFollow (Resume database limits resumption ∷ events) = RestartsFollow events
 
--- what is resumed with covers the state
+-- the resumption covers the state
 abbrev pub ResumesWithAll : State → Event → Type 0
 ResumesWithAll state (Request at random room request) = ⊤
 ResumesWithAll state (Change change) = ⊤
@@ -50,16 +50,16 @@ ResumesWithAll state (Restart at) = ⊤
 ResumesWithAll state (Reopen database limits at) = ⊤
 ResumesWithAll state (Resume database limits resumption) = Covers state resumption
 
--- so it is at each place of a run where it resumes; nothing is asked of the moment there
+-- this holds at each place of a run where it resumes; the moment there may be any
 abbrev pub ResumesFollow : State → List Event → Type 0
 ResumesFollow state [] = ⊤
 ResumesFollow state (event ∷ events) = ResumesWithAll state event × ResumesFollow (after_event state event) events
 
--- what a request presents, where it is a TGS-REQ that was opened
+-- what a request presents, if it is a TGS-REQ that can be decrypted
 abbrev pub presented_by : State → Option Read → Option Presented
 presented_by state request = presented_in (contents (view_of state (named_by state request)) request)
 
--- whether a reply bears a ticket: its octets begin with the tag of a TGS-REP, [APPLICATION 13]
+-- whether a reply bears a ticket: its bytes begin with the tag of a TGS-REP, [APPLICATION 13]
 abbrev pub bears_ticket : List ℕ → Bool
 bears_ticket octets = nat_eq (get_or octets 0 0) (96 + 13)
 
@@ -80,7 +80,7 @@ ticket_for c state (Restart at) reply = None
 ticket_for c state (Reopen database limits at) reply = None
 ticket_for c state (Resume database limits resumption) reply = None
 
--- the ticket that a request of the client c gets by an authenticator
+-- the ticket that a request of the client c gets for an authenticator
 abbrev pub ticket_to : Components → State → Event → Option (Stamp × List ℕ)
 ticket_to c state event = ticket_for c state event (event_reply state event)
 
@@ -88,8 +88,8 @@ ticket_to c state event = ticket_for c state event (event_reply state event)
 abbrev pub tickets_to : Components → State → List Event → List (Stamp × List ℕ)
 tickets_to c = collected after_event (ticket_to c)
 
--- One ticket per authenticator: where two TGS-REQs of one client have authenticators with the same ctime and cusec, and
--- both replies bear a ticket, the replies are equal.
+-- One ticket per authenticator: if two TGS-REQs of one client have authenticators with the same ctime and cusec, and
+-- both replies bear a ticket, then the replies are equal.
 abbrev pub OneTicket : State → List Event → Type 0
 OneTicket state events =
     RestartsFollow events → ResumesFollow state events → (c : Components) → OneForEach (tickets_to c state events)

@@ -1,4 +1,4 @@
--- Runs in which a client asks the same, whatever others ask in either, and whatever rows others have.
+-- Runs in which a client sends the same requests, whatever others request in either, and whatever rows others have.
 use Rattle.std.specs.Prelude.{◌≡◌, ⊤, IsTrue, List, [], ◌∷◌}
 use Rattle.std.specs.FinMap as map
 use Rattle.krb_fields.specs.Name.{Components}
@@ -17,7 +17,7 @@ pub record HasSameRows (c : Components) (S : Names) (database other : Principals
   pub row : map.get other.rows c ≡ map.get database.rows c
   pub rows : (name : Components) → IsTrue (S name) → map.get other.rows name ≡ map.get database.rows name
 
--- the same event; a database that takes a place may have other rows for others, and what is resumed with may have other
+-- the same event; a database that replaces another may have other rows for others, and a resumption may have other
 -- authenticators of others
 abbrev pub IsAlike : Components → Names → Event → Event → Type 0
 IsAlike c S (Request at random room request) other = other ≡ Request at random room request
@@ -38,14 +38,14 @@ AreAlike c S [] (other ∷ others) = ⊥
 AreAlike c S (event ∷ events) [] = ⊥
 AreAlike c S (event ∷ events) (other ∷ others) = IsAlike c S event other × AreAlike c S events others
 
--- c's requests get the same replies, in order, and the two agree for c in the end
+-- c's requests get the same replies, in order, and the final states agree for c
 pub record GetsTheSame (c : Components) (S : Names) (state other : State) (events others : List Event) : Type 0 where
   pub replies : replies_to (is_request_of c) other others ≡ replies_to (is_request_of c) state events
   pub afterwards : AgreesFor c S (run state events) (run other others)
 
--- Two runs of which the same is left for c but for what databases that take a place and resumptions have of others,
--- from states that agree for it: for every set S of names that holds the ticket-granting service and each service that
--- c's requests name in either.
+-- Two runs from states that agree for c, in which the same events stay for c; only what their replacement databases and
+-- resumptions hold for others may differ. This holds for every set S of names that holds the ticket-granting service
+-- and each service that c's requests name in either run.
 abbrev pub Unaffected : Type 0
 Unaffected = (c : Components) (S : Names) (state other : State) (events others : List Event)
     → IsTrue (S (ticket_granter state.database.realm)) → ServicesWithin c S state events

@@ -1,4 +1,4 @@
--- Runs in which what can't come again is forgotten, and the same runs in which it is kept.
+-- Runs with tidyings, and the same runs without them.
 use Rattle.std.specs.Prelude.{◌≡◌, ℤ, ◌≤ℤ◌, ⊤, List, [], ◌∷◌}
 use Rattle.kdc_state.specs.declared.state.State.{State}
 use Rattle.kdc_core.specs.Struck.{is_request, replies_to}
@@ -16,7 +16,7 @@ RequestsFrom second (Restart at ∷ events) = RequestsFrom second events
 RequestsFrom second (Reopen database limits at ∷ events) = RequestsFrom second events
 RequestsFrom second (Resume database limits resumption ∷ events) = RequestsFrom second events
 
--- no request is before the second of a tidying that came earlier
+-- no request is before the second of an earlier tidying
 abbrev pub RequestsFollow : List Event → Type 0
 RequestsFollow [] = ⊤
 RequestsFollow (Request at random room request ∷ events) = RequestsFollow events
@@ -38,8 +38,7 @@ untidied (Restart at ∷ events) = Restart at ∷ untidied events
 untidied (Reopen database limits at ∷ events) = Reopen database limits at ∷ untidied events
 untidied (Resume database limits resumption ∷ events) = Resume database limits resumption ∷ untidied events
 
--- Where no request is before a tidying that came earlier, the requests get the replies that they get where nothing is
--- tidied.
+-- If no request is before an earlier tidying, the requests get the replies that they get without any tidying.
 abbrev pub TidiesUnseen : Type 0
 TidiesUnseen = (state : State) (events : List Event) → RequestsFollow events
     → replies_to is_request state events ≡ replies_to is_request state (untidied events)

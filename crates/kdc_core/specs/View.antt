@@ -36,7 +36,7 @@ abbrev pub row_of : State → Option Components → Option Row
 row_of state (Some name) = map.get state.database.rows name
 row_of state None = None
 
--- what a ticket is opened from that comes with a request
+-- the rows that the ticket in a request is decrypted with
 abbrev pub ticket_view : State → Received → tgs_opening.TicketView
 ticket_view state message = record {
   realm = state.database.realm;
@@ -44,12 +44,12 @@ ticket_view state message = record {
   service = row_of state (components_of message.body.value.sname);
 }
 
--- the client in a ticket that was opened
+-- the client in a decrypted ticket
 abbrev pub client_of : Result OpenedTicket TgsRefusal → Option Components
 client_of (Ok ticket) = Some ticket.part.cname.components
 client_of (Err refusal) = None
 
--- AS-REQ: the body's client. TGS-REQ: the client of the presented ticket, if that can be opened
+-- AS-REQ: the body's client. TGS-REQ: the client of the presented ticket, if that can be decrypted
 abbrev pub client_in : State → Exchange → Received → Option Components
 client_in state As message = components_of message.body.value.cname
 client_in state Tgs message = client_of (opened_ticket (ticket_view state message) message)
@@ -67,8 +67,8 @@ named_by state None = record { client = None; service = None }
 abbrev pub named : State → List ℕ → Named
 named state bytes = named_by state (request_of bytes)
 
--- realm and limits, the rows of the named client, of the named service and of the ticket-granting service,
--- and the named client's memory
+-- realm and limits, the rows of the named client, of the named service and of the ticket-granting service, and the
+-- named client's replay cache
 pub record View : Type 0 where
   pub realm : List ℕ
   pub limits : Limits
@@ -77,7 +77,7 @@ pub record View : Type 0 where
   pub granter : Option Row
   pub memory : Memory Kept
 
--- where no client is named, that of a first opening, of which no answer is made
+-- if no client is named, the cache of a first opening; no answer depends on it
 abbrev pub memory_named : State → Option Components → Memory Kept
 memory_named state (Some name) = memory_of state name
 memory_named state None = opened_memory First
@@ -96,7 +96,7 @@ view_of state names = record {
 abbrev pub view_in : State → Exchange → Received → View
 view_in state exchange message = view_of state (named_in state (record { exchange = exchange; message = message }))
 
--- the client of the presented ticket, and the service that is asked for
+-- the client of the presented ticket, and the requested service
 abbrev pub names_presented : Received → Presented → Named
 names_presented message p =
     record { client = Some p.ticket.cname.components; service = components_of message.body.value.sname }
@@ -107,7 +107,7 @@ presented_view state message p = view_of state (names_presented message p)
 abbrev pub view : State → List ℕ → View
 view state bytes = view_of state (named state bytes)
 
--- a second state with the same realm and limits agrees at what the octets name in the first
+-- a second state with the same realm and limits agrees at what the bytes name in the first
 pub record Agrees (state other : State) (bytes : List ℕ) : Type 0 where
   pub realm : other.database.realm ≡ state.database.realm
   pub limits : other.limits ≡ state.limits
@@ -117,12 +117,12 @@ pub record Agrees (state other : State) (bytes : List ℕ) : Type 0 where
       (λ c. (map.get other.database.rows c ≡ map.get state.database.rows c) × (memory_of other c ≡ memory_of state c))
   pub service : IfSome (named state bytes).service (λ s. map.get other.database.rows s ≡ map.get state.database.rows s)
 
--- what the AS exchange answers from
+-- the part that the AS exchange answers from
 abbrev pub as_view : View → as_exchange.AsView
 as_view v =
     record { realm = v.realm; limits = v.limits; client = v.client; service = v.service; failures = v.memory.failures }
 
--- what the TGS exchange opens a ticket from, and what it answers from
+-- the parts that the TGS exchange decrypts a ticket with, and answers from
 abbrev pub opening_view : View → tgs_opening.TicketView
 opening_view v = record { realm = v.realm; granter = v.granter; service = v.service }
 

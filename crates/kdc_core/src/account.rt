@@ -1,4 +1,4 @@
-//! The answer to a request: the reply, and an account of what became of the request.
+//! The answer to a request: the reply, and an account of how the request was handled.
 ghost use Rattle.std.specs.Prelude.{◌≡◌, IfOk, None, option_copied};
 ghost use Rattle.kdc_core.specs.Account.{names_in, with_names};
 ghost use Rattle.kdc_core.specs.Request.{request_of};
@@ -11,20 +11,20 @@ use replay::Seen;
 use std::alloc::{AllocError, Global};
 use tgs_exchange::TgsOutcome;
 
-/// What became of a request, with the names that it gives. Logs are made of it. No reply depends on it.
+/// How a request was handled, with the names that it gives. Logs are built from it. No reply depends on it.
 ///
-/// `N` is the type of the names that the request gives: borrowed from its octets ([`NameRef`]), or owned.
+/// `N` is the type of the names that the request gives: borrowed from its bytes ([`NameRef`]), or owned.
 #[derive(Drop)]
 pub enum Account<N = Name> {
-    /// The octets were no request.
+    /// The bytes encode no request.
     NoRequest,
-    /// The client is the one that the request names. A ticket's flag PRE-AUTHENT says whether it showed its key.
+    /// The client is the one that the request names. A ticket's flag PRE-AUTHENT says whether it proved its key.
     As {
         client: Option<N>,
         service: Option<N>,
         outcome: AsOutcome,
     },
-    /// The client is that of the presented ticket, if it could be opened.
+    /// The client is that of the presented ticket, if that could be decrypted.
     Tgs {
         client: Option<Name>,
         service: Option<N>,
@@ -32,12 +32,12 @@ pub enum Account<N = Name> {
     },
 }
 
-/// The reply to a request, if it gets one, the account of it, and the authenticator that it leaves remembered, if any.
+/// The reply to a request, if there is one; the account of the request; and the authenticator that it records, if any.
 #[derive(Drop)]
 pub struct Answer<'q> {
     pub reply: Option<Vec<u8>>,
     pub account: Account<NameRef<'q>>,
-    /// A request that is refused may leave one, too: where its authenticator was new.
+    /// A refused request may record one too: if its authenticator was new.
     pub remembered: Option<Seen>,
 }
 
@@ -49,7 +49,7 @@ pub struct RequestNames {
 }
 
 impl RequestNames {
-    /// Copies the names that the octets of a request give. Octets that are no request give none.
+    /// Copies the names that the bytes of a request give. Bytes that encode no request give none.
     pub fn copied(alloc: Global, octets: &[u8]) -> Result<RequestNames, AllocError>
         ensures { IfOk result (λ names. names ≡ names_in (request_of octets.now)) }
     {
@@ -75,7 +75,7 @@ impl RequestNames {
 }
 
 impl Account<NameRef<'_>> {
-    /// The same account, which owns its names: those that the request gives, copied before.
+    /// Returns the same account with its own names: `names` are copies of those that the request gives.
     pub fn with_names(self, names: RequestNames) -> Account
         ensures { result ≡ with_names names self.entry }
     {

@@ -1,5 +1,5 @@
-//! From a request's octets to the reply, the account of the request, and what is kept of the client. What the octets
-//! hold is read first, and decides.
+//! Answers the bytes of a request: the reply, the account, and the change of the client's replay cache. It reads the
+//! contents of the bytes first; all else follows from them.
 ghost use Rattle.std.specs.Prelude.{◌≡◌, None, IfOk, IfSome, OnOk, OnErr, option_map};
 ghost use Rattle.std.specs.Option.{unwrap_or};
 ghost use Rattle.krb_types.specs.KrbError.{krb_error};
@@ -29,7 +29,7 @@ use std::alloc::{AllocError, Global};
 use tgs_exchange::{TgsOutcome, tgs_error};
 use tgs_opening::Rejection;
 
-/// A reply, the account of its request, and what is to be kept of the client, if anything is.
+/// A reply, the account of its request, and the change to make in the client's replay cache, if any.
 #[derive(Drop)]
 pub struct Answered<'q> {
     pub octets: Vec<u8>,
@@ -37,7 +37,7 @@ pub struct Answered<'q> {
     pub account: Account<NameRef<'q>>,
 }
 
-/// Answers a request, whose octets are `request`, and keeps what has to be remembered of its client.
+/// Answers the request with the bytes `request`, and updates the replay cache of its client.
 pub fn handle<'q>(
     state: &mut State,
     alloc: Global,
@@ -85,7 +85,7 @@ pub fn handle<'q>(
     })
 }
 
-/// The reply to a request, if its octets spell one.
+/// Returns the reply to a request, if its bytes encode one.
 fn reply<'q>(
     state: &State,
     alloc: Global,
@@ -117,7 +117,7 @@ fn reply<'q>(
     reply_to(state, alloc, incoming, held)
 }
 
-/// The reply to what the octets of a request hold.
+/// Returns the reply to the contents of a request.
 fn reply_to<'q>(
     state: &State,
     alloc: Global,
@@ -160,7 +160,7 @@ fn reply_to<'q>(
     }
 }
 
-/// The error that refuses a TGS-REQ whose ticket or authenticator was not opened. Nothing is kept.
+/// Returns the error for a TGS-REQ whose ticket or authenticator was not decrypted. Nothing is recorded.
 fn refused<'q>(
     state: &State,
     alloc: Global,

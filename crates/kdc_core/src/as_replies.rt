@@ -22,7 +22,7 @@ use krb_types::KdcReqRef;
 use replay::Failures;
 use std::alloc::{AllocError, Global};
 
-/// The reply to an AS-REQ.
+/// Returns the reply to an AS-REQ.
 pub fn as_reply<'q>(
     state: &State,
     alloc: Global,
@@ -39,7 +39,7 @@ pub fn as_reply<'q>(
         (answer_of (view_in state.now As message.now) incoming.now (AsReq message.now)).kept) }
     ensures account { IfOk result (λ reply.
         reply.account ≡ account_of (view_in state.now As message.now) incoming.now (AsReq message.now)) }
-    // No authenticator is remembered.
+    // It records no authenticator.
     ensures remembered { IfOk result (λ reply. seen_in reply.mark ≡ None) }
     ensures outcome_spelled { IfOk result (λ reply.
         AccountSpelledOf (view_in state.now As message.now) incoming.now (AsReq message.now) reply.octets.items) }
@@ -69,7 +69,7 @@ pub fn as_reply<'q>(
     })
 }
 
-/// What an AS-REQ is answered from.
+/// Returns the part of the state that an AS-REQ is answered from.
 fn as_view<'s>(state: &'s State, message: &KdcReqRef<'_>) -> AsView<'s>
     requires { IsShortName message.now }
     ensures view { result ≡ as_view (view_in state.now As message.now) }
@@ -85,7 +85,7 @@ fn as_view<'s>(state: &'s State, message: &KdcReqRef<'_>) -> AsView<'s>
     }
 }
 
-/// The failures of a client that a request may name.
+/// Returns the failures of the client that a request names.
 fn failures_of(state: &State, name: Option<&NameRef<'_>>) -> Failures
     ensures { result ≡ (memory_named state.now (components_of (option_copied name.entry))).failures }
 {
@@ -95,7 +95,7 @@ fn failures_of(state: &State, name: Option<&NameRef<'_>>) -> Failures
     }
 }
 
-/// The client whose failures change, if it is named and they do.
+/// Returns the client whose failures change, if it is named and they do.
 fn counted_of(
     alloc: Global,
     name: Option<&NameRef<'_>>,

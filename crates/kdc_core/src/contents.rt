@@ -1,4 +1,4 @@
-//! What the octets of a request hold.
+//! The contents of a request.
 ghost use Rattle.std.specs.Prelude.{◌≡◌, ◌<◌, length, IfOk, IfSome, option_copied};
 ghost use Rattle.krb_elements.specs.Codec.{list_of};
 ghost use Rattle.krb_fields.specs.PrincipalName.{name};
@@ -17,22 +17,22 @@ use sealed_parts::ReadyKeys;
 use std::alloc::{AllocError, Global};
 use tgs_opening::{Presented, Rejection, TicketView, tgs_open};
 
-/// The most octets that are read as a request: the lengths of frames over TCP stop there (RFC 4120, section 7.2.2).
+/// The greatest size of a request, in bytes: lengths of TCP frames end there (RFC 4120, section 7.2.2).
 pub const GREATEST_REQUEST: usize = 2_147_483_647;
 
-/// What the octets of a request hold, as far as they were opened.
+/// The contents of a request's bytes, with the ticket and the authenticator as far as they were decrypted.
 #[derive(Drop)]
 pub enum Contents<'a> {
-    /// Neither an AS-REQ nor a TGS-REQ, or too many octets for one.
+    /// Neither an AS-REQ nor a TGS-REQ, or too many bytes for one.
     NoRequest,
     AsReq(KdcReqRef<'a>),
     /// A TGS-REQ whose ticket or authenticator is refused.
     RefusedTgsReq(KdcReqRef<'a>, Rejection),
-    /// A TGS-REQ with the ticket and the authenticator that it presents, opened.
+    /// A TGS-REQ with the decrypted ticket and authenticator that it presents.
     TgsReq(KdcReqRef<'a>, Presented),
 }
 
-/// Reads the octets of a request, and opens what a TGS-REQ presents, faster by keys that are ready.
+/// Reads the bytes of a request, and decrypts what a TGS-REQ presents. The cached keys make this faster.
 pub fn contents_of<'a>(
     state: &State,
     alloc: Global,
@@ -51,7 +51,7 @@ pub fn contents_of<'a>(
     contents_in(state, alloc, ready, exchange, message)
 }
 
-/// What a request of this exchange holds.
+/// Returns the contents of a request of this exchange.
 fn contents_in<'a>(
     state: &State,
     alloc: Global,
@@ -74,7 +74,7 @@ fn contents_in<'a>(
     }
 }
 
-/// What a TGS-REQ holds, by what became of its ticket and its authenticator.
+/// Returns the contents of a TGS-REQ, given the result for its ticket and authenticator.
 fn tgs_contents(message: KdcReqRef<'_>, presented: Result<Presented, Rejection>) -> Contents<'_>
     requires sname { IfSome message.body.value.sname (λ n. length (name.text n) < 2147483648) }
     requires authorization { IfOk presented (λ p.
@@ -88,7 +88,7 @@ fn tgs_contents(message: KdcReqRef<'_>, presented: Result<Presented, Rejection>)
     }
 }
 
-/// What a TGS-REQ presents.
+/// Decrypts what a TGS-REQ presents.
 fn open_presented(
     state: &State,
     alloc: Global,
@@ -109,7 +109,7 @@ fn open_presented(
     tgs_open(alloc, &view, message)
 }
 
-/// The row of a name that a request may hold.
+/// Returns the row of the name in a request, if the request has a name.
 pub fn row_of<'s>(state: &'s State, name: Option<&NameRef<'_>>) -> Option<&'s Row>
     ensures { option_copied result ≡ row_of state.now (components_of (option_copied name.entry)) }
 {

@@ -36,7 +36,7 @@ use std::error::Error;
 use std::fmt;
 use std::marker::Model;
 
-/// A database of another realm can't take the place of this one's.
+/// A database of another realm can't replace this one.
 #[derive(Clone, Copy, Debug, PartialEq, Eq)]
 pub struct OtherRealm;
 
@@ -48,11 +48,11 @@ impl fmt::Display for OtherRealm {
 
 impl Error for OtherRealm {}
 
-/// A key distribution centre: a state that requests and changes go through.
+/// A key distribution centre: the state behind requests and changes.
 #[derive(Drop)]
 pub struct Kdc {
     state: State,
-    // The keys that were used last. They save time, and no answer hangs on them.
+    // A cache of recently used keys. It affects speed only, never a reply.
     ready: ReadyKeys,
 }
 
@@ -76,7 +76,7 @@ impl Kdc {
         opening: Opening,
     ) -> Result<Kdc, AllocError>
         ensures opened { IfOk result (λ kdc. kdc ≡ opened_state database limits opening) }
-        // After a restart it stands as a run does that goes on by it, whatever there was before.
+        // After a restart it equals the state after a `Reopen` event, whatever came before.
         ensures reopened { (state : states.State) (at : moments.Moment) → opening ≡ Restart at
             → IfOk result (λ kdc. kdc ≡ after_event state (Reopen database limits at)) }
     {
@@ -87,8 +87,9 @@ impl Kdc {
         })
     }
 
-    /// Starts with a database and with what was remembered before: each client's authenticators that were seen are
-    /// refused if they come again, and so is what is below the floor. Nothing else of the time before is.
+    /// Starts with a database and with the authenticators that were seen before. Each client's authenticators in the
+    /// resumption are refused if they come again, and so is every time below the floor. Nothing else is known of the
+    /// time before.
     pub fn resume(
         alloc: Global,
         database: Database,
@@ -96,10 +97,10 @@ impl Kdc {
         resumption: &Resumption,
     ) -> Result<Kdc, AllocError>
         ensures resumed { IfOk result (λ kdc. kdc ≡ resumed_state database limits resumption.now) }
-        // It stands as a run does that goes on by it, whatever there was before.
+        // It equals the state after a `Resume` event, whatever came before.
         ensures goes_on { (state : states.State)
             → IfOk result (λ kdc. kdc ≡ after_event state (Resume database limits resumption.now)) }
-        // Each client has the memory of the resumption.
+        // Each client has the replay cache that the resumption gives it.
         ensures memories { (name : Components)
             → IfOk result (λ kdc. memory_of kdc name ≡ resumed_memory resumption.now name) }
     {
@@ -108,11 +109,11 @@ impl Kdc {
         Ok(Kdc { state, ready })
     }
 
-    /// Answers a request, whatever its octets are: with the octets of a reply or none, and an account of the request.
+    /// Answers any bytes: with the bytes of a reply or none, and an account of the request.
     ///
-    /// `at` is the moment of the request, `random` are 64 random octets, and `room` is the most octets of a
-    /// reply with a ticket. Octets that spell neither an AS-REQ nor a TGS-REQ (RFC 4120, section 5.4.1) get no
-    /// reply, nor do more than 2147483647. A call that is refused memory changes nothing.
+    /// `at` is the moment of the request, `random` are 64 random bytes, and `room` is the greatest size of a reply with
+    /// a ticket. Bytes that encode neither an AS-REQ nor a TGS-REQ (RFC 4120, section 5.4.1) get no reply, and neither
+    /// do more than 2147483647 bytes. A call that runs out of memory changes nothing.
     pub fn handle<'q>(
         &mut self,
         alloc: Global,
@@ -121,48 +122,50 @@ impl Kdc {
         room: u32,
         request: &'q [u8],
     ) -> Result<Answer<'q>, AllocError>
-        // The request is the one that the octets spell, if they spell one and are no more than 2147483647.
+        // The request is the one that the bytes encode, if they encode one and are no more than 2147483647.
         ensures request { (r : Request)
             → (request_of request.now ≡ Some r) ↔ (SpellsRequest r request.now × (length request.now ≤ 2147483647)) }
-        // The reply is the one that the rules say.
+        // The reply is the one that the rules prescribe.
         ensures reply { IfOk result (λ given.
             option_map (λ octets. octets.items) given.reply
             ≡ (answer (view self.old request.now) at random.now room request.now).reply) }
-        // The octets of a reply spell the message that the rules say, or are a reply that was kept.
+        // The bytes of a reply encode the message that the rules prescribe, or are a stored reply.
         ensures spelled { IfOk result (λ given.
             IsReply (view self.old request.now) at random.now (request_of request.now)
             (option_map (λ octets. octets.items) given.reply)) }
-        // Where a ticket is issued, the octets that are sent spell its reply, which the reply key opens to the session
-        // key, flags and times that the service's key finds in the ticket; or they spell an error in its place. Which
-        // of the two the clause `reply` says: an error where the room is too small.
+        // If a ticket is issued, the bytes sent encode its reply, or an error in its place. The reply key decrypts the
+        // reply to the session key, flags and times that the service's key finds in the ticket. The clause `reply` says
+        // which of the two is sent: an error if the room is too small.
         ensures keys { IfOk result (λ given.
             OneTicketTwoKeys (view self.old request.now) at random.now (request_of request.now)
             (option_map (λ octets. octets.items) given.reply)) }
-        // The same, said of the ticket that is issued: what client and service open is what was granted.
+        // The same for the issued ticket: what the client and the service decrypt is what was granted.
         ensures issued { IfOk result (λ given.
             IfSome (issued (view self.old request.now) at random.now (request_of request.now))
             (λ issue. IsReplyOf issue (option_map (λ octets. octets.items) given.reply))) }
         // The account is the one that the same rules give.
         ensures account { IfOk result (λ given.
             given.account ≡ account (view self.old request.now) at random.now room request.now) }
-        // The authenticator that it leaves remembered is the one that the same rules remember: a resumption has to have it.
+        // The authenticator that it reports as recorded is the one that the same rules record: a resumption has to have
+        // it.
         ensures remembered { IfOk result (λ given.
             given.remembered ≡ remembered (view self.old request.now) at random.now room request.now) }
-        // It names the client and the service that the request names.
+        // The account names the client and the service that the request names.
         ensures names { IfOk result (λ given. account_names given.account ≡ named self.old request.now) }
-        // The account is true of the reply. If it says that a ticket was issued, the octets spell the reply for a ticket
-        // with these names, types, flags and times, as client and service decrypt it. If it names a rule that refused,
-        // they spell an error with that rule's code. If it says that a kept reply was sent again, they are that reply.
+        // The account is true of the reply. If it says that a ticket was issued, the bytes encode the reply for a
+        // ticket with these names, types, flags and times, as the client and the service decrypt it. If it names a rule
+        // that refused, they encode an error with that rule's code. If it says that a stored reply was sent again, they
+        // are that reply.
         ensures holds { IfOk result (λ given.
             AccountHolds (view self.old request.now) at random.now (request_of request.now) given.account
             (option_map (λ octets. octets.items) given.reply)) }
-        // The state afterwards is the one that the rules say.
+        // The state afterwards is the one that the rules prescribe.
         ensures state { OnOk result (self.new ≡ after_request self.old at random.now room request.now) }
-        // A second state that agrees at what the request names is answered alike.
+        // A second state that agrees at what the request names gives the same answer.
         ensures agreement { (other : states.State) → Agrees self.old other request.now
             → answer (view other request.now) at random.now room request.now
             ≡ answer (view self.old request.now) at random.now room request.now }
-        // So is the account of it.
+        // It gives the same account too.
         ensures same_account { (other : states.State) → Agrees self.old other request.now
             → account (view other request.now) at random.now room request.now
             ≡ account (view self.old request.now) at random.now room request.now }
@@ -172,7 +175,7 @@ impl Kdc {
         ensures afterwards { (other : states.State) → Agrees self.old other request.now
             → Agrees (after_request self.old at random.now room request.now)
             (after_request other at random.now room request.now) request.now }
-        // No request changes a row, the realm or the limits, nor a memory but the named client's.
+        // No request changes a row, the realm or the limits, or any replay cache but the named client's.
         ensures database { self.new.database ≡ self.old.database }
         ensures limits { self.new.limits ≡ self.old.limits }
         ensures memories { (name : Components) → (named self.old request.now).client ≢ Some name
@@ -189,7 +192,7 @@ impl Kdc {
         handle(&mut self.state, alloc, &incoming, request)
     }
 
-    /// Makes a change of the database. A change that is refused leaves everything as it was.
+    /// Changes the database. A refused change leaves everything unchanged.
     pub fn apply(&mut self, alloc: Global, change: &Change) -> Result<(), ChangeFault>
         ensures changed { OnOk result (self.new ≡ record self.old { database = changed self.old.database change.now }) }
         ensures refused { IfSome (refusal self.old.database change.now) (λ fault. result ≡ Err fault) }
@@ -199,8 +202,8 @@ impl Kdc {
         self.state.database.apply(alloc, change)
     }
 
-    /// Puts another database of the same realm in the place of this one; all else stays. One of another realm changes
-    /// nothing. It takes no memory.
+    /// Replaces the database by another of the same realm; all else is unchanged. One of another realm changes nothing.
+    /// It allocates nothing.
     pub fn replace(&mut self, database: Database) -> Result<(), OtherRealm>
         ensures realm { IsOk result ↔ (database.realm ≡ self.old.database.realm) }
         ensures ok { OnOk result (self.new ≡ record self.old { database = database }) }
@@ -214,11 +217,11 @@ impl Kdc {
         Ok(())
     }
 
-    /// Forgets each client's authenticators that are too old to be accepted again, and drops every memory that then says
-    /// no more than that of a client never seen. It allocates nothing.
+    /// Forgets each client's authenticators that are too old to be accepted again, and drops every replay cache that
+    /// then equals that of a client never seen. It allocates nothing.
     pub fn tidy(&mut self, at: Moment)
         ensures state { self.new ≡ tidied_state self.old at }
-        // Each client's memory is tidied; rows, realm and limits stay.
+        // Each client's cache is tidied; rows, realm and limits are unchanged.
         ensures memories { (name : Components) → memory_of self.new name ≡ tidied (memory_of self.old name) at.sec }
         ensures database { self.new.database ≡ self.old.database }
         ensures limits { self.new.limits ≡ self.old.limits }
@@ -226,11 +229,11 @@ impl Kdc {
         self.state.tidy(at);
     }
 
-    /// Forgets what was remembered, as a process does that ends and starts again: no authenticator that was accepted at
-    /// a moment no later than `at` is accepted again. It takes no memory.
+    /// Forgets all replay caches, as when a process ends and starts again: no authenticator that was accepted at a
+    /// moment no later than `at` is accepted again. It allocates nothing.
     pub fn restart(&mut self, at: Moment)
         ensures state { self.new ≡ restarted self.old at }
-        // Each client has the memory of a restart; rows, realm and limits stay.
+        // Each client has the cache of a restart; rows, realm and limits are unchanged.
         ensures memories { (name : Components) → memory_of self.new name ≡ memories.restarted_memory at.sec }
         ensures database { self.new.database ≡ self.old.database }
         ensures limits { self.new.limits ≡ self.old.limits }
@@ -238,14 +241,14 @@ impl Kdc {
         self.state.restart(at);
     }
 
-    /// The row of a principal, whose name is compared by its components alone.
+    /// Returns the row of a principal. Names are compared by their components alone.
     pub fn get(&self, name: &Name) -> Option<&Row>
         ensures { option_copied result ≡ map.get self.now.database.rows name.now.components }
     {
         self.state.database.get(name)
     }
 
-    /// The octets of a KRB-ERROR that answers no request that was read, as one for a length that is too large
+    /// Returns the bytes of a KRB-ERROR for a request that was not read, such as one for a length that is too large
     /// (RFC 4120, section 7.2.2).
     pub fn error(&self, alloc: Global, at: Moment, code: Code) -> Result<Vec<u8>, AllocError>
         ensures { IfOk result (λ octets. octets.items ≡ error_octets self.now at code) }
@@ -253,7 +256,7 @@ impl Kdc {
         error_reply(alloc, self.state.database.realm(), at, code, None, None)
     }
 
-    /// The realm's octets, 1 to 255.
+    /// Returns the realm's bytes, 1 to 255.
     pub fn realm(&self) -> &[u8]
         ensures { result.now ≡ self.now.database.realm }
     {

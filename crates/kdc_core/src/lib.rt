@@ -1,4 +1,4 @@
-//! The key distribution centre: answers a request's octets with a reply and an account of the request.
+//! The key distribution centre: answers the bytes of a request with a reply and an account of the request.
 #![tactic(auto)]
 
 mod account;

@@ -1,4 +1,4 @@
-//! What a request leaves to be kept of its client.
+//! The change that a request makes in its client's replay cache.
 ghost use Rattle.std.specs.Prelude.{◌≡◌, IfOk, IfSome, OnOk, OnErr};
 ghost use Rattle.kdc_core.specs.After.{after, seen_in, MayStay};
 
@@ -7,15 +7,15 @@ use krb_fields::{Moment, Name};
 use replay::{Failures, Kept, Seen};
 use std::alloc::{AllocError, Global};
 
-/// What changes in the memory of a client.
+/// A change of a client's replay cache.
 #[derive(Drop)]
 pub enum Mark {
-    /// Its failures.
+    /// Its failures change.
     Counted {
         client: Name,
         failures: Failures,
     },
-    /// An authenticator of it was found to be new at this moment, and this is kept for it.
+    /// A new authenticator is recorded at this moment, and this is stored for it.
     Stamped {
         client: Name,
         at: Moment,
@@ -25,8 +25,8 @@ pub enum Mark {
     },
 }
 
-/// Keeps it, if there is anything to keep, and returns the authenticator that is remembered, if one is. Where memory
-/// runs out, nothing changes.
+/// Makes the change, if there is one, and returns the authenticator that it records, if any. If memory runs out,
+/// nothing changes.
 pub fn keep_mark(
     state: &mut State,
     alloc: Global,

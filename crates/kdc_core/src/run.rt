@@ -1,4 +1,4 @@
-//! Runs of a key distribution centre: events in their order.
+//! Runs of a key distribution centre: events in order.
 ghost use Rattle.std.specs.Prelude.{◌≡◌, ◌<◌, ◌++◌, ◌∷◌, [], length, map, take, IfOk, IfErr, IfSome, IsOk, OnOk, OnErr};
 ghost use Rattle.std.specs.Prelude.{option_map};
 ghost use Rattle.kdc_core.specs.Run.{after_change, after_event, event_reply, replies, run};
@@ -20,10 +20,10 @@ use std::alloc::{AllocError, Global};
 use std::error::Error;
 use std::fmt;
 
-/// What happens to a KDC.
+/// An event of a KDC.
 #[derive(Drop)]
 pub enum Event {
-    /// A request comes, at this moment. `random` are 64 random octets, and `room` is the most octets of a reply with
+    /// A request arrives at this moment. `random` are 64 random bytes, and `room` is the greatest size of a reply with
     /// a ticket.
     Request {
         at: Moment,
@@ -31,29 +31,30 @@ pub enum Event {
         room: u32,
         request: Octets,
     },
-    /// A change of the database is asked for.
+    /// A change of the database is requested.
     Change {
         change: Change,
     },
-    /// Another database of the same realm takes the place of this one. One of another realm changes nothing.
+    /// Another database of the same realm replaces this one. One of another realm changes nothing.
     Replace {
         database: Database,
     },
-    /// What is too old to come again at this moment is forgotten.
+    /// Authenticators that are too old to come again at this moment are forgotten.
     Tidy {
         at: Moment,
     },
-    /// What was remembered is lost, and the KDC starts again at this moment.
+    /// The replay caches are lost, and the KDC starts again at this moment.
     Restart {
         at: Moment,
     },
-    /// What was remembered is lost, and the KDC starts again at this moment with this database and these limits.
+    /// The replay caches are lost, and the KDC starts again at this moment with this database and these limits.
     Reopen {
         database: Database,
         limits: Limits,
         at: Moment,
     },
-    /// The KDC starts again with this database and these limits, and with what was remembered as far as that is known.
+    /// The KDC starts again with this database and these limits, and with the authenticators that are known from
+    /// before.
     Resume {
         database: Database,
         limits: Limits,
@@ -61,12 +62,12 @@ pub enum Event {
     },
 }
 
-/// Out of memory during a run. The KDC stands after the events that are done.
+/// Memory ran out during a run. The KDC is in the state after the completed events.
 #[derive(Debug, Drop)]
 pub struct RunFault {
-    /// How many events are done.
+    /// How many events were completed.
     pub done: usize,
-    /// The reply, or none, of each event that is done.
+    /// The reply to each completed event, if it has one.
     pub replies: Vec<Option<Vec<u8>>>,
 }
 
@@ -79,29 +80,28 @@ impl fmt::Display for RunFault {
 impl Error for RunFault {}
 
 impl Kdc {
-    /// Handles the requests, makes the changes, replacements and restarts, resumes and tidies, in their order. It gives
-    /// the reply, or none, of each event: a request alone has one, and a change that is refused leaves everything as it
-    /// was.
+    /// Runs the events in order, and returns the reply to each, if it has one: only a request has one. A refused change
+    /// leaves everything unchanged.
     ///
-    /// A run ends early only if memory runs out. It can go on at the first event that is not done.
+    /// A run ends early only if memory runs out. It can continue with the first event that was not completed.
     pub fn run(&mut self, alloc: Global, events: &[Event]) -> Result<Vec<Option<Vec<u8>>>, RunFault>
-        // The replies are those that the rules say, each from the state that the events before it left.
+        // The replies are those that the rules prescribe, each from the state that the events before it left.
         ensures replies { IfOk result (λ r.
             map (option_map (λ octets. octets.items)) r.items ≡ replies self.old events.now) }
-        // The state afterwards is the one that the rules say.
+        // The state afterwards is the one that the rules prescribe.
         ensures state { OnOk result (self.new ≡ run self.old events.now) }
-        // Where memory lacks, both are as after the events that are done.
+        // If memory runs out, both are as after the completed events.
         ensures done { IfErr result (λ fault. fault.done < length events.now) }
         ensures done_replies { IfErr result (λ fault.
             map (option_map (λ octets. octets.items)) fault.replies.items
             ≡ replies self.old (take fault.done events.now)) }
         ensures done_state { IfErr result (λ fault. self.new ≡ run self.old (take fault.done events.now)) }
-        // What others ask, and what is changed of others, never changes what a client gets.
+        // What others request, and changes of others, never change what a client gets.
         ensures isolation { Isolation self.old events.now }
-        // No authenticator buys two different tickets, through replacements and restarts too, and where what is resumed
-        // with takes over all that was remembered.
+        // No authenticator gets two different tickets, even across replacements and restarts, and across resumptions
+        // that take over all that was recorded.
         ensures one_ticket { OneTicket self.old events.now }
-        // Both hold of the events that are done, too.
+        // Both hold of the completed events too.
         ensures done_isolation { IfErr result (λ fault. Isolation self.old (take fault.done events.now)) }
         ensures done_one_ticket { IfErr result (λ fault. OneTicket self.old (take fault.done events.now)) }
     {
@@ -117,7 +117,7 @@ impl Kdc {
         Ok(replies)
     }
 
-    /// Puts the reply of an event behind the others. Its place is reserved first, so that no reply is lost.
+    /// Handles an event and appends its reply to the others. It reserves the place first, so that no reply is lost.
     fn step(
         &mut self,
         alloc: Global,
@@ -136,7 +136,7 @@ impl Kdc {
         Ok(())
     }
 
-    /// The reply of an event, or none.
+    /// Handles an event, and returns its reply, if it has one.
     fn take_event(&mut self, alloc: Global, event: &Event) -> Result<Option<Vec<u8>>, AllocError>
         ensures reply { IfOk result (λ reply.
             option_map (λ octets. octets.items) reply ≡ event_reply self.old event.now) }
@@ -188,7 +188,7 @@ impl Kdc {
         }
     }
 
-    /// Opens again with a copy of this database.
+    /// Reopens with a copy of this database.
     fn reopen(
         &mut self,
         alloc: Global,
@@ -220,7 +220,7 @@ impl Kdc {
         Ok(())
     }
 
-    /// Makes a change, or leaves everything as it was where the change is refused.
+    /// Makes a change, or changes nothing if the change is refused.
     fn change(&mut self, alloc: Global, change: &Change) -> Result<(), AllocError>
         ensures state { OnOk result (self.new ≡ after_change self.old change.now) }
         ensures refused { IfSome (refusal self.old.database change.now) (λ _. IsOk result) }

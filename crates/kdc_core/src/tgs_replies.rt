@@ -26,7 +26,7 @@ use std::alloc::{AllocError, Global};
 use tgs_exchange::{TgsAnswer, TgsView, tgs_answer};
 use tgs_opening::Presented;
 
-/// The reply to a TGS-REQ that presents what was opened.
+/// Returns the reply to a TGS-REQ that presents this decrypted ticket and authenticator.
 pub fn tgs_reply<'q>(
     state: &State,
     alloc: Global,
@@ -78,7 +78,7 @@ pub fn tgs_reply<'q>(
     })
 }
 
-/// The client of the ticket that is presented.
+/// Returns the client of the presented ticket.
 fn client_of(presented: Presented) -> Name
     ensures { result ≡ presented.ticket.cname }
 {
@@ -86,7 +86,7 @@ fn client_of(presented: Presented) -> Name
     ticket.cname
 }
 
-/// The answer to a TGS-REQ that presents what was opened.
+/// Returns the answer to a TGS-REQ that presents this decrypted ticket and authenticator.
 fn answered(
     state: &State,
     alloc: Global,
@@ -125,7 +125,7 @@ fn answered(
     tgs_answer(alloc, &view, incoming, &message.body.value, presented)
 }
 
-/// What a TGS-REQ is answered from. `unstored` is the memory of a client that has none stored.
+/// Returns the part of the state that a TGS-REQ is answered from. `unstored` is the cache of a client that has none.
 fn tgs_view<'s>(
     state: &'s State,
     message: &KdcReqRef<'_>,
@@ -148,7 +148,7 @@ fn tgs_view<'s>(
     }
 }
 
-/// What is remembered of a client.
+/// Returns the replay cache of a client.
 fn memory_of<'s>(state: &'s State, client: &Name, unstored: &'s Memory<Kept>) -> &'s Memory<Kept>
     requires { unstored.now ≡ empty_memory state.now.floor }
     ensures { result.now ≡ memory_of state.now client.now.components }
@@ -159,7 +159,7 @@ fn memory_of<'s>(state: &'s State, client: &Name, unstored: &'s Memory<Kept>) ->
     }
 }
 
-/// The authenticator that is to be remembered, if it is.
+/// Returns the authenticator to record, if any.
 fn stamped_of(
     alloc: Global,
     at: Moment,

@@ -1,4 +1,4 @@
--- Accounts that replies bear, and that they are true.
+-- The accounts in replies are those of the rules, and they are true.
 use Rattle.std.proofs.Common.{◌≡◌, ℕ, zero, suc, Bool, true, false, List, [], ◌∷◌, ◌++◌, length, Option, Some, None, option_map, refl, sym, ap, subst, ◌∙◌}
 use Rattle.rand_core.specs.Stream.{fill_bytes}
 use Rattle.framing.specs.Splitting.{Splitting, fed, handed_out}
@@ -22,7 +22,7 @@ module _ (keeps : Bool) (v : View) (at : Moment) (random : List ℕ) (room : ℕ
   named true = ap Some (names_are_given v (record { at = at; random = random; room = room; octets = request }))
   named false = refl
 
-  -- a reply with the names that were kept is the reply with its account
+  -- a reply with the copied names is the reply with its account
   pub made : (octets : Option (List ℕ)) (a : Account) (names : Option RequestNames) (seen : Option Seen) → octets ≡ (answer v at random room request).reply
       → a ≡ account v at random room request → names ≡ names_kept keeps request → seen ≡ remembered v at random room request
       → reply_with octets a names seen ≡ reply_by keeps v at random room request
@@ -39,7 +39,7 @@ module _ (keeps : Bool) (v : View) (at : Moment) (random : List ℕ) (room : ℕ
   true_of b None (As client service outcome) h = absurd h.1
   true_of b None (Tgs client service outcome) h = absurd h.1
 
-  -- and what its account says is true
+  -- and what its account states is true
   pub holds : (octets : Option (List ℕ)) (a : Account) → octets ≡ (answer v at random room request).reply → a ≡ account v at random room request
       → AccountHolds v at random (request_of request) a octets → ReplyHolds v at random request (reply_by keeps v at random room request)
   unfolding reply_by
@@ -60,7 +60,7 @@ one_holds i at room request n e one =
     subst (λ m. FirstHold m i at room (request ∷ [])) (sym e)
     (one, if_any (reply_of i at room request) (FirstHold 0 (after i at room request) at room []) tt)
 
--- where nothing was answered
+-- if nothing was answered
 pub none_hold : (i : Issuing) (at : Moment) (room : ℕ) (requests : List (List ℕ)) (n : ℕ) → n ≡ 0 → FirstHold n i at room requests
 unfolding FirstHold
 none_hold i at room requests n e = subst (λ m. FirstHold m i at room requests) (sym e) tt
@@ -71,6 +71,6 @@ pub fed_hold : (i : Issuing) (at : Moment) (room : ℕ) (piece : List ℕ) (o : 
 fed_hold i at room piece o s f n is feed h =
     subst (λ x. FirstHold n i at room (requests_of piece x)) (sym is) (subst (λ (x : Splitting). FirstHold n i at room (handed_out x).messages) feed h)
 
--- what was pushed to nothing is one
+-- a list that had nothing before a push has one entry
 pub one_pushed : {X : Type 0} (new old : List X) (x : X) → new ≡ old ++ x ∷ [] → old ≡ [] → length new ≡ 1
 one_pushed new old x pushed none = ap (λ l. length l) (pushed ∙ ap (λ l. l ++ x ∷ []) none)

@@ -1,4 +1,4 @@
--- A piece in two, at one moment.
+-- Cutting a piece in two at one moment.
 use Rattle.std.proofs.Common.{◌≡◌, ℕ, Bool, true, false, List, [], ◌∷◌, ◌++◌, Option, Some, None, refl, sym, ap, ◌∙◌, append_assoc}
 use Rattle.std.specs.Ordering.{nat_cmp}
 use Rattle.std.specs.FinMap as map
@@ -20,7 +20,7 @@ use Rattle.kdc_hub.specs.Cutting.{SameRun, piece_at}
 use Rattle.kdc_hub.proofs.Streams.{before}
 use Rattle.kdc_hub.proofs.Tables.{is_there, is_gone, set_anew, taken_out}
 
--- more requests after these, where the connection stays
+-- the requests that follow these, if the connection stays open
 abbrev going_on : Bool → StreamStep → StreamStep → StreamStep
 going_on true first others = before first.actions others
 going_on false first others = first
@@ -43,7 +43,7 @@ step_more i at conn fault (m ∷ ms) ns = at_reply (reply_of i at stream_room m)
     at_reply (Some r) e = ap (reply_then conn (Some r) (after i at stream_room m)) e ∙ with_first r _ _ _
     at_reply None e = refl
 
--- a faulty length ends the connection
+-- a bad length ends the connection
 faulty_closes : (i : Issuing) (at : Moment) (conn : ℕ) (fault : FrameFault) (ms : List (List ℕ)) → (messages_step i at conn (Some fault) ms).stays ≡ false
 unfolding messages_step
 faulty_closes i at conn fault [] = refl
@@ -53,7 +53,7 @@ faulty_closes i at conn fault (m ∷ ms) = at_reply (reply_of i at stream_room m
     at_reply (Some r) e = e
     at_reply None e = refl
 
--- a splitter that returned a fault hands out that fault alone
+-- a splitter that returned a fault hands out only that fault
 fault_alone : (o : Option FrameFault) (g : ℕ) (b q : List ℕ) (fault : FrameFault) → o ≡ Some fault → handed_out (fed (record { greatest = g; bytes = b; fault = o }) q) ≡ only_rest b (Some fault)
 fault_alone None g b q fault e = absurd cc
 fault_alone (Some other) g b q fault e = ap (only_rest b) e
@@ -65,14 +65,14 @@ module _ (hub : Standing) (at : Moment) (conn : ℕ) (s : Splitting) (p q : List
   second_cut : Cutting
   second_cut = handed_out (fed (left (fed s p)) q)
 
-  -- the messages of both pieces are those of the one and then those of the other
+  -- the messages of both pieces are those of the first and then those of the second
   both_cut : stream_step hub.issuing at conn (fed s (p ++ q)) ≡ messages_step hub.issuing at conn second_cut.fault ((handed_out (fed s p)).messages ++ second_cut.messages)
   unfolding second_cut
   both_cut =
       ap (messages_step hub.issuing at conn (handed_out (fed s (p ++ q))).fault) two.same_messages
       ∙ ap (λ f. messages_step hub.issuing at conn f ((handed_out (fed s p)).messages ++ second_cut.messages)) two.same_fault
 
-  -- where the first piece ends in no fault
+  -- if the first piece ends in no fault
   no_fault : (handed_out (fed s p)).fault ≡ None → stream_step hub.issuing at conn (fed s (p ++ q)) ≡ going_on first.stays first (stream_step first.issuing at conn (fed (left (fed s p)) q))
   unfolding first second_cut
   no_fault e =
@@ -94,7 +94,7 @@ module _ (hub : Standing) (at : Moment) (conn : ℕ) (s : Splitting) (p q : List
   unfolding first
   closes fault e = ap (λ f. (messages_step hub.issuing at conn f (handed_out (fed s p)).messages).stays) e ∙ faulty_closes hub.issuing at conn fault (handed_out (fed s p)).messages
 
-  -- what both pieces come to
+  -- the result of both pieces
   record IsBoth (b : Bool) : Type 0 where
     pub whole : stream_step hub.issuing at conn (fed s (p ++ q)) ≡ going_on b first (stream_step first.issuing at conn (fed (left (fed s p)) q))
     pub same_left : b ≡ true → left (fed s (p ++ q)) ≡ left (fed (left (fed s p)) q)
@@ -104,7 +104,7 @@ module _ (hub : Standing) (at : Moment) (conn : ℕ) (s : Splitting) (p q : List
   is_both None e = record { whole = no_fault e; same_left = λ _. two.same_left e }
   is_both (Some fault) e = rw (closes fault e) record { whole = with_fault fault e; same_left = λ h. absurd cc }
 
-  -- one step and two come to the same
+  -- one step and two have the same result
   Both : Step → Step → Type 0
   Both one two = (one.actions ≡ two.actions ++ (hub_step two.hub at (Bytes conn q)).actions) × (one.hub ≡ (hub_step two.hub at (Bytes conn q)).hub)
 
@@ -138,7 +138,7 @@ module _ (hub : Standing) (at : Moment) (conn : ℕ) (s : Splitting) (p q : List
   unfolding first
   brought_both = by_stays first.stays refl (is_both (handed_out (fed s p)).fault refl)
 
--- a piece whose connection is there, or isn't
+-- a piece whose connection is open, or isn't
 in_two : ((s : Splitting) (first second : List ℕ) → IsSameInTwo s first second) → (hub : Standing) (at : Moment) (conn : ℕ) (p q : List ℕ) (o : Option Splitting) → map.get hub.connections conn ≡ o
     → ((brings hub at conn (p ++ q) o).actions ≡ (brings hub at conn p o).actions ++ (hub_step (brings hub at conn p o).hub at (Bytes conn q)).actions)
     × ((brings hub at conn (p ++ q) o).hub ≡ (hub_step (brings hub at conn p o).hub at (Bytes conn q)).hub)
@@ -151,7 +151,7 @@ pub two_steps : ((s : Splitting) (first second : List ℕ) → IsSameInTwo s fir
     × ((hub_step hub at (Bytes conn (p ++ q))).hub ≡ (hub_step (hub_step hub at (Bytes conn p)).hub at (Bytes conn q)).hub)
 two_steps law hub at conn p q = in_two law hub at conn p q (map.get hub.connections conn) refl
 
--- in the midst of any run
+-- anywhere in a run
 pub same_run : ((s : Splitting) (first second : List ℕ) → IsSameInTwo s first second) → (start : Standing) (earlier later : List Entry) (at : Moment) (conn : ℕ) (p q : List ℕ)
     → SameRun (logged start (earlier ++ piece_at at conn (p ++ q) ∷ later)) (logged start (earlier ++ piece_at at conn p ∷ piece_at at conn q ∷ later))
 same_run law start [] later at conn p q =

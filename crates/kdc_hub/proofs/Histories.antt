@@ -42,7 +42,7 @@ use Rattle.kdc_hub.specs.History.{AnswersWhoAsked, Begins, CanBeResumed, IsOfOne
 
 -- ---- one request
 
--- the reply to an event of a run, with an account where accounts are kept
+-- the reply to an event of a run, with an account if accounts are kept
 abbrev event_given : Bool → State → KdcEvent → Option Reply
 event_given kept state (Request at random room request) = reply_by kept (view state request) at random room request
 event_given kept state (Change change) = None
@@ -202,7 +202,7 @@ module _ (at : Moment) (conn : ℕ) (fault : Option FrameFault) where
       one_asked i message (reply_of i at stream_room message) refl (stream_requests (after i at stream_room message) at messages) (messages_step (after i at stream_room message) at conn fault messages)
       (messages_stepped (after i at stream_room message) messages)
 
--- where memory runs out
+-- if memory runs out
 one_before : (i : Issuing) (at : Moment) (message : List ℕ) (reply : Option Reply) (n : ℕ) (requests : List KdcEvent) (others : Issuing)
     → others.kdc ≡ run (after i at stream_room message).kdc (take n requests)
     → (after_reply reply (after i at stream_room message) others).kdc ≡ run (after_event i.kdc (asked i at stream_room message)) (take n (others_after reply requests))
@@ -293,7 +293,7 @@ module _ (hub : Standing) where
     entry_stepped None event = event_stepped event
     entry_stepped (Some stop) event = stopped_stepped event stop.done stop.draws
 
--- ---- who is answered
+-- ---- who gets the answers
 
 sent_begins : (peer : Peer) (reply : Option Reply) → Begins (flat_map (sent peer) (replies_by 1 (sent peer reply))) (sent peer reply)
 unfolding replies_by
@@ -321,7 +321,7 @@ module _ (hub : Standing) (at : Moment) where
   piece_begins conn piece (Some s) = (messages_stepped at conn (handed_out (fed s piece)).fault hub.issuing (handed_out (fed s piece)).messages).begins
   piece_begins conn piece None = nothing_begins conn []
 
-  -- of the actions that are done
+  -- of the completed actions
   done_begins : (conn : ℕ) (requests : List KdcEvent) (actions : List Action) (done : ℕ) → Begins (map_list (action_for conn) (replies_by (length requests) actions)) actions
       → Begins (map_list (action_for conn) (replies_by (length (take done requests)) (take done actions))) (take done actions)
   done_begins conn requests actions done begins =
@@ -392,7 +392,7 @@ entry_asks hub at (Some stop) (Opened conn) = tt
 entry_asks hub at (Some stop) (Bytes conn piece) = some_asked stop.done _ (piece_asks hub.issuing at piece (map.get hub.connections conn))
 entry_asks hub at (Some stop) (Closed conn) = tt
 
--- where accounts are kept, each request has one
+-- if accounts are kept, each request has one
 accounts_given : (kept : Bool) → IsTrue kept → (state : State) (events : List KdcEvent) → AreAsked events
     → map_list account_in (given kept state events) ≡ accounts state events
 accounts_given kept is state [] asked = refl

@@ -1,4 +1,4 @@
--- Acts one after the other, and rounds one after the other.
+-- One act after another, and one round after another.
 use Rattle.std.proofs.Common.{rules, true, false, ◌≡◌, ◌⊎◌, ◌<◌, ◌≤◌, ◌+◌, ◌-◌, ◌^◌, inl, inr, ℕ, suc, arith, List, [], ◌∷◌, ◌++◌, length, take, slice_index_or, count_by, Option, Some, None, refl, sym, ap, subst, ◌∙◌, append_assoc}
 use Rattle.std.specs.Prelude.{Bool, min, nat_le}
 use Rattle.std.specs.Option.{option_or}
@@ -39,7 +39,7 @@ pub or_none : {X : Type 0} (o : Option X) → option_or o None ≡ o
 or_none (Some x) = refl
 or_none None = refl
 
--- a sum that stops at m, of a number that stopped there
+-- a sum that stops at m, when one number stopped there
 pub saturated : (a b m : ℕ) → min (min a m + b) m ≡ min (a + b) m
 saturated a b m = by_order (nat_le a m) refl
   where
@@ -51,14 +51,14 @@ saturated a b m = by_order (nat_le a m) refl
         let other : m ≤ a + b = omega (arith, lt) in
         ap (λ k. min (k + b) m) (min-eq_right lt) ∙ min-eq_right one ∙ sym (min-eq_right other)
 
--- a sum that stops at m, of two numbers that stopped there
+-- a sum that stops at m, when both numbers stopped there
 pub saturated_both : (a b m : ℕ) → min (min a m + min b m) m ≡ min (a + b) m
 saturated_both a b m =
     let swap : a + min b m ≡ min b m + a = omega arith in
     let back : b + a ≡ a + b = omega arith in
     saturated a (min b m) m ∙ ap (λ k. min k m) swap ∙ saturated b a m ∙ ap (λ k. min k m) back
 
--- what is counted may stop short of what was recorded
+-- the count may stop short of what was recorded
 pub counted_less : (a k m b : ℕ) → k ≡ min m (2 ^ 64 - 1) → IsCounted a m b → IsCounted a k b
 counted_less a k m b e s = record {
   later = s.later;
@@ -77,7 +77,7 @@ tries_on (x ∷ xs) ys d e s t = (
   tries_on xs ys s.0 e s.2 t,
 )
 
--- the first connection that is lost is that of the first part, if one is lost there
+-- the first lost connection is that of the first part, if one is lost there
 pub lost_on : (d e : List Did) → lost_in (d ++ e) ≡ option_or (lost_in d) (lost_in e)
 lost_on [] e = refl
 lost_on (x ∷ d) e = ap (option_or (lost_by x)) (lost_on d e) ∙ one_by_one (lost_by x)

@@ -1,4 +1,4 @@
--- An event that came, a round, and rounds one after the other.
+-- An event that arrived, a round, and one round after another.
 use Rattle.std.proofs.Common.{◌≡◌, ◌≤◌, ◌<◌, ◌+◌, ◌-◌, ◌^◌, inl, inr, ℕ, arith, Bool, cond, List, [], ◌∷◌, ◌++◌, length, count_by, Option, Some, None, Err, refl, sym, ap, subst, ◌∙◌, length-append}
 use Rattle.std.specs.Prelude.{min}
 use Rattle.std.specs.List.{flat_map}
@@ -31,7 +31,7 @@ count_on p xs ys = sum_by-append (λ x. cond (p x) 1 0) xs ys
 faults_cons : (d : Did) (ds : List Did) → faults (d ∷ ds) ≡ faults (d ∷ []) + faults ds
 faults_cons d ds = count_on is_fault (d ∷ []) ds
 
--- the log of one list of entries after another
+-- the log of two lists of entries
 pub logged_on : (hub : Standing) (es fs : List Entry) → (logged hub (es ++ fs)).hub ≡ (logged (logged hub es).hub fs).hub
 logged_on hub [] fs = refl
 logged_on hub (e ∷ es) fs = logged_on (step_of hub e).hub es fs
@@ -58,7 +58,7 @@ refused_in_taken before start at event served after new t = by_stop t.stop (t.re
     by_stop None e = omega (arith, e)
     by_stop (Some stop) e = omega (arith, e)
 
--- an event whose step had memory enough
+-- an event whose step did not run out of memory
 pub taken_whole : (before : Option (List Did)) (start : Standing) (at : Moment) (event : Event) (actions : List Action) (middle : Standing) (n : ℕ) (after : Option (List Did)) (new : Standing) (served : Served)
     → (actions ≡ (hub_step start at event).actions) × (middle ≡ (hub_step start at event).hub) → AreActs before middle at actions n after new
     → served.events ≡ 1 → served.faults ≡ n → served.refused ≡ 0 → served.last ≡ Some at → IsTaken before start at event served after new
@@ -76,7 +76,7 @@ taken_whole before start at event actions middle n after new served s acts one f
   last = last;
 }
 
--- an event whose step was refused memory
+-- an event whose step ran out of memory
 pub taken_in_part : (before : Option (List Did)) (start : Standing) (at : Moment) (event : Event) (fault : HubFault) (middle : Standing) (done : List Action) (n : ℕ) (recorded : Option (List Did)) (hub : Standing) (m : ℕ) (after : Option (List Did)) (new : Standing) (served : Served)
     → Steps start at event (Err fault) middle → done ≡ fault.done.items → AreActs before middle at done n recorded hub → AreActs recorded hub at (close_of fault.conn) m after new
     → served.events ≡ 1 → served.faults ≡ n + m → served.refused ≡ 1 → served.last ≡ Some at → IsTaken before start at event served after new
@@ -166,7 +166,7 @@ goes_on before start n s middle hub m t after new u a b events failed refused la
       last = last ∙ (λ i. option_or (b.last i) (a.last i)) ∙ sym (last_on a.rounds b.rounds);
     }
 
--- acts are no polls
+-- acts are not polls
 no_events : (xs : List Action) (d : List Did) → Tries xs d → count_by is_event d ≡ 0
 unfolding Tries
 no_events [] d h = ap (λ l. count_by is_event l) h
@@ -175,7 +175,7 @@ no_events (x ∷ xs) d h = elim h.1 [
   | inr w ↦ let e = ap (λ l. count_by is_event l) w ∙ count_on is_event (Failed x ∷ []) h.0 in let z = no_events xs h.0 h.2 in omega (arith, e, z)
 ]
 
--- a round in which an event came
+-- a round in which an event arrived
 pub taken_round : (before : Option (List Did)) (start : Standing) (at : Moment) (event : Event) (middle : Option (List Did)) (s : Served) (recorded : Option (List Did)) (new : Standing)
     → Records before (Polled at event ∷ []) middle → IsTaken middle start at event s recorded new → s.faults < 2 ^ 64 → IsRun before start 1 s recorded new
 taken_round before start at event middle s recorded new records t few =

@@ -1,4 +1,4 @@
--- What a hub's calls leave is what a step leaves.
+-- The hub after a call is the hub after the step.
 use Rattle.std.proofs.Common.{◌≡◌, ℕ, ◌≤◌, arith, Bool, true, false, List, [], ◌∷◌, length, take, Option, Some, Result, Ok, Err, refl, sym, ap, ◌∙◌, Vec}
 use Rattle.std.specs.Global.{Global}
 use Rattle.std.specs.Prelude.{IfOk, IfErr, nat_lt}
@@ -25,7 +25,7 @@ Table = map.FinMap nat_cmp Splitting
 pub same_issuing : (k l : State) (r s : Stream) (a b : Bool) → k ≡ l → r ≡ s → a ≡ b → (let x : Issuing = record { kdc = k; random = r; accounts = a } in x) ≡ record { kdc = l; random = s; accounts = b }
 same_issuing k l r s a b e h f = λ i. record { kdc = e i; random = h i; accounts = f i }
 
--- nothing was answered, and nothing drawn, or 64 octets
+-- nothing was answered, and nothing drawn, or 64 bytes
 pub stopped_before : (n draws : ℕ) (i : Issuing) (at : Moment) (requests : List (List ℕ)) → n ≡ 0 → draws ≡ 0 → i ≡ stopped_issuing i at requests n draws
 unfolding after_some drawn
 stopped_before n draws i at requests e d = rw (e, d) refl
@@ -49,7 +49,7 @@ module _ (hub : Standing) (at : Moment) (conn : ℕ) (piece : List ℕ) (o : Opt
   unfolding full
   kept_hub b e = ap (λ c. kept c hub conn (left f) (full f).issuing) e ∙ ap (λ x. kept (full x).stays hub conn (left x) (full x).issuing) feed ∙ sym (ap (λ x. (brings hub at conn piece x).hub) is)
 
-  -- the connection stays
+  -- the connection stays open
   pub stays_there : (actions : List Action) (i : Issuing) (t place : Splitting) (table table' : Table) (stays : Bool)
       → actions ≡ (stream_step hub.issuing at conn f).actions → i ≡ (stream_step hub.issuing at conn f).issuing → stays ≡ (stream_step hub.issuing at conn f).stays → stays ≡ true
       → t ≡ left f → table ≡ map.insert hub.connections conn place → table' ≡ map.insert table conn t
@@ -87,7 +87,7 @@ module _ (hub : Standing) (at : Moment) (conn : ℕ) (piece : List ℕ) (o : Opt
         (then ∙ ap (λ m. map.remove m conn) first ∙ taken_out hub.connections conn place),
   )
 
--- nothing of the piece was taken in
+-- nothing of the piece was read
 pub not_fed : (hub : Standing) (at : Moment) (conn : ℕ) (piece : List ℕ) (o : Option Splitting) (done : List Action) (draws : ℕ) (place : Splitting) (table table' : Table)
     → done ≡ [] → draws ≡ 0 → table ≡ map.insert hub.connections conn place → table' ≡ map.remove table conn
     → (done ≡ take (length done) (brings hub at conn piece o).actions)
@@ -98,7 +98,7 @@ not_fed hub at conn piece o done draws place table table' e d first then =
 full_there : (hub : Standing) (conn : ℕ) → map.contains_key hub.connections conn ≡ false → nat_lt (map.len hub.connections) most_connections ≡ false → opened hub conn ≡ record { actions = Close conn Full ∷ []; hub = hub }
 full_there hub conn e h = rw (e, h) refl
 
--- a connection for which there is no place
+-- a connection for which there is no room
 pub table_full : (hub : Standing) (at : Moment) (conn : ℕ) (there : Bool) (n : ℕ) (r : Result (Vec Action Global) HubFault)
     → there ≡ map.contains_key hub.connections conn → there ≡ false → n ≡ map.len hub.connections → most_connections ≤ n
     → IfOk r (λ actions. actions.items ≡ Close conn Full ∷ []) → IfErr r (λ fault. fault.done.items ≡ []) → IfErr r (λ fault. fault.conn ≡ Some conn) → IfErr r (λ fault. fault.draws ≡ 0)

@@ -1,4 +1,4 @@
--- The messages of a stream, answered one after another.
+-- Answering the messages of a stream in order.
 use Rattle.std.proofs.Common.{◌≡◌, ℕ, zero, suc, ◌+◌, true, false, List, [], ◌∷◌, ◌++◌, length, take, Option, Some, None, refl, sym, ap, subst, ◌∙◌, arith, append_assoc, length-append}
 use Rattle.std.specs.Option.{is_some}
 use Rattle.std.proofs.lemmas.List.{append-nil, take_at}
@@ -19,14 +19,14 @@ use Rattle.kdc_hub.specs.StreamStep.{StreamStep, after_reply, after_some, reply_
 abbrev pub before : List Action → StreamStep → StreamStep
 before actions s = record s { actions = actions ++ s.actions }
 
--- what is done is the beginning, and what issues now and what is left on the stream make the rest
+-- the completed actions come first; the rest follows from the current issuer and what is left on the stream
 pub record IsOnTheWay (at : Moment) (conn : ℕ) (i₀ : Issuing) (s₀ : Splitting) (actions : List Action) (i : Issuing) (s : Splitting) : Type 0 where
   pub all : stream_step i₀ at conn s₀ ≡ before actions (stream_step i at conn s)
   pub same_left : left s ≡ left s₀
   pub some : (j : ℕ) → after_some (length actions + j) i₀ at (handed_out s₀).messages ≡ after_some j i at (handed_out s).messages
   pub random : (j : ℕ) → drawn (length actions + j) i₀.random ≡ drawn j i.random
   pub accounts : i.accounts ≡ i₀.accounts
-  -- where the accounts of the requests to come are true, all are
+  -- if the accounts of the requests to come are true, all are
   pub hold : (j : ℕ) → FirstHold j i at stream_room (handed_out s).messages → FirstHold (length actions + j) i₀ at stream_room (handed_out s₀).messages
 
 pub at_start : (at : Moment) (conn : ℕ) (i : Issuing) (s : Splitting) → IsOnTheWay at conn i s [] i s
@@ -39,7 +39,7 @@ at_start at conn i s = record {
   hold = λ j h. subst (λ n. FirstHold n i at stream_room (handed_out s).messages) (let e : j ≡ 0 + j = omega arith in e) h;
 }
 
--- a message, and those that follow it
+-- a message and its successors
 step_one : (i : Issuing) (at : Moment) (conn : ℕ) (c d : Cutting) (m : List ℕ) → c ≡ message_then m d
     → messages_step i at conn c.fault c.messages ≡ reply_then conn (reply_of i at stream_room m) (after i at stream_room m) (messages_step (after i at stream_room m) at conn d.fault d.messages)
 unfolding messages_step
@@ -68,7 +68,7 @@ drawn_one : (j : ℕ) (i : Issuing) (at : Moment) (m : List ℕ) → drawn (suc 
 unfolding drawn after
 drawn_one j i at m = refl
 
--- the account of one request, and those of the requests behind it
+-- the account of one request, and those of the requests after it
 hold_one : (j : ℕ) (i : Issuing) (at : Moment) (c d : Cutting) (m : List ℕ) → c ≡ message_then m d
     → ReplyHolds (view i.kdc m) at (fill_bytes 64 i.random).0 m (reply_of i at stream_room m)
     → FirstHold j (after i at stream_room m) at stream_room d.messages → FirstHold (suc j) i at stream_room c.messages
@@ -81,7 +81,7 @@ hold_one j i at c d m e one others =
     if_any (Some reply) P p = p
     if_any None P p = tt
 
--- of a request without a reply no other is behind it
+-- no request follows one that gets no reply
 hold_last : (j : ℕ) (i : Issuing) (at : Moment) (c d : Cutting) (m : List ℕ) → c ≡ message_then m d
     → ReplyHolds (view i.kdc m) at (fill_bytes 64 i.random).0 m (reply_of i at stream_room m)
     → false ≡ is_some (reply_of i at stream_room m) → FirstHold (suc j) i at stream_room c.messages
@@ -147,14 +147,14 @@ module _ (at : Moment) (conn : ℕ) (i₀ : Issuing) (s₀ : Splitting) where
       none_left zero = tt
       none_left (suc j) = tt
 
-  -- where no message is left, so it is of as many actions as there are, or more
+  -- if no message is left, this holds for the actions so far, or for more
   pub rest_holds : (actions : List Action) (i : Issuing) (s : Splitting) → IsOnTheWay at conn i₀ s₀ actions i s → (rest : List ℕ) (fault : Option FrameFault) → handed_out s ≡ only_rest rest fault
       → (actions' more : List Action) → actions' ≡ actions ++ more → FirstHold (length actions') i₀ at stream_room (handed_out s₀).messages
   rest_holds actions i s w rest fault e actions' more longer =
       subst (λ n. FirstHold n i₀ at stream_room (handed_out s₀).messages) (sym (ap (λ l. length l) longer ∙ length-append actions more))
       (w.hold (length more) (nothing_to_hold (length more) i (handed_out s) rest fault e))
 
-  -- those that are done
+  -- the completed ones
   pub done_hold : (actions : List Action) (i : Issuing) (s : Splitting) → IsOnTheWay at conn i₀ s₀ actions i s → (done : List Action) → done ≡ actions
       → FirstHold (length done) i₀ at stream_room (handed_out s₀).messages
   done_hold actions i s w done e =
@@ -176,12 +176,12 @@ module _ (at : Moment) (conn : ℕ) (i₀ : Issuing) (s₀ : Splitting) where
   unfolding messages_step
   only_fault i c rest fault e = ap (λ (x : Cutting). messages_step i at conn x.fault x.messages) e
 
-  -- a length is at fault
+  -- a length is bad
   pub meets_fault : (actions : List Action) (i : Issuing) (s : Splitting) → IsOnTheWay at conn i₀ s₀ actions i s → (rest : List ℕ) (fault : FrameFault) → handed_out s ≡ only_rest rest (Some fault)
       → (actions' : List Action) → actions' ≡ actions ++ Write conn (too_long i.kdc at) ∷ Close conn BadLength ∷ [] → record { actions = actions'; issuing = i; stays = false } ≡ stream_step i₀ at conn s₀
   meets_fault actions i s w rest fault e actions' more = rw more (sym (w.all ∙ ap (before actions) (only_fault i (handed_out s) rest fault e)))
 
-  -- where memory runs out
+  -- if memory runs out
   after_none : (i : Issuing) (requests : List (List ℕ)) → after_some 0 i at requests ≡ i
   unfolding after_some
   after_none i requests = refl
@@ -197,6 +197,6 @@ module _ (at : Moment) (conn : ℕ) (i₀ : Issuing) (s₀ : Splitting) where
   pub stopped_random : (actions : List Action) (i : Issuing) (s : Splitting) → IsOnTheWay at conn i₀ s₀ actions i s → (n : ℕ) → n ≡ length actions + 0 → i.random ≡ drawn n i₀.random
   stopped_random actions i s w n e = sym (drawn_none i.random) ∙ sym (w.random 0) ∙ ap (λ k. drawn k i₀.random) (sym e)
 
--- what is done is the beginning of what is to be done
+-- the completed actions are the beginning of all actions
 pub beginning : (l actions more all : List Action) → l ≡ actions → all ≡ actions ++ more → l ≡ take (length l) all
 beginning l actions more all e whole = rw (e, whole) (sym (take_at actions more (length actions) refl))

@@ -1,4 +1,4 @@
--- A run's actions are those of what it completes.
+-- The actions of a run are those of what it completes.
 use Rattle.std.proofs.Common.{◌≡◌, ℕ, ◌+◌, ◌-◌, Bool, true, false, cond, List, [], ◌∷◌, ◌++◌, Option, Some, None, refl, sym, ap, subst, ◌∙◌, append_assoc}
 use Rattle.std.specs.Prelude.{nat_lt, if◌then◌else◌}
 use Rattle.std.specs.Option.{is_some}
@@ -48,7 +48,7 @@ both_out a b k h = record {
   len = len-remove nat_cmp_total a k ∙ ap (λ c. cond c (map.len a - 1) (map.len a)) (h.keys k) ∙ ap (λ n. cond (map.contains_key b k) (n - 1) n) h.len ∙ sym (len-remove nat_cmp_total b k);
 }
 
--- setting what is there
+-- setting an existing key
 here_or_there : (a : Table) (k q : ℕ) (c : Bool) (x : Splitting) → eq_by_cmp nat_cmp q k ≡ c → map.contains_key a k ≡ true → is_some (cond c (Some x) (map.get a q)) ≡ is_some (map.get a q)
 here_or_there a k q true x e h = sym h ∙ ap is_some (get_tied nat_cmp_total a q k ((Equal-is (nat_cmp q k)).0 e))
 here_or_there a k q false x e h = refl
@@ -65,7 +65,7 @@ same_turned a b h = record { keys = λ q. sym (h.keys q); len = sym h.len }
 pub same_then : (a b c : Table) → SameOpen a b → SameOpen b c → SameOpen a c
 same_then a b c h k = record { keys = λ q. h.keys q ∙ k.keys q; len = h.len ∙ k.len }
 
--- what is done for one piece of work, over the keys of a table alone
+-- what is done for one piece of work, given only the keys of a table
 pub record Place : Type 0 where
   pub issuing : Issuing
   pub table : Table
@@ -160,7 +160,7 @@ stream_worked i at conn fault (m ∷ ms) table = at_reply (reply_of i at stream_
 abbrev pub place_of : Standing → Table → Place
 place_of hub t = record { issuing = hub.issuing; table = t }
 
--- a step does what its works do
+-- a step does what its pieces of work do
 record IsWorked (step : Step) (p : Place) (ws : List Timed) : Type 0 where
   pub actions : step.actions ≡ all_acts p ws
   pub issuing : step.hub.issuing ≡ (last_place p ws).issuing
@@ -222,7 +222,7 @@ run_worked hub t (e ∷ hs) h =
       same = subst (λ (q : Place). SameOpen (logged new (entries hs)).hub.connections q.table) (sym whole) others.same;
     }
 
--- runs that complete the same give the same replies
+-- runs that complete the same work give the same replies
 pub same_replies : RepliesAreSame
 same_replies start es fs e =
     let there : SameOpen start.connections start.connections = record { keys = λ q. refl; len = refl } in

@@ -1,4 +1,4 @@
--- What the accounts of requests say is true, each at the state before its request.
+-- The accounts of requests are true, each at the state before its request.
 use Rattle.std.specs.Prelude.{ℕ, zero, suc, ⊤, List, [], ◌∷◌, length, Option, Some, None, Result, Ok, Err, Vec, IfSome}
 use Rattle.std.specs.FinMap as map
 use Rattle.std.specs.Global.{Global}
@@ -17,7 +17,7 @@ use Rattle.kdc_hub.specs.Hub.{Standing, datagram_room, requests_of}
 use Rattle.kdc_hub.specs.Issuing.{Issuing, after, reply_of}
 use Rattle.kdc_hub.specs.StreamStep.{stream_room}
 
--- the account that a reply bears is true of it; that there is none, where there is no request
+-- the account in a reply is true of it; without a request there is no reply
 abbrev pub ReplyHolds : View → Moment → List ℕ → List ℕ → Option Reply → Type 0
 ReplyHolds v at random request (Some reply) =
     IfSome reply.account (λ account. AccountHolds v at random (request_of request) account (Some reply.message))
@@ -28,7 +28,7 @@ abbrev pub if_answered : Option Reply → Type 0 → Type 0
 if_answered (Some reply) others = others
 if_answered None others = ⊤
 
--- so it is of the first of these requests, so many of them
+-- this holds for the first n of these requests
 unfoldable pub FirstHold : ℕ → Issuing → Moment → ℕ → List (List ℕ) → Type 0
 FirstHold zero i at room requests = ⊤
 FirstHold (suc n) i at room [] = ⊤
@@ -36,7 +36,7 @@ FirstHold (suc n) i at room (request ∷ requests) =
     ReplyHolds (view i.kdc request) at (fill_bytes 64 i.random).0 request (reply_of i at room request)
     × if_answered (reply_of i at room request) (FirstHold n (after i at room request) at room requests)
 
--- and of those that an event completes
+-- and for those that an event completes
 abbrev pub EventHolds : Standing → Moment → Event → ℕ → Type 0
 EventHolds hub at (Datagram peer request) n = FirstHold n hub.issuing at datagram_room (request ∷ [])
 EventHolds hub at (Opened conn) n = ⊤
@@ -44,7 +44,7 @@ EventHolds hub at (Bytes conn piece) n =
     FirstHold n hub.issuing at stream_room (requests_of piece (map.get hub.connections conn))
 EventHolds hub at (Closed conn) n = ⊤
 
--- of those that have an action
+-- for those that have an action
 abbrev pub AccountsHold : Standing → Moment → Event → Result (Vec Action Global) HubFault → Type 0
 AccountsHold hub at event (Ok actions) = EventHolds hub at event (length actions.items)
 AccountsHold hub at event (Err fault) = EventHolds hub at event (length fault.done.items)

@@ -1,4 +1,4 @@
--- What the parts of a round leave.
+-- The result of each part of a round.
 use Rattle.std.specs.Prelude.{◌≡◌, ℕ, List, ◌++◌, count_by, Option, Some}
 use Rattle.krb_fields.specs.declared.moment.Moment.{Moment}
 use Rattle.kdc_hub.specs.declared.event.Action.{Action}
@@ -10,7 +10,7 @@ use Rattle.kdc_hub.specs.Logged.{Stop, logged}
 use Rattle.kdc_hub.specs.Wire.{Records, is_fault}
 use Rattle.kdc_hub.specs.Rounds.{IsRound, Took, Tries, ending, entries_of, is_refused, lost_in}
 
--- what the acts of a list of actions leave
+-- the result of the acts for a list of actions
 pub record AreActs (before : Option (List Did)) (start : Standing) (at : Moment) (actions : List Action) (failed : ℕ)
     (after : Option (List Did)) (new : Standing) : Type 0 where
   pub did : List Did
@@ -19,7 +19,7 @@ pub record AreActs (before : Option (List Did)) (start : Standing) (at : Moment)
   pub hub : new ≡ (logged start (ending at (lost_in did))).hub
   pub faults : failed ≡ count_by is_fault did
 
--- what an event that came leaves, after its poll
+-- the result of an event that arrived, after its poll
 pub record IsTaken (before : Option (List Did)) (start : Standing) (at : Moment) (event : Event) (served : Served)
     (after : Option (List Did)) (new : Standing) : Type 0 where
   pub stop : Option Stop

@@ -1,4 +1,4 @@
--- What a server lives through, and what that is in the one run of its key distribution centre.
+-- The history of a server, and the run of its key distribution centre that it amounts to.
 use Rattle.std.specs.Prelude.{◌≡◌, ℕ, ℤ, ⊤, zero, suc, Bool, List, [], ◌∷◌, ◌++◌, length, map as map_list, take, Option}
 use Rattle.std.specs.Prelude.{Some, None, if◌then◌else◌, IsTrue, option_map}
 use Rattle.std.specs.FinMap as map
@@ -41,11 +41,11 @@ use Rattle.kdc_hub.specs.Logged.{Entry, Stop, step_of}
 
 -- ---- the requests that an event completes
 
--- a request, with the 64 octets that are drawn for it
+-- a request, with the 64 bytes that are drawn for it
 abbrev pub asked : Issuing → Moment → ℕ → List ℕ → KdcEvent
 asked i at room request = Request at (fill_bytes 64 i.random).0 room request
 
--- after a request without a reply a connection brings no others
+-- after a request without a reply a connection has no others
 abbrev pub others_after : Option Reply → List KdcEvent → List KdcEvent
 others_after (Some reply) others = others
 others_after None others = []
@@ -66,7 +66,7 @@ event_requests hub at (Opened conn) = []
 event_requests hub at (Bytes conn piece) = piece_requests hub.issuing at piece (map.get hub.connections conn)
 event_requests hub at (Closed conn) = []
 
--- where memory runs out, those that were answered before
+-- if memory runs out, those that were answered before
 abbrev pub stopped_requests : Standing → Moment → Event → ℕ → List KdcEvent
 stopped_requests hub at (Datagram peer request) done = []
 stopped_requests hub at (Opened conn) done = []
@@ -89,7 +89,7 @@ reply_in (Pass peer) = None
 reply_in (Write conn reply) = Some reply
 reply_in (Close conn reason) = None
 
--- the replies to so many requests: each action sends one or none, in order
+-- the replies to the first n requests: each action sends one or none, in order
 unfoldable pub replies_by : ℕ → List Action → List (Option Reply)
 replies_by zero actions = []
 replies_by (suc n) [] = None ∷ replies_by n []
@@ -98,12 +98,12 @@ replies_by (suc n) (action ∷ actions) = reply_in action ∷ replies_by n actio
 abbrev pub octets_of : Option Reply → Option (List ℕ)
 octets_of reply = option_map (λ (r : Reply). r.message) reply
 
--- what is said of a request: the account that its reply bears; without a reply, that it was no request
+-- what is recorded about a request: the account in its reply; without a reply, that it was no request
 abbrev pub account_in : Option Reply → Option Account
 account_in (Some reply) = reply.account
 account_in None = Some NoRequest
 
--- the actions that send replies to the peer or connection that asked
+-- the actions that send replies to the requesting peer or connection
 abbrev pub answers : Event → List (Option Reply) → List Action
 answers (Datagram peer request) replies = flat_map (sent peer) replies
 answers (Opened conn) replies = []
@@ -112,9 +112,9 @@ answers (Closed conn) replies = []
 
 -- ---- histories
 
--- an event's step; another database; what can't come again is forgotten; or the end of the process,
--- and the beginning of another, with a generator of its own, which keeps accounts or not: one that refuses what may
--- have come before, or one that resumes with what is known of it
+-- an event's step; another database; a tidying; or the end of the process and the start of another. The new one has its
+-- own generator, and keeps accounts or not. It refuses all that may have come before, or resumes with what is known of
+-- it.
 pub data Turn : Type 0 where
   Stepped : Entry → Turn
   Replaced : Principals → Turn
@@ -145,7 +145,7 @@ after_turn hub (Resumed database limits resumption random kept) = record {
   connections = map.empty;
 }
 
--- what the turn is in the run of the key distribution centre
+-- the events of the turn in the run of the key distribution centre
 abbrev pub turn_events : Standing → Turn → List KdcEvent
 turn_events hub (Stepped entry) = requests_of hub entry
 turn_events hub (Replaced database) = Replace database ∷ []
@@ -203,7 +203,7 @@ abbrev pub accounts : State → List KdcEvent → List (Option Account)
 accounts state [] = []
 accounts state (event ∷ events) = event_accounts state event ++ accounts (after_event state event) events
 
--- where the process that begins keeps accounts
+-- if the new process keeps accounts
 abbrev pub KeepsAccounts : Turn → Type 0
 KeepsAccounts (Stepped entry) = ⊤
 KeepsAccounts (Replaced database) = ⊤
@@ -211,7 +211,7 @@ KeepsAccounts (Tidied at) = ⊤
 KeepsAccounts (Reopened database limits at random kept) = IsTrue kept
 KeepsAccounts (Resumed database limits resumption random kept) = IsTrue kept
 
--- the authenticators that are remembered by the requests that replies answer, in order
+-- the authenticators recorded by the requests that these replies answer, in order
 abbrev pub seen_by : Option Reply → List Seen
 seen_by (Some reply) = with_any reply.remembered []
 seen_by None = []
@@ -231,29 +231,29 @@ abbrev pub remembered_in : Standing → List Turn → List Seen
 remembered_in hub [] = []
 remembered_in hub (turn ∷ turns) = turn_remembers hub turn ++ remembered_in (after_turn hub turn) turns
 
--- a list is the front of another
+-- a list is the beginning of another
 pub record Begins {X : Type 0} (front whole : List X) : Type 0 where
   pub others : List X
   pub is : whole ≡ front ++ others
 
--- The first actions of a step send its replies, in order, each to the peer or connection that asked.
+-- The first actions of a step send its replies, in order, each to the peer or connection that sent the request.
 abbrev pub AnswersWhoAsked : Type 0
 AnswersWhoAsked = (hub : Standing) (entry : Entry)
     → Begins (answers entry.event (entry_replies hub entry)) (step_of hub entry).actions
 
--- The replies that a hub sends, and its key distribution centre in the end, are those of one run over the requests that
--- came whole, the replacements, the tidyings and the restarts, in their order.
+-- The replies that a hub sends, and the final state of its key distribution centre, are those of one run over the
+-- complete requests, the replacements, the tidyings and the restarts, in order.
 pub record IsOneRun (start : Standing) (turns : List Turn) : Type 0 where
   pub replies_are : replies_in start turns ≡ replies start.issuing.kdc (events_in start turns)
-  -- where accounts are kept, each request has one, which is that of the run
+  -- if accounts are kept, each request has one, and it is that of the run
   pub accounts_are : IsTrue start.issuing.accounts → AllByRecursion KeepsAccounts turns
       → accounts_in start turns ≡ accounts start.issuing.kdc (events_in start turns)
-  -- the replies tell every authenticator that the run remembers, in order
+  -- the replies report every authenticator that the run records, in order
   pub remembered_are : remembered_in start turns ≡ run_remembers start.issuing.kdc (events_in start turns)
   pub kdc_is : (after_turns start turns).issuing.kdc ≡ run start.issuing.kdc (events_in start turns)
 
--- A history of one process can be resumed: what covered the state that it began with, and what its replies tell since,
--- cover the state in the end, at any second that none of its events is later than.
+-- A history of one process can be resumed: what covered the state that it began with, and what its replies have
+-- reported since, cover the final state, at any second that none of its events is later than.
 abbrev pub CanBeResumedFrom : Standing → List Turn → Type 0
 CanBeResumedFrom start turns = (r : Resumption) (now : ℤ) → Covers start.issuing.kdc r
     → AreUpTo now (events_in start turns)
@@ -262,7 +262,7 @@ CanBeResumedFrom start turns = (r : Resumption) (now : ℤ) → Covers start.iss
 abbrev pub CanBeResumed : Type 0
 CanBeResumed = (start : Standing) (turns : List Turn) → CanBeResumedFrom start turns
 
--- of the replies to a run's events, those to the events that pass a test at their places
+-- the replies to those events of a run that pass a test at their places
 abbrev pub chosen : (State → KdcEvent → Bool) → State → List KdcEvent → List (Option (List ℕ)) → List (Option (List ℕ))
 chosen test state [] replies = []
 chosen test state (event ∷ events) [] = []
@@ -279,9 +279,9 @@ pub record AreServedAlike (c : Components) (S : Names) (start other : Standing) 
   pub replies : sent_to is_request other others ≡ sent_to (is_request_of c) start turns
   pub afterwards : AgreesFor c S (after_turns start turns).issuing.kdc (after_turns other others).issuing.kdc
 
--- What others send, over whatever connections and cut however, never changes what a client gets. In a second history
--- nothing comes whole but the requests of c, each at its moment and with its draw, whoever brings it and however it is
--- cut; the replacements, tidyings and restarts are the same. Then c's requests get the same replies there, in order.
+-- What others send, over any connections and in any pieces, never changes what a client gets. In a second history only
+-- the requests of c are complete, each at its moment and with its draw, in any pieces and from any peer; the
+-- replacements, tidyings and restarts are the same. Then c's requests get the same replies there, in order.
 abbrev pub ServesAlikeFrom : Standing → List Turn → Type 0
 ServesAlikeFrom start turns = (other : Standing) (others : List Turn) (c : Components) (S : Names)
     → IsTrue (S (ticket_granter start.issuing.kdc.database.realm))
@@ -296,9 +296,9 @@ pub record GetsTheSame (c : Components) (S : Names) (start other : Standing) (tu
   pub replies : sent_to (is_request_of c) other others ≡ sent_to (is_request_of c) start turns
   pub afterwards : AgreesFor c S (after_turns start turns).issuing.kdc (after_turns other others).issuing.kdc
 
--- The same of two histories in either of which others send what they like: c's requests in them are the same, each at
--- its moment and with its draw, and so are the replacements, tidyings and restarts, but for the rows of others in the
--- databases that take a place.
+-- The same for two histories in which others send what they like: c's requests are the same in both, each at its moment
+-- and with its draw. The replacements, tidyings and restarts are the same too, except for the rows of others in
+-- replacement databases.
 abbrev pub UnaffectedFrom : Standing → List Turn → Type 0
 UnaffectedFrom start turns = (other : Standing) (others : List Turn) (c : Components) (S : Names)
     → IsTrue (S (ticket_granter start.issuing.kdc.database.realm))
@@ -312,8 +312,8 @@ UnaffectedFrom start turns = (other : Standing) (others : List Turn) (c : Compon
 abbrev pub Unaffected : Type 0
 Unaffected = (start : Standing) (turns : List Turn) → UnaffectedFrom start turns
 
--- Where no request is before a tidying that came earlier, what is sent to the requests is what they get in the run in
--- which nothing is tidied.
+-- If no request is before an earlier tidying, the requests are sent the replies that they get in the run without
+-- tidyings.
 abbrev pub TidiesUnseenFrom : Standing → List Turn → Type 0
 TidiesUnseenFrom start turns = RequestsFollow (events_in start turns)
     → sent_to is_request start turns ≡ replies_to is_request start.issuing.kdc (untidied (events_in start turns))
@@ -321,8 +321,7 @@ TidiesUnseenFrom start turns = RequestsFollow (events_in start turns)
 abbrev pub TidiesUnseen : Type 0
 TidiesUnseen = (start : Standing) (turns : List Turn) → TidiesUnseenFrom start turns
 
--- the tickets that replies to a run's events bring to the client c,
--- each with the time of the authenticator that bought it
+-- the tickets that replies to a run's events bring to the client c, each with the time of its authenticator
 abbrev pub tickets_among : Components → State → List KdcEvent → List (Option (List ℕ)) → List (Stamp × List ℕ)
 tickets_among c state [] replies = []
 tickets_among c state (event ∷ events) [] = []
@@ -333,14 +332,14 @@ tickets_among c state (event ∷ events) (reply ∷ replies) =
 abbrev pub tickets_sent : Components → Standing → List Turn → List (Stamp × List ℕ)
 tickets_sent c start turns = tickets_among c start.issuing.kdc (events_in start turns) (replies_in start turns)
 
--- No authenticator buys two different tickets, over whatever connections it comes,
--- through replacements and restarts too, and where what is resumed with covers the state.
+-- No authenticator gets two different tickets, over any connections, even across replacements and restarts, and across
+-- resumptions that cover the state.
 abbrev pub OneTicketSent : Type 0
 OneTicketSent = (start : Standing) (turns : List Turn) → RestartsFollow (events_in start turns)
     → ResumesFollow start.issuing.kdc (events_in start turns) → (c : Components)
     → OneForEach (tickets_sent c start turns)
 
--- a turn of a process that goes on
+-- a turn within one process
 abbrev pub IsOfOneProcess : Turn → Type 0
 IsOfOneProcess (Stepped entry) = ⊤
 IsOfOneProcess (Replaced database) = ⊤
@@ -348,7 +347,7 @@ IsOfOneProcess (Tidied at) = ⊤
 IsOfOneProcess (Reopened database limits at random kept) = ⊥
 IsOfOneProcess (Resumed database limits resumption random kept) = ⊥
 
--- While one process serves, nothing is asked of moments.
+-- Within one process, moments need no order.
 abbrev pub OneTicketInProcess : Type 0
 OneTicketInProcess = (start : Standing) (turns : List Turn) → AllByRecursion IsOfOneProcess turns → (c : Components)
     → OneForEach (tickets_sent c start turns)

@@ -1,4 +1,4 @@
--- What a hub does at an event.
+-- What a hub does for an event.
 use Rattle.std.specs.Prelude.{◌≡◌, ◌≤◌, ◌+◌, ℕ, Bool, true, false, List, [], ◌∷◌, length, take, Option, Some, None}
 use Rattle.std.specs.Prelude.{Result, Ok, Err, nat_lt, if◌then◌else◌, Vec}
 use Rattle.std.specs.Global.{Global}
@@ -19,7 +19,7 @@ use Rattle.kdc_hub.specs.declared.reply.Reply.{Reply}
 use Rattle.kdc_hub.specs.Issuing.{Issuing, after, issuing, reply_of}
 use Rattle.kdc_hub.specs.StreamStep.{StreamStep, after_some, drawn, stream_step}
 
--- what issues, and the stream of each open connection
+-- the issuer, and the stream of each open connection
 pub record Standing : Type 0 where
   pub issuing : Issuing
   pub connections : map.FinMap nat_cmp Splitting
@@ -35,7 +35,8 @@ pub record Step : Type 0 where
 abbrev pub nothing : Standing → Step
 nothing hub = record { actions = []; hub = hub }
 
--- the most octets of a request on a connection, of a reply with a ticket in a datagram, and the most connections
+-- the greatest size in bytes of a request on a connection, and of a reply with a ticket in a datagram; and the most
+-- connections
 abbrev pub greatest_request : ℕ
 greatest_request = 65535
 
@@ -45,12 +46,12 @@ datagram_room = 1400
 abbrev pub most_connections : ℕ
 most_connections = 256
 
--- a reply goes to the peer that asked, and a datagram that is no request gets none
+-- a reply goes to the requesting peer, and a datagram that is no request gets none
 abbrev pub sent : Peer → Option Reply → List Action
 sent peer (Some reply) = SendTo peer reply ∷ []
 sent peer None = Pass peer ∷ []
 
--- a connection that is there already changes nothing, also where the table is full
+-- a connection that is already open changes nothing, even if the table is full
 abbrev pub opened : Standing → ℕ → Step
 opened hub conn =
     if map.contains_key hub.connections conn then nothing hub
@@ -61,7 +62,7 @@ opened hub conn =
     }
     else record { actions = Close conn Full ∷ []; hub = hub }
 
--- a connection that stays keeps what is left of its stream
+-- a connection that stays open keeps the rest of its stream
 abbrev pub kept : Bool → Standing → ℕ → Splitting → Issuing → Standing
 kept true hub conn s i = record { issuing = i; connections = map.insert hub.connections conn s }
 kept false hub conn s i = record { issuing = i; connections = map.remove hub.connections conn }
@@ -86,7 +87,7 @@ hub_step hub at (Closed conn) = record {
   hub = record hub { connections = map.remove hub.connections conn };
 }
 
--- Memory ran out: the step ends after so many actions and draws, and its connection is taken out.
+-- Out of memory: the step ends after this many actions and draws, and its connection is removed.
 
 abbrev pub requests_of : List ℕ → Option Splitting → List (List ℕ)
 requests_of piece (Some s) = (handed_out (fed s piece)).messages
@@ -119,7 +120,7 @@ event_connection (Opened conn) = Some conn
 event_connection (Bytes conn piece) = Some conn
 event_connection (Closed conn) = None
 
--- one draw for each action that is done, and perhaps one for the next
+-- one draw for each completed action, and perhaps one for the next
 abbrev pub AreDraws : HubFault → Type 0
 AreDraws fault = (length fault.done.items ≤ fault.draws) × (fault.draws ≤ length fault.done.items + 1)
 

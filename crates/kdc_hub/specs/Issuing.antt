@@ -1,4 +1,4 @@
--- A key distribution centre, the generator of the random octets for its answers, and whether accounts are kept.
+-- A key distribution centre, the generator of the random bytes for its answers, and whether it keeps accounts.
 use Rattle.std.specs.Prelude.{ℕ, Bool, true, false, List, Option, Some, None, option_map}
 use Rattle.rand_core.specs.Stream.{Stream, fill_bytes}
 use Rattle.krb_fields.specs.declared.moment.Moment.{Moment}
@@ -14,7 +14,7 @@ use Rattle.kdc_core.specs.declared.account.RequestNames.{RequestNames}
 use Rattle.kdc_hub.specs.declared.issuer.Issuer.{Issuer}
 use Rattle.kdc_hub.specs.declared.reply.Reply.{Reply}
 
--- the state, all that the generator will give, and whether replies bear accounts
+-- the state, everything that the generator will give, and whether replies have accounts
 pub record Issuing : Type 0 where
   pub kdc : State
   pub random : Stream
@@ -23,12 +23,12 @@ pub record Issuing : Type 0 where
 abbrev pub issuing : {R : Type 0} → (R → Stream) → Issuer R → Issuing
 issuing stream issuer = record { kdc = issuer.kdc; random = stream issuer.rng; accounts = issuer.keeps_accounts }
 
--- the names of a request, where its account is kept
+-- the names of a request, if its account is kept
 abbrev pub names_kept : Bool → List ℕ → Option RequestNames
 names_kept true request = Some (names_in (request_of request))
 names_kept false request = None
 
--- a reply, an account with these names, if there are any, and the authenticator that is remembered by it
+-- a reply, an account with these names, if there are any, and the authenticator that it records
 abbrev pub reply_with : Option (List ℕ) → Account → Option RequestNames → Option Seen → Option Reply
 reply_with octets account names seen =
     option_map (λ message. record {
@@ -41,7 +41,7 @@ abbrev pub kept_account : Bool → Account → Option Account
 kept_account true account = Some account
 kept_account false account = None
 
--- the reply to a request, with its account where accounts are kept, and with the authenticator that is remembered by it
+-- the reply to a request, with its account if accounts are kept, and with the authenticator that it records
 unfoldable pub reply_by : Bool → View → Moment → List ℕ → ℕ → List ℕ → Option Reply
 reply_by accounts v at random room request =
     option_map (λ message. record {
@@ -50,7 +50,7 @@ reply_by accounts v at random room request =
       remembered = remembered v at random room request;
     }) (answer v at random room request).reply
 
--- the reply to a request is made with the next 64 octets
+-- the reply to a request, made with the next 64 bytes
 unfoldable pub reply_of : Issuing → Moment → ℕ → List ℕ → Option Reply
 reply_of i at room request = reply_by i.accounts (view i.kdc request) at (fill_bytes 64 i.random).0 room request
 
@@ -61,6 +61,6 @@ after i at room request = record {
   accounts = i.accounts;
 }
 
--- the error for a faulty length
+-- the error for a bad length
 unfoldable pub too_long : State → Moment → Reply
 too_long kdc at = record { message = error_octets kdc at KrbErrFieldToolong; account = None; remembered = None }

@@ -1,4 +1,4 @@
--- What a run of `serve` is: rounds, each with its one poll.
+-- A run of `serve`: rounds with one poll each.
 use Rattle.std.specs.Prelude.{◌≡◌, ◌⊎◌, ◌^◌, ◌-◌, ℕ, min, Bool, ⊤, List, [], ◌∷◌, ◌++◌, length, count_by, Option, Some, None}
 use Rattle.std.specs.List.{flat_map}
 use Rattle.std.specs.Option.{is_some, option_or}
@@ -21,7 +21,7 @@ action_connection (Pass peer) = None
 action_connection (Write conn reply) = Some conn
 action_connection (Close conn reason) = Some conn
 
--- each of these actions was tried, in order: it was done, or it failed
+-- each of these actions was tried, in order: it succeeded or failed
 unfoldable pub Tries : List Action → List Did → Type 0
 Tries [] did = did ≡ []
 Tries (action ∷ actions) did =
@@ -40,7 +40,8 @@ abbrev pub lost_in : List Did → Option ℕ
 lost_in [] = None
 lost_in (did ∷ others) = option_or (lost_by did) (lost_in others)
 
--- the poll failed, or nothing came until a moment, or an event came: then each of its actions was tried, and after memory ran out a Close
+-- the poll failed, or no event came until a moment, or an event came: then each of its actions was tried, and after
+-- memory ran out a Close
 pub data Round : Type 0 where
   PollFailed : Round
   NothingCame : Moment → Round
@@ -55,12 +56,12 @@ abbrev pub closing : Option Stop → Event → List Action
 closing (Some stop) event = close_of (event_connection event)
 closing None event = []
 
--- a connection that was lost is at its end
+-- a lost connection ends
 abbrev pub ending : Moment → Option ℕ → List Entry
 ending at (Some conn) = record { at = at; event = Closed conn; stop = None } ∷ []
 ending at None = []
 
--- what a round steps
+-- the entries of a round
 abbrev pub entries_of : Round → List Entry
 entries_of PollFailed = []
 entries_of (NothingCame at) = []
@@ -72,13 +73,13 @@ did_in PollFailed = Missed ∷ []
 did_in (NothingCame at) = Waited at ∷ []
 did_in (Took entry acts close) = Polled entry.at entry.event ∷ acts ++ close
 
--- when its poll came back, if it did not fail
+-- when its poll returned, if it did not fail
 abbrev pub moment_in : Round → Option Moment
 moment_in PollFailed = None
 moment_in (NothingCame at) = Some at
 moment_in (Took entry acts close) = Some entry.at
 
--- when the last poll came back that did not fail
+-- when the last successful poll returned
 abbrev pub last_moment : List Round → Option Moment
 last_moment [] = None
 last_moment (round ∷ rounds) = option_or (last_moment rounds) (moment_in round)
@@ -89,7 +90,7 @@ IsRound hub (NothingCame at) = ⊤
 IsRound hub (Took entry acts close) =
     Tries (step_of hub entry).actions acts × Tries (closing entry.stop entry.event) close
 
--- rounds from this hub on, each where the log of the earlier ones leaves the hub
+-- rounds that begin with this hub, each with the hub that the log of the earlier rounds leaves
 unfoldable pub AreRounds : Standing → List Round → Type 0
 AreRounds hub [] = ⊤
 AreRounds hub (round ∷ rounds) = IsRound hub round × AreRounds (logged hub (entries_of round)).hub rounds
@@ -101,8 +102,7 @@ is_refused entry = is_some entry.stop
 abbrev pub fault_total : List Did → ℕ
 fault_total did = min (count_by is_fault did) (2 ^ 64 - 1)
 
--- A run of so many rounds: the Wire's record before and afterwards, the hub before and afterwards,
--- and what was counted.
+-- A run of this many rounds: the Wire's record before and afterwards, the hub before and afterwards, and the counts.
 pub record IsRun (before : Option (List Did)) (start : Standing) (n : ℕ) (served : Served) (after : Option (List Did))
     (new : Standing) : Type 0 where
   pub rounds : List Round
@@ -110,7 +110,7 @@ pub record IsRun (before : Option (List Did)) (start : Standing) (n : ℕ) (serv
   pub many : length rounds ≡ n
   -- the Wire did this and nothing else
   pub recorded : Records before (flat_map did_in rounds) after
-  -- the events polled and the ends that were added are one run of the log
+  -- the polled events and the added ends are one run of the log
   pub hub : new ≡ (logged start (flat_map entries_of rounds)).hub
   pub events : served.events ≡ count_by is_event (flat_map did_in rounds)
   pub faults : served.faults ≡ fault_total (flat_map did_in rounds)

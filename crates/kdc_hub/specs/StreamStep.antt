@@ -1,4 +1,4 @@
--- What becomes of the messages that a connection brings.
+-- The answers to the messages of a connection.
 use Rattle.std.specs.Prelude.{ℕ, zero, suc, Bool, true, false, List, [], ◌∷◌, Option, Some, None}
 use Rattle.rand_core.specs.Stream.{Stream, fill_bytes}
 use Rattle.framing.specs.declared.fault.FrameFault.{FrameFault}
@@ -10,17 +10,17 @@ use Rattle.kdc_hub.specs.declared.event.CloseReason.TheVariants.{NoRequest, BadL
 use Rattle.kdc_hub.specs.declared.reply.Reply.{Reply}
 use Rattle.kdc_hub.specs.Issuing.{Issuing, after, reply_of, too_long}
 
--- the actions, what issues afterwards, and whether the connection stays open
+-- the actions, the issuer afterwards, and whether the connection stays open
 pub record StreamStep : Type 0 where
   pub actions : List Action
   pub issuing : Issuing
   pub stays : Bool
 
--- the most octets of a reply with a ticket on a connection
+-- the greatest size in bytes of a reply with a ticket on a connection
 abbrev pub stream_room : ℕ
 stream_room = 131072
 
--- after the last message: less than a whole one, or a faulty length
+-- after the last message: an incomplete one, or a bad length
 abbrev pub ending_step : Issuing → Moment → ℕ → Option FrameFault → StreamStep
 ending_step i at conn None = record { actions = []; issuing = i; stays = true }
 ending_step i at conn (Some fault) = record {
@@ -40,7 +40,7 @@ messages_step i at conn fault (request ∷ requests) =
     reply_then conn (reply_of i at stream_room request) (after i at stream_room request)
     (messages_step (after i at stream_room request) at conn fault requests)
 
--- what answers one request
+-- the action that answers one request
 abbrev pub action_for : ℕ → Option Reply → Action
 action_for conn (Some reply) = Write conn reply
 action_for conn None = Close conn NoRequest
@@ -49,7 +49,7 @@ action_for conn None = Close conn NoRequest
 abbrev pub stream_step : Issuing → Moment → ℕ → Splitting → StreamStep
 stream_step i at conn s = messages_step i at conn (handed_out s).fault (handed_out s).messages
 
--- what issues after so many of the requests, up to the first that gets no reply
+-- the issuer after this many of the requests, up to the first that gets no reply
 abbrev pub after_reply : Option Reply → Issuing → Issuing → Issuing
 after_reply (Some reply) i others = others
 after_reply None i others = i
@@ -61,7 +61,7 @@ after_some (suc n) i at (request ∷ requests) =
     after_reply (reply_of i at stream_room request) (after i at stream_room request)
     (after_some n (after i at stream_room request) at requests)
 
--- the generator after so many draws of 64 octets
+-- the generator after this many draws of 64 bytes
 unfoldable pub drawn : ℕ → Stream → Stream
 drawn zero random = random
 drawn (suc n) random = drawn n (fill_bytes 64 random).1

@@ -1,4 +1,4 @@
--- What events complete, however the pieces are cut.
+-- The work that events complete, however the pieces are cut.
 use Rattle.std.specs.Prelude.{ℕ, List, [], ◌∷◌, ◌++◌, Option, Some, None}
 use Rattle.std.specs.FinMap as map
 use Rattle.framing.specs.declared.fault.FrameFault.{FrameFault}
@@ -13,7 +13,7 @@ use Rattle.kdc_hub.specs.StreamStep.{stream_room}
 use Rattle.kdc_hub.specs.Hub.{Standing, hub_step}
 use Rattle.kdc_hub.specs.Logged.{Entry}
 
--- a request, a faulty length, or the beginning or the end of a connection
+-- a request, a bad length, or the beginning or the end of a connection
 pub data Work : Type 0 where
   Asked : Peer → List ℕ → Work
   Requested : ℕ → List ℕ → Work
@@ -25,7 +25,7 @@ pub record Timed : Type 0 where
   pub at : Moment
   pub work : Work
 
--- what a stream's messages are up to the one that ends the connection
+-- the work in a stream's messages, up to the one that ends the connection
 abbrev pub fault_works : Moment → ℕ → Option FrameFault → List Timed
 fault_works at conn (Some fault) = record { at = at; work = Faulted conn } ∷ []
 fault_works at conn None = []
@@ -53,7 +53,7 @@ works hub at (Opened conn) = record { at = at; work = Came conn } ∷ []
 works hub at (Bytes conn piece) = piece_works hub.issuing at conn piece (map.get hub.connections conn)
 works hub at (Closed conn) = record { at = at; work = Went conn } ∷ []
 
--- an event with memory enough
+-- an event with enough memory
 pub record Happening : Type 0 where
   pub at : Moment
   pub event : Event

@@ -1,11 +1,11 @@
-//! What a Wire in memory did.
+//! The record of a Wire in memory.
 ghost use Rattle.std.specs.Prelude.{◌≡◌, ◌∷◌, [], false, IfOk, OnErr};
 ghost use Rattle.kdc_hub.specs.Wire.{Records, kept};
 
 use crate::wires::Did;
 use std::alloc::{AllocError, Global};
 
-/// What was done, in order, as long as memory sufficed to write it down.
+/// What was done, in order, until memory ran out.
 #[derive(Drop)]
 pub struct Diary {
     pub did: Vec<Did>,
@@ -20,8 +20,8 @@ impl Diary {
         }
     }
 
-    /// Writes down what was done. Where there was no memory to copy it, or is none to keep it, the diary isn't whole
-    /// any more.
+    /// Records what was done. If there was no memory to copy it, or is none to store it, the diary is incomplete from
+    /// then on.
     pub fn keep(&mut self, did: Result<Did, AllocError>)
         ensures records { IfOk did
             (λ did. Records (kept self.old.is_whole self.old.did.items) (did ∷ [])

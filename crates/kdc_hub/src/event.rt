@@ -1,4 +1,4 @@
-//! What happens to a hub, and what it does.
+//! The events of a hub, and its actions.
 ghost use Rattle.std.specs.Prelude.{◌≡◌, IfOk, option_copied};
 ghost use Rattle.kdc_hub.specs.Rounds.{action_connection};
 
@@ -7,24 +7,24 @@ use krb_elements::Octets;
 use std::alloc::{AllocError, Global};
 use std::net::SocketAddr;
 
-/// Where a datagram came from, and by which of the server's sockets. The reply goes back the same way.
+/// Where a datagram came from, and the socket of the server that it came to. The reply goes back the same way.
 #[derive(Clone, Copy, Debug, PartialEq, Eq)]
 pub struct Peer {
     pub address: SocketAddr,
-    /// The number of the socket among those that take datagrams.
+    /// The number of the socket among those for datagrams.
     pub socket: u64,
 }
 
-/// What happens to a hub. A connection has a number that no other has had.
+/// An event of a hub. The number of a connection is never used again.
 #[derive(Drop)]
 pub enum Event {
-    /// A request comes in a datagram.
+    /// A request arrives in a datagram.
     Datagram { peer: Peer, request: Octets },
     /// A connection is opened.
     Opened { conn: u64 },
-    /// The next piece of what comes on a connection.
+    /// The next piece of a connection's bytes.
     Bytes { conn: u64, piece: Octets },
-    /// A connection is at its end.
+    /// A connection has ended.
     Closed { conn: u64 },
 }
 
@@ -50,31 +50,31 @@ impl Event {
 /// Why a hub ends a connection.
 #[derive(Clone, Copy, Debug, PartialEq, Eq)]
 pub enum CloseReason {
-    /// What came on it is no request, and gets no reply.
+    /// The peer sent what is no request, and gets no reply.
     NoRequest,
-    /// A length that came on it is too large. An error was written before (RFC 4120, section 7.2.2).
+    /// The peer sent a length that is too large. An error was written before (RFC 4120, section 7.2.2).
     BadLength,
-    /// As many connections are open as the hub takes.
+    /// The hub has as many open connections as it allows.
     Full,
     /// Memory ran out.
     OutOfMemory,
 }
 
-/// What a hub does. Each request has one action, which bears its reply, or says that it gets none.
+/// An action of a hub. Each request has one action, which sends its reply, or says that it gets none.
 #[derive(Drop)]
 pub enum Action {
     /// Sends a reply in a datagram.
     SendTo { peer: Peer, reply: Reply },
     /// Sends nothing: the datagram is no request.
     Pass { peer: Peer },
-    /// Writes a reply to a connection, behind its length.
+    /// Writes a reply to a connection, after its length.
     Write { conn: u64, reply: Reply },
     /// Ends a connection.
     Close { conn: u64, reason: CloseReason },
 }
 
 impl Action {
-    /// The connection that it is done on.
+    /// Returns the connection that the action is for.
     pub fn connection(&self) -> Option<u64>
         ensures { result ≡ action_connection self.now }
     {
@@ -105,12 +105,12 @@ impl Action {
     }
 }
 
-/// Memory ran out in the midst of an event.
+/// Memory ran out during an event.
 #[derive(Drop)]
 pub struct HubFault {
     /// The actions completed before that.
     pub done: Vec<Action>,
-    /// The connection that was taken out, and is to be closed.
+    /// The connection that was removed and has to be closed.
     pub conn: Option<u64>,
     /// How often 64 random octets were drawn for this event.
     pub draws: usize,

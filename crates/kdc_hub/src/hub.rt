@@ -27,10 +27,10 @@ use principals::Database;
 use rand_core::Rng;
 use std::alloc::Global;
 
-/// The most octets of a request on a connection.
+/// The greatest size of a request on a connection, in bytes.
 const GREATEST_REQUEST: u32 = 65_535;
 
-/// The most octets of a reply with a ticket in a datagram.
+/// The greatest size of a reply with a ticket in a datagram, in bytes.
 const DATAGRAM_ROOM: u32 = 1_400;
 
 /// The most connections that are open at once.
@@ -44,14 +44,14 @@ pub struct Hub<R> {
 }
 
 impl<R: Rng> Hub<R> {
-    /// A hub with no connections, whose replies bear the accounts of their requests if it keeps accounts. It allocates
-    /// nothing yet.
+    /// Returns a hub without connections. If it keeps accounts, its replies have the accounts of their requests. It
+    /// allocates nothing yet.
     pub fn new(alloc: Global, kdc: Kdc, rng: R, keeps_accounts: bool) -> Hub<R>
         ensures kdc { (standing R.stream result).issuing.kdc ≡ kdc }
         ensures random { (standing R.stream result).issuing.random ≡ R.stream rng }
         ensures accounts { (standing R.stream result).issuing.accounts ≡ keeps_accounts }
         ensures connections { (standing R.stream result).connections ≡ map.empty }
-        // Over a centre that opens again it is the hub of a process that begins, whatever there was before.
+        // Over a centre that reopens, it is the hub of a new process, whatever came before.
         ensures reopened { (before : Standing) (database : Principals) (limits : Limits) (at : moments.Moment)
             → kdc ≡ opened_state database limits (Restart at)
             → standing R.stream result
@@ -72,8 +72,8 @@ impl<R: Rng> Hub<R> {
         }
     }
 
-    /// Puts another database of the same realm in the place of the one that is served; all else stays. One of another
-    /// realm changes nothing. It takes no memory.
+    /// Replaces the database by another of the same realm; all else is unchanged. One of another realm changes nothing.
+    /// It allocates nothing.
     pub fn replace(&mut self, database: Database) -> Result<(), OtherRealm>
         ensures realm { IsOk result ↔ (database.realm ≡ (standing R.stream self.old).issuing.kdc.database.realm) }
         ensures turn { standing R.stream self.new ≡ after_turn (standing R.stream self.old) (Replaced database) }
@@ -82,19 +82,19 @@ impl<R: Rng> Hub<R> {
         self.issuer.kdc.replace(database)
     }
 
-    /// Forgets of every client what is too old to come again at this moment; connections and generator stay. It takes
-    /// no memory.
+    /// Forgets each client's authenticators that are too old to come again at this moment. Connections and generator
+    /// are unchanged. It allocates nothing.
     pub fn tidy(&mut self, at: Moment)
         ensures turn { standing R.stream self.new ≡ after_turn (standing R.stream self.old) (Tidied at) }
     {
         self.issuer.kdc.tidy(at);
     }
 
-    /// What an event asks for: the actions, in order. A connection is served until a request gets no reply, or a length
-    /// is too large; then it is closed, and what else came on it is dropped. Where memory runs out, the step ends
-    /// after the actions that are done, and the event's connection is taken out.
+    /// Returns the actions for an event, in order. It answers a connection until a request gets no reply, or a length
+    /// is too large. Then it closes the connection and drops the rest of its bytes. If memory runs out, the step ends
+    /// after the completed actions, and the event's connection is removed.
     pub fn step(&mut self, alloc: Global, at: Moment, event: Event) -> Result<Vec<Action>, HubFault>
-        // What the step returns is what the log has next, and the hub then stands where the log leaves it.
+        // What the step returns is the next entry of the log, and the hub afterwards is that of the log.
         ensures log { (start : Standing) (entries : List Entry)
             → (logged start entries).hub ≡ standing R.stream self.old
             → LogsNext start entries at event result (standing R.stream self.new) }
@@ -102,13 +102,13 @@ impl<R: Rng> Hub<R> {
         ensures draws { IfErr result AreDraws }
         // The account of each request that it answers is true of the reply, at the state before that request.
         ensures accounts { AccountsHold (standing R.stream self.old) at event result }
-        // The end of a connection takes no memory.
+        // The end of a connection allocates nothing.
         ensures closed { (conn : ℕ) → event ≡ Closed conn → IsOk result }
     {
         self.take(alloc, at, event)
     }
 
-    /// The step, without the log.
+    /// Does the step, without the log.
     fn take(&mut self, alloc: Global, at: Moment, event: Event) -> Result<Vec<Action>, HubFault>
         ensures step { Steps (standing R.stream self.old) at event result (standing R.stream self.new) }
         ensures draws { IfErr result AreDraws }
@@ -173,8 +173,8 @@ impl<R: Rng> Hub<R> {
         }
     }
 
-    /// Serves what a piece completes. Meanwhile an empty stream stands in the table, so that putting the connection's
-    /// own stream back takes no memory.
+    /// Answers what a piece completes. Meanwhile the table has an empty stream, so that putting the connection's own
+    /// stream back allocates nothing.
     fn take_piece(
         &mut self,
         alloc: Global,
@@ -212,7 +212,7 @@ impl<R: Rng> Hub<R> {
     }
 }
 
-/// Memory ran out before any action.
+/// Returns the fault for memory that ran out before any action.
 fn nothing_done(alloc: Global, conn: Option<u64>, draws: usize) -> HubFault
     ensures done { result.done.items ≡ [] }
     ensures conn { result.conn ≡ conn }
@@ -225,7 +225,7 @@ fn nothing_done(alloc: Global, conn: Option<u64>, draws: usize) -> HubFault
     }
 }
 
-/// Closes a connection for which there is no place.
+/// Closes a connection for which there is no room.
 fn refuse_connection(alloc: Global, conn: u64) -> Result<Vec<Action>, HubFault>
     ensures ok { IfOk result (λ actions. actions.items ≡ Close conn Full ∷ []) }
     ensures done { IfErr result (λ fault. fault.done.items ≡ []) }

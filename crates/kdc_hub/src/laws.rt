@@ -1,4 +1,4 @@
-//! What holds of every run of a hub: laws over the log that `Hub::step` meets.
+//! Laws of every run of a hub, over the log that `Hub::step` meets.
 ghost use Rattle.std.specs.Prelude.{◌≡◌, ◌++◌, List, map};
 ghost use Rattle.kdc_hub.specs.Cutting.{IsSameInTwoPieces, RepliesAreSame};
 ghost use Rattle.kdc_hub.specs.History.{AnswersWhoAsked, CanBeResumed, IsOneRun, OneTicketInProcess, OneTicketSent};
@@ -8,38 +8,38 @@ ghost use Rattle.kdc_hub.specs.Logged.{Entry, logged};
 
 use framing::two_pieces;
 
-/// It doesn't matter how what comes on the connections is cut into pieces, as long as no step is refused memory.
+/// How the bytes of connections are cut into pieces makes no difference, as long as no step runs out of memory.
 pub fn any_cutting()
-    // Runs that complete the same requests, faulty lengths, openings and ends, in the same order and at the same
-    // moments, give the same replies.
+    // Runs that complete the same requests, bad lengths, openings and ends, in the same order and at the same moments,
+    // give the same replies.
     ensures replies { RepliesAreSame }
-    // A piece that comes in two at one moment changes nothing.
+    // A piece that arrives in two parts at one moment changes nothing.
     ensures two_pieces { IsSameInTwoPieces }
 {
     two_pieces();
 }
 
-/// All that a server answers is one run of its key distribution centre: over the requests that came whole, on whatever
-/// connections, the databases that were replaced, and the processes that began anew.
+/// All answers of a server are those of one run of its key distribution centre: over the complete requests on all
+/// connections, the replaced databases, and the restarted processes.
 pub fn one_run()
     ensures run { (start : Standing) (turns : List Turn) → IsOneRun start turns }
-    // A history goes on where it stands, and a log is one.
+    // A history continues from the hub that it left, and a log is a history.
     ensures goes_on { (start : Standing) (turns later : List Turn)
         → after_turns start (turns ++ later) ≡ after_turns (after_turns start turns) later }
     ensures log { (start : Standing) (entries : List Entry)
         → after_turns start (map Stepped entries) ≡ (logged start entries).hub }
-    // What others send, over whatever connections and cut however, never changes what a client gets.
+    // What others send, over any connections and in any pieces, never changes what a client gets.
     ensures isolation { ServesAlike }
-    // In two histories in which a client asks the same it gets the same, whatever others send in either.
+    // Two histories in which a client sends the same requests give it the same replies, whatever others send in either.
     ensures unaffected { Unaffected }
-    // As long as no request is before a tidying that came earlier, what is sent is what is sent where nothing is tidied.
+    // If no request is before an earlier tidying, the requests are sent what they get without any tidying.
     ensures unseen { TidiesUnseen }
-    // No authenticator buys two different tickets, through replacements and restarts too, and where what is resumed
-    // with covers the state; of one process nothing is asked.
+    // No authenticator gets two different tickets, even across replacements and restarts, and across resumptions that
+    // cover the state. Within one process there is no condition.
     ensures one_ticket { OneTicketSent }
     ensures one_ticket_in_process { OneTicketInProcess }
-    // What a process began with, and what its replies tell since, is enough to resume with.
+    // What a process began with, and what its replies have reported since, is enough to resume with.
     ensures resumable { CanBeResumed }
-    // The replies go to who asked.
+    // Each reply goes to the peer that sent the request.
     ensures who_asked { AnswersWhoAsked }
 {}

@@ -1,5 +1,5 @@
-//! The hub: one key distribution centre behind many peers and connections (RFC 4120, section 7.2). A `Hub` takes events
-//! one by one, and says what each asks for; `serve` takes them from a `Wire`, and does it.
+//! The hub: one key distribution centre for many peers and connections (RFC 4120, section 7.2). A `Hub` takes events
+//! one by one and returns the actions for each. `serve` takes events from a `Wire` and does their actions.
 #![tactic(auto)]
 
 mod connections;

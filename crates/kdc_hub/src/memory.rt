@@ -9,21 +9,21 @@ use krb_fields::Moment;
 use std::alloc::Global;
 use std::collections::VecDeque;
 
-/// A Wire that gives the events that it was handed, and keeps a record of what it does.
+/// A Wire that returns the events that it was given, and records what it does.
 #[derive(Drop)]
 pub struct MemoryWire {
     coming: VecDeque<(Moment, Event)>,
     /// When the last event came.
     at: Moment,
     diary: Diary,
-    /// How many calls succeed before the one that fails, if one is to fail.
+    /// How many calls succeed before one fails, if one is to fail.
     calls_before_fault: Option<u64>,
     faults: u64,
 }
 
 impl MemoryWire {
-    /// A Wire on which these events come, and behind them none: time stands still then. After so many polls and acts one
-    /// fails, if any is to.
+    /// Returns a Wire with these events. After them none come, and time stands still. After `calls_before_fault` polls
+    /// and acts one fails, if any is to.
     pub fn new(
         alloc: Global,
         coming: VecDeque<(Moment, Event)>,
@@ -38,7 +38,7 @@ impl MemoryWire {
         }
     }
 
-    /// What it did, in order, where memory sufficed to write all of it down.
+    /// Returns what it did, in order, if there was enough memory to record all of it.
     pub fn did(&self) -> Option<&[Did]> {
         if self.diary.is_whole {
             Some(self.diary.did.as_slice())
@@ -47,7 +47,7 @@ impl MemoryWire {
         }
     }
 
-    /// Whether this call fails. A failure is counted.
+    /// Checks whether this call fails, and counts a failure.
     fn fails(&mut self) -> bool
         ensures counted { IsCounted self.old.faults (if result then 1 else 0) self.new.faults }
         ensures diary { self.new.diary ≡ self.old.diary }

@@ -9,9 +9,9 @@ use std::alloc::{AllocError, Global};
 #[derive(Drop)]
 pub struct Reply {
     pub message: Octets,
-    /// `None` where the hub keeps no accounts, and in the answer to a length that is too large.
+    /// `None` if the hub keeps no accounts, and in the answer to a length that is too large.
     pub account: Option<Account>,
-    /// The authenticator that is remembered by this request, if one is. A reply that is sent again has none.
+    /// The authenticator that this request records, if any. A reply that is sent again has none.
     pub remembered: Option<Seen>,
 }
 

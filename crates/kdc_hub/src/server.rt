@@ -1,4 +1,4 @@
-//! Serving what comes to a Wire.
+//! Serving the events of a Wire.
 ghost use Rattle.std.specs.Prelude.{◌≡◌, ◌≤◌, ◌<◌, ◌^◌, ◌∷◌, [], length, None};
 ghost use Rattle.kdc_hub.specs.Acts.{AreActs, IsTaken};
 ghost use Rattle.kdc_hub.specs.Hub.{Steps, standing};
@@ -13,20 +13,20 @@ use krb_fields::Moment;
 use rand_core::Rng;
 use std::alloc::Global;
 
-/// What a run counted.
+/// The counts of a run.
 #[derive(Clone, Copy, PartialEq, Eq)]
 pub struct Served {
-    /// Events that came.
+    /// Events that arrived.
     pub events: u32,
-    /// Calls of the Wire that failed. The count stops at the greatest `u64`.
+    /// Failed calls of the Wire. The count stops at the greatest `u64`.
     pub faults: u64,
-    /// Events that were refused memory.
+    /// Events that ran out of memory.
     pub refused: u32,
-    /// When the last poll came back that did not fail.
+    /// When the last successful poll returned.
     pub last: Option<Moment>,
 }
 
-/// Nothing came.
+/// Returns the counts when no event came.
 fn nothing_served(faults: u64, last: Option<Moment>) -> Served
     ensures events { result.events ≡ 0 }
     ensures faults { result.faults ≡ faults }
@@ -41,8 +41,8 @@ fn nothing_served(faults: u64, last: Option<Moment>) -> Served
     }
 }
 
-/// Serves for so many rounds, with one poll in each. A failed poll ends its round. Every action that an event asks for
-/// is tried, also after one that failed. A connection on which one failed is at its end.
+/// Serves this many rounds, with one poll in each. A failed poll ends its round. It tries every action of an event,
+/// even after one that failed. A connection on which an action failed ends.
 pub fn serve<W: Wire, R: Rng>(alloc: Global, wire: &mut W, hub: &mut Hub<R>, rounds: u32) -> Served
     ensures run { IsRun (W.recorded wire.old) (standing R.stream hub.old) rounds result (W.recorded wire.new)
         (standing R.stream hub.new) }
@@ -78,7 +78,7 @@ fn serve_round<W: Wire, R: Rng>(alloc: Global, wire: &mut W, hub: &mut Hub<R>) -
     }
 }
 
-/// Does what an event asks for. If memory runs out, its connection is closed.
+/// Does the actions of an event. If memory runs out, closes its connection.
 fn take_event<W: Wire, R: Rng>(
     alloc: Global,
     wire: &mut W,
@@ -114,7 +114,7 @@ fn take_event<W: Wire, R: Rng>(
     }
 }
 
-/// Tries each action, in order. If one fails on a connection, the connection is then at its end. Returns how many failed.
+/// Tries each action, in order. If one fails on a connection, the connection then ends. Returns how many failed.
 fn act_all<W: Wire, R: Rng>(
     alloc: Global,
     wire: &mut W,
@@ -142,7 +142,7 @@ fn act_all<W: Wire, R: Rng>(
     faults
 }
 
-/// Closes the connection of an event for which memory ran out.
+/// Closes the connection of an event that ran out of memory.
 fn close<W: Wire, R: Rng>(
     alloc: Global,
     wire: &mut W,
@@ -164,7 +164,7 @@ fn close<W: Wire, R: Rng>(
     }
 }
 
-/// Has a connection that was lost be at its end.
+/// Ends a connection that was lost.
 fn end_lost<R: Rng>(alloc: Global, hub: &mut Hub<R>, at: Moment, lost: Option<u64>)
     ensures { standing R.stream hub.new ≡ (logged (standing R.stream hub.old) (ending at lost)).hub }
 {

@@ -1,4 +1,4 @@
-//! The messages that a connection brings, each answered in its turn.
+//! Answering the messages of a connection, in order.
 ghost use Rattle.std.specs.Prelude.{◌≡◌, ◌+◌, if◌then◌else◌, ◌++◌, ◌∷◌, [], true, false, length, take, Some, IfOk};
 ghost use Rattle.std.specs.Prelude.{IfErr, OnOk, OnErr, is_some};
 ghost use Rattle.framing.specs.Splitting.{handed_out, left};
@@ -18,10 +18,10 @@ use krb_fields::Moment;
 use rand_core::Rng;
 use std::alloc::{AllocError, Global};
 
-/// The most octets of a reply with a ticket on a connection.
+/// The greatest size of a reply with a ticket on a connection, in bytes.
 const ROOM: u32 = 131_072;
 
-/// What came of the messages of a connection.
+/// The answers to the messages of a connection.
 #[derive(Drop)]
 pub struct StreamStep {
     pub actions: Vec<Action>,
@@ -29,7 +29,7 @@ pub struct StreamStep {
     pub stays: bool,
 }
 
-/// Answers the messages of a stream that are there whole.
+/// Answers the complete messages of a stream.
 pub fn answer_stream<R: Rng>(
     alloc: Global,
     issuer: &mut Issuer<R>,
@@ -89,7 +89,7 @@ pub fn answer_stream<R: Rng>(
     }
 }
 
-/// Memory ran out after these replies, and after one draw more or none.
+/// Returns the fault for memory that ran out after these replies, and after one more draw or none.
 fn out_of_memory(done: Vec<Action>, conn: u64, drawn: bool) -> HubFault
     ensures done { result.done ≡ done }
     ensures conn { result.conn ≡ Some conn }
@@ -103,7 +103,7 @@ fn out_of_memory(done: Vec<Action>, conn: u64, drawn: bool) -> HubFault
     }
 }
 
-/// Answers one request, and says whether the connection stays open. An `Err` says whether it drew random octets.
+/// Answers one request, and returns whether the connection stays open. An `Err` says whether it drew random bytes.
 #[tactic(auto, unfolding(crate::specs::StreamStep::drawn))]
 fn answer_request<R: Rng>(
     alloc: Global,

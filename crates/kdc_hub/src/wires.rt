@@ -1,4 +1,4 @@
-//! What a hub hears and speaks through.
+//! What a hub receives and sends through.
 ghost use Rattle.std.specs.Prelude.{◌≡◌, ◌∷◌, [], ℕ, List, Option};
 ghost use Rattle.kdc_hub.specs.declared.wires.Did.{Did};
 ghost use Rattle.kdc_hub.specs.Wire.{IsCounted, Records, acted, polled, faults_of};
@@ -24,19 +24,19 @@ impl Error for WireFault {}
 /// A call of a Wire, with its outcome.
 #[derive(Drop)]
 pub enum Did {
-    /// A poll gave an event.
+    /// A poll returned an event.
     Polled { at: Moment, event: Event },
-    /// A poll gave none until this moment.
+    /// A poll returned no event until this moment.
     Waited { at: Moment },
     /// A poll failed.
     Missed,
-    /// An act was done.
+    /// An act succeeded.
     Acted { action: Action },
     /// An act failed.
     Failed { action: Action },
 }
 
-/// Where events come from and actions go to. A Wire may keep a record, for contracts alone.
+/// The source of events and the target of actions. A Wire may keep a record, for contracts alone.
 pub trait Wire {
     // The polls and acts so far with their outcomes, in order, if the Wire keeps a record.
     ghost recorded: { Self → Option (List Did) };

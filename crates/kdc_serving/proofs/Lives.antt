@@ -1,4 +1,4 @@
--- Periods one after the other.
+-- One period after another.
 use Rattle.std.proofs.Common.{◌≡◌, ◌+◌, ◌-◌, ◌^◌, ℕ, arith, List, [], ◌∷◌, ◌++◌, length, map, count_by, Option, Some, None, refl, sym, ap, subst, ◌∙◌}
 use Rattle.std.specs.Prelude.{cond, min, replicate, Bool}
 use Rattle.std.specs.List.{AllByRecursion, flat_map}
@@ -27,7 +27,7 @@ flat_map-one f xs x = flat_map-append f xs (x ∷ []) ∙ ap (λ l. flat_map f x
 count_on : {X : Type 0} (p : X → Bool) (xs ys : List X) → count_by p (xs ++ ys) ≡ count_by p xs + count_by p ys
 count_on p xs ys = sum_by-append (λ x. cond (p x) 1 0) xs ys
 
--- what was lived so far, and when was tidied last
+-- the life so far, and when the last tidying was
 pub record LivesOn (wire : Option (List Did)) (source : Option (List Look)) (start : Standing) (lengths : List ℕ) (totals : Totals) (wire_after : Option (List Did)) (source_after : Option (List Look)) (new : Standing) (tidied : Option Moment) : Type 0 where
   pub lived : IsLived wire source start lengths totals wire_after source_after new
   pub last : tidied ≡ tidied_by None lived.periods
@@ -54,7 +54,7 @@ none_lived wire source start totals events faults refused = record {
   last = refl;
 }
 
--- a history goes on where it stands, and a log is one
+-- a history continues from the hub that it left, and a log is a history
 module _ (goes_on : (start : Standing) (turns later : List Turn) → after_turns start (turns ++ later) ≡ after_turns (after_turns start turns) later)
     (log : (start : Standing) (entries : List Entry) → after_turns start (map Stepped entries) ≡ (logged start entries).hub) where
   periods_on : (tidied : Option Moment) (hub : Standing) (ps : List Period) (p : Period) → ArePeriods tidied hub ps → AreRounds (after_turns (after_turns hub (flat_map turns_of ps)) (replacement p.look)) p.rounds

@@ -1,4 +1,4 @@
--- The life of a server: looks at a source of rows, rounds between them, and a tidying once in a minute.
+-- The life of a server: looks at a source of rows, rounds between them, and a tidying at most once a minute.
 use Rattle.std.specs.Prelude.{◌≡◌, ◌/◌, ◌%◌, ℕ, ⊤, List, [], ◌∷◌, ◌++◌, length, map}
 use Rattle.std.specs.Prelude.{pos, ◌+ℤ◌, int_lt, not, ◌&&◌, if◌then◌else◌, replicate, count_by, Option, Some, None}
 use Rattle.std.specs.List.{flat_map}
@@ -18,14 +18,14 @@ use Rattle.kdc_serving.specs.declared.rows.Look.{Look}
 use Rattle.kdc_serving.specs.declared.rows.Look.TheVariants.{Unchanged, Changed, Failed}
 use Rattle.kdc_serving.specs.declared.totals.Totals.{Totals}
 
--- what a look makes of the rows that are served
+-- the effect of a look on the rows that are served
 abbrev pub replacement : Look → List Turn
 replacement Unchanged = []
 replacement (Changed database) = Replaced database ∷ []
 replacement Failed = []
 
--- When is to be tidied, by when it was tidied last and when the last poll came back: at that moment, unless it was
--- within the minute from the last time on. So a clock that went back keeps nothing from being forgotten.
+-- When to tidy, given the moments of the last tidying and of the last successful poll: at the poll's moment, unless it
+-- is within the minute that began with the last tidying. So a clock that went back doesn't stop tidyings.
 abbrev pub due : Option Moment → Option Moment → Option Moment
 due tidied None = None
 due None (Some at) = Some at
@@ -36,19 +36,18 @@ abbrev pub tidying : Option Moment → List Turn
 tidying None = []
 tidying (Some at) = Tidied at ∷ []
 
--- a look, the rounds up to the next one, and when was tidied behind them, if it was
+-- a look, the rounds up to the next one, and the moment of the tidying after them, if there was one
 pub record Period : Type 0 where
   pub look : Look
   pub rounds : List Round
   pub tidied : Option Moment
 
--- the history of a period: the rows are replaced before its first round, and what can't come again is forgotten behind
--- its last one
+-- the history of a period: the rows are replaced before its first round, and a tidying may follow its last one
 abbrev pub turns_of : Period → List Turn
 turns_of period =
     replacement period.look ++ (map Stepped (flat_map entries_of period.rounds) ++ tidying period.tidied)
 
--- when was tidied last, behind these periods
+-- the moment of the last tidying after these periods
 abbrev pub tidied_by : Option Moment → List Period → Option Moment
 tidied_by tidied [] = tidied
 tidied_by tidied (period ∷ periods) = tidied_by (option_or period.tidied tidied) periods
@@ -56,7 +55,7 @@ tidied_by tidied (period ∷ periods) = tidied_by (option_or period.tidied tidie
 abbrev pub rounds_in : List Period → List Round
 rounds_in periods = flat_map (λ period. period.rounds) periods
 
--- each period begins where the ones before it leave the hub; it is tidied where that is due since it last was
+-- each period begins with the hub that the ones before it left; it tidies if that is due
 unfoldable pub ArePeriods : Option Moment → Standing → List Period → Type 0
 ArePeriods tidied hub [] = ⊤
 ArePeriods tidied hub (period ∷ periods) =
@@ -64,11 +63,11 @@ ArePeriods tidied hub (period ∷ periods) =
     × (period.tidied ≡ due tidied (last_moment period.rounds))
     × ArePeriods (option_or period.tidied tidied) (after_turns hub (turns_of period)) periods
 
--- how many rounds each period has: 16, and the last one the rest
+-- the number of rounds in each period: 16, and the rest in the last one
 abbrev pub periods_of : ℕ → List ℕ
 periods_of rounds = replicate (rounds / 16) 16 ++ rounds % 16 ∷ []
 
--- What the Wire and the source recorded before and afterwards, the hub before and afterwards, and what was counted.
+-- The records of the Wire and of the source before and afterwards, the hub before and afterwards, and the counts.
 pub record IsLived (wire : Option (List Did)) (source : Option (List Look)) (start : Standing) (lengths : List ℕ)
     (totals : Totals) (wire_after : Option (List Did)) (source_after : Option (List Look))
     (new : Standing) : Type 0 where
@@ -77,15 +76,15 @@ pub record IsLived (wire : Option (List Did)) (source : Option (List Look)) (sta
   pub many : map (λ period. length period.rounds) periods ≡ lengths
   -- the Wire did this and nothing else
   pub did : Records wire (flat_map did_in (rounds_in periods)) wire_after
-  -- the source was looked at so often, and found this
+  -- there were this many looks at the source, and this is what they found
   pub found : Records source (map (λ period. period.look) periods) source_after
-  -- the rows that were found, the events polled, with the ends that were added, and the tidyings are one history
+  -- the rows that were found, the polled events with the added ends, and the tidyings are one history
   pub hub : new ≡ after_turns start (flat_map turns_of periods)
   pub events : totals.events ≡ count_by is_event (flat_map did_in (rounds_in periods))
   pub faults : totals.faults ≡ fault_total (flat_map did_in (rounds_in periods))
   pub refused : totals.refused ≡ count_by is_refused (flat_map entries_of (rounds_in periods))
 
--- It is a history of one process, of which the laws of all histories hold.
+-- It is a history of one process, and the laws of all histories hold of it.
 pub record IsLife (wire : Option (List Did)) (source : Option (List Look)) (start : Standing) (lengths : List ℕ)
     (totals : Totals) (wire_after : Option (List Did)) (source_after : Option (List Look))
     (new : Standing) : Type 0 where
@@ -97,20 +96,20 @@ pub record IsLife (wire : Option (List Did)) (source : Option (List Look)) (star
   pub resumable : CanBeResumedFrom start (flat_map turns_of lived.periods)
   pub one_ticket : (c : Components) → OneForEach (tickets_sent c start (flat_map turns_of lived.periods))
 
--- what a look leaves
+-- the result of a look
 pub record HasLooked (source : Option (List Look)) (start : Standing) (source_after : Option (List Look))
     (new : Standing) : Type 0 where
   pub look : Look
   pub found : Records source (look ∷ []) source_after
   pub hub : new ≡ after_turns start (replacement look)
 
--- what is tidied, and when it was last then
+-- the result of a tidying, if there was one, and the moment of the last one
 pub record HasTidied (start : Standing) (tidied last : Option Moment) (new : Standing)
     (tidied_after : Option Moment) : Type 0 where
   pub hub : new ≡ after_turns start (tidying (due tidied last))
   pub after : tidied_after ≡ option_or (due tidied last) tidied
 
--- what a look, a run of so many rounds after it, and perhaps a tidying leave
+-- the result of a look, of this many rounds after it, and perhaps of a tidying
 pub record IsPeriod (wire : Option (List Did)) (source : Option (List Look)) (start : Standing)
     (tidied : Option Moment) (n : ℕ) (served : Served) (wire_after : Option (List Did))
     (source_after : Option (List Look)) (new : Standing) (tidied_after : Option Moment) : Type 0 where

@@ -1,4 +1,4 @@
--- What a source tells that there may be none of.
+-- The record of a source that may be absent.
 use Rattle.std.specs.Prelude.{List, Option, Some, None}
 use Rattle.kdc_serving.specs.declared.rows.Look.{Look}
 

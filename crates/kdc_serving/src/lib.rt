@@ -1,4 +1,4 @@
-//! The life of a server: it serves rounds, and between them looks whether there are other rows.
+//! The life of a server: it serves rounds, and between them checks whether the rows have changed.
 #![tactic(auto)]
 
 mod life;

@@ -1,4 +1,4 @@
-//! Serving a realm whose rows may change meanwhile.
+//! Serving a realm whose rows may change in the meantime.
 ghost use Rattle.std.specs.Prelude.{◌≡◌, ◌≤◌};
 ghost use Rattle.kdc_hub.specs.Hub.{standing};
 ghost use Rattle.kdc_hub.specs.Wire.{IsCounted};
@@ -14,9 +14,10 @@ use std::alloc::Global;
 /// In seconds.
 const MINUTE: i64 = 60;
 
-/// Serves for so many rounds. Before the first, and again after each 16, it looks whether the source has other rows;
-/// those of the same realm take the place of the ones that are served, and all that is remembered stays. Behind the
-/// rounds it forgets what can't come again, at most once in a minute, by the moment of the last poll: so a server that
+/// Serves this many rounds. Before the first, and again after each 16, it checks whether the source has new rows. Rows
+/// of the same realm replace those that are served; the replay caches are unchanged. After the rounds it forgets
+/// authenticators that can't come again, at most once a minute by the moment of the last poll. So a server without
+/// requests forgets them too.
 /// nobody asks forgets it, too.
 pub fn serve_life<W: Wire, S: RowSource, R: Rng>(
     alloc: Global,
@@ -25,9 +26,9 @@ pub fn serve_life<W: Wire, S: RowSource, R: Rng>(
     hub: &mut Hub<R>,
     rounds: u64,
 ) -> Totals
-    // What the Wire and the source tell of it, and the hub in the end, are those of one history; it is one run of
-    // the key distribution centre, in which no authenticator buys two different tickets, and what others send
-    // changes nothing for a client, nor does what is forgotten, where no request is before that.
+    // The records of the Wire and of the source, and the hub at the end, are those of one history, which is one run of
+    // the key distribution centre. No authenticator gets two different tickets in it. What others send changes nothing
+    // for a client. What is forgotten changes nothing either, if no request is before an earlier tidying.
     ensures life { IsLife (W.recorded wire.old) (S.recorded source.old) (standing R.stream hub.old) (periods_of rounds) result
         (W.recorded wire.new) (S.recorded source.new) (standing R.stream hub.new) }
     ensures counted { IsCounted (W.fault_count wire.old) result.faults (W.fault_count wire.new) }
@@ -44,7 +45,7 @@ pub fn serve_life<W: Wire, S: RowSource, R: Rng>(
     totals.with(last)
 }
 
-/// Looks for other rows, serves for so many rounds, and tidies where that is due.
+/// Checks for new rows, serves this many rounds, and tidies if that is due.
 fn serve_period<W: Wire, S: RowSource, R: Rng>(
     alloc: Global,
     wire: &mut W,
@@ -65,7 +66,8 @@ fn serve_period<W: Wire, S: RowSource, R: Rng>(
     served
 }
 
-/// Forgets what can't come again, where the last poll came back a minute after the last time or later, or before it.
+/// Forgets authenticators that can't come again, if the last poll returned at least a minute after the last tidying, or
+/// before it.
 fn tidy_if_due<R: Rng>(hub: &mut Hub<R>, tidied: &mut Option<Moment>, last: &Option<Moment>)
     ensures { HasTidied (standing R.stream hub.old) tidied.old last.now (standing R.stream hub.new) tidied.new }
 {
@@ -75,7 +77,7 @@ fn tidy_if_due<R: Rng>(hub: &mut Hub<R>, tidied: &mut Option<Moment>, last: &Opt
     }
 }
 
-/// When is to be tidied, if it is.
+/// Returns when to tidy, if that is due.
 fn due(tidied: &Option<Moment>, last: &Option<Moment>) -> Option<Moment>
     ensures { result ≡ due tidied.now last.now }
 {
@@ -92,7 +94,7 @@ fn due(tidied: &Option<Moment>, last: &Option<Moment>) -> Option<Moment>
     }
 }
 
-/// Puts the rows of a source in the place of those that are served, where there are others.
+/// Replaces the rows that are served by those of the source, if they changed.
 fn take_rows<S: RowSource, R: Rng>(alloc: Global, source: &mut S, hub: &mut Hub<R>)
     ensures { HasLooked (S.recorded source.old) (standing R.stream hub.old) (S.recorded source.new)
         (standing R.stream hub.new) }

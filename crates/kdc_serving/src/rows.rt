@@ -1,4 +1,4 @@
-//! Where the rows of a realm come from while it is served.
+//! The source of a realm's rows while it is served.
 ghost use Rattle.std.specs.Prelude.{◌≡◌, ◌∷◌, [], List, Option};
 ghost use Rattle.kdc_hub.specs.Wire.{Records};
 ghost use Rattle.kdc_serving.specs.Recorded.{recorded_by_any};
@@ -8,32 +8,32 @@ use kdc_hub::OtherRealm;
 use principals::Database;
 use std::alloc::Global;
 
-/// What a look at a source of rows finds.
+/// The result of a look at a source of rows.
 #[derive(Drop)]
 pub enum Look {
-    /// The rows are those that were given last.
+    /// The rows are those that the source gave last.
     Unchanged,
-    /// There are others.
+    /// There are new rows.
     Changed(Database),
-    /// There are others, which can't be taken.
+    /// There are new rows, but they can't be used.
     Failed,
 }
 
-/// Where the rows of a realm come from while it is served. A source may tell its record, for contracts alone.
+/// A source of a realm's rows while it is served. It may have a record, for contracts alone.
 pub trait RowSource {
-    // What the looks so far have found, in order, where the source tells it.
+    // What the looks so far have found, in order, if the source has a record.
     ghost recorded: { Self → Option (List Look) };
 
-    /// Looks whether there are other rows than those that were given last.
+    /// Checks whether there are other rows than those that the source gave last.
     fn look(&mut self, alloc: Global) -> Look
         ensures records { Records (recorded self.old) (result ∷ []) (recorded self.new) };
 
-    /// Hears whether the rows of the last look are served from now on.
+    /// Learns whether the rows of the last look are served from now on.
     fn hear(&mut self, taken: Result<(), OtherRealm>)
         ensures records { recorded self.new ≡ recorded self.old };
 }
 
-/// Where there is no source, the rows are never others.
+/// Without a source the rows never change.
 impl<S: RowSource> RowSource for Option<S> {
     ghost recorded = { recorded_by_any S.recorded };
 

@@ -1,21 +1,21 @@
-//! What a server counts through its life.
+//! The counts of a server over its life.
 ghost use Rattle.std.specs.Prelude.{◌≡◌, ◌+◌, ◌<◌, ◌^◌, ◌-◌, min};
 
 use kdc_hub::Served;
 
-/// What a server counted through its life.
+/// The counts of a server over its life.
 #[derive(Clone, Copy, PartialEq, Eq)]
 pub struct Totals {
-    /// Events that came.
+    /// Events that arrived.
     pub events: u64,
-    /// Calls of the Wire that failed. The count stops at the greatest `u64`.
+    /// Failed calls of the Wire. The count stops at the greatest `u64`.
     pub faults: u64,
-    /// Events that were refused memory.
+    /// Events that ran out of memory.
     pub refused: u64,
 }
 
 impl Totals {
-    /// Nothing is counted yet.
+    /// Returns zero counts.
     pub fn new() -> Totals
         ensures events { result.events ≡ 0 }
         ensures faults { result.faults ≡ 0 }
@@ -28,7 +28,7 @@ impl Totals {
         }
     }
 
-    /// With what some more rounds counted.
+    /// Adds the counts of some more rounds.
     pub fn with(self, served: Served) -> Totals
         requires events { self.events + served.events < 2 ^ 64 }
         requires refused { self.refused + served.refused < 2 ^ 64 }

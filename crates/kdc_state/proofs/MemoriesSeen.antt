@@ -1,4 +1,4 @@
--- Each name's memory in a state that resumes.
+-- Each name's replay cache in a state that resumes.
 use Rattle.std.proofs.Common.{◌≡◌, Bool, true, false, cond, if◌then◌else◌, List, [], ◌∷◌, Some, refl, sym, ap, ◌∙◌}
 use Rattle.std.specs.FinMap as map
 use Rattle.std.specs.FinMap.{get-insert, get-empty}
@@ -18,7 +18,7 @@ use Rattle.kdc_state.specs.declared.state.State.{State}
 use Rattle.kdc_state.specs.Resumed.{after_all_seen, after_seen, resumed_state}
 use Rattle.kdc_state.specs.State.{memory_of}
 
--- the memory with one more, of which nothing is kept
+-- the cache with one more authenticator, for which nothing is stored
 abbrev pub seeing : Seen → Memory Kept → Memory Kept
 seeing seen m = record m { pairs = map.insert m.pairs (stamp_seen seen) nothing_kept }
 
@@ -50,7 +50,7 @@ module _ (c : Components) where
       ∙ ap (λ o. record (unwrap_or o (empty_memory {T = Kept} r.floor)) { pairs = with_all_seen c (unwrap_or o (empty_memory {T = Kept} r.floor)).pairs r.seen })
       (get-empty name_cmp c)
 
--- ---- rows and limits are those that it starts with
+-- ---- rows and limits are those of the start
 
 database_all_seen : (state : State) (all : List Seen) → (after_all_seen state all).database ≡ state.database
 database_all_seen state [] = refl

@@ -1,4 +1,4 @@
--- Each name's memory in a state that is tidied.
+-- Each name's replay cache in a state that is tidied.
 use Rattle.std.proofs.Common.{◌≡◌, Bool, true, false, cond, not, ℤ, Option, Some, None, option_map, refl, sym, ap, ◌∙◌}
 use Rattle.std.specs.FinMap as map
 use Rattle.std.specs.Option.{unwrap_or}
@@ -22,7 +22,7 @@ module _ (state : State) (at : Moment) where
   abbrev tells : Memory Kept → Bool
   tells m = not (is_empty (floor_on state.floor at.sec) m)
 
-  -- an empty memory is the same whether it is stored or not
+  -- an empty cache is the same whether it is stored or not
   if_stored : (m : Memory Kept) (b : Bool) → is_empty (floor_on state.floor at.sec) m ≡ b
       → unwrap_or (cond (not b) (Some m) None) (empty_memory (floor_on state.floor at.sec)) ≡ m
   if_stored m true e = sym (is_empty_memory (floor_on state.floor at.sec) m e)
@@ -32,14 +32,14 @@ module _ (state : State) (at : Moment) where
   of_stored (Some m) = if_stored (change m) (is_empty (floor_on state.floor at.sec) (change m)) refl
   of_stored None = sym (tidied_empty state.floor at.sec)
 
-  -- it is the one that the name had, tidied
+  -- it is the cache that the name had, tidied
   pub memory_tidied : (name : Components) → memory_of (tidied_state state at) name ≡ tidied (memory_of state name) at.sec
   memory_tidied name =
       ap (λ o. unwrap_or o (empty_memory (floor_on state.floor at.sec)))
       (get-retain_values name_total (change_values state.memories change) tells name ∙ ap (passing tells) (get-change_values name_cmp change state.memories name))
       ∙ of_stored (map.get state.memories name)
 
-  -- from what was computed: the floor, the memories that were changed, and those that are left
+  -- from the computed values: the floor, the changed caches, and those that are left
   pub made_tidy : (floor : ℤ) (changed left : map.FinMap name_cmp (Memory Kept)) → floor ≡ floor_on state.floor at.sec → changed ≡ change_values state.memories change
       → left ≡ retain_values changed (λ m. not (is_empty floor m)) → (name : Components) → memory_of (record state { floor = floor; memories = left }) name ≡ tidied (memory_of state name) at.sec
   made_tidy floor changed left floor_is changed_is left_is name =

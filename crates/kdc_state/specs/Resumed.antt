@@ -1,4 +1,4 @@
--- The state of a start that resumes with the authenticators that were seen before it.
+-- The state after a start that resumes with the authenticators that were seen before.
 use Rattle.std.specs.Prelude.{List, [], ◌∷◌}
 use Rattle.std.specs.FinMap as map
 use Rattle.principal_rows.specs.declared.limits.Limits.{Limits}
@@ -10,7 +10,7 @@ use Rattle.replay.specs.Resumed.{stamp_seen}
 use Rattle.kdc_state.specs.declared.state.State.{State}
 use Rattle.kdc_state.specs.State.{memory_of, with_memory}
 
--- the authenticator that was seen is remembered of its client, and nothing is kept beside it
+-- the seen authenticator is recorded for its client, with nothing stored for it
 abbrev pub after_seen : State → Seen → State
 after_seen state seen =
     with_memory state seen.client.components

@@ -1,4 +1,4 @@
--- The state that opens, the memory of each client in it, and what is lost and tidied.
+-- The state after an opening, each client's replay cache in it, and the state after a loss and after a tidying.
 use Rattle.std.specs.Prelude.{not}
 use Rattle.std.specs.Option.{unwrap_or}
 use Rattle.std.specs.FinMap as map
@@ -20,20 +20,20 @@ abbrev pub opened_state : Principals → Limits → Opening → State
 opened_state database limits opening =
     record { database = database; limits = limits; floor = opening_floor opening; memories = map.empty }
 
--- of a name that has no memory stored nothing is remembered, and it has the floor of the state
+-- a name without a stored cache has an empty one with the floor of the state
 abbrev pub memory_of : State → Components → Memory Kept
 memory_of state name = unwrap_or (map.get state.memories name) (empty_memory state.floor)
 
--- the state with this memory stored for a name
+-- the state with this cache stored for a name
 abbrev pub with_memory : State → Components → Memory Kept → State
 with_memory state name memory = record state { memories = map.insert state.memories name memory }
 
--- after what was remembered is lost, each name has the memory of a restart at this moment
+-- after a loss each name has the cache of a restart at this moment
 abbrev pub restarted : State → Moment → State
 restarted state at = record state { floor = opening_floor (Restart at); memories = map.empty }
 
--- Each memory is tidied at this moment, and the floor raised likewise. A memory that then is that of a name which has
--- none stored is let go.
+-- Each cache is tidied at this moment, and the floor is raised likewise. A cache that then equals that of a name
+-- without a stored one is dropped.
 abbrev pub tidied_state : State → Moment → State
 tidied_state state at = record state {
   floor = floor_on state.floor at.sec;

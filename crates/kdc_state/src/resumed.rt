@@ -15,8 +15,8 @@ use replay::{Kept, Memory, Resumption, Seen};
 use std::alloc::{AllocError, Global};
 
 impl State {
-    /// The state of a key distribution centre that resumes: each client's memory has the authenticators that were seen
-    /// of it, with nothing kept beside them.
+    /// Returns the state of a key distribution centre that resumes: each client's cache has the authenticators that
+    /// were seen, with nothing stored for them.
     pub fn resume(
         alloc: Global,
         database: Database,
@@ -49,7 +49,7 @@ impl State {
         Ok(state)
     }
 
-    /// Remembers these authenticators. Where memory runs out, some of them are remembered.
+    /// Records these authenticators. If memory runs out, some of them are recorded.
     fn see_all(&mut self, alloc: Global, all: &[Seen]) -> Result<(), AllocError>
         ensures { OnOk result (self.new ≡ after_all_seen self.old all.now) }
     {
@@ -59,7 +59,7 @@ impl State {
         Ok(())
     }
 
-    /// Remembers an authenticator of the client, and keeps nothing beside it. Where memory runs out, nothing changes.
+    /// Records an authenticator of the client, with nothing stored for it. If memory runs out, nothing changes.
     fn see(
         &mut self,
         alloc: Global,
@@ -88,7 +88,7 @@ impl State {
     }
 }
 
-/// Sets what is kept for a pair; the floor stays, and so does every other pair. Where memory runs out, nothing changes.
+/// Sets what is stored for a pair. The floor and all other pairs are unchanged. If memory runs out, nothing changes.
 fn keep(memory: &mut Memory<Kept>, ctime: i64, cusec: u32, kept: Kept) -> Result<(), AllocError>
     ensures ok { OnOk result
         (memory.new ≡ record memory.old { pairs = map.insert memory.old.pairs (ctime, cusec) kept }) }

@@ -1,4 +1,4 @@
-//! Forgetting what can't come again, of all clients.
+//! Forgetting the authenticators of all clients that can't come again.
 ghost use Rattle.std.specs.Prelude.{◌≡◌};
 ghost use Rattle.krb_fields.specs.Name.{Components};
 ghost use Rattle.replay.specs.Tidied.{tidied};
@@ -10,8 +10,8 @@ use principal_rows::{ValueChange, ValueTest};
 use replay::{Kept, Memory, floor_on};
 
 impl State {
-    /// Forgets of every client the authenticators that are too old to come again at this moment. It lets go what then
-    /// says no more than that a client has no memory stored. It takes no memory.
+    /// Forgets each client's authenticators that are too old to come again at this moment. It drops each cache that
+    /// then equals that of a client without a stored one. It allocates nothing.
     pub fn tidy(&mut self, at: Moment)
         ensures state { self.new ≡ tidied_state self.old at }
         ensures memories { (name : Components) → memory_of self.new name ≡ tidied (memory_of self.old name) at.sec }
@@ -22,7 +22,7 @@ impl State {
     }
 }
 
-/// Tidies a memory, at this moment.
+/// Tidies a cache at this moment.
 #[derive(Drop)]
 struct Tidying {
     at: Moment,
@@ -38,7 +38,7 @@ impl ValueChange<Memory<Kept>> for Tidying {
     }
 }
 
-/// Whether a memory says more than an empty one of this floor.
+/// Checks whether a cache differs from an empty one with this floor.
 #[derive(Drop)]
 struct Telling {
     floor: i64,

@@ -1,4 +1,4 @@
-//! What tests expect. A call of these costs a test about a quarter of what an `assert!` of its own does.
+//! The expectations of tests. A call of these costs a test about a quarter of what its own `assert!` does.
 use std::fmt::Debug;
 use std::process::Abort;
 

@@ -1,4 +1,4 @@
-//! What the tests have in common.
+//! What the tests share.
 use krb_fields::Name;
 use std::alloc::Global;
 use std::test::Fail;

@@ -1,4 +1,4 @@
-//! Worked cases of a hub (`kdc_hub`). Where its KDC, of the realm `A.B`, has no clients, each request is answered by an
+//! Worked cases of a hub (`kdc_hub`). If its KDC, for the realm `A.B`, has no clients, it answers each request with an
 //! error of code 6.
 use crate::expect::same;
 use crate::given;

@@ -1,4 +1,4 @@
-//! A key distribution centre (`kdc_core`): requests and the replies to them, changes of rows, and runs.
+//! A key distribution centre (`kdc_core`): requests and their replies, changes of rows, and runs.
 use crate::given::{BASIC, CLIENT_UNKNOWN};
 use crate::realm::{Altered, Case, Exchange, Happening, NOTHING, Realm, Step, expect};
 use std::test::Fail;

@@ -1,5 +1,5 @@
-//! The tests of a KDC and of what stands around it: scripts, streams cut into messages, the hub, and the wire over
-//! sockets. They stand apart, since a crate with tests is proved twice.
+//! The tests of a KDC and of the crates around it: scripts, streams cut into messages, the hub, and the wire over
+//! sockets. They are a crate of their own because a crate with tests is proved twice.
 #![tactic(auto)]
 
 #[cfg(test)]

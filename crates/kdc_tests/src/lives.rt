@@ -1,4 +1,4 @@
-//! A realm's life from a login to a revoked ticket, each line with what it prints. The octets are those of a model of
+//! A realm's life from a login to a revoked ticket, each line with the expected output. The bytes come from a model of
 //! the exchanges in Python, which shares no code with this repository.
 use crate::realm::{Case, Exchange, NOTHING, Realm, expect};
 use crate::scripts::expect_lines;

@@ -1,4 +1,4 @@
-//! What a KDC (`kdc_core`) remembers of its clients' authenticators, over whole runs.
+//! The replay caches of a KDC (`kdc_core`), over whole runs.
 use crate::steps::{Act, Asked, Changed, Step, replies};
 use principal_rows::Limits;
 use std::alloc::Global;

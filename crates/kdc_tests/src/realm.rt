@@ -1,5 +1,5 @@
-//! KDCs (`kdc_core`) of the realm `A.B`, and what tests do with one. A KDC is let go here alone: proofs about its end
-//! take long for each place.
+//! KDCs (`kdc_core`) of the realm `A.B`, and what tests do with one. A KDC is dropped only here: proofs about a drop
+//! take long at each place.
 use crate::given::{BASIC, name, octets};
 use enctypes::{Etype, Key};
 use kdc_core::{

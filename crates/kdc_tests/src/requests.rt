@@ -1,5 +1,5 @@
-//! Requests in the realm `A.B` of clients whose names are one letter, in octets: what they all have in common is
-//! stored, and tickets and authenticators are sealed as they are asked for.
+//! The bytes of requests in the realm `A.B`, from clients whose names are one letter: their common part is stored, and
+//! tickets and authenticators are encrypted when a test needs them.
 use enctypes::{Etype, Key, KeyUsage, checksum, seal};
 use std::alloc::{AllocError, Global};
 

@@ -1,5 +1,6 @@
-//! Clients of the wire over sockets (`kdc_wire`) on the loopback, on ports that the system gives. The KDC has the realm
-//! `A.B` and no clients: each request is answered by an error of code 6. The octets are those of an encoder in Python.
+//! Clients of the wire over sockets (`kdc_wire`) on the loopback, on ports that the system chooses. The KDC has the
+//! realm `A.B` and no clients, so it answers each request with an error of code 6. The bytes come from an encoder in
+//! Python.
 use crate::realm::{Realm, kdc};
 use kdc_hub::{Hub, Served, serve};
 use kdc_wire::SocketWire;

@@ -1,4 +1,4 @@
-//! A stream cut into messages (`framing`).
+//! Cutting a stream into messages (`framing`).
 use framing::{FrameFault, Splitter, frame, prefix};
 use std::alloc::{AllocError, Global};
 use std::test::Fail;

@@ -1,5 +1,5 @@
-//! Struck runs (`kdc_core`): a client gets the same beside others as where their requests and the changes of their
-//! rows are struck out.
+//! Struck runs (`kdc_core`): a client gets the same replies beside others as in a run where their requests and the
+//! changes of their rows are struck out.
 use crate::expect::same;
 use crate::steps::{Act, Asked, Changed, Step, replies, step_at};
 use principal_rows::Limits;

@@ -1,4 +1,4 @@
-//! The system as a host of a server.
+//! The system as the host of a server.
 ghost use Rattle.std.specs.Prelude.{None};
 
 use kdc_wire::{BindFault, SocketWire, now};
@@ -15,10 +15,10 @@ use std::net::SocketAddr;
 use std::random::RandomSource;
 use std::time::Duration;
 
-/// How many milliseconds a round waits where nothing comes.
+/// How many milliseconds a round waits if nothing arrives.
 const WAIT: u64 = 100;
 
-/// The most octets of the file of a seed, of which the first 32 count.
+/// The greatest size of a seed file, in bytes. Only the first 32 are used.
 const LONGEST_SEED: usize = 16_777_216;
 
 /// The system, with the file of the database. It keeps no record.

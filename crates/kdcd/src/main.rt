@@ -1,5 +1,5 @@
-//! The program of the KDC: `kdcd script` runs a script from standard input to standard output, `kdcd serve` serves
-//! a realm over UDP and TCP.
+//! The KDC's program: `kdcd script` runs a script from standard input to standard output, and `kdcd serve` serves a
+//! realm over UDP and TCP.
 #![tactic(auto)]
 
 mod host;
@@ -13,14 +13,14 @@ use kdcd_start::{ArgsFault, read_args, serve_options};
 use std::process::ExitCode;
 use std::{env, io};
 
-/// The status of a fault of the command line.
+/// The status of a usage error.
 const USAGE: u8 = 2;
 
 fn main(rt: HostRuntime) -> ExitCode {
     match run(&rt) {
         Ok(status) => ExitCode::from(status),
         Err(error) => {
-            // A failed write may be why, so these may fail as well.
+            // A failed write may be the reason, so these may fail as well.
             let _ = println!(rt; "failed");
             let _ = eprintln!(rt; "kdcd: {error}");
             ExitCode::from(FAILED)
@@ -28,7 +28,7 @@ fn main(rt: HostRuntime) -> ExitCode {
     }
 }
 
-/// Returns the status of the program. Fails if a write fails or memory runs out.
+/// Runs the program and returns its status. Fails if a write fails or memory runs out.
 fn run(rt: &HostRuntime) -> io::Result<u8> {
     let alloc = rt.alloc();
     let args: Vec<String> = match env::args(rt) {

@@ -1,4 +1,4 @@
--- The texts that name no other way.
+-- The texts without a transport.
 use Rattle.std.proofs.Common.{◌≡◌, ◌+◌, ◌<◌, ◌++◌, ◌∷◌, [], ℕ, List, length, take, map, get_or, ap, ◌∙◌, sym, arith}
 use Rattle.std.proofs.lemmas.List.{take_more, get_or-map, length-map}
 use Rattle.std.proofs.lemmas.List.Elements.{filter-append}
@@ -11,7 +11,7 @@ taken f xs i d lt =
     take_more (map f xs) i (f d) (omega (arith, length-map xs f))
     ∙ ap (λ y. take i (map f xs) ++ y ∷ []) (get_or-map f xs i d (f d) lt)
 
--- the next text, where it is plain
+-- the next text, if it names no transport
 pub one_text : {A : Type 0} (f : A → List ℕ) (xs : List A) (i : ℕ) (d : A) (old new : List (List ℕ))
     → i < length xs → new ≡ old ++ kdc_texts (f (get_or xs i d) ∷ []) → old ≡ kdc_texts (take i (map f xs))
     → new ≡ kdc_texts (take (i + 1) (map f xs))

@@ -1,4 +1,4 @@
--- What a line of a krb5.conf says.
+-- The meaning of a line of a krb5.conf.
 use Rattle.std.specs.Prelude.{◌==◌, ◌-◌, ℕ, List, [], ◌∷◌, length, take, drop, codes, bytes_eq, nat_lt, if◌then◌else◌}
 use Rattle.std.specs.Char.{is_ascii_whitespace}
 use Rattle.std.specs.List.{after_first, before_first, position_or_len, prefix_len, suffix_len}
@@ -7,18 +7,18 @@ use Rattle.krb5_conf.specs.declared.line.Line.TheVariants as says
 
 pub data Said : Type 0 where
   Nothing : Said
-  -- a section begins
+  -- the start of a section
   Section : List ℕ → Said
-  -- a group opens
+  -- the start of a group
   Open : List ℕ → Said
-  -- a brace on a line of its own: the group opens that the relation before it names
+  -- a brace on a line of its own: starts the group that the relation before it names
   Brace : Said
-  -- the group that was opened last is closed
+  -- the end of the last group that was started
   Close : Said
-  -- a relation holds: its tag and its value
+  -- a relation: its tag and its value
   Relation : List ℕ → List ℕ → Said
 
--- the same of the code's type, whose octets stand in the text
+-- the same for the code's type, which borrows from the text
 abbrev pub said : lines.Line → Said
 said says.Nothing = Nothing
 said (says.Section name) = Section name.now
@@ -27,15 +27,15 @@ said says.Brace = Brace
 said says.Close = Close
 said (says.Relation tag value) = Relation tag.now value.now
 
--- without the blanks at its start
+-- without leading blanks
 abbrev pub unindented : List ℕ → List ℕ
 unindented text = drop (prefix_len is_ascii_whitespace text) text
 
--- without the blanks at both ends
+-- without blanks at both ends
 unfoldable pub trimmed : List ℕ → List ℕ
 trimmed text = take (length (unindented text) - suffix_len is_ascii_whitespace (unindented text)) (unindented text)
 
--- what stands between quotation marks (22), without them
+-- the text between quotation marks (22), without them
 abbrev pub unquoted : List ℕ → List ℕ
 unquoted [] = []
 unquoted (first ∷ rest) = if first == 0x22 then before_first (λ o. o == 0x22) rest else first ∷ rest
@@ -52,7 +52,7 @@ relation_said text = if nat_lt (position_or_len (λ o. o == 0x3D) text) (length 
     then (if bytes_eq (value_of text) (codes "{") then Open (tag_of text) else Relation (tag_of text) (unquoted (value_of text)))
     else Nothing
 
--- what is told by the first octet: `#`, `;`, `[`, `{` or `}`
+-- the first byte distinguishes lines: `#`, `;`, `[`, `{` or `}`
 abbrev pub trimmed_said : List ℕ → Said
 trimmed_said [] = Nothing
 trimmed_said (first ∷ rest) =

@@ -1,18 +1,18 @@
--- Where a line of a krb5.conf stands.
+-- The place of a line in a krb5.conf.
 use Rattle.std.specs.Prelude.{◌==◌, ◌&&◌, ◌+◌, ◌-◌, ℕ, Bool, List, [], ◌∷◌, bytes_eq, nat_lt, if◌then◌else◌}
 use Rattle.krb5_conf.specs.Line.{Said, Nothing, Section, Open, Brace, Close, Relation}
 use Rattle.krb5_conf.specs.declared.place.Place as places
 
 pub record Place : Type 0 where
   pub section : List ℕ
-  -- the outermost group that is open; empty where none is
+  -- the outermost open group; empty if none is open
   pub group : List ℕ
   -- how many groups are open
   pub depth : ℕ
-  -- the tag of a relation without a value, whose group may open on a later line; else empty
+  -- the tag of a relation without a value, whose group may start on a later line; else empty
   pub waiting : List ℕ
 
--- the same of the code's type
+-- the same for the code's type
 abbrev pub place_of : places.Place → Place
 place_of p = record { section = p.section.now; group = p.group.now; depth = p.depth; waiting = p.waiting.now }
 
@@ -25,7 +25,7 @@ group_place section name = record { section = section; group = name; depth = 1; 
 abbrev pub is_place : Place → Place → Bool
 is_place p q = (p.depth == q.depth) && bytes_eq p.section q.section && bytes_eq p.group q.group
 
--- in one group more
+-- inside one more group
 abbrev pub opened : Place → List ℕ → Place
 opened p name = record {
   section = p.section;
@@ -34,16 +34,16 @@ opened p name = record {
   waiting = [];
 }
 
--- in one group less
+-- inside one group less
 abbrev pub closed : Place → Place
 closed p = if nat_lt 1 p.depth then record p { depth = p.depth - 1; waiting = [] } else section_place p.section
 
--- a relation without a value names the group that may open next
+-- a relation without a value names the group that may start next
 abbrev pub named : List ℕ → List ℕ → List ℕ
 named tag [] = tag
 named tag (octet ∷ octets) = []
 
--- where the next line stands
+-- the place of the next line
 abbrev pub behind : Place → Said → Place
 behind p Nothing = p
 behind p (Section name) = section_place name

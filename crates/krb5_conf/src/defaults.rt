@@ -1,4 +1,4 @@
-//! The relations that a client asks for.
+//! The settings that a client looks up.
 ghost use Rattle.std.specs.Prelude.{◌≡◌, map, IfOk};
 ghost use Rattle.std.specs.List.{slice_get};
 ghost use Rattle.std.specs.Option.{option_map};
@@ -10,7 +10,7 @@ use crate::place::Place;
 use crate::values::values;
 use std::alloc::{AllocError, Global};
 
-/// The realm that is taken where none is named: the first `default_realm` of `[libdefaults]`, as it stands there.
+/// Returns the default realm: the first `default_realm` of `[libdefaults]`, as written.
 pub fn default_realm(alloc: Global, text: &[u8]) -> Result<Option<&[u8]>, AllocError>
     ensures { IfOk result (λ found. option_map (λ realm. realm.now) found ≡ slice_get (default_realms text.now) 0) }
 {
@@ -22,8 +22,8 @@ pub fn default_realm(alloc: Global, text: &[u8]) -> Result<Option<&[u8]>, AllocE
     )
 }
 
-/// Returns the texts of a realm's KDCs, in their order: each `kdc` of the realm in `[realms]`. Those with a `/`, as
-/// `tcp/192.0.2.1`, are left out. `kdc_address` reads a text that is an address; others are hosts' names.
+/// Returns the texts that name a realm's KDCs, in order: each `kdc` of the realm in `[realms]`. Those with a `/`, such
+/// as `tcp/192.0.2.1`, are left out. `kdc_address` reads a text that is an address; the others are host names.
 pub fn kdcs<'a>(alloc: Global, text: &'a [u8], realm: &[u8]) -> Result<Vec<&'a [u8]>, AllocError>
     ensures { IfOk result (λ found.
         map (λ text. text.now) found.items ≡ kdc_texts (kdc_values realm.now text.now)) }

@@ -1,4 +1,4 @@
-//! The texts of KDCs.
+//! The texts that name KDCs.
 ghost use Rattle.std.specs.Prelude.{◌≡◌, ◌++◌, ◌∷◌, [], map, IfOk, IfSome, IfNone, OnOk};
 ghost use Rattle.std.specs.declared.net.socket_addr.SocketAddr as addresses;
 ghost use Rattle.krb5_conf.specs.Kdc.{IsKdcText, is_other_way, kdc_texts};
@@ -6,7 +6,7 @@ ghost use Rattle.krb5_conf.specs.Kdc.{IsKdcText, is_other_way, kdc_texts};
 use std::alloc::{AllocError, Global};
 use std::net::SocketAddr;
 
-/// The texts but for those that name another way than plain UDP and TCP.
+/// Returns the texts except those that name a transport other than plain UDP and TCP.
 pub(crate) fn plain_texts<'a>(
     alloc: Global,
     texts: &[&'a [u8]],
@@ -20,7 +20,7 @@ pub(crate) fn plain_texts<'a>(
     Ok(plain)
 }
 
-/// Appends a text, unless it names another way.
+/// Appends a text, unless it names a transport.
 fn push_plain<'a>(plain: &mut Vec<&'a [u8]>, text: &'a [u8]) -> Result<(), AllocError>
     ensures { OnOk result (
         map (λ t. t.now) plain.new.items ≡ map (λ t. t.now) plain.old.items ++ kdc_texts (text.now ∷ [])) }
@@ -31,15 +31,15 @@ fn push_plain<'a>(plain: &mut Vec<&'a [u8]>, text: &'a [u8]) -> Result<(), Alloc
     Ok(plain.push(text)?)
 }
 
-/// Whether a text names the way to a KDC, as `tcp/192.0.2.1` and `https://kdc.example.com/KdcProxy` do.
+/// Checks whether a text names a transport, such as `tcp/192.0.2.1` or `https://kdc.example.com/KdcProxy`.
 fn is_other_way(text: &[u8]) -> bool
     ensures { result ≡ is_other_way text.now }
 {
     text.contains(&b'/')
 }
 
-/// Returns the address that the text of a KDC is, as `192.0.2.1`, `192.0.2.1:88` or `[2001:db8::1]:88`. Without a port it
-/// is 88. `None` if the text is no address, as a host's name is.
+/// Returns the address in a text, such as `192.0.2.1`, `192.0.2.1:88` or `[2001:db8::1]:88`. The default port is 88.
+/// `None` if the text is not an address, such as a host name.
 pub fn kdc_address(alloc: Global, text: &[u8]) -> Result<Option<SocketAddr>, AllocError>
     ensures some { IfOk result (λ found. IfSome found (λ address. IsKdcText text.now address)) }
     ensures none { IfOk result (λ found.

@@ -1,10 +1,9 @@
-//! What a client takes from a `krb5.conf`: the default realm, and the KDCs of a realm.
+//! The settings that a client reads from a `krb5.conf`: the default realm, and the KDCs of a realm.
 //!
-//! A text is lines, and a line says one thing: a section begins (`[realms]`), a group opens (`EXAMPLE.COM = {`) or is
-//! closed (`}`), or a relation holds (`kdc = 192.0.2.1:88`). The brace of a group may stand on a line of its own, after
-//! `EXAMPLE.COM =`. Blanks at the ends of a line, a name or a value don't count, and neither do quotation marks around a
-//! value. A line that begins with `#` or `;`, and one of any other form, says nothing. Files that a text includes are not
-//! read.
+//! A line of the file is one of four things: the start of a section (`[realms]`), the start of a group (`EXAMPLE.COM =
+//! {`), its end (`}`), or a relation (`kdc = 192.0.2.1:88`). The brace that starts a group may be on a line of its own,
+//! after `EXAMPLE.COM =`. Blanks around a line, a name or a value are ignored, and so are quotation marks around a
+//! value. Lines that start with `#` or `;`, and those in any other form, are ignored too. Included files are not read.
 #![tactic(auto)]
 
 mod defaults;

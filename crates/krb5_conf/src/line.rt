@@ -1,26 +1,26 @@
-//! What a line says.
+//! The meaning of a line.
 ghost use Rattle.std.specs.Prelude.{◌≡◌, ◌==◌, ◌<◌, ◌≤◌, length, IfSome, IfNone};
 ghost use Rattle.std.specs.List.{after_first, before_first, position, position_or_len};
 ghost use Rattle.krb5_conf.specs.Line.{line_said, relation_said, said, trimmed, unquoted};
 
-/// What a line says.
+/// The meaning of a line.
 #[derive(Clone, Copy)]
 pub(crate) enum Line<'a> {
     Nothing,
-    /// A section begins.
+    /// The start of a section.
     Section(&'a [u8]),
-    /// A group opens.
+    /// The start of a group.
     Open(&'a [u8]),
-    /// A brace on a line of its own: the group opens that the relation before it names.
+    /// A brace on a line of its own: starts the group that the relation before it names.
     Brace,
-    /// The group that was opened last is closed.
+    /// The end of the last group that was started.
     Close,
-    /// A relation holds: its tag and its value.
+    /// A relation: its tag and its value.
     Relation(&'a [u8], &'a [u8]),
 }
 
 impl<'a> Line<'a> {
-    /// What the octets between two line feeds say.
+    /// Reads the bytes between two line feeds.
     pub(crate) fn read(text: &'a [u8]) -> Line<'a>
         ensures { said result ≡ line_said text.now }
     {
@@ -38,7 +38,7 @@ impl<'a> Line<'a> {
     }
 }
 
-/// What a line says that begins like a relation.
+/// Reads a line in the form of a relation.
 fn relation(text: &[u8]) -> Line<'_>
     ensures { said result ≡ relation_said text.now }
 {
@@ -54,7 +54,7 @@ fn relation(text: &[u8]) -> Line<'_>
     }
 }
 
-/// What stands between quotation marks, or the value as it is.
+/// Returns the text between quotation marks, or the value as it is.
 fn unquoted(value: &[u8]) -> &[u8]
     ensures { result.now ≡ unquoted value.now }
 {
@@ -64,14 +64,14 @@ fn unquoted(value: &[u8]) -> &[u8]
     }
 }
 
-/// The octets without the blanks at both ends.
+/// Returns the bytes without the blanks at both ends.
 fn trim(text: &[u8]) -> &[u8]
     ensures { result.now ≡ trimmed text.now }
 {
     text.trim_ascii()
 }
 
-/// What stands before the first such octet, or all where there is none.
+/// Returns the bytes before the first such byte, or all if there is none.
 fn before(text: &[u8], octet: u8) -> &[u8]
     ensures { result.now ≡ before_first (λ o. o == octet) text.now }
 {
@@ -81,7 +81,7 @@ fn before(text: &[u8], octet: u8) -> &[u8]
     }
 }
 
-/// What stands before the first such octet, and behind it.
+/// Returns the bytes before the first such byte, and those after it.
 fn cut(text: &[u8], octet: u8) -> Option<(&[u8], &[u8])>
     ensures some { IfSome result (λ parts. position_or_len (λ o. o == octet) text.now < length text.now) }
     ensures front { IfSome result (λ parts. parts.0.now ≡ before_first (λ o. o == octet) text.now) }
@@ -92,7 +92,7 @@ fn cut(text: &[u8], octet: u8) -> Option<(&[u8], &[u8])>
     Some((&text[..place], &text[place + 1..]))
 }
 
-/// The place of the first such octet.
+/// Returns the index of the first such byte.
 fn place_of(text: &[u8], octet: u8) -> Option<usize>
     ensures { result ≡ position (λ o. o == octet) text.now }
 {

@@ -1,24 +1,24 @@
-//! Where a line stands.
+//! The place of a line.
 ghost use Rattle.std.specs.Prelude.{◌≡◌, ◌<◌, ◌≤◌, ◌+◌, ◌-◌, ◌^◌};
 ghost use Rattle.krb5_conf.specs.Line.{said};
 ghost use Rattle.krb5_conf.specs.Place.{behind, closed, group_place, is_place, named, opened, place_of, section_place};
 
 use crate::line::Line;
 
-/// Where a line stands.
+/// The place of a line.
 #[derive(Clone, Copy)]
 pub(crate) struct Place<'a> {
     pub section: &'a [u8],
-    /// The outermost group that is open; empty where none is.
+    /// The outermost open group; empty if none is open.
     pub group: &'a [u8],
     /// How many groups are open.
     pub depth: usize,
-    /// The tag of a relation without a value, whose group may open on a later line; else empty.
+    /// The tag of a relation without a value, whose group may start on a later line; else empty.
     pub waiting: &'a [u8],
 }
 
 impl<'a> Place<'a> {
-    /// In a section, and in no group of it.
+    /// Returns the place inside a section but in no group.
     pub(crate) fn of_section(section: &'a [u8]) -> Place<'a>
         ensures place { place_of result ≡ section_place section.now }
         ensures depth { result.depth ≡ 0 }
@@ -31,7 +31,7 @@ impl<'a> Place<'a> {
         }
     }
 
-    /// In a group of a section, and in no other.
+    /// Returns the place inside a group of a section but in no group within that.
     pub(crate) fn of_group(section: &'a [u8], group: &'a [u8]) -> Place<'a>
         ensures { place_of result ≡ group_place section.now group.now }
     {
@@ -49,7 +49,7 @@ impl<'a> Place<'a> {
         self.depth == other.depth && self.section == other.section && self.group == other.group
     }
 
-    /// Where the next line stands, behind this one.
+    /// Returns the place of the line after this one.
     pub(crate) fn behind(self, line: Line<'a>) -> Place<'a>
         requires { self.depth < 2 ^ 64 - 1 }
         ensures place { place_of result ≡ behind (place_of self.entry) (said line.entry) }
@@ -65,7 +65,7 @@ impl<'a> Place<'a> {
         }
     }
 
-    /// At the same place, where the group of this tag may open next.
+    /// Returns this place, where the group with this tag may start next.
     fn waiting_for(self, tag: &'a [u8]) -> Place<'a>
         ensures place { place_of result ≡ record (place_of self.entry) { waiting = tag.now } }
         ensures depth { result.depth ≤ self.entry.depth + 1 }
@@ -78,7 +78,7 @@ impl<'a> Place<'a> {
         }
     }
 
-    /// In one group more.
+    /// Returns the place inside one more group.
     fn opened(self, group: &'a [u8]) -> Place<'a>
         requires { self.depth < 2 ^ 64 - 1 }
         ensures place { place_of result ≡ opened (place_of self.entry) group.now }
@@ -93,7 +93,7 @@ impl<'a> Place<'a> {
         }
     }
 
-    /// In one group less.
+    /// Returns the place inside one group less.
     fn closed(self) -> Place<'a>
         ensures place { place_of result ≡ closed (place_of self.entry) }
         ensures depth { result.depth ≤ self.entry.depth + 1 }
@@ -110,7 +110,7 @@ impl<'a> Place<'a> {
     }
 }
 
-/// The tag of a relation without a value; else no tag.
+/// Returns the tag of a relation without a value; else no tag.
 fn named<'a>(tag: &'a [u8], value: &[u8]) -> &'a [u8]
     ensures { result.now ≡ named tag.now value.now }
 {

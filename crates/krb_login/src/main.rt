@@ -1,5 +1,5 @@
-//! `krb_login KDC REALM NAME SERVICE`: logs in with the password on the first line of standard input, gets a ticket of a
-//! service, and prints when it ends. It is an example of a program over `client_login`.
+//! `krb_login KDC REALM NAME SERVICE`: logs in with the password on the first line of standard input, gets a service
+//! ticket, and prints when it ends. It is an example of a program that uses `client_login`.
 #![tactic(auto)]
 
 use client_login::{
@@ -18,10 +18,10 @@ use std::process::ExitCode;
 use std::random::RandomSource;
 use std::{env, io};
 
-/// The status of a login that is refused, or gets no reply.
+/// The status if a login is refused or gets no reply.
 const REFUSED: u8 = 1;
 
-/// The status of a fault of the command line.
+/// The status of a usage error.
 const USAGE: u8 = 2;
 
 fn main(rt: HostRuntime) -> io::Result<ExitCode> {
@@ -62,7 +62,7 @@ fn run(
     }
 }
 
-/// Logs in, and gets a ticket of the service.
+/// Logs in, and gets a ticket for the service.
 fn get_ticket(
     rt: &HostRuntime,
     kdc: SocketAddr,
@@ -83,7 +83,7 @@ fn get_ticket(
     }
 }
 
-/// A login of a client of the realm, by its name's text.
+/// Returns a login for a client of the realm, from the text of its name.
 fn read_login(alloc: Global, realm: &str, name: &str) -> io::Result<Login> {
     let realm = read_realm(alloc, realm)?;
     let name = read_name(alloc, name)?;
@@ -116,7 +116,8 @@ fn name_error(fault: NameFault) -> Error {
     }
 }
 
-/// The first line of standard input. No fewer iterations of string-to-key are taken than the encryption type's default.
+/// Reads the password from the first line of standard input. It accepts no fewer iterations of string-to-key than the
+/// encryption type's default.
 fn read_password(rt: &HostRuntime) -> io::Result<Password> {
     let mut line = String::new(rt.alloc());
     rt.stdin().read_line(&mut line)?;

@@ -1,4 +1,4 @@
--- What is written for a database is read as that database, where each row is read as it was written.
+-- What is written for a database is read as that database, if each row is read as it was written.
 use Rattle.std.proofs.Common.{◌≡◌, ◌≢◌, ℕ, Bool, true, false, cond, T, List, [], ◌∷◌, Option, Some, None, Ok, Less, Equal, Greater, Ordering, refl, sym, ap, subst, ◌∙◌, nat_cmp, is_eq, is_some, All}
 use Rattle.std.specs.Ordering.{eq_by_cmp, match_ordering}
 use Rattle.std.proofs.lemmas.List.Elements.{All-head, All-tail}
@@ -34,7 +34,7 @@ map_of found = found >>= λ es. Some (from_entries es)
 abbrev joined : Option Components → Option Row → Option (List (Components × Row)) → Option (List (Components × Row))
 joined name row rest = name >>= λ n. row >>= λ r. rest >>= λ es. Some ((n, r) ∷ es)
 
--- a row that is set twice
+-- setting a row twice
 set_twice : (m : FinMap name_cmp Row) (n : Components) (a b : Row) → insert m n b ≡ insert (insert m n a) n b
 set_twice m n a b = same_map name_total name_exact _ _ (λ q. get-insert name_total m n b q ∙ at q (eq_by_cmp name_cmp q n) ∙ ap (cond (eq_by_cmp name_cmp q n) (Some b)) (sym (get-insert name_total m n a q)) ∙ sym (get-insert name_total (insert m n a) n b q))
   where
@@ -42,7 +42,7 @@ set_twice m n a b = same_map name_total name_exact _ _ (λ q. get-insert name_to
     at q true = refl
     at q false = refl
 
--- rows of two names are set in either order
+-- setting the rows of two names in either order
 set_apart : (m : FinMap name_cmp Row) (n o : Components) (a b : Row) → n ≢ o → insert (insert m n a) o b ≡ insert (insert m o b) n a
 set_apart m n o a b other = same_map name_total name_exact _ _ (λ q.
     get-insert name_total (insert m n a) o b q ∙ ap (cond (eq_by_cmp name_cmp q o) (Some b)) (get-insert name_total m n a q)
@@ -54,7 +54,7 @@ set_apart m n o a b other = same_map name_total name_exact _ _ (λ q.
     at q true false i j = refl
     at q false t i j = refl
 
--- a member that is put sets the row of its name
+-- adding a member sets the row of its name
 pub put_row : (k : List ℕ) (d : Data) (n : Components) (r : Row) → name_of k ≡ Some n → row_of newest d ≡ Some r → (ms : Members) (m : FinMap name_cmp Row) → map_of (entries_of newest ms) ≡ Some m → map_of (entries_of newest (put k d ms)) ≡ Some (insert m n r)
 put_row k d n r named rowed no_members m is = let none : from_entries [] ≡ m = cc in rw (named, rowed) (ap (λ (x : FinMap name_cmp Row). Some (insert x n r)) none)
 put_row k d n r named rowed (member l e ms) m is =
@@ -141,7 +141,7 @@ all_inserted : (m : FinMap name_cmp Row) → insert_all empty (entries m) ≡ m
 all_inserted m = same_map name_total name_exact _ _ (λ q.
     get-insert_all (entries m) empty q (entries_sorted m) ∙ ap (or_else (find name_cmp q (entries m))) (get-empty {X = Row} name_cmp q) ∙ left_alone (find name_cmp q (entries m)) ∙ sym (get-entries m q))
 
--- the law: where each row is read back, so is the database
+-- the law: if each row is read back, so is the database
 pub database_read_back : (p : Principals) → IsDatabase p → AreReadBack (entries p.rows) → database (database_value p) ≡ Ok p
 database_read_back p is reads =
     let rows : map_of (entries_of newest (with_rows no_members (entries p.rows))) ≡ Some p.rows = rows_put (entries p.rows) no_members empty reads refl ∙ ap Some (all_inserted p.rows) in
@@ -172,7 +172,7 @@ each_read_back (e ∷ es) fit reads =
       each_read_back es (later_fit (e.name.components, e.value) (pairs es) fit) (All-tail IsEntryReadBack e es reads),
     )
 
--- the entries of a database's map, of which each row is read back
+-- the entries of a database's map, if each row is read back
 pub rows_read_back : (p : Principals) (es : List (Entry Row)) → IsDatabase p → pairs es ≡ entries p.rows → All IsEntryReadBack es → AreReadBack (entries p.rows)
 unfolding FoundFit
 rows_read_back p es is are reads =

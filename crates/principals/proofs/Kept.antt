@@ -1,4 +1,4 @@
--- Members that rise are read as they are written.
+-- Members in rising order are read as they are written.
 use Rattle.std.proofs.Common.{◌≡◌, ◌&&◌, is_lt, ℕ, suc, Bool, true, false, List, [], ◌∷◌, map, Some, option_map, option_and_then, Less, Equal, Greater, Ordering, refl, ap, ◌∙◌, nat_cmp, max}
 use Rattle.std.specs.Ordering.{match_ordering, ordering_reverse}
 use Rattle.std.specs.Cmp.Lexicographic.{slice_cmp}
@@ -38,7 +38,7 @@ items_kept f (x ∷ xs) each = rw (each x, items_kept f xs each) refl
 
 -- ---- members
 
--- the name stands before the first of the members
+-- the name is before the first of the members
 abbrev pub IsNext : List ℕ → Members → Type 0
 IsNext k no_members = Unit {0}
 IsNext k (member l d ms) = slice_cmp nat_cmp k l ≡ Less
@@ -121,7 +121,7 @@ join-more : (ms : Members) (k : List ℕ) (d : Data) (more : Members) → join (
 join-more no_members k d more = refl
 join-more (member l e ms) k d more = ap (member l e) (join-more ms k d more)
 
--- all the members stand before the name
+-- all the members are before the name
 abbrev AreBefore : Members → List ℕ → Type 0
 AreBefore no_members k = Unit {0}
 AreBefore (member l d ms) k = (slice_cmp nat_cmp l k ≡ Less) × AreBefore ms k
@@ -138,7 +138,7 @@ put_last : (ms : Members) (k : List ℕ) (d : Data) → AreBefore ms k → put k
 put_last no_members k d b = refl
 put_last (member l e ms) k d b = rw (turned l k Less b.0) (ap (member l e) (put_last ms k d b.1))
 
--- all of these stand before the first of those
+-- all of these are before the first of those
 abbrev StandBefore : Members → Members → Type 0
 StandBefore done no_members = Unit {0}
 StandBefore done (member k d ms) = AreBefore done k

@@ -33,7 +33,7 @@ use Rattle.serde_json.specs.View.{items_of}
 use Rattle.principals.proofs.NextMembers.{read-tokens}
 use Rattle.principals.proofs.Kept.{depth-outline, items_kept, object_kept, AreRising, AreKept, rising_if, rising-put, kept-put}
 
--- a text whose tokens are those that are written for a value is read as the value
+-- a text with the tokens that are written for a value is read as the value
 pub kept_text : (d : Data) (text : List ℕ) → IsKept d → depth d ≤ 127 → tokens text ≡ data_tokens d → read text ≡ Some d
 unfolding IsKept
 kept_text d text kept shallow is = read-tokens (outline d) text (omega (arith, depth-outline d, shallow)) is ∙ kept

@@ -1,4 +1,4 @@
--- The text of a name, or of a realm, is read as that name alone.
+-- The text of a name, or of a realm, is read as that name and no other.
 use Rattle.std.proofs.Common.{◌≡◌, ◌≢◌, ℕ, ◌+◌, ◌*◌, ◌/◌, ◌%◌, ◌<◌, ◌==◌, ◌&&◌, Bool, true, false, List, [], ◌∷◌, ◌++◌, map, Option, Some, None, refl, sym, ap, subst, ◌∙◌, arith, bytes_eq, if◌then◌else◌}
 use Rattle.std.specs.List.{All}
 use Rattle.std.proofs.lemmas.Bool.Decides.{nat_tests}
@@ -93,7 +93,7 @@ none_of : {A : Type 0} (o : Option A) → ((x : A) → o ≢ Some x) → o ≡ N
 none_of None h = refl
 none_of (Some x) h = absurd (h x refl)
 
--- a text of no component, and of no name
+-- a text that is no component's, and one that is no name's
 pub component_of-none : (text : List ℕ) → ((c : List ℕ) → ¬ IsComponentText c text) → component_of text ≡ None
 component_of-none text none = none_of (component_of text) (λ c e. none c (text-component_of c text e))
 

@@ -42,14 +42,14 @@ converted-object (Some p) = twice p.1 (of_members p.0 no_members)
 pub object_next : (depth : ℕ) (ts : List Token) → 0 < depth → value_at depth (Token.begin_object ∷ ts) ≡ parse_map object (members_at (depth - 1) no_members (length ts) ts)
 object_next depth ts some = ap (converted of_json) (value-begin_object depth ts some) ∙ converted-object (json.members (value (depth - 1)) (length ts) ts)
 
--- one member more
+-- one more member
 pub member_next : (depth : ℕ) (old : Members) (n : ℕ) (k : List ℕ) (ts s r : List Token) (d : Data) → 0 < n → read_key ts ≡ Some (Some k, s) → value_at depth s ≡ Some (d, r)
     → members_at depth old n ts ≡ members_at depth (put k d old) (n - 1) r
 member_next depth old n k ts s r d some key e =
     let j = converted_some of_json (value depth s) d r e in
     ap (converted (λ ms. of_members ms old)) (members_more (value depth) n k ts s r j.0 some key j.1) ∙ with_member k j.0 d old j.2 _
 
--- no member more
+-- no more members
 pub no_member_next : (depth : ℕ) (old : Members) (n : ℕ) (ts r : List Token) → length ts ≤ n → read_key ts ≡ Some (None, r) → members_at depth old n ts ≡ Some (old, r)
 no_member_next depth old n ts r enough e = ap (converted (λ ms. of_members ms old)) (members_end (value depth) n ts r enough e)
 
@@ -64,11 +64,11 @@ whole_text text d e = let j = converted_some of_json (value 127 (tokens text)) d
 pub read-tokens : (j : json.Json) (text : List ℕ) → depth j ≤ 127 → tokens text ≡ json_tokens j → read text ≡ of_json j
 read-tokens j text shallow is = ap (λ ts. whole (value 127 ts)) (is ∙ sym (append-nil (json_tokens j))) ∙ ap whole (value-json_tokens j 127 [] shallow)
 
--- what is printed of a value is read as that value
+-- what is printed for a value is read as that value
 pub read-print : (j : json.Json) (text : List ℕ) → HasNumbers j → depth j ≤ 127 → text ≡ print (json_tokens j) → read text ≡ of_json j
 read-print j text numbers shallow is = read-tokens j text shallow (ap tokens is ∙ tokens-print (json_tokens j) (ArePrintable-json_tokens j numbers))
 
--- the value that comes next is printed, and read again
+-- the next value is printed, and read again
 pub read_again : (n : ℕ) (ts r : List Token) (j : json.Json) (text : List ℕ) (d : Data) → n ≤ 127 → value n ts ≡ Some (j, r) → HasNumbers j → depth j ≤ n → text ≡ print (json_tokens j) → read text ≡ Some d → value_at n ts ≡ Some (d, r)
 read_again n ts r j text d within next numbers nests is reads =
     let same : of_json j ≡ Some d = sym (read-print j text numbers (omega (arith, within, nests)) is) ∙ reads in

@@ -30,14 +30,14 @@ use Rattle.principals.specs.RowWritten.{time_value, key_value, keys_value, versi
 use Rattle.principals.specs.RowWritten.{row_value}
 use Rattle.principals.specs.ReadBack.{IsTime, IsFitting}
 
--- what holds of the elements up to one, and of that one
+-- a property of the elements before one, and of that one
 pub one_more_read : {A : Type 0} (P : A → Type 0) (xs : List A) (i : ℕ) (x : A) → AllWithin P xs 0 i → i < length xs → x ≡ get_or xs i x → P x → AllWithin P xs 0 (i + 1)
 one_more_read P xs i x so_far within is here = AllWithin-more P xs 0 i so_far (at_read xs P i x within is here)
 
 pub at_end : {A : Type 0} (P : A → Type 0) (xs : List A) (i : ℕ) → AllWithin P xs 0 i → length xs ≤ i → All P xs
 at_end P xs i so_far past = All-from_all_within P xs (AllWithin-upto P xs 0 i (length xs) past so_far)
 
--- where each is read as it was written, all are
+-- if each is read as it was written, all are
 all_read : {A : Type 0} (f : Data → Option A) (g : A → Data) (xs : List A) → All (λ x. f (g x) ≡ Some x) xs → each f (items_of (map g xs)) ≡ Some xs
 all_read f g [] reads = refl
 all_read f g (x ∷ xs) reads = rw (All-head (λ x. f (g x) ≡ Some x) x xs reads, all_read f g xs (All-tail (λ x. f (g x) ≡ Some x) x xs reads)) refl

@@ -1,4 +1,4 @@
--- A text that is read row by row.
+-- Reading a text row by row.
 use Rattle.std.proofs.Common.{◌≡◌, ℕ, ◌-◌, ◌<◌, List, [], ◌∷◌, ◌++◌, length, reverse, Option, Some, None, Result, Ok, Err, MatchResult, is_ok, if◌then◌else◌, Bor, option_map, IsTrue, All, refl, sym, ap, subst, ◌∙◌, arith, codes}
 use Rattle.std.specs.Result.{result_ok}
 use Rattle.std.proofs.lemmas.List.{reverse-append}
@@ -26,7 +26,7 @@ use Rattle.principals.proofs.DatabaseReadBack.{put_row}
 use Rattle.principals.proofs.Rows.{rows_fit-entries}
 use Rattle.principals.proofs.NextMembers.{object_next, member_next, no_member_next, whole_text}
 
--- what a call gives where it gives something
+-- what a call returns, if it returns anything
 pub key_is : {E : Type 0} (r : Result (Option (Bor (List ℕ))) E) (ts s : List Token) (k : Option (Bor (List ℕ))) → MatchResult r (λ o. read_key ts ≡ Some (option_map (λ t. t.now) o, s)) (λ _. read_key ts ≡ None) → Some k ≡ result_ok r
     → read_key ts ≡ Some (option_map (λ t. t.now) k, s)
 key_is (Ok x) ts s k value is = let same : k ≡ x = cc in subst (λ (o : Option (Bor (List ℕ))). read_key ts ≡ Some (option_map (λ (t : Bor (List ℕ)). t.now) o, s)) (sym same) value
@@ -36,7 +36,7 @@ pub if_ok : {A B E : Type 0} (r : Result A E) (x : A) (made pushed kept : List B
 if_ok (Ok y) x made pushed kept held is = held
 if_ok (Err e) x made pushed kept held is = cc
 
--- one row more
+-- one more row
 pub row_more : (text : List ℕ) (d : Data) (entry : Entry Row) (found : Members) (es made : List (Entry Row)) → name_of text ≡ Some entry.name.components → row_of newest d ≡ Some entry.value
     → rows_in found ≡ Some (from_entries (pairs (reverse es))) → made ≡ es ++ entry ∷ [] → rows_in (put text d found) ≡ Some (from_entries (pairs (reverse made)))
 row_more text d entry found es made named rowed before is =
@@ -53,7 +53,7 @@ newest_is = refl
 number_next : (depth : ℕ) (r : List Token) → value_at depth (Token.number newest_text ∷ r) ≡ Some (number (unsigned newest_number), r)
 number_next depth r = ap (converted of_json) (value_is depth (Token.number newest_text ∷ r)) ∙ rw newest_is refl
 
--- the parts of a text, one after the other
+-- the parts of a text, one after another
 pub parts_hold : (ts t1 s1 t2 r1 s2 r2 s3 r3 : List Token) (rows : Members) (text realm : List ℕ) (es : List (Entry Row))
     → ts ≡ Token.begin_object ∷ t1
     → read_key t1 ≡ Some (Some (codes "principals"), s1)
@@ -90,7 +90,7 @@ parts_hold ts t1 s1 t2 r1 s2 r2 s3 r3 rows text realm es opens first begun rows_
       is,
     )
 
--- the database of a text that holds these parts
+-- the database of a text with these parts
 pub database_held : (text realm : List ℕ) (es : List (Entry Row)) (rows : FinMap name_cmp Row) → HoldsParts (tokens text) realm es → rows ≡ from_entries (pairs (reverse es))
     → IsTrue (contains_key rows (ticket_granter realm)) → text_database text ≡ Ok (record { realm = realm; rows = rows })
 database_held text realm es rows held are grants =
@@ -98,6 +98,6 @@ database_held text realm es rows held are grants =
     let named = held.4 in
     ap database_or (whole_text text (text_value held.0 held.1) held.2) ∙ rw (named, is, grants) refl
 
--- the rows of entries that were turned round are rows
+-- the rows of reversed entries are rows
 pub turned_rows : (es : List (Entry Row)) (rows : FinMap name_cmp Row) → All (λ e. IsRow e.value) es → rows ≡ from_entries (pairs (reverse es)) → AreRows rows
 turned_rows es rows fit are = rows_fit-entries (reverse es) rows (All-permutation (λ (e : Entry Row). IsRow e.value) es (reverse es) (IsPermutation-reverse es) fit) are

@@ -1,4 +1,4 @@
--- The tokens of rows, one after the other.
+-- The tokens of rows, one after another.
 use Rattle.std.proofs.Common.{◌≡◌, ℕ, zero, suc, w64, to_z, of_z, Result, Ok, Err, OnOk, ◌+◌, ◌<◌, ◌≤◌, List, [], ◌∷◌, ◌++◌, length, codes, get_or, take, drop, map, Ordering, Less, Equal, Greater, String, Global, string_bytes, string_cmp, refl, sym, ap, subst, ◌∙◌, append_assoc, append-nil, arith}
 use Rattle.std.proofs.Math.Seq.{take-suc}
 use Rattle.std.proofs.lemmas.List.{take_all}
@@ -26,7 +26,7 @@ use Rattle.principals.specs.RowWritten.{each_value, versions_value, setting_memb
 use Rattle.principals.specs.Tokens.{IsLonger, data_tokens, member_tokens, setting_tokens, settings_tokens, values_tokens}
 use Rattle.principals.specs.Tokens.{named_members, named_tokens}
 
--- ---- tokens behind tokens
+-- ---- tokens after tokens
 
 pub none_more : (a : Written) → IsLonger a a []
 none_more a = record { tokens = sym (append-nil a.tokens); before = refl }
@@ -34,7 +34,7 @@ none_more a = record { tokens = sym (append-nil a.tokens); before = refl }
 pub one_more : {E : Type 0} {x : Unit {0}} {a b : Written} {t : Token} → Writes {E = E} (Ok x) a b t → IsLonger a b (t ∷ [])
 one_more w = record { tokens = w.ok; before = w.room.0 }
 
--- one token more, where the call succeeds
+-- one more token, if the call succeeds
 pub if_one_more : {E : Type 0} (r : Result (Unit {0}) E) (a b : Written) (t : Token) → Writes r a b t → OnOk r (IsLonger a b (t ∷ []))
 if_one_more (Ok x) a b t w = one_more w
 if_one_more (Err e) a b t w = tt
@@ -46,7 +46,7 @@ etype_text Aes256CtsHmacSha1_96 = refl
 etype_text Aes128CtsHmacSha256_128 = refl
 etype_text Aes256CtsHmacSha384_192 = refl
 
--- what is written behind what was written
+-- one piece written after another
 pub behind : (a b c : Written) (s t : List Token) → IsLonger a b s → IsLonger b c t → IsLonger a c (s ++ t)
 behind a b c s t h k = record {
   tokens = k.tokens ∙ ap (λ l. l ++ t) h.tokens ∙ append_assoc a.tokens s t;
@@ -56,7 +56,7 @@ behind a b c s t h k = record {
 pub chain : {a b c : Written} {s t : List Token} → IsLonger a b s → IsLonger b c t → IsLonger a c (s ++ t)
 chain {a} {b} {c} {s} {t} h k = behind a b c s t h k
 
--- what a new writer has in the end
+-- the final content of a new writer
 pub from_nothing : (a b : Written) (ts : List Token) → a.before ≡ [] → a.tokens ≡ [] → IsLonger a b ts → (b.tokens ≡ ts) × (b.before ≡ [])
 from_nothing a b ts empty none h = (h.tokens ∙ ap (λ l. l ++ ts) none, h.before ∙ empty)
 
@@ -104,7 +104,7 @@ setting_end (s ∷ ss) more =
     append_assoc (setting_tokens s) (settings_tokens ss) (tree.members_tokens (members_outline more))
     ∙ ap (λ l. setting_tokens s ++ l) (setting_end ss more)
 
--- one element more
+-- one more element
 pub one_more_of : {A : Type 0} (xs : List A) (i : ℕ) (x : A) → i < length xs → x ≡ get_or xs i x → take (i + 1) xs ≡ take i xs ++ x ∷ []
 one_more_of xs i x within here =
     let step : suc i ≡ i + 1 = omega arith in
@@ -114,7 +114,7 @@ pub settings_more : (ss : List Setting) (s : Setting) → settings_tokens ss ++ 
 settings_more ss s =
     ap (λ l. settings_tokens ss ++ l) (sym (append-nil (setting_tokens s))) ∙ sym (flat_map-append setting_tokens ss (s ∷ []))
 
--- one setting more is written
+-- one more setting is written
 pub setting_written : (a b c : Written) (ss : List Setting) (i : ℕ) (s : Setting) → i < length ss → s ≡ get_or ss i s
     → IsLonger a b (settings_tokens (take i ss)) → IsLonger b c (setting_tokens s) → IsLonger a c (settings_tokens (take (i + 1) ss))
 setting_written a b c ss i s within here so_far next =
@@ -125,7 +125,7 @@ pub settings_written : (a b : Written) (ss : List Setting) (i : ℕ) → length 
     → IsLonger a b (settings_tokens ss)
 settings_written a b ss i past = subst (IsLonger a b) (ap settings_tokens (take_all i ss past))
 
--- the tokens of the object of a row with these settings before and behind its keys
+-- the tokens of a row's object, with these settings before and after its keys
 abbrev pub row_of_tokens : List Setting → List KeyVersion → List Setting → List Token
 row_of_tokens before versions after =
     Token.begin_object ∷ (settings_tokens before

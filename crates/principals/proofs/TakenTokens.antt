@@ -1,4 +1,4 @@
--- The tokens that are taken from a reader, one after the other.
+-- The tokens that are taken from a reader, one after another.
 use Rattle.std.proofs.Common.{◌≡◌, ℕ, ◌≤◌, ◌<◌, ◌+◌, codes, get_or, List, [], ◌∷◌, ◌++◌, length, map, take, drop, Some, option_map, sym, ap, ◌∙◌}
 use Rattle.std.proofs.Common.{append_assoc, append-nil, length-append, arith}
 use Rattle.std.proofs.Math.Seq.{take-append_seam, drop-append_seam}
@@ -29,7 +29,7 @@ use Rattle.principals.proofs.Kept.{depth-outline}
 use Rattle.principals.specs.Taken.{AreTaken}
 use Rattle.principals.proofs.RowTokens.{array_end, one_more_of, settings_more, row_tokens}
 
--- what is taken behind what was taken
+-- tokens taken after other tokens
 pub taken : (a b c s t : List Token) → a ≡ s ++ b → b ≡ t ++ c → a ≡ (s ++ t) ++ c
 taken a b c s t h k = h ∙ ap (λ l. s ++ l) k ∙ sym (append_assoc s t c)
 
@@ -40,7 +40,7 @@ module _ {A : Type 0} (f : A → Data) where
   values_push [] x = append-nil (data_tokens (f x))
   values_push (y ∷ xs) x = ap (λ l. data_tokens (f y) ++ l) (values_push xs x) ∙ sym (append_assoc (data_tokens (f y)) (values_tokens f xs) (data_tokens (f x)))
 
-  -- one value more is taken
+  -- one more value is taken
   pub value_taken : (a b c : List Token) (xs made : List A) (x : A) → a ≡ values_tokens f xs ++ b → b ≡ data_tokens (f x) ++ c → made ≡ xs ++ x ∷ [] → a ≡ values_tokens f made ++ c
   value_taken a b c xs made x before here is =
       taken a b c (values_tokens f xs) (data_tokens (f x)) before here ∙ ap (λ l. l ++ c) (sym (ap (values_tokens f) is ∙ values_push xs x))
@@ -66,7 +66,7 @@ key_taken a0 a1 a2 a3 a4 a5 etype octets e0 e1 e2 e3 e4 =
     let t1 : a1 ≡ ((member_tokens (codes "etype") (number (of_integer (etypes.number etype)))) ++ ((Token.key (codes "key") ∷ []) ++ ((Token.string (encode_lower octets) ∷ []) ++ ((Token.end_object ∷ []))))) ++ a5 = taken a1 a2 a5 (member_tokens (codes "etype") (number (of_integer (etypes.number etype)))) ((Token.key (codes "key") ∷ []) ++ ((Token.string (encode_lower octets) ∷ []) ++ ((Token.end_object ∷ [])))) e1 t2 in
     taken a0 a1 a5 (Token.begin_object ∷ []) ((member_tokens (codes "etype") (number (of_integer (etypes.number etype)))) ++ ((Token.key (codes "key") ∷ []) ++ ((Token.string (encode_lower octets) ∷ []) ++ ((Token.end_object ∷ []))))) e0 t1
 
--- a version of keys
+-- a key version
 pub version_taken : (a0 a1 a2 a3 a4 a5 : List Token) (keys : List Key) (kvno : ℕ)
     → a0 ≡ Token.begin_object ∷ a1
     → a1 ≡ Token.key (codes "keys") ∷ a2
@@ -80,7 +80,7 @@ version_taken a0 a1 a2 a3 a4 a5 keys kvno e0 e1 e2 e3 e4 =
     let t1 : a1 ≡ ((Token.key (codes "keys") ∷ []) ++ ((data_tokens (keys_value keys)) ++ ((member_tokens (codes "version") (number (unsigned kvno))) ++ ((Token.end_object ∷ []))))) ++ a5 = taken a1 a2 a5 (Token.key (codes "keys") ∷ []) ((data_tokens (keys_value keys)) ++ ((member_tokens (codes "version") (number (unsigned kvno))) ++ ((Token.end_object ∷ [])))) e1 t2 in
     taken a0 a1 a5 (Token.begin_object ∷ []) ((Token.key (codes "keys") ∷ []) ++ ((data_tokens (keys_value keys)) ++ ((member_tokens (codes "version") (number (unsigned kvno))) ++ ((Token.end_object ∷ []))))) e0 t1
 
--- one setting more is taken
+-- one more setting is taken
 pub setting_taken : (fields : List Setting) (i : ℕ) (field found : Setting) (p q r : Policy) (a b c : List Token)
     → i < length fields → field ≡ get_or fields i field → AreTaken (take i fields) p a q b
     → b ≡ setting_tokens found ++ c → place found ≡ place field → r ≡ with_setting found q
@@ -97,7 +97,7 @@ setting_taken fields i field found p q r a b c within here so_far next alike mad
   set = made ∙ ap (with_setting found) so_far.set ∙ sym (fold-append (λ m s. with_setting s m) p so_far.found (found ∷ []));
 }
 
--- a row: the settings before its keys, the keys, and the settings behind them
+-- a row: the settings before its keys, the keys, and the settings after them
 pub row_taken : (a0 a1 a2 a3 a4 a5 a6 : List Token) (fields others : List Setting) (versions : List KeyVersion) (p0 p1 p2 : Policy)
     → fields ≡ take before_keys (settings_of p0)
     → others ≡ drop before_keys (settings_of p0)
@@ -139,11 +139,11 @@ some_token (string s) = omega arith
 some_token (array ds) = omega arith
 some_token (object ms) = omega arith
 
--- what is taken leaves less
+-- taking a value leaves fewer tokens
 pub shorter : (d : Data) (a b : List Token) → a ≡ data_tokens d ++ b → length b < length a
 shorter d a b is = omega (arith, some_token d, ap length is, length-append (data_tokens d) b)
 
--- the value that comes next, where its tokens do
+-- the value that comes next, if its tokens do
 pub value_next : (n : ℕ) (d : Data) (a r : List Token) → IsKept d → depth d ≤ n → a ≡ data_tokens d ++ r → value_at n a ≡ Some (d, r)
 unfolding IsKept
 value_next n d a r kept nests is =

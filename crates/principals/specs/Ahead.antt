@@ -14,12 +14,11 @@ use Rattle.principals.specs.NameOf.{component_of}
 use Rattle.principals.specs.RowValue.{◌>>=◌}
 use Rattle.principals.specs.Value.{entries_of}
 
--- the value that comes next, nested no deeper than so, and the tokens after it
+-- the next value, nested no deeper than this, and the tokens after it
 abbrev pub value_at : ℕ → List Token → Option (Data × List Token)
 value_at depth ts = converted of_json (value depth ts)
 
--- the members that come next, up to the end of their object, beside those that were found;
--- the number bounds their count
+-- the next members, up to the end of their object, added to those that were found; the number bounds their count
 abbrev pub members_at : ℕ → Members → ℕ → List Token → Option (Members × List Token)
 members_at depth found n ts = converted (λ ms. of_members ms found) (members (value depth) n ts)
 
@@ -34,8 +33,8 @@ text_value rows realm =
     (member (codes "realm") (string realm)
     (member (codes "version") (number (unsigned newest_number)) no_members)))
 
--- the tokens are those of a whole text in the newest version, with this realm and these rows,
--- of which the last one of a name counts
+-- the tokens are those of a whole text in the newest version, with this realm and these rows; if a name has several,
+-- the last one counts
 abbrev pub HoldsParts : List Token → List ℕ → List (Entry Row) → Type 0
 HoldsParts ts realm entries =
     (rows : Members) × (text : List ℕ) × (value_at 127 ts ≡ Some (text_value rows text, []))

@@ -40,7 +40,7 @@ drop_keys_rules version row =
 abbrev pub set_policy_rules : Option Row → List (Rule ChangeFault)
 set_policy_rules row = (is_none row, Absent) ∷ []
 
--- the conditions under which a change of a name's row is refused, in their order
+-- the conditions under which a change of a name's row is refused, in order
 abbrev pub rules : Principals → Components → RowChange → List (Rule ChangeFault)
 rules p name (Add keys) = add_rules p name
 rules p name Remove = remove_rules p name
@@ -51,7 +51,7 @@ rules p name (SetPolicy policy) = set_policy_rules (get p.rows name)
 abbrev pub row_refusal : Principals → Components → RowChange → Option ChangeFault
 row_refusal p name what = first_holding (rules p name what)
 
--- the row of a name is exchanged for what is made of it
+-- replaces a name's row by the result of this function
 abbrev pub with_row : Principals → Components → (Row → Row) → Option Row → Principals
 with_row p name change None = p
 with_row p name change (Some row) = record p { rows = insert p.rows name (change row) }
@@ -65,12 +65,12 @@ row_changed p name (DropKeys version) =
     with_row p name (λ row. record row { versions = without version row.versions }) (get p.rows name)
 row_changed p name (SetPolicy policy) = with_row p name (λ row. record row { policy = policy }) (get p.rows name)
 
--- ---- of a change
+-- ---- a change
 
 -- why it is refused, if it is
 abbrev pub refusal : Principals → Change → Option ChangeFault
 refusal p change = row_refusal p change.name.components change.what
 
--- what it makes where it is not refused
+-- its result if it is not refused
 abbrev pub changed : Principals → Change → Principals
 changed p change = row_changed p change.name.components change.what

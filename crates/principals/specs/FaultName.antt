@@ -1,4 +1,4 @@
--- The words that stand for the faults of a change.
+-- The words for the faults of a change.
 use Rattle.std.specs.Prelude.{ℕ, List, codes}
 use Rattle.principals.specs.declared.change.ChangeFault.{ChangeFault}
 use Rattle.principals.specs.declared.change.ChangeFault.TheVariants.{BadName, Exists, Protected, Absent, LastVersion}

@@ -1,4 +1,4 @@
--- Principals that come with versions of their keys.
+-- Principals that are added with versions of their keys.
 use Rattle.std.specs.Prelude.{List, Option}
 use Rattle.std.specs.FinMap.{insert}
 use Rattle.refusals.specs.Refusals.{first_holding}
@@ -14,6 +14,6 @@ abbrev pub imported : Principals → Components → List KeyVersion → Principa
 imported p who versions =
     record p { rows = insert p.rows who (record { versions = versions; policy = default_policy }) }
 
--- why it is refused, if it is: as a principal that is added
+-- why it is refused, if it is: for the reasons for which adding a principal is
 abbrev pub import_refusal : Principals → Components → Option ChangeFault
 import_refusal p who = first_holding (add_rules p who)

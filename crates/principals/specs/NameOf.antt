@@ -1,4 +1,4 @@
--- The name that a text is the text of.
+-- The name that a text denotes.
 use Rattle.std.specs.Prelude.{ℕ, ◌+◌, ◌-◌, ◌*◌, ◌==◌, ◌&&◌, nat_lt, bytes_eq, if◌then◌else◌, List, [], ◌∷◌, map, Option}
 use Rattle.std.specs.Prelude.{Some, None}
 use Rattle.std.specs.List.{slice_split}
@@ -9,7 +9,7 @@ use Rattle.krb_fields.specs.NameLimits.{is_component, is_within_limits}
 abbrev pub digit_value : ℕ → ℕ
 digit_value digit = if nat_lt digit 0x61 then digit - 0x30 else (digit - 0x61) + 10
 
--- the octets that a component's text spells, where it is one: `\` (5C) stands before two digits
+-- the bytes that a component's text denotes, if it is one: `\` (5C) comes before two digits
 unfoldable pub unescaped : List ℕ → List ℕ
 unescaped [] = []
 unescaped (o ∷ []) = o ∷ []
@@ -23,7 +23,7 @@ component_of text =
     if is_component (unescaped text) && bytes_eq (component_text (unescaped text)) text then Some (unescaped text)
     else None
 
--- the components that stand between the octets `/` (2F)
+-- the components between the bytes `/` (2F)
 abbrev pub parts_of : List ℕ → Components
 parts_of text = map unescaped (slice_split (λ o. o == 0x2F) text)
 

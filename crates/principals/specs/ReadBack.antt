@@ -1,4 +1,4 @@
--- The parts of a database of which what is written is read as that part.
+-- The parts of a database that are read as they were written.
 use Rattle.std.specs.Prelude.{◌≡◌, ◌<◌, ℤ, Option, Some, None}
 use Rattle.krb_fields.specs.Moment.{IsSecond}
 use Rattle.principal_rows.specs.declared.name_map.Entry.{Entry}
@@ -9,12 +9,12 @@ use Rattle.principals.specs.Format.{newest}
 use Rattle.principals.specs.RowValue.{row_of}
 use Rattle.principals.specs.RowWritten.{row_value}
 
--- a second that is in its range
+-- a second within its range
 abbrev pub IsTime : Option ℤ → Type 0
 IsTime None = Unit {0}
 IsTime (Some z) = IsSecond z
 
--- a setting whose value is in its range
+-- a setting whose value is within its range
 abbrev pub IsFitting : Setting → Type 0
 IsFitting (Flag field on) = Unit {0}
 IsFitting (Life field life) = life < 4294967296

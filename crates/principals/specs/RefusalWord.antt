@@ -1,4 +1,4 @@
--- The words for the faults of a text that is read as no database.
+-- The words for the faults of a text that can't be read as a database.
 use Rattle.std.specs.Prelude.{ℕ, List, Option, Some, None, codes}
 use Rattle.principals.specs.declared.read_fault.ReadFault.{ReadFault}
 use Rattle.principals.specs.declared.read_fault.ReadFault.TheVariants.{NotJson, BadVersion, BadRow}

@@ -6,7 +6,7 @@ use Rattle.text_fields.specs.declared.settings.Setting.{Setting}
 use Rattle.text_fields.specs.Settings.{place, with_settings}
 use Rattle.principals.specs.Tokens.{settings_tokens}
 
--- settings of the same fields as these are the first of the tokens, and are set in the policy that is made
+-- the first tokens are settings of the same fields as these, and the new policy has them
 pub record AreTaken (fields : List Setting) (policy : Policy) (old : List Token) (made : Policy) (new : List Token)
     : Type 0 where
   pub found : List Setting

@@ -26,11 +26,11 @@ member_tokens name d = Token.key name ∷ data_tokens d
 abbrev pub setting_tokens : Setting → List Token
 setting_tokens s = member_tokens (setting_name s) (setting_value s)
 
--- those of several settings, one behind the other
+-- those of several settings, one after another
 abbrev pub settings_tokens : List Setting → List Token
 settings_tokens = flat_map setting_tokens
 
--- the tokens of several values, one behind the other
+-- the tokens of several values, one after another
 abbrev pub values_tokens : {A : Type 0} → (A → Data) → List A → List Token
 values_tokens f [] = []
 values_tokens f (x ∷ xs) = data_tokens (f x) ++ values_tokens f xs
@@ -39,12 +39,12 @@ values_tokens f (x ∷ xs) = data_tokens (f x) ++ values_tokens f xs
 unfoldable pub IsKept : Data → Type 0
 IsKept d = of_json (outline d) ≡ Some d
 
--- a writer has these tokens more, behind the same octets
+-- a writer has these additional tokens, after the same bytes
 pub record IsLonger (old new : Written) (ts : List Token) : Type 0 where
   pub tokens : new.tokens ≡ old.tokens ++ ts
   pub before : new.before ≡ old.before
 
--- the members that are written for rows under texts
+-- the members that are written for rows with texts as names
 abbrev pub named_members : List (String Global × Bor Row) → Members
 named_members [] = no_members
 named_members (e ∷ es) = member (string_bytes e.0) (row_value e.1.now) (named_members es)

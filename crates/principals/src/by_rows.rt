@@ -1,7 +1,7 @@
-//! Texts that are read row by row.
+//! Reading a text row by row.
 //!
-//! The value of a whole text takes some thirteen times the text's room, and what is made of it lies scattered among it.
-//! So a text of the form that is written is taken member by member, and its rows token by token.
+//! The value of a whole text needs about thirteen times the text's memory, and the result is scattered among it. So a
+//! text in the form that `write` gives is read member by member, and its rows token by token.
 ghost use Rattle.std.specs.Prelude.{ℕ, ◌≡◌, ◌∷◌, ◌<◌, [], List, All, IfSome, IsSome, Ok, Some, length, reverse};
 ghost use Rattle.std.specs.FinMap.{from_entries};
 ghost use Rattle.json.specs.Lex.{tokens};
@@ -26,16 +26,16 @@ use krb_elements::KerberosString;
 use principal_rows::{Entry, NameMap, Row};
 use std::alloc::Global;
 
-/// What a text has beside its version.
+/// The parts of a text besides its version.
 struct Parts {
     realm: KerberosString,
-    /// The rows in the order of the text. The last one of a name counts.
+    /// The rows in the order of the text. If a name has several, the last one counts.
     entries: Vec<Entry<Row>>,
 }
 
-/// The database of a text in the newest version whose members, and those of each row, stand in the order in which they
-/// are written, with numbers and keys in the same digits. None says nothing of a text: it may have another form, or
-/// stand for no database, or memory may be short.
+/// Returns the database of a text in the newest version, if its members, and those of each row, are in the order in
+/// which they are written, with numbers and keys in the same digits. `None` says nothing about a text: it may have
+/// another form, or denote no database, or memory may have run out.
 pub(crate) fn read_by_rows(alloc: Global, text: &str) -> Option<Database>
     ensures { IfSome result (λ database. text_database text.now ≡ Ok database) }
 {
@@ -48,7 +48,7 @@ pub(crate) fn read_by_rows(alloc: Global, text: &str) -> Option<Database>
     Database::of_rows(realm, rows)
 }
 
-/// The parts of a text.
+/// Reads the parts of a text.
 fn parts_of(alloc: Global, text: &str) -> Option<Parts>
     ensures parts { IfSome result (λ parts. HoldsParts (tokens text.now) parts.realm parts.entries.items) }
     ensures realm { IfSome result (λ parts. IsComponent parts.realm) }
@@ -83,7 +83,7 @@ fn read_parts(alloc: Global, reader: &mut Reader<'_>) -> Option<Parts>
     Some(Parts { realm, entries })
 }
 
-/// The rows of the object that has begun, up to its end.
+/// Reads the rows of an object that has begun, up to its end.
 fn read_rows(alloc: Global, reader: &mut Reader<'_>) -> Option<Vec<Entry<Row>>>
     ensures rows { IfSome result (λ entries. (ms : Members)
         × (members_at 125 no_members (length reader.old) reader.old ≡ Some (ms, reader.new))
@@ -99,7 +99,7 @@ fn read_rows(alloc: Global, reader: &mut Reader<'_>) -> Option<Vec<Entry<Row>>>
     Some(entries)
 }
 
-/// The row of a name, whose value comes next.
+/// Reads the row of a name, whose value comes next.
 fn read_entry(alloc: Global, text: &str, reader: &mut Reader<'_>) -> Option<Entry<Row>>
     ensures row { IfSome result (λ entry. (d : Data) × (value_at 125 reader.old ≡ Some (d, reader.new))
         × (name_of text.now ≡ Some entry.name.components) × (row_of newest d ≡ Some entry.value)) }
@@ -114,7 +114,7 @@ fn read_entry(alloc: Global, text: &str, reader: &mut Reader<'_>) -> Option<Entr
     Some(Entry { name, value })
 }
 
-/// The realm, whose text comes next.
+/// Reads the realm, whose text comes next.
 fn read_realm(alloc: Global, reader: &mut Reader<'_>) -> Option<KerberosString>
     ensures realm { IfSome result
         (λ realm. (s : List ℕ) × (reader.old ≡ string s ∷ reader.new) × (component_of s ≡ Some realm)) }

@@ -11,38 +11,38 @@ use std::fmt;
 /// A change of one principal's row.
 #[derive(Drop)]
 pub struct Change {
-    /// Whose row: the name counts by its components.
+    /// The name of the row. Only its components matter.
     pub name: Name,
     pub what: RowChange,
 }
 
-/// What becomes of a row.
+/// The change of a row.
 #[derive(Drop)]
 pub enum RowChange {
-    /// It is a new principal's, with these keys as version 1 and the default policy.
+    /// Adds a principal, with these keys as version 1 and the default policy.
     Add(KeyList),
-    /// It goes.
+    /// Removes the row.
     Remove,
-    /// The keys become the current ones, with the next version number.
+    /// Makes these keys the current ones, with the next version number.
     NewKeys(KeyList),
-    /// The keys of this version, which is not the current one, go.
+    /// Drops the keys of this version, which is not the current one.
     DropKeys(u32),
-    /// The policy becomes the principal's.
+    /// Sets the principal's policy.
     SetPolicy(Policy),
 }
 
 /// Why a change is refused.
 #[derive(Debug, Clone, Copy, PartialEq, Eq)]
 pub enum ChangeFault {
-    /// The name has not 1 to 16 components, or one of them has not 1 to 255 octets.
+    /// The name does not have 1 to 16 components, or one of them does not have 1 to 255 bytes.
     BadName,
-    /// The name has a row already.
+    /// The name already has a row.
     Exists,
-    /// The ticket-granting service cannot go.
+    /// The ticket-granting service can't be removed.
     Protected,
-    /// The name has no row, or its row no such version.
+    /// The name has no row, or its row has no such version.
     Absent,
-    /// The current version is 4294967295, and has no next one.
+    /// The current version is 4294967295, so there is no next one.
     LastVersion,
     /// The version is the current one.
     CurrentKeys,
@@ -50,7 +50,7 @@ pub enum ChangeFault {
 }
 
 impl ChangeFault {
-    /// The word that stands for the fault in what commands print.
+    /// Returns the word for the fault in what commands print.
     pub fn name(self) -> &'static str
         ensures { result.now ≡ fault_name self }
     {

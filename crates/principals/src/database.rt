@@ -24,7 +24,7 @@ use std::marker::Model;
 /// The name-type of a service with an instance: NT-SRV-INST of RFC 4120 section 6.2.
 const NT_SRV_INST: i32 = 2;
 
-/// The principals of one realm, the ticket-granting service `krbtgt/REALM` always among them.
+/// The principals of one realm. The ticket-granting service `krbtgt/REALM` is always among them.
 #[derive(Drop)]
 pub struct Database {
     pub(crate) realm: KerberosString,
@@ -46,7 +46,7 @@ impl Model for Database {
 /// Why a realm has no first database.
 #[derive(Debug, Clone, Copy, PartialEq, Eq)]
 pub enum FirstFault {
-    /// The realm has not 1 to 255 octets.
+    /// The realm does not have 1 to 255 bytes.
     BadName,
     Memory,
 }
@@ -74,7 +74,7 @@ impl From<AllocError> for FirstFault {
 }
 
 impl Database {
-    /// The database of a new realm, with its ticket-granting service alone.
+    /// Returns the database of a new realm, with only its ticket-granting service.
     pub fn first(alloc: Global, realm: &[u8], krbtgt_keys: KeyList) -> Result<Database, FirstFault>
         ensures first { IfOk result (λ database. database ≡ first_database realm.now krbtgt_keys) }
         ensures bad_name { (result ≡ Err FirstFault.BadName) ↔ (¬ IsComponent realm.now) }
@@ -101,7 +101,7 @@ impl Database {
         })
     }
 
-    /// The realm's octets, 1 to 255.
+    /// Returns the realm's bytes, 1 to 255.
     pub fn realm(&self) -> &[u8]
         ensures realm { result.now ≡ self.now.realm }
         ensures valid { IsDatabase self.now }
@@ -110,7 +110,7 @@ impl Database {
         self.realm.as_slice()
     }
 
-    /// The row of a principal, whose name is compared by its components alone.
+    /// Returns the row of a principal. Names are compared by their components alone.
     pub fn get(&self, name: &Name) -> Option<&Row>
         ensures row { option_copied result ≡ map.get self.now.rows name.now.components }
         ensures valid { IfSome result (λ row. IsRow row.now) }
@@ -118,7 +118,7 @@ impl Database {
         self.rows.get(name)
     }
 
-    /// The row of a principal that is named where it stands, as in a request. It takes no memory.
+    /// Returns the row of a principal whose name is borrowed, as from a request. It allocates nothing.
     pub fn get_ref(&self, name_ref: &NameRef<'_>) -> Option<&Row>
         ensures row { option_copied result ≡ map.get self.now.rows name_ref.now.components }
         ensures valid { IfSome result (λ row. IsRow row.now) }
@@ -126,7 +126,7 @@ impl Database {
         self.rows.get(name_ref)
     }
 
-    /// The row of the ticket-granting service. No name is made for it.
+    /// Returns the row of the ticket-granting service, without building its name.
     pub fn granter(&self) -> Option<&Row>
         ensures row { option_copied result ≡ map.get self.now.rows (ticket_granter self.now.realm) }
         ensures valid { IfSome result (λ row. IsRow row.now) }
@@ -136,21 +136,21 @@ impl Database {
         })
     }
 
-    /// How many principals there are.
+    /// Returns how many principals there are.
     pub fn len(&self) -> usize
         ensures { result ≡ map.len self.now.rows }
     {
         self.rows.len()
     }
 
-    /// The name and row at a place, for each place below `len`; names rise from place to place.
+    /// Returns the name and row at an index, for each index below `len`. Names are in rising order.
     pub fn at(&self, place: usize) -> Option<(&Name, &Row)>
         ensures { option_map (λ e. (e.0.now.components, e.1.now)) result ≡ slice_get (map.entries self.now.rows) place }
     {
         self.rows.at(place)
     }
 
-    /// Makes the change. A change that is refused leaves the database as it was.
+    /// Makes the change. A refused change leaves the database unchanged.
     pub fn apply(&mut self, alloc: Global, change: &Change) -> Result<(), ChangeFault>
         ensures changed { OnOk result (self.new ≡ changed self.old change.now) }
         ensures refused { IfSome (refusal self.old change.now) (λ fault. result ≡ Err fault) }
@@ -160,7 +160,7 @@ impl Database {
         self.change_row(alloc, &change.name, &change.what)
     }
 
-    /// Makes a change of this name's row.
+    /// Changes the row of this name.
     fn change_row(
         &mut self,
         alloc: Global,
@@ -278,7 +278,7 @@ impl Database {
         Ok(())
     }
 
-    /// Sets the row of a name that has one.
+    /// Replaces the row of a name that has one.
     fn replace(&mut self, name: &Name, row: Row)
         requires there { IsTrue (map.contains_key self.old.rows name.now.components) }
         requires valid { IsRow row }
@@ -311,7 +311,7 @@ fn copy_entries(alloc: Global, entries: &[Entry<Row>]) -> Result<Vec<Entry<Row>>
     Ok(copies)
 }
 
-/// Whether the name is that of the realm's ticket-granting service.
+/// Checks whether the name is that of the realm's ticket-granting service.
 fn is_granter(name: &Name, realm: &[u8]) -> bool
     ensures { result ≡ eq_by_cmp name_cmp name.now.components (ticket_granter realm.now) }
 {
@@ -323,7 +323,8 @@ fn is_granter(name: &Name, realm: &[u8]) -> bool
     }
 }
 
-/// The name of a realm's ticket-granting service, `krbtgt/REALM`, of name-type NT-SRV-INST (RFC 4120 section 7.3).
+/// Returns the name of a realm's ticket-granting service, `krbtgt/REALM`, with name-type NT-SRV-INST (RFC 4120 section
+/// 7.3).
 pub fn granter_name(alloc: Global, realm: &[u8]) -> Result<Name, AllocError>
     ensures { IfOk result (λ name. name ≡ granter_name realm.now) }
 {

@@ -1,4 +1,4 @@
-//! The ticket-granting service of a realm, found by the realm alone.
+//! The ticket-granting service of a realm, found with the realm alone.
 ghost use Rattle.std.specs.Prelude.{◌≡◌, ◌&&◌, codes};
 ghost use Rattle.std.specs.Str.{bytes_eq};
 ghost use Rattle.std.specs.Ordering.{eq_by_cmp};
@@ -9,10 +9,10 @@ use krb_fields::{Name, NameRef};
 use principal_rows::NameKey;
 use std::cmp::Ordering;
 
-/// The octets of the first component of its name.
+/// The bytes of the first component of its name.
 const KRBTGT: &[u8; 6] = b"krbtgt";
 
-/// The name of a realm's ticket-granting service, as a key of maps from names, for which no name is made.
+/// The name of a realm's ticket-granting service, as a key of maps from names. No name is built for it.
 #[derive(Drop)]
 pub struct GranterOf<'a> {
     pub realm: &'a [u8],
@@ -43,7 +43,7 @@ impl<'a> NameKey for GranterOf<'a> {
     }
 }
 
-/// Whether a name, where it stands, is that of the realm's ticket-granting service.
+/// Checks whether a borrowed name is that of the realm's ticket-granting service.
 pub fn names_granter(name: &NameRef<'_>, realm: &[u8]) -> bool
     ensures { result ≡ eq_by_cmp name_cmp name.now.components (ticket_granter realm.now) }
 {
@@ -60,7 +60,7 @@ pub fn names_granter(name: &NameRef<'_>, realm: &[u8]) -> bool
     is_pair(service.as_slice(), instance.as_slice(), realm)
 }
 
-/// Whether two components are those of the ticket-granting service.
+/// Checks whether two components are those of the ticket-granting service.
 fn is_pair(service: &[u8], instance: &[u8], realm: &[u8]) -> bool
     ensures { result ≡ (bytes_eq service.now (codes "krbtgt") && bytes_eq instance.now realm.now) }
 {

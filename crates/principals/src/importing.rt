@@ -1,4 +1,4 @@
-//! Principals that come with versions of their keys, as from another realm's database.
+//! Principals that are added with versions of their keys, such as those from another realm's database.
 ghost use Rattle.std.specs.Prelude.{◌≡◌, Err, IfNone, IfSome, IsOkUnless, OnErr, OnOk};
 ghost use Rattle.refusals.specs.Refusals.{first_holding};
 ghost use Rattle.principal_rows.specs.Policy.{default_policy};
@@ -12,8 +12,8 @@ use principal_rows::{Policy, Row, Versions};
 use std::alloc::Global;
 
 impl Database {
-    /// Adds a principal with these versions of its keys and the default policy. What is refused leaves the database as it
-    /// was.
+    /// Adds a principal with these versions of its keys and the default policy. If it is refused, the database is
+    /// unchanged.
     pub fn import(
         &mut self,
         alloc: Global,
@@ -34,12 +34,12 @@ impl Database {
     }
 }
 
-/// The row of a principal with these versions, and the default policy.
+/// Returns the row of a principal with these versions, and the default policy.
 fn row_of(versions: Versions) -> Row
     ensures row { result ≡ record { versions = versions; policy = default_policy } }
     ensures valid { IsRow result }
 {
-    // what holds of every list of versions is known where one is looked at
+    // looking at a list of versions makes the properties of every list known
     let _versions = versions.as_slice();
     Row {
         versions,

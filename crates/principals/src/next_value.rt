@@ -7,14 +7,14 @@ ghost use Rattle.principals.specs.Format.{newest_text};
 use crate::format::NEWEST_TEXT;
 use json::{Reader, Token};
 
-/// Whether an object begins.
+/// Checks whether an object begins.
 pub(crate) fn takes_object(reader: &mut Reader<'_>) -> bool
     ensures { IsTrue result → reader.old ≡ begin_object ∷ reader.new }
 {
     matches!(reader.next(), Some(Token::BeginObject))
 }
 
-/// Whether a member of this name comes next.
+/// Checks whether a member with this name comes next.
 pub(crate) fn takes_key(reader: &mut Reader<'_>, name: &str) -> bool
     ensures { IsTrue result → read_key reader.old ≡ Some (Some name.now, reader.new) }
 {
@@ -24,14 +24,14 @@ pub(crate) fn takes_key(reader: &mut Reader<'_>, name: &str) -> bool
     }
 }
 
-/// Whether the object ends.
+/// Checks whether the object ends.
 pub(crate) fn takes_end(reader: &mut Reader<'_>) -> bool
     ensures { IsTrue result → read_key reader.old ≡ Some (None, reader.new) }
 {
     matches!(reader.next_key(), Ok(None))
 }
 
-/// Whether the number of the newest version comes next.
+/// Checks whether the number of the newest version comes next.
 pub(crate) fn takes_version(reader: &mut Reader<'_>) -> bool
     ensures { IsTrue result → reader.old ≡ number newest_text ∷ reader.new }
 {

@@ -1,4 +1,4 @@
-//! Where a text that stands for no database is wrong, for an administrator.
+//! Finds where a text is wrong that denotes no database, for an administrator.
 use crate::format::Format;
 use crate::row_fault::RowFault;
 use crate::row_value::{member_count, read_row, read_setting};
@@ -8,8 +8,9 @@ use serde_json::{Map, Value};
 use std::alloc::{AllocError, Global};
 use text_fields::Setting;
 
-/// Says where a text is wrong that `Database::read` refuses: the line and column where it is no JSON, the member of the
-/// database, or the principal and the member of its row. The text is empty if nothing is found. It never has a key.
+/// Returns where a text is wrong that `Database::read` refuses: the line and column where it is not JSON, the member of
+/// the database, or the principal and the member of its row. The text is empty if nothing is found. It never contains a
+/// key.
 pub fn fault_place(alloc: Global, text: &str) -> Result<String, AllocError> {
     match Value::from_str(alloc, text) {
         Ok(value) => place_in(alloc, &value),
@@ -63,7 +64,7 @@ fn place_in_rows(
     Ok(String::new(alloc))
 }
 
-/// The member of a row that is refused.
+/// Returns the member of a row that is refused.
 fn wrong_member(row: &Value, format: Format) -> &'static str {
     let settings = Setting::all(Policy::default());
     for setting in settings.as_slice() {
@@ -77,7 +78,7 @@ fn wrong_member(row: &Value, format: Format) -> &'static str {
     "keys"
 }
 
-/// Checks whether a row has no value that a policy's field takes.
+/// Checks whether a row lacks a valid value for a policy's field.
 fn is_missed(row: &Value, format: Format, setting: &Setting) -> bool {
     read_setting(row, format, *setting).is_none()
 }

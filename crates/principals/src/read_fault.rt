@@ -1,4 +1,4 @@
-//! Why a text is read as no database.
+//! Why a text can't be read as a database.
 ghost use Rattle.std.specs.Prelude.{◌≡◌, option_map};
 ghost use Rattle.principals.specs.RefusalWord.{read_refusal};
 
@@ -7,14 +7,14 @@ use std::alloc::AllocError;
 use std::error::Error;
 use std::fmt;
 
-/// Why a text is read as no database.
+/// Why a text can't be read as a database.
 #[derive(Debug, Clone, Copy, PartialEq, Eq)]
 pub enum ReadFault {
-    /// The text is no JSON object.
+    /// The text is not a JSON object.
     NotJson,
-    /// The object has no version that is read.
+    /// The object has no version that can be read.
     BadVersion,
-    /// The realm, or a row, is amiss.
+    /// The realm, or a row, is wrong.
     BadRow,
     /// The ticket-granting service has no row.
     NoTicketGranter,

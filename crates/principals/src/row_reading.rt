@@ -1,4 +1,4 @@
-//! Rows that are read token by token, in the form in which they are written: no value of them is made.
+//! Reads rows token by token, in the form in which they are written, without building their values.
 ghost use Rattle.std.specs.Prelude.{◌≡◌, ◌∷◌, ◌++◌, IfSome, IsTrue, decimal, codes};
 ghost use Rattle.hex.specs.Hex.{encode_lower};
 ghost use Rattle.json.specs.Token.{begin_array, end_object, key as key_token, number as number_token};
@@ -26,7 +26,7 @@ use text_fields::Setting;
 /// How many versions there is room for at first: most rows have one.
 const VERSIONS: usize = 1;
 
-/// Whether a member of this name comes next.
+/// Checks whether a member with this name comes next.
 fn takes_name(reader: &mut Reader<'_>, name: &str) -> bool
     ensures { IsTrue result → reader.old ≡ key_token name.now ∷ reader.new }
 {
@@ -60,7 +60,7 @@ fn take_flag(reader: &mut Reader<'_>, name: &str) -> Option<bool>
     }
 }
 
-/// The number that is written so.
+/// Returns the number with these digits.
 fn digits_of(text: &str) -> Option<u64>
     ensures { IfSome result (λ value. text.now ≡ decimal value) }
 {
@@ -73,14 +73,14 @@ fn digits_of(text: &str) -> Option<u64>
     }
 }
 
-/// The second that is written so.
+/// Returns the second with these digits.
 fn second_of(text: &str) -> Option<Second>
     ensures { IfSome result (λ second. text.now ≡ number_text (of_integer second)) }
 {
     Second::new(i64::try_from(digits_of(text)?).ok()?)
 }
 
-/// The key of this type whose octets are written so.
+/// Returns the key with this type and these hexadecimal digits.
 fn key_of(etype: Etype, text: &str) -> Option<Key>
     ensures octets { IfSome result (λ key. text.now ≡ encode_lower key.bytes) }
     ensures etype { IfSome result (λ key. key.etype ≡ etype) }
@@ -93,7 +93,7 @@ fn key_of(etype: Etype, text: &str) -> Option<Key>
     }
 }
 
-/// Whether the octets are written so: digits are read in either case, and written in lower case.
+/// Checks whether the text is how the bytes are written: digits are read in either case, and written in lower case.
 fn is_written(octets: &[u8], text: &str) -> bool
     ensures { IsTrue result → text.now ≡ encode_lower octets.now }
 {
@@ -242,7 +242,7 @@ fn takes_settings(reader: &mut Reader<'_>, settings: &[Setting], policy: &mut Po
     true
 }
 
-/// The row whose tokens come next, as they are written.
+/// Takes the row whose tokens come next, as they are written.
 pub(crate) fn take_row(alloc: Global, reader: &mut Reader<'_>) -> Option<Row>
     ensures tokens { IfSome result (λ row. reader.old ≡ data_tokens (written.row_value row) ++ reader.new) }
     ensures fits { IfSome result IsRow }

@@ -1,4 +1,4 @@
-//! What is written for rows, token by token: no value of them is made.
+//! Writes rows token by token, without building their values.
 ghost use Rattle.std.specs.Prelude.{◌≡◌, ◌<◌, All, IfOk, OnOk};
 ghost use Rattle.serde_json.specs.Data.{no_members, boolean, number, object, unsigned};
 ghost use Rattle.principal_rows.specs.NameMap.{pairs};
@@ -46,7 +46,7 @@ fn write_time(out: &mut Writer, name: &str, time: Option<Second>) -> Result<(), 
     }
 }
 
-/// Writes a key, its octets in hexadecimal.
+/// Writes a key, with its bytes in hexadecimal.
 fn write_key(alloc: Global, out: &mut Writer, key: &Key) -> Result<(), AllocError>
     ensures { OnOk result (IsLonger out.old out.new (data_tokens (written.key_value key.now))) }
 {
@@ -109,7 +109,7 @@ fn write_settings(out: &mut Writer, settings: &[Setting]) -> Result<(), AllocErr
     Ok(())
 }
 
-/// Writes the value that stands for a row in the newest version.
+/// Writes the value for a row in the newest version.
 fn write_row(alloc: Global, out: &mut Writer, row: &Row) -> Result<(), AllocError>
     ensures { OnOk result (IsLonger out.old out.new (data_tokens (written.row_value row.now))) }
 {
@@ -139,7 +139,7 @@ pub(crate) fn write_rows(
     out.end_object()
 }
 
-/// The rows under the texts of their names, in the order of the texts.
+/// Returns the rows with the texts of their names, in the order of the texts.
 pub(crate) fn named_rows(alloc: Global, entries: &[Entry<Row>]) -> Result<NamedRows<'_>, AllocError>
     ensures members { IfOk result (λ rows. named_members rows.entries ≡ with_rows no_members (pairs entries.now)) }
     ensures reads { IfOk result (λ _. All IsEntryReadBack entries.now) }
@@ -154,7 +154,7 @@ pub(crate) fn named_rows(alloc: Global, entries: &[Entry<Row>]) -> Result<NamedR
     Ok(rows)
 }
 
-/// What is known of each row. It does nothing.
+/// Makes the properties of each row known to the proofs. It does nothing.
 pub(crate) fn know_row(row: &Row)
     ensures reads { IsRowReadBack row.now }
     ensures kept { IsKept (written.row_value row.now) }

@@ -17,10 +17,10 @@ use serde_json::Value;
 use std::alloc::Global;
 use text_fields::{FlagField, LifeField, Setting};
 
-/// The most octets that a key has.
+/// The greatest size of a key, in bytes.
 pub(crate) const LONGEST_KEY: usize = 32;
 
-/// How many members an object has; other values have none.
+/// Returns how many members an object has; other values have none.
 #[tactic(auto, using(crate::proofs::Values::object_count))]
 pub(crate) fn member_count(value: &Value) -> usize
     ensures { result ≡ member_count (view value.now) }
@@ -43,7 +43,7 @@ fn read_etype(value: &Value) -> Option<Etype>
     Etype::from_number(i32::try_from(value.as_u64()?).ok()?)
 }
 
-/// An encryption type and the octets of a key, in hexadecimal.
+/// Reads an encryption type and the bytes of a key, in hexadecimal.
 fn read_key(value: &Value) -> Option<Key>
     ensures { result ≡ key_of (view value.now) }
 {
@@ -54,7 +54,7 @@ fn read_key(value: &Value) -> Option<Key>
     decoded_key(etype, value.get("key")?.as_str()?)
 }
 
-/// The key of this type with these octets, in hexadecimal.
+/// Returns the key with this type and these bytes, in hexadecimal.
 pub(crate) fn decoded_key(etype: Etype, text: &str) -> Option<Key>
     ensures key { result ≡ decoded etype text.now }
     ensures etype { IfSome result (λ key. key.etype ≡ etype) }
@@ -76,7 +76,7 @@ fn read_keys(alloc: Global, value: &Value) -> Result<KeyList, RowFault>
     key_list(alloc, &keys)
 }
 
-/// The key of each item.
+/// Reads the key in each item.
 fn read_items(alloc: Global, items: &[Value]) -> Result<Vec<Key>, RowFault>
     ensures ok { IfOk result (λ keys. each key_of (items_view items.now) ≡ Some keys.items) }
     ensures bad { result ≡ Err RowFault.BadRow → each key_of (items_view items.now) ≡ None }
@@ -91,7 +91,7 @@ fn read_items(alloc: Global, items: &[Value]) -> Result<Vec<Key>, RowFault>
     Ok(keys)
 }
 
-/// The list of these keys, of which there is one at least, and no type twice.
+/// Returns the list of these keys: at least one, and no type twice.
 fn key_list(alloc: Global, keys: &[Key]) -> Result<KeyList, RowFault>
     ensures ok { IfOk result (λ list. list_of keys.now ≡ Some list) }
     ensures bad { result ≡ Err RowFault.BadRow → list_of keys.now ≡ None }
@@ -149,7 +149,7 @@ fn read_life(value: &Value, field: LifeField) -> Option<Setting>
     Some(Setting::Life(field, read_u32(value)?))
 }
 
-/// `null`, or a second.
+/// Reads `null`, or a second.
 fn read_time(value: &Value) -> Option<Option<Second>>
     ensures { result ≡ time_of (view value.now) }
 {
@@ -160,7 +160,7 @@ fn read_time(value: &Value) -> Option<Option<Second>>
     Some(Some(second))
 }
 
-/// The setting of the same field that a value stands for.
+/// Returns the setting of the same field that a value denotes.
 fn read_value(value: &Value, setting: Setting) -> Option<Setting>
     ensures { result ≡ setting_from setting (view value.now) }
 {
@@ -171,7 +171,7 @@ fn read_value(value: &Value, setting: Setting) -> Option<Setting>
     }
 }
 
-/// The setting of the same field that a row has, or this one where rows of the format have none.
+/// Returns the setting of the same field in a row, or this one if rows of the format lack the field.
 pub(crate) fn read_setting(row: &Value, format: Format, setting: Setting) -> Option<Setting>
     ensures { result ≡ setting_in format (view row.now) setting }
 {
@@ -191,7 +191,7 @@ fn read_policy(row: &Value, format: Format) -> Option<Policy>
     Some(policy)
 }
 
-/// The row that a value stands for.
+/// Returns the row that a value denotes.
 pub(crate) fn read_row(alloc: Global, value: &Value, format: Format) -> Result<Row, RowFault>
     ensures ok { IfOk result (λ row. row_of format (view value.now) ≡ Some row) }
     ensures fits { IfOk result IsRow }

@@ -1,4 +1,4 @@
-//! The text of a database: a JSON object (RFC 8259), written in the newest version and read in each.
+//! The text of a database: a JSON object (RFC 8259), written in the newest version and read in every version.
 ghost use Rattle.std.specs.Prelude.{◌≡◌, ◌≢◌, All, IsSome, None, Some, IfOk, IfErr, OnOk, string_bytes};
 ghost use Rattle.std.specs.Prelude.{IsTrue, if◌then◌else◌};
 ghost use Rattle.std.specs.FinMap as map;
@@ -32,12 +32,12 @@ use principal_rows::{Entry, NameMap, Row};
 use serde_json::{Map, Value};
 use std::alloc::{AllocError, Global};
 
-/// The most octets of a database's text that a program takes: some two million rows.
+/// The greatest size of a database's text that a program reads, in bytes: about two million rows.
 pub const LONGEST_TEXT: usize = 1_073_741_824;
 
 impl Database {
-    /// The database that a text stands for. The rows of a text in the form that is written are read one by one, any
-    /// other text as a whole.
+    /// Returns the database that a text denotes. A text in the form that `write` gives is read row by row, any other as
+    /// a whole.
     pub fn read(alloc: Global, text: &str) -> Result<Database, ReadFault>
         ensures ok { IfOk result (λ database. text_database text.now ≡ Ok database) }
         ensures fault { IfErr result (λ fault. fault ≢ ReadFault.Memory → text_database text.now ≡ Err fault) }
@@ -48,7 +48,7 @@ impl Database {
         }
     }
 
-    /// The database that a text stands for, by the value of the whole text.
+    /// Returns the database that a text denotes, from the value of the whole text.
     fn read_whole(alloc: Global, text: &str) -> Result<Database, ReadFault>
         ensures ok { IfOk result (λ database. text_database text.now ≡ Ok database) }
         ensures fault { IfErr result (λ fault. fault ≢ ReadFault.Memory → text_database text.now ≡ Err fault) }
@@ -57,7 +57,7 @@ impl Database {
         Database::read_value(alloc, &value)
     }
 
-    /// The database that an object stands for.
+    /// Returns the database that an object denotes.
     fn read_value(alloc: Global, value: &Value) -> Result<Database, ReadFault>
         requires { IsSome (as_object (view value.now)) }
         ensures ok { IfOk result (λ found. database (view value.now) ≡ Ok found) }
@@ -77,7 +77,7 @@ impl Database {
         }
     }
 
-    /// The database of these rows, if the ticket-granting service is among them.
+    /// Returns the database with these rows, if the ticket-granting service is among them.
     pub(crate) fn of_rows(realm: KerberosString, rows: NameMap<Row>) -> Option<Database>
         requires realm { IsComponent realm }
         requires names { (name : Components) → IsTrue (map.contains_key rows name) → IsWithinLimits name }
@@ -94,7 +94,7 @@ impl Database {
         Some(Database { realm, rows })
     }
 
-    /// The text of the database, in the newest version: compact, with members in the order of their names.
+    /// Returns the text of the database, in the newest version: compact, with members in the order of their names.
     pub fn write(&self, alloc: Global) -> Result<String, AllocError>
         ensures text { IfOk result (λ text. string_bytes text ≡ compact_text (database_value self.now)) }
         ensures value { IfOk result (λ text. read_text (string_bytes text) ≡ Some (database_value self.now)) }
@@ -117,7 +117,7 @@ impl Database {
     }
 }
 
-/// The text that octets are.
+/// Returns the bytes as text.
 fn text_of(octets: Vec<u8>) -> Result<String, AllocError>
     ensures { IfOk result (λ text. string_bytes text ≡ octets.items) }
 {
@@ -127,7 +127,7 @@ fn text_of(octets: Vec<u8>) -> Result<String, AllocError>
     }
 }
 
-/// Writes the object of a database, of its rows and the text of its realm.
+/// Writes the object of a database, from its rows and the text of its realm.
 fn write_parts(
     alloc: Global,
     out: &mut Writer,
@@ -147,7 +147,7 @@ fn write_parts(
     out.end_object()
 }
 
-/// The object that a text is read as.
+/// Reads a text as an object.
 fn read_object(alloc: Global, text: &str) -> Result<Value, ReadFault>
     ensures ok { IfOk result (λ value. text_database text.now ≡ database (view value)) }
     ensures object { IfOk result (λ value. IsSome (as_object (view value))) }
@@ -201,7 +201,7 @@ pub(crate) fn read_name(alloc: Global, text: &str) -> Result<Name, RowFault>
     }
 }
 
-/// The rows, each a member with the text of its name.
+/// Returns the rows, each from a member with the text of its name.
 fn read_rows(alloc: Global, value: &Value, format: Format) -> Result<NameMap<Row>, RowFault>
     ensures ok { IfOk result (λ rows. rows_of format (view value.now) ≡ Some rows) }
     ensures fits { IfOk result AreRows }

@@ -1,4 +1,4 @@
--- The entries before a second: how many they are, and what is left once they are taken off.
+-- The entries before a second: how many there are, and what is left once they are removed.
 use Rattle.std.proofs.Common.{◌≡◌, ℕ, zero, suc, ◌+◌, ◌-◌, ◌≤◌, nat_le, Bool, true, false, not, T, List, [], ◌∷◌, length, drop, slice_get, Option, Some, None, is_some, option_map, ℤ, ◌≤ℤ◌, ◌<ℤ◌, Less, Equal, Greater, Ordering, refl, sym, ap, ◌∙◌, arith}
 use Rattle.std.specs.Prelude.{int_lt}
 use Rattle.std.specs.Ordering.{nat_cmp, int_cmp, ordering_then, is_le}
@@ -22,7 +22,7 @@ seconds_rise a b Greater r is e = cc
 from_both : (a b start : ℤ) → a ≤ℤ b → not (int_lt a start) ≡ true → not (int_lt b start) ≡ true
 from_both a b start le h = grind (arith, ints)
 
--- what comes behind a stamp that is not below a second isn't below it either
+-- what follows a stamp that is not below a second isn't below it either
 rises : (start : ℤ) (a b : Stamp) → stamp_cmp a b ≡ Less → is_from start a ≡ true → is_from start b ≡ true
 rises start a b e h = from_both a.0 b.0 start (seconds_rise a.0 b.0 (int_cmp a.0 b.0) _ refl e) h
 
@@ -66,7 +66,7 @@ is_past [] i = le_any i
 is_past (x ∷ xs) zero = not_le (length xs)
 is_past (x ∷ xs) (suc i) = is_past xs i ∙ le_later (length xs) i
 
--- nothing stands at i exactly if there are no more than i
+-- there is no entry at i if and only if there are no more than i
 past_all : {A B : Type 0} (shows : A → B) (o : Option A) (xs : List B) (i : ℕ) (absent : Bool) → option_map shows o ≡ slice_get xs i → is_some o ≡ not absent → absent ≡ nat_le (length xs) i
 past_all shows (Some a) xs i false e is = ap (λ o. not (is_some o)) e ∙ is_past xs i
 past_all shows None xs i true e is = ap (λ o. not (is_some o)) e ∙ is_past xs i
@@ -78,7 +78,7 @@ module _ {X : Type 0} where
   abbrev pub before : ℤ → List (Stamp × X) → List (Stamp × X)
   before start = entries_between stamp_cmp Unbounded (Excluded (start, 0))
 
-  -- as many taken off the front as are before the second
+  -- the entries after removing those before the second from the front
   pub forgotten : (start : ℤ) (es fs : List (Stamp × X)) (n : ℕ) → T (is_sorted stamp_cmp es) → n ≡ length (before start es) → fs ≡ drop n es
       → T (is_sorted stamp_cmp fs) × (from_sorted {R = stamp_cmp} fs ≡ map.retain_keys (from_sorted es) (is_from start))
   forgotten start = retained stamp_cmp stamp_total stamp_exact (is_from start) (range_contains stamp_cmp Unbounded (Excluded (start, 0))) (before_is_not_from start) (rises start)
@@ -94,11 +94,11 @@ module _ {X : Type 0} where
       let both = length-filter_both (λ (e : Stamp × X). is_from start e.0) (λ e. range_contains stamp_cmp Unbounded (Excluded (start, 0)) e.0) (λ e. before_is_not_from start e.0) es in
       omega (arith, from, both)
 
-  -- fewer than the number, where all are fewer
+  -- fewer than the number, if all are fewer
   pub too_few : (start : ℤ) (es : List (Stamp × X)) (m : FinMap stamp_cmp X) (number : ℕ) → T (is_sorted stamp_cmp es) → from_sorted es ≡ m → ¬ (number ≤ length es) → false ≡ nat_le number (map.len (map.retain_keys m (is_from start)))
   too_few start es m number s is_map few = fewer (map.len (map.retain_keys m (is_from start))) (length (before start es)) (length es) number (all_counted start es m s is_map) few
 
-  -- as many as the number, or more, where none is before the second behind as many as there are beyond the number
+  -- at least the number, if no entry before the second follows as many as there are beyond the number
   pub enough : {A : Type 0} (shows : A → Stamp × X) (start : ℤ) (es : List (Stamp × X)) (m : FinMap stamp_cmp X) (number beyond : ℕ) (next : Option A) (absent : Bool) → T (is_sorted stamp_cmp es) → from_sorted es ≡ m
       → number ≤ length es → beyond ≡ length es - number → option_map shows next ≡ slice_get (before start es) beyond → is_some next ≡ not absent → absent ≡ nat_le number (map.len (map.retain_keys m (is_from start)))
   enough shows start es m number beyond next absent s is_map le beyond_is reached is =

@@ -1,4 +1,4 @@
--- A moment is known by its numbers: that they are in range has one proof.
+-- A moment is determined by its numbers: the proof that they are in range is unique.
 use Rattle.std.proofs.Common.{◌≡◌}
 use Rattle.std.proofs.Props.{props}
 use Rattle.std.specs.Prelude.{pos}

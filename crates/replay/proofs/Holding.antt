@@ -1,4 +1,4 @@
--- What is spent in a memory stays spent in one that holds it, whatever is remembered or tidied meanwhile.
+-- What is spent in a cache stays spent in one that holds it, whatever is recorded or tidied meanwhile.
 use Rattle.std.proofs.Common.{◌≡◌, ℤ, pos, ◌-ℤ◌, ◌≤ℤ◌, Bool, true, false, cond, ◌||◌, if◌then◌else◌, ◌⊎◌, inl, inr, List, [], ◌∷◌, ◌++◌, Option, Some, None, is_eq, refl, sym, ap, subst, ◌∙◌, arith}
 use Rattle.std.specs.Prelude.{int_lt}
 use Rattle.std.specs.Int.{int_max}
@@ -56,7 +56,7 @@ some_either true x o e = refl
 some_either false x o e = e
 
 module _ {V : Type 0} where
-  -- what is left by a test was there
+  -- what a test leaves was there before
   retained_there : (m : Memory V) (second : ℤ) (s : Stamp) → is_some (map.get (map.retain_keys m.pairs (is_from second)) s) ≡ true → is_some (map.get m.pairs s) ≡ true
   retained_there m second s e =
       some_of_cond (is_from second s) (map.get m.pairs s)
@@ -74,7 +74,7 @@ module _ {V : Type 0} where
     there_held : (s : Stamp) → is_some (map.get m.pairs s) ≡ true → is_spent n s ≡ true
     there_held s there = holds s (by_second (int_lt s.0 m.floor) (is_some (map.get m.pairs s)) there)
 
-    -- one more is remembered, which is spent in the other too
+    -- one more is recorded, which is spent in the other too
     pub remembered_held : (stamp : Stamp) (k : V) → is_spent n stamp ≡ true → Holds (remembered m now stamp k) n
     remembered_held stamp k spent s is = by_part (either_of (int_lt s.0 (floor_at m.floor now)) (is_some (map.get (remembered m now stamp k).pairs s)) is)
       where
@@ -86,7 +86,7 @@ module _ {V : Type 0} where
         by_part (inl below) = below_held s below
         by_part (inr there) = by_stamp (eq_by_cmp stamp_cmp s stamp) refl (sym (ap is_some (get-insert stamp_total (map.retain_keys m.pairs (is_from (floor_at m.floor now))) stamp k s)) ∙ there)
 
-    -- what can't come again is forgotten
+    -- authenticators that can't come again are forgotten
     pub tidied_held : Holds (tidied m now) n
     tidied_held s is = by_part (either_of (int_lt s.0 (tidied m now).floor) (is_some (map.get (tidied m now).pairs s)) is)
       where
@@ -94,7 +94,7 @@ module _ {V : Type 0} where
         by_part (inl below) = below_held s (below_higher (tidied m now).floor (floor_at m.floor now) s.0 (floor_within m now) below)
         by_part (inr there) = there_held s (retained_there m (floor_at m.floor now) s there)
 
--- ---- more that was seen
+-- ---- more seen authenticators
 
 module _ (c : Components) where
   abbrev Pairs : Type 0
@@ -115,7 +115,7 @@ module _ (c : Components) where
   grows pairs (seen ∷ others) s there =
       grows (with_seen c pairs seen) others s (one_grows pairs seen s (eq_by_cmp name_cmp c seen.client.components) there)
 
-  -- a resumption with a floor that is no lower, and with more that was seen
+  -- a resumption with a floor that is no lower, and with more seen authenticators
   abbrev pub extended : Resumption → ℤ → List Seen → Resumption
   extended r floor more = record { floor = floor; seen = r.seen ++ more }
 
@@ -128,7 +128,7 @@ module _ (c : Components) where
           by_second (int_lt s.0 floor) (is_some (map.get (resumed_memory (extended r floor more) c).pairs s))
           (ap (λ pairs. is_some (map.get pairs s)) (with_both map.empty r.seen more) ∙ grows (resumed_memory r c).pairs more s there)
 
-  -- what was seen last of the client is spent
+  -- the client's last seen authenticator is spent
   pub last_spent : (r : Resumption) (floor : ℤ) (seen : Seen) → eq_by_cmp name_cmp c seen.client.components ≡ true
       → is_spent (resumed_memory (extended r floor (seen ∷ [])) c) (stamp_seen seen) ≡ true
   last_spent r floor seen own =

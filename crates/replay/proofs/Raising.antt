@@ -1,5 +1,5 @@
--- The floor that a tidying makes: within what bounds it is, that what was forgotten is below it, and that to tidy
--- earlier makes no difference.
+-- The floor after a tidying: its bounds, that everything forgotten is below it, and that an earlier tidying makes no
+-- difference.
 use Rattle.std.proofs.Common.{◌≡◌, ℕ, ℤ, pos, ◌+ℤ◌, ◌-ℤ◌, ◌≤ℤ◌, Bool, true, false, cond, not, T, List, [], ◌∷◌, drop, length, Option, Some, None, IfSome, IfNone, Equal, refl, sym, ap, ◌∙◌, arith}
 use Rattle.std.specs.Prelude.{int_lt, if◌then◌else◌}
 use Rattle.std.specs.Int.{int_max}
@@ -49,7 +49,7 @@ no_entries [] e = refl
 no_entries (x ∷ l) e = absurd (omega (arith, e))
 
 module _ {V : Type 0} where
-  -- a higher floor to begin with is as one more to be above
+  -- starting from a higher floor is like having one more to stay above
   pull : (start floor high : ℤ) (es : List (Stamp × V)) → raised start (int_max floor high) es ≡ int_max (raised start floor es) high
   pull start floor high [] = refl
   pull start floor high (e ∷ es) = at (pull start floor high es) (is_from start e.0)
@@ -75,7 +75,7 @@ module _ {V : Type 0} where
       at rest true is = rest
       at rest false is = max_bound (raised start floor es) (e.0.0 +ℤ pos 1) floor start rest (next_by e.0.0 start is)
 
-  -- what stands among the entries, and is before the second, is below it
+  -- an entry before the second is below it
   below : (start floor : ℤ) (q : Stamp) (v : V) (es : List (Stamp × V)) → find stamp_cmp q es ≡ Some v → is_from start q ≡ false → int_lt q.0 (raised start floor es) ≡ true
   below start floor q v [] found old = cc
   below start floor q v (e ∷ es) found old = at (below start floor q v es) (eq_by_cmp stamp_cmp q e.0) refl found
@@ -93,7 +93,7 @@ module _ {V : Type 0} where
       at rest true tied f = here (is_from start e.0) refl (stamp_exact q e.0 ((Equal-is (stamp_cmp q e.0)).0 tied))
       at rest false tied f = later (is_from start e.0) (rest f old)
 
-  -- where those before an earlier second were taken out, and the floor raised above them
+  -- if those before an earlier second were removed, and the floor was raised above them
   in_two : (low high floor : ℤ) → low ≤ℤ high → (es : List (Stamp × V)) → raised high (raised low floor es) (where_key stamp_cmp (is_from low) es) ≡ raised high floor es
   in_two low high floor le [] = refl
   in_two low high floor le (e ∷ es) = at (in_two low high floor le es) (is_from low e.0) refl
@@ -109,7 +109,7 @@ module _ {V : Type 0} where
       at rest true is = ap (λ f. if is_from high e.0 then f else int_max f (e.0.0 +ℤ pos 1)) rest
       at rest false is = next (is_from high e.0) refl is rest
 
-  -- nothing is raised by those that are left
+  -- the entries that are left don't raise the floor
   none_left : (start floor : ℤ) (es : List (Stamp × V)) → raised start floor (where_key stamp_cmp (is_from start) es) ≡ floor
   none_left start floor [] = refl
   none_left start floor (e ∷ es) = at (none_left start floor es) (is_from start e.0) refl
@@ -130,9 +130,9 @@ module _ {V : Type 0} where
       ∙ sym (get-from_sorted stamp_cmp (where_key stamp_cmp (is_from start) (entries m)) q sorted ∙ find-where_key stamp_cmp (is_from start) q (alike q) (entries m))))
       ∙ entries-from_sorted stamp_cmp (where_key stamp_cmp (is_from start) (entries m)) sorted
 
-  -- ---- the loop that takes them off the front
+  -- ---- the loop that removes them from the front
 
-  -- one is taken off
+  -- one is removed
   pub one_off : (start floor above next : ℤ) (r : Option (Stamp × V)) (all old new : List (Stamp × V)) → raised start above old ≡ raised start floor all
       → next ≡ raised_if start above r → IfSome r (λ e. old ≡ e ∷ new) → IfNone r (new ≡ old) → raised start next new ≡ raised start floor all
   one_off start floor above next (Some e) all old new so_far is taken none =
@@ -143,7 +143,7 @@ module _ {V : Type 0} where
       at false = pull start above (e.0.0 +ℤ pos 1) new
   one_off start floor above next None all old new so_far is taken none = (λ i. raised start (is i) (none i)) ∙ so_far
 
-  -- all are taken off
+  -- all are removed
   pub all_off : (start floor above : ℤ) (es fs : List (Stamp × V)) (m : FinMap stamp_cmp V) (n : ℕ) → T (is_sorted stamp_cmp es) → from_sorted es ≡ m → n ≡ length (before start es) → fs ≡ drop n es
       → raised start above fs ≡ raised start floor es → above ≡ raised start floor (entries m)
   all_off start floor above es fs m n s is_map count is so_far =
@@ -153,7 +153,7 @@ module _ {V : Type 0} where
       sym (entries-from_sorted stamp_cmp fs left.0) ∙ ap entries left.1 ∙ entries-retain_keys (from_sorted es) start ∙ ap (where_key stamp_cmp (is_from start)) same in
       sym (none_left start above es) ∙ ap (raised start above) (sym others) ∙ so_far ∙ ap (raised start floor) (sym same ∙ ap entries is_map)
 
--- ---- the floor of a memory that is tidied
+-- ---- the floor of a tidied cache
 
 within_day : (above floor at : ℤ) → above ≤ℤ int_max floor (int_max floor (at -ℤ pos skew)) → int_max above (at -ℤ pos day) ≤ℤ int_max floor (at -ℤ pos skew)
 within_day above floor at le = grind (arith, ints, clamps)
@@ -171,13 +171,13 @@ module _ {V : Type 0} (m : Memory V) (at : ℤ) where
   pub floor_within : (tidied m at).floor ≤ℤ floor_at m.floor at
   floor_within = within_day (raised (floor_at m.floor at) m.floor (entries m.pairs)) m.floor at (not_higher (floor_at m.floor at) m.floor (entries m.pairs))
 
-  -- what was forgotten is below it
+  -- everything forgotten is below it
   pub forgotten_low : (s : Stamp) (k : V) → map.get m.pairs s ≡ Some k → is_from (floor_at m.floor at) s ≡ false → int_lt s.0 (tidied m at).floor ≡ true
   forgotten_low s k held old =
       low_more s.0 (raised (floor_at m.floor at) m.floor (entries m.pairs)) (at -ℤ pos day)
       (below (floor_at m.floor at) m.floor s k (entries m.pairs) (sym (get-entries m.pairs s) ∙ held) old)
 
-  -- to tidy again makes the floor that one tidying makes
+  -- tidying twice gives the floor of one tidying
   pub floor_twice : (now high : ℤ) → at ≤ℤ now → floor_at m.floor at ≤ℤ high
       → floor_on (raised high (tidied m at).floor (entries (tidied m at).pairs)) now ≡ floor_on (raised high m.floor (entries m.pairs)) now
   floor_twice now high le higher =
@@ -186,7 +186,7 @@ module _ {V : Type 0} (m : Memory V) (at : ℤ) where
       ∙ ap (λ f. floor_on f now) (pull high (raised (floor_at m.floor at) m.floor (entries m.pairs)) (at -ℤ pos day) left ∙ ap (λ f. int_max f (at -ℤ pos day)) (in_two (floor_at m.floor at) high m.floor higher (entries m.pairs)))
       ∙ day_later (raised high m.floor (entries m.pairs)) at now le
 
--- from what was computed: where the pairs end that are forgotten, the floor above these, the new floor, and what is left
+-- from the computed values: where the forgotten pairs end, the floor above them, the new floor, and what is left
 pub tidies : {V : Type 0} (m : Memory V) (now start above floor : ℤ) (left : FinMap stamp_cmp V) → start ≡ floor_at m.floor now → above ≡ raised start m.floor (entries m.pairs) → left ≡ map.retain_keys m.pairs (is_from start)
     → floor ≡ floor_on above now → ◌≡◌ {A = Memory V} (record { failures = m.failures; floor = floor; pairs = left }) (tidied m now)
 tidies m now start above floor left start_is above_is left_is floor_is =

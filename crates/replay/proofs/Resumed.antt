@@ -1,4 +1,4 @@
--- What is kept for each pair of a memory that resumes.
+-- What a resumed cache stores for each pair.
 use Rattle.std.proofs.Common.{Bool, true, false, cond, if◌then◌else◌, IfSome, List, [], ◌∷◌, Option, Some, sym, subst}
 use Rattle.std.specs.FinMap as map
 use Rattle.std.specs.FinMap.{get-empty, get-insert}

@@ -1,4 +1,4 @@
--- A memory of which nothing is remembered is known by its floor, and stays empty where it is tidied.
+-- A cache with nothing recorded is determined by its floor, and stays empty when it is tidied.
 use Rattle.std.proofs.Common.{◌≡◌, ◌&&◌, Bool, true, false, cond, ℕ, ℤ, pos, Option, None, refl, sym, ap, subst, ◌∙◌, arith}
 use Rattle.std.specs.Prelude.{nat_eq}
 use Rattle.std.specs.Ordering.{int_eq}
@@ -29,7 +29,7 @@ same_nat a b e = grind (arith, nat_tests)
 same_int : (a b : ℤ) → int_eq a b ≡ true → a ≡ b
 same_int a b e = (signed_Decides a b).0 e
 
--- failures are known by their numbers
+-- failures are determined by their numbers
 failures_are : (count : ℕ) (sec : ℤ) (usec : ℕ) → count ≡ 0 → sec ≡ pos 0 → usec ≡ 0 → (s : IsSecond sec) (u : IsMicrosecond usec)
     → ◌≡◌ {A = Failures} (record { count = count; last = record { sec = sec; usec = usec; sec_in_range = s; usec_in_range = u } }) no_failures
 failures_are count sec usec counted seconds micros =
@@ -43,7 +43,7 @@ none_failed f e =
     let all = three (nat_eq f.count 0) (int_eq f.last.sec (pos 0)) (nat_eq f.last.usec 0) e in
     failures_are f.count f.last.sec f.last.usec (same_nat _ _ all.0) (same_int _ _ all.1) (same_nat _ _ all.2) f.last.sec_in_range f.last.usec_in_range
 
--- it is the one of that floor
+-- it is the empty cache with that floor
 pub is_empty_memory : {T : Type 0} (floor : ℤ) (m : Memory T) → is_empty floor m ≡ true → m ≡ empty_memory floor
 is_empty_memory floor m e =
     let all = three (never_failed m.failures) (int_eq m.floor floor) (nat_eq (map.len m.pairs) 0) e in

@@ -73,7 +73,7 @@ module _ {V : Type 0} (m : Memory V) (at now : ℤ) (le : at ≤ℤ now) where
       ap (λ f. map.retain_keys (tidied m at).pairs (is_from f)) same_floor
       ∙ retain_twice m.pairs (floor_at m.floor at) (floor_at m.floor now) (max_rises m.floor at now le)
 
-  -- to tidy earlier makes no difference
+  -- an earlier tidying makes no difference
   pub tidied_twice : tidied (tidied m at) now ≡ tidied m now
   tidied_twice =
       let floors : (tidied (tidied m at) now).floor ≡ (tidied m now).floor =
@@ -102,7 +102,7 @@ module _ {V : Type 0} (m : Memory V) (at now : ℤ) (le : at ≤ℤ now) where
         let high : int_lt stamp.0 (floor_at m.floor at) ≡ false = still_timely near (not_low far (int_lt stamp.0 m.floor) timely) in
         get-retain_keys m.pairs (is_from (floor_at m.floor at)) stamp (alike (floor_at m.floor at) stamp) ∙ ap (λ b. cond (not b) (map.get m.pairs stamp) None) high
 
-    -- where it is not skewed
+    -- the verdict within the clock skew
     abbrev compared : Memory V → ℕ → Verdict V
     compared n limit = if_kept (map.get n.pairs stamp) (if nat_le limit (recent n now) then Full else Fresh)
 

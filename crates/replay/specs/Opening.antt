@@ -1,4 +1,4 @@
--- What is remembered of a client from which nothing has come since the opening.
+-- The replay cache of a client that sent nothing since the opening.
 use Rattle.std.specs.Prelude.{ℤ, pos, ◌+◌, ◌+ℤ◌, ◌-ℤ◌}
 use Rattle.krb_fields.specs.Skew.{skew}
 use Rattle.replay.specs.Memory.{first, restarted_memory}

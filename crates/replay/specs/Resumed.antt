@@ -1,4 +1,4 @@
--- The memory of a client where a start resumes with the authenticators that were seen before it.
+-- The replay cache of a client after a start that resumes with the authenticators that were seen before.
 use Rattle.std.specs.Prelude.{Bool, ◌||◌, int_lt, IsTrue, List, [], ◌∷◌, if◌then◌else◌}
 use Rattle.std.specs.FinMap as map
 use Rattle.std.specs.Option.{is_some}
@@ -15,7 +15,7 @@ use Rattle.replay.specs.Stamp.{Stamp, stamp_cmp}
 abbrev pub stamp_seen : Seen → Stamp
 stamp_seen seen = (seen.ctime, seen.cusec)
 
--- the pairs of the client c with one that was seen, if that is the client's
+-- the pairs of the client c with one that was seen, if it is this client's
 abbrev pub with_seen : Components → map.FinMap stamp_cmp Kept → Seen → map.FinMap stamp_cmp Kept
 with_seen c pairs seen =
     if eq_by_cmp name_cmp c seen.client.components then map.insert pairs (stamp_seen seen) nothing_kept else pairs
@@ -25,7 +25,7 @@ abbrev pub with_all_seen : Components → map.FinMap stamp_cmp Kept → List See
 with_all_seen c pairs [] = pairs
 with_all_seen c pairs (seen ∷ others) = with_all_seen c (with_seen c pairs seen) others
 
--- the memory of the client c: no failures, the floor, and the client's authenticators that were seen
+-- the cache of the client c: no failures, the floor, and the client's authenticators that were seen
 abbrev pub resumed_memory : Resumption → Components → Memory Kept
 resumed_memory r c = record { failures = no_failures; floor = r.floor; pairs = with_all_seen c map.empty r.seen }
 
@@ -36,6 +36,6 @@ resumed_memory r c = record { failures = no_failures; floor = r.floor; pairs = w
 abbrev pub is_spent : {T : Type 0} → Memory T → Stamp → Bool
 is_spent m stamp = int_lt stamp.0 m.floor || is_some (map.get m.pairs stamp)
 
--- what is spent in one memory is spent in the other
+-- what is spent in one cache is spent in the other
 abbrev pub Holds : {T : Type 0} → Memory T → Memory T → Type 0
 Holds m n = (stamp : Stamp) → IsTrue (is_spent m stamp) → IsTrue (is_spent n stamp)

@@ -1,4 +1,4 @@
--- The memory of a client of which nothing is remembered, and what is left of a memory that is tidied.
+-- The empty replay cache of a client, and what is left of a cache after a tidying.
 use Rattle.std.specs.Prelude.{ℕ, ℤ, pos, ◌+ℤ◌, ◌-ℤ◌, Bool, ◌&&◌, nat_eq, List, [], ◌∷◌, Option, Some, None, if◌then◌else◌}
 use Rattle.std.specs.Int.{int_max}
 use Rattle.std.specs.Ordering.{int_eq}
@@ -9,15 +9,15 @@ use Rattle.replay.specs.Failures.{no_failures}
 use Rattle.replay.specs.Memory.{floor_at}
 use Rattle.replay.specs.Stamp.{Stamp, is_from}
 
--- nothing remembered, with this floor
+-- nothing recorded, with this floor
 abbrev pub empty_memory : {T : Type 0} → ℤ → Memory T
 empty_memory floor = record { failures = no_failures; floor = floor; pairs = map.empty }
 
--- as those of a client that never failed
+-- the failures are those of a client that never failed
 abbrev pub never_failed : Failures → Bool
 never_failed f = nat_eq f.count 0 && int_eq f.last.sec (pos 0) && nat_eq f.last.usec 0
 
--- whether nothing is remembered, and the floor is this one
+-- whether nothing is recorded, and the floor is this one
 abbrev pub is_empty : {T : Type 0} → ℤ → Memory T → Bool
 is_empty floor m = never_failed m.failures && int_eq m.floor floor && nat_eq (map.len m.pairs) 0
 
@@ -25,11 +25,11 @@ is_empty floor m = never_failed m.failures && int_eq m.floor floor && nat_eq (ma
 abbrev pub day : ℕ
 day = 86400
 
--- the floor of a client of which nothing is remembered, tidied at a second: at least a day before it
+-- the floor of a client with nothing recorded, tidied at a second: at least a day before it
 abbrev pub floor_on : ℤ → ℤ → ℤ
 floor_on floor now = int_max floor (now -ℤ pos day)
 
--- the floor raised above each of these pairs whose ctime is before a second
+-- the floor raised above those of these pairs whose ctime is before a second
 abbrev pub raised : {T : Type 0} → ℤ → ℤ → List (Stamp × T) → ℤ
 raised start floor [] = floor
 raised start floor (e ∷ es) =
@@ -40,8 +40,8 @@ abbrev pub raised_if : {T : Type 0} → ℤ → ℤ → Option (Stamp × T) → 
 raised_if start floor None = floor
 raised_if start floor (Some e) = raised start floor (e ∷ [])
 
--- The pairs that are too old to come again at a second are forgotten, and the floor raised above these, and to a day
--- before that second; the failures stay.
+-- The pairs that are too old to come again at a second are forgotten. The floor is raised above them, and to a day
+-- before that second. The failures are unchanged.
 abbrev pub tidied : {T : Type 0} → Memory T → ℤ → Memory T
 tidied m now = record m {
   floor = floor_on (raised (floor_at m.floor now) m.floor (map.entries m.pairs)) now;

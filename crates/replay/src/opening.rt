@@ -1,4 +1,4 @@
-//! How what is remembered begins.
+//! How a replay cache begins.
 ghost use Rattle.std.specs.Prelude.{◌≡◌};
 ghost use Rattle.replay.specs.Opening.{opened_memory, opening_floor};
 
@@ -7,7 +7,7 @@ use crate::memory::Memory;
 use krb_fields::{Moment, SKEW};
 use std::alloc::Global;
 
-/// Whether a server opens for the first time, or again after it had answered requests.
+/// Whether a server starts for the first time, or again after it had answered requests.
 #[derive(Clone, Copy, PartialEq, Eq)]
 pub enum Opening {
     First,
@@ -16,7 +16,7 @@ pub enum Opening {
 }
 
 impl Opening {
-    /// The second since 1970 below which a time is too old, where nothing has come since the opening.
+    /// Returns the second since 1970 below which a time is too old, for a client that sent nothing since the opening.
     pub fn floor(self) -> i64
         ensures { result ≡ opening_floor self }
     {
@@ -28,7 +28,7 @@ impl Opening {
 }
 
 impl<T: Keep> Memory<T> {
-    /// The memory of a client from which nothing has come since the opening.
+    /// Returns the cache of a client that sent nothing since the opening.
     pub fn opened(alloc: Global, opening: Opening) -> Memory<T>
         ensures { result ≡ opened_memory opening }
     {

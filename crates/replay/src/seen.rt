@@ -1,11 +1,11 @@
-//! Authenticators that were seen, from which a start resumes.
+//! Seen authenticators, which a start resumes with.
 ghost use Rattle.std.specs.Prelude.{◌≡◌, IfOk};
 
 use krb_elements::Seq;
 use krb_fields::Name;
 use std::alloc::{AllocError, Global};
 
-/// An authenticator that is remembered: its client, and its time.
+/// A recorded authenticator: its client, and its time.
 #[derive(Drop)]
 pub struct Seen {
     pub client: Name,
@@ -31,6 +31,6 @@ impl Seen {
 pub struct Resumption {
     /// The second since 1970 below which a time is too old.
     pub floor: i64,
-    /// Every authenticator that is remembered and is not too old.
+    /// Every authenticator that is recorded and is not too old.
     pub seen: Seq<Seen>,
 }

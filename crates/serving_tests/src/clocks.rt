@@ -1,4 +1,4 @@
-//! What is said of a clock that goes back (`kdcd_start`).
+//! The lines about a clock that goes back (`kdcd_start`).
 use kdc_core::Opening;
 use kdc_hub::{Event, MemoryWire, Wire};
 use kdcd_start::{ClockWatch, Refused, WatchedWire, refused_at_start};

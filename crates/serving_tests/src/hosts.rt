@@ -1,4 +1,5 @@
-//! Starting a server from a host in memory (`kdcd_start`): which calls it makes, and what a call that fails stops.
+//! Starting a server from a host in memory (`kdcd_start`): the calls that it makes, and the effect of a call that
+//! fails.
 use crate::rows::{GRANTER, text_of};
 use journal::Found;
 use kdcd_start::{

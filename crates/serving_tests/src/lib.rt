@@ -1,6 +1,6 @@
-//! The tests of what a server is started with and lives by: the words of `kdcd`, its files and its log (`kdcd_start`), rows
-//! that change (`kdc_serving`), in memory and in a file, and the lines of the log (`request_log`). They stand apart, since
-//! a crate with tests is proved twice.
+//! The tests of a server's start and life: the words of `kdcd`, its files and its log (`kdcd_start`), rows that change
+//! (`kdc_serving`), in memory and in a file, and the lines of the log (`request_log`). They are a crate of their own
+//! because a crate with tests is proved twice.
 #![tactic(auto)]
 
 #[cfg(test)]

@@ -1,5 +1,5 @@
-//! The lines of a log (`request_log`, `kdcd_start`), for each rule and each outcome. Rules are named as in
-//! `docs/PROTOCOL.md`, and their codes are those of RFC 4120, section 7.5.9. The moment is the first second of 2024.
+//! The lines of a log (`request_log`, `kdcd_start`), for each rule and each outcome. Rules have the names of
+//! `docs/PROTOCOL.md`, and the codes of RFC 4120, section 7.5.9. The moment is the first second of 2024.
 use enctypes::Etype;
 use kdc_core::{Account, AsOutcome, AsRefusal, Bears, Granted, TgsOutcome, TgsRefusal};
 use kdcd_start::{LogFormat, LogWriter, RequestLines, line_of};

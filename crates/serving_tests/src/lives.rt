@@ -1,4 +1,4 @@
-//! The life of a server, one request before each look for other rows.
+//! The life of a server, with one request before each look for new rows.
 ghost use Rattle.std.specs.Prelude.{None};
 
 use crate::octets::{

@@ -1,4 +1,4 @@
-//! A wire with a log (`kdcd_start`), over a hub that keeps accounts, in memory: what stands in the log of a few events.
+//! A wire with a log (`kdcd_start`), over a hub that keeps accounts, in memory: the log of a few events.
 use crate::octets::LOGIN;
 use crate::rows::{GRANTER, NEW_USER, database};
 use kdc_core::{Kdc, Opening};

@@ -1,5 +1,6 @@
-//! The octets of a life: requests and errors of an encoder in Python, and beginnings of replies of a model of the
-//! exchanges in Python. The realm is `A.B`; all comes in the first second of 2024. The keys are those of `rows`.
+//! The bytes of a life: requests and errors from an encoder in Python, and the first bytes of replies from a model of
+//! the exchanges in Python. The realm is `A.B`; everything happens in the first second of 2024. The keys are those of
+//! `rows`.
 
 /// An AS-REQ of `w` for `krbtgt/A.B`.
 pub const LOGIN: &[u8] = b"\

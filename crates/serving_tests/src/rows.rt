@@ -1,4 +1,4 @@
-//! Databases of a few rows, as their format spells them (`docs/FORMATS.md`, version 2).
+//! Databases of a few rows, in their text format (`docs/FORMATS.md`, version 2).
 use principals::Database;
 use std::alloc::{AllocError, Global};
 use std::test::Fail;

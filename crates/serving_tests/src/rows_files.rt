@@ -1,4 +1,4 @@
-//! A file of rows (`kdcd_start`) that is replaced, broken, taken away and put back.
+//! A file of rows (`kdcd_start`) that is replaced, broken, removed and put back.
 use crate::rows::{GRANTER, NEW_USER, RowOf, SERVICE, USER, text_of};
 use kdc_serving::{Look, OtherRealm, RowSource};
 use kdcd_start::RowsFile;

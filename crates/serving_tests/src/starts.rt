@@ -1,4 +1,4 @@
-//! What the words of `kdcd serve` stand for, and which files are taken (`kdcd_start`).
+//! The meaning of the words of `kdcd serve`, and which files it accepts (`kdcd_start`).
 use crate::rows::{GRANTER, text_of};
 use clap::ArgMatches;
 use journal::Doubt;

@@ -1,5 +1,5 @@
-//! A log that nobody reads (`ready_writer`, `kdcd_start`): over a pipe, which is full at last, over one whose reader is
-//! gone, over a file, which takes all, and over a file on a disk that is full for one write.
+//! A log that nobody reads (`ready_writer`, `kdcd_start`): over a pipe that becomes full, over a pipe whose reader is
+//! gone, over a file, which takes everything, and over a file on a disk that is full for one write.
 use kdc_core::Account;
 use kdcd_start::{LogFormat, LogWriter, RequestLines};
 use krb_fields::Moment;

@@ -1,4 +1,4 @@
--- What is kept of a request is kept for an authenticator that is neither skewed nor a repeat.
+-- A request is stored only for an authenticator that is within the clock skew and no repeat.
 use Rattle.std.proofs.Common.{◌≡◌, Bool, true, false, ◌&&◌, if◌then◌else◌, IfOk, IfSome, length, Option, Some, None, Result, Ok, Err, refl, sym, subst}
 use Rattle.std.specs.Prelude.{nat_eq, nat_lt, nat_le}
 use Rattle.std.specs.Cmp.Lexicographic.{pointwise}
@@ -33,7 +33,7 @@ module _ (v : TgsView) (incoming : Incoming) (body : ReqBody) (p : Presented) wh
   fresh_is_new e =
       new_by (is_untimely v.memory.floor incoming.at.sec p.authenticator.ctime) (map.get v.memory.pairs (stamp_of p)) (nat_le v.limits.remembered (recent v.memory incoming.at.sec)) e
 
-  -- nothing is kept by either of two answers
+  -- neither of two answers stores anything
   kept_by : (b : Bool) (x y : TgsAnswer) (P : Type 0) → IfSome x.kept (λ kept. P) → IfSome y.kept (λ kept. P) → IfSome (if b then x else y).kept (λ kept. P)
   kept_by true x y P of_x of_y = of_x
   kept_by false x y P of_x of_y = of_y
@@ -52,7 +52,7 @@ module _ (v : TgsView) (incoming : Incoming) (body : ReqBody) (p : Presented) wh
   of_kept P so (Some kept) new = so new
   of_kept P so None new = tt
 
-  -- the same of a call that answers so
+  -- the same for a call with this answer
   pub kept_new : {A E : Type 0} (kept_of : A → Option Kept) (P : Type 0) → (IsNew → P) → (r : Result A E) → IfOk r (λ a. kept_of a ≡ (tgs_answer v incoming body p).kept)
       → IfOk r (λ a. IfSome (kept_of a) (λ kept. P))
   kept_new kept_of P so (Ok a) is = of_kept P so (kept_of a) (subst (λ (o : Option Kept). IfSome o (λ kept. IsNew)) (sym is) answer_kept)

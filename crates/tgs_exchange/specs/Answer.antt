@@ -1,4 +1,4 @@
--- What the TGS exchange answers, and what it keeps of it.
+-- The answers of the TGS exchange, and what it stores for them.
 use Rattle.std.specs.Prelude.{ℕ, ⊤, ◌≡◌, ◌⊎◌, Bool, true, false, ◌&&◌, nat_eq, nat_lt, if◌then◌else◌}
 use Rattle.std.specs.Prelude.{List, length, Option, Some, None}
 use Rattle.std.specs.Cmp.Lexicographic.{pointwise}
@@ -29,8 +29,7 @@ use Rattle.tgs_exchange.specs.declared.decision.Decision.{Decision}
 use Rattle.tgs_exchange.specs.declared.decision.Decision.TheVariants.{Refuses, Remembers, Repeats, Issues}
 use Rattle.tgs_exchange.specs.declared.terms.Admission.{Admission}
 
--- the octets of the reply, and what is kept of the request and of the reply for the authenticator: none, it is not
--- remembered
+-- the bytes of the reply, and what is stored of request and reply for the authenticator; with `None` it is not recorded
 pub record TgsAnswer : Type 0 where
   pub reply : List ℕ
   pub kept : Option Kept
@@ -40,39 +39,39 @@ pub record TgsAnswer : Type 0 where
 abbrev pub tgs_error : List ℕ → Moment → ReqBody → TgsRefusal → KrbError
 tgs_error realm at body refusal = error_reply realm at (code_of refusal) body.sname None
 
--- a refusal of which nothing is remembered
+-- a refusal that records nothing
 abbrev pub refused : TgsView → Moment → ReqBody → TgsRefusal → TgsAnswer
 refused v at body refusal = record { reply = written krb_error (tgs_error v.realm at body refusal); kept = None }
 
--- the error in place of a reply that is too long: nothing is remembered
+-- the error in place of a reply that is too long: nothing is recorded
 abbrev pub refused_room : TgsView → Moment → ReqBody → TgsAnswer
 refused_room v at body = record { reply = written krb_error (too_big v.realm at body); kept = None }
 
--- ---- an authenticator that came before
+-- ---- a repeated authenticator
 
 abbrev pub is_ticket : Bears → Bool
 is_ticket Ticket = true
 is_ticket Error = false
 
--- the reply that is kept, but for one with a ticket that is longer than the room
+-- the stored reply, unless it has a ticket and is longer than the room
 abbrev pub kept_reply : TgsView → Incoming → ReqBody → Kept → TgsAnswer
 kept_reply v incoming body kept =
     if is_ticket kept.bears && nat_lt incoming.room (length kept.reply) then refused_room v incoming.at body
     else record { reply = kept.reply; kept = None }
 
--- the same request gets the reply that is kept, and another one is refused
+-- the same request gets the stored reply, and another one is refused
 abbrev pub repeated : TgsView → Incoming → ReqBody → Kept → TgsAnswer
 repeated v incoming body kept =
     if pointwise nat_eq incoming.octets kept.request then kept_reply v incoming body kept
     else refused v incoming.at body Repeated
 
--- ---- an authenticator that is new
+-- ---- a new authenticator
 
--- the most octets of a request that is kept
+-- the greatest size in bytes of a request that is stored
 abbrev pub longest_kept : ℕ
 longest_kept = 4096
 
--- a request and its reply, or nothing of a request that is longer
+-- a request and its reply, or nothing for a longer request
 abbrev pub kept_of : List ℕ → Bears → List ℕ → Kept
 kept_of request bears octets =
     if nat_lt longest_kept (length request) then nothing_kept
@@ -100,15 +99,15 @@ answer_by v incoming body p (Issues admission) =
 abbrev pub tgs_answer : TgsView → Incoming → ReqBody → Presented → TgsAnswer
 tgs_answer v incoming body p = answer_by v incoming body p (decision v incoming.at.sec body p)
 
--- ---- what the octets spell
+-- ---- the messages that the bytes encode
 
--- the reply that is kept, or an error in its place
+-- the stored reply, or an error in its place
 abbrev pub RepeatSpelled : TgsView → Moment → ReqBody → Kept → List ℕ → Type 0
 RepeatSpelled v at body kept octets =
     (octets ≡ kept.reply)
     ⊎ (krb_error.Spells (too_big v.realm at body) octets ⊎ krb_error.Spells (tgs_error v.realm at body Repeated) octets)
 
--- an error where it was refused; else the TGS-REP, or the error in its place
+-- an error if the request was refused; otherwise the TGS-REP, or the error in its place
 abbrev pub SpelledBy : TgsView → Moment → List ℕ → ReqBody → Presented → Decision Kept → List ℕ → Type 0
 SpelledBy v at random body p (Refuses refusal) octets = krb_error.Spells (tgs_error v.realm at body refusal) octets
 SpelledBy v at random body p (Remembers refusal) octets = krb_error.Spells (tgs_error v.realm at body refusal) octets
@@ -122,15 +121,15 @@ Spelled v at random body p octets = SpelledBy v at random body p (decision v at.
 
 -- ---- one ticket, two keys
 
--- The reply key opens the TGS-REP to what the service's key finds in the ticket, and that is the one that the ticket
--- names in the service's row.
+-- The reply key decrypts the TGS-REP to what the service's key finds in the ticket. That key is the one in the
+-- service's row that the ticket names.
 abbrev pub OpensTo : TgsView → Presented → Admission → KdcRep 13 → EncKdcRepPart → EncTicketPart → Type 0
 OpensTo v p admission reply part ticket =
     OpensAlike 13 26 (reply_key_of p).key (usage_number (reply_key_of p).usage) admission.terms.service.key.key
     reply part ticket
     × NamesKey v.service reply.ticket.enc_part admission.terms.service.key.key
 
--- they find what was granted
+-- both find what was granted
 abbrev pub OpensFor : TgsView → Moment → List ℕ → ReqBody → Presented → Admission → Type 0
 OpensFor v at random body p admission =
     OpensTo v p admission (tgs_rep v at random body p admission)
@@ -146,7 +145,7 @@ OpensBy v at random body p (Issues admission) = OpensFor v at random body p admi
 abbrev pub Opens : TgsView → Moment → List ℕ → ReqBody → Presented → Type 0
 Opens v at random body p = OpensBy v at random body p (decision v at.sec body p)
 
--- where a ticket is issued, the octets that are sent spell its reply, which is opened so, or the error in its place
+-- if a ticket is issued, the bytes sent encode its reply, which is decrypted as above, or the error in its place
 abbrev pub SentBy : TgsView → Moment → List ℕ → ReqBody → Presented → Decision Kept → List ℕ → Type 0
 SentBy v at random body p (Refuses refusal) octets = ⊤
 SentBy v at random body p (Remembers refusal) octets = ⊤

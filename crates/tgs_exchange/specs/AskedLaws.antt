@@ -1,4 +1,4 @@
--- What is issued is issued for the service that the request names.
+-- A ticket is issued for the service that the request names.
 use Rattle.std.proofs.Common.{◌≡◌, ℤ, List, Option, Some, None, Result, Ok, Err, refl, sym, ap}
 use Rattle.std.specs.Prelude.{IfOk}
 use Rattle.kdc_replies.specs.ServiceTerms.{service_terms}
@@ -66,6 +66,6 @@ module _ (v : TgsView) (now : ℤ) (body : ReqBody) (p : Presented) where
   asked_by_client (Some refusal) = tt
   asked_by_client None = asked_by_verdict (verdict_on v now p)
 
-  -- what is issued has the service's name of the request
+  -- an issued ticket has the service name of the request
   pub issued_asked : IfIssued (decision v now body p) (IsAsked body)
   issued_asked = asked_by_client (first_holding (client_rules v now p.ticket.authtime))

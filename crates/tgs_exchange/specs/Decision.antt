@@ -1,5 +1,5 @@
--- What is decided of a TGS-REQ whose ticket and authenticator were opened. Its reply, what that spells, what is kept,
--- and the ticket that is issued are read from it.
+-- The decision on a TGS-REQ whose ticket and authenticator were decrypted. Its reply, the reply's encoding, what is
+-- stored, and the ticket that is issued are read from it.
 use Rattle.std.specs.Borrow.{Bor}
 use Rattle.std.specs.Prelude.{ℤ, ⊤, Option, Some, None, Result, Ok, Err}
 use Rattle.refusals.specs.Refusals.{first_holding}
@@ -25,22 +25,22 @@ decision_copied (Remembers refusal) = Remembers refusal
 decision_copied (Repeats kept) = Repeats kept.now
 decision_copied (Issues admission) = Issues admission
 
--- the pair by which an authenticator is known
+-- the pair that identifies an authenticator
 abbrev pub stamp_of : Presented → Stamp
 stamp_of p = (p.authenticator.ctime, p.authenticator.cusec)
 
--- what the client's memory says of it (RFC 4120, section 3.2.3)
+-- the verdict of the client's replay cache on it (RFC 4120, section 3.2.3)
 abbrev pub verdict_on : TgsView → ℤ → Presented → Verdict Kept
 verdict_on v now p = verdict v.memory now (stamp_of p) v.limits.remembered
 
--- ---- in their order: the client, the authenticator, the ticket and what is asked
+-- ---- in order: the client, the authenticator, the ticket and what is requested
 
--- a new authenticator is remembered, whatever is decided of its request
+-- a new authenticator is recorded, whatever is decided on its request
 abbrev pub by_admission : Result Admission TgsRefusal → Decision Kept
 by_admission (Err refusal) = Remembers refusal
 by_admission (Ok admission) = Issues admission
 
--- skewed, full (section 3.2.3), or a repeat (section 3.3.2)
+-- outside the clock skew, full (section 3.2.3), or a repeat (section 3.3.2)
 abbrev pub by_verdict : TgsView → ℤ → ReqBody → Presented → Verdict Kept → Decision Kept
 by_verdict v now body p Skew = Refuses Skewed
 by_verdict v now body p (Repeat kept) = Repeats kept
@@ -54,7 +54,7 @@ by_client v now body p None = by_verdict v now body p (verdict_on v now p)
 abbrev pub decision : TgsView → ℤ → ReqBody → Presented → Decision Kept
 decision v now body p = by_client v now body p (first_holding (client_rules v now p.ticket.authtime))
 
--- what holds of an admission where a ticket is issued
+-- a property of the admission if a ticket is issued
 abbrev pub IfIssued : {K : Type 0} → Decision K → (Admission → Type 0) → Type 0
 IfIssued (Refuses refusal) P = ⊤
 IfIssued (Remembers refusal) P = ⊤

@@ -1,4 +1,5 @@
--- What a decision stands on: what the memory said of the authenticator, and that what is issued is issued to names with
+-- The facts behind a decision: the replay cache's verdict on the authenticator; and an issued ticket names principals
+-- with rows.
 -- rows.
 use Rattle.std.proofs.Common.{◌≡◌, ℤ, Option, Some, None, Result, Ok, Err, IfOk, refl, sym, subst}
 use Rattle.std.specs.Borrow.{Bor}
@@ -22,7 +23,7 @@ use Rattle.tgs_exchange.specs.declared.decision.Decision.{Decision}
 use Rattle.tgs_exchange.specs.declared.decision.Decision.TheVariants.{Refuses, Remembers, Repeats, Issues}
 use Rattle.tgs_exchange.specs.declared.terms.Admission.{Admission}
 
--- what the memory said of the authenticator where that is decided
+-- the cache's verdict on the authenticator, for each decision
 abbrev pub HasSaid : TgsView → ℤ → Presented → Decision Kept → Type 0
 HasSaid v now p (Refuses refusal) = ⊤
 HasSaid v now p (Remembers refusal) = verdict_on v now p ≡ Fresh
@@ -74,7 +75,7 @@ module _ (v : TgsView) (now : ℤ) (body : ReqBody) (p : Presented) (known : IsK
   copied_named (Repeats kept) named = tt
   copied_named (Issues admission) named = named
 
-  -- what is issued names a client and a service that have rows, and a key of the service's
+  -- an issued ticket names a client and a service that have rows, and a key of the service's
   pub issued_named : (decided : Decision (Bor Kept)) → decision_copied decided ≡ decision v now body p
       → IfIssued decided (λ a. IsNamed p v.service a.terms)
   issued_named decided is =

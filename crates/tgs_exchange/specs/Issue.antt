@@ -15,7 +15,7 @@ use Rattle.tgs_exchange.specs.View.{TgsView}
 use Rattle.tgs_exchange.specs.Terms.{ticket_terms}
 use Rattle.tgs_exchange.specs.declared.terms.Admission.{Admission}
 
--- the client, its authtime and the authorization data are those of the ticket that is presented
+-- the client, its authtime and the authorization data are those of the presented ticket
 abbrev pub grant_by : TgsView → List ℕ → ReqBody → Presented → Admission → Grant
 grant_by v random body p admission = record {
   realm = v.realm;
@@ -28,7 +28,7 @@ grant_by v random body p admission = record {
   authorization_data = p.ticket.authorization_data;
 }
 
--- the key that the client chose, else the session key of the ticket that is presented
+-- the key that the client chose, else the session key of the presented ticket
 abbrev pub reply_key_by : Key → Option Key → ReplyKey
 reply_key_by session (Some subkey) = record { key = subkey; usage = TgsRepEncPartSubkey; kvno = None }
 reply_key_by session None = record { key = session; usage = TgsRepEncPartSessionKey; kvno = None }

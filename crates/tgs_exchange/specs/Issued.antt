@@ -1,5 +1,5 @@
--- The ticket that a TGS-REQ is issued, if it is issued one now. A reply that was kept is none: it was issued by the call
--- that made it.
+-- The ticket that a TGS-REQ is issued, if it is issued one now. A reply that is sent again issues none: the call that
+-- made the reply did.
 use Rattle.std.specs.Prelude.{ℕ, List, Option, Some, None}
 use Rattle.kdc_replies.specs.Issue.{Issue}
 use Rattle.krb_fields.specs.declared.moment.Moment.{Moment}

@@ -1,4 +1,4 @@
--- The reply to a TGS-REQ that is issued a ticket is that ticket's.
+-- The reply to a TGS-REQ that is issued a ticket bears that ticket.
 use Rattle.std.proofs.Common.{◌≡◌, ◌≤◌, inl, inr, ℕ, List, length, Option, Some, ap, subst}
 use Rattle.std.specs.Option.{unwrap_or}
 use Rattle.kdc_replies.specs.GrantLaws.{session_key_size}
@@ -24,7 +24,7 @@ module _ (v : TgsView) (at : Moment) (random octets : List ℕ) (body : ReqBody)
   sent_by (Issues admission) (inl spelled) opens = inl (spelled, opens)
   sent_by (Issues admission) (inr spelled) opens = inr spelled
 
-  -- what is sent spells what answers, and is opened as that is
+  -- what is sent encodes the answer, and is decrypted as the answer is
   pub reply_is_sent : Spelled v at random body p octets → Opens v at random body p → Sent v at random body p octets
   reply_is_sent spelled opens = sent_by (decision v at.sec body p) spelled opens
 

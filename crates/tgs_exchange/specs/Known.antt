@@ -8,8 +8,8 @@ use Rattle.krb_types.specs.ReqBody.{ReqBody}
 use Rattle.tgs_opening.specs.declared.presented.Presented.{Presented}
 use Rattle.tgs_exchange.specs.View.{TgsView}
 
--- The realm is short, and names that have rows are within the limits; the text of the service's name and of the
--- ticket's authorization data have less than 2147483648 octets, as a request has.
+-- The realm is short, and names that have rows are within the limits. The service's name and the ticket's authorization
+-- data have fewer than 2147483648 bytes of text, as in every request.
 pub record IsKnown (v : TgsView) (body : ReqBody) (p : Presented) : Type 0 where
   pub realm : length v.realm ≤ 255
   pub client : IfSome v.client (λ row. IsWithinLimits p.ticket.cname.components)

@@ -7,7 +7,7 @@ pub mod Decision
 pub mod Answer
 pub mod Issued
 pub mod Outcome
--- what private clauses and proofs cite: no reader of a public contract needs it
+-- private clauses and proofs cite these; no reader of a public contract needs them
 pub mod NamedLaws
 pub mod DecisionLaws
 pub mod IssuedLaws

@@ -1,5 +1,4 @@
--- The client of the presented ticket and the service of an admission have rows, and the service's key is one of its
--- row.
+-- The client of the presented ticket and the service of an admission have rows, and the service's key is in its row.
 use Rattle.std.proofs.Common.{◌≡◌, List, ℤ, pos, Option, Some, None, Result, Ok, Err, ap, sym, subst}
 use Rattle.std.specs.Prelude.{IfOk, IfSome}
 use Rattle.std.specs.Option.{unwrap_or}
@@ -22,7 +21,7 @@ use Rattle.tgs_exchange.specs.Terms.{terms, terms_if, terms_by, admission_of}
 use Rattle.tgs_exchange.specs.declared.terms.Terms.{Terms}
 use Rattle.tgs_exchange.specs.declared.terms.Admission.{Admission}
 
--- Both names are within the limits, and the service's key is the one that its row has for its type and version.
+-- Both names are within the limits, and the service's key is the one in its row with this type and version.
 pub record IsNamed (p : Presented) (service_row : Option Row) (t : Terms) : Type 0 where
   pub client : IsWithinLimits p.ticket.cname.components
   pub service : IsWithinLimits t.service.name.components
@@ -70,7 +69,7 @@ decided_named rules v body p found times otherwise a known is e =
     (subst (λ (o : Option Terms). o ≡ Some a.terms) is
     (admitted_terms found times a (decided_found rules (admission_of found times) otherwise a e)))
 
--- those of what is admitted
+-- those of an admission
 pub admitted_named : {R : Type 0} (rules : List (Rule R)) (v : TgsView) (body : ReqBody) (p : Presented)
     (found : Option Terms) (times : Option Times) (otherwise : R) (r : Result Admission R)
     → IsKnown v body p → found ≡ terms v body → r ≡ decided rules (admission_of found times) otherwise

@@ -1,4 +1,4 @@
--- What becomes of a TGS-REQ, and what that says of the reply.
+-- The outcome of a TGS-REQ, and what it states about the reply.
 use Rattle.std.specs.Prelude.{◌≡◌, ℕ, ◌&&◌, nat_eq, nat_lt, if◌then◌else◌, List, length, Option, Some, None}
 use Rattle.std.specs.Cmp.Lexicographic.{pointwise}
 use Rattle.krb_elements.specs.Codec.{written}
@@ -30,9 +30,9 @@ use Rattle.tgs_exchange.specs.declared.outcome.TgsOutcome.{TgsOutcome}
 use Rattle.tgs_exchange.specs.declared.outcome.TgsOutcome.TheVariants.{Refused, Issued, Resent, TooBig}
 use Rattle.tgs_exchange.specs.declared.terms.Admission.{Admission}
 
--- ---- what it is
+-- ---- its definition
 
--- what the ticket of an admission is issued with
+-- the terms that the ticket of an admission is issued with
 abbrev pub granted_by : ReqBody → Presented → Admission → Granted
 granted_by body p admission = record {
   reply_type = (reply_key_of p).key.etype;
@@ -43,17 +43,17 @@ granted_by body p admission = record {
   times = admission.times;
 }
 
--- the reply that is kept, where it has room
+-- the stored reply, if it fits the room
 abbrev pub resent_within : Incoming → Kept → TgsOutcome
 resent_within incoming kept =
     if is_ticket kept.bears && nat_lt incoming.room (length kept.reply) then TooBig else Resent kept.bears
 
--- the same request gets the reply that is kept, and another one is refused
+-- the same request gets the stored reply, and another one is refused
 abbrev pub repeated_outcome : Incoming → Kept → TgsOutcome
 repeated_outcome incoming kept =
     if pointwise nat_eq incoming.octets kept.request then resent_within incoming kept else Refused Repeated
 
--- a ticket, where its reply has room
+-- a ticket, if its reply fits the room
 abbrev pub issued_within : TgsView → Incoming → ReqBody → Presented → Admission → TgsOutcome
 issued_within v incoming body p admission =
     if nat_lt incoming.room (length (written (kdc_rep 13) (tgs_rep v incoming.at incoming.random body p admission)))
@@ -69,7 +69,7 @@ outcome_by v incoming body p (Issues admission) = issued_within v incoming body 
 abbrev pub tgs_outcome : TgsView → Incoming → ReqBody → Presented → TgsOutcome
 tgs_outcome v incoming body p = outcome_by v incoming body p (decision v incoming.at.sec body p)
 
--- ---- what the octets spell, by cases on the outcome
+-- ---- what the bytes encode, by cases on the outcome
 
 abbrev pub OutcomeSpelledBy : TgsView → Moment → List ℕ → ReqBody → Presented → TgsOutcome → Decision Kept → List ℕ → Type 0
 OutcomeSpelledBy v at random body p (Refused refusal) decided octets = krb_error.Spells (tgs_error v.realm at body refusal) octets
@@ -87,14 +87,14 @@ OutcomeSpelledBy v at random body p (Resent bears) (Issues admission) octets = �
 abbrev pub OutcomeSpelled : TgsView → Moment → List ℕ → ReqBody → Presented → TgsOutcome → List ℕ → Type 0
 OutcomeSpelled v at random body p outcome octets = OutcomeSpelledBy v at random body p outcome (decision v at.sec body p) octets
 
--- ---- what it says of the octets that were sent to this client, for this service
+-- ---- what it states about the bytes that were sent to this client, for this service
 
--- a reply that bears this was kept for the authenticator, and the octets are that reply
+-- a reply that bears this was stored for the authenticator, and the bytes are that reply
 abbrev pub WasKept : Option Kept → Bears → List ℕ → Type 0
 WasKept (Some kept) bears octets = (bears ≡ kept.bears) × (octets ≡ kept.reply)
 WasKept None bears octets = ⊥
 
--- `kept` is what was kept for the authenticator, if anything was, and `issue` the ticket that was issued, if one was
+-- `kept` is what was stored for the authenticator, if anything was, and `issue` the ticket that was issued, if one was
 abbrev pub TgsOutcomeHolds : Option Kept → Option Issue → Option Name → Option Name → TgsOutcome → List ℕ → Type 0
 TgsOutcomeHolds kept issue client service (Refused refusal) octets = IsErrorWith (code_of refusal) octets
 TgsOutcomeHolds kept issue client service (Issued granted) octets = WasIssuedTo client service granted issue octets

@@ -24,7 +24,7 @@ use Rattle.tgs_exchange.specs.declared.decision.Decision.TheVariants.{Refuses, R
 use Rattle.tgs_exchange.specs.declared.outcome.TgsOutcome.{TgsOutcome}
 use Rattle.tgs_exchange.specs.declared.outcome.TgsOutcome.TheVariants.{Refused, Issued, Resent, TooBig}
 
--- a verdict that finds a repeat finds what is kept
+-- a verdict that finds a repeat finds what is stored
 repeat_by : {K : Type 0} (skewed : Bool) (found : Option K) (full : Bool) (kept : K)
     → (if skewed then Skew else if_kept found (if full then NoPlace else Fresh)) ≡ Repeat kept → found ≡ Some kept
 repeat_by true found full kept e = absurd cc
@@ -65,7 +65,7 @@ module _ (v : TgsView) (at : Moment) (random octets : List ℕ) (body : ReqBody)
       subst (λ (o : Option Kept). WasKept o bears octets) (sym (repeat_kept kept said)) sent
   holds_by (Resent bears) (Issues admission) asked said nothing opens = absurd nothing
 
-  -- the outcome says what the octets are
+  -- the outcome says what the bytes are
   pub outcome_holds : (outcome : TgsOutcome) → OutcomeSpelled v at random body p outcome octets → Opens v at random body p
       → TgsOutcomeHolds (map.get v.memory.pairs (stamp_of p)) (issued v at random body p) (Some p.ticket.cname) body.sname outcome
       octets

@@ -1,6 +1,6 @@
--- The rules by which TGS-REQs are refused whose ticket and authenticator were opened, in their order: those of the
--- client, and then, once the authenticator is known to be new, those of the ticket and of what is asked for. At each
--- rule stands its section of RFC 4120; the codes of rows that are disabled or have expired are those of section 7.5.9.
+-- The rules that refuse a TGS-REQ whose ticket and authenticator were decrypted, in order: first those of the client,
+-- and then, once the authenticator is known to be new, those of the ticket and of the request. Each rule has its
+-- section of RFC 4120; the codes for rows that are disabled or have expired are those of section 7.5.9.
 use Rattle.std.specs.Prelude.{ℤ, pos, ◌-ℤ◌, Bool, false, not, ◌&&◌, ◌||◌, nat_eq, int_lt, is_none, is_some, List, []}
 use Rattle.std.specs.Prelude.{◌∷◌, Option, Some, None, Result}
 use Rattle.std.specs.Cmp.Lexicographic.{pointwise}
@@ -58,7 +58,7 @@ client_rules v now authtime =
 
 -- ---- the ticket
 
--- it starts later than the skew of clocks allows, or has yet to be validated, and this request doesn't ask for that
+-- it starts later than the clock skew allows, or has yet to be validated, and this request doesn't ask for that
 abbrev pub is_not_yet_valid : TicketTerms → ℤ → ReqBody → Bool
 is_not_yet_valid ticket now body =
     int_lt (later now skew) (start_of_ticket ticket)
@@ -79,7 +79,7 @@ is_for_other_service body ticket_service = keeps_ticket body && not (is_named bo
 
 -- ---- options
 
--- an option that only a ticket with this flag gives
+-- the request has an option that needs this flag, and the ticket lacks it
 abbrev pub lacks_flag : ReqBody → TicketTerms → KdcOption → TicketFlag → Bool
 lacks_flag body ticket option flag = asks body option && not (has_flag ticket flag)
 
@@ -108,14 +108,14 @@ is_validated_too_early body ticket now = asks body options.TheVariants.Validate 
 abbrev pub is_renewed_too_late : ReqBody → TicketTerms → ℤ → Bool
 is_renewed_too_late body ticket now = asks body options.TheVariants.Renew && int_lt (renewal_of_ticket ticket) now
 
--- a new ticket's start is asked for without POSTDATED, and lies beyond the skew
+-- a new ticket's start is requested without POSTDATED, and lies beyond the clock skew
 abbrev pub starts_late : ReqBody → ℤ → Bool
 starts_late body now = not (keeps_ticket body) && starts_too_late now body
 
--- ---- in their order
+-- ---- in order
 
--- of the ticket that is presented and the service that it is for, of what is asked for, by the terms that are found for
--- that, and by the times of the new ticket
+-- the rules of the presented ticket and its service, of the request, of the terms that are found for it, and of the new
+-- ticket's times
 abbrev pub rules_by : TgsView → ℤ → ReqBody → Presented → Option Terms → Option Times → List (Rule TgsRefusal)
 rules_by v now body p found times =
     let ticket = ticket_terms p.ticket in
@@ -136,8 +136,8 @@ rules_by v now body p found times =
     ∷ (is_none times, NeverValid)  -- 3.3.3, 3.1.3
     ∷ []
 
--- What is admitted, or the first rule by which nothing is. Where no rule holds, terms and times are there, so that the
--- reason behind the rules is never given by itself.
+-- The admission, or the first rule that refuses. If no rule holds, there are terms and times, so the reason after the
+-- rules is never given for any other cause.
 abbrev pub admitted_on : TgsView → ℤ → ReqBody → Presented → Option Terms → Option Times → Result Admission TgsRefusal
 admitted_on v now body p found times = decided (rules_by v now body p found times) (admission_of found times) NeverValid
 

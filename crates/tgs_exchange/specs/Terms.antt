@@ -1,4 +1,4 @@
--- What the service's row has for the types that a request asks for, and the times of the ticket.
+-- The terms in the service's row for the types that a request lists, and the times of the ticket.
 use Rattle.std.specs.Prelude.{ℤ, List, Option, Some, None}
 use Rattle.kdc_replies.specs.ServiceTerms.{service_terms}
 use Rattle.kdc_replies.specs.declared.services.ServiceTerms.{ServiceTerms}
@@ -14,7 +14,7 @@ use Rattle.tgs_exchange.specs.View.{TgsView}
 use Rattle.tgs_exchange.specs.declared.terms.Terms.{Terms}
 use Rattle.tgs_exchange.specs.declared.terms.Admission.{Admission}
 
--- the flags and times of the ticket that is presented
+-- the flags and times of the presented ticket
 abbrev pub ticket_terms : EncTicketPart → TicketTerms
 ticket_terms part = record {
   flags = part.flags;
@@ -34,11 +34,11 @@ terms_if types (Some sname) (Some client) None = None
 terms_if types (Some sname) None service = None
 terms_if types None client service = None
 
--- none where the name or a row is absent, or there is no common type
+-- none if the name or a row is absent, or there is no common type
 abbrev pub terms : TgsView → ReqBody → Option Terms
 terms v body = terms_if body.etype body.sname v.client v.service
 
--- the times of a ticket by these terms; none where it would end no later than it starts
+-- the times of a ticket by these terms; none if it would end no later than it starts
 abbrev pub times_of : Limits → ℤ → TicketTerms → ReqBody → Option Terms → Option Times
 times_of limits now ticket body (Some t) = tgs_times now ticket t.client_policy t.service.policy limits body
 times_of limits now ticket body None = None

@@ -1,4 +1,4 @@
-//! From a TGS-REQ and what it presents to its reply, to what came of it, and to what is kept.
+//! Answers a TGS-REQ, given what it presents: its reply, its outcome, and what is stored.
 ghost use Rattle.std.specs.Prelude.{◌≡◌, ◌⊎◌, ◌<◌, ◌≤◌, ℕ, List, false, None, Some, length, IfOk, IfSome};
 ghost use Rattle.std.specs.FinMap as map;
 ghost use Rattle.kdc_replies.specs.ErrorReply.{too_big};
@@ -33,11 +33,10 @@ use replay::{Bears, Kept};
 use std::alloc::{AllocError, Global};
 use tgs_opening::{Presented, TgsRefusal};
 
-/// The most octets of a request that is kept with its reply.
+/// The greatest size of a request that is stored with its reply, in bytes.
 const LONGEST_KEPT: usize = 4_096;
 
-/// The reply to a TGS-REQ, what came of it, and what is to be remembered with its authenticator: `None` where nothing
-/// is.
+/// The reply to a TGS-REQ, its outcome, and what to store for its authenticator, if it is to be recorded.
 #[derive(Drop)]
 pub struct TgsAnswer {
     pub reply: Vec<u8>,
@@ -45,7 +44,7 @@ pub struct TgsAnswer {
     pub kept: Option<Kept>,
 }
 
-/// Answers a TGS-REQ that presents what was opened.
+/// Answers a TGS-REQ that presents this decrypted ticket and authenticator.
 pub fn tgs_answer(
     alloc: Global,
     view: &TgsView<'_>,
@@ -58,19 +57,19 @@ pub fn tgs_answer(
         answer.reply.items ≡ (tgs_answer view.now incoming.now body.now presented.now).reply) }
     ensures kept { IfOk result (λ answer.
         answer.kept ≡ (tgs_answer view.now incoming.now body.now presented.now).kept) }
-    // What came of it is what was decided, and whether the reply had room.
+    // The outcome follows from the decision, and from whether the reply fits the room.
     ensures outcome { IfOk result (λ answer.
         answer.outcome ≡ tgs_outcome view.now incoming.now body.now presented.now) }
-    // The octets spell the message that the rules say, or are the reply that is kept.
+    // The bytes encode the message that the rules prescribe, or are the stored reply.
     ensures spelled { IfOk result (λ answer.
         Spelled view.now incoming.now.at incoming.now.random body.now presented.now answer.reply.items) }
-    // They are what that says.
+    // They are what the outcome says.
     ensures outcome_spelled { IfOk result (λ answer.
         OutcomeSpelled view.now incoming.now.at incoming.now.random body.now presented.now answer.outcome
         answer.reply.items) }
-    // Where a ticket is issued, the reply key and the service's key find the same inside.
+    // If a ticket is issued, the reply key and the service's key find the same inside.
     ensures same { IfOk result (λ answer. Opens view.now incoming.now.at incoming.now.random body.now presented.now) }
-    // What is to be remembered is neither skewed nor a repeat.
+    // An authenticator to record is within the clock skew and no repeat.
     ensures timely { IfOk result (λ answer.
         IfSome answer.kept (λ kept. is_untimely view.now.memory.floor incoming.now.at.sec
         presented.now.authenticator.ctime ≡ false)) }
@@ -81,7 +80,7 @@ pub fn tgs_answer(
     answer_by(alloc, view, incoming, body, presented, &decision)
 }
 
-/// The answer by what is decided.
+/// Returns the answer for a decision.
 fn answer_by(
     alloc: Global,
     view: &TgsView<'_>,
@@ -117,7 +116,7 @@ fn answer_by(
     }
 }
 
-/// An error of which nothing is remembered.
+/// Returns an error that records nothing.
 fn refused(
     alloc: Global,
     view: &TgsView<'_>,
@@ -142,7 +141,7 @@ fn refused(
     })
 }
 
-/// An error that is remembered.
+/// Returns an error that is recorded.
 fn remembers(
     alloc: Global,
     view: &TgsView<'_>,
@@ -173,7 +172,7 @@ fn remembers(
     })
 }
 
-/// The answer to an authenticator that came before: the same request gets the reply that is kept.
+/// Returns the answer to a repeated authenticator: the same request gets the stored reply.
 fn repeated(
     alloc: Global,
     view: &TgsView<'_>,
@@ -199,7 +198,7 @@ fn repeated(
     resent(alloc, view, incoming, body, kept)
 }
 
-/// The reply that is kept, or an error in its place where it bears a ticket and is longer than the room.
+/// Returns the stored reply, or an error in its place if it has a ticket and is longer than the room.
 fn resent(
     alloc: Global,
     view: &TgsView<'_>,
@@ -237,7 +236,7 @@ fn is_ticket(bears: Bears) -> bool
     matches!(bears, Bears::Ticket)
 }
 
-/// The error in place of a reply that is longer than the room.
+/// Returns the error in place of a reply that is longer than the room.
 fn refused_room(
     alloc: Global,
     view: &TgsView<'_>,
@@ -261,7 +260,7 @@ fn refused_room(
     })
 }
 
-/// The reply with a ticket, which is remembered, or an error in its place where it is longer than the room.
+/// Returns the reply with a ticket, which is recorded, or an error in its place if it is longer than the room.
 fn issued(
     alloc: Global,
     view: &TgsView<'_>,
@@ -303,8 +302,8 @@ fn issued(
     })
 }
 
-/// Returns what is kept of a request and its reply: nothing, if the request is longer than those that are sent as
-/// datagrams. Its authenticator is then refused where it comes again.
+/// Returns what is stored of a request and its reply: nothing, if the request is longer than those that are sent as
+/// datagrams. Its authenticator is then refused if it comes again.
 fn kept_of(alloc: Global, request: &[u8], bears: Bears, reply: &[u8]) -> Result<Kept, AllocError>
     ensures { IfOk result (λ kept. kept ≡ kept_of request.now bears reply.now) }
 {

@@ -1,4 +1,4 @@
-//! What is decided of a TGS-REQ whose ticket and authenticator were opened: once, before anything is written.
+//! Decides on a TGS-REQ whose ticket and authenticator were decrypted: once, before anything is written.
 ghost use Rattle.std.specs.Prelude.{◌≡◌, IfOk};
 ghost use Rattle.refusals.specs.Refusals.{first_holding};
 ghost use Rattle.replay.specs.Memory.{verdict_copied};
@@ -17,8 +17,7 @@ use replay::{Kept, Verdict};
 use std::alloc::{AllocError, Global};
 use tgs_opening::{Presented, TgsRefusal};
 
-/// Decides in this order: the client's rules, its memory of authenticators, the rules of the ticket and of what is
-/// asked.
+/// Decides in this order: the client's rules, its replay cache, the rules of the ticket and of the request.
 pub fn decision<'v>(
     alloc: Global,
     view: &TgsView<'v>,
@@ -32,7 +31,7 @@ pub fn decision<'v>(
     by_client(alloc, view, at, body, presented, refusal)
 }
 
-/// The first rule of the client that holds.
+/// Returns the first rule of the client that holds.
 fn client_refusal(view: &TgsView<'_>, at: Moment, presented: &Presented) -> Option<TgsRefusal>
     ensures { result ≡ first_holding (client_rules view.now at.sec presented.now.ticket.authtime) }
 {
@@ -40,7 +39,7 @@ fn client_refusal(view: &TgsView<'_>, at: Moment, presented: &Presented) -> Opti
     first_holding(&client_rules(view, at, authtime))
 }
 
-/// What is decided by what the rules of the client say.
+/// Decides, given the result of the client's rules.
 fn by_client<'v>(
     alloc: Global,
     view: &TgsView<'v>,
@@ -61,7 +60,7 @@ fn by_client<'v>(
     }
 }
 
-/// What the client's memory says of the authenticator.
+/// Returns the replay cache's verdict on the authenticator.
 fn verdict_on<'v>(view: &TgsView<'v>, at: Moment, presented: &Presented) -> Verdict<&'v Kept>
     ensures { verdict_copied result ≡ verdict_on view.now at.sec presented.now }
 {
@@ -70,7 +69,7 @@ fn verdict_on<'v>(view: &TgsView<'v>, at: Moment, presented: &Presented) -> Verd
     view.memory.check(at, ctime, cusec, view.limits.remembered)
 }
 
-/// What is decided by what the client's memory says.
+/// Decides, given the replay cache's verdict.
 fn by_verdict<'v>(
     alloc: Global,
     view: &TgsView<'_>,
@@ -90,7 +89,7 @@ fn by_verdict<'v>(
     }
 }
 
-/// What is decided of a request whose authenticator is new, by the rules of the ticket and of what is asked.
+/// Decides on a request whose authenticator is new, by the rules of the ticket and of the request.
 fn fresh<'v>(
     alloc: Global,
     view: &TgsView<'_>,
@@ -105,7 +104,7 @@ fn fresh<'v>(
     Ok(by_admission(admitted(view, at, body, presented, terms)))
 }
 
-/// What is decided by what is admitted.
+/// Decides, given the admission.
 fn by_admission<'v>(admission: Result<Admission, TgsRefusal>) -> Decision<&'v Kept>
     ensures { decision_copied result ≡ by_admission admission }
 {

@@ -1,15 +1,15 @@
-//! What becomes of a TGS-REQ whose ticket and authenticator were opened.
+//! The decision on a TGS-REQ whose ticket and authenticator were decrypted.
 use crate::terms::Admission;
 use tgs_opening::TgsRefusal;
 
-/// What is decided of a request. `K` is what is kept for an authenticator.
+/// The decision on a request. `K` is what is stored for an authenticator.
 #[derive(Drop)]
 pub enum Decision<K> {
-    /// It is refused, and nothing is remembered.
+    /// It is refused, and nothing is recorded.
     Refuses(TgsRefusal),
-    /// It is refused, and that is remembered with its authenticator.
+    /// It is refused, and the refusal is recorded with its authenticator.
     Remembers(TgsRefusal),
-    /// Its authenticator came before, and this is what was kept for it.
+    /// Its authenticator came before, and this was stored for it.
     Repeats(K),
     /// It is issued a ticket.
     Issues(Admission),

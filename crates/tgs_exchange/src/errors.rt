@@ -11,7 +11,7 @@ use krb_types::ReqBodyRef;
 use std::alloc::{AllocError, Global};
 use tgs_opening::TgsRefusal;
 
-/// The octets of the error that refuses a request.
+/// Returns the bytes of the error that refuses a request.
 pub fn tgs_error(
     alloc: Global,
     realm: &[u8],

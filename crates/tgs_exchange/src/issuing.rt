@@ -22,7 +22,7 @@ use std::alloc::{AllocError, Global};
 use tgs_opening::Presented;
 use ticket_times::tgs_flags;
 
-/// The octets of the TGS-REP. Of the random octets the first 32 make the session key, and the last 32 are the
+/// Returns the bytes of the TGS-REP. The first 32 random bytes make the session key, and the last 32 are the
 /// confounders of the ticket and of the reply.
 pub fn tgs_rep(
     alloc: Global,
@@ -40,7 +40,7 @@ pub fn tgs_rep(
     ensures spelled { IfOk result (λ octets.
         (kdc_rep 13).Spells (tgs_rep view.now incoming.now.at incoming.now.random body.now presented.now
         admission.now) octets.items) }
-    // The client and the service find the same inside, the service by the key that is named there.
+    // The client and the service find the same inside; the service uses the key that the ticket names.
     ensures same { IfOk result (λ octets.
         OpensFor view.now incoming.now.at incoming.now.random body.now presented.now admission.now) }
 {
@@ -88,7 +88,7 @@ fn grant_of<'g>(
     }
 }
 
-/// Authorization data, lent where there are any.
+/// Lends the authorization data, if there are any.
 fn lent_data(entries: &Option<Seq<Typed>>) -> Option<Lent<'_, Seq<Typed>>>
     ensures { result ≡ entries.now }
 {
@@ -111,7 +111,7 @@ fn flags_of(body: &ReqBodyRef<'_>, presented: &Presented, admission: &Admission)
     )
 }
 
-/// What the ticket is issued with, for the account of the request.
+/// Returns the terms that the ticket is issued with, for the account of the request.
 pub fn granted_of(body: &ReqBodyRef<'_>, presented: &Presented, admission: &Admission) -> Granted
     ensures { result ≡ granted_by body.now presented.now admission.now }
 {
@@ -127,7 +127,7 @@ pub fn granted_of(body: &ReqBodyRef<'_>, presented: &Presented, admission: &Admi
     }
 }
 
-/// The key that the client chose, else the session key of the ticket that is presented.
+/// Returns the key that the client chose, else the session key of the presented ticket.
 fn reply_key_of(presented: &Presented) -> ReplyKey
     ensures { result ≡ reply_key_of presented.now }
 {

@@ -1,5 +1,5 @@
-//! The Ticket-Granting Service exchange (RFC 4120, section 3.3): from what a request presents, and what is known of its
-//! client and its service, to the reply, and to what is kept of the request and the reply.
+//! The ticket-granting service exchange (RFC 4120, section 3.3): makes the reply, and what is stored of request and
+//! reply, from what a request presents and what is known of its client and its service.
 #![tactic(auto)]
 
 mod answering;

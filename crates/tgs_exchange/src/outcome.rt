@@ -1,17 +1,17 @@
-//! What came of a TGS-REQ.
+//! The outcome of a TGS-REQ.
 use kdc_replies::Granted;
 use replay::Bears;
 use tgs_opening::TgsRefusal;
 
-/// What became of a request.
+/// The outcome of a request.
 #[derive(Clone, Copy, PartialEq, Eq)]
 pub enum TgsOutcome {
-    /// It was refused by this rule.
+    /// This rule refused it.
     Refused(TgsRefusal),
     /// It was issued this ticket.
     Issued(Granted),
-    /// It came before, and the reply that was kept was sent again, which bears this.
+    /// It came before, and the stored reply, which bears this, was sent again.
     Resent(Bears),
-    /// A reply with a ticket had no room: error 52 was sent in its place.
+    /// A reply with a ticket did not fit the room: error 52 was sent in its place.
     TooBig,
 }

@@ -1,6 +1,5 @@
-//! The rules of the TGS exchange for what was opened, one condition each: of the ticket's times
-//! (RFC 4120, section 3.2.3), of revoked tickets (section 3.3.3.1) and of what is asked for (section
-//! 3.3.3).
+//! The rules of the TGS exchange after decryption, one condition each: those of the ticket's times (RFC 4120, section
+//! 3.2.3), of revoked tickets (section 3.3.3.1) and of the request (section 3.3.3).
 ghost use Rattle.std.specs.Prelude.{◌≡◌, option_copied};
 ghost use Rattle.tgs_exchange.specs.Rules.{admitted_by, asks_bad_option, client_rules, has_ended};
 ghost use Rattle.tgs_exchange.specs.Rules.{has_nothing_to_validate, is_before, is_for_other_service};
@@ -18,8 +17,7 @@ use refusals::decide;
 use tgs_opening::{Presented, TgsRefusal, is_named};
 use ticket_times::{TicketTerms, Times, asks, keeps_ticket, starts_too_late};
 
-/// The rules of the client, in the order in which they are asked. `authtime` is the second when it was first
-/// authenticated.
+/// Returns the rules of the client, in order. `authtime` is the second when it was first authenticated.
 pub fn client_rules(view: &TgsView<'_>, at: Moment, authtime: i64) -> [(bool, TgsRefusal); 4]
     ensures { result ≡ client_rules view.now at.sec authtime }
 {
@@ -34,7 +32,7 @@ pub fn client_rules(view: &TgsView<'_>, at: Moment, authtime: i64) -> [(bool, Tg
     ]
 }
 
-/// What is admitted, or the first rule by which nothing is.
+/// Returns the admission, or the first rule that refuses.
 pub fn admitted(
     view: &TgsView<'_>,
     at: Moment,
@@ -48,11 +46,11 @@ pub fn admitted(
     let times = times_of(view.limits, at, &ticket, body, &terms);
     let rules = rules_by(view, at, body, presented, &terms, &times);
     let admission = admission_of(terms, times);
-    // Where no rule holds, terms and times are there, so that the last reason is never given by itself.
+    // If no rule holds, there are terms and times, so the last reason is never given for any other cause.
     decide(&rules, admission, TgsRefusal::NeverValid)
 }
 
-/// All rules, in the order in which they are asked.
+/// Returns all rules, in order.
 fn rules_by(
     view: &TgsView<'_>,
     at: Moment,
@@ -98,8 +96,8 @@ fn rules_by(
     ]
 }
 
-/// The client was first authenticated before the moment before which its tickets are revoked
-/// (section 3.3.3.1).
+/// Checks whether the client was first authenticated before the moment that revokes its earlier tickets (section
+/// 3.3.3.1).
 fn is_ticket_revoked(row: Option<&Row>, authtime: i64) -> bool
     ensures { result ≡ is_ticket_revoked (option_copied row.entry) authtime }
 {
@@ -118,7 +116,8 @@ fn is_before(time: i64, revoked_before: Option<Second>) -> bool
     }
 }
 
-/// It starts later than the skew of clocks allows, or has yet to be validated, and this request doesn't ask for that.
+/// Checks whether the ticket starts later than the clock skew allows, or has yet to be validated, and this request
+/// doesn't ask for that.
 fn is_not_yet_valid(ticket: &TicketTerms, at: Moment, body: &ReqBodyRef<'_>) -> bool
     ensures { result ≡ is_not_yet_valid ticket.now at.sec body.now }
 {
@@ -132,21 +131,21 @@ fn has_ended(ticket: &TicketTerms, at: Moment) -> bool
     ticket.endtime.seconds() < at.sec - SKEW
 }
 
-/// The realm isn't ours, no service is named, or it has no row.
+/// Checks whether the realm isn't ours, no service is named, or it has no row.
 fn is_service_unknown(view: &TgsView<'_>, body: &ReqBodyRef<'_>) -> bool
     ensures { result ≡ is_service_unknown view.now body.now }
 {
     body.realm.as_slice() != view.realm || body.sname.is_none() || view.service.is_none()
 }
 
-/// It is to be renewed or validated for another service than its own.
+/// Checks whether the ticket is to be renewed or validated for another service than its own.
 fn is_for_other_service(body: &ReqBodyRef<'_>, ticket_service: &Name) -> bool
     ensures { result ≡ is_for_other_service body.now ticket_service.now }
 {
     keeps_ticket(body) && !is_named(body.sname.as_ref(), ticket_service)
 }
 
-/// ENC-TKT-IN-SKEY; RENEW with VALIDATE; or an option whose flag the ticket lacks.
+/// Checks for ENC-TKT-IN-SKEY; RENEW with VALIDATE; or an option whose flag the ticket lacks.
 fn asks_bad_option(body: &ReqBodyRef<'_>, ticket: &TicketTerms) -> bool
     ensures { result ≡ asks_bad_option body.now ticket.now }
 {
@@ -172,7 +171,7 @@ fn asks_bad_option(body: &ReqBodyRef<'_>, ticket: &TicketTerms) -> bool
         || lacks_flag(body, ticket, KdcOption::Renew, TicketFlag::Renewable)
 }
 
-/// The option is asked for, and the ticket lacks the flag that gives it.
+/// Checks whether the request has this option, and the ticket lacks the flag that it needs.
 fn lacks_flag(
     body: &ReqBodyRef<'_>,
     ticket: &TicketTerms,
@@ -202,7 +201,7 @@ fn is_renewed_too_late(body: &ReqBodyRef<'_>, ticket: &TicketTerms, at: Moment) 
     asks(body, KdcOption::Renew) && ticket.renewal() < at.sec
 }
 
-/// A new ticket's start is asked for without POSTDATED, and lies beyond the skew.
+/// Checks whether a new ticket's start is requested without POSTDATED, and lies beyond the clock skew.
 fn starts_late(body: &ReqBodyRef<'_>, at: Moment) -> bool
     ensures { result ≡ starts_late body.now at.sec }
 {

@@ -1,4 +1,4 @@
-//! What the service's row has for the types that a request asks for, and the times of the ticket.
+//! The terms in the service's row for the types that a request lists, and the times of the ticket.
 ghost use Rattle.std.specs.Prelude.{◌≡◌, IfOk};
 ghost use Rattle.tgs_exchange.specs.Terms.{admission_of, terms, ticket_terms, times_of};
 
@@ -11,21 +11,21 @@ use principal_rows::{Limits, Policy};
 use std::alloc::{AllocError, Global};
 use ticket_times::{TicketTerms, Times, tgs_times};
 
-/// A client that has a row, and a service that has a key of a type asked for.
+/// A client that has a row, and a service that has a key of a requested type.
 #[derive(Drop)]
 pub struct Terms {
     pub client_policy: Policy,
     pub service: ServiceTerms,
 }
 
-/// What a ticket is issued by.
+/// The terms and times of a ticket to be issued.
 #[derive(Drop)]
 pub struct Admission {
     pub terms: Terms,
     pub times: Times,
 }
 
-/// The flags and times of a ticket.
+/// Returns the flags and times of a ticket.
 pub fn ticket_terms(part: &EncTicketPart) -> TicketTerms
     ensures { result ≡ ticket_terms part.now }
 {
@@ -38,7 +38,7 @@ pub fn ticket_terms(part: &EncTicketPart) -> TicketTerms
     }
 }
 
-/// The terms of a request; `None` where the name or a row is absent, or there is no common type.
+/// Returns the terms of a request; `None` if the name or a row is absent, or there is no common type.
 pub fn terms_for(
     alloc: Global,
     view: &TgsView<'_>,
@@ -64,7 +64,7 @@ pub fn terms_for(
     }))
 }
 
-/// The times of a ticket by these terms; `None` where there are none, or it would end no later than it starts.
+/// Returns the times of a ticket by these terms; `None` without terms, or if it would end no later than it starts.
 pub fn times_of(
     limits: &Limits,
     at: Moment,
@@ -87,7 +87,7 @@ pub fn times_of(
     }
 }
 
-/// What a ticket is issued by, where both are there.
+/// Returns the admission, if there are both terms and times.
 pub fn admission_of(terms: Option<Terms>, times: Option<Times>) -> Option<Admission>
     ensures { result ≡ admission_of terms times }
 {

@@ -1,4 +1,4 @@
-//! What an answer of the TGS exchange is made from, beside the request and what it presents.
+//! The state that the TGS exchange answers from, besides the request and what it presents.
 use principal_rows::{Limits, Row};
 use replay::{Kept, Memory};
 use std::marker::Model;
@@ -6,14 +6,14 @@ use std::marker::Model;
 /// What is known of the client of a ticket, and of the service that a request names.
 #[derive(Drop)]
 pub struct TgsView<'a> {
-    /// The realm's octets, 1 to 255.
+    /// The realm's bytes, 1 to 255.
     pub realm: &'a [u8],
     pub limits: &'a Limits,
-    /// The client's row, where it has one.
+    /// The client's row, if it has one.
     pub client: Option<&'a Row>,
-    /// The service's row, where it has one.
+    /// The service's row, if it has one.
     pub service: Option<&'a Row>,
-    /// What is remembered of the client.
+    /// The client's replay cache.
     pub memory: &'a Memory<Kept>,
 }
 

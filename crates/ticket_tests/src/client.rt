@@ -1,4 +1,4 @@
-//! `client_core`. The values are those of the standards, and of models of the messages and of the cryptography in Python.
+//! `client_core`. The values are those of the standards, and of Python models of the messages and of the cryptography.
 
 mod given;
 mod hostile;

@@ -1,5 +1,5 @@
-//! A ticket's whole path: a KDC (`kdc_core`) answers what a client writes (`client_core`), and a service accepts the ticket
-//! (`ap_accept`).
+//! A ticket's whole path: a KDC (`kdc_core`) answers what a client writes (`client_core`), and a service accepts the
+//! ticket (`ap_accept`).
 
 mod ends;
 mod given;

@@ -1,5 +1,5 @@
-//! AES and its ciphertext stealing (`aes_cts`), by the standards' own vectors: FIPS 197, appendices B and C (C in the
-//! edition of 2001), and RFC 3962, appendix B. Another implementation is the Python package cryptography.
+//! AES and its ciphertext stealing (`aes_cts`), with the standards' own vectors: FIPS 197, appendices B and C (C in the
+//! edition of 2001), and RFC 3962, appendix B. Other vectors come from the Python package cryptography.
 
 ghost use Rattle.std.specs.Prelude.{◌≤◌, length};
 

@@ -1,4 +1,4 @@
-//! Checksums (`enctypes`). The keys that they are made under are in `derivations.rt`.
+//! Checksums (`enctypes`). Their keys are in `derivations.rt`.
 
 use crate::cryptography::given::{TEXT, USAGE, base_key, in_hex};
 use enctypes::{Etype, checksum, verify};

@@ -1,4 +1,4 @@
-//! What several modules take: keys and texts of RFC 8009, and octets in hexadecimal.
+//! Keys and texts of RFC 8009, and bytes in hexadecimal, which several modules use.
 
 ghost use Rattle.std.specs.Prelude.{◌≡◌};
 

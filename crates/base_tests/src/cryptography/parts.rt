@@ -1,4 +1,4 @@
-//! Sealed values of messages (`sealed_parts`).
+//! Encrypted values of messages (`sealed_parts`).
 use enctypes::{Etype, Key, KeyUsage, seal};
 use krb_der::KTime;
 use krb_elements::Microseconds;

@@ -1,4 +1,4 @@
-//! Keys of passwords (`enctypes`).
+//! Keys from passwords (`enctypes`).
 
 use crate::cryptography::given::in_hex;
 use enctypes::{Etype, string_to_key};

@@ -1,4 +1,4 @@
-//! Sealing and opening (`enctypes`).
+//! Encryption and decryption (`enctypes`).
 
 use crate::cryptography::given::{TEXT, USAGE, base_key, in_hex};
 use enctypes::{Etype, Key, KeyUsage, ReadyKey, open, seal, string_to_key};

@@ -1,4 +1,4 @@
-//! Encryption types, keys and what they print (`enctypes`).
+//! Encryption types, keys and their printed forms (`enctypes`).
 
 use crate::cryptography::given::{base_key, in_hex};
 use enctypes::{Etype, Key, KeyUsage};

@@ -1,4 +1,4 @@
-//! Single values of DER (`krb_der`).
+//! Single DER values (`krb_der`).
 ghost use Rattle.std.specs.Prelude.{◌<◌};
 
 use crate::expect::same;

@@ -1,4 +1,4 @@
-//! What stands inside the OCTET STRINGs of messages (`krb_parts`).
+//! The contents of the OCTET STRINGs of messages (`krb_parts`).
 ghost use Rattle.std.specs.Prelude.{◌<◌, ◌*◌, length, IfOk};
 ghost use Rattle.krb_parts.specs.Authenticator.{authenticator};
 ghost use Rattle.krb_parts.specs.EncApRepPart.{enc_ap_rep_part};

@@ -1,4 +1,4 @@
-//! Databases and where names stand in them (`principals`).
+//! Databases and the order of names in them (`principals`).
 use crate::expect::{holds, same};
 use crate::realm::given::{LONGEST, Step, TOO_LONG, change, database, first, has, is, name};
 use krb_elements::read;

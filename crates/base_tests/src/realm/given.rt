@@ -1,4 +1,4 @@
-//! Names, keys and databases that several modules take. They have no contracts, so that tests over them are short to
+//! Names, keys and databases that several modules use. They have no contracts, so that tests with them are quick to
 //! prove.
 use enctypes::{Etype, Key};
 use krb_fields::Name;

@@ -1,4 +1,4 @@
-//! What is remembered of a client (`replay`): worked cases of replays, restarts and limits, at the second 1704067200.
+//! The replay cache of a client (`replay`): worked cases of replays, restarts and limits, at the second 1704067200.
 use crate::expect::{holds, same};
 use krb_elements::Octets;
 use krb_fields::Moment;

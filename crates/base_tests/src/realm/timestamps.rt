@@ -1,4 +1,4 @@
-//! Preauthentication by timestamps, and the lock (`preauth`).
+//! Preauthentication with timestamps, and the lockout (`preauth`).
 use crate::expect::same;
 use enctypes::{Etype, Key};
 use krb_elements::{SeqRef, read};

@@ -1,4 +1,4 @@
-//! What an acceptor of `h` in `A.B` answers.
+//! The answers of an acceptor for `h` in `A.B`.
 use crate::acceptor::given::{accept, octets, opened, up};
 use crate::acceptor::requests::{ACCEPTED, MUTUAL, OTHER_CLIENT, REFUSED, REPLY, SECOND};
 use ap_accept::{Accepted, Acceptor, ApFault, ApRefusal};

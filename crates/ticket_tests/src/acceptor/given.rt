@@ -1,4 +1,4 @@
-//! What the tests have in common.
+//! What the tests share.
 use ap_accept::{Accepted, Acceptor, ApFault, Opening};
 use cred_files::Keytab;
 use krb_fields::Moment;

@@ -1,9 +1,9 @@
-//! AP-REQs by MIT's library, made by `tools/mk_req.c` with tickets of MIT's `krb5kdc`, both of version 1.20.1 on
+//! AP-REQs from MIT's library, made by `tools/mk_req.c` with tickets from MIT's `krb5kdc`, both of version 1.20.1 on
 //! Debian.
 //!
-//! What is said of each is what that library reads of it, as the tool prints it. The AP-REPs are of an independent
-//! model in Python, and the library has taken each. All octets are hexadecimal digits in texts, since long lists of
-//! octets take minutes to check.
+//! The expected contents of each are what that library reads from it, as the tool prints it. The AP-REPs come from an
+//! independent model in Python, and the library has accepted each. All bytes are texts of hexadecimal digits, because
+//! long lists of bytes take minutes to check.
 use enctypes::Etype;
 
 /// An AP-REQ, and what MIT's library reads of it.

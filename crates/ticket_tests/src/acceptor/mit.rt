@@ -1,4 +1,4 @@
-//! AP-REQs by MIT's library are accepted as that library reads them.
+//! AP-REQs from MIT's library are accepted, with the contents that the library reads.
 use crate::acceptor::given::{accept, octets, opened};
 use crate::acceptor::made_by_mit::{KEYTAB, MADE, MADE_AT, Made};
 use ap_accept::{Accepted, Acceptor, ApFault, ApRefusal};

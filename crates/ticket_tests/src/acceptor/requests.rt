@@ -1,8 +1,9 @@
-//! AP-REQs and an AP-REP in hexadecimal digits, of an independent model of the messages and of the cryptography in
+//! AP-REQs and an AP-REP in hexadecimal digits, from an independent model of the messages and of the cryptography in
 //! Python.
 //!
-//! The key of `h` in `A.B` is the octets 160 to 191, of encryption type 18 and version 1; the session key is 64 to 95,
-//! of the same type. The moment is the start of 2024. They are texts, since long lists of octets take minutes to check.
+//! The key of `h` in `A.B` is the bytes 160 to 191, with encryption type 18 and version 1; the session key is 64 to 95,
+//! with the same type. The moment is the start of 2024. They are texts, because long lists of bytes take minutes to
+//! check.
 
 /// Of `u`, at 5 microseconds of the moment, with a subkey, a sequence number and a checksum, and with MUTUAL-REQUIRED.
 pub const MUTUAL: &str = "\

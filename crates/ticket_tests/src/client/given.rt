@@ -1,4 +1,4 @@
-//! What the tests have in common.
+//! What the tests share.
 use client_core::{Asked, ClientFault, Mismatch, read_as_reply, read_tgs_reply};
 use cred_files::Credential;
 use enctypes::{Etype, Key};

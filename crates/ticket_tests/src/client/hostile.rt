@@ -1,4 +1,4 @@
-//! What a client makes of the replies of a KDC that is not its own, or that is no good.
+//! How a client handles the replies of a KDC that is not its own, or is faulty.
 use crate::client::given::Outcome::{CannotOpen, Differs, NotAReply, Refused, Taken};
 use crate::client::given::{
     AS_REP, Kind, Outcome, TGS_REP, asked, come_of, key_from, midnight, moment, octets,

@@ -1,4 +1,4 @@
-//! Keys of passwords.
+//! Keys from passwords.
 use crate::client::given::{Outcome, are_due, octets, outcome_by};
 use client_core::password_key;
 use enctypes::Key;

@@ -1,4 +1,4 @@
-//! What a client reads from a KDC's reply.
+//! Reading a KDC's reply.
 use crate::client::given::{
     Kind, Outcome, are_due, asked, key_from, midnight, octets, see, see_tgs,
 };

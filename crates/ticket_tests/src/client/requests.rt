@@ -1,4 +1,4 @@
-//! What a client writes to a KDC.
+//! Writing requests to a KDC.
 use crate::client::given::{
     Kind, TGS_REQ, are_due, asked, confounder, credential, has_octets, key_from, midnight, octets,
 };

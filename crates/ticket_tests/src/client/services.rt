@@ -1,4 +1,4 @@
-//! What a client writes to a service and reads from it.
+//! Writing to a service and reading from it.
 ghost use Rattle.std.specs.Prelude.{IfOk};
 ghost use Rattle.client_core.specs.Presenting.{IsShortChecksum};
 

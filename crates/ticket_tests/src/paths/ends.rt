@@ -1,4 +1,4 @@
-//! Ways that end in a fault: who stops the ticket, and why (RFC 4120, sections 3.1.3, 3.1.5 and 3.2.3).
+//! Paths that end in a fault: who rejects the ticket, and why (RFC 4120, sections 3.1.3, 3.1.5 and 3.2.3).
 use crate::paths::given::{MAY_POSTDATE, POSTDATED, Service, key_from, moment, up};
 use crate::paths::legs::{Leg, Sent};
 use crate::paths::realm::{HOST_FIRST, Held, Realm, Types, arrive, open_with};

@@ -1,4 +1,4 @@
-//! What the tests have in common.
+//! What the tests share.
 use enctypes::{Etype, Key};
 use krb_fields::{Moment, Name};
 use std::alloc::Global;

@@ -1,4 +1,4 @@
-//! A client's requests to a KDC on a ticket's way.
+//! A client's requests to a KDC along a ticket's path.
 use crate::paths::given::{REALM, Service, moment, up, user};
 use crate::paths::realm::Types;
 use client_core::{Asked, KeyRole, is_presentable, session_key, tgs_request, with_timestamp};

@@ -1,4 +1,4 @@
-//! Tickets' whole ways, each from the first request to the service.
+//! The whole paths of tickets, each from the first request to the service.
 ghost use Rattle.std.specs.Prelude.{IfOk};
 ghost use Rattle.client_core.specs.Presenting.{IsShortChecksum};
 

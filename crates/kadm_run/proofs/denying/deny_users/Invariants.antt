@@ -2,7 +2,7 @@ use Rattle.std.proofs.Common.{◌≡◌, map, drop}
 use Rattle.kadm_run.specs.Denying.{all_denied}
 use Rattle.kadm_run.proofs.denying.deny_users.Given as goal
 
--- what is left to deny makes of the database what all names made of the first one
+-- denying the remaining names in the current database gives the result of denying all names in the first one
 abbrev pub invariant-loop-user : goal.invariant-loop-user
 invariant-loop-user l =
     all_denied (map (λ name. name.components) (drop l.user-index l.user-items)) l.database

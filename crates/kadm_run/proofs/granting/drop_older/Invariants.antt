@@ -2,7 +2,7 @@ use Rattle.std.proofs.Common.{◌≡◌, drop}
 use Rattle.kadm_run.proofs.Older.{dropped}
 use Rattle.kadm_run.proofs.granting.drop_older.Given as goal
 
--- what is left to drop makes of the database what all numbers made of the first one
+-- dropping the remaining numbers from the current database gives the result of dropping all numbers from the first one
 abbrev pub invariant-loop-number : goal.invariant-loop-number
 invariant-loop-number l =
     dropped l.who.components (drop l.number-index l.number-items) l.database ≡ dropped l.who.components l.number-items l.initial.database

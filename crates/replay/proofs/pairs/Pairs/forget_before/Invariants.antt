@@ -2,7 +2,7 @@ use Rattle.std.proofs.Common.{◌≡◌, drop}
 use Rattle.replay.specs.Tidied.{raised}
 use Rattle.replay.proofs.pairs.Pairs.forget_before.Given as goal
 
--- so many are taken off the front, and the floor is raised above them
+-- this many are removed from the front, and the floor is raised above them
 abbrev pub invariant-loop : goal.invariant-loop
 invariant-loop g l =
     (l.self-inside.kept.entries ≡ drop l.counter l.initial.self-inside.kept.entries)
