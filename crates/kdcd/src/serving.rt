@@ -139,10 +139,7 @@ fn report(rt: &HostRuntime, fault: &StartFault<'_>) -> io::Result<u8> {
 }
 
 /// What is said of the journal, if there is one.
-fn news_of<'a>(
-    options: &ServeOptions<'a>,
-    found: Option<JournalFound>,
-) -> Option<JournalNews<'a>> {
+fn news_of<'a>(options: &ServeOptions<'a>, found: Option<JournalFound>) -> Option<JournalNews<'a>> {
     match (options.journal, found) {
         (Some(path), Some(found)) => Some(JournalNews { path, found }),
         (None, _) | (_, None) => None,
