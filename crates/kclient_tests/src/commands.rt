@@ -506,7 +506,7 @@ const FAULTS: &[Run] = &[
     KINIT,
     FAULT,
     Run {
-        line: "kclient kdestroy --cache cc",
+        line: "kclient kpasswd --cache cc",
         ..FAULT
     },
     Run {
@@ -570,8 +570,8 @@ const FAULTS: &[Run] = &[
         ..FAULT
     },
     Run {
-        line: "kclient kvno --kdc 192.0.2.1:88 --name h",
-        out: "--cache",
+        line: "kclient kvno --kdc 192.0.2.1:88",
+        out: "--name",
         ..FAULT
     },
     Run {

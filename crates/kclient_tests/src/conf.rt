@@ -1,12 +1,12 @@
 //! Reading a `krb5.conf`.
-use krb5_conf::{default_realm, kdcs};
+use krb5_conf::{default_realm, kdc_address, kdcs};
 use std::alloc::Global;
 use std::process::Abort;
 use std::test::Fail;
 
 /// As a site may have it: a comment of each kind, another section and relation before, blanks and tabs, lines that
-/// end with a carriage return, groups in groups, a realm that is there twice, another way, and a last line without a
-/// line feed.
+/// end with a carriage return, groups in groups, a realm that is there twice, another way, a brace on a line of its own,
+/// values between quotation marks, and a last line without a line feed.
 const TEXT: &[u8] = b"# a site\n\
 ; of two realms\n\
 [logging]\n\
@@ -36,8 +36,10 @@ A.B = {\n\
   kdc = https://kdc.example.com/KdcProxy\n\
   kdc = [2001:db8::1]:89\n\
 }\n\
-E = {\n\
-  kdc = 192.0.2.5\n\
+E =\n\
+  # of two\n\
+{\n\
+  kdc = \"192.0.2.5\"\n\
   kdc = kdc.example.com:88\n\
 }\n\
 [domain_realm]\n\
@@ -48,31 +50,30 @@ A.B = {\n\
 A.B = {\n\
   kdc = 192.0.2.2:0";
 
-/// A realm, and the addresses of its KDCs, or the fault.
+/// A realm, and its KDCs: their addresses, or `?` and a host's name.
 const KDCS: &[(&str, &str)] = &[
     ("A.B", "192.0.2.1:88 [2001:db8::1]:89 192.0.2.2:0 "),
     ("C", "192.0.2.7:750 [2001:db8::7]:88 "),
-    ("E", "NotAnAddress kdc.example.com:88"),
+    ("E", "192.0.2.5:88 ?kdc.example.com:88 "),
     ("F", ""),
     ("", ""),
 ];
 
-/// The addresses with a space behind each, or the fault.
+/// The KDCs with a space behind each.
 fn shown(alloc: Global, realm: &str) -> Result<String, Fail> {
-    match kdcs(alloc, TEXT, realm.as_bytes()) {
-        Ok(addresses) => {
-            let mut text = String::new(alloc);
-            for address in &addresses {
-                write!(text, "{address} ")?;
-            }
-            Ok(text)
-        }
-        Err(krb5_conf::KdcFault::NotAnAddress(value)) => Ok(format!(in alloc;
-            "NotAnAddress {}",
-            text_of(value)
-        )?),
-        Err(krb5_conf::KdcFault::Memory) => Ok(String::from_str(alloc, "Memory")?),
+    let mut shown = String::new(alloc);
+    for text in &kdcs(alloc, TEXT, realm.as_bytes())? {
+        show(alloc, &mut shown, text)?;
     }
+    Ok(shown)
+}
+
+fn show(alloc: Global, shown: &mut String, text: &[u8]) -> Result<(), Fail> {
+    match kdc_address(alloc, text)? {
+        Some(address) => write!(shown, "{address} ")?,
+        None => write!(shown, "?{} ", text_of(text))?,
+    }
+    Ok(())
 }
 
 fn text_of(octets: &[u8]) -> &str {

@@ -1,7 +1,7 @@
 //! An exchange of messages that is connected to a KDC in memory.
 ghost use Rattle.std.specs.Prelude.{⊤};
 
-use client_login::{AnyMessage, Exchange, Transport};
+use client_login::{AnyMessage, Exchange, HostNames, Transport};
 use kdc_core::Kdc;
 use krb_fields::Moment;
 use std::alloc::{AllocError, Global};
@@ -18,6 +18,8 @@ pub enum Link {
     NoDatagrams,
     /// No message gets a reply.
     Silent,
+    /// The memory for a datagram's reply runs out.
+    NoMemory,
     /// Messages to the first KDC get no reply.
     FirstSilent,
     /// Each datagram gets KRB_ERR_RESPONSE_TOO_BIG, as though the reply had no room.
@@ -36,6 +38,8 @@ pub enum Link {
     FirstError(u8),
     /// The first KDC sends a KRB-ERROR with this code, and the second one is silent.
     SecondSilent(u8),
+    /// The KDC answers, and its clock is this number of seconds ahead.
+    Ahead(u32),
     /// Each message gets these octets, in hexadecimal digits.
     Forged(&'static str),
     /// The first message gets them, and the KDC answers the others.
@@ -85,8 +89,8 @@ impl JoinedExchange {
     }
 
     /// Begins the messages of a command.
-    pub fn begin(&mut self, alloc: Global, at: Moment, link: Link) {
-        self.at = at;
+    pub fn begin_command(&mut self, alloc: Global, at: Moment, link: Link) {
+        self.at = moment_of(at, link);
         self.link = link;
         self.ways = String::new(alloc);
         self.sent = Vec::new(alloc);
@@ -119,6 +123,7 @@ impl JoinedExchange {
         let is_later = before > 0;
         match self.link {
             Link::Silent => Err(silence()),
+            Link::NoMemory if by == Transport::Udp => Err(Error::from(ErrorKind::OutOfMemory)),
             Link::FirstSilent if !is_second => Err(silence()),
             Link::NoDatagrams if by == Transport::Udp => Err(silence()),
             Link::TooBig if by == Transport::Udp => octets(alloc, TOO_BIG),
@@ -141,6 +146,10 @@ impl JoinedExchange {
 impl Exchange for JoinedExchange {
     ghost carries = { λ message. ⊤ };
 
+    ghost answers = { λ to message reply. ⊤ };
+
+    fn begin(&mut self) {}
+
     fn exchange(
         &mut self,
         alloc: Global,
@@ -152,8 +161,28 @@ impl Exchange for JoinedExchange {
     }
 }
 
+impl HostNames for JoinedExchange {
+    /// Of one host an address is known.
+    fn look_up(&mut self, alloc: Global, host: &str, port: u16) -> io::Result<Vec<SocketAddr>> {
+        if host != "kdc.example.com" {
+            return Err(Error::from(ErrorKind::NotFound));
+        }
+        let mut addresses = Vec::new(alloc);
+        addresses.push(SocketAddr::from(([192, 0, 2, 1], port)))?;
+        Ok(addresses)
+    }
+}
+
 impl AnyMessage for JoinedExchange {
     ghost takes_any = { λ message. tt };
+}
+
+/// The moment that the KDC's clock shows.
+fn moment_of(at: Moment, link: Link) -> Moment {
+    match link {
+        Link::Ahead(seconds) => Moment::new(at.sec + i64::from(seconds), at.usec).unwrap_or(at),
+        _ => at,
+    }
 }
 
 fn silence() -> Error {

@@ -9,9 +9,13 @@ mod commands;
 #[cfg(test)]
 mod conf;
 #[cfg(test)]
+mod daily;
+#[cfg(test)]
 mod joined;
 #[cfg(test)]
 mod klist;
+#[cfg(test)]
+mod library;
 #[cfg(test)]
 mod logins;
 #[cfg(test)]

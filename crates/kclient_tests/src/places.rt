@@ -134,16 +134,19 @@ const ODD: Run = Run {
     },
     status: REFUSED,
     out: "refused NotAnAddress\n",
-    errors: "\
-        kclient: odd: kdc = a\\20b\\1b[\\40: it is no address, and no name is looked up; --kdc takes its address\n",
+    errors: "kclient: odd: a\\20b\\1b[\\40: no address is known; --kdc takes one\n",
     ways: "",
     ..CONFIGURED
 };
 
 const FAULT: Run = Run {
     line: "kclient kvno --name h --seed seed",
+    defaults: Defaults {
+        cache: Variable::Text("FILE:"),
+        config: Variable::Text("conf"),
+    },
     status: USAGE,
-    out: "--cache has to stand there",
+    out: "KRB5CCNAME names no file",
     ways: "",
     ..KVNO
 };
@@ -182,7 +185,7 @@ const BY_DEFAULTS: &[Run] = &[
         line: "kclient kinit --realm C --name u --password-file pass --seed seed",
         status: REFUSED,
         out: "refused NoKdc\n",
-        errors: "kclient: conf: it has no kdc of the realm in [realms]; --kdc takes its address\n",
+        errors: "kclient: conf: C: the realm has no kdc there; --kdc takes its address\n",
         ways: "",
         ..CONFIGURED
     },
@@ -190,17 +193,37 @@ const BY_DEFAULTS: &[Run] = &[
         line: "kclient kinit --realm N --name u --password-file pass --seed seed",
         status: REFUSED,
         out: "refused NotAnAddress\n",
-        errors: "\
-            kclient: conf: kdc = kdc.example.com: it is no address, and no name is looked up; --kdc takes its \
-            address\n",
+        errors: "kclient: conf: x.example.com, y.example.com:750: no address is known; --kdc takes one\n",
         ways: "",
         ..CONFIGURED
     },
     ODD,
     Run {
         line: "kclient kinit --realm Y --name u --password-file pass --seed seed",
-        errors: "kclient: odd: kdc = : it is no address, and no name is looked up; --kdc takes its address\n",
+        out: "refused NoKdc\n",
+        errors: "kclient: odd: Y: the realm has no kdc there; --kdc takes its address\n",
         ..ODD
+    },
+    // a host whose name is looked up, beside one without an address; and files that are included
+    Run {
+        defaults: Defaults {
+            cache: Variable::Text("cc"),
+            config: Variable::Text("named"),
+        },
+        errors: "kclient: x.example.com: no address is known, so it is not asked\n",
+        ways: "UU",
+        ..CONFIGURED
+    },
+    Run {
+        defaults: Defaults {
+            cache: Variable::Text("cc"),
+            config: Variable::Text("gone"),
+        },
+        status: FAILED,
+        out: "failed\n",
+        errors: "kclient: conf.d/nowhere: entity not found\n",
+        ways: "",
+        ..CONFIGURED
     },
     Run {
         line: "kclient kinit --name u --password-file pass --seed seed",

@@ -1,7 +1,7 @@
 //! A command line over files in memory and a KDC in memory, and its result.
 use crate::joined::{JoinedExchange, Link};
 use crate::realm::open;
-use client_login::{KdcClient, Kdcs};
+use client_login::{KdcClient, Kdcs, Transports};
 use cred_files::{Cache, Credential};
 use file_store::{LONGEST_FILE, MemoryStore};
 use kclient_run::{Context, DONE, Defaults, USAGE, Variable, kclient_run};
@@ -123,7 +123,7 @@ const TYPE_17: &str = "\
         05020000002b00010003412e42000177000000010000000001001100106061626364656667\
         68696a6b6c6d6e6f00000001";
 
-/// A `krb5.conf` of `A.B`, and of a realm `N` whose KDC is named.
+/// A `krb5.conf` of `A.B`, and of a realm `N` whose KDCs are hosts without an address.
 const CONF: &[u8] = b"\
 # the realm of the tests
 [libdefaults]
@@ -136,21 +136,32 @@ const CONF: &[u8] = b"\
         kdc = 192.0.2.2:89
     }
     N = {
-        kdc = kdc.example.com
+        kdc = x.example.com
+        kdc = y.example.com:750
     }
 ";
 
-/// A `krb5.conf` whose default realm is empty, and two realms with a `kdc` that is no address.
+/// A `krb5.conf` whose default realm is empty, and two realms with an odd `kdc`.
 const ODD: &[u8] = b"\
 [libdefaults]
     default_realm =
 [realms]
     X = {
-        kdc = 192.0.2.1
         kdc = a b\x1b[@
     }
     Y = {
         kdc =
+    }
+";
+
+/// A `krb5.conf` whose default realm stands in one file of a folder that it includes, and whose KDC is a host.
+const NAMED: &[u8] = b"\
+includedir conf.d
+[realms]
+    A.B =
+    {
+        kdc = x.example.com
+        kdc = \"kdc.example.com:89\"
     }
 ";
 
@@ -170,7 +181,7 @@ const NO_TICKET: &str = "\
 
 /// Two seeds and a short one; a password, another and one that is too long; a file that is too long; caches without
 /// credentials, one that is cut, and two whose ticket can't be presented; a `krb5.conf`, also as the system's, one that
-/// names nothing, and an odd one; keytabs. The system's random octets are all 9.
+/// names nothing, an odd one, and two that include others; keytabs. The system's random octets are all 9.
 fn store(alloc: Global) -> Result<MemoryStore, Fail> {
     let mut store = MemoryStore::new(alloc);
     fill(alloc, &mut store)?;
@@ -198,6 +209,14 @@ fn fill(alloc: Global, store: &mut MemoryStore) -> Result<(), AllocError> {
     store.set(alloc, "conf", CONF)?;
     store.set(alloc, "/etc/krb5.conf", CONF)?;
     store.set(alloc, "odd", ODD)?;
+    store.set(alloc, "named", NAMED)?;
+    store.set(alloc, "conf.d", b".a.conf\nb.conf\nc.conf~")?;
+    store.set(
+        alloc,
+        "conf.d/b.conf",
+        b"[libdefaults]\ndefault_realm = A.B",
+    )?;
+    store.set(alloc, "gone", b"include conf.d/nowhere\n")?;
     store.set(alloc, "bare", b"[realms]\n")
 }
 
@@ -353,7 +372,11 @@ fn expect_sent(rt: &impl Abort, alloc: Global, run: &Run, sent: &[u8]) -> Result
 /// Begins a command at a moment.
 fn begin(context: &mut Memory, at: Moment, link: Link) {
     context.client.at = at;
-    context.client.kdcs.exchange.begin(context.alloc, at, link);
+    context
+        .client
+        .kdcs
+        .exchange
+        .begin_command(context.alloc, at, link);
 }
 
 fn expect_run(rt: &impl Abort, context: &mut Memory, run: &Run, at: Moment) -> Result<(), Fail> {
@@ -392,9 +415,10 @@ pub fn context(alloc: Global) -> Result<Memory, Fail> {
         alloc,
         store,
         client: KdcClient {
-            kdcs: Kdcs::new(exchange, Vec::new(alloc), false),
+            kdcs: Kdcs::new(exchange, Vec::new(alloc), Transports::UdpFirst),
             at,
         },
+        ahead: None,
     })
 }
 

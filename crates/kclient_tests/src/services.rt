@@ -61,7 +61,7 @@ const SERVICES: &[Run] = &[
     Run {
         line: "kclient kvno --kdc 192.0.2.1:88 --cache cc --seed seed --name h",
         out: "refused Ended\n",
-        errors: "kclient: cc: the ticket-granting ticket has ended: run kinit\n",
+        errors: "kclient: cc: the ticket-granting ticket ended at 2024-01-01T00:01:50Z: run kinit\n",
         ..STOPPED
     },
 ];
