@@ -31,7 +31,7 @@ PHRASES = (
     ("untimely|as skewed", "clock skew, refused with 37", 0, 1, 0),
     ("the memories|(?:is|are) remembered", "replay cache, records", 0, 4, 11),
     ("lets? go|letting go", "drops, evicts, frees, closes", 0, 8, 3),
-    ("(?:is|are) at fault|a fault of", "fails with, returns an error", 0, 7, 2),
+    ("(?:is|are) at fault|a fault of", "fails with, returns an error", 0, 4, 2),
     ("whoever|who asks", "the caller, the peer, the client", 0, 2, 0),
     ("of which|of whom|that which", "two sentences", 0, 12, 15),
     ("what it is that|in vain|all the same", "a verb", 0, 1, 1),

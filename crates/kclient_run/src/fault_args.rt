@@ -52,7 +52,7 @@ pub(crate) fn word_of<'a>(option: &'static str, word: &'a str) -> &'a str
     if word.is_empty() { option } else { word }
 }
 
-/// Returns the subject of a fault of a first ticket.
+/// Returns the subject of a fault in getting a first ticket.
 pub(crate) fn first_subject<'a>(
     places: &'a Places,
     args: &'a FirstArgs<'_>,
@@ -83,7 +83,7 @@ fn secret_word<'a>(secret: SecretArgs<'a>) -> &'a str {
     }
 }
 
-/// Returns the subject of a fault of service tickets, with this name if it concerns one.
+/// Returns the subject of a fault in getting service tickets, with this name if it concerns one.
 pub(crate) fn kvno_subject<'a>(
     places: &'a Places,
     args: &'a KvnoArgs<'_>,
@@ -107,7 +107,7 @@ fn keytab_word(path: Option<&str>) -> &str {
     }
 }
 
-/// Returns the subject of a fault of any ticket. `seed` is the path of the seed's file.
+/// Returns the subject of a fault in getting any ticket. `seed` is the path of the seed's file.
 pub(crate) fn common_subject<'a>(
     places: &'a Places,
     seed: Option<&'a str>,
