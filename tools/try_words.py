@@ -35,9 +35,9 @@ PHRASES = (
     ("whoever|who asks", "the caller, the peer, the client", 0, 2, 0),
     ("of which|of whom|that which", "two sentences", 0, 12, 15),
     ("what it is that|in vain|all the same", "a verb", 0, 1, 1),
-    ("where there (?:is|are) none", "if it is absent", 0, 2, 1),
-    ("so many", "N, this many", 0, 39, 10),
-    ("tells?|told", "returns, logs, records", 4, 86, 42),
+    ("where there (?:is|are) none", "if it is absent", 0, 3, 1),
+    ("so many", "N, this many", 0, 40, 10),
+    ("tells?|told", "returns, logs, records", 4, 89, 42),
 )
 # A space of a phrase: in comments the next line begins with the comment's own sign.
 GAP = r"(?:[ \t]+|[ \t]*\n[ \t]*(?:///?|//!|--|\*|#)?[ \t]*)"
