@@ -1,4 +1,7 @@
 //! A wire with a journal (`kdcd_start`): what it hands over, and which actions wait for it.
+ghost use Rattle.std.specs.Prelude.{◌≡◌};
+ghost use Rattle.std.specs.Result.{is_ok};
+
 use kdc_core::Seen;
 use kdc_hub::{Action, CloseReason, Event, MemoryWire, Peer, Reply, Wire};
 use kdcd_start::{JournalWire, JournalWriter, NotKept};
@@ -26,11 +29,17 @@ struct ListedJournal {
     calls: Vec<Call>,
     /// How many calls fail.
     failures: usize,
+    /// Whether the last call did not fail.
+    whole: bool,
 }
 
 impl ListedJournal {
-    fn take(&mut self, call: Call) -> Result<(), NotKept> {
-        if self.calls.push(call).is_err() || self.failures > 0 {
+    fn take(&mut self, call: Call) -> Result<(), NotKept>
+        ensures { self.new.whole ≡ is_ok result }
+    {
+        let kept = self.calls.push(call).is_ok() && self.failures == 0;
+        self.whole = kept;
+        if !kept {
             self.failures = self.failures.saturating_sub(1);
             return Err(NotKept);
         }
@@ -40,11 +49,10 @@ impl ListedJournal {
 
 impl JournalWriter for ListedJournal {
     ghost use Rattle.std.specs.Prelude.{None};
-    ghost use Rattle.std.specs.Result.{is_ok};
 
     ghost handed = { λ _. None };
 
-    ghost is_whole = { λ _. true };
+    ghost is_whole = { λ j. j.whole };
 
     fn keep(&mut self, _alloc: Global, at: Moment, seen: &Seen) -> Result<(), NotKept> {
         self.take(Call::Keep(at.sec, seen.ctime))
@@ -121,6 +129,7 @@ fn done(
     let journal = ListedJournal {
         calls: Vec::new(alloc),
         failures,
+        whole: true,
     };
     let mut wire = JournalWire::new(MemoryWire::new(alloc, events, None), Some(journal));
     let _ = wire.poll(alloc);
