@@ -1,8 +1,8 @@
 //! Journals (`journal`): their octets, what is read of them where they were cut or changed, and what a start makes of them.
 use crate::expect::{holds, same};
 use journal::{
-    Doubt, Found, Journal, JournalFault, Place, Start, Written, read_journal, start_of,
-    write_beginning, write_seen,
+    Doubt, Found, JournalFault, Place, Start, Written, read_journal, start_of, write_beginning,
+    write_seen,
 };
 use krb_fields::{Moment, Name};
 use replay::Seen;
@@ -196,8 +196,8 @@ fn a_start_resumes_or_says_why_not(rt: HostRuntime) -> Result<(), Fail> {
 /// The last check of the journal.
 fn last_check(journal: &Found) -> Result<[u8; 16], Fail> {
     match journal {
-        Found::Whole(Journal { check, .. }) => {
-            let check = *check;
+        Found::Whole(journal) => {
+            let check = journal.check;
             Ok(check)
         }
         Found::Nothing | Found::Broken => Err("a journal")?,
