@@ -292,7 +292,7 @@ def answer(reply):
     if not reply:
         return "none"
     [(tag, contents)] = elements(reply)
-    return "ticket" if tag == 0x6B else str(int.from_bytes(elements(fields(contents)[6])[0][1], "big"))
+    return "ticket" if tag in (0x6B, 0x6D) else str(int.from_bytes(elements(fields(contents)[6])[0][1], "big"))
 
 
 class Server:

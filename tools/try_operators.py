@@ -81,10 +81,10 @@ COMMANDS = {
     "kadm migrate": "db! users-are-no-services-",
     "kdcd serve": "db! udp!* tcp* log- log-format first- journal quiet-start- fixed- seed rounds remembered lock-after lock-seconds "
     "greatest-life greatest-renewable",
-    "kclient kinit": "kdc* realm name! password-file keytab cache! service seed life start least-count renewable- "
+    "kclient kinit": "kdc* realm name! password-file keytab cache service seed life start least-count renewable- "
     "forwardable- proxiable- tcp- renew- validate-",
-    "kclient kvno": "kdc* cache! name!* keytab seed fresh- tcp-",
-    "kclient klist": "cache! keytab",
+    "kclient kvno": "kdc* cache name!* keytab seed fresh- tcp-",
+    "kclient klist": "cache keytab",
 }
 FLAGS = ("disabled", "preauth", "forwardable", "proxiable", "postdate", "ok_as_delegate", "service")
 TIMES = ("expires", "password_expires", "revoked_before")
