@@ -64,7 +64,7 @@ fn serve(rt: &HostRuntime, second: i64, times: &[i64]) -> Result<bool, Fail> {
     let beginning = JournalBeginning {
         realm: Octets::from_slice(rt.alloc(), b"A.B")?,
         at: moment(second)?,
-        floor: second + 301,
+        floor: second.saturating_add(301),
         start,
         opened,
     };

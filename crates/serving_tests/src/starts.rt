@@ -11,6 +11,7 @@ use krb_fields::Moment;
 use principal_rows::Limits;
 use std::alloc::{AllocError, Global};
 use std::io::Read;
+use std::net::SocketAddr;
 use std::test::Fail;
 
 /// How options begin, as `derive(Debug)` writes them.
@@ -229,24 +230,45 @@ kdcd: quiet start: they get no reply until then
 kdcd: limits: remembered 1, lock-after 2, lock-seconds 3, greatest-life 4, greatest-renewable 5
 ";
 
-#[test]
-fn a_server_says_what_it_serves(rt: HostRuntime) -> Result<(), Fail> {
+/// What a server says that serves on these addresses, by this database and this journal, after a restart.
+fn started_text<'a>(
+    alloc: Global,
+    udp: &'a [SocketAddr],
+    tcp: &'a [SocketAddr],
+    db: &'a str,
+    path: &'a str,
+) -> Result<String, Fail> {
     let limits = Limits::new(1, 2, 3, 4, 5).ok_or("limits")?;
     let at = Moment::new(1_704_067_200, 0).ok_or("a moment")?;
+    let news = JournalNews {
+        path,
+        found: JournalFound::Doubted(Doubt::OtherBoot),
+    };
     let started = Started {
-        udp: &["192.0.2.1:88".parse()?, "[2001:db8::1]:88".parse()?],
-        tcp: &["192.0.2.1:88".parse()?],
-        db: "/var/lib/kdcd/database",
+        udp,
+        tcp,
+        db,
         rows: 3,
-        journal: Some(JournalNews {
-            path: "/run/kdcd/journal",
-            found: JournalFound::Doubted(Doubt::OtherBoot),
-        }),
+        journal: Some(news),
         refused: refused_at_start(Opening::Restart(at)),
         is_quiet: true,
         limits,
     };
-    let text = format!(in rt.alloc(); "{started}")?;
+    let text = format!(in alloc; "{started}")?;
+    Ok(text)
+}
+
+#[test]
+fn a_server_says_what_it_serves(rt: HostRuntime) -> Result<(), Fail> {
+    let udp = ["192.0.2.1:88".parse()?, "[2001:db8::1]:88".parse()?];
+    let tcp = ["192.0.2.1:88".parse()?];
+    let text = started_text(
+        rt.alloc(),
+        &udp,
+        &tcp,
+        "/var/lib/kdcd/database",
+        "/run/kdcd/journal",
+    )?;
     assert_eq!(rt; text.as_str(), STARTED);
     Ok(())
 }
