@@ -4,12 +4,12 @@
  *     cc -o ap_client tools/ap_client.c -lkrb5            (Debian: libkrb5-dev)
  *     KRB5CCNAME=FILE:cache ./ap_client PORT imap/h18@A.B [WORD ..]
  *
- * It sends an AP-REQ for the service to 127.0.0.1, by krb5_mk_req_extended, and says how it is answered; where mutual authentication
- * is asked for, krb5_rd_rep judges the AP-REP. The cache holds the service's ticket, or a TGT by which the library asks a KDC for it.
+ * It sends an AP-REQ for the service to 127.0.0.1, by krb5_mk_req_extended, and prints the answer. If mutual authentication is asked
+ * for, krb5_rd_rep checks the AP-REP. The cache holds the service's ticket, or a TGT with which the library asks a KDC for it.
  *
  * The words: 'mutual' asks for mutual authentication, 'subkey', 'number' and 'checksum' for these; 'sendauth' speaks as
- * krb5_sendauth; 'repeat' sends the same octets on a second connection; 'none' sends octets that are no AP-REQ; 'cut' sends the AP-REQ
- * without its last octet; 'old' takes the cache's ticket whatever its end is; 'skew=SECONDS' sets the client's clock ahead.
+ * krb5_sendauth; 'repeat' sends the same bytes on a second connection; 'none' sends bytes that are not an AP-REQ; 'cut' sends the AP-REQ
+ * without its last byte; 'old' uses the cache's ticket even after its end; 'skew=SECONDS' sets the client's clock ahead.
  */
 #include <arpa/inet.h>
 #include <krb5.h>
@@ -65,7 +65,7 @@ static int connected(void)
 	return connection;
 }
 
-/* A ticket of the cache, which may have ended. The library makes no AP-REQ of one that has, so another end is put beside it. */
+/* A ticket from the cache, which may have ended. The library makes no AP-REQ from an ended ticket, so its credential gets another end. */
 static krb5_creds *old_credentials(krb5_ccache cache, krb5_creds *wanted)
 {
 	static krb5_creds found;
@@ -94,7 +94,7 @@ static krb5_flags options(void)
 	return (is_asked("mutual") ? AP_OPTS_MUTUAL_REQUIRED : 0) | (is_asked("subkey") ? AP_OPTS_USE_SUBKEY : 0);
 }
 
-/* Sends the octets, and reads what is answered: how many octets, or -1 where the connection is closed. */
+/* Sends the bytes and reads the answer. Returns its length, or -1 if the connection is closed. */
 static long exchanged(const krb5_data *request, unsigned char *reply)
 {
 	int connection = connected();
@@ -128,7 +128,7 @@ static void say(krb5_auth_context exchange, unsigned char *reply, long got)
 	}
 }
 
-/* By messages: the AP-REQ, and the AP-REP. */
+/* Uses messages: the AP-REQ, and the AP-REP. */
 static void send_plain(krb5_creds *ticket)
 {
 	static unsigned char reply[LONGEST_MESSAGE];
@@ -147,7 +147,7 @@ static void send_plain(krb5_creds *ticket)
 		say(exchange, reply, exchanged(&request, reply));
 }
 
-/* By krb5_sendauth. */
+/* Uses krb5_sendauth. */
 static void send_auth(krb5_creds *ticket)
 {
 	krb5_auth_context exchange = NULL;

@@ -1,6 +1,6 @@
 /*
- * Tries what docs/ap_accept.h says of arguments that are amiss, and of what stays accepted: prints each call that answers otherwise,
- * and how many did.
+ * Tries what docs/ap_accept.h says about bad arguments and about accepted AP-REQs. Prints each call that returns something else, and
+ * the number of these calls.
  *
  *     cc -g -fsanitize=address,undefined -I docs -o ap_judged tools/ap_judged.c crates/ap_accept_c/out/libap_accept_c.a KIT/c/liblibc_c.a
  *     ./ap_judged KEYTAB [AP-REQ]
@@ -85,11 +85,11 @@ static void fetches(struct ap_acceptor *acceptor, int32_t at_best)
 	for (int part = AP_CLIENT_REALM; part <= AP_AP_REP; part++)
 		expect("nothing accepted", ap_octets(acceptor, (enum ap_part)part, to, 4, &length), at_best);
 	expect("none", ap_octets(acceptor, AP_CLIENT_NAME, NULL, 0, &length), at_best);
-	expect("no octets told", (long)length, 0);
+	expect("no length returned", (long)length, 0);
 	expect("nothing written", memcmp(to, "\1\2\3\4", 4), 0);
 }
 
-/* How many octets of the buffer are as they were, from this one on. */
+/* Counts the bytes of the buffer that are unchanged, from this one on. */
 static size_t unwritten(const uint8_t *to, size_t from, size_t end)
 {
 	size_t count = 0;
@@ -99,7 +99,7 @@ static size_t unwritten(const uint8_t *to, size_t from, size_t end)
 	return count;
 }
 
-/* An AP-REQ without a subkey is accepted, and its octets are got until the next one is. */
+/* An AP-REQ without a subkey is accepted, and its bytes can be read until the next one is accepted. */
 static void keeps(const uint8_t *keytab, size_t keytab_length, const uint8_t *ap_req, size_t ap_req_length)
 {
 	static const uint8_t random[16];
@@ -117,7 +117,7 @@ static void keeps(const uint8_t *keytab, size_t keytab_length, const uint8_t *ap
 	expect("the key's length", needed == 16 || needed == 32, 1);
 	if (needed == 16 || needed == 32) {
 		expect("a buffer an octet too small", ap_octets(&acceptor, AP_SESSION_KEY, key, needed - 1, &length), AP_TOO_SMALL);
-		expect("the length is told again", (long)length, (long)needed);
+		expect("the length is returned again", (long)length, (long)needed);
 		expect("the buffer is as it was", (long)unwritten(key, 0, sizeof(key)), (long)sizeof(key));
 		expect("the right buffer", ap_octets(&acceptor, AP_SESSION_KEY, key, needed, &length), AP_DONE);
 		expect("no octet behind the key", (long)unwritten(key, needed, sizeof(key)), (long)(sizeof(key) - needed));
@@ -136,7 +136,7 @@ static void keeps(const uint8_t *keytab, size_t keytab_length, const uint8_t *ap
 	expect("close after it", ap_close(&acceptor), AP_DONE);
 }
 
-/* The octets that hexadecimal digits spell, and how many they are. */
+/* The bytes for hexadecimal digits, and their number. */
 static size_t octets_of(const char *digits, uint8_t *to)
 {
 	size_t count = 0, end = strlen(digits) / 2;

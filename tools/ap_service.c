@@ -3,15 +3,15 @@
  *
  *     ap_service KEYTAB PORT [first] [CONNECTIONS]
  *
- * It listens on 127.0.0.1, takes an AP-REQ on each connection, prints who sent it or why it is refused, and answers with the AP-REP
- * where the client asks for one. It ends after so many CONNECTIONS, or when a signal ends it. With the word first it never ran
- * before: else all clients are refused for 301 seconds (docs/SERVICES.md, 'Starts and restarts').
+ * It listens on 127.0.0.1, reads an AP-REQ on each connection, prints who sent it or why it is refused, and answers with the AP-REP
+ * if the client asks for one. It ends after CONNECTIONS connections, or when a signal ends it. The word first says that it never ran
+ * before; without it all clients are refused for 301 seconds (docs/SERVICES.md, 'Starts and restarts').
  *
- * A connection is messages, each behind its length in four octets, the most significant first, as MIT's library writes them
- * (krb5_write_message). The client sends an AP-REQ and gets an AP-REP, or an empty message where it asked for none; or it speaks
- * as krb5_sendauth does. Where it is refused, the connection is closed.
+ * A connection has messages, each after its length in four bytes, the most significant first, as MIT's library writes them
+ * (krb5_write_message). The client sends an AP-REQ and gets an AP-REP, or an empty message if it asked for none; or it speaks as
+ * krb5_sendauth does. If it is refused, the service closes the connection.
  *
- * docs/SERVICES-C.md says how it is built.
+ * docs/SERVICES-C.md says how to build it.
  */
 #include "ap_accept.h"
 
@@ -102,13 +102,13 @@ static bool write_message(int connection, const void *octets, size_t length)
 	return write_all(connection, &prefix, sizeof(prefix)) && write_all(connection, octets, length);
 }
 
-/* Whether the message is the one by which krb5_sendauth begins: its text with the NUL behind it. */
+/* Checks whether this is the first message of krb5_sendauth: its text followed by a NUL. */
 static bool is_sendauth(const struct message *message)
 {
 	return message->length == sizeof(SENDAUTH) && memcmp(message->octets, SENDAUTH, sizeof(SENDAUTH)) == 0;
 }
 
-/* After that text comes the application's own, which is taken whatever it is; an octet of 0 says so. Then the AP-REQ comes. */
+/* After that text comes the application's own text. The service accepts any, and answers with a byte 0. Then the AP-REQ comes. */
 static bool read_after_sendauth(int connection, struct message *message)
 {
 	static const uint8_t taken = 0;
@@ -118,7 +118,7 @@ static bool read_after_sendauth(int connection, struct message *message)
 
 /* ---- what is accepted */
 
-/* The octets of a part, with a NUL behind them; the caller frees them. NULL where there are none. */
+/* The bytes of a part, followed by a NUL; the caller frees them. NULL if there are none. */
 static char *part_of(struct ap_acceptor *acceptor, enum ap_part part, size_t *length)
 {
 	char *octets;
@@ -155,7 +155,7 @@ static bool answer(int connection, struct ap_acceptor *acceptor, bool sendauth)
 {
 	size_t length = 0;
 	char *reply = part_of(acceptor, AP_AP_REP, &length);
-	/* krb5_sendauth wants an empty message first, which says that there is no error, and no other where no reply was asked for */
+	/* krb5_sendauth expects an empty message first, which says that there is no error, and no other message if it asked for no reply */
 	bool done = !sendauth || write_message(connection, NULL, 0);
 
 	if (done && (reply != NULL || !sendauth))
@@ -197,7 +197,7 @@ static void serve(int connection, struct ap_acceptor *acceptor)
 		printf("the answer is not taken\n");
 }
 
-/* ---- opening */
+/* ---- starting */
 
 static int listen_on(const char *port)
 {

@@ -1,11 +1,12 @@
 #!/usr/bin/env python3
-"""Proves and builds `bench`, a program that measures calls. It stands outside crates/, so that the gate, which would prove and build it in
-four minutes of a processor, passes it over: its files are tools/bench/NAME.rt.txt, and tools/bench/uses is its line of crates.txt.
+"""Proves and builds `bench`, a program that measures calls. It is outside crates/, so that the gate does not spend four processor minutes on
+it: its files are tools/bench/NAME.rt.txt, and tools/bench/uses is its line of crates.txt.
 
     python3 tools/build_bench.py [--folder FOLDER] [--fmt] [--only-try] BENCH
 
-BENCH is where the program is put. It is built in a copy of the repository, --folder or one that is removed at the end, over what checks on this
-machine kept. --fmt lays its files out first, and writes them back; --only-try interprets it, and proves and builds nothing."""
+BENCH is the path of the program to make. It is built in a copy of the repository, in --folder or in a folder that is removed at the end, over the
+proofs that checks on this machine kept. --fmt lays its files out first, and writes them back; --only-try interprets it, and proves and builds
+nothing."""
 
 import argparse
 import pathlib
@@ -19,7 +20,7 @@ FILES = TOP / "tools" / "bench"
 
 
 def copied(folder):
-    """The folder of the crate, in a copy of the repository that names it."""
+    """Copies the repository, with the crate in its list, and returns the crate's folder."""
     shutil.copytree(TOP / "crates", folder / "crates", ignore=shutil.ignore_patterns("out"), dirs_exist_ok=True)
     shutil.copy(TOP / "HANDLES", folder)
     (folder / "crates.txt").write_text((TOP / "crates.txt").read_text() + (FILES / "uses").read_text())
@@ -45,7 +46,7 @@ def main():
             subprocess.run(["rt", "fmt"], cwd=crate, check=True)
             for file in (crate / "src").glob("*.rt"):
                 shutil.copy(file, FILES / f"{file.name}.txt")
-        # With no word it prints its usage, and ends with status 2.
+        # Without arguments it prints its usage and ends with status 2.
         ran = subprocess.run(["rt", "try" if words.only_try else "run"], cwd=crate)
         if words.only_try:
             sys.exit(ran.returncode != 2)

@@ -1,7 +1,7 @@
 #!/usr/bin/env python3
 """Builds the library for C, crates/ap_accept_c/out/libap_accept_c.a, over the libraries below it that `rt ci` has proved in this copy and
-left in their folders: a minute, where `rt lib` would prove each of them anew, since `rt ci` leaves no stamps. Where `rt check` has built
-them, as in a copy that is worked in, it is `rt lib`.
+left in their folders. That takes a minute; `rt lib` would prove each of them again, since `rt ci` leaves no stamps. In a working copy, where
+`rt check` has built them, it runs `rt lib`.
 
     python3 tools/c_library.py"""
 

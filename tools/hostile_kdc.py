@@ -1,19 +1,20 @@
 #!/usr/bin/env python3
 """Tries `kclient` against programs in a KDC's place that answer too much, too slowly, nothing, or from elsewhere; and behind a
-proxy that changes the good replies of `kdcd serve`: each octet of an AS-REP (`kinit`) and of a TGS-REP (`kvno`) XORed with 01,
+proxy that changes the good replies of `kdcd serve`: each byte of an AS-REP (`kinit`) and of a TGS-REP (`kvno`) XORed with 01,
 and each of their proper prefixes. It also tries caches and keytabs that are pipes, devices or files of other users. Each time
-it compares the status, what is printed, how long it took, and the cache with what it was before; if a changed reply is taken,
-with the cache that this script writes of it. No command has more memory than 16 MiB. It needs only Linux and Python 3.
+it checks the status, what is printed, how long it took, and that the cache is unchanged. If a changed reply is accepted, the
+cache has to be the one that this script writes. No command has more memory than 16 MiB. It needs only Linux and Python 3.
 
     for program in kadm kdcd kclient; do (cd crates/$program && rt run -- --help); done
     python3 tools/hostile_kdc.py [--programs FOLDER] [--only PART ..]
 
-The first line proves and builds the programs. The folder is that of the three, or that of the crates. The second takes about
+The first line proves and builds the programs. The folder has the three programs, or the crates. The second line takes about
 two minutes for the part `answers`, as long for `octets`, and seconds for `files`. It prints a line for each thing that it
-tried, with `ok` or what was wrong, and ends with status 1 if anything was."""
+tried, with `ok` or what was wrong, and ends with status 1 if anything was wrong."""
 
 import argparse
 import calendar
+import itertools
 import os
 import pathlib
 import socket
@@ -31,18 +32,18 @@ REALM = b"A.B"
 CACHE = b"what the cache was before\n"
 # A cache of u in A.B without credentials (version 4).
 EMPTY = bytes.fromhex("0504" "0000" "00000001" "00000001" "00000003") + b"A.B" + bytes.fromhex("00000001") + b"u"
-# By how many seconds a command may be slower than it has to be, beside other work on the machine.
+# The seconds by which a command may be late, beside other work on the machine.
 SLACK = 3 * trial.SLOWNESS
-# The address space of a command, in KiB: what needs more memory fails.
+# The address space of a command, in KiB. It fails if it needs more memory.
 ROOM = 16384
-# How many authenticators of a client the server remembers: more than are sent.
+# The size of a client's replay cache on the server: more authenticators than are sent.
 REMEMBERED = 65536
-# The first octets of the replies that have a ticket, an AS-REP and a TGS-REP.
+# The first bytes of the replies with a ticket, an AS-REP and a TGS-REP.
 WITH_TICKET = (b"\x6b", b"\x6d")
 
 
 def error(code, e_data=None, ahead=0):
-    """KRB-ERROR (RFC 4120, section 5.9.1), by a clock that is this number of seconds ahead."""
+    """KRB-ERROR (RFC 4120, section 5.9.1), from a clock that is ahead by this many seconds."""
     more = [] if e_data is None else [field(12, octet_string(e_data))]
     return tlv(0x7E, sequence(
         field(0, integer(5)), field(1, integer(30)), field(4, time_of(int(time.time()) + ahead)), field(5, integer(0)),
@@ -67,9 +68,9 @@ def framed(octets):
 
 
 class Kdc:
-    """Listens on a port of 127.0.0.1 for datagrams and connections, and counts the messages of each. What it does of a
-    datagram `by_udp` says, which gets this object, the message and its sender; of a connection `by_tcp`, which gets this
-    object and the connection, whose message has been read."""
+    """Listens on a port of 127.0.0.1 for datagrams and connections, and counts the messages of each. `by_udp` handles a
+    datagram: it gets this object, the message and its sender. `by_tcp` handles a connection: it gets this object and the
+    connection, whose message has been read."""
 
     def __init__(self, by_udp, by_tcp):
         self.by_udp, self.by_tcp, self.datagrams, self.connections, self.senders = by_udp, by_tcp, 0, 0, []
@@ -106,15 +107,15 @@ class Kdc:
                 return
 
 
-# What is done of a datagram, and of a connection.
+# Handlers of datagrams and of connections.
 
 
 def no_datagram(kdc, message, sender):
-    """None."""
+    """Does nothing."""
 
 
 def no_connection(kdc, connection):
-    """It is held, and nothing is sent."""
+    """Keeps the connection open, and sends nothing."""
     time.sleep(60)
 
 
@@ -130,7 +131,7 @@ def connection(octets):
 
 
 def drip(kdc, connection):
-    """A reply of 1,000 octets, of which one comes every half second."""
+    """Sends a reply of 1,000 bytes, one every half second."""
     connection.sendall((1000).to_bytes(4, "big"))
     for _ in range(100):
         time.sleep(0.5)
@@ -144,7 +145,7 @@ def from_elsewhere(kdc, message, sender):
 
 
 def late(kdc, message, sender):
-    """The first request gets its reply once the second one is there, which gets another."""
+    """Answers the first request when the second one comes, which gets another reply."""
     if kdc.senders.index(sender) == 0:
         return
     kdc.udp.sendto(error(6), kdc.senders[0])
@@ -153,7 +154,7 @@ def late(kdc, message, sender):
 
 
 class Proxy(Kdc):
-    """Hands datagrams on to a KDC, and its replies back. A reply with a ticket is changed on the way."""
+    """Forwards datagrams to a KDC, and its replies back. It changes a reply with a ticket on the way."""
 
     def __init__(self, behind):
         super().__init__(hand_on, no_connection)
@@ -161,7 +162,7 @@ class Proxy(Kdc):
         self.begin(None)
 
     def begin(self, change):
-        """Begins a command, in whose replies so much is changed."""
+        """Begins a command, with this change of its replies."""
         self.change, self.replies, self.changed = change, {}, None
 
 
@@ -175,7 +176,7 @@ def hand_on(proxy, message, sender):
     proxy.udp.sendto(reply, sender)
 
 
-# What is changed of a reply.
+# Changes of a reply.
 
 
 def as_it_is(reply):
@@ -190,15 +191,15 @@ def cut(end):
     return lambda reply: reply[:end]
 
 
-# What comes of a reply: what is printed, and words of standard error. A reply that is taken is said nothing of.
+# The outcome of a reply: what is printed, and words of standard error. Nothing is said about an accepted reply.
 TAKEN = None
-NOT_A_REPLY = "refused NotAReply", "what came back is no reply of a KDC"
+NOT_A_REPLY = "refused NotAReply", "the bytes that came back are not a reply of a KDC"
 CLIENT = "refused Mismatch", "the reply is for another client"
 SERVICE = "refused Mismatch", "the reply has a ticket for another service"
-UNOPENED = "refused CannotOpen", "does not open the reply"
-# What comes of it where one octet of a value is changed, by the fields in which the value stands (RFC 4120, section 5.4.2; of
-# the ticket 5.3). What decides nothing is padata, the types of names, the versions of keys, and of the ticket what its
-# service alone can read, with its encryption type. All else is tags, lengths and numbers that stand fast.
+UNOPENED = "refused CannotOpen", "does not decrypt the reply"
+# The outcome of a reply with one byte of a value changed, by the fields of the value (RFC 4120, section 5.4.2, and 5.3 for the
+# ticket). A client does not check padata, name-types and key versions, nor the ticket's encryption type and encrypted part,
+# which only its service can read. All else is tags, lengths and fixed numbers.
 PADATA_TYPE, PADATA_VALUE, CREALM, CNAME_TYPE, CNAME = (2, 1), (2, 2), (3,), (4, 0), (4, 1)
 TICKET_REALM, SNAME_TYPE, SNAME = (5, 1), (5, 2, 0), (5, 2, 1)
 TICKET_ETYPE, TICKET_KVNO, TICKET_CIPHER = (5, 3, 0), (5, 3, 1), (5, 3, 2)
@@ -213,7 +214,7 @@ DUE = {
 
 
 def places(octets, start=0, end=None, path=()):
-    """The places of all octets of values, each with the fields in which it stands."""
+    """The places of all bytes of values, each with its fields."""
     end = len(octets) if end is None else end
     while start < end:
         tag, length, start = octets[start], octets[start + 1], start + 2
@@ -239,7 +240,7 @@ def counted(octets):
 
 
 def principal(realm, octets):
-    """A principal, of the octets of a PrincipalName."""
+    """A principal, from the bytes of a PrincipalName."""
     parts = fields(octets)
     strings = [contents for _, contents in elements(elements(parts[1])[0][1])]
     kind = int.from_bytes(elements(parts[0])[0][1], "big")
@@ -247,7 +248,7 @@ def principal(realm, octets):
 
 
 def seconds(text):
-    """A KerberosTime; an absent one is zero."""
+    """A KerberosTime in seconds, or zero if it is absent."""
     return number(calendar.timegm(time.strptime(elements(text)[0][1].decode(), "%Y%m%d%H%M%SZ")) if text else 0)
 
 
@@ -260,7 +261,7 @@ def client_of(parts):
 
 
 def credential(reply, key, usage):
-    """What a client keeps of a reply, whose sealed part this key opens: the credential, and its session key."""
+    """What a client keeps from a reply, whose encrypted part this key decrypts: the credential, and its session key."""
     parts = fields(elements(reply)[0][1])
     part = fields(elements(opened(key, usage, elements(fields(parts[6])[2])[0][1]))[0][1])
     kind, session_key = [elements(value)[0][1] for value in fields(part[0]).values()]
@@ -272,24 +273,24 @@ def credential(reply, key, usage):
 
 
 def ticket_version(reply):
-    """The version of the key under which the ticket is sealed."""
+    """The key version under which the ticket is encrypted."""
     ticket = fields(fields(elements(reply)[0][1])[5])
     return int.from_bytes(elements(fields(ticket[3])[1])[0][1], "big")
 
 
 class Hostile(trial.Trial):
-    """`kclient` in a folder, and what is wrong with what comes of it."""
+    """Runs `kclient` in a folder, and checks the results."""
 
     def begin(self, words, cache):
-        """What comes of a command that begins with this cache, and how many seconds it took."""
+        """Runs a command that begins with this cache. Returns its result, and the seconds that it took."""
         (self.folder / "cc").write_bytes(cache)
         bounded = ["sh", "-c", f'ulimit -v {ROOM} && exec "$@"', "sh", self.programs["kclient"]]
         begun = time.monotonic()
         return self.run([*bounded, *words]), time.monotonic() - begun
 
     def faults(self, ran, took, status, out, said, cache, least=0, most=0):
-        """What is wrong with it. It has to end with this status after `least` to `most` seconds, print `out`, say these
-        texts on standard error, and leave this cache."""
+        """What is wrong with the result. The command has to end with this status after `least` to `most` seconds, print
+        `out`, write these texts to standard error, and leave this cache."""
         faults = []
         if ran.status != status:
             faults.append("it does not end" if ran.status is None else f"status {ran.status}, and not {status}")
@@ -304,8 +305,8 @@ class Hostile(trial.Trial):
         return faults
 
     def expect_kinit(self, what, kdcs, options, status, out, said, least, most, counts=None):
-        """A `kinit` that asks these addresses, and changes no file. The first KDC has to get so many datagrams and
-        connections."""
+        """Runs a `kinit` that asks these addresses, and has to change no file. The first KDC has to get `counts` datagrams
+        and connections."""
         before = sorted(self.folder.iterdir())
         addresses = [word for each in kdcs for word in ("--kdc", getattr(each, "address", each))]
         words = ["kinit", *addresses, "--realm", "A.B", "--name", "u", "--password-file", "pw", "--cache", "cc", *options]
@@ -318,17 +319,15 @@ class Hostile(trial.Trial):
         self.note(f"{what} ({took:.1f} s)", "; ".join(faults))
 
 
-# What comes of the parameters of string-to-key in the first error 25. A weak count ends the command before a timestamp is
-# sealed by it; one that is taken leads to a second request.
+# The outcome of the parameters of string-to-key in the first error 25. A weak count ends the command before it encrypts a
+# timestamp; a count that is accepted leads to a second request.
 WEAK = "refused WeakCount", "fewer iterations of string-to-key"
 OUT_OF_RANGE = "refused CountTooLarge", "more iterations of string-to-key"
 COUNTS = (
     *((etype, 1, WEAK) for etype in (17, 18, 19, 20)),
     *((etype, 4095, WEAK) for etype in (17, 18)),
     *((etype, 32767, WEAK) for etype in (19, 20)),
-    (18, 0, OUT_OF_RANGE),
-    (18, (1 << 20) + 1, OUT_OF_RANGE),
-    (18, (1 << 32) - 1, OUT_OF_RANGE),
+    *((etype, count, OUT_OF_RANGE) for etype in (17, 18, 19, 20) for count in (0, (1 << 20) + 1, (1 << 32) - 1)),
 )
 
 
@@ -339,7 +338,7 @@ def try_answers(hostile):
     hostile.write("pw", "a password\n")
     hostile.write("cc", CACHE)
     hello, tcp = b"hello", ("--tcp",)
-    not_a_reply = (1, "refused NotAReply", "what came back is no reply of a KDC")
+    not_a_reply = (1, *NOT_A_REPLY)
     silence = (3, "failed", "no reply in time")
     with socket.create_server(("127.0.0.1", 0)) as closed:
         nowhere = f"127.0.0.1:{closed.getsockname()[1]}"
@@ -365,9 +364,10 @@ def try_answers(hostile):
     for etype, count, (out, said) in COUNTS:
         kdc = Kdc(datagram(wanted(entry(etype, number(count)))), no_connection)
         hostile.expect_kinit(f"a count of {count} of type {etype}", [kdc], (), 1, out, said, 0, 0, (1, 0))
-    for params in (b"", b"\0\0\x10", b"\0\0\x10\0\0"):
-        kdc = Kdc(datagram(wanted(entry(18, params))), no_connection)
-        hostile.expect_kinit(f"s2kparams of {len(params)} octets", [kdc], (), 1, *OUT_OF_RANGE, 0, 0, (1, 0))
+    for etype, params in itertools.product((17, 18, 19, 20), (b"", b"\0\0\x10", b"\0\0\x10\0\0", bytes(1000))):
+        kdc = Kdc(datagram(wanted(entry(etype, params))), no_connection)
+        what = f"s2kparams of {len(params)} octets of type {etype}"
+        hostile.expect_kinit(what, [kdc], (), 1, *OUT_OF_RANGE, 0, 0, (1, 0))
     kdc = Kdc(datagram(wanted(entry(18, number(1)))), no_connection)
     least = ("--least-count", "1")
     hostile.expect_kinit("a count of 1 that is asked for", [kdc], least, 1, "refused 25", "error 25", 0, 0, (2, 0))
@@ -404,22 +404,22 @@ def try_answers(hostile):
     kdc = Kdc(no_datagram, no_connection)
     hostile.expect_kinit("silence", [kdc], (), *silence, 14.9, 15, (3, 1))
     kdcs = [Kdc(no_datagram, no_connection), Kdc(datagram(hello), no_connection)]
-    said = f"{kdcs[1].address}: what came back"
+    said = f"{kdcs[1].address}: the bytes that came back"
     hostile.expect_kinit("silence, and hello of the next KDC", kdcs, (), 1, "refused NotAReply", said, 14.9, 15, (3, 1))
     kdcs = [Kdc(no_datagram, no_connection) for _ in range(4)]
     hostile.expect_kinit("silence of four KDCs", kdcs, (), *silence, 29.9, 30, (3, 1))
 
 
 class Sweep:
-    """A command through a proxy, again and again, each time with another change of the reply that has a ticket."""
+    """Runs a command through a proxy again and again, each time with another change of the reply with a ticket."""
 
     def __init__(self, hostile, proxy, words, before, taken):
-        """The cache is `before` each command. Of a reply that is taken `taken` gives what has to be printed, and the
+        """`before` is the cache before each command. `taken` returns what has to be printed for an accepted reply, and the
         cache."""
         self.hostile, self.proxy, self.words, self.before, self.taken = hostile, proxy, words, before, taken
 
     def come_of(self, change, due):
-        """How long the command takes, and what is wrong with what comes of it."""
+        """The time that the command takes, and what is wrong with its result."""
         self.proxy.begin(change)
         ran, took = self.hostile.begin(self.words, self.before)
         if self.proxy.changed is None:
@@ -431,7 +431,7 @@ class Sweep:
         return took, self.hostile.faults(ran, took, 1, out, (f"kclient: {self.proxy.address}: ", said), self.before)
 
     def expect(self, what, changes):
-        """Each of these changes has to lead to what is due."""
+        """Checks that each of these changes has its expected outcome."""
         before, longest, faults = sorted(self.hostile.folder.iterdir()), 0, []
         for place, (change, due) in enumerate(changes):
             took, found = self.come_of(change, due)
@@ -440,11 +440,11 @@ class Sweep:
         if sorted(self.hostile.folder.iterdir()) != before:
             faults.append("leaves files")
         taken = sum(due is TAKEN for _, due in changes)
-        shown = f"{what}: {len(changes)}, of which {taken} are taken, each in at most {longest:.2f} s"
+        shown = f"{what}: {len(changes)}, {taken} of them accepted, each in at most {longest:.2f} s"
         self.hostile.note(shown, "; ".join(faults[:3]) + f" and {len(faults) - 3} more" * (len(faults) > 3))
 
     def go(self, what):
-        """The reply as it is, each octet of it XORed with 01, and each proper prefix."""
+        """Tries the reply unchanged, with each of its bytes XORed with 01, and each proper prefix."""
         self.expect(f"{what} as it is", [(as_it_is, TAKEN)])
         reply = self.proxy.changed or b""
         found = dict(places(reply))
@@ -476,7 +476,7 @@ def try_octets(hostile):
 
 
 def try_next(hostile, good):
-    """A KDC that refuses so that the next one is asked, which is a good one."""
+    """A KDC refuses, so that the client asks the next one, which is a good one."""
     for code in (29, 37):
         kdc = Kdc(datagram(error(code)), no_connection)
         words = ["kinit", "--kdc", kdc.address, "--kdc", good, "--realm", "A.B", "--name", "u", "--keytab", "u.keytab"]
@@ -489,7 +489,7 @@ def try_next(hostile, good):
 
 
 def try_files(hostile):
-    """Caches and keytabs that are no files, and caches that are not the user's own."""
+    """Caches and keytabs that are not regular files, and caches of other users."""
     hostile.folder = hostile.folder.parent / "files"
     hostile.folder.mkdir()
     hostile.write("cc", CACHE)
@@ -498,7 +498,7 @@ def try_files(hostile):
     kdc = Kdc(no_datagram, no_connection)
     to_kdc = ["--kdc", kdc.address]
     as_u = [*to_kdc, "--realm", "A.B", "--name", "u"]
-    no_file = 3, "failed", ("it is no file",)
+    no_file = 3, "failed", ("it is not a file",)
     for path in ("pipe", "/dev/zero"):
         for words in (
             ["klist", "--cache", path], ["klist", "--keytab", path], ["kdestroy", "--cache", path],

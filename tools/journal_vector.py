@@ -1,7 +1,7 @@
 #!/usr/bin/env python3
 """Prints the journal that the tests of `journal` expect (`crates/base_tests/src/realm/journals.rt`), one element a line.
 
-It is written from docs/FORMATS.md alone: DER by a few lines, and SHA-256 of hashlib."""
+It is written from docs/FORMATS.md alone: a few lines for DER, and SHA-256 from hashlib."""
 
 import hashlib
 

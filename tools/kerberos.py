@@ -1,6 +1,6 @@
-"""The little of Kerberos that measuring a key distribution centre needs, in Python alone: DER, encryption type 18
-(RFC 3961 and RFC 3962), and the requests of a client (RFC 4120). It knows nothing of this repository's own code, and is
-too slow and too trusting for any other use. Where Python has the module `cryptography`, AES is that one's."""
+"""The part of Kerberos that is needed to measure a KDC, in plain Python: DER, encryption type 18 (RFC 3961 and RFC 3962),
+and the requests of a client (RFC 4120). It uses nothing of this repository's own code, and is too slow and too trusting
+for any other use. If Python has the module `cryptography`, AES comes from there."""
 
 import functools
 import hashlib
@@ -57,7 +57,7 @@ def name(kind, *parts):
 
 
 def elements(octets):
-    """The elements that stand one after another, as tags and contents."""
+    """The elements in the bytes, as tags and contents."""
     found = []
     while octets:
         tag, length, start = octets[0], octets[1], 2
@@ -77,7 +77,7 @@ def fields(octets):
     return {tag - 0xA0: value for tag, value in elements(contents)}
 
 
-# AES (FIPS 197), with keys of 32 octets.
+# AES (FIPS 197), with keys of 32 bytes.
 
 
 def times_x(octet):
@@ -103,7 +103,7 @@ def column(octet, factors):
 
 BOX = [substitute(octet) for octet in range(256)]
 UNBOX = [BOX.index(octet) for octet in range(256)]
-# The columns of MixColumns and InvMixColumns, each for the octet in one row.
+# The columns of MixColumns and InvMixColumns, each for the byte in one row.
 MIX = [[column(BOX[octet], (2, 1, 1, 3)[-row:] + (2, 1, 1, 3)[:-row]) for octet in range(256)] for row in range(4)]
 UNMIX = [[column(octet, (14, 9, 13, 11)[-row:] + (14, 9, 13, 11)[:-row]) for octet in range(256)] for row in range(4)]
 
@@ -253,7 +253,7 @@ def encrypted_data(key, usage, text):
 # Requests.
 
 def body(realm, service, client=None, types=(18, 17, 20, 19), nonce=1):
-    """What is asked: till zero, no option."""
+    """The body of a request with till zero and no option."""
     parts = [field(0, tlv(0x03, bytes(5)))]
     if client:
         parts.append(field(1, name(1, client)))
@@ -291,7 +291,7 @@ def ticket_in(key, reply):
 
 
 def authenticator(realm, client, seconds, microseconds, check=None):
-    """Authenticator (section 5.5.1), with a checksum of type 16 of the octets and usage in `check`."""
+    """Authenticator (section 5.5.1), with a checksum of type 16 over the bytes, for the usage, in `check`."""
     parts = [field(0, integer(5)), field(1, general_string(realm)), field(2, name(1, client))]
     if check:
         parts.append(field(3, sequence(field(0, integer(16)), field(1, octet_string(checksum(*check))))))
@@ -299,7 +299,7 @@ def authenticator(realm, client, seconds, microseconds, check=None):
 
 
 def ap_req(ticket, session_key, usage, shown, options=bytes(4)):
-    """AP-REQ (section 5.5.1) with this authenticator, sealed by this usage."""
+    """AP-REQ (section 5.5.1) with this authenticator, encrypted for this usage."""
     return tlv(0x6E, sequence(
         field(0, integer(5)),
         field(1, integer(14)),
@@ -342,7 +342,7 @@ def credentials(octets):
     while place < len(octets):
         _, service, _ = principal(), principal(), take(2)
         key = counted()
-        # The times, whether it is a session key's, the flags, and two lists that are empty.
+        # The times, is_skey, the flags, and two empty lists.
         take(4 * 4 + 1 + 4 + 4 + 4)
         found.append((service, key, counted()))
         counted()

@@ -1,13 +1,13 @@
 #!/usr/bin/env python3
-"""Kills `kadm` at each of its system calls, and looks at what is left: the old database or the new one, whole, and a next
-command that works. Linux with `strace`, and Python 3, are needed.
+"""Kills `kadm` at each of its system calls, and checks what is left: the old database or the new one, whole, and a next
+command that works. It needs Linux with `strace`, and Python 3.
 
     (cd crates/kadm && rt run -- --help)
     python3 tools/kill_kadm.py [--kadm crates/kadm/out/kadm] [--every N]
 
-The first line proves and builds the program. The second prints a line for each command that it kills, with `ok` or what was
-wrong, and ends with status 1 if anything was. A command that is not killed where it has to be is wrong too. It takes some minutes;
-with --every it kills at each Nth call, and at each of those that make, write, keep or move a file."""
+The first line proves and builds the program. The second prints a line for each command that it kills, with `ok` or what was wrong, and ends
+with status 1 if anything was wrong. It is also wrong if a command survives its kill. It takes some minutes; with --every it kills at each Nth
+call, and at each call that makes, writes, syncs or moves a file."""
 
 import argparse
 import os
@@ -28,17 +28,17 @@ COMMANDS = {
     "keytab --db db --name h --out kt --append": "kt",
     "import --db db --name i --keytab i.kt": "db",
 }
-# The calls that change what is on the disk, at each of which it is killed: opens only where they make a file.
+# The calls that change what is on the disk: it is killed at each of them. An open counts only if it makes a file.
 CHANGES = re.compile(
     r"(open\w*\(.*O_CREAT|creat\(|p?writev?\w*\(|f(data)?sync\(|rename\w*\(|link\w*\(|unlink\w*\(|f?(l|t)?chown\w*\(|f?chmod\w*\(|"
     r"f?truncate\w*\(|flock\(|fcntl\w*\(.*F_(OFD_)?SETLK)"
 )
-# How a command ends that strace kills, which ends itself by the same signal.
+# The end of a command that strace kills; strace then ends itself by the same signal.
 KILLED = (-signal.SIGKILL, 128 + signal.SIGKILL)
 
 
 def killing(name, turn):
-    """The words that run a command, and kill it at the call of this name that is this one of that name: strace counts each name apart."""
+    """The words that run a command and kill it at this call with this name. strace counts the calls of each name by itself."""
     return ("strace", "-o", "/dev/null", "-e", f"inject={name}:signal=KILL:when={turn}")
 
 
@@ -47,7 +47,7 @@ def name_of(line):
 
 
 def lacking():
-    """What this machine lacks for it, if anything."""
+    """What this machine lacks, if anything."""
     if not shutil.which("strace"):
         return "strace"
     how = {"stdin": subprocess.DEVNULL, "stdout": subprocess.DEVNULL, "stderr": subprocess.PIPE, "text": True, "timeout": PATIENCE}
@@ -76,15 +76,15 @@ class Kadm:
             (self.folder / name).write_bytes(octets)
 
     def calls_of(self, words):
-        """The system calls of a command, behind the one that starts the program, which is strace's own."""
+        """The system calls of a command, after the one that starts the program, which is strace's own."""
         traced = self.run(words, "strace", "-o", "calls")
         traced.check_returncode()
         lines = (self.folder / "calls").read_text(errors="replace").splitlines()
         return [line for line in lines if re.match(r"\w+\(", line)][1:]
 
     def fault_of_kill(self, words, written, calls, number):
-        """What is wrong after a kill at this call: a command that is not killed, a database or a keytab that is neither the old one
-        nor the new one, or a next command that fails."""
+        """What is wrong after a kill at this call: the command survives, a database or a keytab is neither the old one nor the new one, or the
+        next command fails."""
         self.restore()
         name = name_of(calls[number - 1])
         turn = sum(name_of(line) == name for line in calls[:number])
@@ -104,7 +104,7 @@ class Kadm:
         return ""
 
     def faults_of(self, words, written, every):
-        """At how many calls it was killed, at how many of those that change something, and what was wrong."""
+        """The number of calls at which it was killed, how many of these change something, and what was wrong."""
         self.restore()
         calls = self.calls_of(words)
         self.after = (self.folder / written).read_bytes()
@@ -129,7 +129,7 @@ def main():
         kadm = Kadm(words.kadm, folder)
         for command, written in COMMANDS.items():
             killed, changes, faults = kadm.faults_of(command, written, words.every)
-            notes.note(f"{command}: killed at {killed} calls, {changes} of which change something", " | ".join(faults))
+            notes.note(f"{command}: killed at {killed} calls, where {changes} change something", " | ".join(faults))
     notes.end()
 
 

@@ -1,11 +1,11 @@
 #!/usr/bin/env python3
-"""Measures calls by `bench`: each word again and again, by turns with other builds of it, and by turns on the processors. Linux and
-Python 3 alone are needed.
+"""Measures calls by `bench`: each word again and again, in turns with other builds of it, and in turns on the processors. It needs only
+Linux and Python 3.
 
     python3 tools/measure_calls.py BENCH [BENCH ..] [--turns N] [--words WORD ..]
 
-BENCH is the path of a `bench` that was built. For each word it prints the least nanoseconds of processor time a call over all turns, for
-each build, and the fifth least beside it, which tells how far the least can be trusted."""
+BENCH is the path of a `bench` that was built. For each word and build it prints the nanoseconds of processor time for a call: the least over
+all turns, and the fifth least, which shows how far the least can be trusted."""
 
 import argparse
 import os
@@ -19,7 +19,7 @@ LONG = ["pbkdf2-sha1", "pbkdf2-sha384", "string-17", "string-18", "string-19", "
 
 
 def measured(bench, word, processor):
-    """Nanoseconds a call, as the program prints them."""
+    """The nanoseconds for a call, as the program prints them."""
     pin = lambda: os.sched_setaffinity(0, {processor})
     ran = subprocess.run([bench, word], capture_output=True, text=True, preexec_fn=pin, check=True)
     return int(re.match(r"(\d+) ns a call", ran.stdout)[1])

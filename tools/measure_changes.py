@@ -1,10 +1,10 @@
 #!/usr/bin/env python3
-"""Measures how long replies of `kdcd serve` wait while its database is replaced. Linux and Python 3 alone are needed.
+"""Measures how long replies of `kdcd serve` wait while its database is replaced. It needs only Linux and Python 3.
 
     python3 tools/measure_changes.py [--kdcd crates/kdcd/out/kdcd] [--rows N] [--rate N] [--seconds N] [--changes N]
 
-It asks so many requests a second, each for a service of its own, so that each reply is known by the service that it names, and
-puts another file in the place of the database every few seconds. It ends with status 1 where a change was not served."""
+It sends --rate requests a second, each for another service, so that each reply is known by the service that it names, and
+replaces the database every few seconds. It ends with status 1 if a change was not served."""
 
 import argparse
 import os
@@ -22,7 +22,7 @@ REALM = b"EXAMPLE.COM"
 
 
 def request(number):
-    """An AS-REQ of a client that is unknown."""
+    """An AS-REQ of an unknown client."""
     asked = body(REALM, (b"n%07d" % number,), b"nobody")
     return tlv(0x6A, sequence(field(1, integer(5)), field(2, integer(10)), field(4, asked)))
 
@@ -33,7 +33,7 @@ def login(client):
 
 
 def rows_with(rows, newcomer):
-    """Rows of four keys each, and one more that is new."""
+    """Rows with four keys each, and a new one."""
     keys = [{"etype": etype, "key": "%02x" % etype * size} for etype, size in ((18, 32), (17, 16), (20, 32), (19, 16))]
     known = {"krbtgt/EXAMPLE.COM": row("00" * 32)}
     for name in [f"user{number:06d}" for number in range(rows)] + [newcomer]:
@@ -52,7 +52,7 @@ def replace(path, text):
 
 
 class Changes(threading.Thread):
-    """Replaces the database now and then, and sees how soon a newcomer gets a ticket."""
+    """Replaces the database now and then, and measures how soon a new principal gets a ticket."""
 
     def __init__(self, server, path, texts, pause):
         super().__init__()
@@ -72,7 +72,7 @@ class Changes(threading.Thread):
 
 
 def measure(server, changes, rate, seconds):
-    """Sends at a steady rate, also while no reply comes. Gives how long each reply took, and how many got none."""
+    """Sends at a steady rate, also while no reply comes. Returns how long each reply took, and how many requests got none."""
     peer = socket.socket(socket.AF_INET, socket.SOCK_DGRAM)
     peer.setsockopt(socket.SOL_SOCKET, socket.SO_RCVBUF, 8_000_000)
     peer.connect(server.udp)

@@ -1,11 +1,11 @@
 #!/usr/bin/env python3
 """Measures what each crate costs the gate: runs `rt ci`, and prints for each crate the processor seconds of its check and build, of its
-tests with their check, of its edits, and of all else (links, runs). Linux and Python 3 alone are needed.
+tests with their check, of its edits, and of everything else (links, runs). It needs only Linux and Python 3.
 
     python3 tools/measure_gate.py
 
-The lines of `rt ci` come first; its last line and its status are this script's too. The seconds are those that the system counts for each
-process that `rt` waits for, so they grow with what runs beside them."""
+The lines of `rt ci` come first; its last line and its status are also this script's. The seconds are those that the system counts for each
+process that `rt` waits for, so they grow with other work on the machine."""
 
 import collections
 import os
@@ -16,7 +16,7 @@ import sys
 import tempfile
 
 TOP = pathlib.Path(__file__).resolve().parent.parent
-# What Python reads as it starts `rt`: behind each process that was waited for, a line with its seconds, its folder and its words.
+# Python reads this when `rt` starts: it prints, after each process that was waited for, a line with its seconds, its folder and its arguments.
 NOTES = '''
 import os, subprocess
 class Popen(subprocess.Popen):

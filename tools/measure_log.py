@@ -1,14 +1,13 @@
 #!/usr/bin/env python3
-"""Measures what a line of the log costs `kdcd serve`: two servers of one realm, one with `--log`, are asked by turns, in short
-stretches. Linux and Python 3 alone are needed.
+"""Measures what a line of the log costs `kdcd serve`: two servers of one realm, one with `--log`, get requests in turns, in short
+stretches. It needs only Linux and Python 3.
 
     python3 tools/measure_log.py [--programs FOLDER] [--sink file|pipe|socket] [--turns N] [--requests N]
 
-The folder is that of `kadm` and `kdcd`, or that of the crates. The log goes into a file, or through a pipe or a stream socket, as that of
-a service to systemd's journal. What comes through these `cat` reads on another processor and writes into the file: its time is not
-counted, but what it costs the server to wake it is. It prints the quartiles of the processor time of a request, system calls included,
-over the stretches of each server, for logins that get a ticket and for logins that are refused. It ends with status 1 where a line
-was lost, since such a line costs less."""
+The folder has `kadm` and `kdcd`, or the crates. The log goes to a file, or through a pipe or a stream socket, like that of a service to
+systemd's journal. `cat` reads these on another processor and writes to the file: its time is not counted, but what it costs the server to
+wake it is. It prints the quartiles of the processor time of a request, system calls included, over the stretches of each server, for logins
+that get a ticket and for logins that are refused. It ends with status 1 if a line was lost, since such a line costs less."""
 
 import argparse
 import os
@@ -28,7 +27,7 @@ PRINCIPALS = [Principal("bob", "a password", preauth=False)]
 
 
 class Log:
-    """The log of a server: a file, and where standard error of the server goes, so that its lines come into the file. A pipe or a
+    """The log of a server: a file, and the sink for the server's standard error through which its lines come into the file. A pipe or a
     socket is read on one of these processors."""
 
     def __init__(self, path, sink, processors):
@@ -41,7 +40,7 @@ class Log:
             os.close(file)
 
     def count(self):
-        """How many requests it has, once the server has ended."""
+        """The number of requests in it, after the server has ended."""
         os.close(self.errors)
         if self.reader:
             self.reader.wait()
@@ -49,12 +48,12 @@ class Log:
 
 
 def ends_of(sink):
-    """Where a pipe or a socket is read, and where it is written."""
+    """The ends at which a pipe or a socket is read and written."""
     return os.pipe() if sink == "pipe" else [end.detach() for end in socket.socketpair()]
 
 
 def stretch(peer, server, request, count):
-    """Microseconds of processor time for each of so many requests."""
+    """Sends `count` requests, and returns the microseconds of processor time for each."""
     before = server.processor_seconds()
     for _ in range(count):
         peer.ask(request)
@@ -70,7 +69,7 @@ def measure(what, servers, request, turns, count):
     peers = [Peer(server) for server in servers]
     found = ([], [])
     for turn in range(turns):
-        # The server that is asked first is the other one each time.
+        # Each time the other server is first.
         for place in (turn % 2, 1 - turn % 2):
             found[place].append(stretch(peers[place], servers[place], request, count))
     without, with_log = map(quartiles, found)

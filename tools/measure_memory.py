@@ -1,16 +1,16 @@
 #!/usr/bin/env python3
-"""Measures the memory of `kdcd serve` on the loopback. Linux and Python 3 alone are needed.
+"""Measures the memory of `kdcd serve` on the loopback. It needs only Linux and Python 3.
 
     python3 tools/measure_memory.py [--kdcd crates/kdcd/out/kdcd] [--only PART ..] [--clients N] [--tickets N] [--seconds N] ..
 
 The parts are
-    burst   --clients clients take --tickets tickets each. Then nobody asks, or with --ask one peer goes on. It prints the memory before and
-            after, and once the server has dropped their authenticators, and what that cost
-    pinned  what one client pins, by usual requests and by the longest ones
-    full    for how long a client whose replay cache is full is refused
+    burst   --clients clients get --tickets tickets each. Then no requests come, or with --ask one peer continues. It prints the memory before
+            and after, the memory after the server has dropped their authenticators, and what that cost
+    pinned  the memory that one client pins, with usual requests and with the longest ones
+    full    how long a client with a full replay cache is refused
 
-It makes realms of its own in a temporary folder, and prints what it found. It ends with status 1 if a request got another reply than it
-has to. `burst` takes some six minutes, and `full` ten."""
+It makes its realms in a temporary folder, and prints what it found. It ends with status 1 if a request got another reply than expected.
+`burst` takes some six minutes, and `full` ten."""
 
 import argparse
 import concurrent.futures
@@ -35,10 +35,10 @@ SKEW = 300
 # The seconds from one tidying to the next, and the longest request that is kept (docs/OPERATIONS.md, 'Limits').
 MINUTE, LONGEST_KEPT = 60, 4096
 SERVICES = [(b"host", b"n%d" % number) for number in range(10)]
-# A service of the longest name that a request of 4,096 bytes can ask for, if the realm has one.
+# The service with the longest name that a request of 4,096 bytes can ask for, if the realm has one.
 LONG_SERVICE = (b"a" * 255,) * 13
 TICKET, ERROR = 0x6D, 0x7E
-# How many requests are sent on a connection before their replies are read. The server keeps 150,000 bytes of replies at the most.
+# The requests that are sent on a connection before their replies are read. The server keeps at most 150,000 bytes of replies.
 BATCH = 16
 
 
@@ -60,7 +60,7 @@ def database(path, clients):
     return path
 
 
-# What worker processes do: nearly all of the work is theirs.
+# The functions of worker processes, which do nearly all of the work.
 
 
 def logged_in(numbers, udp):
@@ -84,7 +84,7 @@ def requests_of(known, ctime, count):
 
 @contextlib.contextmanager
 def workers(count, nice):
-    """Processes that stand back behind others. At the end what they have not begun is left."""
+    """Worker processes with a low priority. At the end they leave what they have not begun."""
     pool = concurrent.futures.ProcessPoolExecutor(count, initializer=os.nice, initargs=(nice,))
     try:
         yield pool
@@ -93,7 +93,7 @@ def workers(count, nice):
 
 
 def shared(pool, call, items, *more):
-    """The lists that a call makes of parts of a list, as one."""
+    """Calls a function on parts of a list, and joins the lists that it returns."""
     parts = [items[place:place + 100] for place in range(0, len(items), 100)]
     return list(itertools.chain.from_iterable(pool.map(call, parts, *map(itertools.repeat, more))))
 
@@ -119,7 +119,7 @@ class Watch(threading.Thread):
         self.join()
 
     def costs(self):
-        """When the processor time grew more than usual for a moment, and by how many seconds."""
+        """The moments at which the processor time grew more than usual, and by how many seconds."""
         steps = [(new[0], new[2] - old[2], new[0] - old[0]) for old, new in zip(self.samples, self.samples[1:])]
         usual, found = statistics.median(used / passed for _, used, passed in steps), []
         for at, used, passed in steps:
@@ -132,7 +132,7 @@ class Watch(threading.Thread):
 
 
 class Asking(threading.Thread):
-    """Asks one login after another that gets an error, and keeps how long each reply took."""
+    """Sends one login after another, each of which gets an error, and records how long each reply took."""
 
     def __init__(self, server):
         super().__init__(daemon=True)
@@ -154,7 +154,7 @@ class Asking(threading.Thread):
 
 
 def send(server, requests, wanted):
-    """How many of these requests got another reply."""
+    """Sends these requests, and counts those that got another reply."""
     peer, others = Peer(server), {}
     for request in requests:
         peer.ask(request)
@@ -180,7 +180,7 @@ def measure_burst(words, folder):
 
 
 def one_burst(words, server, pool, known, begun):
-    """The authenticators are in the past, so that they are too old `--seconds` from now. Until then all have to be sent."""
+    """Sends a burst. Its authenticators are in the past, so that they are too old `--seconds` from now. By then all have to be sent."""
     ctime = int(time.time()) + words.seconds - SKEW
     requests = [shared(pool, requests_of, known[place:place + 10_000], ctime, words.tickets) for place in range(0, len(known), 10_000)]
     requests = list(itertools.chain.from_iterable(requests))
@@ -206,21 +206,21 @@ def one_burst(words, server, pool, known, begun):
     return odd
 
 
-# What one client pins.
+# The memory that one client pins.
 
 
 def long_request(known, ctime, cusec):
-    """The longest TGS-REQ that is kept, for a service that is not there: the error names it."""
+    """The longest TGS-REQ that is kept, for an unknown service, which the error names."""
     beyond = len(usual_request(known, ctime, cusec, (b"a" * 3000,))) - LONGEST_KEPT
     return usual_request(known, ctime, cusec, (b"a" * (3000 - beyond),))
 
 
 def pins(words, folder, what, remembered, make, wanted):
-    """What the authenticators of one client pin, over one connection: over UDP a long reply with a ticket is refused."""
+    """Measures what the authenticators of one client pin, over one connection: over UDP a long reply with a ticket is refused."""
     server = RealmServer(words.kdcd, database(os.path.join(folder, "pinned"), 1), "--remembered", str(remembered))
     [known] = logged_in([0], server.udp)
     begun, lengths, odd = server.resident_kib(), (0, 0), 0
-    # Ahead, so that none is too old before the last one came.
+    # Ahead, so that none is too old before the last one comes.
     ahead = lambda: int(time.time()) + SKEW - 5
     with server.connect() as connection:
         for place in range(0, remembered, BATCH):
@@ -249,11 +249,11 @@ def measure_pinned(words, folder):
     return sum(pins(words, folder, what, remembered, *kind) for remembered in words.remembered for what, kind in kinds.items())
 
 
-# For how long a client is refused.
+# How long a client is refused.
 
 
 class Refused(threading.Thread):
-    """Fills the replay cache of a client by authenticators of a second that is so far ahead, and asks each second until there is a ticket."""
+    """Fills a client's replay cache with authenticators of a second that is `ahead`, and sends a request each second until it gets a ticket."""
 
     def __init__(self, words, folder, ahead):
         super().__init__(daemon=True)
@@ -264,7 +264,7 @@ class Refused(threading.Thread):
 
     def run(self):
         [known] = logged_in([0], self.server.udp)
-        # The second in them is the one in which they are sent, or that much ahead of it.
+        # Their second is the one in which they are sent, or is ahead of it.
         start = int(time.time()) + 20
         requests = requests_of([known], start + self.ahead, self.count)
         time.sleep(max(0, start - time.time()))
@@ -272,7 +272,7 @@ class Refused(threading.Thread):
         filled, first, peer = time.time(), None, Peer(self.server)
         while time.time() < filled + 2 * SKEW + 30:
             now = time.time()
-            # The second is another one each time, and the microsecond none of those that were sent.
+            # The second differs each time, and no authenticator with this microsecond was sent before.
             peer.ask(usual_request(known, int(now), 999_999))
             if peer.reply[0] == TICKET:
                 break

@@ -1,11 +1,11 @@
 #!/usr/bin/env python3
-"""Measures `kdcd serve` and `kadm` over a large realm. Linux and Python 3 alone are needed.
+"""Measures `kdcd serve` and `kadm` over a large realm. It needs only Linux and Python 3.
 
     python3 tools/measure_realm.py [--kdcd crates/kdcd/out/kdcd] [--kadm crates/kadm/out/kadm] [--rows N] [--times N] [--requests N]
 
-It makes a database of so many rows, each of four random keys, in the form that `kadm` writes. It prints how long the server takes
-until it listens and how much memory it has, what a request costs over it and over 100 rows, how long the server takes in a
-database that is replaced, and how long commands of `kadm` take. It ends with status 1 where a command failed."""
+It makes a database of --rows rows, each with four random keys, in the form that `kadm` writes. It prints how long the server takes until it
+listens and how much memory it uses, what a request costs over it and over 100 rows, how long the server takes to read a new database, and
+how long commands of `kadm` take. It ends with status 1 if a command failed."""
 
 import argparse
 import json
@@ -23,7 +23,7 @@ from trial import RUNNING, ending
 
 
 def database_text(rows):
-    """Names of one and of two components, each row with a key of each type."""
+    """The text of a database with names of one and of two components, and a key of each type in each row."""
     source = random.Random(rows)
     kinds = ["user%06d", "user%06d", "host/node%06d.example.com", "HTTP/web%06d.example.com"]
     names = ["krbtgt/EXAMPLE.COM"] + [kinds[number % 4] % number for number in range(rows - 1)]
@@ -37,7 +37,7 @@ def database_text(rows):
 
 
 class RealmServer(Server):
-    """`kdcd serve` over the database of a path, with these options more."""
+    """`kdcd serve` over the database at a path, with these further options."""
 
     def __init__(self, kdcd, database, *more):
         start = time.perf_counter()
@@ -75,7 +75,7 @@ def measure_requests(kdcd, database, what, requests):
 
 
 def measure_replacement(kdcd, database, text):
-    """Asks one request after another while the file is replaced. The longest wait is that of the reading."""
+    """Sends one request after another while the file is replaced. The longest wait is the time for reading it."""
     server = RealmServer(kdcd, database)
     peer, taken = Peer(server), []
     used = server.processor_seconds()

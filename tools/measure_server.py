@@ -1,10 +1,10 @@
 #!/usr/bin/env python3
-"""Measures `kdcd serve` on the loopback, and tries it with hostile traffic. Linux and Python 3 alone are needed.
+"""Measures `kdcd serve` on the loopback, and tries it with hostile traffic. It needs only Linux and Python 3.
 
     python3 tools/measure_server.py [--kdcd crates/kdcd/out/kdcd] [--idle SECONDS] [--requests N] [--tickets N]
 
-It makes a realm of its own in a temporary folder, starts the server on ports that the system gives, and prints what it
-found. It ends with status 1 where a good request got no reply."""
+It makes its own realm in a temporary folder, starts the server on ports that the system chooses, and prints what it found. It
+ends with status 1 if a good request got no reply."""
 
 import argparse
 import json
@@ -109,7 +109,7 @@ class Peer:
         self.reply = b""
 
     def ask(self, request):
-        """How many seconds the reply took. As stock clients do, it asks again after a second, three times in all: where the
+        """The seconds that the reply took. Like stock clients it asks again after a second, three times in all: if the
         system's queue is full a datagram is dropped."""
         for _ in range(3):
             start = time.perf_counter()
@@ -129,7 +129,7 @@ def summary(seconds):
 
 
 def measure_datagrams(server, what, requests, tag):
-    """Asks each of the requests. The replies begin with this tag."""
+    """Sends each of the requests. The replies have to begin with this tag."""
     peer, taken = Peer(server), []
     used, passed, odd = 0, 0, 0
     for place in range(0, len(requests), 100):
@@ -147,7 +147,7 @@ def measure_datagrams(server, what, requests, tag):
 
 
 def service_requests(server, count):
-    """TGS-REQs, `count` of each client, each with an authenticator of its own."""
+    """TGS-REQs, `count` of each client, each with another authenticator."""
     peer, requests = Peer(server), []
     for client in CLIENTS:
         peer.ask(as_req(REALM, client))
@@ -197,7 +197,7 @@ def measure_idle(server, what, seconds, request):
 
 
 def closed_connection(server):
-    """A connection that the server has closed, for a length of 2^31, and that its peer keeps open."""
+    """A connection that the server has closed because of a length of 2^31, and that its peer keeps open."""
     connection = server.connect()
     connection.sendall(b"\x80\0\0\0")
     while connection.recv(65536):
@@ -206,7 +206,7 @@ def closed_connection(server):
 
 
 class Asking(threading.Thread):
-    """Asks good requests, in datagrams and over a connection of its own, as long as it is let."""
+    """Sends good requests, in datagrams and over its own connection, until it is stopped."""
 
     def __init__(self, server, request):
         super().__init__()
@@ -238,7 +238,7 @@ class Asking(threading.Thread):
 
 
 def random_datagrams(server, count, request):
-    """Random octets, and good requests with one octet changed."""
+    """Sends random bytes, and good requests with one byte changed."""
     sender = socket.socket(socket.AF_INET, socket.SOCK_DGRAM)
     sender.connect(server.udp)
     sender.setblocking(False)
@@ -259,7 +259,7 @@ def random_datagrams(server, count, request):
 
 
 def hostile_connections(server, count):
-    """Connections that send random octets, half of a length, a length of 2^31, or nothing; 100 of them open at a time."""
+    """Opens connections that send random bytes, half of a length, a length of 2^31, or nothing; 100 at a time."""
     held = []
     kinds = [lambda: os.urandom(random.randrange(1, 3000)), lambda: b"\0\0", lambda: b"\x80\0\0\0" + bytes(100), lambda: b""]
     for number in range(count):
@@ -277,7 +277,7 @@ def hostile_connections(server, count):
 
 
 def unread_connection(server, request):
-    """A peer that asks and never reads. It gives how many octets it could send until it was let go."""
+    """A peer that sends requests and never reads. Prints how many bytes it could send until it was dropped."""
     connection, sent = server.connect(), 0
     requests = framed(request) * 100
     try:
@@ -285,13 +285,13 @@ def unread_connection(server, request):
             connection.sendall(requests)
             sent += len(requests)
     except OSError as error:
-        print(f"a peer that never reads is let go after {sent / 1e6:.1f} MB of requests ({error})")
+        print(f"a peer that never reads is dropped after {sent / 1e6:.1f} MB of requests ({error})")
         return
-    print("a peer that never reads is not let go")
+    print("a peer that never reads is not dropped")
 
 
 def pipelining_connections(server, request, count, seconds):
-    """Connections that send requests without end, and read what comes. Each has its replies beside all the others."""
+    """Connections that send requests without end and read the replies. Each gets its replies beside all the others."""
     connections = [server.connect() for _ in range(count)]
     unsent = dict.fromkeys(connections, b"")
     read = dict.fromkeys(connections, 0)

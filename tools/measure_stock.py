@@ -3,9 +3,9 @@
 
     python3 tools/measure_stock.py [--mit FOLDER] [--heimdal FOLDER] [--programs FOLDER] [--tickets N]
 
-The folders are those of `stock_kdcs.py`, which starts the servers. Each has the same realm, with keys of type 18 alone, on a port
-of its own, and with the client one processor. Each request has a nonce of its own, so that none is answered from a cache. It prints what a request costs each server in
-processor time, system calls included, and ends with status 1 where a request was answered by another message than it should be."""
+The folders are those of `stock_kdcs.py`, which starts the servers. Each has the same realm, with keys of type 18 only, and its own port,
+and shares one processor with the client. Each request has another nonce, so that none is answered from a cache. It prints what a request
+costs each server in processor time, system calls included, and ends with status 1 if a request got another reply than expected."""
 
 import argparse
 import pathlib
@@ -36,7 +36,7 @@ def client_key(client):
 
 
 def service_requests(server, count):
-    """TGS-REQs, `count` of each client, each with an authenticator of its own."""
+    """TGS-REQs, `count` of each client, each with another authenticator."""
     peer, requests = Peer(server), []
     for client in CLIENTS:
         peer.ask(as_req(REALM, client, nonce=next(NONCES)))

@@ -1,27 +1,26 @@
 #!/usr/bin/env python3
-"""Runs the tests of a crate with each allocation refused in turn, and says how they end. Nothing is proved for it. Linux on x86-64,
-binutils, a C compiler and Python 3 are needed, and the folder `bin` of the toolchain on the path.
+"""Runs the tests of a crate and lets each allocation fail in turn, and prints how they end. It proves nothing. It needs Linux on x86-64,
+binutils, a C compiler, Python 3, and the folder `bin` of the toolchain on the path.
 
     python3 tools/refuse_allocations.py CRATE [--only WORD] [--most N] [--minutes M] [--kept FOLDER]
 
 `rt try --test` writes the tests' program, which takes a minute or two. Linked with some lines of C it runs once for each test. At each
-allocation it forks: in the child this one is refused, and no other; the parent waits for it, and goes on. So all allocations of a test
-cost little more than their forks: thousands a second. A test of files or sockets of the system is no good for this, since its children
-share them.
+allocation it forks: in the child only this allocation fails; the parent waits for it, and continues. So all allocations of a test cost
+little more than their forks: thousands a second. Don't use it for a test of the system's files or sockets, since its children share them.
 
-A line for each test tells how many allocations it makes, and of how many children
+A line for each test has the number of its allocations, and the numbers of children that ended in each way
 
-    passed   the test passes though this allocation is refused
-    memory   it fails, and the end of what it prints names memory: a call gave a fault of memory, where the test wants something else
-    other    it fails otherwise: by an assertion, a signal, or after 20 seconds of a processor
+    passed   the test passes though this allocation fails
+    memory   it fails, and the end of what it prints names memory: a call ran out of memory, and the test expects something else
+    other    it fails in another way: by an assertion, a signal, or after 20 processor seconds
 
-Then the same for each call that a function of the tests makes into a library, of whose allocations one is refused. `passed` has to be
-looked at where the test does not call again, and `other` everywhere: does the test throw the fault away, or does the call answer
-something else in its place? Below an `other` stands the first such end.
+Then the same follows for each call that a function of the tests makes into a library. Look at each `passed` of a test that does not call
+again, and at each `other`: does the test ignore the error, or does the call return something else in its place? Below an `other` is the
+first such end.
 
---only runs the tests that have this word in their names, --most refuses the first N allocations of each test alone, --minutes begins no
-test after so many, --kept takes the program from this folder, where an earlier run left it. The status is 1 where a child was ended by a
-signal other than that of a panic, or a test fails with nothing refused."""
+--only runs the tests with this word in their names, --most lets only the first N allocations of each test fail, --minutes starts no test after
+this many minutes, --kept takes the program from this folder, where an earlier run left it. The status is 1 if a child was ended by a signal
+other than that of a panic, or if a test fails without a failed allocation."""
 
 import argparse
 import bisect
@@ -44,7 +43,7 @@ LINES = r"""
 #include <sys/resource.h>
 #include <sys/wait.h>
 #include <unistd.h>
-/* What the compiler of `rt try` has beside the program. */
+/* Functions that the compiler of `rt try` links to the program. */
 void __rattle_keep_place(void) {}
 void __rattle_write_place(void) {}
 
@@ -52,18 +51,18 @@ void *__real_malloc(size_t);
 void *__real_realloc(void *, size_t);
 void *__real_aligned_alloc(size_t, size_t);
 
-/* The processor time that a child may take, so that a busy machine changes nothing. */
+/* The processor time that a child may take. It does not depend on other work of the machine. */
 static const struct rlimit seconds = {20, 20};
 static long most = -1, calls;
-static int is_child, told;
+static int is_child, report;
 
-/* Tells of the child how it ended, who called for what was refused, from inside, and the last octets that were printed. */
-static void tell(int status, int from)
+/* Reports how the child ended, the callers of the failed allocation, the innermost first, and the last bytes that were printed. */
+static void write_report(int status, int from)
 {
-    dprintf(told, "%ld\t%d\t", calls, status);
+    dprintf(report, "%ld\t%d\t", calls, status);
     void **frame = __builtin_frame_address(0), **top = (void **)environ;
     while (frame < top && frame[0] > (void *)frame) {
-        dprintf(told, "%lx ", (long)frame[1]);
+        dprintf(report, "%lx ", (long)frame[1]);
         frame = frame[0];
     }
     char said[400] = "";
@@ -72,7 +71,7 @@ static void tell(int status, int from)
     for (ssize_t i = 0; i < length; i++)
         if (said[i] == '\n' || said[i] == '\t' || !said[i])
             said[i] = ' ';
-    dprintf(told, "\t%s\n", said);
+    dprintf(report, "\t%s\n", said);
 }
 
 /* Whether this call is refused: it is where this is the child that was made for it. */
@@ -80,7 +79,7 @@ static int is_refused(void)
 {
     if (most < 0) {
         most = atol(getenv("MOST"));
-        told = atoi(getenv("TOLD"));
+        report = atoi(getenv("REPORT"));
     }
     if (is_child || ++calls > most)
         return 0;
@@ -90,7 +89,7 @@ static int is_refused(void)
         is_child = 1;
         dup2(fileno(said), 1);
         dup2(fileno(said), 2);
-        close(told);
+        close(report);
         setrlimit(RLIMIT_CPU, &seconds);
         alarm(600);
         return 1;
@@ -98,7 +97,7 @@ static int is_refused(void)
     int status = 0;
     while (waitpid(child, &status, 0) < 0 && errno == EINTR) {
     }
-    tell(status, fileno(said));
+    write_report(status, fileno(said));
     fclose(said);
     return 0;
 }
@@ -109,12 +108,12 @@ void *__wrap_aligned_alloc(size_t align, size_t size) { return is_refused() ? 0 
 """
 
 WRAPPED = "-Wl,--wrap=malloc,--wrap=realloc,--wrap=aligned_alloc"
-# The names of faults of memory in this repository, and the word that its tests use for one.
+# The names of errors for memory in this repository, and the word that its tests use for one.
 MEMORY = re.compile(r"\b(Memory|AllocError|AllocFailed|OutOfMemory|memory)\b")
 
 
 def written(crate, folder):
-    """The tests' program, as `rt try` gives it to its compiler."""
+    """The tests' program, as `rt try` passes it to its compiler."""
     trying = subprocess.Popen(["rt", "try", "--test"], cwd=f"crates/{crate}", env={**os.environ, "TMPDIR": folder},
                               stdout=subprocess.DEVNULL, stderr=subprocess.PIPE, text=True, start_new_session=True)
     try:
@@ -122,7 +121,7 @@ def written(crate, folder):
         while trying.poll() is None:
             for place, _, names in os.walk(folder):
                 bitcode = f"{place}/module.bc"
-                # The compiler has begun with its object, and the program has not grown since the last look.
+                # The compiler has begun its object, and the program has not grown since the last look.
                 if "module.bc" in names and any(name.endswith(".o.tmp") for name in names):
                     size = os.path.getsize(bitcode)
                     if sizes.get(bitcode) == size:
@@ -153,7 +152,7 @@ def built(crate, folder):
 
 
 def listed(program):
-    ran = subprocess.run([program, "--list"], capture_output=True, text=True, env={"MOST": "0", "TOLD": "2"}, check=True)
+    ran = subprocess.run([program, "--list"], capture_output=True, text=True, env={"MOST": "0", "REPORT": "2"}, check=True)
     return re.findall(r"^(\S+): test$", ran.stdout, re.M)
 
 
@@ -171,7 +170,7 @@ class Names:
 
 
 class Child:
-    """How the child ended of which an allocation was refused."""
+    """The end of a child with a failed allocation."""
 
     def __init__(self, line, names, crate):
         number, status, places, self.said = line.rstrip("\n").split("\t", 3)
@@ -180,7 +179,7 @@ class Child:
 
     @staticmethod
     def called(stack, own):
-        """The library's function that the tests called, and the test's function that did."""
+        """The library's function that was called, and the test's function that called it."""
         for inner, outer in zip(stack, stack[1:]):
             if outer.startswith(own):
                 return f"{inner}, by {outer[len(own):]}"
@@ -202,13 +201,13 @@ class Child:
 
 
 def refused_in_turn(program, test, most):
-    """Whether the test passes with nothing refused, and the children."""
+    """Whether the test passes without a failed allocation, and the children."""
     names, crate = Names(program), os.path.basename(program)
-    with tempfile.TemporaryFile("w+") as told, tempfile.TemporaryDirectory() as folder:
-        run = subprocess.run([program, test], env={"MOST": str(most), "TOLD": str(told.fileno())}, cwd=folder,
-                             stdout=subprocess.DEVNULL, stderr=subprocess.DEVNULL, pass_fds=[told.fileno()])
-        told.seek(0)
-        return run.returncode == 0, [Child(line, names, crate) for line in told]
+    with tempfile.TemporaryFile("w+") as report, tempfile.TemporaryDirectory() as folder:
+        run = subprocess.run([program, test], env={"MOST": str(most), "REPORT": str(report.fileno())}, cwd=folder,
+                             stdout=subprocess.DEVNULL, stderr=subprocess.DEVNULL, pass_fds=[report.fileno()])
+        report.seek(0)
+        return run.returncode == 0, [Child(line, names, crate) for line in report]
 
 
 def counts(children):
@@ -216,8 +215,8 @@ def counts(children):
     return f"{len(children)}: " + ", ".join(f"{kind} {kinds[kind]}" for kind in ("passed", "memory", "other"))
 
 
-def tell_calls(children):
-    """How the children ended by the calls of which an allocation was refused."""
+def print_calls(children):
+    """Prints how the children ended, by the calls with a failed allocation."""
     calls = collections.defaultdict(list)
     for child in children:
         calls[child.call].append(child)
@@ -247,8 +246,8 @@ def main():
                 print(f"{test}: not run")
                 continue
             passes, children = refused_in_turn(program, test, given.most)
-            print(f"{test}: {counts(children)}{'' if passes else '; it fails with nothing refused'}")
-            tell_calls(children)
+            print(f"{test}: {counts(children)}{'' if passes else '; it fails without a failed allocation'}")
+            print_calls(children)
             sys.stdout.flush()
             is_good = is_good and passes and not any(child.is_fault() for child in children)
             found += children

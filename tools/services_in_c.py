@@ -8,10 +8,10 @@ the keytab, `kdcd serve` issues the tickets, MIT's `kinit` logs in, and `tools/a
     cc -o mk_req tools/mk_req.c -lkrb5
     python3 tools/services_in_c.py --ap-service ./ap_service --ap-client ./ap_client --ap-judged ./ap_judged --mk-req ./mk_req
 
-`ap_judged` tries what the header says of bad calls and of what stays accepted, with an AP-REQ of `mk_req`. KIT is the toolchain's folder.
-`rt run -- --help` builds `kadm` and `kdcd`, each in its folder, and `rt lib` the library in that of `ap_accept_c`. It takes six minutes,
-since a ticket has to be past its end; with `--quick` that ticket is left out. A line for each type says `ok` or the first answer that is
-another, or what a sanitizer found; the status is 1 if there was any."""
+`ap_judged` tries what the header says about bad calls and about accepted AP-REQs, with an AP-REQ from `mk_req`. KIT is the toolchain's
+folder. `rt run -- --help` builds `kadm` and `kdcd`, each in its folder, and `rt lib` the library in the folder of `ap_accept_c`. It takes six
+minutes, since one ticket has to be past its end; `--quick` leaves that ticket out. A line for each type says `ok`, the first answer that
+differs, or what a sanitizer found; the status is 1 if anything did."""
 
 import argparse
 import os
@@ -24,7 +24,7 @@ import time
 from trial import PATIENCE, Differs, Notes, ending, expect, free_port
 from whole_way import OTHER, SERVICE, TYPES, Kdc, Lines, OwnRequest, Place, add_programs
 
-# How long a ticket lives that is presented past its end, and by how much a service lets it be past.
+# The lifetime of a ticket that is presented past its end, and the clock skew that a service allows.
 SHORT_LIFE, LENIENCE = 20, 300
 TAKEN, GOOD, CLOSED = "taken, with no AP-REP", "taken, and the AP-REP is good", "closed"
 REPEAT = "refused 34: KRB_AP_ERR_REPEAT: the authenticator was seen before"
@@ -35,13 +35,13 @@ NO_AP_REQ = "refused -1: the bytes do not encode an AP-REQ"
 
 
 def accepted(subkey=0, rest=""):
-    """What the service prints of a client that it accepts, as a pattern with the session key's type left open."""
+    """The line that the service prints for a client that it accepts, as a pattern for any type of the session key."""
     return rf"u@A\.B until \d+, key type TYPE, subkey type {subkey}, flags [0-9a-f]{{8}}{rest}"
 
 
-# A number, and the checksum of the text 'checksum', whose type and length are those of the key's type.
+# A number, and the checksum of the text 'checksum', with the type and length for the key's type.
 TOLD = r", number \d+, checksum of type \d+ and \d+ octets"
-# The client's words, what it prints for each connection, and what the service prints.
+# The client's arguments, what it prints for each connection, and what the service prints.
 NEW = (
     ((), (TAKEN,), (accepted(),)),
     (("mutual",), (GOOD,), (accepted(rest=", asks for a reply"),)),
@@ -92,7 +92,7 @@ class Way:
         self.service = Lines(self.place.programs["ap_service"], keytab, self.port, *words, str(count), errors=True)
 
     def client(self, cache, service, words):
-        """What a client prints. The service may not listen yet."""
+        """Runs a client, and returns what it prints. Tries again if the service doesn't listen yet."""
         command = [self.place.programs["ap_client"], self.port, f"{service}@A.B", *words]
         for _ in range(100):
             ran = subprocess.run(command, capture_output=True, text=True, env=self.environment(cache), timeout=PATIENCE)
@@ -111,7 +111,7 @@ class Way:
                     expect(f"type {self.etype}, the service with {words}", found, pattern)
 
     def judge(self):
-        """What the header says of bad calls, and of an AP-REQ that is accepted. A line tells of each answer that is another."""
+        """Tries what the header says about bad calls and about an accepted AP-REQ. A line reports each answer that differs."""
         environment = {**self.environment("cache"), "KRB5_KTNAME": "FILE:" + self.place.path("keytab")}
         mk_req = [self.place.programs["mk_req"], f"{SERVICE}@A.B"]
         made = subprocess.run(mk_req, stdin=subprocess.DEVNULL, capture_output=True, text=True, env=environment, timeout=PATIENCE)
@@ -123,7 +123,7 @@ class Way:
         expect(f"type {self.etype}, ap_judged", (ran.returncode, ran.stdout, ran.stderr), (0, "0 failed\n", ""))
 
     def begin(self, old):
-        """With `old` for what a ticket past its end is presented as, if it is."""
+        """Starts the service. `old` says how a ticket past its end is presented, if it is."""
         self.log_in("cache")
         self.log_in("old", "-l", f"{SHORT_LIFE}s")
         self.judge()
@@ -168,8 +168,8 @@ def main():
 
 
 def without_mit(programs, folder):
-    """Type 18 alone, with tickets by `kclient` and AP-REQs in Python: `ap_judged`, then two clients of the service, one of which asks for a
-    reply, and the same AP-REQ again."""
+    """Tries type 18 only, with tickets by `kclient` and AP-REQs in Python: `ap_judged`, two clients of the service, where one asks for a reply, and
+    the same AP-REQ again."""
     place = Place({**programs, "mk_req": None}, folder)
     place.make_realm(18)
     kdc = Kdc(place)
@@ -193,7 +193,7 @@ def without_mit(programs, folder):
 
 
 def asked(port, request):
-    """The reply to a message; none where the connection is closed. The service may not listen yet."""
+    """The reply to a message, or nothing if the connection is closed. Tries again if the service doesn't listen yet."""
     for _ in range(100):
         try:
             with socket.create_connection(("127.0.0.1", port), 10) as peer, peer.makefile("rb") as stream:

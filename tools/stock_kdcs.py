@@ -1,6 +1,6 @@
 """One realm served by three KDCs: `kdcd serve`, MIT's `krb5kdc` and Heimdal's `kdc`. For the scripts beside this file; Linux and
 Python 3. The stock KDCs are Debian's packages krb5-kdc and krb5-admin-server, heimdal-kdc and heimdal-clients. They can't all be
-installed, so each is named by a folder: `/` where it is installed, or one in which `dpkg -x` has unpacked it with the libraries that the
+installed, so each is named by a folder: `/` if it is installed, else a folder in which `dpkg -x` has unpacked it with the libraries that the
 system lacks, as `fetched` does."""
 
 import dataclasses
@@ -31,19 +31,19 @@ PACKAGES = {
 
 
 def fetched(folder):
-    """Where the packages of each stand that the system can have: unpacked below this folder, with what they need and the system lacks.
-    Nothing is installed."""
+    """Unpacks the packages of each KDC below this folder, with the packages that they need and the system lacks. Returns their folders.
+    Installs nothing."""
     found = {}
     for name in PACKAGES:
         found[name] = unpack(name, folder / name)
         if not found[name]:
-            # Without a network each try would wait as long again.
+            # Without a network each further try would wait as long.
             break
     return {name: root for name, root in found.items() if root}
 
 
 def unpack(name, root):
-    """Where the packages of one stand. The folder is made whole: one that was there before is taken as it is."""
+    """The folder with the packages of one KDC. It is made as a whole: an existing folder is used as it is."""
     if root.exists():
         return str(root)
     root.parent.mkdir(parents=True, exist_ok=True)
@@ -57,17 +57,17 @@ def unpack(name, root):
 
 
 def unpack_into(name, root):
-    """Whether the packages of one could be had."""
+    """Whether the packages of one KDC could be unpacked."""
     apt = ["apt-get", "-o", "Acquire::http::Timeout=10", "-o", "Acquire::Retries=1"]
     how = {"cwd": root, "stdin": subprocess.DEVNULL, "capture_output": True, "text": True, "timeout": PATIENCE}
     simulate = [*apt, "install", "--simulate", "--no-install-recommends", *PACKAGES[name]]
     try:
-        told = subprocess.run(simulate, **how)
-        if told.returncode and os.geteuid() == 0:
-            # A container may begin with no lists of packages.
+        plan = subprocess.run(simulate, **how)
+        if plan.returncode and os.geteuid() == 0:
+            # A container may start without lists of packages.
             subprocess.run([*apt, "update"], **how)
-            told = subprocess.run(simulate, **how)
-        names = re.findall(r"^Inst (\S+)", told.stdout, re.M)
+            plan = subprocess.run(simulate, **how)
+        names = re.findall(r"^Inst (\S+)", plan.stdout, re.M)
         subprocess.run([*apt, "download", *(names or PACKAGES[name])], check=True, **how)
         for package in root.glob("*.deb"):
             subprocess.run(["dpkg", "-x", package, root], check=True, **how)
@@ -79,7 +79,7 @@ def unpack_into(name, root):
 
 @dataclasses.dataclass
 class Principal:
-    """What a realm holds of one name, beside `krbtgt/REALM`: without a password its keys are random."""
+    """A principal of the realm, besides `krbtgt/REALM`. Without a password its keys are random."""
 
     name: str
     password: str | None = None
@@ -88,7 +88,7 @@ class Principal:
 
 
 class Running:
-    """A server that listens on this port of 127.0.0.1, and all processes that it started."""
+    """A server that listens on this port of 127.0.0.1, with all processes that it started."""
 
     def __init__(self, words, realm, port, **how):
         self.process = subprocess.Popen(words, **how)
@@ -120,8 +120,8 @@ class Running:
 
 
 def keep_to_one_processor():
-    """For this process, which is the client, and for the servers that it starts. Else one processor wakes another for each message,
-    or doesn't, as the system likes, which costs up to half of a login and is no work of a server. It gives the other processors."""
+    """Keeps this process, which is the client, and the servers that it starts on one processor, and returns the others. Otherwise the system
+    may or may not wake another processor for each message, which costs up to half of a login and is not the server's work."""
     processors = os.sched_getaffinity(0)
     one = max(processors)
     os.sched_setaffinity(0, {one})
@@ -135,8 +135,8 @@ def run(words, **how):
 
 
 def kdcd(programs, folder, realm, principals, port, log=False, errors=None):
-    """`programs` is a folder with `kadm` and `kdcd`, or that of the crates, which have each at NAME/out/NAME. Standard error goes to a
-    file in `folder`, or to `errors`."""
+    """Starts `kdcd serve`. `programs` is a folder with `kadm` and `kdcd`, or the folder of the crates, with each at NAME/out/NAME. Standard
+    error goes to a file in `folder`, or to `errors`."""
     found = programs_in(programs, ("kadm", "kdcd"))
     kadm = lambda sub, *words: run([found["kadm"], sub, "--db", folder / "database", *words])
     kadm("init", "--realm", realm)
@@ -156,7 +156,7 @@ def kdcd(programs, folder, realm, principals, port, log=False, errors=None):
 
 
 def unpacked(*roots):
-    """The environment and the programs of packages that stand below these folders."""
+    """The environment and the programs of packages that are unpacked below these folders."""
     servers = f"/usr/sbin:/usr/lib/heimdal-servers:{os.environ['PATH']}"
     roots = [root for root in roots if root != "/"]
     libraries = [folder for root in roots for folder in glob.glob(f"{root}/**/lib/**/", recursive=True) if glob.glob(f"{folder}/*.so*")]

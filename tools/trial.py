@@ -1,5 +1,5 @@
-"""Commands and servers of a realm that are tried one after another, and a line for each of what came of it. For the
-scripts beside this file; Linux and Python 3."""
+"""Runs commands and servers of a realm, and prints a line for the result of each. For the scripts beside this file; Linux
+and Python 3."""
 
 import contextlib
 import os
@@ -20,7 +20,7 @@ REALM = "A.B"
 
 
 def processors():
-    """How many processors this process may use. A container may have a part of them."""
+    """The number of processors that this process may use. A container may have a part of them."""
     found = len(os.sched_getaffinity(0))
     with contextlib.suppress(OSError, ValueError):
         quota, period = pathlib.Path("/sys/fs/cgroup/cpu.max").read_text().split()
@@ -29,12 +29,12 @@ def processors():
 
 
 def slowness():
-    """How many times as long as on an idle machine of six processors something may take: three times on two of them, more where others
-    work too."""
+    """How many times longer something may take than on an idle machine with six processors: three times with two processors, more if other
+    processes run too."""
     return min(8.0, max(1.0, 6 / processors(), os.getloadavg()[0] / processors()))
 
 
-# By this each limit of time is multiplied. What has to take a time at the least is not.
+# Each time limit is multiplied by this. A least time is not.
 SLOWNESS = slowness()
 # How many seconds a program may take.
 PATIENCE = 60 * SLOWNESS
@@ -42,10 +42,10 @@ RUNNING = []
 
 
 def family(pid):
-    """A process, and all that it started and that they did."""
+    """A process and all its descendants."""
     parents = {}
     for stat in pathlib.Path("/proc").glob("[0-9]*/stat"):
-        # One that has ended in the meantime has no file.
+        # A process that has ended in the meantime has no file.
         with contextlib.suppress(OSError):
             parents.setdefault(int(stat.read_text(errors="replace").rpartition(")")[2].split()[1]), []).append(int(stat.parent.name))
     found = [pid]
@@ -55,7 +55,7 @@ def family(pid):
 
 
 def kill(process):
-    """Kills what runs of a process, and of those that it started."""
+    """Kills a process and all its descendants."""
     if process.poll() is None:
         for pid in family(process.pid):
             with contextlib.suppress(ProcessLookupError):
@@ -69,7 +69,7 @@ def end_all():
 
 
 def on_signals(handler):
-    """What is done of the signals that end a script. One that is ignored, as by `nohup`, stays so."""
+    """Handles the signals that end a script. A signal that is ignored, as by `nohup`, stays ignored."""
     for number in (signal.SIGTERM, signal.SIGINT, signal.SIGHUP):
         if signal.getsignal(number) != signal.SIG_IGN:
             signal.signal(number, handler)
@@ -77,7 +77,7 @@ def on_signals(handler):
 
 @contextlib.contextmanager
 def ending():
-    """At its end all that was started ends, also where a fault or a signal ends the script."""
+    """Kills at its end everything that was started, even if an error or a signal ends the script."""
     on_signals(lambda number, _: sys.exit(128 + number))
     try:
         yield
@@ -86,7 +86,7 @@ def ending():
 
 
 class Ran:
-    """A command that has ended, or has not within its time, and then has no status."""
+    """A command that has ended. It has no status if it did not end in time."""
 
     def __init__(self, process, given, seconds):
         try:
@@ -99,8 +99,8 @@ class Ran:
         self.out, self.err = [(each or b"").decode(errors="replace") for each in octets]
 
     def fault(self, status, *texts):
-        """What is wrong unless it has this status and says each of these texts: `=TEXT` is all that it prints, and
-        another text stands anywhere on standard output or standard error."""
+        """What is wrong, unless the command has this status and each of these texts: `=TEXT` is all of standard output, and
+        any other text is anywhere on standard output or standard error."""
         is_said = lambda text: self.out == text[1:] + "\n" if text[:1] == "=" else text in self.out + self.err
         if self.status == status and all(map(is_said, texts)):
             return ""
@@ -110,7 +110,7 @@ class Ran:
 
 
 class Differs(Exception):
-    """Something came out otherwise than it has to."""
+    """A result differs from the expected one."""
 
 
 def expect(what, found, wanted):
@@ -119,7 +119,7 @@ def expect(what, found, wanted):
 
 
 class Notes:
-    """How many things were right and wrong, with a line for each."""
+    """Counts the checks that passed and failed, and prints a line for each."""
 
     def __init__(self):
         self.right, self.wrong = 0, 0
@@ -130,7 +130,7 @@ class Notes:
         print(shown.encode("ascii", "backslashreplace").decode(), flush=True)
 
     def check(self, what, call, *given):
-        """Calls a function that raises `Differs` where something is wrong."""
+        """Calls a function that raises `Differs` if something is wrong."""
         try:
             call(*given)
             self.note(what)
@@ -141,7 +141,7 @@ class Notes:
         print(f"left  {what}", flush=True)
 
     def end(self):
-        """The last line, and the status: 1 where anything was wrong."""
+        """Prints the last line and ends the script, with status 1 if a check failed."""
         print(f"{self.right} passed, {self.wrong} failed")
         sys.exit(1 if self.wrong else 0)
 
@@ -153,23 +153,23 @@ class Trial(Notes):
         super().__init__()
         self.programs, self.folder = programs, folder / "none"
         self.environment = {"PATH": os.environ["PATH"], "HOME": "/", "LANG": "C.UTF-8", "KRB5_CONFIG": "krb5.conf"}
-        # Where the stock programs were unpacked, their libraries are found so.
+        # The libraries of unpacked stock programs.
         self.environment |= {name: os.environ[name] for name in ("LD_LIBRARY_PATH",) if name in os.environ}
-        # What stands for a word of a command line.
+        # The words that a word of a command line stands for.
         self.short = {}
 
     def write(self, name, text):
         (self.folder / name).write_bytes(text if isinstance(text, bytes) else text.encode())
 
     def start(self, words, **how):
-        """A program that runs; it is killed at the end at the latest."""
+        """Starts a program. It is killed at the end of the script at the latest."""
         words = [self.programs.get(words[0], words[0]), *words[1:]]
         process = subprocess.Popen(words, cwd=self.folder, **{"env": self.environment, **how})
         RUNNING.append(process)
         return process
 
     def run(self, words, given="", seconds=60, **how):
-        """What comes of a command, which has so many seconds on an idle machine."""
+        """Runs a command, which may take this many seconds on an idle machine."""
         if isinstance(words, str):
             words = [part for word in shlex.split(words) for part in self.short.get(word, [word])]
         how = {"stdin": subprocess.PIPE, "stdout": subprocess.PIPE, "stderr": subprocess.PIPE, **how}
@@ -177,12 +177,12 @@ class Trial(Notes):
         return Ran(self.start(words, **how), given, seconds)
 
     def expect(self, words, status, *texts, what=None, **how):
-        """Runs a command, and notes what came of it."""
+        """Runs a command, and notes whether its result is as expected."""
         self.note(what or words, self.run(words, **how).fault(status, *texts))
 
     def cases(self, lines, **how):
-        """Runs commands, a line each: `WORDS <<< LINE OF STANDARD INPUT -> STATUS TEXT; TEXT ..`. Input and texts may
-        be left away."""
+        """Runs commands, one on each line: `WORDS <<< LINE OF STANDARD INPUT -> STATUS TEXT; TEXT ..`. Input and texts are
+        optional."""
         for line in filter(None, map(str.strip, lines.splitlines())):
             command, _, wanted = line.rpartition(" -> ")
             words, has_given, given = command.partition(" <<< ")
@@ -191,8 +191,8 @@ class Trial(Notes):
             self.expect(words, int(status), *filter(None, texts.split("; ")), what=command, given=given, **how)
 
     def realm(self, name):
-        """Another folder with a realm: `u` with a password, `v` the same without preauthentication, the services `h`
-        and `host/n`."""
+        """Makes another folder with a realm: `u` with a password, `v` with one and without preauthentication, and the
+        services `h` and `host/n`."""
         self.folder = self.folder.parent / name
         self.folder.mkdir()
         self.write("pw", "a password\n")
@@ -209,7 +209,7 @@ class Trial(Notes):
                 self.note(f"kadm {words}", fault)
 
     def serve(self, *words, **how):
-        """A server of this realm; `KDC` stands for its address from now on."""
+        """Starts a server for this realm. From then on `KDC` stands for its address."""
         server = Server(self, *words, **how)
         self.short["KDC"] = [server.udp]
         self.short["KINIT"] = f"kclient kinit --kdc {server.udp} --realm {REALM} --cache cc --name".split()
@@ -217,7 +217,7 @@ class Trial(Notes):
         return server
 
     def with_server(self, words, lines):
-        """Runs commands beside a server with these words."""
+        """Runs commands beside a server with these options."""
         server = self.serve(words)
         self.cases(lines)
         server.end()
@@ -228,7 +228,7 @@ class Trial(Notes):
 
 
 def programs_in(folder, names=("kadm", "kdcd", "kclient")):
-    """The programs, by their names: in this folder, or built in the folder of the crates."""
+    """The paths of the programs, in this folder or as built in the folder of the crates."""
     found = {}
     for name in names:
         places = [f"{folder}/{name}", f"{folder}/{name}/out/{name}"]
@@ -239,7 +239,7 @@ def programs_in(folder, names=("kadm", "kdcd", "kclient")):
 
 
 def free_port():
-    """A port that neither datagrams nor connections have taken."""
+    """A port that is free for UDP and for TCP."""
     for _ in range(100):
         with socket.socket() as tcp, socket.socket(type=socket.SOCK_DGRAM) as udp:
             tcp.bind(("127.0.0.1", 0))
@@ -268,7 +268,7 @@ def datagrams(address):
 
 
 def ask_udp(peer, request, tries=3):
-    """The reply, or none. As stock clients do it asks again after a second, three times in all."""
+    """The reply, or None. Like stock clients it asks again after a second, three times in all."""
     for _ in range(tries):
         try:
             peer.send(request)
@@ -337,7 +337,7 @@ class Server:
             return answer(ask_udp(peer, login(name), tries))
 
     def end(self):
-        """The status, once it was told to end."""
+        """Ends the server by SIGTERM, and returns its status."""
         self.process.terminate()
         try:
             return self.process.wait(5 * SLOWNESS)
@@ -347,7 +347,7 @@ class Server:
 
 
 def flood(address, count):
-    """How many of so many logins were answered, before one that was not though it was asked three times."""
+    """Sends up to `count` logins, and returns how many were answered before one that was not, after three tries."""
     requests = (login("v"), login("nobody"))
     with datagrams(address) as peer:
         for turn in range(count):
@@ -356,12 +356,12 @@ def flood(address, count):
     return count
 
 
-# Where a log may go.
+# The places that a log may go to.
 SINKS = ("a file", "/dev/full", "a pipe that is closed", "a pipe that nobody reads", "a terminal that nobody reads")
 
 
 def sink_of(trial, what):
-    """Where output goes, and where it is read, if anywhere."""
+    """The place for output, and the end from which it is read, if there is one."""
     if what == "a file":
         return os.open(trial.folder / "lines", os.O_WRONLY | os.O_CREAT | os.O_APPEND, 0o600), None
     if what == "/dev/full":
@@ -374,7 +374,7 @@ def sink_of(trial, what):
 
 
 def drained(reader):
-    """What waits in a pipe or a terminal."""
+    """Reads what waits in a pipe or a terminal."""
     octets = b""
     while select.select([reader], [], [], 0.3)[0]:
         more = os.read(reader, 65536)

@@ -1,17 +1,17 @@
 #!/usr/bin/env python3
 """Tries the built programs, as `.ci/run` does after `rt ci`: the realm of README.md, each option and limit, our client against our server and
 against MIT's and Heimdal's, stock clients against our server, the whole way to a service in Rattle and in C, hostile peers and servers, a
-`kadm` that is killed, and memory that is refused. It also checks the words of pages and comments. Linux and Python 3 are needed; a C compiler
-for some of it.
+`kadm` that is killed, and allocations that fail. It also checks the words of pages and comments. It needs Linux and Python 3, and a C compiler
+for some parts.
 
     python3 tools/try_all.py [--only PART ..] [--stock FOLDER] [--all-lines]
 
-Each program is that of crates/NAME/out/NAME, which `rt ci` leaves there and `rt run` builds; the library for C is built where it is not there
-(`tools/c_library.py`). The stock programs are those on the path, or where the system knows Debian's packages they are unpacked in a folder,
-that of --stock or one that is removed at the end; nothing is installed. What is missing is said by name behind `left out:`. Parts run side by
-side, and one that fails is run once more, alone. On few processors, or beside other work, each has more time. Below each part stand the lines
-of what was wrong, or with --all-lines all of them. The last line is `N passed, M failed`, and the status is 1 where something failed. A signal
-ends all parts with whatever they started."""
+Each program is crates/NAME/out/NAME, which `rt ci` and `rt run` build. If the library for C is not there, it is built (`tools/c_library.py`).
+The stock programs are those on the path. If the system knows Debian's packages, they are unpacked in a folder, that of --stock or one that is
+removed at the end; nothing is installed. A line `left out:` names what is missing. Parts run side by side, and a part that fails is run once
+more, alone. With few processors, or beside other work, each has more time. Below each part are the lines of what was wrong, or with --all-lines
+all its lines. The last line is `N passed, M failed`, and the status is 1 if anything failed. A signal ends all parts with whatever they
+started."""
 
 import argparse
 import contextlib
@@ -36,33 +36,33 @@ from trial import SLOWNESS, on_signals, processors
 
 TOOLS = pathlib.Path(__file__).resolve().parent
 TOP = TOOLS.parent
-# How many seconds a part may take, and what is compiled for it.
+# The seconds that a part may take, with what is compiled for it.
 LIMIT = 280 * SLOWNESS
-# How many seconds it then has to remove what it made.
+# The seconds that it then has to remove what it made.
 GRACE = 5
-# How many parts run at a time, since most of them wait most of the time.
+# The number of parts that run at a time; most of them wait most of the time.
 LANES = 4 + processors() // 2
-# How many datagrams are sent with each log.
+# The number of datagrams that are sent with each log.
 REQUESTS = 1000
 SANITIZERS = ("-g", "-fsanitize=address,undefined")
-# Programs that show what a compiler finds.
+# Programs that show whether a compiler finds what a part needs.
 PROBE = "int main(void) { return 0; }\n"
 KRB5_PROBE = "#include <krb5.h>\nint main(void) { krb5_context context; krb5_init_context(&context); return 0; }\n"
 
 
 class Missing(Exception):
-    """Something that a part needs is not on this machine."""
+    """This machine lacks something that a part needs."""
 
 
 class Groups:
-    """What runs of the parts, each in a session of its own, which is ended as a whole."""
+    """The running parts, each in its own session, which is ended as a whole."""
 
     def __init__(self):
         self.lock, self.running, self.is_over = threading.RLock(), set(), False
 
     @contextlib.contextmanager
     def started(self, words, **how):
-        """A process, behind whose end nothing stays of what it started."""
+        """Starts a process, and kills at its end whatever it started."""
         with self.lock:
             if self.is_over:
                 raise Missing("a run that goes on")
@@ -77,7 +77,7 @@ class Groups:
 
     @staticmethod
     def end(processes):
-        """Those that still run may remove their folders first. Then all that they started is killed, also by those that have ended."""
+        """Lets the processes that still run remove their folders. Then kills all that they or the ended ones started."""
         running = [process for process in processes if process.poll() is None]
         for process in running:
             process.terminate()
@@ -91,14 +91,14 @@ class Groups:
             process.wait()
 
     def ran(self, words, **how):
-        """What came of a command, as of `subprocess.run`; what it says is in `stdout`."""
+        """Runs a command, and returns the same as `subprocess.run`, with all output in `stdout`."""
         with self.started(words, stdout=subprocess.PIPE, stderr=subprocess.STDOUT, text=True, **how) as process:
             said, _ = process.communicate(timeout=LIMIT)
         return subprocess.CompletedProcess(words, process.returncode, said)
 
     def end_all(self, number, _):
-        """A signal: all that runs is ended, no part begins, and this script ends. Parts are started by other threads than the one that
-        gets the signal, so none of them keeps the lock that it waits for."""
+        """Handles a signal: ends all running parts, starts no other, and ends this script. Parts are started by other threads than the one
+        that gets the signal, so none of them holds the lock that it waits for."""
         with self.lock:
             self.is_over = True
             self.end(list(self.running))
@@ -106,7 +106,7 @@ class Groups:
 
 
 class Stock:
-    """The programs of MIT and Heimdal, by the folders in which they stand, and what is compiled for a part."""
+    """The folders with the programs of MIT and Heimdal, and the programs that are compiled for a part."""
 
     def __init__(self, folder, scratch, groups):
         mit, heimdal = ("krb5kdc", "kdb5_util", "kadmin.local", "kinit", "kvno"), ("kgetcred", "kdc", "kadmin.heimdal")
@@ -133,7 +133,7 @@ class Stock:
             raise Missing({"mit": "MIT's krb5kdc", "heimdal": "Heimdal's kdc"}[name])
 
     def compiles(self, source, made, *words):
-        """What comes of the compiler. Parts that need the same program may compile it at once."""
+        """Runs the compiler. Parts that need the same program may compile it at the same time."""
         compiler = shutil.which("cc")
         if not compiler:
             raise Missing("a C compiler cc")
@@ -144,7 +144,7 @@ class Stock:
         return ran
 
     def can_compile(self, text, *words):
-        """Whether this machine has what a small program needs to be compiled and to run."""
+        """Whether this machine can compile and run a small program."""
         made = self.scratch / f"probe{threading.get_ident()}"
         source = made.with_suffix(".c")
         source.write_text(text)
@@ -153,14 +153,14 @@ class Stock:
         return not self.groups.ran([made], env=self.environment).returncode
 
     def compile(self, name, *words):
-        """Compiles a program of `tools/` into the scratch folder, once. What it needs was probed for: a fault is one of the program."""
+        """Compiles a program of `tools/` into the scratch folder, once. Since its needs were probed for, an error is one of the program."""
         if not (self.scratch / name).exists():
             ran = self.compiles(TOOLS / f"{name}.c", self.scratch / name, *words)
             if ran.returncode:
                 raise RuntimeError(f"{name} is not compiled: {ran.stdout[-600:]}")
 
     def with_krb5(self, *names):
-        """Compiles programs that call MIT's library, that of the packages or the system's."""
+        """Compiles programs that call MIT's library, from the packages or from the system."""
         root = self.roots.get("mit", "/").rstrip("/")
         places = [f"-L{each}" for each in pathlib.Path(root or "/").glob("usr/lib/*/") if root]
         places += ["-I", f"{root}/usr/include", "-I", f"{root}/usr/include/mit-krb5"] if root else []
@@ -171,7 +171,7 @@ class Stock:
             self.compile(name, *words)
 
     def clients_of_services(self):
-        """Compiles the programs of MIT's library that ask services."""
+        """Compiles the programs over MIT's library that call services."""
         self.with_krb5("ap_client", "mk_req")
         if not shutil.which("kinit", path=self.environment["PATH"]):
             raise Missing("MIT's kinit")
@@ -196,7 +196,7 @@ class Stock:
 
 @dataclasses.dataclass
 class Part:
-    """Something that a script tries, by its words. What `prepare` needs and finds nowhere it raises as Missing."""
+    """A part: a script with its arguments. `prepare` raises Missing for anything that it needs and does not find."""
 
     name: str
     words: list
@@ -206,7 +206,7 @@ class Part:
 
 @dataclasses.dataclass
 class Came:
-    """What came of a part: how much passed and failed, and the lines that tell of it."""
+    """The result of a part: how many checks passed and failed, and the lines about them."""
 
     part: Part
     passed: int = 0
@@ -220,7 +220,7 @@ def script(name, *words):
 
 
 def parts(stock):
-    """The longest first."""
+    """The parts, the longest first."""
     made = {name: stock.scratch / name for name in ("ap_client", "mk_req", "ap_service", "ap_judged")}
     words = [word for name, place in made.items() for word in (f"--{name.replace('_', '-')}", place)]
     roots = [word for name, root in stock.roots.items() for word in (f"--{name}", root)]
@@ -244,7 +244,7 @@ def parts(stock):
 
 
 def run(part, stock):
-    """What came of a part. Whatever it started is ended with it."""
+    """Runs a part, and ends with it whatever it started."""
     begun = time.monotonic()
     try:
         part.prepare()
@@ -268,12 +268,12 @@ def run(part, stock):
         lines.insert(0, "left  the sanitizers of addresses and of undefined behavior, which cc has not, or which don't run here")
     seconds, counts = time.monotonic() - begun, re.fullmatch(r"(\d+) passed, (\d+) failed", lines[-1] if lines else "")
     if is_late or not counts:
-        why = f"has not ended after {LIMIT:.0f} seconds" if is_late else f"ended with status {process.returncode}, and counts nothing"
+        why = f"did not end in {LIMIT:.0f} seconds" if is_late else f"ended with status {process.returncode} and without a count"
         return Came(part, 0, 1, seconds, [*[f"WRONG {line}" for line in lines[-8:]], f"WRONG it {why}"])
     return Came(part, int(counts[1]), int(counts[2]), seconds, lines[:-1])
 
 
-def tell(came, shows_all):
+def show(came, shows_all):
     print(f"{came.part.name}: {came.passed} passed, {came.failed} failed, {came.seconds:.0f} s")
     for line in came.lines:
         if line.startswith("left  "):
@@ -284,26 +284,27 @@ def tell(came, shows_all):
 
 
 def try_parts(chosen, stock, shows_all):
-    """How much passed and failed. What fails beside other parts is tried once more, alone, and that counts."""
+    """Runs the parts, and returns how many checks passed and failed. A part that fails beside others is run once more, alone, and that
+    counts."""
     passed = failed = 0
     with ThreadPoolExecutor(LANES) as pool:
         found = list(pool.map(lambda part: run(part, stock), chosen))
     for came in found:
         if came.failed:
-            tell(came, shows_all)
+            show(came, shows_all)
             print("    once more, alone:")
-            # In a thread of its own as before: this one is for signals.
+            # In another thread, as before: this one handles signals.
             with ThreadPoolExecutor(1) as pool:
                 came = pool.submit(run, came.part, stock).result()
-        tell(came, shows_all)
+        show(came, shows_all)
         passed, failed = passed + came.passed, failed + came.failed
     return passed, failed
 
 
 def main():
     words = argparse.ArgumentParser(description=__doc__, formatter_class=argparse.RawDescriptionHelpFormatter)
-    words.add_argument("--only", nargs="+", metavar="WORD", help="the parts that have one of these words in their names")
-    words.add_argument("--stock", type=pathlib.Path, help="where the stock programs are unpacked, and kept")
+    words.add_argument("--only", nargs="+", metavar="WORD", help="the parts with one of these words in their names")
+    words.add_argument("--stock", type=pathlib.Path, help="the folder to unpack the stock programs in, and keep")
     words.add_argument("--all-lines", action="store_true")
     words, groups = words.parse_args(), Groups()
     on_signals(groups.end_all)

@@ -1,12 +1,12 @@
 #!/usr/bin/env python3
-"""Tries `kclient` against `kdcd serve`, and beside it MIT's `krb5kdc` and Heimdal's `kdc`: clients with keys of all four types and of
-each alone, with and without preauthentication, over UDP and TCP, and tickets of services likewise. The caches are then read by the
-stock tools, which also buy tickets with them, and the other way round.
+"""Tries `kclient` against `kdcd serve`, MIT's `krb5kdc` and Heimdal's `kdc`: clients with keys of all four types and of each type, with and
+without preauthentication, over UDP and TCP, and tickets for services likewise. The stock tools then read the caches and get tickets with
+them, and the other way round.
 
     python3 tools/try_client.py [--mit FOLDER] [--heimdal FOLDER] [--programs FOLDER] [--only KDC ..]
 
-The folders are those of `stock_kdcs.py`, which starts the servers. It prints each command with `ok` or what was wrong, and ends with
-status 1 if anything was."""
+The folders are those of `stock_kdcs.py`, which starts the servers. It prints each command with `ok` or what was wrong, and ends with status 1
+if anything was wrong."""
 
 import argparse
 import os
@@ -26,7 +26,7 @@ PRINCIPALS = [
     *[Principal(f"h{end}", None, False, types) for end, types in EACH.items()],
 ]
 CLIENTS = [each.name for each in PRINCIPALS if each.password]
-# Heimdal's KDC sends these a reply that no password opens (docs/CLIENT.md, 'Trying it').
+# Heimdal's KDC sends these a reply that no password decrypts (docs/CLIENT.md, 'Trying it').
 UNOPENED = {"heimdal": ("v19", "v20")}
 SERVICES = [each.name for each in PRINCIPALS if not each.password]
 
@@ -57,7 +57,7 @@ class Trial(Notes):
         return str(file)
 
     def expect(self, words, wanted, status=0, environment=None, given=None):
-        """Runs a command, whose output has to have each of these texts and whose status has to be this one."""
+        """Runs a command, which has to print each of these texts and end with this status."""
         shown = " ".join(os.path.basename(each) if "/" in each[:1] else each for each in words)
         try:
             ran = subprocess.run(words, env=environment, input=given, capture_output=True, text=True, timeout=PATIENCE)

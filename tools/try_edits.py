@@ -1,14 +1,14 @@
 #!/usr/bin/env python3
-"""Tries edits that the prover has to refuse, outside the gate: those of tools/edits/CRATE.edits, which the gate no longer tries since each
-costs it 15 to 60 seconds of a processor. They were refused over the crate as it was when they left crates/CRATE/must-fail/.
+"""Tries edits that the prover has to refuse, outside the gate: those of tools/edits/CRATE.edits. The gate no longer tries them, since each
+costs it 15 to 60 processor seconds. They were refused over the crate as it was when they left crates/CRATE/must-fail/.
 
     python3 tools/try_edits.py [--list | --whole] CRATE [NAME ..]
     python3 tools/try_edits.py --stale
 
 A file has, for each edit, a line `= NAME` and below it the lines of a file of must-fail/: `file:`, and pairs of `old:` and `new:`. They are
-tried in a copy of the repository, over the libraries that were built here. The functions in which an edit stands are checked alone; where
-that refuses nothing, or with --whole, `rt must-fail` checks the whole crate, and says what came of it. The status is 1 where an edit was
-not refused. --list prints the names, and --stale those of all crates whose old text does not stand once in its file any more."""
+tried in a copy of the repository, over the libraries that were built here. Only the functions that an edit changes are checked. If that refuses
+nothing, or with --whole, `rt must-fail` checks the whole crate, and prints the result. The status is 1 if an edit was not refused. --list
+prints the names, and --stale the names of those edits, of all crates, whose old text is no longer in its file exactly once."""
 
 import argparse
 import os
@@ -23,20 +23,20 @@ TOP = pathlib.Path(__file__).resolve().parent.parent
 FUNCTION = re.compile(r"^( *)(?:pub(?:\(\w+\))? )?(?:const )?(?:unsafe )?fn (\w+)", re.M)
 IMPL = re.compile(r"^impl(?:<.*?>)? (?:(\w+)(?:<.*>)? for )?(\w+)", re.M)
 
-# A line of a check that says why something is not proved, and one that says only that a proof names what the edit took away.
+# A line of a check that says why something is not proved, and one that only says that a proof names what the edit removed.
 REFUSED = re.compile(r"(\./)?proofs/\S+: error: |fn \S+: no proof: .* did not prove ")
 GONE = re.compile(r"has no field|is not in scope|has no `|was not admitted|that depends on")
 
 
 def edits_of(crate):
-    """The texts of the crate's edits, by their names."""
+    """The crate's edits, by name."""
     file = TOP / "tools" / "edits" / f"{crate}.edits"
     parts = re.split(r"^= (\S+)\n", file.read_text(), flags=re.M) if file.exists() else []
     return dict(zip(parts[1::2], parts[2::2]))
 
 
 def last(pattern, text):
-    """The last place where the pattern stands in the text."""
+    """The last match of the pattern in the text."""
     found = None
     for found in pattern.finditer(text):
         pass
@@ -44,7 +44,7 @@ def last(pattern, text):
 
 
 def function_at(crate, file, text, end):
-    """The path of the function that stands last before this place of a file."""
+    """The path of the last function before this place of a file."""
     function = last(FUNCTION, text[:end])
     owner = last(IMPL, text[:function.start()]) if function and function[1] else None
     module = "::".join(part for part in pathlib.PurePath(file).with_suffix("").parts[1:] if part not in ("lib", "main"))
@@ -53,8 +53,8 @@ def function_at(crate, file, text, end):
 
 
 def applied(crate, edit):
-    """The texts of the files that an edit changes, by their paths in the crate, and the functions in which it stands: or None where an old
-    text does not stand once in its file, as the pairs before it left that."""
+    """The texts of the files that an edit changes, by their paths in the crate, and the functions that it changes. Returns None if an old text
+    is not exactly once in its file, as the pairs before it left that."""
     file, old, texts, functions = "", "", {}, set()
     for line in edit.splitlines():
         word, _, rest = line.partition(": ")
@@ -81,7 +81,7 @@ def linked(source, made):
 
 
 def copied(crate, folder):
-    """The crate's folder in a copy of the repository, with the libraries that were built, and with no edits."""
+    """The crate's folder in a copy of the repository, with the libraries that were built and without edits."""
     shutil.copytree(TOP / "crates", folder / "crates", ignore=shutil.ignore_patterns("out"))
     for built in TOP.glob("crates/*/out/rlib"):
         shutil.copytree(built, folder / built.relative_to(TOP), copy_function=linked)
@@ -93,7 +93,7 @@ def copied(crate, folder):
 
 
 def refusal(place, texts, functions):
-    """What the check of these functions refuses, with these texts in place of the crate's own; or nothing."""
+    """What the check of these functions refuses, with these texts in place of the crate's own, if anything."""
     own = {path: (place / path).read_text() for path in texts}
     for path, text in texts.items():
         (place / path).write_text(text)
@@ -108,7 +108,7 @@ def refusal(place, texts, functions):
 
 
 def tried(place, crate, name, edit, is_whole):
-    """Whether an edit is refused. It says what came of it."""
+    """Tries an edit, prints the result, and returns whether it is refused."""
     found = applied(crate, edit)
     said = refusal(place, *found) if found and found[1] and not is_whole else None
     if said:

@@ -1,12 +1,12 @@
 #!/usr/bin/env python3
-"""Tries what goes wrong around the built programs: peers of `kdcd serve` that close half of a connection, are slow, never read, are idle or
-send nonsense; whether each of many requests is answered; a `kadm` that is killed while it writes; and allocations that are refused in
-`kadm`, `kclient`, `kdcd` and `ap_whois`. Linux and Python 3, and for the last part a C compiler.
+"""Tries what can go wrong around the built programs: peers of `kdcd serve` that close half of a connection, are slow, never read, are idle or
+send nonsense; whether each of many requests is answered; a `kadm` that is killed while it writes; and allocations that fail in `kadm`,
+`kclient`, `kdcd` and `ap_whois`. It needs Linux and Python 3, and a C compiler for the last part.
 
     python3 tools/try_faults.py [--programs FOLDER] [--only PART ..] [--places N]
 
-The folder is that of the programs, or that of the crates, which have each at NAME/out/NAME. Of each command --places allocations are
-refused, one in a run. It prints a line for each thing that it tried, with `ok` or what was wrong, and ends with status 1 if anything was."""
+The folder has the programs, or the crates, with each program at NAME/out/NAME. In each command --places allocations fail, one in a run. It
+prints a line for each thing that it tried, with `ok` or what was wrong, and ends with status 1 if anything was wrong."""
 
 import argparse
 import contextlib
@@ -26,15 +26,15 @@ import time
 from kerberos import body, field, integer, key_of, sequence, tgs_req, ticket_in, tlv
 from trial import PATIENCE, REALM, SLOWNESS, Server, Trial, answer, ask_tcp, ask_udp, datagrams, ending, login, place_of, programs_in
 
-# How many connections are served at once (docs/OPERATIONS.md, 'Limits'), and how many of a server's files are no connections.
+# The connections that are served at once (docs/OPERATIONS.md, 'Limits'), and the server's files that are not connections.
 CONNECTIONS, OTHER_FILES = 256, 16
-# For how many seconds a connection may be without a complete request.
+# The seconds for which a connection may be without a complete request.
 LONGEST_IDLE = 30
-# How many octets a peer may send that reads no reply, at the most: what is kept for it, and the buffers of the system.
+# The most bytes that a peer may send without reading a reply: what the server keeps for it, and the buffers of the system.
 UNREAD = 1 << 26
-# How many datagrams are sent one after another, and how many authenticators of a client are remembered.
+# The number of datagrams that are sent one after another, and the size of a client's replay cache.
 DATAGRAMS, REMEMBERED = 1000, 1000
-# How many rows are written while a `kadm` is killed, how often one is started for it, and how many have to be killed before they end.
+# The rows that are written while a `kadm` is killed, how often one is started for it, and how many have to be killed before they end.
 ROWS, KILLS, KILLS_AT_LEAST = 4000, 40, 8
 
 
@@ -47,7 +47,7 @@ def connected(server):
 
 
 def read_reply(connection, piece=65536):
-    """The next reply, read in pieces; what there is of it where the connection ends."""
+    """The next reply, read in pieces, or what there is of it if the connection ends."""
     octets, wanted = b"", 4
     while len(octets) < wanted:
         read = connection.recv(min(piece, wanted - len(octets)))
@@ -59,13 +59,13 @@ def read_reply(connection, piece=65536):
 
 
 def is_served(server):
-    """What is wrong unless a datagram and a new connection are answered now."""
+    """What is wrong, unless a datagram and a new connection are answered now."""
     found = server.answer("v"), answer(ask_tcp(server.addresses[1][1], login("v")))
     return "" if found == ("ticket", "ticket") else f"beside it a datagram gets {found[0]}, and a connection {found[1]}"
 
 
 def half_closed(server):
-    """Requests behind which the peer sends no more, and half of one."""
+    """Requests after which the peer sends nothing more, and half a request."""
     faults = []
     for requests in (1, 3):
         with connected(server) as peer:
@@ -83,7 +83,7 @@ def half_closed(server):
 
 
 def slow(server):
-    """An octet of the request at a time, and of the reply."""
+    """One byte at a time, of the request and of the reply."""
     with connected(server) as peer:
         peer.setsockopt(socket.IPPROTO_TCP, socket.TCP_NODELAY, 1)
         for octet in framed(login("v")):
@@ -95,7 +95,7 @@ def slow(server):
 
 
 def full(server):
-    """A peer that asks again and again, and reads no reply, is dropped; nobody waits for it."""
+    """A peer that sends requests without reading a reply is dropped, and nobody waits for it."""
     sent, requests = 0, framed(login("v")) * 100
     with connected(server) as peer:
         peer.settimeout(20 * SLOWNESS)
@@ -109,8 +109,8 @@ def full(server):
 
 
 def idle(server):
-    """Connections that send nothing and are never closed by their peers, more than twice as many as are served at once: a datagram and a
-    new connection are answered, and the server holds no more than twice as many."""
+    """More than twice as many connections as are served at once, which send nothing and whose peers never close them. A datagram and a new
+    connection are answered, and the server holds at most twice as many as it serves."""
     with contextlib.ExitStack() as stack:
         for _ in range(2 * CONNECTIONS + 88):
             stack.enter_context(connected(server))
@@ -120,13 +120,13 @@ def idle(server):
 
 
 def long_login():
-    """A login for a service that is not there. Its name has 60,000 octets, and the error names it."""
+    """A login for an unknown service, whose name has 60,000 bytes. The error names it."""
     parts = field(1, integer(5)), field(2, integer(10)), field(4, body(REALM.encode(), (b"a" * 60_000,), b"v"))
     return tlv(0x6A, sequence(*parts))
 
 
 def reads_little(server):
-    """A connection whose peer's system takes few octets until the peer reads them."""
+    """A connection whose peer's system buffers few bytes until the peer reads them."""
     peer = socket.socket()
     peer.setsockopt(socket.SOL_SOCKET, socket.SO_RCVBUF, 4096)
     peer.setsockopt(socket.IPPROTO_TCP, socket.TCP_MAXSEG, 536)
@@ -136,7 +136,7 @@ def reads_little(server):
 
 
 def waiting(server):
-    """How many octets wait in the system's buffers, of all connections of this server."""
+    """The number of bytes in the system's buffers, for all connections of this server."""
     port = place_of(server.addresses[1][1])[1]
     lines = [line.split() for line in pathlib.Path("/proc/net/tcp").read_text().splitlines()[1:]]
     ends = [line for line in lines if port in (int(each.rpartition(":")[2], 16) for each in line[1:3])]
@@ -144,7 +144,7 @@ def waiting(server):
 
 
 def unread(server, ends):
-    """What is wrong unless a peer gets three long replies, of which it reads nothing before `ends`, and then the end."""
+    """What is wrong, unless a peer gets three long replies, which it begins to read only after `ends`, and then the end."""
     with reads_little(server) as peer:
         for _ in range(3):
             peer.sendall(framed(long_login()))
@@ -158,18 +158,18 @@ def unread(server, ends):
 
 
 def written_in_part(server):
-    """A reply that is written in part is finished after the peer closed its half."""
+    """A reply that is partly written is finished after the peer closed its half."""
     return unread(server, lambda peer: peer.shutdown(socket.SHUT_WR)) or is_served(server)
 
 
 def without_request(server):
-    """A connection without a complete request for 30 seconds is closed, and what its peer has not read still comes."""
+    """A connection without a complete request for 30 seconds is closed, and its peer still gets what it has not read."""
     with connected(server) as silent, connected(server) as half:
         half.sendall(framed(login("v"))[:20])
         fault = unread(server, lambda _: time.sleep(LONGEST_IDLE + 3))
         ended = [peer.recv(1) for peer in (silent, half)]
     with connected(server) as silent:
-        # Within its time it is answered.
+        # A request within that time is answered.
         time.sleep(LONGEST_IDLE / 3)
         silent.sendall(framed(login("v")))
         found = answer(read_reply(silent))
@@ -178,7 +178,7 @@ def without_request(server):
 
 
 def odd_lengths(server):
-    """A length with its high bit, a length past the longest request, and none."""
+    """A length with its high bit set, a length past the longest request, and length zero."""
     faults = []
     for octets, wanted in ((b"\x80\0\0\0", "61"), ((65536).to_bytes(4, "big"), "61"), (bytes(4), "none")):
         with connected(server) as peer:
@@ -190,7 +190,7 @@ def odd_lengths(server):
 
 
 def nonsense(server):
-    """Datagrams of random octets, and logins with an octet changed. Each of these gets one reply at most."""
+    """Datagrams of random bytes, and logins with one byte changed. Each gets one reply at most."""
     chance = random.Random(42)
     with datagrams(server.udp) as peer:
         for turn in range(4000):
@@ -204,7 +204,7 @@ def nonsense(server):
 
 
 def try_sockets(trial):
-    """Peers of the server."""
+    """Odd and hostile peers of the server."""
     trial.realm("sockets")
     server = trial.serve()
     for what, tried in {
@@ -219,11 +219,11 @@ def try_sockets(trial):
             fault = str(error) or type(error).__name__
         trial.note(what, fault)
     status = server.end()
-    trial.note("the server still runs, and ends when told", "" if status == -15 else f"status {status}")
+    trial.note("the server still runs, and ends at SIGTERM", "" if status == -15 else f"status {status}")
 
 
 def try_each(trial):
-    """Requests of which each has to be answered: datagrams that are sent once, and as many authenticators of a client as are remembered."""
+    """Each request has to be answered: datagrams that are sent once, and as many authenticators of a client as its replay cache holds."""
     trial.realm("each")
     server = trial.serve(f"--first --remembered {REMEMBERED}")
     with datagrams(server.udp) as peer:
@@ -235,7 +235,7 @@ def try_each(trial):
 
 
 def try_remembered(trial, peer):
-    """Each of these authenticators buys a ticket, the next one is refused, and those that come again get the same octets as before."""
+    """Each of these authenticators gets a ticket, the next one is refused, and a repeated one gets the same bytes as before."""
     realm, now = REALM.encode(), int(time.time())
     ticket, key = ticket_in(key_of(b"a password", realm + b"v"), ask_udp(peer, login("v")))
     requests = [tgs_req(realm, b"v", (b"h",), ticket, key, now, turn) for turn in range(REMEMBERED + 1)]
@@ -249,7 +249,7 @@ def try_remembered(trial, peer):
 
 
 def try_killed(trial):
-    """A command that is killed at a moment of its run, also while it writes."""
+    """A command that is killed at some moment of its run, also while it writes."""
     trial.realm("killed")
     file = trial.folder / "database"
     database = json.loads(file.read_text())
@@ -263,7 +263,7 @@ def try_killed(trial):
         before, name = file.read_bytes(), f"killed{turn}"
         quiet = {"stdout": subprocess.PIPE, "stderr": subprocess.DEVNULL}
         running = trial.start(["kadm", "random", "--db", "database", "--name", name], **quiet)
-        # More of them in the last half of the run, in which the file is written.
+        # More kills in the last half of the run, when the file is written.
         time.sleep(took * (1 - (1 - turn / KILLS) ** 2) * 1.1)
         running.kill()
         said = running.communicate(timeout=PATIENCE)[0]
@@ -275,7 +275,7 @@ def try_killed(trial):
             faults.append(f"{name}: it said {said!r}, and the database is neither what it was nor what it has to be")
     if killed < KILLS_AT_LEAST:
         faults.append(f"so few are killed, and not {KILLS_AT_LEAST} at the least")
-    trial.note(f"{KILLS} commands of which {killed} were killed: the database is what it was, or has the row", "; ".join(faults))
+    trial.note(f"{KILLS} commands, {killed} of them killed: the database is what it was, or has the row", "; ".join(faults))
     trial.expect("kadm random --db database --name last", 0, "=ok", what="the next command finds no lock")
     trial.expect("kadm list --db database", 0, "\nlast 1 ", "\nn0 1 ")
     left = [each for each in trial.folder.glob("database*") if each.suffix != ".lock"]
@@ -283,14 +283,14 @@ def try_killed(trial):
     trial.note("what is left of them is the owner's alone", "" if modes <= {0o600} else str(modes))
 
 
-# How often a server with a journal is killed, and how often it gets SIGTERM while requests come.
+# The number of kills of a server with a journal, and of SIGTERMs while requests come.
 JOURNAL_KILLS, JOURNAL_RESTARTS = 20, 5
-# How many octets a journal may have where the disk is full: some thirty records.
+# The size at which the disk of a journal is full, in bytes: some thirty records.
 FULL = 2048
 
 
 class Buyer:
-    """A client that buys tickets of a server with a journal, each with an authenticator of its own."""
+    """A client that gets tickets from a server with a journal, each with its own authenticator."""
 
     def __init__(self, trial, server):
         self.trial, self.turn = trial, 0
@@ -303,13 +303,13 @@ class Buyer:
         return tgs_req(REALM.encode(), b"v", (b"h",), self.ticket, self.key, int(time.time()), self.turn)
 
     def buy(self, server, request=None, tries=3):
-        """What a request gets; the next new one unless it is given."""
+        """The answer to this request, or to the next new one."""
         with datagrams(server.udp) as peer:
             return answer(ask_udp(peer, request or self.request(), tries))
 
 
 def again(trial, server, kill=False, words=""):
-    """The server of this realm once more, after its end."""
+    """Ends the server of this realm, and starts it again."""
     if kill:
         server.process.kill()
         server.process.wait(PATIENCE)
@@ -319,12 +319,12 @@ def again(trial, server, kill=False, words=""):
 
 
 def resumed(server, what="resumed with"):
-    """What is wrong unless it says this of its journal."""
+    """What is wrong, unless the server reports this about its journal."""
     return "" if f"journal run/journal: {what}" in server.said() else f"it says {server.said()!r}"
 
 
 def try_journal(trial):
-    """A server with a journal: restarts under load, kills, files that are cut, changed, of others, and a disk that is full."""
+    """A server with a journal: restarts under load, kills, files that are cut, changed or of other users, and a full disk."""
     trial.realm("journal")
     folder = trial.folder / "run"
     folder.mkdir()
@@ -334,7 +334,13 @@ def try_journal(trial):
     found = [buyer.buy(server, request) for request in requests]
     trial.note("a server with a new journal sells tickets", "" if found == ["ticket"] * 3 else str(found))
     second = trial.run("kdcd serve --db database --udp 127.0.0.1:0 --journal run/journal --rounds 0")
-    trial.note("a second process does not take its journal", second.fault(3, "=failed", "another process appends to it"))
+    said = "run/journal: another server appends to it; each server needs a journal of its own"
+    trial.note("a second process does not take its journal", second.fault(3, "=failed", said))
+    # As in the moment in which the files take turns.
+    (folder / "journal").rename(folder / "away")
+    second = trial.run("kdcd serve --db database --udp 127.0.0.1:0 --journal run/journal --rounds 0")
+    trial.note("nor while the file is away", second.fault(3, "=failed", said))
+    (folder / "away").rename(folder / "journal")
     server = again(trial, server)
     trial.note("a restart resumes", resumed(server, "resumed with 3 authenticators"))
     found = [buyer.buy(server, request) for request in requests] + [buyer.buy(server)]
@@ -349,7 +355,7 @@ def try_journal(trial):
 
 
 def try_restarts(trial, buyer):
-    """SIGTERM while requests come: each gets a ticket, if it is asked again where no reply comes."""
+    """SIGTERM while requests come: each request gets a ticket, if it is repeated when no reply comes."""
     server, found = trial.serve("--journal run/journal"), []
     for _ in range(JOURNAL_RESTARTS):
         found += [buyer.buy(server) for _ in range(50)]
@@ -361,7 +367,7 @@ def try_restarts(trial, buyer):
 
 
 def try_kills(trial, buyer):
-    """Killed at a random moment: no request that was answered buys another ticket."""
+    """A kill at a random moment: no request that was answered gets another ticket."""
     server, faults, count = trial.serve("--journal run/journal"), [], 0
     for _ in range(JOURNAL_KILLS):
         end, sold = time.monotonic() + random.uniform(0.05, 0.5), []
@@ -403,12 +409,13 @@ def try_doubts(trial, file, buyer):
 
 
 def try_full(trial, folder, buyer):
-    """No room for a record: no reply is sent until there is, and then the journal goes on."""
+    """No room for a record: no reply is sent until there is room, and then the journal continues."""
     for file in folder.iterdir():
         file.unlink()
     limits = functools.partial(resource.setrlimit, resource.RLIMIT_FSIZE, (FULL, FULL))
     server = trial.serve("--first --journal run/journal", preexec_fn=limits, restore_signals=False)
-    (folder / "journal").unlink()
+    for file in folder.iterdir():
+        file.unlink()
     folder.rmdir()
     sold = 0
     while sold < 100 and buyer.buy(server, tries=1) == "ticket":
@@ -426,7 +433,7 @@ def try_full(trial, folder, buyer):
     server.end()
 
 
-# Refuses the allocation whose number REFUSED says, and writes how many there were into the file COUNTED.
+# Lets the allocation with the number REFUSED fail, and writes the number of allocations into the file COUNTED.
 LINES = r"""
 #define _GNU_SOURCE
 #include <dlfcn.h>
@@ -450,7 +457,7 @@ void *malloc(size_t size) { NEXT(malloc); return is_refused() ? 0 : next(size); 
 void *realloc(void *old, size_t size) { NEXT(realloc); return is_refused() ? 0 : next(old, size); }
 void *aligned_alloc(size_t align, size_t size) { NEXT(aligned_alloc); return is_refused() ? 0 : next(align, size); }
 
-__attribute__((destructor)) static void tell(void)
+__attribute__((destructor)) static void write_count(void)
 {
     const char *name = getenv("COUNTED");
     long counted = calls;
@@ -464,7 +471,7 @@ __attribute__((destructor)) static void tell(void)
 
 
 def preloaded(trial):
-    """The environment in which allocations are counted and refused, or none."""
+    """The environment in which allocations are counted and fail, or None."""
     compiler = shutil.which("cc")
     if not compiler:
         return None
@@ -475,13 +482,13 @@ def preloaded(trial):
 
 
 def contents(folder):
-    """The files of a folder, but for the locks and what is counted."""
+    """The files of a folder, without locks and counts."""
     kept = (each for each in folder.iterdir() if each.suffix not in (".lock", ".c", ".so") and each.name != "counted")
     return {each.name: each.read_bytes() for each in kept}
 
 
 def sample(counted, places):
-    """So many numbers from 1 to `counted`, the first and the last among them."""
+    """`places` numbers from 1 to `counted`, including the first and the last."""
     return sorted({1 + turn * (counted - 1) // max(1, places - 1) for turn in range(places)})
 
 
@@ -493,13 +500,13 @@ def put_back(folder, before):
 
 
 def refuse_each(trial, environment, words, places, given="", status=3, out=None):
-    """A command each of whose allocations, at some places, is refused in a run of its own. It ends with this status and leaves all files as
-    they were, or does all of its work with another way than the room that was refused; or it prints `out`."""
+    """Lets allocations of a command fail, one in each run. The command ends with this status and leaves all files unchanged, or does all of its
+    work without that allocation, or prints `out`."""
     before, faults, done = contents(trial.folder), [], 0
     whole = trial.run(words, given=given, env=environment)
     if whole.status != 0:
         return trial.note(words, whole.fault(0))
-    # What changes from run to run is not compared.
+    # Parts that differ from run to run are not compared.
     after, counted = contents(trial.folder).keys(), int((trial.folder / "counted").read_text())
     for number in sample(counted, places):
         put_back(trial.folder, before)
@@ -511,15 +518,15 @@ def refuse_each(trial, environment, words, places, given="", status=3, out=None)
             faults.append(f"{number}: {ran.fault(status)}, {ran.out[:80]!r}, {ran.err[:80]!r}, files {changed}")
     put_back(trial.folder, before)
     trial.run(words, given=given)
-    trial.note(f"{words}: of {counted} allocations {len(sample(counted, places))} refused, {done} of them in vain", "; ".join(faults[:3]))
+    trial.note(f"{words}: of {counted} allocations {len(sample(counted, places))} refused, {done} without effect", "; ".join(faults[:3]))
 
 
 def try_memory(trial):
-    """Allocations that are refused."""
+    """Allocations that fail."""
     trial.realm("memory")
     environment = preloaded(trial)
     if not environment:
-        trial.leave("allocations that are refused, since there is no C compiler cc")
+        trial.leave("allocations that fail, since there is no C compiler cc")
         return
     for words in (
         "init --db new --realm R.S", "add --name w --password-file pw", "passwd --name w --password-file other", "random --name r",
@@ -537,7 +544,7 @@ def try_memory(trial):
 
 
 def try_server_memory(trial, environment):
-    """Of a server that runs: a request whose memory is refused may get no ticket, and all others get theirs."""
+    """Allocations of a running server: a request for which one fails may get no ticket, and all others get theirs."""
     trial.run("kdcd serve --db database --udp 127.0.0.1:0 --tcp 127.0.0.1:0 --rounds 0 --first", env=environment)
     begun, faults, hurt = int((trial.folder / "counted").read_text()), [], 0
     for number in range(1, 3 * trial.places):
@@ -547,7 +554,7 @@ def try_server_memory(trial, environment):
         hurt += lost
         if lost > 1 or status != -15:
             faults.append(f"{number}: {found}, status {status}")
-    what = f"kdcd serve: {3 * trial.places - 1} allocations refused while it serves, which cost {hurt} tickets"
+    what = f"kdcd serve: {3 * trial.places - 1} failed allocations while it serves, which cost {hurt} tickets"
     trial.note(what, "; ".join(faults[:3]))
 
 
@@ -558,7 +565,7 @@ def main():
     words = argparse.ArgumentParser(description=__doc__, formatter_class=argparse.RawDescriptionHelpFormatter)
     words.add_argument("--programs", default=pathlib.Path(__file__).resolve().parent.parent / "crates")
     words.add_argument("--only", nargs="+", choices=PARTS, default=list(PARTS), metavar="PART", help=", ".join(PARTS))
-    words.add_argument("--places", type=int, default=12, help="allocations of each command that are refused")
+    words.add_argument("--places", type=int, default=12, help="the number of allocations of each command that fail")
     words = words.parse_args()
     with tempfile.TemporaryDirectory() as folder, ending():
         trial = Trial(programs_in(words.programs, ("kadm", "kdcd", "kclient", "ap_whois")), pathlib.Path(folder))

@@ -1,12 +1,12 @@
 #!/usr/bin/env python3
-"""Tries what an administrator and a user meet of `kadm`, `kdcd serve` and `kclient`: options with good and with bad
-values, limits at their ends, two commands at once, several addresses, locks, live changes, a log that nobody takes,
-terminals, and the tools of MIT and Heimdal where they are on the path. Linux and Python 3 alone are needed.
+"""Tries what administrators and users do with `kadm`, `kdcd serve` and `kclient`: options with good and with bad values,
+limits at their ends, two commands at once, several addresses, locks, live changes, a log that nobody reads, terminals,
+and the tools of MIT and Heimdal, if they are on the path. It needs only Linux and Python 3.
 
     python3 tools/try_operators.py [--programs FOLDER] [--only PART ..] [--requests N]
 
-The folder is that of the three programs, or that of the crates, which have each at NAME/out/NAME. It prints a line for
-each thing that it tried, with `ok` or what was wrong, and ends with status 1 if anything was."""
+The folder has the three programs, or the crates, with each program at NAME/out/NAME. It prints a line for each thing that
+it tried, with `ok` or what was wrong, and ends with status 1 if anything was wrong."""
 
 import argparse
 import collections
@@ -33,17 +33,17 @@ from trial import (
 )
 
 MOST = 4294967295
-# For how many seconds a client is locked.
+# The seconds for which a client is locked.
 LOCK_SECONDS = 60
 SHORT_LOCK_SECONDS = math.ceil(6 * SLOWNESS)
-# How many seconds ahead a ticket begins that is postdated.
+# The seconds until a postdated ticket starts.
 AHEAD = math.ceil(3 * SLOWNESS)
-# For how many seconds `kadm` waits for another one, and within how many a server has what is changed.
+# The seconds that `kadm` waits for another one, and those in which a server serves a change.
 KADM_WAITS, SERVED_WITHIN = 10, 2 * SLOWNESS
-# How many seconds after a read that failed a server reads the database again.
+# The seconds after which a server reads the database again if a read failed.
 RETRIED_AFTER = 5
 
-# Values that are none, by the options that take them.
+# Bad values of options.
 NUMBERS = ("", "-1", "+1", "1.5", "0x10", "ten", " 1", "1 ", "\u0661", str(MOST + 1), "18446744073709551617")
 ADDRESSES = (
     "", "localhost:88", "127.0.0.1", "127.0.0.1:", "127.0.0.1:65536", ":88", "::1:88", "[::1]", "127.1:88", " [::1]:88",
@@ -64,7 +64,7 @@ GOOD = {
     "field": "disabled", "value": "true", "out": "kt", "keytab": "kt", "udp": "127.0.0.1:0", "cache": "cc",
     "log-format": "text",
 }
-# The options of each command: `!` has to stand there, `*` may stand more than once, and `-` has no value.
+# The options of each command: `!` is required, `*` may be given more than once, and `-` has no value.
 COMMANDS = {
     "kadm init": "db! realm! seed",
     "kadm add": "db! name! password-file types random- service- any-password-",
@@ -89,7 +89,7 @@ COMMANDS = {
 FLAGS = ("disabled", "preauth", "forwardable", "proxiable", "postdate", "ok_as_delegate", "service")
 TIMES = ("expires", "password_expires", "revoked_before")
 SPANS = ("greatest_life", "greatest_renewable")
-# Values of the fields of a policy, good and bad.
+# Good and bad values of the fields of a policy.
 SETTINGS = {
     **dict.fromkeys(FLAGS, (("true", "false"), ("", "TRUE", "yes", "1", "never", "true "))),
     **dict.fromkeys(TIMES, (
@@ -101,23 +101,23 @@ SETTINGS = {
 NAMES = (
     "", "a b", "a//b", "/a", "a/", "u@x", "\\41", "\\4A", "\\4", "\u00e9", "a" * 256, "a/" * 16 + "a", "a\nb",
 )
-# What a line of the log is.
+# A line of the log.
 LINE = re.compile(
     r"\d{4}-\d\d-\d\dT\d\d:\d\d:\d\dZ \S+:\d+ (udp|tcp) "
     r"(none|unanswered|(as|tgs) \S+ \S+ (ticket [\w-]+|refused (\d+|-) [a-z-]+)( [a-z]+=\S+)*)"
 )
-# The names that each line has with --log-format json.
+# The names on each line with --log-format json.
 NAMED = {"time", "peer", "transport", "exchange"}
 
 
 def faults_of(trial, base, values, status, *texts):
-    """What is wrong where a command with each of these last words has to end so."""
+    """What is wrong, if a command with each of these last words has to end with this status and these texts."""
     faults = ((value, trial.run([*base, value], seconds=10).fault(status, *texts)) for value in values)
     return " | ".join(f"{value[:40]!r}: {fault}" for value, fault in faults if fault)
 
 
 def try_words(trial):
-    """The words of each command: help, and each option with values that are none, left away, twice, without a value."""
+    """The help of each command, and each option with bad values, left out, given twice, and without a value."""
     trial.realm("words")
     for program in ("kadm", "kdcd", "kclient"):
         subcommands = [each.split()[1] for each in COMMANDS if each.startswith(program)]
@@ -147,12 +147,12 @@ def try_option(trial, command, base, name, marks):
         cases += [[]] if "!" in marks else []
     others = joined({each: value for each, value in base.items() if each != name})
     ran = ((case, trial.run([*command.split(), *others, *case], seconds=10).fault(2, option)) for case in cases)
-    faults = " | ".join(f"{shlex.join(case) or 'left away'}: {fault}" for case, fault in ran if fault)
-    trial.note(f"{command} {option}: {len(cases)} faulty uses", faults)
+    faults = " | ".join(f"{shlex.join(case) or 'left out'}: {fault}" for case, fault in ran if fault)
+    trial.note(f"{command} {option}: {len(cases)} bad uses", faults)
 
 
 def try_kadm(trial):
-    """Each command and option of `kadm` with good values, the faults of names and files, and what is printed."""
+    """Each command and option of `kadm` with good values, bad names and files, and what is printed."""
     trial.realm("kadm")
     trial.cases("""
         kadm init --db new --realm R.S -> 0 =ok
@@ -166,9 +166,9 @@ def try_kadm(trial):
         kadm random --db database --name r --seed seed --types 19,17 -> 0 =ok
         kadm drop --db database --name r --version 0000000001 -> 0 =ok
         kadm add --db database --name s --random -> 0 =ok
-        kadm random --db database --name s -> 0 =ok; s: new keys, version 2; older ones stay
-        kadm random --db database --name s --replace -> 0 =ok; s: new keys, version 3; all older ones are dropped
-        kadm random --db database --name t -> 0 =ok; t: made, with keys of version 1
+        kadm random --db database --name s -> 0 =ok; s: has new keys, version 2; older versions stay
+        kadm random --db database --name s --replace -> 0 =ok; s: has new keys, version 3; older versions are dropped
+        kadm random --db database --name t -> 0 =ok; t: added, with keys of version 1
         kadm random --db database --name t --types 17 -> 0 =ok
         kadm drop --db database --name t --older -> 0 =ok
         kadm add --db database --name s --random -> 1 =refused Exists
@@ -211,7 +211,7 @@ def try_kadm(trial):
     rows = [*[f"{field} {value}" for field, value in sorted(last.items())], "version 2 20,18", "version 1 18,17,20,19"]
     trial.expect("kadm show --db database --name a", 0, "=" + "\n".join(rows))
     random = "kadm random --db database --name".split()
-    trial.note(f"{len(NAMES)} names that are none", faults_of(trial, random, NAMES, 1, "=refused BadName"))
+    trial.note(f"{len(NAMES)} invalid names", faults_of(trial, random, NAMES, 1, "=refused BadName"))
     trial.write("long", "p" * 1025)
     trial.write("longest", "p" * 1024)
     (trial.folder / "folder").mkdir()
@@ -243,13 +243,13 @@ def try_kadm(trial):
         kadm keytab --db ./database --name a --out database --append -> 1 =refused IsDatabase
         kadm keytab --db database --name a --out folder/../database -> 1 =refused IsDatabase
         kadm keytab --db database --name a --out new -> 1 =refused IsDatabase
-        kadm keytab --db database --name a --out database.lock -> 1 =refused IsLock; database.lock: a name that ends in
+        kadm keytab --db database --name a --out database.lock -> 1 =refused IsLock; database.lock: a file whose name ends in
         kadm keytab --db database --name a --out ./new.lock --append -> 1 =refused IsLock
         cp database copy -> 0
-        kadm keytab --db database --name a --out copy -> 1 =refused BadMagic; copy: it is no keytab
+        kadm keytab --db database --name a --out copy -> 1 =refused BadMagic; copy: this is not a keytab
         cmp database copy -> 0
         kadm import --db database --name x --keytab a.keytab -> 1 =refused NoKeys; a.keytab: it has no key
-        kadm import --db database --name x --keytab text -> 1 =refused BadMagic; text: it is no keytab
+        kadm import --db database --name x --keytab text -> 1 =refused BadMagic; text: this is not a keytab
         kadm import --db database --name x --keytab none -> 3 =failed; none: No such file
         kadm list --db text -> 1 =refused NotJson; text: invalid JSON at line 1 column
     """)
@@ -269,12 +269,13 @@ def try_kadm(trial):
 
 
 def try_limits(trial):
-    """Each option of `kdcd serve`, its limits at their ends, and servers with them that are asked."""
+    """Each option of `kdcd serve`, its limits at their ends, and requests to servers with them."""
     trial.realm("limits")
     limits = ("lock-after", "lock-seconds", "greatest-life", "greatest-renewable")
     for name, ends in {"remembered": (1, 65536), **dict.fromkeys(limits, (0, MOST))}.items():
         for end in ends:
-            words = f"kdcd serve --db database --udp 127.0.0.1:0 --rounds 0 --{name} {end}"
+            seconds = " --lock-seconds 9" if name == "lock-after" and end else ""
+            words = f"kdcd serve --db database --udp 127.0.0.1:0 --rounds 0 --{name} {end}{seconds}"
             trial.expect(words, 0, f"{name} {end}", "=served 0 0 0")
     port, nine = free_port(), " ".join(["--udp 127.0.0.1:0"] * 9)
     with socket.socket(type=socket.SOCK_DGRAM) as taken:
@@ -284,7 +285,8 @@ def try_limits(trial):
             kdcd serve --db database --rounds 0 --udp 127.0.0.1:0 --seed seed --fixed --log --first -> 0 =served 0 0 0
             kdcd serve --db database --udp 127.0.0.1:{port} -> 3 =failed; udp 127.0.0.1:{port}: 
             kdcd serve --db database {nine} -> 2 --udp; 8
-            kdcd serve --db text --udp 127.0.0.1:0 -> 1 =refused NotJson; text: 
+            kdcd serve --db database --udp 127.0.0.1:0 --lock-after 3 -> 2 --lock-after needs --lock-seconds
+            kdcd serve --db text --udp 127.0.0.1:0 -> 1 =refused NotJson; text: invalid JSON at line 1 column
             kdcd serve --db none --udp 127.0.0.1:0 -> 3 =failed; none: No such file
             kdcd serve --db . --udp 127.0.0.1:0 -> 3 =failed
             kdcd serve --db database --seed short --udp 127.0.0.1:0 -> 1 =refused ShortSeed; short: 
@@ -313,7 +315,7 @@ def try_limits(trial):
     trial.with_server(f"--first --greatest-life {MOST} --greatest-renewable {MOST}", longest)
     trial.with_server("--first --greatest-life 0", "KINIT u --password-file pw -> 1 =refused 11")
     trial.with_server("", f"{right}KVNO h -> 1 =refused 37")
-    # A login as before, and the next KDC is asked for a ticket that a quiet one says nothing of.
+    # A login as before. The client asks the next KDC for a ticket if a quiet one does not answer.
     other = Server(trial, "--first")
     trial.with_server("--quiet-start", f"{right}KVNO h --kdc {other.udp} -> 0 =h kvno 1")
     other.end()
@@ -324,7 +326,7 @@ def seconds_of(text):
 
 
 def try_seeds(trial):
-    """Of two servers with one seed the first tickets have the same session key; another seed makes others, and so does the system's."""
+    """The first tickets of two servers with one seed have the same session key. Another seed makes another key, and so does the system."""
     trial.write("another", os.urandom(32))
     keys = [first_key(trial, words) for words in ("--seed seed", "--seed seed", "--seed another", "", "")]
     is_right = None not in keys and keys[0] == keys[1] and len({*keys}) == 4
@@ -340,7 +342,7 @@ def first_key(trial, words):
 
 
 def try_kclient(trial):
-    """Each option of `kclient` with good values, and the faults that a user meets."""
+    """Each option of `kclient` with good values, and the errors that a user meets."""
     trial.realm("kclient")
     for name in ("u", f"krbtgt/{REALM}"):
         trial.run(f"kadm policy --db database --name {name} --field postdate --value true")
@@ -357,7 +359,7 @@ def try_kclient(trial):
         kclient kinit --kdc KDC --name u@A.B --password-file pw --cache cc --life 8h -> 0 =ok
         kclient kinit --renew --kdc KDC --cache cc -> 1 =refused NotRenewable; --renewable
         KINIT u --password-file pw --least-count 4096 -> 0 =ok
-        KINIT u --password-file pw --least-count 4097 -> 1 =refused WeakCount; --least-count
+        KINIT u --password-file pw --least-count 4097 -> 1 =refused WeakCount; the least count
         KINIT u --password-file pw --life 600 --renewable --forwardable --proxiable -> 0 =ok
         kclient klist --cache cc -> 0 principal u@A.B; flags F; renew 2
         kclient kinit --renew --kdc KDC --cache cc -> 0 =ok
@@ -403,12 +405,12 @@ def try_kclient(trial):
     kinit = [*"kclient kinit --kdc 127.0.0.1:9 --realm A.B --keytab u.keytab --cache cc --name".split()]
     # behind an `@` stands a realm
     names = [each for each in NAMES if "@" not in each]
-    trial.note(f"{len(names)} names that are none", faults_of(trial, kinit, names, 1, "=refused BadName"))
+    trial.note(f"{len(names)} invalid names", faults_of(trial, kinit, names, 1, "=refused BadName"))
     served.end()
 
 
 def try_pairs(trial):
-    """Twenty commands at once on one database, and commands that wait for its lock."""
+    """Twenty commands at the same time on one database, and commands that wait for its lock."""
     trial.realm("pairs")
     random, names = "kadm random --db database --name".split(), {f"n{number}" for number in range(20)}
     quiet = {"stdout": subprocess.PIPE, "stderr": subprocess.DEVNULL}
@@ -439,7 +441,7 @@ def try_pairs(trial):
 
 
 def try_owners(trial):
-    """What is changed keeps its owner, group and mode."""
+    """A changed file keeps its owner, group and mode."""
     if os.geteuid():
         trial.leave("owners and groups: only root can give files away")
         return
@@ -453,7 +455,7 @@ def try_owners(trial):
     for name, (owner, group, mode) in kept.items():
         os.chown(trial.folder / name, owner, group)
         os.chmod(trial.folder / name, mode)
-    # A lock that is there stays its owner's: the next command makes one.
+    # An existing lock keeps its owner, so the next command makes one.
     (trial.folder / "database.lock").unlink()
     trial.expect("kadm random --db database --name h", 0, "=ok")
     trial.expect("kadm keytab --db database --name h --out shared.keytab --append", 0, "=ok")
@@ -464,7 +466,7 @@ def try_owners(trial):
     lock, secret = trial.folder / "database.lock", trial.folder / "secret"
     owner = lock.stat().st_uid
     trial.note("a lock that is made belongs to the owner of the database", "" if owner == 65534 else str(owner))
-    # Who owns the folder may have put a link there.
+    # The folder's owner may have put a link there.
     lock.unlink()
     secret.write_bytes(b"")
     lock.symlink_to(secret)
@@ -487,7 +489,7 @@ def try_owners(trial):
 
 
 def try_addresses(trial):
-    """Eight addresses, each of which answers."""
+    """Eight addresses. The server answers on each."""
     trial.realm("addresses")
     interfaces = pathlib.Path("/proc/net/if_inet6")
     six = "[::1]" if interfaces.exists() and " lo\n" in interfaces.read_text() else ""
@@ -514,7 +516,8 @@ def try_addresses(trial):
 
 
 def try_lock(trial):
-    """A lock, its end, and one more that a single failure brings, since a good login alone begins the count anew."""
+    """A lock, its end, another lock after a single failure, since only a good login starts the count again, and a lock that a new password
+    ends."""
     trial.realm("lock")
     served = trial.serve(f"--first --lock-after 3 --lock-seconds {SHORT_LOCK_SECONDS}")
     wrong, right = "KINIT u --password-file other -> 1 =refused 24\n", "KINIT u --password-file pw -> 0 =ok\n"
@@ -527,10 +530,17 @@ def try_lock(trial):
         time.sleep(max(0.0, last + SHORT_LOCK_SECONDS + 1.1 - time.time()))
     trial.cases(right + 2 * wrong + right)
     served.end()
+    served = trial.serve(f"--first --lock-after 1 --lock-seconds {MOST}")
+    trial.cases(wrong + locked + "kadm passwd --db database --name u --password-file other -> 0 =ok")
+    start = time.monotonic()
+    while served.answer("u") == "18" and time.monotonic() < start + 3 * SERVED_WITHIN:
+        time.sleep(0.02)
+    trial.cases("KINIT u --password-file other -> 0 =ok")
+    served.end()
 
 
 def try_change(trial):
-    """What `kadm` changes is served within two seconds, or on a slow machine a few more."""
+    """A change by `kadm` is served within two seconds, or a few more on a slow machine."""
     trial.realm("change")
     served, fixed = trial.serve(), Server(trial, "--first --fixed")
 
@@ -564,12 +574,17 @@ def try_change(trial):
     trial.run("kadm init --db foreign --realm R.S")
     trial.run("cp database kept")
     none = "No such file or directory (os error 2)"
-    for words, said in {"mv text": "NotJson", "mv foreign": "OtherRealm", "mv database": none}.items():
+    found = trial.run("kadm list --db text").err.partition("text: ")[2].partition("\n")[0]
+    trial.run("cp database broken")
+    broken = trial.folder / "broken"
+    broken.write_text(broken.read_text().replace('"preauth":true', '"preauth":1', 1))
+    rows = {"mv text": f"NotJson ({found})", "mv broken": 'BadRow (principal "h": preauth)', "mv foreign": "OtherRealm", "mv database": none}
+    for words, said in rows.items():
         trial.run(f"{words} {'gone' if said == none else 'database'}")
         line = f"kdcd: database: {said}; the rows before it stay\n"
         trial.note(f"{words}: it says {said}", "" if served.wait(lambda: line in served.said(), 4) else served.said())
     time.sleep(SERVED_WITHIN)
-    trial.note("each is said once", "" if served.said().count("rows before it stay") == 3 else served.said())
+    trial.note("each is said once", "" if served.said().count("rows before it stay") == 4 else served.said())
     trial.cases("KINIT u --password-file other -> 0 =ok")
     trial.run("mv kept database")
     change("kadm add --db database --name w --password-file pw", "25")
@@ -581,7 +596,7 @@ def try_change(trial):
 
 
 def try_without_files(trial, served):
-    """A database that the system fails to open is opened again some seconds later; the failure is said once, and then the rows."""
+    """A database that can't be opened is opened again some seconds later. The server reports the failure once, and then the rows."""
     pid = served.process.pid
     hard = resource.prlimit(pid, resource.RLIMIT_NOFILE)[1]
     used = {int(each.name) for each in pathlib.Path(f"/proc/{pid}/fd").iterdir()}
@@ -599,12 +614,12 @@ def try_without_files(trial, served):
 
 
 def odd_lines(text):
-    """The lines that are none of the log, but for what a server says at its start and its end."""
+    """The lines that are not the log's, except for those that a server writes at its start and its end."""
     return [line for line in text.splitlines() if not line.startswith("kdcd: ") and not LINE.fullmatch(line)]
 
 
 def try_log(trial):
-    """Thousands of requests with a log to a file, and to places that take no lines."""
+    """Thousands of requests with a log to a file, and to sinks that accept no lines."""
     trial.realm("log")
     for what in SINKS:
         writer, reader = sink_of(trial, what)
@@ -632,7 +647,7 @@ def try_log(trial):
 
 
 def try_objects(trial):
-    """Lines of JSON."""
+    """A log of JSON lines."""
     served = trial.serve("--first --log-format json")
     for name in ("v", "nobody"):
         served.answer(name)
@@ -641,13 +656,13 @@ def try_objects(trial):
     lines = [line for line in served.said().splitlines() if not line.startswith("kdcd: ")]
     objects = [json.loads(line) for line in lines]
     is_well = len(objects) >= 2 and all(NAMED <= each.keys() and set(map(type, each.values())) == {str} for each in objects)
-    told = {(each.get("client"), each.get("outcome")) for each in objects}
-    is_well = is_well and {("v", "ticket"), ("nobody", "refused")} <= told
+    outcomes = {(each.get("client"), each.get("outcome")) for each in objects}
+    is_well = is_well and {("v", "ticket"), ("nobody", "refused")} <= outcomes
     trial.note("--log-format json: a line is an object, whose values are strings", "" if is_well else f"{lines[:3]}")
 
 
 def try_lost_lines(trial):
-    """What is said of lost lines after the last round."""
+    """The server counts the lost lines after the last round."""
     reader, writer = os.pipe()
     served = trial.serve("--first --log --rounds 8000", errors=writer)
     os.close(writer)
@@ -689,7 +704,7 @@ def try_terminal(trial):
 
 
 def try_stock(trial):
-    """MIT's and Heimdal's tools, where they are on the path."""
+    """MIT's and Heimdal's tools, if they are on the path."""
     trial.realm("stock")
     for name in ("u", f"krbtgt/{REALM}"):
         trial.run(f"kadm policy --db database --name {name} --field postdate --value true")
@@ -749,7 +764,7 @@ def try_mit(trial, served):
 
 
 def try_mit_lock(trial, stock):
-    """A client of MIT's with a wrong password three times, the right one while it is locked, and after the lock's end."""
+    """MIT's client with a wrong password three times, and with the right one during the lock and after its end."""
     served = trial.serve(f"--first --lock-after 3 --lock-seconds {LOCK_SECONDS}")
     trial.configure(served.udp)
     for turn in ("first", "second", "third"):
@@ -779,7 +794,7 @@ def main():
     words = argparse.ArgumentParser(description=__doc__, formatter_class=argparse.RawDescriptionHelpFormatter)
     words.add_argument("--programs", default=pathlib.Path(__file__).resolve().parent.parent / "crates")
     words.add_argument("--only", nargs="+", choices=PARTS, default=list(PARTS), metavar="PART", help=", ".join(PARTS))
-    words.add_argument("--requests", type=int, default=3000, help="datagrams with each log")
+    words.add_argument("--requests", type=int, default=3000, help="the number of datagrams with each log")
     words = words.parse_args()
     with tempfile.TemporaryDirectory() as folder, ending():
         trial = Trial(programs_in(words.programs), pathlib.Path(folder))

@@ -1,12 +1,12 @@
 #!/usr/bin/env python3
-"""Does what README.md says of a first realm, by its own lines: in an empty folder, with the built programs on the path. Then our client
-logs in and gets the ticket, and where MIT's clients are on the path they do, and print what README.md has. Its lines of Rust have to stand
-as they are in the programs that it names, which the gate builds.
+"""Runs the lines of README.md that make a first realm, in an empty folder and with the built programs on the path. Then our client logs in
+and gets the ticket. If MIT's clients are on the path they do so too, and print what README.md has. Its lines of Rust must be in the programs
+that it names, which the gate builds.
 
     python3 tools/try_readme.py [--programs FOLDER]
 
-Only the port is another, since 8888 may be taken. It prints a line for each thing that it tried, with `ok` or what was wrong, and ends
-with status 1 if anything was."""
+Only the port differs, since 8888 may be taken. It prints a line for each thing that it tried, with `ok` or what was wrong, and ends with
+status 1 if anything was wrong."""
 
 import argparse
 import os
@@ -34,7 +34,7 @@ def blocks(title):
 
 
 def check_code(trial):
-    """Each block of Rust stands, line by line, in one of the programs."""
+    """Checks that each block of Rust is, line by line, in one of the programs."""
     stripped = lambda lines: "\n".join(map(str.strip, lines))
     programs = [stripped((TOP / "crates" / name / "src" / "main.rt").read_text().splitlines()) for name in EXAMPLES]
     for lines in blocks("In your own program"):
@@ -43,7 +43,7 @@ def check_code(trial):
 
 
 def make_realm(trial, lines, port):
-    """Runs all lines but the last one, and starts the server by that one."""
+    """Runs all lines but the last one, which starts the server."""
     *lines, serve = [line.replace(PORT, port) for line in lines]
     trial.expect(["sh", "-e"], 0, "ok", given="\n".join(lines) + "\n", what="the lines that make the realm")
     log = open(trial.folder / "log", "wb")
@@ -55,7 +55,7 @@ def make_realm(trial, lines, port):
 
 
 def log_in(trial, lines):
-    """The commands behind `$`, each of which has to print the lines below it."""
+    """Runs the commands after `$`. Each one has to print the lines below it."""
     commands = re.findall(r"^\$ (.*)\n((?:[^$].*\n)*)", "\n".join(lines) + "\n", re.M)
     exports = [command for command, printed in commands if command.startswith("export ")]
     for command, printed in commands:
@@ -67,13 +67,24 @@ def log_in(trial, lines):
             trial.note(f"MIT's {command}", fault or f"{lacking} is not in {said}" * bool(lacking))
 
 
+def try_example(trial):
+    """`krb_login` prints when its ticket ends, in seconds since 1970; with another password why there is none."""
+    ran = trial.run("krb_login alice host/www.example.com", given="a password\n")
+    ends = ran.out.strip()
+    late = ends.isdecimal() and int(ends) > time.time()
+    trial.note("krb_login gets a ticket", ran.fault(0) or f"it prints {ran.out!r}" * (not late))
+    ran = trial.run("krb_login alice host/www.example.com", given="another password\n")
+    refused = re.fullmatch(r"127\.0\.0\.1:\d+: error 24: .*\n", ran.out)
+    trial.note("krb_login says why it gets none", ran.fault(1) or f"it prints {ran.out!r}" * (not refused))
+
+
 def main():
     words = argparse.ArgumentParser(description=__doc__, formatter_class=argparse.RawDescriptionHelpFormatter)
     words.add_argument("--programs", default=TOP / "crates")
     words = words.parse_args()
     realm, clients = [lines for lines in blocks("A first realm") if "kadm init" in lines[1] or lines[0].startswith("$")]
     with tempfile.TemporaryDirectory() as folder, ending():
-        trial = Trial(programs_in(words.programs), pathlib.Path(folder))
+        trial = Trial(programs_in(words.programs, ("kadm", "kdcd", "kclient", "krb_login")), pathlib.Path(folder))
         trial.folder = pathlib.Path(folder, "realm")
         trial.folder.mkdir()
         places = [os.path.dirname(each) for each in trial.programs.values()]
@@ -82,6 +93,7 @@ def main():
         make_realm(trial, realm, str(free_port()))
         trial.expect("kclient kinit --name alice --cache cc", 0, "=ok", given="a password\n")
         trial.expect("kclient kvno --name host/www.example.com --cache cc", 0, "=host/www.example.com kvno 1")
+        try_example(trial)
         if shutil.which("kvno"):
             log_in(trial, clients)
         else:

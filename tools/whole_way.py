@@ -1,14 +1,14 @@
 #!/usr/bin/env python3
-"""Goes a ticket's whole way with the programs, for each encryption type: `kadm` makes a realm, `kdcd serve` issues the
-tickets, `kclient` gets them, MIT's library makes AP-REQs of them (`tools/mk_req.c`), and `ap_whois` accepts them.
+"""Tries a ticket's whole way through the programs, for each encryption type: `kadm` makes a realm, `kdcd serve` issues the
+tickets, `kclient` gets them, MIT's library makes AP-REQs with them (`tools/mk_req.c`), and `ap_whois` accepts these.
 
     for program in kadm kdcd kclient ap_whois; do (cd crates/$program && rt run -- --help); done
     cc -o mk_req tools/mk_req.c -lkrb5                        # Debian: libkrb5-dev
     python3 tools/whole_way.py --mk-req ./mk_req
 
-The first line proves and builds the programs, each at crates/NAME/out/NAME. What the service prints of a ticket is compared with what
-MIT's library reads of it, and that library takes the AP-REP. A line for each type says `ok` or the first difference; the status is 1 if
-there was any."""
+The first line proves and builds the programs, each at crates/NAME/out/NAME. The service's lines about a ticket are compared with what MIT's
+library reads from it, and that library checks the AP-REP. A line for each type says `ok` or the first difference; the status is 1 if there
+was one."""
 
 import argparse
 import calendar
@@ -26,19 +26,19 @@ from trial import PATIENCE, RUNNING, Differs, Notes, end_all, ending, expect, ki
 
 TYPES = (17, 18, 19, 20)
 SERVICE, OTHER = "imap/h", "imap/other"
-# What the client asks of the library, beside the AP-REQ.
+# What the client asks the library for, besides the AP-REQ.
 CHOICES = ((), ("mutual",), ("subkey", "mutual", "number", "checksum"))
 CONFIGURATION = "[libdefaults]\ndefault_realm = A.B\nrdns = false\ndns_lookup_kdc = false\n"
-# What both print of a ticket. The library gives 0 for a time that is absent.
+# What both print about a ticket. The library prints 0 for an absent time.
 PRINTED = ("client", "session-key-type", "flags", "authtime", "starttime", "endtime", "renew-till")
 
 
 class Place:
-    """A folder with the files of a realm whose keys are all of one type."""
+    """A folder with the files of a realm whose keys all have one type."""
 
     def __init__(self, programs, folder):
         self.programs, self.folder = programs, folder
-        # Who makes AP-REQs.
+        # The program that makes AP-REQs.
         self.requests = Request if programs.get("mk_req") else OwnRequest
 
     def path(self, name):
@@ -53,7 +53,7 @@ class Place:
         return self.write("seed", os.urandom(32))
 
     def run(self, program, *words):
-        """What a program prints. It has to end well."""
+        """Runs a program, which must succeed, and returns what it prints."""
         ran = subprocess.run([self.programs[program], *words], capture_output=True, text=True, timeout=PATIENCE)
         expect(f"the status of {program} {' '.join(words)} ({ran.stdout}{ran.stderr})", ran.returncode, 0)
         return ran.stdout
@@ -74,7 +74,7 @@ class Place:
             expect("keytab", self.kadm("keytab", "--name", service, "--out", self.path(keytab)), "ok\n")
 
     def keep_type(self, etype):
-        """Takes the keys of all other types out of the database."""
+        """Removes the keys of all other types from the database."""
         with open(self.path("database")) as file:
             database = json.load(file)
         for row in database["principals"].values():
@@ -93,7 +93,7 @@ class Place:
 
 @contextlib.contextmanager
 def in_time(process):
-    """Kills a program that does not get so far in its time, and that is a fault."""
+    """Kills a program that is not done in its time, which is an error."""
     late = threading.Event()
     timer = threading.Timer(PATIENCE, lambda: (late.set(), kill(process)))
     timer.start()
@@ -106,10 +106,10 @@ def in_time(process):
 
 
 class Lines:
-    """A program that is asked line by line, each of which it has to answer in its time."""
+    """A program that gets one line after another, and has to answer each in its time."""
 
     def __init__(self, *words, environment=None, errors=False):
-        """With `errors` it says nothing on standard error, or that is a fault."""
+        """With `errors`, text on standard error is an error."""
         self.process = subprocess.Popen(
             words,
             stdin=subprocess.PIPE,
@@ -120,7 +120,7 @@ class Lines:
         )
         RUNNING.append(self.process)
 
-    def tell(self, line):
+    def send(self, line):
         self.process.stdin.write(line + "\n")
         self.process.stdin.flush()
 
@@ -129,7 +129,7 @@ class Lines:
             return self.process.stdout.readline().rstrip("\n")
 
     def ask(self, line):
-        self.tell(line)
+        self.send(line)
         return self.line()
 
     def end(self):
@@ -159,7 +159,7 @@ class Kdc:
 
 
 class OwnRequest:
-    """An AP-REQ of type 18 by `kerberos.py`, and what that reads of the ticket by the service's key."""
+    """An AP-REQ of type 18 by `kerberos.py`, and what that reads from the ticket with the service's key."""
 
     def __init__(self, place, service, _keytab, choice):
         with open(place.path("cache"), "rb") as cache:
@@ -184,11 +184,11 @@ class OwnRequest:
         expect("the microseconds in the AP-REP", part[1], integer(self.at[1]))
 
     def end(self):
-        """Nothing runs."""
+        """Does nothing, since no process runs."""
 
 
 class Request:
-    """An AP-REQ by MIT's library, and what it reads of the ticket by the service's keytab."""
+    """An AP-REQ by MIT's library, and what it reads from the ticket with the service's keytab."""
 
     def __init__(self, place, service, keytab, choice):
         environment = {
@@ -213,8 +213,8 @@ class Request:
         self.maker.end()
 
 
-def told(answer):
-    """What the service says of an AP-REQ that it accepts."""
+def contents(answer):
+    """The contents that the service prints for an AP-REQ that it accepts."""
     words = answer.split(" ")
     expect(f"the answer ({answer})", words[0], "accepted")
     return {"client": words[1], **dict(zip(words[2::2], words[3::2]))}
@@ -223,7 +223,7 @@ def told(answer):
 def present(place, service, choice):
     """Presents a ticket that is accepted, and then the same AP-REQ again."""
     request = place.requests(place, SERVICE, "keytab", choice)
-    accepted = told(service.ask(request.digits))
+    accepted = contents(service.ask(request.digits))
     for word in PRINTED:
         expect(word, accepted.get(word, "0"), request.read[word])
     expect("an AP-REP", "ap-rep" in accepted, "mutual" in choice)
@@ -242,8 +242,8 @@ def refuse(place, service, name, keytab, answer):
 
 
 def go(programs, etype):
-    """AP-REQs that are accepted, and refused when they come again; so are one for another service, one that is cut, and one after a
-    restart."""
+    """Presents AP-REQs that are accepted, and refused when they come again. An AP-REQ for another service, one that is cut and one after a
+    restart are refused too."""
     with tempfile.TemporaryDirectory() as folder:
         try:
             go_in(Place(programs, folder), etype)
@@ -269,7 +269,7 @@ def go_in(place, etype):
 
 
 def add_programs(words, *programs):
-    """Options for where the repository's programs are: by default where `rt run` builds them."""
+    """Adds options for the paths of the repository's programs: by default the ones that `rt run` builds."""
     top = os.path.dirname(os.path.dirname(os.path.abspath(__file__)))
     for program in programs:
         words.add_argument("--" + program.replace("_", "-"), default=f"{top}/crates/{program}/out/{program}")

@@ -1,10 +1,10 @@
 -- What a call leaves unchanged.
-use Rattle.std.proofs.Common.{◌≡◌, ◌≤ℤ◌, arith, Bool, true, false, cond, ◌&&◌, ℤ, List, ℕ, Option, Some, None, Result, Ok, Err, OnOk, OnErr, refl, ap, sym, subst, ◌∙◌}
+use Rattle.std.proofs.Common.{◌≡◌, ◌≤ℤ◌, ◌-ℤ◌, pos, inl, inr, arith, Bool, true, false, cond, ◌&&◌, ℤ, List, ℕ, Option, Some, None, Result, Ok, Err, OnOk, OnErr, refl, ap, sym, subst, ◌∙◌}
 use Rattle.std.specs.FinMap as map
 use Rattle.std.specs.FinMap.{get-insert}
 use Rattle.std.specs.Option.{unwrap_or}
 use Rattle.std.specs.Ordering.{eq_by_cmp}
-use Rattle.std.specs.Prelude.{⊤}
+use Rattle.std.specs.Prelude.{⊤, int_lt}
 use Rattle.std.specs.Result.{result_ok}
 use Rattle.std.proofs.lemmas.Int.{ints}
 use Rattle.krb_ap.specs.ApReq.{ApReq}
@@ -13,7 +13,7 @@ use Rattle.krb_fields.specs.declared.moment.Moment.{Moment}
 use Rattle.replay.specs.Memory.{remembered}
 use Rattle.replay.specs.declared.memory.Memory.{Memory}
 use Rattle.ap_accept.specs.Accepts.{accepts, if_presented, if_request, memory_for, memory_refusal, presented_by, presented_if, remembering, remembering_clients, request_of, stamp_of, unless_seen, IsAfter, IsParty, IsService}
-use Rattle.ap_accept.specs.Clients.{empty_memory, floor_for, let_go, memory_in, opened_clients, with_memory}
+use Rattle.ap_accept.specs.Clients.{IsKeptOrDropped, empty_memory, floor_for, hour, lasts, let_go, memory_in, opened_clients, with_memory}
 use Rattle.ap_accept.specs.Presented.{presented}
 use Rattle.ap_accept.specs.Reply.{asks_reply}
 use Rattle.ap_accept.specs.Run.{is_party}
@@ -25,7 +25,7 @@ use Rattle.ap_accept.specs.declared.fault.ApFault.TheVariants.{NotAnApReq, Refus
 use Rattle.ap_accept.specs.declared.presented.Presented.{Presented}
 use Rattle.ap_accept.specs.declared.refusal.ApRefusal.{ApRefusal}
 use Rattle.ap_accept.specs.declared.state.State.{State}
-use Rattle.ap_accept.proofs.LettingGo.{as_empty_on, both, let_go_keeps, Carried}
+use Rattle.ap_accept.proofs.LettingGo.{as_empty_on, both, let_go_keeps, let_go_keeps_due, Carried}
 use Rattle.ap_accept.proofs.Raised.{raised}
 
 -- ---- storing a client's cache
@@ -52,11 +52,12 @@ module _ (state : State) (now : ℤ) (p : Presented) (service client : Component
   next_memory = cond (is_party service client p) (remembered (memory_for state p) now (stamp_of p) tt) (memory_of state service client)
 
   placed : (b : Bool) → eq_by_cmp name_cmp service p.service.components ≡ b
-      → (go : Clients → Clients) (P : Memory ⊤ → Type 0) → ((clients : Clients) → P (memory_in clients client) → P (memory_in (go clients) client))
+      → (go : Clients → Clients) (P : Memory ⊤ → Type 0)
+      → (b ≡ true → P (memory_in (remembering_clients state now p) client) → P (memory_in (go (remembering_clients state now p)) client))
       → P (cond (b && eq_by_cmp name_cmp client p.ticket.cname.components) (remembered (memory_for state p) now (stamp_of p) tt) (memory_of state service client))
       → P (memory_in (cond b (go (remembering_clients state now p)) (clients_of state service)) client)
   placed true e go P keeps h =
-      keeps (remembering_clients state now p)
+      keeps refl
       (subst P
       (ap (cond (eq_by_cmp name_cmp client p.ticket.cname.components) (remembered (memory_for state p) now (stamp_of p) tt)) (ap (λ s. memory_of state s client) (same_name service p.service.components e))
       ∙ sym (memory_stored (clients_of state p.service.components) p.ticket.cname.components (remembered (memory_for state p) now (stamp_of p) tt) client))
@@ -66,14 +67,23 @@ module _ (state : State) (now : ℤ) (p : Presented) (service client : Component
   abbrev pub stored_by : (Clients → Clients) → State
   stored_by go = with_clients state p.service.components (go (remembering_clients state now p))
 
-  -- P holds of the cache if it holds of the new one and dropping entries preserves it
-  pub stored_keeps : (go : Clients → Clients) (P : Memory ⊤ → Type 0) → ((clients : Clients) → P (memory_in clients client) → P (memory_in (go clients) client)) → P next_memory → P (memory_of (stored_by go) service client)
+  -- P holds of the cache if it holds of the new one and dropping entries of this service preserves it
+  pub stored_keeps : (go : Clients → Clients) (P : Memory ⊤ → Type 0)
+      → (eq_by_cmp name_cmp service p.service.components ≡ true → P (memory_in (remembering_clients state now p) client) → P (memory_in (go (remembering_clients state now p)) client))
+      → P next_memory → P (memory_of (stored_by go) service client)
   stored_keeps go P keeps h =
       subst (λ k. P (memory_in k client)) (sym (clients_stored state p.service.components (go (remembering_clients state now p)) service))
       (placed (eq_by_cmp name_cmp service p.service.components) refl go P keeps h)
 
   pub remembering_keeps : (P : Memory ⊤ → Type 0) → Carried (floor_for now) P → P next_memory → P (memory_of (remembering state now p) service client)
-  remembering_keeps P carried = stored_keeps (let_go now) P (λ clients. let_go_keeps P now clients client carried)
+  remembering_keeps P carried = stored_keeps (let_go now) P (λ same. let_go_keeps P now (remembering_clients state now p) client carried)
+
+  -- the same, if the cache can be dropped only when its service's floor is due
+  pub remembering_keeps_due : (P : Memory ⊤ → Type 0) → (int_lt (clients_of state service).floor (floor_for now -ℤ pos hour) ≡ true → Carried (floor_for now) P) → P next_memory
+      → P (memory_of (remembering state now p) service client)
+  remembering_keeps_due P carried = stored_keeps (let_go now) P (λ same.
+      let_go_keeps_due P now (remembering_clients state now p) client
+      (λ due. carried (ap (λ s. int_lt (clients_of state s).floor (floor_for now -ℤ pos hour)) (same_name service p.service.components same) ∙ due)))
 
 -- ---- a call
 
@@ -124,6 +134,12 @@ others_stay state service at confounder octets other =
     clients_stored state p.service.components k service
     ∙ ap (λ b. cond b k (clients_of state service)) (not_service service p (λ h. other (subst (IsService service) (sym is) h)) (eq_by_cmp name_cmp service p.service.components) refl))
 
+-- a cache that was unchanged or dropped, and is dropped
+dropped_on : (now floor : ℤ) (old : Memory ⊤) → int_lt floor (floor_for now -ℤ pos hour) ≡ true → (m : Memory ⊤) → lasts (floor_for now) m ≡ false → IsKeptOrDropped now floor old m
+    → IsKeptOrDropped now floor old (empty_memory (floor_for now))
+dropped_on now floor old due m gone (inl same) = inr (record { due = due; spent = ap (lasts (floor_for now)) (sym same) ∙ gone; empty = refl })
+dropped_on now floor old due m gone (inr dropped) = inr (record { due = due; spent = dropped.spent; empty = refl })
+
 -- another client's cache gives the same verdicts from an hour before on
 pub others_alike : (state : State) (service client : Components) (at : Moment) (confounder octets : List ℕ) → (IsParty service client (presented_by state octets) → ⊥)
     → raised (floor_for at.sec) (memory_of (accepts state at confounder octets).state service client) ≡ raised (floor_for at.sec) (memory_of state service client)
@@ -134,6 +150,17 @@ others_alike state service client at confounder octets other =
     (λ m gone same. as_empty_on (floor_for at.sec) m gone (floor_for at.sec) (at_most (floor_for at.sec)) ∙ same)
     (ap (λ b. raised (floor_for at.sec) (cond b (remembered (memory_for state p) at.sec (stamp_of p) tt) (memory_of state service client)))
     (not_party service client p (λ h. other (subst (IsParty service client) (sym is) h)) (is_party service client p) refl)))
+
+-- another client's cache is unchanged or dropped
+pub others_kept : (state : State) (service client : Components) (at : Moment) (confounder octets : List ℕ) → (IsParty service client (presented_by state octets) → ⊥)
+    → IsKeptOrDropped at.sec (clients_of state service).floor (memory_of state service client) (memory_of (accepts state at confounder octets).state service client)
+others_kept state service client at confounder octets other =
+    let old = memory_of state service client in
+    let P : Memory ⊤ → Type 0 = IsKeptOrDropped at.sec (clients_of state service).floor old in
+    accepts_keeps (λ s. P (memory_of s service client)) state (inl refl) at confounder octets (λ p is.
+    remembering_keeps_due state at.sec p service client P (λ due m gone kept. dropped_on at.sec (clients_of state service).floor old due m gone kept)
+    (subst (λ b. P (cond b (remembered (memory_for state p) at.sec (stamp_of p) tt) old))
+    (sym (not_party service client p (λ h. other (subst (IsParty service client) (sym is) h)) (is_party service client p) refl)) (inl refl)))
 
 -- ---- a state in which other clients' caches changed
 

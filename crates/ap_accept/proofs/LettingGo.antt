@@ -110,12 +110,16 @@ nothing_there second = ap (nat_le 1) (ap map.len (none_from second) ∙ map.len-
 empty_gone : (old now : ℤ) → int_lt old (floor_for now -ℤ pos hour) ≡ true → lasts (floor_for now) (empty_memory old) ≡ false
 empty_gone old now due = or_false _ _ (lower old now due) (nothing_there (floor_for now))
 
--- such a property of a client's cache still holds after old entries are dropped
-pub let_go_keeps : (P : Memory ⊤ → Type 0) (now : ℤ) (clients : Clients) (client : Components) → Carried (floor_for now) P → P (memory_in clients client) → P (memory_in (let_go now clients) client)
-let_go_keeps P now clients client carried p = at (int_lt clients.floor (floor_for now -ℤ pos hour)) refl
+-- such a property of a client's cache still holds after old entries are dropped, which is done only when it is due
+pub let_go_keeps_due : (P : Memory ⊤ → Type 0) (now : ℤ) (clients : Clients) (client : Components) → (int_lt clients.floor (floor_for now -ℤ pos hour) ≡ true → Carried (floor_for now) P)
+    → P (memory_in clients client) → P (memory_in (let_go now clients) client)
+let_go_keeps_due P now clients client carried p = at (int_lt clients.floor (floor_for now -ℤ pos hour)) refl
   where
     at : (b : Bool) → int_lt clients.floor (floor_for now -ℤ pos hour) ≡ b → P (memory_in (cond b (raised_to (floor_for now) clients) clients) client)
     at true due =
         subst (λ o. P (unwrap_or o (empty_memory (floor_for now)))) (sym (get-retain_values name_total clients.memories (lasts (floor_for now)) client))
-        (one_left (floor_for now) clients.floor P carried (empty_gone clients.floor now due) (map.get clients.memories client) p)
+        (one_left (floor_for now) clients.floor P (carried due) (empty_gone clients.floor now due) (map.get clients.memories client) p)
     at false e = p
+
+pub let_go_keeps : (P : Memory ⊤ → Type 0) (now : ℤ) (clients : Clients) (client : Components) → Carried (floor_for now) P → P (memory_in clients client) → P (memory_in (let_go now clients) client)
+let_go_keeps P now clients client carried = let_go_keeps_due P now clients client (λ due. carried)

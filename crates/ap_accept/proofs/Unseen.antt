@@ -101,7 +101,7 @@ module _ (second now high : ℤ) (s t : State) (alike : Alike second s t) (le : 
         (λ m lost same. as_empty_on (floor_for now) m lost high gone ∙ same) (same_next (is_party service client p))
 
     same_kept : raised high (memory_of (keeping t now p) service client) ≡ raised high (next_memory t now p service client)
-    same_kept = stored_keeps t now p service client (λ clients. clients) (λ m. raised high m ≡ raised high (next_memory t now p service client)) (λ clients h. h) refl
+    same_kept = stored_keeps t now p service client (λ clients. clients) (λ m. raised high m ≡ raised high (next_memory t now p service client)) (λ same h. h) refl
 
   alike_remembering : (p : Presented) → Alike high (remembering s now p) (keeping t now p)
   alike_remembering p = record {

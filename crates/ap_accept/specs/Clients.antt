@@ -1,5 +1,6 @@
 -- The replay caches of a service's clients, and when their old entries are dropped.
-use Rattle.std.specs.Prelude.{ℕ, ℤ, pos, ◌+◌, ◌-ℤ◌, ◌≤ℤ◌, ◌≡◌, ⊤, Bool, ◌||◌, nat_le, int_lt, if◌then◌else◌}
+use Rattle.std.specs.Prelude.{ℕ, ℤ, pos, ◌+◌, ◌-ℤ◌, ◌≤ℤ◌, ◌≡◌, ◌⊎◌, ⊤, Bool, ◌||◌, nat_le, int_lt, IsTrue, IsFalse}
+use Rattle.std.specs.Prelude.{if◌then◌else◌}
 use Rattle.std.specs.Option.{unwrap_or}
 use Rattle.std.specs.FinMap as map
 use Rattle.krb_fields.specs.Name.{Components, name_cmp}
@@ -62,3 +63,13 @@ let_go now clients =
 abbrev pub SaysTheSame : ℤ → Memory ⊤ → Memory ⊤ → Type 0
 SaysTheSame second a b =
     (now : ℤ) (stamp : Stamp) (limit : ℕ) → second ≤ℤ now → verdict a now stamp limit ≡ verdict b now stamp limit
+
+-- A call at this second dropped the cache, since the service's floor lay more than an hour too low, and an empty cache
+-- with the raised floor refuses no less.
+pub record IsDropped (now floor : ℤ) (old new : Memory ⊤) : Type 0 where
+  pub due : IsTrue (int_lt floor (floor_for now -ℤ pos hour))
+  pub spent : IsFalse (lasts (floor_for now) old)
+  pub empty : new ≡ empty_memory (floor_for now)
+
+abbrev pub IsKeptOrDropped : ℤ → ℤ → Memory ⊤ → Memory ⊤ → Type 0
+IsKeptOrDropped now floor old new = (new ≡ old) ⊎ IsDropped now floor old new

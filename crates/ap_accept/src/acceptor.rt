@@ -3,7 +3,7 @@ ghost use Rattle.std.specs.Prelude.{◌≡◌, ◌↔◌, ◌-ℤ◌, pos, Some,
 ghost use Rattle.krb_ap.specs.ApReq as trees;
 ghost use Rattle.krb_fields.specs.Name.{Components};
 ghost use Rattle.ap_accept.specs.Accepts.{accepts, presented_by, request_of, IsAfter, IsAnswer, IsParty, IsService};
-ghost use Rattle.ap_accept.specs.Clients.{SaysTheSame, hour};
+ghost use Rattle.ap_accept.specs.Clients.{IsKeptOrDropped, SaysTheSame, hour};
 ghost use Rattle.ap_accept.specs.Reply.{IsApReply};
 ghost use Rattle.ap_accept.specs.State.{clients_of, memory_of, opened};
 
@@ -79,6 +79,12 @@ impl Acceptor {
             → (IsParty service client (presented_by self.old ap_req.now) → ⊥)
             → SaysTheSame (at.sec -ℤ pos hour) (memory_of self.new service client)
             (memory_of self.old service client) }
+        // Another client's cache is unchanged or dropped. It is dropped only if the service's floor lay more than an hour
+        // too low, and if an empty cache with the raised floor refuses no less.
+        ensures kept { (service client : Components)
+            → (IsParty service client (presented_by self.old ap_req.now) → ⊥)
+            → IsKeptOrDropped at.sec (clients_of self.old service).floor (memory_of self.old service client)
+            (memory_of self.new service client) }
         ensures keytab { self.new.keytab ≡ self.old.keytab }
         ensures limits { self.new.limits ≡ self.old.limits }
     {

@@ -23,7 +23,7 @@ use Rattle.preauth.specs.MethodData.{method_data}
 use Rattle.preauth.specs.declared.timestamp.Outcome.{Outcome}
 use Rattle.principal_rows.specs.declared.row.Row.{Row}
 use Rattle.replay.specs.declared.failures.Failures.{Failures}
-use Rattle.as_exchange.specs.View.{AsView}
+use Rattle.as_exchange.specs.View.{AsView, current_failures}
 use Rattle.as_exchange.specs.Rules.{is_good, code_of}
 use Rattle.as_exchange.specs.Issue.{as_rep, grant_by}
 use Rattle.as_exchange.specs.Decision.{decision}
@@ -32,7 +32,8 @@ use Rattle.as_exchange.specs.declared.decision.Decision.TheVariants.{Refuses, Is
 use Rattle.as_exchange.specs.declared.refusal.AsRefusal.{AsRefusal}
 use Rattle.as_exchange.specs.declared.refusal.AsRefusal.TheVariants.{BadVersion, BadMessageType, ClientUnknown}
 use Rattle.as_exchange.specs.declared.refusal.AsRefusal.TheVariants.{ServiceUnknown, ServiceDenied}
-use Rattle.as_exchange.specs.declared.refusal.AsRefusal.TheVariants.{ClientRevoked, ClientExpired, PasswordExpired}
+use Rattle.as_exchange.specs.declared.refusal.AsRefusal.TheVariants.{ClientDisabled, ClientLocked, ClientExpired}
+use Rattle.as_exchange.specs.declared.refusal.AsRefusal.TheVariants.{PasswordExpired}
 use Rattle.as_exchange.specs.declared.refusal.AsRefusal.TheVariants.{ServiceRevoked, ServiceExpired, BadOption}
 use Rattle.as_exchange.specs.declared.refusal.AsRefusal.TheVariants.{NoCommonType}
 use Rattle.as_exchange.specs.declared.refusal.AsRefusal.TheVariants.{PreauthFailed, TimestampSkewed, PreauthRequired}
@@ -54,7 +55,8 @@ sequel_of BadMessageType = Nothing
 sequel_of ClientUnknown = Nothing
 sequel_of ServiceUnknown = Nothing
 sequel_of ServiceDenied = Nothing
-sequel_of ClientRevoked = Nothing
+sequel_of ClientDisabled = Nothing
+sequel_of ClientLocked = Nothing
 sequel_of ClientExpired = Nothing
 sequel_of PasswordExpired = Nothing
 sequel_of ServiceRevoked = Nothing
@@ -114,14 +116,14 @@ within_room v incoming body octets failures =
 abbrev pub refused : AsView → Moment → ReqBody → AsRefusal → Outcome → AsAnswer
 refused v at body refusal timestamp = record {
   reply = written krb_error (as_error v at body refusal);
-  failures = after_sequel v.failures at timestamp (sequel_of refusal);
+  failures = after_sequel (current_failures v) at timestamp (sequel_of refusal);
 }
 
 abbrev pub answer_by : AsView → Incoming → ReqBody → Decision → AsAnswer
 answer_by v incoming body (Refuses refusal timestamp) = refused v incoming.at body refusal timestamp
 answer_by v incoming body (Issues admission) =
     within_room v incoming body (written (kdc_rep 11) (as_rep v incoming.at incoming.random body admission))
-    (after_timestamp v.failures admission.timestamp)
+    (after_timestamp (current_failures v) admission.timestamp)
 
 abbrev pub as_answer : AsView → Incoming → Received → AsAnswer
 as_answer v incoming message = answer_by v incoming message.body.value (decision v incoming.at.sec message)

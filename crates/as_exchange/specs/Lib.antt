@@ -13,3 +13,4 @@ pub mod DecisionLaws
 pub mod IssuedLaws
 pub mod AskedLaws
 pub mod OutcomeLaws
+pub mod StandingLaws

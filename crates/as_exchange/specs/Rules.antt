@@ -20,12 +20,13 @@ use Rattle.preauth.specs.declared.timestamp.Outcome.TheVariants.{Absent, Bad, Sk
 use Rattle.principal_rows.specs.declared.row.Row.{Row}
 use Rattle.ticket_times.specs.Asked.{asks}
 use Rattle.ticket_times.specs.Times.{starts_too_late}
-use Rattle.as_exchange.specs.View.{AsView}
+use Rattle.as_exchange.specs.View.{AsView, current_failures}
 use Rattle.ticket_times.specs.declared.times.Times.{Times}
 use Rattle.as_exchange.specs.Terms.{terms, admission_of, times_of}
 use Rattle.as_exchange.specs.declared.refusal.AsRefusal.{AsRefusal}
 use Rattle.as_exchange.specs.declared.refusal.AsRefusal.TheVariants.{BadVersion, BadMessageType, ClientUnknown}
-use Rattle.as_exchange.specs.declared.refusal.AsRefusal.TheVariants.{ServiceUnknown, ServiceDenied, ClientRevoked}
+use Rattle.as_exchange.specs.declared.refusal.AsRefusal.TheVariants.{ServiceUnknown, ServiceDenied, ClientDisabled}
+use Rattle.as_exchange.specs.declared.refusal.AsRefusal.TheVariants.{ClientLocked}
 use Rattle.as_exchange.specs.declared.refusal.AsRefusal.TheVariants.{ClientExpired, PasswordExpired, ServiceRevoked}
 use Rattle.as_exchange.specs.declared.refusal.AsRefusal.TheVariants.{ServiceExpired, BadOption, NoCommonType}
 use Rattle.as_exchange.specs.declared.refusal.AsRefusal.TheVariants.{PreauthFailed, TimestampSkewed, PreauthRequired}
@@ -50,8 +51,9 @@ is_service_unknown v body = is_none body.sname || is_none v.service
 abbrev pub has_expired_password : Option Row → ℤ → Bool
 has_expired_password row now = holds_of (λ row. has_come row.policy.password_expires now) row
 
-abbrev pub is_client_revoked : AsView → ℤ → Bool
-is_client_revoked v now = is_disabled v.client || is_locked v.failures v.limits now
+-- locked by the failures for its current key version
+abbrev pub is_client_locked : AsView → ℤ → Bool
+is_client_locked v now = is_locked (current_failures v) v.limits now
 
 -- options that only a TGS-REQ may have
 abbrev pub asks_bad_option : ReqBody → Bool
@@ -109,7 +111,8 @@ rules_by v now message timestamp found times =
     ∷ (is_client_unknown v message.body.value, ClientUnknown)  -- 3.1.3
     ∷ (is_service_unknown v message.body.value, ServiceUnknown)  -- 3.1.3
     ∷ (is_service_denied v.service, ServiceDenied)  -- 3.1.3
-    ∷ (is_client_revoked v now, ClientRevoked)  -- 3.1.3
+    ∷ (is_disabled v.client, ClientDisabled)  -- 3.1.3
+    ∷ (is_client_locked v now, ClientLocked)  -- 3.1.3
     ∷ (is_expired v.client now, ClientExpired)  -- 3.1.3
     ∷ (has_expired_password v.client now, PasswordExpired)  -- 3.1.3
     ∷ (is_disabled v.service, ServiceRevoked)  -- 3.1.3
@@ -143,7 +146,8 @@ code_of BadMessageType = codes.TheVariants.KrbApErrMsgType
 code_of ClientUnknown = codes.TheVariants.KdcErrCPrincipalUnknown
 code_of ServiceUnknown = codes.TheVariants.KdcErrSPrincipalUnknown
 code_of ServiceDenied = codes.TheVariants.KdcErrSPrincipalUnknown
-code_of ClientRevoked = codes.TheVariants.KdcErrClientRevoked
+code_of ClientDisabled = codes.TheVariants.KdcErrClientRevoked
+code_of ClientLocked = codes.TheVariants.KdcErrClientRevoked
 code_of ClientExpired = codes.TheVariants.KdcErrNameExp
 code_of PasswordExpired = codes.TheVariants.KdcErrKeyExpired
 code_of ServiceRevoked = codes.TheVariants.KdcErrServiceRevoked

@@ -118,7 +118,7 @@ fn refused(
     Ok(AsAnswer {
         reply: as_error(alloc, view, at, body, refusal)?,
         outcome: AsOutcome::Refused(refusal),
-        failures: after_sequel(view.failures, at, timestamp, refusal.sequel()),
+        failures: after_sequel(view.current_failures(), at, timestamp, refusal.sequel()),
     })
 }
 
@@ -153,7 +153,7 @@ fn issued(
     Ok(AsAnswer {
         reply,
         outcome: AsOutcome::Issued(granted_of(incoming.at, body, admission)),
-        failures: after_timestamp(view.failures, admission.timestamp),
+        failures: after_timestamp(view.current_failures(), admission.timestamp),
     })
 }
 

@@ -1,7 +1,7 @@
 //! The rules of the AS exchange (RFC 4120, section 3.1.3), one condition each.
 ghost use Rattle.std.specs.Prelude.{◌≡◌, IfOk, option_copied};
 ghost use Rattle.as_exchange.specs.Rules.{is_bad_version, is_bad_message_type, is_client_unknown, is_service_unknown};
-ghost use Rattle.as_exchange.specs.Rules.{has_expired_password, is_client_revoked, asks_bad_option, needs_preauth};
+ghost use Rattle.as_exchange.specs.Rules.{has_expired_password, is_client_locked, asks_bad_option, needs_preauth};
 ghost use Rattle.as_exchange.specs.Rules.{lacks_preauth, forbids_postdating};
 ghost use Rattle.as_exchange.specs.Rules.{is_postdating_refused, is_bad, is_timestamp_skewed, is_absent, is_good};
 ghost use Rattle.as_exchange.specs.Rules.{timestamp_of};
@@ -44,7 +44,7 @@ fn rules_by(
     timestamp: Outcome,
     terms: &Option<Terms>,
     times: &Option<Times>,
-) -> [(bool, AsRefusal); 18]
+) -> [(bool, AsRefusal); 19]
     ensures { result ≡ rules_by view.now at.sec message.now timestamp terms.now times.now }
 {
     let body = &message.body.value;
@@ -54,7 +54,8 @@ fn rules_by(
         (is_client_unknown(view, body), AsRefusal::ClientUnknown),
         (is_service_unknown(view, body), AsRefusal::ServiceUnknown),
         (is_service_denied(view.service), AsRefusal::ServiceDenied),
-        (is_client_revoked(view, at), AsRefusal::ClientRevoked),
+        (is_disabled(view.client), AsRefusal::ClientDisabled),
+        (is_client_locked(view, at), AsRefusal::ClientLocked),
         (is_expired(view.client, at), AsRefusal::ClientExpired),
         (
             has_expired_password(view.client, at),
@@ -120,11 +121,11 @@ fn is_service_unknown(view: &AsView<'_>, body: &ReqBodyRef<'_>) -> bool
     body.sname.is_none() || view.service.is_none()
 }
 
-/// Checks whether the client is disabled, or locked after too many failures.
-fn is_client_revoked(view: &AsView<'_>, at: Moment) -> bool
-    ensures { result ≡ is_client_revoked view.now at.sec }
+/// Checks whether the client is locked by its failures for its current key version.
+fn is_client_locked(view: &AsView<'_>, at: Moment) -> bool
+    ensures { result ≡ is_client_locked view.now at.sec }
 {
-    is_disabled(view.client) || is_locked(view.failures, view.limits, at)
+    is_locked(view.current_failures(), view.limits, at)
 }
 
 fn has_expired_password(row: Option<&Row>, at: Moment) -> bool

@@ -1,5 +1,5 @@
-//! The tests of the libraries under the KDC: messages, cryptography, and the data of a realm. They are a crate of their
-//! own because a crate with tests is proved twice. They are one crate because each takes a minute before its first
+//! Tests of the libraries under the KDC: messages, cryptography, and the data of a realm. They are a crate of their own
+//! because a crate with tests is proved twice. They are one crate because each crate takes a minute before its first
 //! test.
 #![tactic(auto)]
 

@@ -1,5 +1,5 @@
-//! The crates of messages, `krb_der` to `krb_ap`: a module for each, with values from elsewhere, such as the standards
-//! or another encoder.
+//! Tests of the crates of messages, `krb_der` to `krb_ap`, a module for each. The values come from elsewhere, such as
+//! the standards or another encoder.
 
 mod ap_messages;
 mod der;

@@ -1,4 +1,4 @@
-//! The data of a realm: rows, the database, and replay caches; preauthentication; and the times of tickets.
+//! Tests of the data of a realm: rows, the database, replay caches, preauthentication, and the times of tickets.
 
 mod changes;
 mod database_texts;

@@ -1,5 +1,5 @@
 -- Requests and their parts.
-use Rattle.std.proofs.Common.{◌≡◌, ◌∙◌, ◌≤◌, ℕ, ℤ, pos, List, [], ◌∷◌, length, Option, Some, None, Result, Ok, Err, IfOk, ap, to_z, of_z, w32}
+use Rattle.std.proofs.Common.{◌≡◌, ◌∙◌, ◌≤◌, ℕ, ℤ, pos, List, [], ◌∷◌, length, Option, Some, None, Result, Ok, Err, IfOk, IfSome, ap, to_z, of_z, w32}
 use Rattle.cred_files.specs.declared.principal.Principal.{Principal}
 use Rattle.enctypes.specs.KeyUsage.{usage_number}
 use Rattle.enctypes.specs.declared.key.Key.{Key}
@@ -14,6 +14,7 @@ use Rattle.krb_types.specs.KdcReq.{KdcReq, request_type}
 use Rattle.krb_types.specs.ReqBody.{ReqBody}
 use Rattle.krb_types.specs.declared.kdc_req.Exchange.{Exchange}
 use Rattle.krb_types.specs.declared.kdc_req.Exchange.TheVariants.{As, Tgs}
+use Rattle.client_core.proofs.Results.{respelled}
 use Rattle.client_core.specs.Presenting.{presents}
 use Rattle.client_core.specs.Requests.{asks_as, asks_tgs, body_of, request_of, tgs_data}
 use Rattle.client_core.specs.ServiceRequests.{ap_authenticator, ap_options, asks_ap}
@@ -31,12 +32,21 @@ pub typed_as : (exchange : Exchange) (padata : Option (List PaData)) (body : Req
 typed_as As padata body type e = ap (λ (t : ℤ). request_typed (to_z w32 (of_z w32 t)) padata body) e
 typed_as Tgs padata body type e = ap (λ (t : ℤ). request_typed (to_z w32 (of_z w32 t)) padata body) e
 
-pub tgs_req_is : (asked : Asked) (client : Principal) (session : Session) (at : Moment) (subkey : Option Key) (confounder : List ℕ) (body : ReqBody) (entry : PaData) (padata : List PaData)
-    → padata ≡ entry ∷ [] → entry ≡ tgs_data client session at subkey confounder body → body ≡ body_of None asked → request_of Tgs (Some padata) body ≡ asks_tgs asked client session at subkey confounder
-tgs_req_is asked client session at subkey confounder body entry padata one made is =
-    ap (λ (p : List PaData). request_of Tgs (Some p) body) one
-    ∙ ap (λ (e : PaData). request_of Tgs (Some (e ∷ [])) body) made
+pub tgs_req_is : (asked : Asked) (client : Principal) (session : Session) (at : Moment) (subkey : Option Key) (confounder : List ℕ) (body : ReqBody) (entry : PaData)
+    → entry ≡ tgs_data client session at subkey confounder body → body ≡ body_of None asked → request_of Tgs (Some (entry ∷ [])) body ≡ asks_tgs asked client session at subkey confounder
+tgs_req_is asked client session at subkey confounder body entry made is =
+    ap (λ (e : PaData). request_of Tgs (Some (e ∷ [])) body) made
     ∙ ap (λ (b : ReqBody). request_of Tgs (Some (tgs_data client session at subkey confounder b ∷ [])) b) is
+
+-- the same of a credential that has a session, for what is written
+pub tgs_written : (S : KdcReq → List ℕ → Type 0) {V E : Type 0} (octets : V → List ℕ) (r : Result V E) (held : Option Session)
+    (asked : Asked) (client : Principal) (at : Moment) (subkey : Option Key) (confounder : List ℕ) (body : ReqBody) (entry : PaData)
+    → IfSome held (λ s. entry ≡ tgs_data client s at subkey confounder body) → body ≡ body_of None asked
+    → IfOk r (λ v. S (request_of Tgs (Some (entry ∷ [])) body) (octets v))
+    → IfSome held (λ s. IfOk r (λ v. S (asks_tgs asked client s at subkey confounder) (octets v)))
+tgs_written S octets r (Some session) asked client at subkey confounder body entry made is spelled =
+    respelled S octets _ _ r (tgs_req_is asked client session at subkey confounder body entry made is) spelled
+tgs_written S octets r None asked client at subkey confounder body entry made is spelled = tt
 
 pub ap_req_is : (client : Principal) (session : Session) (at : Moment) (asked : ServiceAsked) (confounder : List ℕ) (options : ℕ) (auth : Authenticator)
     → options ≡ ap_options asked.mutual_required → auth ≡ ap_authenticator client at asked

@@ -1,5 +1,5 @@
 //! TGS-REQ (RFC 4120, sections 3.3.1 and 5.4.1).
-ghost use Rattle.std.specs.Prelude.{◌≡◌, ◌≤◌, ◌<◌, length, IfOk, IfSome, None, Some};
+ghost use Rattle.std.specs.Prelude.{◌≡◌, ◌≤◌, ◌∷◌, [], length, IfOk, IfSome, None, Some};
 ghost use Rattle.enctypes.specs.KeyUsage.{usage_number};
 ghost use Rattle.enctypes.specs.declared.key_usage.KeyUsage.TheVariants.{TgsReqAuthenticator};
 ghost use Rattle.krb_elements.specs.Codec.{written};
@@ -7,12 +7,11 @@ ghost use Rattle.krb_fields.specs.NameLimits.{IsComponent, IsWithinLimits};
 ghost use Rattle.krb_parts.specs.Authenticator as parts;
 ghost use Rattle.krb_types.specs.KdcReq.{SpellsKdcReq, message};
 ghost use Rattle.krb_types.specs.ReqBody.{req_body};
-ghost use Rattle.krb_types.specs.Ticket.{ticket};
 ghost use Rattle.krb_types.specs.declared.kdc_req.Exchange.TheVariants.{Tgs};
 ghost use Rattle.sealed_parts.specs.Encrypted.{decrypted};
 ghost use Rattle.client_core.specs.Asked.{IsAskable};
 ghost use Rattle.client_core.specs.Requests.{asks_tgs, body_checksum, body_of, tgs_authenticator, tgs_data};
-ghost use Rattle.client_core.specs.Requests.{tgs_presents};
+ghost use Rattle.client_core.specs.Requests.{request_of, tgs_presents};
 ghost use Rattle.client_core.specs.Sessions as definitions;
 
 use crate::asked::Asked;
@@ -50,42 +49,18 @@ pub fn tgs_request(
         (tgs_presents credential.now.client session at subkey confounder.now (body_of None asked.now)).authenticator
         ≡ Some (tgs_authenticator credential.now.client session at subkey (body_of None asked.now)))) }
 {
-    let session = session_of(alloc, credential)?;
-    tgs_req(
-        alloc,
-        asked,
-        &credential.client,
-        session,
-        subkey,
-        at,
-        confounder,
-    )
+    let body = asked.body(alloc, None)?;
+    let entry = tgs_data(alloc, credential, subkey, at, confounder, &body)?;
+    tgs_req(alloc, entry, body)
 }
 
-fn tgs_req(
-    alloc: Global,
-    asked: &Asked,
-    client: &Principal,
-    session: Session,
-    subkey: Option<Key>,
-    at: Moment,
-    confounder: &[u8; 16],
-) -> Result<Vec<u8>, AllocError>
-    requires askable { IsAskable asked.now }
-    requires realm { IsComponent client.now.realm }
-    requires name { IsWithinLimits client.now.name.components }
-    requires ticket { length (ticket.text session.ticket) < 16777216 }
-    ensures written { IfOk result (λ v.
-        v.items ≡ written (message Tgs) (asks_tgs asked.now client.now session at subkey confounder.now)) }
-    ensures spelled { IfOk result (λ v.
-        SpellsKdcReq (Tgs, asks_tgs asked.now client.now session at subkey confounder.now) v.items) }
-    ensures opens { IfOk result (λ v.
-        decrypted parts.authenticator session.key (usage_number TgsReqAuthenticator)
-        (tgs_presents client.now session at subkey confounder.now (body_of None asked.now)).authenticator
-        ≡ Some (tgs_authenticator client.now session at subkey (body_of None asked.now))) }
+/// Returns the bytes of a TGS-REQ with this PA-TGS-REQ.
+fn tgs_req(alloc: Global, entry: PaData, body: ReqBody) -> Result<Vec<u8>, AllocError>
+    requires entry { length entry.padata_value ≤ 34000006 }
+    requires body { req_body.most body ≤ 20000 }
+    ensures written { IfOk result (λ v. v.items ≡ written (message Tgs) (request_of Tgs (Some (entry ∷ [])) body)) }
+    ensures spelled { IfOk result (λ v. SpellsKdcReq (Tgs, request_of Tgs (Some (entry ∷ [])) body) v.items) }
 {
-    let body = asked.body(alloc, None)?;
-    let entry = tgs_data(alloc, client, session, at, subkey, confounder, &body)?;
     let padata = one_entry(alloc, entry)?;
     request(alloc, Exchange::Tgs, Some(padata), body)
 }
@@ -93,25 +68,24 @@ fn tgs_req(
 /// Returns the PA-TGS-REQ: the AP-REQ, whose authenticator has a checksum of the body.
 fn tgs_data(
     alloc: Global,
-    client: &Principal,
-    session: Session,
-    at: Moment,
+    credential: &Credential,
     subkey: Option<Key>,
+    at: Moment,
     confounder: &[u8; 16],
     body: &ReqBody,
 ) -> Result<PaData, AllocError>
-    requires realm { IsComponent client.now.realm }
-    requires name { IsWithinLimits client.now.name.components }
-    requires ticket { length (ticket.text session.ticket) < 16777216 }
+    requires presentable { definitions.IsPresentable credential.now }
     requires body { req_body.most body.now ≤ 20000 }
-    ensures value { IfOk result (λ made. made ≡ tgs_data client.now session at subkey confounder.now body.now) }
-    ensures opens { IfOk result (λ made.
+    ensures value { IfSome (definitions.session credential.now) (λ session. IfOk result (λ made.
+        made ≡ tgs_data credential.now.client session at subkey confounder.now body.now)) }
+    ensures opens { IfSome (definitions.session credential.now) (λ session. IfOk result (λ made.
         decrypted parts.authenticator session.key (usage_number TgsReqAuthenticator)
-        (tgs_presents client.now session at subkey confounder.now body.now).authenticator
-        ≡ Some (tgs_authenticator client.now session at subkey body.now)) }
+        (tgs_presents credential.now.client session at subkey confounder.now body.now).authenticator
+        ≡ Some (tgs_authenticator credential.now.client session at subkey body.now))) }
     ensures short { IfOk result (λ made. length made.padata_value ≤ 34000006) }
 {
-    let authenticator = tgs_authenticator(alloc, client, &session, at, subkey, body)?;
+    let session = session_of(alloc, credential)?;
+    let authenticator = tgs_authenticator(alloc, &credential.client, &session, at, subkey, body)?;
     let options = Flags::from_bits(0);
     let usage = KeyUsage::TgsReqAuthenticator;
     let octets = present(alloc, session, options, usage, confounder, &authenticator)?;

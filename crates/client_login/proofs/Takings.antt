@@ -26,7 +26,7 @@ use Rattle.client_login.specs.Faults.{IsUnheard, SaysFirst, SaysFurther, SaysRef
 use Rattle.client_login.specs.Keys.{IsOwnKey}
 use Rattle.client_login.specs.Logins.{IsFirst, IsFurther, TakesFirst, TakesFurther, presented_request}
 use Rattle.client_login.specs.Infos.{info_of_refusal}
-use Rattle.client_login.specs.Replies.{IsError, IsReply, counted, said_of}
+use Rattle.client_login.specs.Replies.{IsAnswer, IsError, IsReply, counted, said_of}
 use Rattle.client_login.specs.declared.asking.Reply.{Reply}
 use Rattle.client_login.specs.declared.faults.LoginFault.{LoginFault}
 use Rattle.client_login.specs.declared.faults.Why.{Why}
@@ -394,6 +394,11 @@ module _ (answers : SocketAddr → List ℕ → List ℕ → Type 0) where
   further_unheard granting asked now key says.NoKnownType kdc shared is = absurd is
   further_unheard granting asked now key says.CountTooLarge kdc shared is = absurd is
   further_unheard granting asked now key says.WeakCount kdc shared is = absurd is
+
+  -- ---- what a KDC answers with
+
+  pub answered : (kdc : SocketAddr) (request octets : List ℕ) → answers kdc request octets → IsAnswer answers kdc octets
+  answered kdc request octets is = record { request = request; answered = is }
 
   -- ---- the fault of one KDC, and which of two faults counts
 

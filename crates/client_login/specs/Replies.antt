@@ -17,6 +17,11 @@ pub record IsAnswered (answers : SocketAddr → List ℕ → List ℕ → Type 0
   pub answered : answers kdc request reply
   pub says : Says reply
 
+-- a KDC answered a request with these bytes
+pub record IsAnswer (answers : SocketAddr → List ℕ → List ℕ → Type 0) (kdc : SocketAddr) (octets : List ℕ) : Type 0 where
+  pub request : List ℕ
+  pub answered : answers kdc request octets
+
 -- the refusal in the bytes, if they encode a KRB-ERROR
 abbrev pub said_of : Option Refusal → ClientFault
 said_of (Some refusal) = found.Refused refusal

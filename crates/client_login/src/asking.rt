@@ -1,8 +1,9 @@
 //! Sends a request to the KDCs of a realm, and takes the first useful reply (RFC 4120, section 7.2).
-ghost use Rattle.std.specs.Prelude.{◌≡◌, IfErr, IfOk, IfSome};
+ghost use Rattle.std.specs.Prelude.{◌≡◌, IfErr, IfOk, None};
 ghost use Rattle.client_core.specs.Replies as replies;
-ghost use Rattle.client_login.specs.Replies.{IsReply, counted, said_of};
+ghost use Rattle.client_login.specs.Replies.{IsAnswer, IsReply, counted, said_of};
 ghost use Rattle.client_login.specs.Faults.{IsUnheard};
+ghost use Rattle.client_login.specs.declared.faults.Why.TheVariants.{Memory};
 
 use crate::exchange::{Exchange, Transport};
 use crate::faults::{LoginFault, Why};
@@ -89,39 +90,10 @@ pub(crate) fn ask<X: Exchange>(
     ensures ok { IfOk result (λ reply. IsReply X.answers reply) }
     ensures err { IfErr result (λ fault. IsUnheard X.answers fault.why fault.kdc) }
 {
-    let before = kdcs.answered;
+    let order = in_order(alloc, &kdcs.addresses, kdcs.answered)?;
     let mut end = LoginFault::new(Why::Silence(Error::from(ErrorKind::TimedOut)));
-    if let Some(kdc) = before {
-        match ask_kdc(alloc, kdcs, kdc, request) {
-            Ok(reply) => return Ok(reply),
-            Err(fault) => end = passed_over(end, fault)?,
-        }
-    }
-    ask_others(alloc, kdcs, before, end, request)
-}
-
-/// Tries all KDCs but `asked`, which was tried before and ended with `end`.
-#[tactic(auto, using(crate::proofs::Takings::counted_unheard))]
-fn ask_others<X: Exchange>(
-    alloc: Global,
-    kdcs: &mut Kdcs<X>,
-    asked: Option<SocketAddr>,
-    mut end: LoginFault,
-    request: &[u8],
-) -> Result<Reply, LoginFault>
-    requires carried { X.carries request.now }
-    requires unheard { IsUnheard X.answers end.why end.kdc }
-    ensures ok { IfOk result (λ reply. IsReply X.answers reply) }
-    ensures err { IfErr result (λ fault. IsUnheard X.answers fault.why fault.kdc) }
-{
-    for place in 0..kdcs.addresses.len() {
-        let Some(kdc) = kdc_at(&kdcs.addresses, place) else {
-            break;
-        };
-        if asked == Some(kdc) {
-            continue;
-        }
-        match ask_kdc(alloc, kdcs, kdc, request) {
+    for kdc in &order {
+        match ask_kdc(alloc, kdcs, *kdc, request) {
             Ok(reply) => return Ok(reply),
             Err(fault) => end = passed_over(end, fault)?,
         }
@@ -130,11 +102,22 @@ fn ask_others<X: Exchange>(
     Err(end)
 }
 
-fn kdc_at(addresses: &[SocketAddr], place: usize) -> Option<SocketAddr> {
-    match addresses.get(place) {
-        Some(kdc) => Some(*kdc),
-        None => None,
+/// Returns the KDCs in the order in which they are asked.
+fn in_order(
+    alloc: Global,
+    addresses: &[SocketAddr],
+    first: Option<SocketAddr>,
+) -> Result<Vec<SocketAddr>, AllocError> {
+    let mut order = Vec::new(alloc);
+    if let Some(first) = first {
+        order.push(first)?;
     }
+    for kdc in addresses {
+        if first != Some(*kdc) {
+            order.push(*kdc)?;
+        }
+    }
+    Ok(order)
 }
 
 /// Returns the fault that counts if no other KDC does better: the first error of a KDC, else the last silence. Once
@@ -150,9 +133,9 @@ fn passed_over(before: LoginFault, fault: LoginFault) -> Result<LoginFault, Logi
     }
 }
 
-/// Returns the reply of one KDC. Another may do better if this one says that it is not available or that the clocks
-/// differ.
-#[tactic(auto, using(crate::proofs::Takings::refused_reply))]
+/// Returns the reply of one KDC. The request goes by UDP, and by TCP if no reply comes or the reply is too big for a
+/// datagram.
+#[tactic(auto, using(crate::proofs::Takings::answered))]
 fn ask_kdc<X: Exchange>(
     alloc: Global,
     kdcs: &mut Kdcs<X>,
@@ -163,8 +146,38 @@ fn ask_kdc<X: Exchange>(
     ensures ok { IfOk result (λ reply. IsReply X.answers reply) }
     ensures err { IfErr result (λ fault. IsUnheard X.answers fault.why fault.kdc) }
 {
-    let reply = exchange_with(alloc, kdcs, kdc, request)?;
-    kdcs.answered = Some(kdc);
+    if kdcs.transports == Transports::UdpFirst {
+        match kdcs.exchange.exchange(alloc, Transport::Udp, kdc, request) {
+            Ok(octets) => {
+                let reply = read_reply::<X>(alloc, kdc, octets)?;
+                if !reply.is_error(Code::KrbErrResponseTooBig) {
+                    return useful(kdcs, reply);
+                }
+            }
+            Err(error) => count_failure(kdcs, error)?,
+        }
+    }
+    match kdcs.exchange.exchange(alloc, Transport::Tcp, kdc, request) {
+        Ok(octets) => {
+            let reply = read_reply::<X>(alloc, kdc, octets)?;
+            useful(kdcs, reply)
+        }
+        Err(error) => {
+            count_failure(kdcs, error)?;
+            Err(LoginFault::new(Why::Silence(error)))
+        }
+    }
+}
+
+/// Returns a reply, unless another KDC may do better: if this one says that it is not available or that the clocks
+/// differ.
+#[tactic(auto, using(crate::proofs::Takings::refused_reply))]
+fn useful<X: Exchange>(kdcs: &mut Kdcs<X>, reply: Reply) -> Result<Reply, LoginFault>
+    requires { IsReply X.answers reply }
+    ensures ok { IfOk result (λ reply. IsReply X.answers reply) }
+    ensures err { IfErr result (λ fault. IsUnheard X.answers fault.why fault.kdc) }
+{
+    kdcs.answered = Some(reply.kdc);
     match &reply.refusal {
         Some(refusal) if is_passed_over(refusal.error.code) => {
             Err(LoginFault::of_reply(Why::Refused(refusal.error), reply.kdc))
@@ -178,77 +191,33 @@ fn is_passed_over(code: i32) -> bool {
     code == Code::KdcErrSvcUnavailable as i32 || code == Code::KrbApErrSkew as i32
 }
 
-/// Sends a request to a KDC and returns the reply. The request goes by UDP, and by TCP if no reply comes or the reply
-/// is too big for a datagram.
-fn exchange_with<X: Exchange>(
+/// Reads the bytes that a KDC answered with.
+fn read_reply<X: Exchange>(
     alloc: Global,
-    kdcs: &mut Kdcs<X>,
     kdc: SocketAddr,
-    request: &[u8],
+    octets: Vec<u8>,
 ) -> Result<Reply, LoginFault>
-    requires { X.carries request.now }
+    requires { IsAnswer X.answers kdc octets.items }
     ensures ok { IfOk result (λ reply. IsReply X.answers reply) }
     ensures err { IfErr result (λ fault. IsUnheard X.answers fault.why fault.kdc) }
 {
-    if kdcs.transports == Transports::UdpFirst
-        && let Some(reply) = by_datagram(alloc, kdcs, kdc, request)?
-    {
-        return Ok(reply);
-    }
-    send(alloc, kdcs, Transport::Tcp, kdc, request)
+    let refusal = refusal_in_octets(alloc, &octets)?;
+    Ok(Reply {
+        kdc,
+        octets,
+        refusal,
+    })
 }
 
-/// Returns the reply by UDP; `None` if there is none, or it is too big.
-fn by_datagram<X: Exchange>(
-    alloc: Global,
-    kdcs: &mut Kdcs<X>,
-    kdc: SocketAddr,
-    request: &[u8],
-) -> Result<Option<Reply>, LoginFault>
-    requires { X.carries request.now }
-    ensures ok { IfOk result (λ found. IfSome found (λ reply. IsReply X.answers reply)) }
-    ensures err { IfErr result (λ fault. IsUnheard X.answers fault.why fault.kdc) }
+/// Counts a message without a reply. Fails if memory ran out for the reply.
+fn count_failure<X>(kdcs: &mut Kdcs<X>, error: Error) -> Result<(), LoginFault>
+    ensures { IfErr result (λ fault. fault ≡ record { why = Memory; kdc = None }) }
 {
-    match send(alloc, kdcs, Transport::Udp, kdc, request) {
-        Ok(reply) => {
-            if reply.is_error(Code::KrbErrResponseTooBig) {
-                return Ok(None);
-            }
-            Ok(Some(reply))
-        }
-        Err(fault) => match fault.why {
-            Why::Silence(_) => Ok(None),
-            _ => Err(fault),
-        },
+    if error.kind() == ErrorKind::OutOfMemory {
+        return Err(LoginFault::new(Why::Memory));
     }
-}
-
-fn send<X: Exchange>(
-    alloc: Global,
-    kdcs: &mut Kdcs<X>,
-    by: Transport,
-    kdc: SocketAddr,
-    request: &[u8],
-) -> Result<Reply, LoginFault>
-    requires { X.carries request.now }
-    ensures ok { IfOk result (λ reply. IsReply X.answers reply) }
-    ensures err { IfErr result (λ fault. IsUnheard X.answers fault.why fault.kdc) }
-{
-    match kdcs.exchange.exchange(alloc, by, kdc, request) {
-        Ok(octets) => {
-            let refusal = refusal_in_octets(alloc, &octets)?;
-            Ok(Reply {
-                kdc,
-                octets,
-                refusal,
-            })
-        }
-        Err(error) if error.kind() == ErrorKind::OutOfMemory => Err(LoginFault::new(Why::Memory)),
-        Err(error) => {
-            kdcs.failures = kdcs.failures.saturating_add(1);
-            Err(LoginFault::new(Why::Silence(error)))
-        }
-    }
+    kdcs.failures = kdcs.failures.saturating_add(1);
+    Ok(())
 }
 
 fn refusal_in_octets(alloc: Global, octets: &[u8]) -> Result<Option<Refusal>, AllocError>

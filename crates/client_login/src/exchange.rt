@@ -25,8 +25,7 @@ pub trait Exchange {
     /// Begins a login, or a request for a further ticket. The exchange's waiting time counts from here.
     fn begin(&mut self);
 
-    /// Sends a message to an address and returns the reply. Fails if none comes in the exchange's waiting time.
-    /// exchange waits.
+    /// Sends a message to an address and returns the reply. Fails if no reply comes in the exchange's waiting time.
     fn exchange(
         &mut self,
         alloc: Global,

@@ -3,6 +3,7 @@ ghost use Rattle.std.specs.Prelude.{◌≡◌, Err, IfErr, IfOk, None, Ok};
 ghost use Rattle.client_login.specs.Faults.{named_by};
 ghost use Rattle.client_login.specs.declared.faults.Why.TheVariants.{Memory};
 
+use crate::codes::code_text;
 use client_core::{Mismatch, ServerError};
 use std::alloc::{AllocError, AllocFailed};
 use std::error::Error;
@@ -119,7 +120,7 @@ impl fmt::Display for Why {
     fn fmt<W: fmt::Write>(&self, f: &mut fmt::Formatter<W>) -> fmt::Result {
         match self {
             Why::Silence(error) => write!(f, "no KDC replied: {error}"),
-            Why::Refused(error) => write!(f, "the KDC refuses with error {}", error.code),
+            Why::Refused(error) => { write!(f, "error {}: {}", error.code, code_text(error.code)) }
             why => f.write_str(why.text()),
         }
     }
@@ -129,21 +130,37 @@ impl Why {
     fn text(self) -> &'static str {
         match self {
             Why::NotAskable => "the realm or a name is too long for a request",
-            Why::NotPresentable => "the ticket to ask with can't be presented",
+            Why::NotPresentable => "the ticket-granting ticket can't be presented",
             Why::NoClientKey => "the keytab has no key of the client",
-            Why::NoKey => "the keytab has no key of the client of a type that the KDC names",
+            Why::NoKey =>
+                "the keytab has no key of the client with an encryption type that the KDC names",
             Why::Silence(_) => "no KDC replied",
             Why::Refused(_) => "the KDC refuses",
-            Why::NotAReply => "what came back is no reply of a KDC",
-            Why::Mismatch(_) => "the reply answers another request",
-            Why::CannotOpen => "the client's key doesn't open the reply",
-            Why::SessionCannotOpen => "the session key doesn't open the reply",
+            Why::NotAReply => "the bytes that came back are not a reply of a KDC",
+            Why::Mismatch(what) => mismatch_text(what),
+            Why::CannotOpen =>
+                "the client's key does not decrypt the reply: the password or the keytab is wrong, or it is another KDC",
+            Why::SessionCannotOpen =>
+                "the session key of the ticket-granting ticket does not decrypt the reply: it is another KDC",
             Why::NoKnownType =>
-                "the KDC names no key of the client of the encryption types 17 to 20",
-            Why::CountTooLarge => "the KDC asks for too many iterations of string-to-key",
-            Why::WeakCount => "the KDC asks for too few iterations of string-to-key",
+                "the KDC names no key of the client with one of the encryption types 17 to 20",
+            Why::CountTooLarge =>
+                "the KDC asks for more iterations of string-to-key than 1048576, or for none",
+            Why::WeakCount =>
+                "the KDC asks for fewer iterations of string-to-key than the least count that is accepted: somebody may have changed its reply to guess the password",
             Why::Memory => "out of memory",
         }
+    }
+}
+
+/// Returns how a reply differs from the request.
+fn mismatch_text(what: Mismatch) -> &'static str {
+    match what {
+        Mismatch::Client => "the reply is for another client than the one that asked",
+        Mismatch::Nonce => "the reply has another nonce than the request",
+        Mismatch::Service => "the reply has a ticket for another service than was asked for",
+        Mismatch::Times =>
+            "the ticket ends later than was asked for, or starts at another time: the clocks may differ",
     }
 }
 

@@ -4,7 +4,6 @@ ghost use Rattle.client_core.specs.Asked.{IsAskable};
 ghost use Rattle.client_core.specs.Replies as replies;
 ghost use Rattle.client_core.specs.declared.fault.ClientFault.TheVariants as found;
 ghost use Rattle.client_core.specs.declared.key_role.KeyRole.TheVariants as roles;
-ghost use Rattle.krb_fields.specs.declared.moment.Moment as moments;
 ghost use Rattle.krb_types.specs.Ticket as tickets;
 ghost use Rattle.client_login.specs.Draws.{after_confounder, after_nonce, drawn_confounder, drawn_nonce};
 ghost use Rattle.client_login.specs.Faults.{IsFirstFault, IsRejection, IsUnheard, SaysFirst, SaysRefused};
@@ -56,34 +55,14 @@ impl<X: Exchange> KdcClient<X> {
             self.old.at.sec fault.why fault.kdc) }
     {
         self.kdcs.exchange.begin();
-        first_ticket(alloc, self, rng, login, secret)
+        let nonce = draw_nonce(rng);
+        let etypes = etypes_for(alloc, secret, &login.client)?;
+        if etypes.is_empty() {
+            return Err(LoginFault::new(Why::NoClientKey));
+        }
+        let asked = first_asked(alloc, login, etypes, self.at, nonce)?;
+        ask_plainly(alloc, self, rng, &asked, secret)
     }
-}
-
-fn first_ticket<X: Exchange, R: Rng>(
-    alloc: Global,
-    client: &mut KdcClient<X>,
-    rng: &mut R,
-    login: &Login,
-    secret: &Secret,
-) -> Result<Credential, LoginFault>
-    requires { CarriesFirst X.carries secret.now
-        (logs_in login.now secret.now client.old.at.sec (drawn_nonce (R.stream rng.old)))
-        client.old.at (after_nonce (R.stream rng.old)) }
-    ensures ok { IfOk result (λ credential. IsFirst X.answers secret.now
-        (logs_in login.now secret.now client.old.at.sec (drawn_nonce (R.stream rng.old)))
-        client.old.at.sec credential) }
-    ensures err { IfErr result (λ fault. IsFirstFault X.answers secret.now
-        (logs_in login.now secret.now client.old.at.sec (drawn_nonce (R.stream rng.old)))
-        client.old.at.sec fault.why fault.kdc) }
-{
-    let nonce = draw_nonce(rng);
-    let etypes = etypes_for(alloc, secret, &login.client)?;
-    if etypes.is_empty() {
-        return Err(LoginFault::new(Why::NoClientKey));
-    }
-    let asked = first_asked(alloc, login, etypes, client.at, nonce)?;
-    ask_plainly(alloc, client, rng, &asked, secret)
 }
 
 /// Sends the request without a timestamp.
@@ -134,7 +113,8 @@ fn key_for_timestamp(
     key_wanted(alloc, secret, asked, &info)
 }
 
-/// Sends the request with a timestamp under the client's key.
+/// Sends the request with a timestamp under the client's key. A KDC that has seen another request of the client with the
+/// same moment gets another one, with another timestamp.
 #[tactic(auto, using(crate::proofs::Takings::first_blamed, crate::proofs::Takings::first_taken, crate::proofs::Takings::first_unheard))]
 fn ask_with_timestamp<X: Exchange, R: Rng>(
     alloc: Global,
@@ -153,35 +133,18 @@ fn ask_with_timestamp<X: Exchange, R: Rng>(
         IsFirstFault X.answers secret.now asked.now client.old.at.sec fault.why fault.kdc) }
 {
     let at = client.at;
-    let reply = stamped_reply(alloc, client, rng, asked, key)?;
+    let reply = send_timestamp(alloc, client, rng, asked, key)?;
+    if reply.is_error(Code::KrbApErrRepeat) {
+        let reply = send_timestamp(alloc, client, rng, asked, key)?;
+        return said_by(
+            reply.kdc,
+            take_stamped(alloc, asked, secret, key, at, &reply),
+        );
+    }
     said_by(
         reply.kdc,
         take_stamped(alloc, asked, secret, key, at, &reply),
     )
-}
-
-/// Returns the reply. A KDC that has seen another request of the client with the same moment gets another one, with
-/// another timestamp.
-fn stamped_reply<X: Exchange, R: Rng>(
-    alloc: Global,
-    client: &mut KdcClient<X>,
-    rng: &mut R,
-    asked: &Asked,
-    key: &Key,
-) -> Result<Reply, LoginFault>
-    requires askable { IsAskable asked.now }
-    requires stamped { X.carries
-        (stamped_request asked.now key.now client.old.at (drawn_confounder (R.stream rng.old))) }
-    requires again { (next : moments.Moment) → IsNext client.old.at next → X.carries
-        (stamped_request asked.now key.now next (drawn_confounder (after_confounder (R.stream rng.old)))) }
-    ensures ok { IfOk result (λ reply. IsReply X.answers reply) }
-    ensures err { IfErr result (λ fault. IsUnheard X.answers fault.why fault.kdc) }
-{
-    let reply = send_timestamp(alloc, client, rng, asked, key)?;
-    if reply.is_error(Code::KrbApErrRepeat) {
-        return send_timestamp(alloc, client, rng, asked, key);
-    }
-    Ok(reply)
 }
 
 fn send_timestamp<X: Exchange, R: Rng>(

@@ -6,7 +6,6 @@ ghost use Rattle.client_core.specs.Sessions as sessions;
 ghost use Rattle.client_core.specs.Taken.{IsTaken};
 ghost use Rattle.client_core.specs.declared.key_role.KeyRole.TheVariants as roles;
 ghost use Rattle.client_core.specs.declared.sessions.Session as session;
-ghost use Rattle.krb_fields.specs.declared.moment.Moment as moments;
 ghost use Rattle.krb_types.specs.Ticket as tickets;
 ghost use Rattle.client_login.specs.Asking.{again_options, further_asked};
 ghost use Rattle.client_login.specs.Draws.{after_confounder, after_nonce, drawn_confounder, drawn_nonce};
@@ -54,7 +53,10 @@ impl<X: Exchange> KdcClient<X> {
             self.old.at.sec fault.why fault.kdc) }
     {
         self.kdcs.exchange.begin();
-        ticket_for(alloc, self, rng, granting, service)
+        let nonce = draw_nonce(rng);
+        let options = Flags::from_bits(0);
+        let asked = further_asked(alloc, options, &granting.client, service, nonce)?;
+        ask_with_ticket(alloc, self, rng, granting, &asked)
     }
 
     /// Gets a ticket again: renewed, with a new start; or validated, if it was postdated (RFC 4120, sections 2.3 and 2.4).
@@ -79,65 +81,16 @@ impl<X: Exchange> KdcClient<X> {
             self.old.at.sec fault.why fault.kdc) }
     {
         self.kdcs.exchange.begin();
-        same_ticket(alloc, self, rng, granting, again)
+        let nonce = draw_nonce(rng);
+        let options = again_options(again, granting.flags);
+        let service = &granting.server.name;
+        let asked = further_asked(alloc, options, &granting.client, service, nonce)?;
+        ask_with_ticket(alloc, self, rng, granting, &asked)
     }
 }
 
-fn ticket_for<X: Exchange, R: Rng>(
-    alloc: Global,
-    client: &mut KdcClient<X>,
-    rng: &mut R,
-    granting: &Credential,
-    service: &Name,
-) -> Result<Credential, LoginFault>
-    requires { CarriesPresented X.carries granting.now
-        (further_asked 0 granting.now.client service.now (drawn_nonce (R.stream rng.old)))
-        client.old.at (after_nonce (R.stream rng.old)) }
-    ensures ok { IfOk result (λ credential. IsFurther X.answers granting.now
-        (further_asked 0 granting.now.client service.now (drawn_nonce (R.stream rng.old)))
-        client.old.at.sec credential) }
-    ensures err { IfErr result (λ fault. IsFurtherFault X.answers granting.now
-        (further_asked 0 granting.now.client service.now (drawn_nonce (R.stream rng.old)))
-        client.old.at.sec fault.why fault.kdc) }
-{
-    let nonce = draw_nonce(rng);
-    let options = Flags::from_bits(0);
-    let asked = further_asked(alloc, options, &granting.client, service, nonce)?;
-    ask_with_ticket(alloc, client, rng, granting, &asked)
-}
-
-fn same_ticket<X: Exchange, R: Rng>(
-    alloc: Global,
-    client: &mut KdcClient<X>,
-    rng: &mut R,
-    granting: &Credential,
-    again: Again,
-) -> Result<Credential, LoginFault>
-    requires { CarriesPresented X.carries granting.now
-        (further_asked (again_options again granting.now.flags) granting.now.client granting.now.server.name
-        (drawn_nonce (R.stream rng.old)))
-        client.old.at (after_nonce (R.stream rng.old)) }
-    ensures ok { IfOk result (λ credential. IsFurther X.answers granting.now
-        (further_asked (again_options again granting.now.flags) granting.now.client granting.now.server.name
-        (drawn_nonce (R.stream rng.old)))
-        client.old.at.sec credential) }
-    ensures err { IfErr result (λ fault. IsFurtherFault X.answers granting.now
-        (further_asked (again_options again granting.now.flags) granting.now.client granting.now.server.name
-        (drawn_nonce (R.stream rng.old)))
-        client.old.at.sec fault.why fault.kdc) }
-{
-    let nonce = draw_nonce(rng);
-    let options = again_options(again, granting.flags);
-    let asked = further_asked(
-        alloc,
-        options,
-        &granting.client,
-        &granting.server.name,
-        nonce,
-    )?;
-    ask_with_ticket(alloc, client, rng, granting, &asked)
-}
-
+/// Sends the request with the ticket. A KDC that has seen another authenticator of the client with the same moment gets
+/// another request, with another authenticator.
 #[tactic(auto, using(crate::proofs::Takings::further_blamed, crate::proofs::Takings::further_taken, crate::proofs::Takings::further_unheard))]
 fn ask_with_ticket<X: Exchange, R: Rng>(
     alloc: Global,
@@ -162,34 +115,12 @@ fn ask_with_ticket<X: Exchange, R: Rng>(
         return Err(LoginFault::new(Why::NotAskable));
     }
     let at = client.at;
-    let reply = presented_reply(alloc, client, rng, granting, asked)?;
-    said_by(reply.kdc, take_presented(alloc, asked, &key, at, &reply))
-}
-
-/// Returns the reply. A KDC that has seen another authenticator of the client with the same moment gets another
-/// request, with another authenticator.
-fn presented_reply<X: Exchange, R: Rng>(
-    alloc: Global,
-    client: &mut KdcClient<X>,
-    rng: &mut R,
-    granting: &Credential,
-    asked: &Asked,
-) -> Result<Reply, LoginFault>
-    requires askable { IsAskable asked.now }
-    requires presentable { sessions.IsPresentable granting.now }
-    requires presented { (held : session.Session) → sessions.session granting.now ≡ Some held → X.carries
-        (presented_request granting.now asked.now held client.old.at (drawn_confounder (R.stream rng.old))) }
-    requires again { (held : session.Session) (next : moments.Moment) → sessions.session granting.now ≡ Some held
-        → IsNext client.old.at next → X.carries (presented_request granting.now asked.now held next
-        (drawn_confounder (after_confounder (R.stream rng.old)))) }
-    ensures ok { IfOk result (λ reply. IsReply X.answers reply) }
-    ensures err { IfErr result (λ fault. IsUnheard X.answers fault.why fault.kdc) }
-{
     let reply = send_ticket(alloc, client, rng, granting, asked)?;
     if reply.is_error(Code::KrbApErrRepeat) {
-        return send_ticket(alloc, client, rng, granting, asked);
+        let reply = send_ticket(alloc, client, rng, granting, asked)?;
+        return said_by(reply.kdc, take_presented(alloc, asked, &key, at, &reply));
     }
-    Ok(reply)
+    said_by(reply.kdc, take_presented(alloc, asked, &key, at, &reply))
 }
 
 fn send_ticket<X: Exchange, R: Rng>(

@@ -16,6 +16,7 @@
 mod asking;
 mod client;
 mod clocks;
+mod codes;
 mod draws;
 mod exchange;
 mod faults;

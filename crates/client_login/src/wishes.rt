@@ -1,4 +1,4 @@
-//! What a client asks of a KDC (RFC 4120, section 5.4.1).
+//! What a client requests from a KDC (RFC 4120, section 5.4.1).
 ghost use Rattle.std.specs.Prelude.{◌≡◌, ◌<◌, ◌^◌, IfOk};
 ghost use Rattle.client_login.specs.Asking.{again_option, again_options, first_asked, from_of, further_asked};
 ghost use Rattle.client_login.specs.Asking.{granting_service};
@@ -13,21 +13,21 @@ use krb_elements::{KerberosString, Seq};
 use krb_fields::{Flags, KdcOption, Moment, Name};
 use std::alloc::{AllocError, Global};
 
-/// Who logs in, and the first ticket that is asked for.
+/// A client that logs in, and its first ticket.
 #[derive(Drop)]
 pub struct Login {
     pub client: Principal,
-    /// A service of the client's realm, mostly [`granting_service`].
+    /// A service of the client's realm, usually [`granting_service`].
     pub service: Name,
     pub wishes: Wishes,
 }
 
-/// What a first ticket is to be.
+/// The properties that a client requests of its first ticket.
 #[derive(Clone, Copy)]
 pub struct Wishes {
-    /// For how many seconds; absent: for as long as the KDC gives.
+    /// The lifetime in seconds; absent: the longest that the KDC gives.
     pub life: Option<u32>,
-    /// In how many seconds it starts; absent: at once. A ticket that starts later has to be validated then.
+    /// The seconds until it starts; absent: it starts at once. A ticket that starts later has to be validated then.
     pub start: Option<u32>,
     pub renewable: bool,
     pub forwardable: bool,
@@ -35,7 +35,7 @@ pub struct Wishes {
 }
 
 impl Wishes {
-    /// A ticket that starts at once, for as long as the KDC gives, without any option.
+    /// A ticket that starts at once, with the longest lifetime that the KDC gives and without options.
     pub const PLAIN: Wishes = Wishes {
         life: None,
         start: None,
@@ -45,7 +45,7 @@ impl Wishes {
     };
 }
 
-/// What is to be done with a ticket that the client has.
+/// What to do with a ticket that the client has.
 #[derive(Clone, Copy)]
 pub enum Again {
     Renew,
@@ -55,14 +55,14 @@ pub enum Again {
 /// The name-type of a service with its instance, NT-SRV-INST (RFC 4120, section 6.2).
 const SERVICE_AND_INSTANCE: i32 = 2;
 
-/// The name of the ticket-granting service of a realm, `krbtgt/REALM`.
+/// Returns the name of the ticket-granting service of a realm, `krbtgt/REALM`.
 pub fn granting_service(alloc: Global, realm: &KerberosString) -> Result<Name, AllocError>
     ensures { IfOk result (λ name. name ≡ granting_service realm.now) }
 {
     Name::new(alloc, SERVICE_AND_INSTANCE, &[b"krbtgt", realm.as_slice()])
 }
 
-/// What is asked for a first ticket.
+/// Returns the request for a first ticket.
 pub(crate) fn first_asked(
     alloc: Global,
     login: &Login,
@@ -86,7 +86,7 @@ pub(crate) fn first_asked(
     })
 }
 
-/// What is asked with a ticket-granting ticket: a ticket that ends as late as that one.
+/// Returns the request for a ticket with a ticket-granting ticket. It is to end as late as that one.
 pub(crate) fn further_asked(
     alloc: Global,
     options: Flags,
@@ -109,7 +109,7 @@ pub(crate) fn further_asked(
     })
 }
 
-/// The encryption types that a client takes, in the order of its preference.
+/// Returns the encryption types that a client accepts, in order of preference.
 pub(crate) fn offered(alloc: Global) -> Result<Seq<Etype>, AllocError>
     ensures { IfOk result (λ etypes. etypes ≡ offered) }
 {
@@ -140,8 +140,8 @@ fn with_if(options: Flags, wanted: bool, option: KdcOption) -> Flags
     }
 }
 
-/// To renew or validate a ticket with these flags. An option is asked for again where the ticket has its flag, since
-/// some KDCs clear the flag otherwise.
+/// Returns the options that renew or validate a ticket with these flags. If the ticket has the flag of an option, the
+/// option is requested again, because some KDCs clear the flag otherwise.
 pub(crate) fn again_options(again: Again, flags: Flags) -> Flags
     ensures { result ≡ again_options again flags }
 {
@@ -161,14 +161,14 @@ fn again_option(again: Again) -> KdcOption
     }
 }
 
-/// An option and the flag that it gives a ticket have one number.
+/// Adds an option if the flags have it. An option and the flag that it gives a ticket have the same number.
 fn with_kept(options: Flags, flags: Flags, option: KdcOption) -> Flags
     ensures { result ≡ with_kept flags option options }
 {
     with_if(options, flags.has(option), option)
 }
 
-/// So many seconds from now, at most the end of the year 9999.
+/// Returns the time this many seconds from now, but no later than the end of the year 9999.
 fn time_after(at: Moment, seconds: u64) -> KTime
     requires { seconds < 2 ^ 33 }
     ensures { result ≡ time_after at.sec seconds }
@@ -195,7 +195,7 @@ fn from(wishes: &Wishes, at: Moment) -> Option<KTime>
     }
 }
 
-/// The life counts from the start; the start of 1970 asks for no bound.
+/// Returns the end to request. The lifetime counts from the start; the start of 1970 requests no bound.
 fn till(wishes: &Wishes, at: Moment) -> KTime
     ensures { result ≡ till_of at.sec wishes.now }
 {
@@ -208,7 +208,7 @@ fn till(wishes: &Wishes, at: Moment) -> KTime
     }
 }
 
-/// The start of 1970 asks for as long as the KDC gives.
+/// Returns until when the ticket is to be renewable: the start of 1970 requests the longest time that the KDC gives.
 fn rtime(wishes: &Wishes) -> Option<KTime>
     ensures { result ≡ rtime_of wishes.now }
 {

@@ -11,30 +11,30 @@ use std::io::{Error, ErrorKind, Read, Write};
 use std::net::{Ipv4Addr, Ipv6Addr, Net, SocketAddr, TcpStream, UdpSocket};
 use std::rt::Clock;
 
-/// The most octets of a reply over TCP. A longer one is an error, which is found before it is read.
+/// The greatest size of a reply over TCP, in bytes. A longer one is refused before it is read.
 pub const LONGEST_REPLY: usize = 1_048_576;
 
-/// The most octets of a request over TCP, since the first bit of a length is reserved.
+/// The greatest size of a request over TCP, in bytes: the first bit of a length is reserved.
 const LONGEST_REQUEST: usize = 0x7fff_ffff;
 
-/// For how many seconds a reply to each datagram is waited for.
+/// How many seconds to wait for the reply to each datagram.
 const UDP_WAITS: [u64; 3] = [1, 2, 4];
 
-/// For how many seconds a connection is held.
+/// How many seconds a connection lasts at most.
 const TCP_WAIT: u64 = 8;
 
-/// For how many seconds all messages of a login are waited for, from the first one on.
+/// How many seconds all messages of a login take at most, from the first one on.
 const WHOLE_WAIT: u64 = 30;
 
-/// The longest datagram.
+/// The greatest size of a datagram, in bytes.
 const LONGEST_DATAGRAM: usize = 65_535;
 
-/// The sockets and the clock that a runtime reaches. Each message has a socket of its own, which takes what its peer
-/// sends alone: so a reply from elsewhere, or a late one to an earlier message, is passed over.
+/// An exchange over the sockets of a runtime. Each message has a socket of its own, which receives only from its peer. So
+/// a reply from elsewhere, or a late reply to an earlier message, is ignored.
 #[derive(Drop)]
 pub struct SocketExchange<'a, R> {
     system: &'a R,
-    /// When all waiting of a login ends; `None` before its first message.
+    /// When a login ends that got no reply; `None` before its first message.
     end: Option<Deadline>,
 }
 
@@ -49,7 +49,7 @@ impl<'a, R: Net + Clock> SocketExchange<'a, R> {
         SocketExchange { system, end: None }
     }
 
-    /// When all waiting of a login ends: so many seconds after its first message.
+    /// Returns when a login ends that got no reply: `WHOLE_WAIT` after its first message.
     fn end(&mut self) -> io::Result<Deadline> {
         let end = match self.end {
             Some(end) => end,
@@ -115,7 +115,7 @@ fn by_datagrams<R: Net + Clock>(
     Err(no_reply())
 }
 
-/// The octets that were received.
+/// Returns the bytes that were received.
 fn received(mut datagram: Vec<u8>, len: usize) -> Vec<u8>
     ensures { vec_len result ≤ 65535 }
 {
@@ -123,7 +123,7 @@ fn received(mut datagram: Vec<u8>, len: usize) -> Vec<u8>
     datagram
 }
 
-/// Any address of this computer of the same kind.
+/// Returns the unspecified address of the same IP version.
 fn any_address(to: SocketAddr) -> SocketAddr {
     match to {
         SocketAddr::V4(_) => SocketAddr::from((Ipv4Addr::UNSPECIFIED, 0)),
@@ -131,7 +131,7 @@ fn any_address(to: SocketAddr) -> SocketAddr {
     }
 }
 
-/// Whether nothing came in time.
+/// Checks whether nothing came in time.
 fn is_silence(kind: ErrorKind) -> bool {
     kind == ErrorKind::WouldBlock || kind == ErrorKind::TimedOut || kind == ErrorKind::Interrupted
 }
@@ -152,7 +152,7 @@ fn by_connection<R: Net + Clock>(
     receive(alloc, &mut stream)
 }
 
-/// Sends a message behind its length (RFC 4120, section 7.2.2).
+/// Sends a message after its length (RFC 4120, section 7.2.2).
 fn send_framed<W: Write>(alloc: Global, stream: &mut W, message: &[u8]) -> io::Result<()> {
     if message.len() > LONGEST_REQUEST {
         return Err(Error::from(ErrorKind::InvalidInput));
@@ -161,7 +161,7 @@ fn send_framed<W: Write>(alloc: Global, stream: &mut W, message: &[u8]) -> io::R
     stream.write_all(&framed)
 }
 
-/// Takes the message that stands behind its length.
+/// Receives the message after its length.
 fn receive<S: Read>(alloc: Global, stream: &mut S) -> io::Result<Vec<u8>>
     ensures { IfOk result (λ reply. vec_len reply ≤ 1048576) }
 {

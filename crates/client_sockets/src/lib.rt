@@ -1,5 +1,5 @@
-//! A client's messages over sockets of the system, the hosts that its resolver knows, and the moment that its clock
-//! shows.
+//! A client's messages over the system's sockets, hosts looked up by the system's resolver, and the moment on the
+//! system's clock.
 #![tactic(auto)]
 
 mod deadline;

@@ -84,7 +84,8 @@ pub fn subcommand<'a>(alloc: Global, row: &SubcommandRow) -> Result<Command<'a>,
     with_flags(alloc, command, row.flags)
 }
 
-fn with_options<'a>(
+/// Returns the command with these options.
+pub fn with_options<'a>(
     alloc: Global,
     mut command: Command<'a>,
     options: &[OptionRow],
@@ -95,7 +96,8 @@ fn with_options<'a>(
     Ok(command)
 }
 
-fn with_flags<'a>(
+/// Returns the command with these flags.
+pub fn with_flags<'a>(
     alloc: Global,
     mut command: Command<'a>,
     flags: &[FlagRow],

@@ -38,9 +38,9 @@ impl Amiss {
 impl fmt::Display for Amiss {
     fn fmt<W: fmt::Write>(&self, f: &mut fmt::Formatter<W>) -> fmt::Result {
         match self {
-            Amiss::LongFile => f.write_str("it has more octets than are taken"),
-            Amiss::ShortSeed => f.write_str("it has fewer than 32 octets"),
-            Amiss::LongPassword => f.write_str("its first line has more than 1024 octets"),
+            Amiss::LongFile => f.write_str("the file is too long"),
+            Amiss::ShortSeed => f.write_str("the seed has fewer than 32 bytes"),
+            Amiss::LongPassword => f.write_str("the password has more than 1024 bytes"),
             Amiss::Failed(error) => write!(f, "{error}"),
         }
     }

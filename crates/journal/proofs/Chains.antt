@@ -14,14 +14,14 @@ use Rattle.journal.specs.declared.fault.JournalFault.TheVariants.{Broken, Memory
 abbrev w : Entry → List ℕ
 w e = written entry e
 
-chained-one : (check : List ℕ) (es : List Entry) (e : Entry) → chained check (es ++ e ∷ []) ≡ chained check es ++ checked (last_check check es) (w e)
+pub chained-one : (check : List ℕ) (es : List Entry) (e : Entry) → chained check (es ++ e ∷ []) ≡ chained check es ++ checked (last_check check es) (w e)
 unfolding chained last_check
 chained-one check [] e = append-nil (checked check (w e))
 chained-one check (x ∷ es) e =
     ap (λ l. checked check (w x) ++ l) (chained-one (check_of check (w x)) es e)
     ∙ sym (append_assoc (checked check (w x)) (chained (check_of check (w x)) es) (checked (last_check (check_of check (w x)) es) (w e)))
 
-last-one : (check : List ℕ) (es : List Entry) (e : Entry) → last_check check (es ++ e ∷ []) ≡ check_of (last_check check es) (w e)
+pub last-one : (check : List ℕ) (es : List Entry) (e : Entry) → last_check check (es ++ e ∷ []) ≡ check_of (last_check check es) (w e)
 unfolding last_check
 last-one check [] e = refl
 last-one check (x ∷ es) e = last-one (check_of check (w x)) es e

@@ -1,3 +1,4 @@
 mod Chains
 mod Spellings
 mod Lengths
+pub mod Held

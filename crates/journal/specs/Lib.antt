@@ -2,3 +2,4 @@ pub mod Forms
 pub mod Texts
 pub mod Decision
 pub mod Keeping
+pub mod Holding

@@ -7,14 +7,14 @@ use krb_der::{DerFault, Reader, Writer};
 use sha2::{Digest, Sha256};
 use std::alloc::AllocError;
 
-/// An element where it stands, and its check.
+/// A header or an entry in the octets that are read, and its check.
 #[derive(Drop)]
 pub struct Element<'a> {
     pub octets: &'a [u8],
     pub check: [u8; 16],
 }
 
-/// The check of an element.
+/// Returns the check of an element, from the check before it.
 pub fn check_of(before: &[u8], element: &[u8]) -> [u8; 16]
     ensures { result ≡ check_of before.now element.now }
 {
@@ -27,12 +27,12 @@ pub fn check_of(before: &[u8], element: &[u8]) -> [u8; 16]
     check
 }
 
-/// The element at the front, if its check stands behind it.
+/// Takes the element at the front, if its check follows it.
 pub fn take_element<'a>(reader: &mut Reader<'a>, before: &[u8]) -> Result<Element<'a>, DerFault>
     ensures found { IfOk result (λ e. reader.old ≡ checked before.now e.octets.now ++ reader.new) }
     ensures short { IfOk result (λ e. length e.octets.now < 2 ^ 32) }
     ensures check { IfOk result (λ e. e.check ≡ check_of before.now e.octets.now) }
-    // What stands at the front with its check is taken.
+    // An element at the front that is followed by its check is taken.
     ensures only { (element rest : List ℕ) → length element < 2 ^ 32 → reader.old ≡ checked before.now element ++ rest
         → IsOkAnd result (λ e. e.octets.now ≡ element) × (reader.new ≡ rest) }
 {
@@ -54,7 +54,7 @@ pub fn take_check(reader: &mut Reader<'_>, check: &[u8; 16]) -> Result<(), DerFa
     Ok(())
 }
 
-/// Appends an element and its check, which it returns.
+/// Appends an element and its check. Returns the check.
 pub fn put_element(out: &mut Writer, before: &[u8], element: &[u8]) -> Result<[u8; 16], AllocError>
     requires { length element.now < 2 ^ 32 }
     ensures text { OnOk result (out.new ≡ out.old ++ checked before.now element.now) }

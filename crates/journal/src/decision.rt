@@ -1,4 +1,4 @@
-//! What a start makes of the journals that it finds.
+//! Deciding how to start from the journals that are found.
 ghost use Rattle.std.specs.Prelude.{◌≡◌, ◌++◌, map, IfOk, OnOk};
 ghost use Rattle.journal.specs.Decision.{any_later, came, doubt_of, entries_behind, floor_behind, is_first, is_later};
 ghost use Rattle.journal.specs.Decision.{is_other_boot, is_other_realm, is_unlinked, links_to, resumption_of};
@@ -13,12 +13,12 @@ use replay::{Resumption, Seen};
 use std::alloc::{AllocError, Global};
 use std::fmt;
 
-/// What stands where a journal is to be.
+/// What is at the path of a journal.
 #[derive(Drop)]
 pub enum Found {
-    /// There is no file.
+    /// No file.
     Nothing,
-    /// The octets are no whole journal.
+    /// A file that is no whole journal.
     Broken,
     Whole(Journal),
 }
@@ -27,7 +27,7 @@ pub enum Found {
 #[derive(Clone, Copy)]
 pub struct Place<'a> {
     pub realm: &'a [u8],
-    /// The system's name for its boot.
+    /// The system's name for its current boot.
     pub boot: &'a [u8],
     pub at: Moment,
 }
@@ -37,14 +37,14 @@ pub struct Place<'a> {
 pub enum Doubt {
     /// There is no journal.
     Absent,
-    /// It was cut or changed, or an entry was left out or added.
+    /// The journal was cut or changed, or an entry was left out or added.
     Damaged,
     OtherRealm,
-    /// The system was booted since, and the end of the journal may be lost.
+    /// The system was booted since then, so the end of the journal may be lost.
     OtherBoot,
-    /// The clock is behind a moment of the journal.
+    /// The clock shows a time before a moment of the journal.
     Later,
-    /// The journal that goes before this one is not there.
+    /// The journal that went before this one is missing.
     Unlinked,
 }
 
@@ -64,19 +64,18 @@ impl fmt::Display for Doubt {
 /// How a server starts.
 #[derive(Drop)]
 pub enum Start {
-    /// It resumes with this, and its journal goes on behind this check.
+    /// It resumes with these authenticators, and its journal goes on behind this check.
     Resumes {
         resumption: Resumption,
         check: [u8; 16],
     },
-    /// It refuses all authenticators that may have come before.
+    /// It refuses all authenticators that may have come before it.
     Refuses {
         doubt: Doubt,
     },
 }
 
-/// Decides how a server starts that finds these two journals. `newer` is the one that is appended to, and `older` the
-/// one that went before it.
+/// Decides how a server starts. `newer` is the journal that is appended to, and `older` the one that went before it.
 pub fn start_of(
     alloc: Global,
     place: &Place<'_>,
@@ -117,7 +116,7 @@ fn start_by(
     }
 }
 
-/// Why it can't resume with this journal, if it can't.
+/// Returns why the server can't resume with this journal, if it can't.
 fn doubt_of(place: &Place<'_>, older: &Found, journal: &Journal) -> Option<Doubt>
     ensures { result ≡ doubt_of place.now older.now journal.now }
 {
@@ -148,21 +147,21 @@ fn is_later(place: &Place<'_>, journal: &Journal) -> bool
         || any_later(place.at.sec, journal.entries.as_slice())
 }
 
-/// Whether one of the requests came after this second.
+/// Checks whether a request came after this second.
 fn any_later(second: i64, entries: &[Entry]) -> bool
     ensures { result ≡ any_later second entries.now }
 {
     entries.iter().any(|entry| second < came(entry))
 }
 
-/// The second in which the request of an entry came.
+/// Returns the second in which the request of an entry came.
 fn came(entry: &Entry) -> i64
     ensures { result ≡ came entry.now }
 {
     entry.ctime.seconds() + i64::from(entry.age)
 }
 
-/// Whether no journal goes before it.
+/// Checks whether no journal went before this one.
 fn is_first(journal: &Journal) -> bool
     ensures { result ≡ is_first journal.now }
 {
@@ -176,7 +175,7 @@ fn is_unlinked(place: &Place<'_>, older: &Found, journal: &Journal) -> bool
     !(is_first(journal) || links_to(place, journal, older))
 }
 
-/// Whether what goes before the journal is there, whole, of the same realm and boot, and no later.
+/// Checks whether the journal before this one is there, whole, of this realm and boot, and not later than the start.
 fn links_to(place: &Place<'_>, journal: &Journal, older: &Found) -> bool
     ensures { result ≡ links_to place.now journal.now older.now }
 {
@@ -191,7 +190,7 @@ fn links_to(place: &Place<'_>, journal: &Journal, older: &Found) -> bool
     }
 }
 
-/// What it resumes with.
+/// Returns what the server resumes with.
 fn resumption_of(
     alloc: Global,
     place: &Place<'_>,
@@ -224,7 +223,7 @@ fn floor_behind(journal: &Journal, older: &Found) -> i64
     }
 }
 
-/// Adds the authenticators of a journal behind those of the one before it, if one goes before it.
+/// Adds the authenticators of a journal, after those of the one before it if there is one.
 fn see_behind(
     alloc: Global,
     journal: &Journal,

@@ -11,18 +11,18 @@ use krb_elements::{
 use krb_fields::{Name, NameRef};
 use std::alloc::AllocError;
 
-/// An authenticator that was seen.
+/// A seen authenticator.
 #[derive(Drop)]
 pub struct Entry<N = Name> {
     pub client: N,
     /// The authenticator's own time.
     pub ctime: KTime,
     pub cusec: Microseconds,
-    /// How many seconds after that time its request came. Below zero, the client's clock was ahead.
+    /// How many seconds after that time its request came. It is negative if the client's clock was ahead.
     pub age: i32,
 }
 
-/// An [`Entry`] where it stands.
+/// An [`Entry`] that borrows from the octets that are read.
 pub type EntryRef<'a> = Entry<NameRef<'a>>;
 
 impl<N: Coded> Coded for Entry<N> {

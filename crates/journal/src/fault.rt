@@ -1,4 +1,4 @@
-//! Why a journal is not read, and why something is not written into one.
+//! Errors of reading and of writing a journal.
 ghost use Rattle.std.specs.Prelude.{◌≡◌};
 ghost use Rattle.journal.specs.declared.fault.JournalFault.TheVariants as faults;
 
@@ -7,7 +7,7 @@ use std::alloc::{AllocError, AllocFailed};
 use std::error::Error;
 use std::fmt;
 
-/// Why a journal is not read.
+/// Why a journal can't be read.
 #[derive(Clone, Copy, Debug, PartialEq, Eq)]
 pub enum JournalFault {
     /// The octets are no journal, or an entry was cut, changed, left out or added.
@@ -50,10 +50,10 @@ impl<T: Drop> From<AllocFailed<T>> for JournalFault {
     }
 }
 
-/// Why something is not written into a journal.
+/// Why an entry or a header can't be written.
 #[derive(Clone, Copy, Debug)]
 pub enum WriteFault {
-    /// A name or a number is beyond what an entry or a header has.
+    /// A name or a number is too large.
     Unfit,
     Memory,
 }

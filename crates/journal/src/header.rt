@@ -10,21 +10,21 @@ use krb_elements::{
 };
 use std::alloc::AllocError;
 
-/// What the entries of a journal belong to.
+/// The header of a journal.
 #[derive(Drop)]
 pub struct Header<S = Octets> {
     pub realm: S,
-    /// The system's name for its boot: what was written before another one may be lost.
+    /// The system's name for its boot. After another boot the end of the journal may be lost.
     pub boot: S,
-    /// When it was begun.
+    /// When the journal was begun.
     pub at: KTime,
-    /// Every authenticator that was remembered before this journal has a time below this.
+    /// Every authenticator that was seen before this journal was begun has a time below this.
     pub floor: KTime,
-    /// The last check of the journal that goes before, or no octets.
+    /// The last check of the journal that went before, or no octets.
     pub link: S,
 }
 
-/// A [`Header`] where it stands.
+/// A [`Header`] that borrows from the octets that are read.
 pub type HeaderRef<'a> = Header<OctetsRef<'a>>;
 
 impl<S: Coded> Coded for Header<S> {

@@ -1,14 +1,16 @@
-//! What a server appends for an authenticator, and begins a journal with.
+//! Writing entries and beginnings, and the floor that the next journal begins with.
 ghost use Rattle.std.specs.Prelude.{◌≡◌, ◌<◌, ◌+ℤ◌, ◌^◌, length, IfOk};
 ghost use Rattle.krb_elements.specs.Codec.{written};
 ghost use Rattle.journal.specs.Decision.{above, above_all, came, seen_of};
 ghost use Rattle.journal.specs.Forms as forms;
+ghost use Rattle.journal.specs.Holding.{above_older, floor_on};
 ghost use Rattle.journal.specs.Keeping.{Begins, Keeps, begun};
 
-use crate::decision::Place;
+use crate::decision::{Found, Place};
 use crate::entry::Entry;
 use crate::fault::WriteFault;
 use crate::header::Header;
+use crate::reading::Journal;
 use crate::writing::{Written, write_entry, write_header};
 use krb_der::KTime;
 use krb_elements::{Microseconds, Octets};
@@ -16,10 +18,10 @@ use krb_fields::{MAX_OCTETS, Moment};
 use replay::Seen;
 use std::alloc::Global;
 
-/// The octets of a check.
+/// The length of a check, in octets.
 const CHECK_LEN: usize = 16;
 
-/// Writes the entry of an authenticator behind a check. Its request came at this moment.
+/// Writes the entry of an authenticator, to follow a check. Its request came at this moment.
 pub fn write_seen(
     alloc: Global,
     check: &[u8; 16],
@@ -32,7 +34,7 @@ pub fn write_seen(
     Ok(write_entry(alloc, check, &entry)?)
 }
 
-/// The entry of an authenticator. Fails if a number or a name of it is beyond what an entry has.
+/// Returns the entry of an authenticator. Fails if its name or a number is too large.
 fn entry_of(alloc: Global, at: Moment, seen: &Seen) -> Result<Entry, WriteFault>
     ensures is { IfOk result (λ e. seen_of e ≡ seen.now) }
     ensures came { IfOk result (λ e. came e ≡ at.sec) }
@@ -52,15 +54,15 @@ fn entry_of(alloc: Global, at: Moment, seen: &Seen) -> Result<Entry, WriteFault>
     })
 }
 
-/// How many seconds after a time the request came.
+/// Returns how many seconds after a time the request came.
 fn age_of(at: Moment, ctime: KTime) -> Result<i32, WriteFault>
     ensures { IfOk result (λ age. ctime +ℤ age ≡ at.sec) }
 {
     i32::try_from(at.sec - ctime.seconds()).map_err(|_| WriteFault::Unfit)
 }
 
-/// Writes the beginning of a journal. It goes on behind this link, or has none; every authenticator that was
-/// remembered before it has a time below the floor.
+/// Writes the beginning of a journal. The link is the last check of the journal that went before, or empty. Every
+/// authenticator that was seen before has a time below the floor.
 pub fn write_beginning(
     alloc: Global,
     place: &Place<'_>,
@@ -111,4 +113,22 @@ pub fn above_all(floor: i64, entries: &[Entry]) -> i64
         floor = above(floor, entry.ctime);
     }
     floor
+}
+
+/// Returns the floor of a server that starts with a floor and goes on with these journals: it is above all that they
+/// hold.
+pub fn floor_on(floor: i64, newer: &Journal, older: &Found) -> i64
+    ensures { result ≡ floor_on floor newer.now older.now }
+{
+    let floor = above_older(floor, older).max(newer.header.floor.seconds());
+    above_all(floor, newer.entries.as_slice())
+}
+
+fn above_older(floor: i64, older: &Found) -> i64
+    ensures { result ≡ above_older floor older.now }
+{
+    match older {
+        Found::Nothing | Found::Broken => floor,
+        Found::Whole(before) => above_all(floor, before.entries.as_slice()),
+    }
 }

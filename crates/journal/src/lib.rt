@@ -1,6 +1,6 @@
-//! A KDC's journal: the authenticators that it remembers, in a file from which the next start resumes.
+//! A KDC's journal: a file of the authenticators in its replay caches, from which the next start resumes.
 //!
-//! A journal is a header and entries, each in DER as an OCTET STRING, and behind each its check: the digest of the
+//! A journal is a header and entries. Each is in DER, in an OCTET STRING, and is followed by its check: a digest of the
 //! check before it and of its octets. So an entry that was cut, changed, left out or added breaks the chain.
 #![tactic(auto)]
 
@@ -10,6 +10,7 @@ mod entry;
 mod fault;
 mod header;
 mod keeping;
+mod laws;
 mod reading;
 mod writing;
 
@@ -17,6 +18,7 @@ pub use decision::{Doubt, Found, Place, Start, start_of};
 pub use entry::{Entry, EntryRef};
 pub use fault::{JournalFault, WriteFault};
 pub use header::{Header, HeaderRef};
-pub use keeping::{above, above_all, write_beginning, write_seen};
+pub use keeping::{above, above_all, floor_on, write_beginning, write_seen};
+pub use laws::every_journal;
 pub use reading::{Journal, read_journal};
 pub use writing::{Written, write_entry, write_header};

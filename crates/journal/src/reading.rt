@@ -1,4 +1,4 @@
-//! What a journal holds.
+//! Reading a journal.
 ghost use Rattle.std.specs.Prelude.{◌≡◌, ◌<◌, ◌++◌, ℕ, List, length, IfOk, IsOkAnd};
 ghost use Rattle.krb_elements.specs.Codec.{written};
 ghost use Rattle.journal.specs.Forms.{Entry as Listed, Header as Headers, entry, header};
@@ -13,7 +13,7 @@ use krb_der::{DerFault, Reader};
 use krb_elements::{Octets, Seq, read};
 use std::alloc::{AllocError, Global};
 
-/// A journal that was read.
+/// A whole journal.
 #[derive(Drop)]
 pub struct Journal {
     pub header: Header,
@@ -24,10 +24,10 @@ pub struct Journal {
 
 /// Reads a journal.
 pub fn read_journal(alloc: Global, text: &[u8]) -> Result<Journal, JournalFault>
-    // What is read is the text's.
+    // What is read spells the text.
     ensures found { IfOk result (λ j. text.now ≡ journal_text j.header j.entries) }
     ensures check { IfOk result (λ j. j.check ≡ last_check (header_check j.header) j.entries) }
-    // What a text is that was written is read.
+    // A text that was written is read as what it was written from.
     ensures only { (h : Headers) (es : List Listed) → HasHeader h → HaveElements es → text.now ≡ journal_text h es
         → UnlessMemory result (λ j. (j.header ≡ h) × (j.entries ≡ es)) }
 {
@@ -48,7 +48,7 @@ struct Headed {
     check: [u8; 16],
 }
 
-/// The header at the front.
+/// Takes the header at the front.
 fn take_header(alloc: Global, reader: &mut Reader<'_>) -> Result<Headed, JournalFault>
     ensures found { IfOk result (λ t. reader.old ≡ checked t.header.link (written header t.header) ++ reader.new) }
     ensures check { IfOk result (λ t. t.check ≡ header_check t.header) }
@@ -65,7 +65,7 @@ fn take_header(alloc: Global, reader: &mut Reader<'_>) -> Result<Headed, Journal
     })
 }
 
-/// The header that the octets are.
+/// Reads octets as a header.
 fn header_in(octets: &[u8]) -> Result<HeaderRef<'_>, DerFault>
     ensures found { IfOk result (λ h. octets.now ≡ written header h) }
     ensures only { (h : Headers) → header.Spells h octets.now → IsOkAnd result (λ x. x ≡ h) }
@@ -92,7 +92,7 @@ struct Entries {
     check: [u8; 16],
 }
 
-/// The entries to the end, behind this check.
+/// Takes all entries to the end, which follow this check.
 fn take_entries(
     alloc: Global,
     reader: &mut Reader<'_>,
@@ -120,7 +120,7 @@ struct Taken {
     check: [u8; 16],
 }
 
-/// The entry at the front, behind this check.
+/// Takes the entry at the front, which follows this check.
 fn take_entry(
     alloc: Global,
     reader: &mut Reader<'_>,
@@ -141,7 +141,7 @@ fn take_entry(
     })
 }
 
-/// The entry that the octets are.
+/// Reads octets as an entry.
 fn entry_in(octets: &[u8]) -> Result<EntryRef<'_>, DerFault>
     ensures found { IfOk result (λ e. octets.now ≡ written entry e) }
     ensures only { (e : Listed) → entry.Spells e octets.now → IsOkAnd result (λ x. x ≡ e) }

@@ -1,4 +1,4 @@
-//! What is appended to a journal.
+//! Writing a header or an entry with its check.
 ghost use Rattle.std.specs.Prelude.{◌≡◌, ◌<◌, ◌^◌, length, IfOk};
 ghost use Rattle.krb_elements.specs.Codec.{written};
 ghost use Rattle.journal.specs.Forms as forms;
@@ -11,7 +11,7 @@ use krb_der::Writer;
 use krb_elements::write;
 use std::alloc::{AllocError, Global};
 
-/// The octets that are appended, and the check that they end with.
+/// Octets to append, and the check that they end with.
 #[derive(Drop)]
 pub struct Written {
     pub text: Vec<u8>,
@@ -30,7 +30,7 @@ pub fn write_header(alloc: Global, header: &Header) -> Result<Written, AllocErro
     with_check(alloc, header.link.as_slice(), &element)
 }
 
-/// Writes an entry behind a check.
+/// Writes an entry, to follow a check.
 pub fn write_entry(alloc: Global, check: &[u8; 16], entry: &Entry) -> Result<Written, AllocError>
     requires { length (written forms.entry entry.now) < 2 ^ 32 }
     ensures text { IfOk result (λ w. w.text.items ≡ checked check.now (written forms.entry entry.now)) }
@@ -41,7 +41,7 @@ pub fn write_entry(alloc: Global, check: &[u8; 16], entry: &Entry) -> Result<Wri
     with_check(alloc, check, &element)
 }
 
-/// An element with its check.
+/// Writes an element with its check.
 fn with_check(alloc: Global, before: &[u8], element: &[u8]) -> Result<Written, AllocError>
     requires { length element.now < 2 ^ 32 }
     ensures text { IfOk result (λ w. w.text.items ≡ checked before.now element.now) }

@@ -1,4 +1,4 @@
-//! The administrator's tool: `kadm SUB --db FILE ..`, as `kadm --help` lists them.
+//! The administration tool: `kadm COMMAND --db FILE ..`. `kadm --help` lists the commands.
 #![tactic(auto)]
 
 use file_store::FileStore;
@@ -9,20 +9,20 @@ use std::{env, io};
 fn main(rt: HostRuntime) -> ExitCode {
     match run(&rt) {
         Ok(status) => ExitCode::from(status.code()),
-        // where these can't be written there is no one to tell
+        // if these can't be written, there is nowhere to report it
         Err(error) if error.kind() == io::ErrorKind::InvalidData => {
-            let _ = println!(rt; "error: a word is not UTF-8");
+            let _ = println!(rt; "error: an argument is not UTF-8");
             ExitCode::from(Status::Usage.code())
         }
         Err(error) => {
             let _ = println!(rt; "failed");
-            let _ = eprintln!(rt; "kadm: the words of the command line: {error}");
+            let _ = eprintln!(rt; "kadm: cannot read the command line: {error}");
             ExitCode::from(Status::Failed.code())
         }
     }
 }
 
-/// The status of the program; an error is one of reading the words, `InvalidData` where one is not UTF-8.
+/// Returns the exit status. Fails if the command line can't be read, with `InvalidData` if an argument is not UTF-8.
 fn run(rt: &HostRuntime) -> io::Result<Status> {
     let alloc = rt.alloc();
     let args: Vec<String> = env::args(rt)?.collect(alloc)?;

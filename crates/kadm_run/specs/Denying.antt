@@ -1,4 +1,4 @@
--- Principals that get no tickets issued for them.
+-- Principals for which tickets are denied.
 use Rattle.std.specs.Prelude.{◌==◌, Bool, true, false, List, [], ◌∷◌, length, map, Option, Some, None}
 use Rattle.std.specs.List.{filter}
 use Rattle.std.specs.FinMap.{entries, get}
@@ -12,7 +12,7 @@ abbrev pub denied_in : Components → Option Row → Principals → Principals
 denied_in who None p = p
 denied_in who (Some row) p = row_changed p who (row_changes.SetPolicy (record row.policy { service = false }))
 
--- no tickets may be issued for the principal; the rest of its row is unchanged
+-- tickets for the principal are denied; the rest of its row is unchanged
 abbrev pub denied : Components → Principals → Principals
 denied who p = denied_in who (get p.rows who) p
 
@@ -29,7 +29,7 @@ is_user who = length who == 1
 abbrev pub users : Principals → List Components
 users p = filter is_user (map (λ entry. entry.0) (entries p.rows))
 
--- what `migrate` does to the rows: no tickets may be issued for users that are not services
+-- the rows after `migrate`: tickets for users are denied, if users are not services
 abbrev pub migrated_rows : Bool → Principals → Principals
 migrated_rows true p = all_denied (users p) p
 migrated_rows false p = p

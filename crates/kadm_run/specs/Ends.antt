@@ -50,7 +50,7 @@ IsStatusOf Usage status = status ≡ statuses.Usage
 IsStatusOf (Refused reason) status = status ≡ statuses.Refused
 IsStatusOf (File fault) status = IsAmissStatus fault.amiss status
 
--- a command that stops leaves all as it was, but where it was done and the output then failed
+-- a command that stops early leaves the files unchanged, unless it was done and then the output failed
 abbrev pub IsStopped : Stop → Option World → Option World → Type 0
 IsStopped stop before after = (after ≡ before) ⊎ (IsFailed stop × DidSome before after)
 
@@ -61,7 +61,7 @@ IsTaskDone before db etypes (Write work) after = Did before db etypes work after
 abbrev pub IsDone : Option World → Order → Option World → Type 0
 IsDone before order after = IsTaskDone before order.db.now order.etypes.items order.task after
 
--- all is as it was, or one command was done, and then at most the output failed
+-- the files are unchanged, or one command was done and then at most the output failed
 abbrev pub IsEnd : Option World → Status → Option World → Type 0
 IsEnd before status after =
     (after ≡ before) ⊎ (((status ≡ statuses.Done) ⊎ (status ≡ statuses.Failed)) × DidSome before after)

@@ -155,7 +155,7 @@ fn setting<T: Store>(store: &mut T, field: &str, value: &str) -> Result<Setting,
     }
 }
 
-/// Writes the database that was read, in the current version of the format.
+/// Writes the database in the current version of the format.
 pub(crate) fn migrate<'p, T: Store, E: Write>(
     alloc: Global,
     order: &Order<'p>,
@@ -172,7 +172,7 @@ pub(crate) fn migrate<'p, T: Store, E: Write>(
     write_database(alloc, store, order.db, &database)
 }
 
-/// Sets what older versions of the format lack: whether tickets may be issued for users.
+/// Sets what older versions of the format lack: whether tickets for users are allowed.
 fn migrate_rows(
     alloc: Global,
     database: &mut Database,

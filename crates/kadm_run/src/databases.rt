@@ -33,7 +33,7 @@ pub(crate) fn lock_database<'p, T: Store, E: Write>(
             return Ok(());
         }
         if looks == QUIET_LOOKS {
-            tell_waiting(errors);
+            report_waiting(errors);
         }
         store.pause();
     }
@@ -44,9 +44,9 @@ pub(crate) fn lock_database<'p, T: Store, E: Write>(
     }
 }
 
-/// Reports that the command waits. If that can't be written, there is nowhere to report it.
-fn tell_waiting<E: Write>(errors: &mut E) {
-    let _ = writeln!(errors, "kadm: waiting for another kadm");
+/// Reports that the command waits. Ignores a failed write.
+fn report_waiting<E: Write>(errors: &mut E) {
+    let _ = writeln!(errors, "kadm: waiting for another kadm to finish");
     let _ = errors.flush();
 }
 
@@ -81,14 +81,14 @@ pub(crate) fn read_database<'p, T: Store, E: Write>(
     match Database::read(alloc, text) {
         Ok(database) => Ok(database),
         Err(fault) => {
-            tell_place(alloc, errors, db, text, fault);
+            report_place(alloc, errors, db, text, fault);
             Err(Stop::from(fault))
         }
     }
 }
 
-/// Reports where a text is wrong, if that can be found and written.
-fn tell_place<E: Write>(alloc: Global, errors: &mut E, db: &str, text: &str, fault: ReadFault) {
+/// Reports where a text is wrong, if that can be found. Ignores a failed write.
+fn report_place<E: Write>(alloc: Global, errors: &mut E, db: &str, text: &str, fault: ReadFault) {
     if !matches!(fault, ReadFault::NotJson | ReadFault::BadRow) {
         return;
     }

@@ -1,4 +1,4 @@
-//! Principals that get no tickets issued for them.
+//! Denies tickets for principals.
 ghost use Rattle.std.specs.Prelude.{◌≡◌, IfOk, OnOk, map};
 ghost use Rattle.kadm_run.specs.Denying.{all_denied, denied, is_user, users};
 
@@ -8,7 +8,7 @@ use principal_rows::Policy;
 use principals::{ChangeFault, Database, RowChange};
 use std::alloc::{AllocError, Global};
 
-/// Allows no tickets for users.
+/// Denies tickets for users.
 pub(crate) fn deny_users(alloc: Global, database: &mut Database) -> Result<(), ChangeFault>
     ensures { OnOk result (database.new ≡ all_denied (users database.old) database.old) }
 {
@@ -41,7 +41,7 @@ pub(crate) fn is_user(name: &Name) -> bool
     name.components.len() == 1
 }
 
-/// Allows no tickets for a principal.
+/// Denies tickets for a principal.
 pub(crate) fn deny_service(
     alloc: Global,
     database: &mut Database,

@@ -43,7 +43,7 @@ pub(crate) fn grant_password<'p, T: Store, E: Write>(
     let cleared = clear_expiry(alloc, store, &mut database, &who)?;
     write_database(alloc, store, order.db, &database)?;
     if cleared {
-        tell_cleared(errors, to.name);
+        report_cleared(errors, to.name);
     }
     Ok(())
 }
@@ -65,7 +65,7 @@ pub(crate) fn grant_random<'p, T: Store, E: Write>(
     let keys = random_keys(alloc, &order.etypes, seed)?;
     give(alloc, &mut database, &who, keys, to.grant)?;
     write_database(alloc, store, order.db, &database)?;
-    tell_version(errors, to, &database, &who);
+    report_version(errors, to, &database, &who);
     Ok(())
 }
 
@@ -125,7 +125,7 @@ fn is_there(database: &Database, who: &Name) -> bool
     }
 }
 
-/// Adds a principal that gets no tickets issued for it.
+/// Adds a principal, and denies tickets for it.
 fn add_user(
     alloc: Global,
     database: &mut Database,
@@ -241,15 +241,15 @@ fn expiring(database: &Database, who: &Name) -> Option<(Policy, Second)>
 }
 
 /// Reports that `password_expires` was cleared, if that can be written.
-fn tell_cleared<E: Write>(errors: &mut E, name: &str) {
+fn report_cleared<E: Write>(errors: &mut E, name: &str) {
     let _ = writeln!(
         errors,
-        "kadm: {name}: password_expires was past, and is never now"
+        "kadm: {name}: password_expires was past; it is now never"
     );
 }
 
 /// Reports the key version of a principal that got random keys.
-fn tell_version<E: Write>(errors: &mut E, to: RandomGrant<'_>, database: &Database, who: &Name) {
+fn report_version<E: Write>(errors: &mut E, to: RandomGrant<'_>, database: &Database, who: &Name) {
     let Some(row) = database.get(who) else {
         return;
     };
@@ -257,17 +257,17 @@ fn tell_version<E: Write>(errors: &mut E, to: RandomGrant<'_>, database: &Databa
     let name = to.name;
     let _ = match to.grant {
         Grant::New | Grant::NewUser => Ok(()),
-        _ if number == 1 => writeln!(errors, "kadm: {name}: made, with keys of version 1"),
+        _ if number == 1 => writeln!(errors, "kadm: {name}: added, with keys of version 1"),
         Grant::Replace | Grant::EitherReplace => {
             writeln!(
                 errors,
-                "kadm: {name}: new keys, version {number}; all older ones are dropped"
+                "kadm: {name}: has new keys, version {number}; older versions are dropped"
             )
         }
         Grant::Next | Grant::Either => {
             writeln!(
                 errors,
-                "kadm: {name}: new keys, version {number}; older ones stay"
+                "kadm: {name}: has new keys, version {number}; older versions stay"
             )
         }
     };

@@ -45,8 +45,8 @@ pub(crate) fn write_keytab<'p, T: Store, E: Write>(
     put_octets(alloc, store, to, &octets)
 }
 
-/// Refuses a path that is a lock's, or has a lock beside it, and one with anything but a keytab. Each database that a
-/// command writes has a lock, and so has the one that this command locks, whatever its path is called.
+/// Refuses the path of a lock, a path with a lock beside it, and a file that is neither empty nor a keytab. Each
+/// database that a command writes has a lock, and so has the one that this command locks, whatever path names it.
 fn check_path<'p, T: Store>(alloc: Global, store: &mut T, path: &'p str) -> Result<(), Stop<'p>>
     ensures free { OnOk result (IsFreePath (T.world store.old) path.now) }
     ensures kept { T.world store.new ≡ T.world store.old }
@@ -64,7 +64,7 @@ fn check_path<'p, T: Store>(alloc: Global, store: &mut T, path: &'p str) -> Resu
     Ok(())
 }
 
-/// Checks whether a file with this first byte is no keytab and not empty.
+/// Checks whether a file with this first byte is neither empty nor a keytab.
 fn is_other_file(first: Option<u8>) -> bool
     ensures { IsFalse result → IsKeytabStart first }
 {

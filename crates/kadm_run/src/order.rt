@@ -1,8 +1,8 @@
-//! The words of a command line, and the order that they give.
+//! Parses a command line into an order.
 ghost use Rattle.std.specs.Prelude.{◌≡◌};
 ghost use Rattle.kadm_run.specs.Granting.{key_change};
 
-use crate::values::{is_setting, taken_by};
+use crate::values::{accepted_by, is_setting};
 use clap::error::Error;
 use clap::{ArgMatches, Command};
 use command_options::{FlagRow, OptionRow, SubcommandRow, Times, with_subcommands};
@@ -18,14 +18,14 @@ pub(crate) struct Order<'a> {
     /// The path of the database.
     pub db: &'a str,
     pub task: Task<'a>,
-    /// The types of the new keys.
+    /// The encryption types of the new keys.
     pub etypes: Vec<Etype>,
 }
 
-/// Why words give no order.
+/// Why a command line gives no order.
 #[derive(Clone, Copy)]
 pub(crate) enum OrderFault<'a> {
-    /// The words don't fit. This is what they should be.
+    /// An option is wrong. The text says what is right.
     BadValue(&'static str),
     /// A policy has no field with this name.
     NoField(&'a str),
@@ -34,7 +34,7 @@ pub(crate) enum OrderFault<'a> {
     Memory,
 }
 
-/// What to do. Paths and names are as they were given.
+/// What to do. Paths and names are the command line's.
 #[derive(Clone, Copy)]
 pub(crate) enum Task<'a> {
     Print(Print<'a>),
@@ -51,7 +51,7 @@ pub(crate) enum Print<'a> {
     Show { name: &'a str },
 }
 
-/// What to write. A seed without a file is the system's.
+/// What to write. If no file has the seed, the system draws it.
 #[derive(Clone, Copy)]
 pub(crate) enum Work<'a> {
     Init {
@@ -109,9 +109,9 @@ pub(crate) struct ImportOrder<'a> {
 /// Where a password comes from.
 #[derive(Clone, Copy)]
 pub(crate) struct PasswordArgs<'a> {
-    /// A password without a file is read from standard input.
+    /// If no file has the password, it is read from standard input.
     pub file: Option<&'a str>,
-    /// Also accepts a password that is empty, or ends in a carriage return.
+    /// Whether to accept a password that is empty or ends in a carriage return.
     pub any: bool,
 }
 
@@ -120,19 +120,19 @@ pub(crate) struct PasswordArgs<'a> {
 pub(crate) enum Grant {
     /// A new principal.
     New,
-    /// A new principal that gets no tickets issued for it.
+    /// A new principal for which tickets are denied.
     NewUser,
     /// A principal that exists. The keys are a new version beside the older ones.
     Next,
-    /// The same, and the older versions are dropped.
+    /// A principal that exists. The older versions are dropped.
     Replace,
-    /// A principal that exists, as in `Next`, or a new one.
+    /// `Next` if the principal exists, else `New`.
     Either,
-    /// A principal that exists, as in `Replace`, or a new one.
+    /// `Replace` if the principal exists, else `New`.
     EitherReplace,
 }
 
-/// The change of a principal that is known to exist, or not to.
+/// The change once it is known whether the principal exists.
 #[derive(Clone, Copy)]
 pub(crate) enum KeyChange {
     New,
@@ -173,36 +173,36 @@ A first realm:
   kadm keytab --db database --name host/www.example.com --out www.keytab
   kadm list --db database
 
-Each command prints `ok`, but `list`, `lint` and `show`; `refused` and the reason, with status 1; or `failed`, with
-status 3, where a file, or memory, failed: standard error says which, and why. A faulty command line has status 2.
+Each command prints `ok`; `list`, `lint` and `show` print what they found. A command that is refused prints `refused`
+and the reason, with status 1. If a file can't be read or written, or memory runs out, it prints `failed`, with status 3.
+Standard error then says which name or file, and why. A usage error has status 2.
 
-Names are components joined by `/`. Octets but 21 to 7e, and `/`, `\\` and `@` inside a component, are written `\\` and
-two lower case hexadecimal digits.";
+A name is components joined by `/`. Write `/`, `\\` and `@` inside a component, and all bytes other than 21 to 7e, as `\\`
+and two lower case hexadecimal digits.";
 
 const FIELDS: &str = "\
-disabled, preauth, forwardable, proxiable, postdate, ok_as_delegate, service; expires, password_expires, \
-revoked_before; greatest_life, greatest_renewable";
+A flag (disabled, preauth, forwardable, proxiable, postdate, ok_as_delegate, service), a time (expires, \
+password_expires, revoked_before) or a lifetime (greatest_life, greatest_renewable)";
 
 const VALUES: &str = "\
-true or false; a second since 1970, a date (2027-01-01, 2027-01-01T12:00:00Z), a time from now (10h, 7d) or never; \
-seconds, or a lifetime (10h, 7d)";
+For a flag: true or false. For a time: a second since 1970, a date (2027-01-01, 2027-01-01T12:00:00Z), a time from now \
+(10h, 7d) or never. For a lifetime: seconds, or a number with its unit (10h, 7d)";
 
-// The text after `error:` if the words don't fit.
+// What follows `error:` in a usage error.
 
 const NO_VERSION: &str =
-    "--version takes a number, 0 to 4294967295; '--older' drops all versions but the current one";
+    "give either --version with a number from 0 to 4294967295, or --older for all versions but the current one";
 
-const NO_KEYTAB: &str = "--out takes another file than --db: try 'kadm keytab --help'";
+const NO_KEYTAB: &str = "--out is the path of the database; give another one for the keytab";
 
-const NO_SOURCE: &str =
-    "--random takes no --password-file and no --any-password: its keys are of no password";
+const NO_SOURCE: &str = "--random makes random keys: leave out --password-file and --any-password";
 
 const NO_TYPES: &str = "\
---types takes the numbers 18, 17, 20 and 19, each at most once, with commas between";
+--types takes the numbers 18, 17, 20 and 19, each at most once, separated by commas";
 
-const NO_COMMAND: &str = "no command of 'kadm --help'";
+const NO_COMMAND: &str = "give a command; 'kadm --help' lists them";
 
-/// Reads the words; the first is the program's name.
+/// Parses the command line, whose first word is the program's name.
 pub(crate) fn read_args<'a, S: AsStr>(
     alloc: Global,
     args: &'a [S],
@@ -213,7 +213,7 @@ pub(crate) fn read_args<'a, S: AsStr>(
     with_subcommands(alloc, kadm, SUBCOMMANDS)?.try_get_matches_from(args)
 }
 
-/// Returns the order that the words give.
+/// Returns the order that the command line gives.
 pub(crate) fn read_order<'a>(
     alloc: Global,
     matches: &ArgMatches<'a>,
@@ -232,7 +232,7 @@ pub(crate) fn read_order<'a>(
     }
 }
 
-/// Returns which words don't fit.
+/// Returns which option is wrong.
 fn fault_of<'a>(sub: &str, args: &ArgMatches<'a>) -> OrderFault<'a> {
     match sub {
         "add" => OrderFault::BadValue(NO_SOURCE),
@@ -247,13 +247,13 @@ fn policy_fault<'a>(args: &ArgMatches<'a>) -> OrderFault<'a> {
     let (Some(field), Some(value)) = (args.get_str("field"), args.get_str("value")) else {
         return OrderFault::BadValue(NO_COMMAND);
     };
-    if taken_by(field).is_none() {
+    if accepted_by(field).is_none() {
         return OrderFault::NoField(field);
     }
     OrderFault::NoSetting { field, value }
 }
 
-/// Returns the types of the new keys: all four, if none are named.
+/// Returns the encryption types of the new keys: all four by default.
 fn read_key_types(alloc: Global, args: &ArgMatches<'_>) -> Result<Vec<Etype>, EtypesFault> {
     match args.get_str("types") {
         Some(text) => read_etypes(alloc, text),
@@ -261,7 +261,7 @@ fn read_key_types(alloc: Global, args: &ArgMatches<'_>) -> Result<Vec<Etype>, Et
     }
 }
 
-/// Returns the path of the database and what to do; `None` if the words don't fit.
+/// Returns the path of the database and what to do, or `None` if an option is wrong.
 fn task_of<'a>(sub: &str, args: &ArgMatches<'a>) -> Option<(&'a str, Task<'a>)> {
     let db = args.get_str("db")?;
     let task = match args.get_str("name") {
@@ -308,7 +308,7 @@ fn work_on<'a>(sub: &str, name: &'a str, args: &ArgMatches<'a>) -> Option<Work<'
     }
 }
 
-/// Returns the principal to add; `None` if the words give a password with random keys.
+/// Returns the principal to add, or `None` if both random keys and a password are asked for.
 fn added<'a>(name: &'a str, args: &ArgMatches<'a>) -> Option<Work<'a>> {
     let password = password_args(args);
     if !args.get_flag(RANDOM) {
@@ -328,7 +328,7 @@ fn added<'a>(name: &'a str, args: &ArgMatches<'a>) -> Option<Work<'a>> {
     }))
 }
 
-/// Returns the grant for a new principal: one with a password is a user, unless it is to be a service.
+/// Returns the grant for a new principal with a password: a user, unless `--service` is given.
 fn new_grant(args: &ArgMatches<'_>) -> Grant {
     if args.get_flag(SERVICE) {
         Grant::New
@@ -360,7 +360,7 @@ fn either_grant(args: &ArgMatches<'_>) -> Grant {
     }
 }
 
-/// Returns the path of a keytab; `None` if it is that of the database, which it would replace.
+/// Returns the path of a keytab, or `None` if it is the database's, which it would replace.
 fn keytab_path<'a>(args: &ArgMatches<'a>) -> Option<&'a str> {
     let out = args.get_str("out")?;
     if out == args.get_str("db")? {
@@ -378,7 +378,7 @@ fn change_args<'a>(sub: &str, args: &ArgMatches<'a>) -> Option<ChangeArgs<'a>> {
     }
 }
 
-/// Returns a version, or the older ones; `None` if both are named, or neither is.
+/// Returns which versions to drop, or `None` unless exactly one of `--version` and `--older` is given.
 fn drop_args<'a>(args: &ArgMatches<'a>) -> Option<ChangeArgs<'a>> {
     match (args.get_str("version"), args.get_flag(OLDER)) {
         (Some(version), false) => Some(ChangeArgs::Drop {
@@ -434,7 +434,7 @@ const REALM: OptionRow = OptionRow {
 const REALM_SEED: OptionRow = OptionRow {
     name: "seed",
     shape: "FILE",
-    help: "32 random octets, for the keys of krbtgt/REALM alone; else they are the system's",
+    help: "A file of 32 random bytes, for the keys of krbtgt/REALM alone; by default the system draws them",
     times: Times::AtMostOnce,
 };
 
@@ -448,28 +448,28 @@ const NAME: OptionRow = OptionRow {
 const PASSWORD: OptionRow = OptionRow {
     name: "password-file",
     shape: "FILE",
-    help: "The password is the first line, without its line feed, of at most 1,024 octets; else standard input's",
+    help: "The file whose first line is the password, at most 1,024 bytes; by default it is read from standard input",
     times: Times::AtMostOnce,
 };
 
 const SEED: OptionRow = OptionRow {
     name: "seed",
     shape: "FILE",
-    help: "32 random octets, for these keys alone; else they are the system's",
+    help: "A file of 32 random bytes, for these keys alone; by default the system draws them",
     times: Times::AtMostOnce,
 };
 
 const VERSION: OptionRow = OptionRow {
     name: "version",
     shape: "N",
-    help: "The version's number",
+    help: "The key version to drop",
     times: Times::AtMostOnce,
 };
 
 const LIKE: OptionRow = OptionRow {
     name: "like",
     shape: "PATTERN",
-    help: "Prints only the principals whose names fit; `*` stands for any octets, as in 'host/*'",
+    help: "Prints only the principals whose names match; `*` matches any bytes, as in 'host/*'",
     times: Times::AtMostOnce,
 };
 
@@ -490,21 +490,21 @@ const VALUE: OptionRow = OptionRow {
 const OUT: OptionRow = OptionRow {
     name: "out",
     shape: "FILE",
-    help: "The keytab; a file that is there is replaced, but no database beside which its lock stands",
+    help: "The keytab to write; it replaces a keytab or an empty file, and no other file",
     times: Times::Once,
 };
 
 const KEYTAB: OptionRow = OptionRow {
     name: "keytab",
     shape: "FILE",
-    help: "The keytab that has its keys",
+    help: "The keytab that has the principal's keys",
     times: Times::Once,
 };
 
 const TYPES: OptionRow = OptionRow {
     name: "types",
     shape: "TYPES",
-    help: "The keys' encryption types in the order of preference, as 18,20; else 18,17,20,19",
+    help: "The encryption types of the keys, in the order of preference; the default is 18,17,20,19",
     times: Times::AtMostOnce,
 };
 
@@ -512,35 +512,35 @@ const APPEND: &str = "append";
 
 const APPENDS: FlagRow = FlagRow {
     name: APPEND,
-    help: "Keeps the entries that the keytab has, its owner, group and mode, and adds the keys",
+    help: "Adds the keys to the keytab, which keeps its entries, owner, group and mode",
 };
 
 const RANDOM: &str = "random";
 
 const RANDOMS: FlagRow = FlagRow {
     name: RANDOM,
-    help: "Gives it random keys, and asks for no password",
+    help: "Makes random keys, and asks for no password",
 };
 
 const SERVICE: &str = "service";
 
 const SERVICES: FlagRow = FlagRow {
     name: SERVICE,
-    help: "Allows tickets for it, although its keys are made of a password",
+    help: "Allows tickets for the principal although its keys are made from a password",
 };
 
 const NO_SERVICES: &str = "users-are-no-services";
 
 const NO_SERVICES_ROW: FlagRow = FlagRow {
     name: NO_SERVICES,
-    help: "Allows no tickets for users: for each principal whose name has one component, as alice",
+    help: "Denies tickets for users: for each principal whose name has one component, such as alice",
 };
 
 const REPLACE: &str = "replace";
 
 const REPLACES: FlagRow = FlagRow {
     name: REPLACE,
-    help: "Drops all older versions of its keys in the same change, as after a theft",
+    help: "Drops all older key versions in the same change, as after a theft",
 };
 
 const OLDER: &str = "older";
@@ -554,50 +554,50 @@ const LONG: &str = "long";
 
 const LONGS: FlagRow = FlagRow {
     name: LONG,
-    help: "Prints also: expires, password_expires, disabled, how many versions there are, and service",
+    help: "Also prints expires, password_expires, disabled, the number of key versions, and service",
 };
 
 const ANY_PASSWORD: &str = "any-password";
 
 const ANY_PASSWORDS: FlagRow = FlagRow {
     name: ANY_PASSWORD,
-    help: "Takes also a password that is empty, or that ends in a carriage return",
+    help: "Accepts a password that is empty or ends in a carriage return",
 };
 
 const SUBCOMMANDS: &[SubcommandRow] = &[
     SubcommandRow {
         name: "init",
-        about: "Makes the database of a new realm, where there is no file yet",
+        about: "Makes the database of a new realm; refuses a file that exists",
         options: &[DB, REALM, REALM_SEED],
         flags: &[],
     },
     SubcommandRow {
         name: "add",
-        about: "Adds a principal, whose keys are made of a password, or random",
+        about: "Adds a principal with keys made from a password, or with random keys",
         options: &[DB, NAME, PASSWORD, TYPES],
         flags: &[RANDOMS, SERVICES, ANY_PASSWORDS],
     },
     SubcommandRow {
         name: "passwd",
-        about: "Gives a principal new keys, which are made of a password; a `password_expires` that is past is cleared",
+        about: "Gives a principal new keys made from a password; clears a `password_expires` that is past",
         options: &[DB, NAME, PASSWORD, TYPES],
         flags: &[REPLACES, ANY_PASSWORDS],
     },
     SubcommandRow {
         name: "random",
-        about: "Gives a principal random keys; adds it where it is not there, and says so",
+        about: "Gives a principal random keys, or adds it with them; standard error says which",
         options: &[DB, NAME, SEED, TYPES],
         flags: &[REPLACES],
     },
     SubcommandRow {
         name: "import",
-        about: "Adds a principal with the keys that a keytab has of it, in all their versions",
+        about: "Adds a principal with its keys from a keytab, in all their versions",
         options: &[DB, NAME, KEYTAB, TYPES],
         flags: &[],
     },
     SubcommandRow {
         name: "drop",
-        about: "Drops the keys of an old version, or of all old ones",
+        about: "Drops the keys of an old version, or of all old versions",
         options: &[DB, NAME, VERSION],
         flags: &[OLDERS],
     },
@@ -615,19 +615,19 @@ const SUBCOMMANDS: &[SubcommandRow] = &[
     },
     SubcommandRow {
         name: "list",
-        about: "Prints a line for each principal: its name, its current version, and the types of its keys",
+        about: "Prints a line for each principal: its name, its current key version, and the types of its keys",
         options: &[DB, LIKE],
         flags: &[LONGS],
     },
     SubcommandRow {
         name: "lint",
-        about: "Prints what to look at again: what has expired, older keys, no preauthentication, tickets for users",
+        about: "Prints what to check: what has expired, older keys, no preauthentication, and tickets for users",
         options: &[DB],
         flags: &[],
     },
     SubcommandRow {
         name: "show",
-        about: "Prints a principal's policy, and the versions of its keys with their types",
+        about: "Prints a principal's policy, and its key versions with their types",
         options: &[DB, NAME],
         flags: &[],
     },
@@ -639,7 +639,7 @@ const SUBCOMMANDS: &[SubcommandRow] = &[
     },
     SubcommandRow {
         name: "keytab",
-        about: "Writes a keytab of a principal's current keys",
+        about: "Writes a principal's current keys to a keytab",
         options: &[DB, NAME, OUT],
         flags: &[APPENDS],
     },

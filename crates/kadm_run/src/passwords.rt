@@ -33,7 +33,7 @@ pub(crate) fn new_password<'p, T: Store, E: Write>(
     Ok(pass)
 }
 
-/// Checks whether a password is one that nobody means to set: it is empty, or its line ends as on other systems.
+/// Checks whether a password is probably a mistake: it is empty, or its line ends as on other systems.
 fn is_unlikely(pass: &[u8]) -> bool {
     match pass.last() {
         Some(octet) => *octet == b'\r',
@@ -53,16 +53,16 @@ fn asked_password<'p, T: Store, E: Write>(
 {
     let realm = realm_text(alloc, order, store, errors)?;
     if store.is_terminal() {
-        tell_echo(errors);
+        warn_of_echo(errors);
     }
     ask_twice(alloc, store, name, &realm)
 }
 
-/// Warns that a terminal shows what is typed, and says how to hide it, if that can be written.
-fn tell_echo<E: Write>(errors: &mut E) {
+/// Warns that the terminal shows the password, and says how to hide it. Ignores a failed write.
+fn warn_of_echo<E: Write>(errors: &mut E) {
     let _ = writeln!(
         errors,
-        "kadm: a terminal shows what is typed, unless `stty -echo` came before"
+        "kadm: the password shows as you type it; run `stty -echo` first to hide it"
     );
     let _ = errors.flush();
 }

@@ -3,9 +3,9 @@
 /// Why a command is refused.
 #[derive(Clone, Copy)]
 pub(crate) enum Reason {
-    /// The text for a principal is not a name.
+    /// The text is not the name of a principal.
     BadName,
-    /// The text for a realm is not one.
+    /// The text is not the name of a realm.
     BadRealm,
     /// Another command is using the database.
     Locked,
@@ -44,7 +44,7 @@ pub(crate) enum Reason {
 pub(crate) const KEYTAB: &str = "keytab";
 
 impl Reason {
-    /// Returns the word for it on standard output.
+    /// Returns the reason's word on standard output.
     pub(crate) fn name(self) -> &'static str {
         match self {
             Reason::BadName | Reason::BadRealm => "BadName",
@@ -70,37 +70,41 @@ impl Reason {
         }
     }
 
-    /// Returns what it means, for standard error.
+    /// Returns the explanation for standard error.
     pub(crate) fn text(self) -> &'static str {
         match self {
-            Reason::BadName => "no name is written so; it stands without @REALM",
-            Reason::BadRealm => "no realm is written so; it is one component of 1 to 255 octets",
-            Reason::Locked => "another kadm still works on it after ten seconds",
-            Reason::FileExists | Reason::Exists => "it is there already",
-            Reason::NotJson => "it is no database: its text is no JSON object",
-            Reason::BadVersion => "it is no database of version 1, 2 or 3",
-            Reason::BadRow => "its realm, or a row, is amiss",
-            Reason::NoTicketGranter => "it has no row of krbtgt/REALM",
-            Reason::Mismatch => "the two passwords differ",
+            Reason::BadName => "this is not the name of a principal; write it without @REALM",
+            Reason::BadRealm =>
+                "this is not the name of a realm; write one component of 1 to 255 bytes",
+            Reason::Locked => "cannot lock it: another kadm is still running after ten seconds",
+            Reason::FileExists => "this file already exists; name a new one",
+            Reason::NotJson => "this is not a database: its text is not a JSON object",
+            Reason::BadVersion => "this is not a database of version 1, 2 or 3",
+            Reason::BadRow => "its realm or one of its rows is invalid",
+            Reason::NoTicketGranter => "it has no row for krbtgt/REALM",
+            Reason::Mismatch => "the two passwords differ; nothing was changed",
             Reason::BadPassword => {
-                "its password is empty or ends in a carriage return; `--any-password` allows that"
+                "the password is empty or ends in a carriage return; `--any-password` allows that"
             }
-            Reason::BadTime => "this is past the end of the year 9999",
-            Reason::Protected => "the realm's tickets are made with its keys, so it stays",
-            Reason::Absent => "no such principal is in the database",
+            Reason::BadTime => "this time is past the end of the year 9999",
+            Reason::Exists => "this principal already exists",
+            Reason::Protected => "cannot remove it: the realm's tickets are made with its keys",
+            Reason::Absent => "the database has no such principal",
             Reason::NoVersion => "it has no keys of this version",
-            Reason::LastVersion => "its keys have the last version, 4294967295",
-            Reason::CurrentKeys => "its keys of this version are the current ones, which stay",
-            Reason::IsDatabase => "a lock stands beside it, as beside a database",
-            Reason::IsLock => "a name that ends in `.lock` is a lock's",
-            Reason::BadMagic => "it is no keytab of version 2",
-            Reason::Truncated => "it ends too early",
-            Reason::BadEntry => "an entry is amiss, or has no room in a keytab",
-            Reason::NoKeys => "it has no key of the principal in this realm, or one of version 0",
+            Reason::LastVersion => "its keys have version 4294967295, and none can follow",
+            Reason::CurrentKeys => "cannot drop its current keys; give it new ones first",
+            Reason::IsDatabase => "a lock is beside it, so it may be a database; name another file",
+            Reason::IsLock => "a file whose name ends in `.lock` is a lock; name another file",
+            Reason::BadMagic => "this is not a keytab of version 2",
+            Reason::Truncated => "the keytab ends too early",
+            Reason::BadEntry => "an entry is invalid, or too long for a keytab",
+            Reason::NoKeys => {
+                "it has no key of the principal in this realm with the types asked for, or one of version 0"
+            }
         }
     }
 
-    /// Returns the option whose value it concerns.
+    /// Returns the option whose value is refused.
     pub(crate) fn option(self) -> &'static str {
         match self {
             Reason::BadRealm => "realm",

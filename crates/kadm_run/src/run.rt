@@ -13,7 +13,7 @@ use crate::listing::{print_list, print_row};
 use crate::order::{Order, OrderFault, Print, Task, Work, read_args, read_order};
 use crate::status::Status;
 use crate::stop::{Stop, report};
-use crate::values::taken_by;
+use crate::values::accepted_by;
 use clap::ArgMatches;
 use clap::error::{Error, ErrorKind};
 use file_store::Store;
@@ -22,8 +22,9 @@ use std::convert::AsStr;
 use std::io;
 use std::io::{BufWriter, Write};
 
-/// Does what a command line says, the program's name in front. What came of it goes to `writer`; what refused or failed
-/// it, and why, to `errors`. The files are as they were unless the command is `Done`, or has `Failed` only to print.
+/// Runs a command line, whose first word is the program's name. Prints the outcome to `writer`, and the reason of a
+/// refusal or failure to `errors`. Leaves the files unchanged unless the command is `Done`, or has only `Failed` to
+/// print.
 pub fn kadm_run<S: AsStr, T: Store, W: Write + Drop, E: Write + Drop>(
     alloc: Global,
     args: &[S],
@@ -43,7 +44,7 @@ pub fn kadm_run<S: AsStr, T: Store, W: Write + Drop, E: Write + Drop>(
     run_and_report(alloc, &matches, store, &mut out, &mut errors).unwrap_or(Status::Failed)
 }
 
-/// The status; an error is a failed write of what is printed.
+/// Returns the status, or the error of a failed write to the output.
 fn run_and_report<T: Store, W: Write, E: Write>(
     alloc: Global,
     matches: &Result<ArgMatches<'_>, Error>,
@@ -58,13 +59,13 @@ fn run_and_report<T: Store, W: Write, E: Write>(
         Ok(()) => Status::Done,
         Err(stop) => report(out, errors, matches, stop)?,
     };
-    // the errors first: they tell of an output that is not taken
+    // the errors first: they may say that the output failed
     let _ = errors.flush();
     out.flush()?;
     Ok(status)
 }
 
-/// Does what the words say, up to where all that it prints is taken.
+/// Runs the command, and flushes what it prints.
 fn run_to_end<'a, T: Store, W: Write, E: Write>(
     alloc: Global,
     matches: &Result<ArgMatches<'a>, Error>,
@@ -82,7 +83,7 @@ fn run_to_end<'a, T: Store, W: Write, E: Write>(
     Ok(out.flush()?)
 }
 
-/// Prints what is wrong with the words, or the help that they ask for.
+/// Prints what is wrong with the command line, or the help that it asks for.
 fn print_args_fault<'a, W: Write>(out: &mut W, error: &Error) -> Result<(), Stop<'a>> {
     if error.kind() == ErrorKind::OutOfMemory {
         return Err(Stop::from(AllocError));
@@ -111,19 +112,22 @@ fn run_matches<'a, T: Store, W: Write, E: Write>(
     }
 }
 
-/// Prints what is wrong with the words of a subcommand.
+/// Prints what is wrong with the options of a subcommand.
 fn print_order_fault<'a, W: Write>(out: &mut W, fault: OrderFault<'a>) -> Result<(), Stop<'a>> {
     match fault {
         OrderFault::BadValue(fault) => writeln!(out, "error: {fault}")?,
         OrderFault::NoField(field) => {
             writeln!(
                 out,
-                "error: --field: a policy has no {field}: try 'kadm policy --help'"
+                "error: --field: a policy has no field {field}; 'kadm policy --help' lists the fields"
             )?;
         }
         OrderFault::NoSetting { field, value } => {
-            let taken = taken_by(field).unwrap_or("another value");
-            writeln!(out, "error: --value: {field} takes {taken}, not '{value}'")?;
+            let accepted = accepted_by(field).unwrap_or("another value");
+            writeln!(
+                out,
+                "error: --value: {field} takes {accepted}, not '{value}'"
+            )?;
         }
         OrderFault::Memory => return Err(Stop::from(AllocError)),
     }
@@ -150,7 +154,7 @@ fn run_order<'a, T: Store, W: Write, E: Write>(
     }
 }
 
-/// Prints what the database holds.
+/// Runs a command that only prints.
 fn run_print<'a, T: Store, W: Write, E: Write>(
     alloc: Global,
     db: &'a str,
@@ -168,7 +172,7 @@ fn run_print<'a, T: Store, W: Write, E: Write>(
     }
 }
 
-/// Does what writes a file, and prints no more than `ok`.
+/// Runs a command that writes a file.
 fn run_work<'a, T: Store, E: Write>(
     alloc: Global,
     order: &Order<'a>,

@@ -5,9 +5,9 @@ ghost use Rattle.kadm_run.specs.Ends.{status_code};
 /// How a command line ends.
 #[derive(Clone, Copy)]
 pub enum Status {
-    /// The command did what it was to do.
+    /// The command succeeded.
     Done,
-    /// It is refused, by a file that it reads or by the database.
+    /// The command is refused because of the database or of a file that it reads.
     Refused,
     /// The command line is wrong.
     Usage,

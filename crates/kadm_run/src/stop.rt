@@ -24,10 +24,10 @@ const STANDARD_OUTPUT: &str = "standard output";
 /// Why a command ends early.
 #[derive(Clone, Copy)]
 pub(crate) enum Stop<'p> {
-    /// The words are wrong, and that has been printed.
+    /// The command line is wrong, and the error has been printed.
     Usage,
     Refused(Reason),
-    /// A file, or what takes its place, is refused or failed.
+    /// A file, a standard stream or an allocation is refused or failed.
     File(FileFault<'p>),
 }
 
@@ -159,7 +159,7 @@ pub(crate) fn report<W: Write, E: Write>(
     match stop {
         Stop::Usage => Ok(Status::Usage),
         Stop::Refused(reason) => {
-            tell_reason(errors, word_of(matches, reason.option()), reason);
+            report_reason(errors, word_of(matches, reason.option()), reason);
             print_refusal(out, reason.name())
         }
         Stop::File(fault) => {
@@ -183,19 +183,19 @@ fn word_of<'a>(matches: &Result<ArgMatches<'a>, Error>, option: &str) -> Option<
     if word.is_empty() { None } else { Some(word) }
 }
 
-/// Reports the subject of a refusal, and what it means. If that can't be written, there is nowhere to report it.
-fn tell_reason<E: Write>(errors: &mut E, word: Option<&str>, reason: Reason) {
+/// Reports the subject of a refusal, and the reason. Ignores a failed write.
+fn report_reason<E: Write>(errors: &mut E, word: Option<&str>, reason: Reason) {
     let _ = match word {
         Some(word) => writeln!(errors, "kadm: {word}: {}", reason.text()),
         None => writeln!(errors, "kadm: --{}: {}", reason.option(), reason.text()),
     };
     if let (Reason::BadName | Reason::BadRealm, Some(word)) = (reason, word) {
-        let _ = tell_spelling(errors, word);
+        let _ = explain_spelling(errors, word);
     }
 }
 
 /// Explains how to write the characters of a name that have to be escaped.
-fn tell_spelling<E: Write>(errors: &mut E, word: &str) -> io::Result<()> {
+fn explain_spelling<E: Write>(errors: &mut E, word: &str) -> io::Result<()> {
     for letter in word.chars() {
         if !letter.is_ascii_graphic() {
             write!(errors, "kadm: write {letter:?} as ")?;

@@ -30,13 +30,13 @@ impl Unit {
 
 const FLAGS: &str = "true or false";
 
-const LIVES: &str = "seconds (36000), or a number with s, m, h or d behind it (10h, 7d)";
+const LIVES: &str = "seconds (36000), or a number followed by s, m, h or d (10h, 7d)";
 
 const TIMES: &str = "\
 a date (2027-01-01, 2027-01-01T12:00:00Z), a second since 1970, a time from now (10h, 7d) or never";
 
 /// Returns what the field with this name accepts. `None` if a policy has no such field.
-pub(crate) fn taken_by(field: &str) -> Option<&'static str> {
+pub(crate) fn accepted_by(field: &str) -> Option<&'static str> {
     if Setting::of(field, "true").is_some() {
         Some(FLAGS)
     } else if Setting::of(field, "0").is_none() {

@@ -1,6 +1,7 @@
-//! Command lines over files in memory.
+//! Tests of command lines over files in memory.
 use crate::steps::Step::{
-    Absent, Copy, FailsAtEach, Holds, Input, IsAtFault, Keep, Leaves, Put, PutTooLong, Refuses, Run,
+    Absent, Copy, FailsAtEach, Holds, Input, IsUsageError, Keep, Leaves, Put, PutTooLong, Refuses,
+    Run,
 };
 use crate::steps::{DONE, FAILED, REFUSED, Step, file_after, run};
 use cred_files::Keytab;
@@ -71,7 +72,7 @@ const LAST: &[u8] = b"\
         \"password_expires\":null,\"postdate\":false,\"preauth\":true,\"proxiable\":true,\"revoked_before\":null}},\
         \"realm\":\"A.B\",\"version\":2}";
 
-/// Each refusal, in a word and in words.
+/// Each refusal, with its word on standard output and its text on standard error.
 const REFUSALS: &[Step] = &[
     Run(INIT, "ok\n", DONE),
     Copy("db", "before"),
@@ -98,72 +99,72 @@ const REFUSALS: &[Step] = &[
     Refuses(
         "kadm random --db db --name x --seed short",
         "refused ShortSeed\n",
-        "kadm: short: it has fewer than 32 octets\n",
+        "kadm: short: the seed has fewer than 32 bytes\n",
     ),
     Refuses(
         "kadm add --db db --name x --password-file long",
         "refused LongPassword\n",
-        "kadm: long: its first line has more than 1024 octets\n",
+        "kadm: long: the password has more than 1024 bytes\n",
     ),
     Refuses(
         "kadm add --db db --name x --password-file big",
         "refused LongFile\n",
-        "kadm: big: it has more octets than are taken\n",
+        "kadm: big: the file is too long\n",
     ),
     Refuses(
         "kadm remove --db db --name u//v",
         "refused BadName\n",
-        "kadm: u//v: no name is written so; it stands without @REALM\n",
+        "kadm: u//v: this is not the name of a principal; write it without @REALM\n",
     ),
     Refuses(
         "kadm show --db db --name u@A.B",
         "refused BadName\n",
-        "kadm: u@A.B: no name is written so; it stands without @REALM\n",
+        "kadm: u@A.B: this is not the name of a principal; write it without @REALM\n",
     ),
     Refuses(
         "kadm random --db db --name ",
         "refused BadName\n",
-        "kadm: --name: no name is written so; it stands without @REALM\n",
+        "kadm: --name: this is not the name of a principal; write it without @REALM\n",
     ),
     Refuses(
         "kadm init --db other --realm A/B",
         "refused BadName\n",
-        "kadm: A/B: no realm is written so; it is one component of 1 to 255 octets\n",
+        "kadm: A/B: this is not the name of a realm; write one component of 1 to 255 bytes\n",
     ),
     Refuses(
         "kadm init --db db --realm A.B",
         "refused Exists\n",
-        "kadm: db: it is there already\n",
+        "kadm: db: this file already exists; name a new one\n",
     ),
     Refuses(
         "kadm add --db db --name krbtgt/A.B --password-file pass --types 17",
         "refused Exists\n",
-        "kadm: krbtgt/A.B: it is there already\n",
+        "kadm: krbtgt/A.B: this principal already exists\n",
     ),
     Refuses(
         "kadm remove --db db --name krbtgt/A.B",
         "refused Protected\n",
-        "kadm: krbtgt/A.B: the realm's tickets are made with its keys, so it stays\n",
+        "kadm: krbtgt/A.B: cannot remove it: the realm's tickets are made with its keys\n",
     ),
     Refuses(
         "kadm drop --db db --name x --version 1",
         "refused Absent\n",
-        "kadm: x: no such principal is in the database\n",
+        "kadm: x: the database has no such principal\n",
     ),
     Refuses(
         "kadm policy --db db --name x --field preauth --value true",
         "refused Absent\n",
-        "kadm: x: no such principal is in the database\n",
+        "kadm: x: the database has no such principal\n",
     ),
     Refuses(
         "kadm show --db db --name x",
         "refused Absent\n",
-        "kadm: x: no such principal is in the database\n",
+        "kadm: x: the database has no such principal\n",
     ),
     Refuses(
         "kadm keytab --db db --name x --out kt",
         "refused Absent\n",
-        "kadm: x: no such principal is in the database\n",
+        "kadm: x: the database has no such principal\n",
     ),
     Refuses(
         "kadm drop --db db --name krbtgt/A.B --version 7",
@@ -173,37 +174,37 @@ const REFUSALS: &[Step] = &[
     Refuses(
         "kadm drop --db db --name krbtgt/A.B --version 1",
         "refused CurrentKeys\n",
-        "kadm: krbtgt/A.B: its keys of this version are the current ones, which stay\n",
+        "kadm: krbtgt/A.B: cannot drop its current keys; give it new ones first\n",
     ),
     Refuses(
         "kadm random --db last --name krbtgt/A.B",
         "refused LastVersion\n",
-        "kadm: krbtgt/A.B: its keys have the last version, 4294967295\n",
+        "kadm: krbtgt/A.B: its keys have version 4294967295, and none can follow\n",
     ),
     Refuses(
         "kadm list --db latin",
         "refused NotJson\n",
-        "kadm: latin: it is no database: its text is no JSON object\n",
+        "kadm: latin: this is not a database: its text is not a JSON object\n",
     ),
     Refuses(
         "kadm list --db pass",
         "refused NotJson\n",
         "\
 kadm: pass: invalid JSON at line 1 column 1
-kadm: pass: it is no database: its text is no JSON object
+kadm: pass: this is not a database: its text is not a JSON object
 ",
     ),
     Refuses(
         "kadm list --db empty",
         "refused BadVersion\n",
-        "kadm: empty: it is no database of version 1, 2 or 3\n",
+        "kadm: empty: this is not a database of version 1, 2 or 3\n",
     ),
     Refuses(
         "kadm migrate --db rows",
         "refused BadRow\n",
         "\
 kadm: rows: its members are not principals, realm and version
-kadm: rows: its realm, or a row, is amiss
+kadm: rows: its realm or one of its rows is invalid
 ",
     ),
     Refuses(
@@ -211,7 +212,7 @@ kadm: rows: its realm, or a row, is amiss
         "refused BadRow\n",
         "\
 kadm: row: principal \"krbtgt/A.B\": expires
-kadm: row: its realm, or a row, is amiss
+kadm: row: its realm or one of its rows is invalid
 ",
     ),
     Refuses(
@@ -219,48 +220,48 @@ kadm: row: its realm, or a row, is amiss
         "refused BadRow\n",
         "\
 kadm: named: principal \"a@b\": its name
-kadm: named: its realm, or a row, is amiss
+kadm: named: its realm or one of its rows is invalid
 ",
     ),
     Refuses(
         "kadm list --db bare",
         "refused NoTicketGranter\n",
-        "kadm: bare: it has no row of krbtgt/REALM\n",
+        "kadm: bare: it has no row for krbtgt/REALM\n",
     ),
     Refuses(
         "kadm keytab --db db --name krbtgt/A.B --out last",
         "refused IsDatabase\n",
-        "kadm: last: a lock stands beside it, as beside a database\n",
+        "kadm: last: a lock is beside it, so it may be a database; name another file\n",
     ),
     Refuses(
         "kadm keytab --db db --name krbtgt/A.B --out db.lock",
         "refused IsLock\n",
-        "kadm: db.lock: a name that ends in `.lock` is a lock's\n",
+        "kadm: db.lock: a file whose name ends in `.lock` is a lock; name another file\n",
     ),
     Refuses(
         "kadm keytab --db db --name krbtgt/A.B --out before",
         "refused BadMagic\n",
-        "kadm: before: it is no keytab of version 2\n",
+        "kadm: before: this is not a keytab of version 2\n",
     ),
     Refuses(
         "kadm keytab --db db --name krbtgt/A.B --out seed",
         "refused BadMagic\n",
-        "kadm: seed: it is no keytab of version 2\n",
+        "kadm: seed: this is not a keytab of version 2\n",
     ),
     Refuses(
         "kadm keytab --db db --name krbtgt/A.B --out pass --append",
         "refused BadMagic\n",
-        "kadm: pass: it is no keytab of version 2\n",
+        "kadm: pass: this is not a keytab of version 2\n",
     ),
     Refuses(
         "kadm keytab --db db --name krbtgt/A.B --out cut --append",
         "refused Truncated\n",
-        "kadm: cut: it ends too early\n",
+        "kadm: cut: the keytab ends too early\n",
     ),
     Refuses(
         "kadm keytab --db db --name krbtgt/A.B --out entry --append",
         "refused BadEntry\n",
-        "kadm: entry: an entry is amiss, or has no room in a keytab\n",
+        "kadm: entry: an entry is invalid, or too long for a keytab\n",
     ),
     Leaves("kadm list --db absent", "failed\n", FAILED),
     Input(b"password\npasswort\n", true),
@@ -268,8 +269,8 @@ kadm: named: its realm, or a row, is amiss
         "kadm add --db db --name u",
         "refused Mismatch\n",
         "\
-kadm: a terminal shows what is typed, unless `stty -echo` came before
-kadm: u: the two passwords differ
+kadm: the password shows as you type it; run `stty -echo` first to hide it
+kadm: u: the two passwords differ; nothing was changed
 ",
     ),
     Keep,
@@ -277,8 +278,8 @@ kadm: u: the two passwords differ
         "kadm remove --db db --name x",
         "refused Locked\n",
         "\
-kadm: waiting for another kadm
-kadm: db: another kadm still works on it after ten seconds
+kadm: waiting for another kadm to finish
+kadm: db: cannot lock it: another kadm is still running after ten seconds
 ",
     ),
     Absent("kt"),
@@ -286,116 +287,114 @@ kadm: db: another kadm still works on it after ten seconds
 ];
 
 #[test]
-fn what_is_refused_leaves_the_files(rt: HostRuntime) -> io::Result<()> {
+fn a_refused_command_leaves_the_files(rt: HostRuntime) -> io::Result<()> {
     run(&rt, rt.alloc(), REFUSALS)
 }
 
-/// Command lines at fault, and what the text says of each.
+/// Usage errors, each with a part of the text that it prints.
 const FAULTS: &[Step] = &[
     Run(INIT, "ok\n", DONE),
-    IsAtFault("kadm", "Usage"),
-    IsAtFault("kadm list", "--db"),
-    IsAtFault("kadm list --db ", "--db"),
-    IsAtFault("kadm make --db db", "make"),
-    IsAtFault("kadm show --db db", "--name"),
-    IsAtFault("kadm drop --db db --name h", "--version"),
-    IsAtFault("kadm drop --db db --name h --version 1 --older", "--older"),
-    IsAtFault(
+    IsUsageError("kadm", "Usage"),
+    IsUsageError("kadm list", "--db"),
+    IsUsageError("kadm list --db ", "--db"),
+    IsUsageError("kadm make --db db", "make"),
+    IsUsageError("kadm show --db db", "--name"),
+    IsUsageError("kadm drop --db db --name h", "--version"),
+    IsUsageError("kadm drop --db db --name h --version 1 --older", "--older"),
+    IsUsageError(
         "kadm add --db db --name u --random --password-file pass",
         "--random",
     ),
-    IsAtFault(
+    IsUsageError(
         "kadm add --db db --name u --random --any-password",
         "--random",
     ),
-    IsAtFault(
+    IsUsageError(
         "kadm policy --db db --name krbtgt/A.B --field life --value 1",
-        "error: --field: a policy has no life: try 'kadm policy --help'\n",
+        "error: --field: a policy has no field life; 'kadm policy --help' lists the fields\n",
     ),
-    IsAtFault(
+    IsUsageError(
         "kadm policy --db db --name krbtgt/A.B --field greatest_life --value 1w",
-        "greatest_life takes seconds (36000), or a number with s, m, h or d behind it (10h, 7d), not '1w'\n",
+        "greatest_life takes seconds (36000), or a number followed by s, m, h or d (10h, 7d), not '1w'\n",
     ),
-    IsAtFault(
+    IsUsageError(
         "kadm policy --db db --name krbtgt/A.B --field greatest_life --value 49711d",
         "greatest_life takes",
     ),
-    IsAtFault(
+    IsUsageError(
         "kadm policy --db db --name krbtgt/A.B --field preauth --value 1h",
         "preauth takes true or false, not '1h'\n",
     ),
-    IsAtFault("kadm drop --db db --name h --version +1", "--version"),
-    IsAtFault("kadm drop --db db --name h --version -1", "--version"),
-    IsAtFault("kadm keytab --db db --name h --out db", "--out"),
-    IsAtFault(
+    IsUsageError("kadm drop --db db --name h --version +1", "--version"),
+    IsUsageError("kadm drop --db db --name h --version -1", "--version"),
+    IsUsageError("kadm keytab --db db --name h --out db", "--out"),
+    IsUsageError(
         "kadm drop --db db --name h --version 4294967296",
         "--version",
     ),
-    IsAtFault(
+    IsUsageError(
         "kadm policy --db db --name krbtgt/A.B --field life --value 1",
         "--field",
     ),
-    IsAtFault(
+    IsUsageError(
         "kadm policy --db db --name krbtgt/A.B --field preauth --value 1",
         "--value",
     ),
-    IsAtFault(
+    IsUsageError(
         "kadm policy --db db --name krbtgt/A.B --field expires --value 253402300800",
         "--value",
     ),
-    IsAtFault(
+    IsUsageError(
         "kadm policy --db db --name krbtgt/A.B --field expires --value 2027-02-29",
         "--value",
     ),
-    IsAtFault(
+    IsUsageError(
         "kadm policy --db db --name krbtgt/A.B --field expires --value 2027-01-01T12:00:00",
         "--value",
     ),
-    IsAtFault(
+    IsUsageError(
         "kadm policy --db db --name krbtgt/A.B --field expires --value 1969-12-31",
         "--value",
     ),
-    IsAtFault(
+    IsUsageError(
         "kadm policy --db db --name krbtgt/A.B --field greatest_life --value 2027-01-01",
         "--value",
     ),
-    IsAtFault(
+    IsUsageError(
         "kadm add --db db --name u --password-file pass --types 18,21",
         "--types",
     ),
-    IsAtFault(
+    IsUsageError(
         "kadm passwd --db db --name u --password-file pass --types 18,17,18",
         "--types",
     ),
-    IsAtFault(
+    IsUsageError(
         "kadm random --db db --name u --seed seed --types 18,",
         "--types",
     ),
-    IsAtFault(
+    IsUsageError(
         "kadm random --db db --name u --seed seed --types=",
         "--types",
     ),
-    IsAtFault("kadm random --db db --name u --seed ", "--seed"),
-    IsAtFault(
+    IsUsageError("kadm random --db db --name u --seed ", "--seed"),
+    IsUsageError(
         "kadm add --db db --name u --password-file ",
         "--password-file",
     ),
-    IsAtFault("kadm keytab --db db --name u --out ", "--out"),
-    IsAtFault("kadm init --db db --realm A.B --types 18", "--types"),
-    IsAtFault(
+    IsUsageError("kadm keytab --db db --name u --out ", "--out"),
+    IsUsageError("kadm init --db db --realm A.B --types 18", "--types"),
+    IsUsageError(
         "kadm keytab --db db --name u --out kt --append=1",
         "--append",
     ),
 ];
 
 #[test]
-fn a_fault_of_the_command_line_has_status_2_and_names_the_option(
-    rt: HostRuntime,
-) -> io::Result<()> {
+fn a_usage_error_has_status_2_and_names_the_option(rt: HostRuntime) -> io::Result<()> {
     run(&rt, rt.alloc(), FAULTS)
 }
 
-/// Databases of the older versions, and the one of version 3 that comes of each.
+/// Databases of the older versions, and the database of version 3 that each becomes.
 const VERSION_1: &[u8] = b"\
         {\"principals\":{\"krbtgt/A.B\":{\"disabled\":false,\"expires\":null,\"forwardable\":true,\
         \"greatest_life\":4294967295,\"greatest_renewable\":4294967295,\"keys\":[{\"keys\":[{\"etype\":17,\
@@ -456,7 +455,7 @@ fn expect_keys(rt: &impl Abort, alloc: Global, octets: &[u8]) -> Result<(), Fail
     Ok(())
 }
 
-/// Whether the keytab has the key of type 18 that the password of `u` gives.
+/// Checks whether the keytab has the key of type 18 made from the password of `u`.
 fn has_password_key(alloc: Global, keytab: &Keytab) -> Result<bool, Fail> {
     let etype = Etype::Aes256CtsHmacSha1_96;
     let u = Name::new(alloc, 1, &[b"u"])?;
@@ -469,7 +468,7 @@ fn has_password_key(alloc: Global, keytab: &Keytab) -> Result<bool, Fail> {
     )
 }
 
-/// Each command, and how often it calls its store.
+/// Each command, with the number of its calls of the store.
 const FAILURES: &[Step] = &[
     Run(INIT, "ok\n", DONE),
     Run("kadm random --db db --name h --seed seed", "ok\n", DONE),
@@ -514,8 +513,8 @@ const ETYPES: [Etype; 4] = [
     Etype::Aes128CtsHmacSha256_128,
 ];
 
-/// The keys that ChaCha20 gives under a seed of 32 octets 07, as Python's `cryptography` computes it with a nonce of
-/// zeros: octets 0, 32, 64 and 96 on.
+/// The keys from ChaCha20 under a seed of 32 bytes 07, computed by Python's `cryptography` with a nonce of zeros: the
+/// bytes from 0, 32, 64 and 96 on.
 const DRAWN: &[&[u8]] = &[
     b"\
         \xf4\x00\x92\x78\x57\xaa\xf6\x41\x14\xf5\x61\xba\xac\xb3\x79\x70\

@@ -1,4 +1,4 @@
-//! Files of the two formats, and files from stock tools.
+//! Tests of the two file formats, with files from stock tools.
 ghost use Rattle.std.specs.Prelude.{IfOk, ◌<◌, ◌^◌, length};
 ghost use Rattle.cred_files.specs.Cache.{FitsButForTimes};
 ghost use Rattle.cred_files.specs.Principal as formats;
@@ -38,7 +38,7 @@ const STOCK_KEYTAB: [u8; 169] = [
 ];
 
 // ktutil of Heimdal 7.8: a hole where an entry was removed, then h of type 18 and version 2, and host/x.a.b of type
-// 17 and version 300; four octets of flags stand behind each version
+// 17 and version 300; four bytes of flags follow each version
 const HEIMDAL_KEYTAB: [u8; 181] = [
     0x05, 0x02, 0xff, 0xff, 0xff, 0xd1, 0x00, 0x00, 0x00, 0x00, 0x00, 0x00, 0x00, 0x00, 0x00, 0x00,
     0x00, 0x00, 0x00, 0x00, 0x00, 0x00, 0x00, 0x00, 0x00, 0x00, 0x00, 0x00, 0x00, 0x00, 0x00, 0x00,
@@ -90,7 +90,7 @@ fn key(octets: &[u8]) -> Result<Key, Fail> {
     }
 }
 
-/// The entry of `KEYTAB`, of this version, in this realm.
+/// Returns the entry of `KEYTAB` with this realm and version.
 fn entry(alloc: Global, realm: Vec<u8>, version: u32) -> Result<KeytabEntry, Fail> {
     let key = key(&KEYTAB[29..45])?;
     let name = Name::new(alloc, 1, &[b"h"])?;
@@ -102,7 +102,7 @@ fn entry(alloc: Global, realm: Vec<u8>, version: u32) -> Result<KeytabEntry, Fai
     })
 }
 
-/// How many entries a keytab has.
+/// Returns the number of entries of a keytab.
 fn count(alloc: Global, octets: &[u8]) -> Result<usize, FileFault> {
     let keytab = Keytab::read(alloc, octets)?;
     Ok(keytab.len())
@@ -119,19 +119,19 @@ fn reads_keytabs(rt: HostRuntime) {
     }
 }
 
-/// What is written of a keytab that is read.
+/// Reads a keytab and writes it again.
 fn rewritten(alloc: Global, octets: &[u8]) -> Result<Vec<u8>, FileFault> {
     let keytab = Keytab::read(alloc, octets)?;
     Ok(keytab.write(alloc)?)
 }
 
-/// What is written of a keytab with these entries.
+/// Writes a keytab with these entries.
 fn written_of(alloc: Global, entries: &[KeytabEntry]) -> Result<Vec<u8>, FileFault> {
     let keytab = Keytab::new(alloc, entries)?;
     Ok(keytab.write(alloc)?)
 }
 
-/// What is written of a keytab with an entry of version 1 in this realm.
+/// Writes a keytab with an entry of version 1 in this realm.
 fn written(alloc: Global, realm: Vec<u8>) -> Result<Result<Vec<u8>, FileFault>, Fail> {
     let entries = vec![in alloc; entry(alloc, realm, 1)?]?;
     Ok(written_of(alloc, &entries))
@@ -146,7 +146,7 @@ fn writes_keytabs(rt: HostRuntime) -> Result<(), Fail> {
     Ok(())
 }
 
-/// Why a search of the keytab for `h` in a realm finds no key, by a version or by the highest.
+/// Returns why a search of the keytab for `h` in a realm finds no key with a version, or with the highest one.
 fn miss(
     keytab: &Keytab,
     h: &Name,
@@ -187,7 +187,7 @@ fn finds_keys_of_a_stock_keytab(rt: HostRuntime) -> Result<(), Fail> {
     Ok(())
 }
 
-/// What is wrong with `KEYTAB` where one octet of it is changed.
+/// Returns the error of `KEYTAB` with one byte changed.
 fn fault_at(alloc: Global, place: usize, octet: u8) -> Option<FileFault> {
     let mut octets = KEYTAB;
     if let Some(changed) = octets.get_mut(place) {
@@ -197,7 +197,7 @@ fn fault_at(alloc: Global, place: usize, octet: u8) -> Option<FileFault> {
 }
 
 #[test]
-fn tells_entries_that_are_amiss(rt: HostRuntime) -> Result<(), Fail> {
+fn refuses_invalid_entries(rt: HostRuntime) -> Result<(), Fail> {
     let alloc = rt.alloc();
     // a key that is too short; a field that is longer than the entry
     assert_eq!(rt; fault_at(alloc, 28, 15), Some(FileFault::BadEntry));
@@ -208,7 +208,7 @@ fn tells_entries_that_are_amiss(rt: HostRuntime) -> Result<(), Fail> {
 }
 
 #[test]
-fn tells_where_a_keytab_ends(rt: HostRuntime) {
+fn refuses_a_keytab_cut_anywhere(rt: HostRuntime) {
     for len in 0..49usize {
         let wanted = match len {
             0 | 1 => Err(FileFault::BadMagic),
@@ -223,7 +223,7 @@ fn tells_where_a_keytab_ends(rt: HostRuntime) {
     );
 }
 
-/// What is written of a cache that is read.
+/// Reads a cache and writes it again.
 fn written_again(alloc: Global, octets: &[u8]) -> Result<Vec<u8>, FileFault> {
     let cache = Cache::read(alloc, octets)?;
     Ok(cache.write(alloc)?)
@@ -238,7 +238,7 @@ fn reads_and_writes_caches(rt: HostRuntime) -> Result<(), Fail> {
 }
 
 #[test]
-fn tells_where_a_cache_ends(rt: HostRuntime) {
+fn refuses_a_cache_cut_anywhere(rt: HostRuntime) {
     for len in 0..24usize {
         let wanted = match len {
             0 | 1 => FileFault::BadMagic,
@@ -251,7 +251,7 @@ fn tells_where_a_cache_ends(rt: HostRuntime) {
     }
 }
 
-/// The times of a credential with this end.
+/// Returns the times of a credential with this end.
 fn times(end: i64) -> Result<Times, Fail> {
     let (Some(start), Some(end)) = (KTime::new(1_704_067_200), KTime::new(end)) else {
         return Err(Fail::new("a time"));
@@ -264,7 +264,7 @@ fn times(end: i64) -> Result<Times, Fail> {
     })
 }
 
-/// A credential of `u` for `h`, with these times.
+/// Returns a credential of `u` for `h`, with these times.
 #[tactic(auto, unfolding(cred_files::specs::Credential::credential, cred_files::specs::Credential::session_key))]
 fn credential(alloc: Global, times: Times) -> Result<Credential, Fail>
     ensures { IfOk result (λ c. FitsButForTimes c) }
@@ -300,7 +300,7 @@ fn principal(alloc: Global, name: &[u8]) -> Result<Principal, Fail>
     })
 }
 
-/// An empty cache of `u`.
+/// Returns an empty cache of `u`.
 #[tactic(auto, unfolding(cred_files::specs::Principal::principal))]
 fn cache(alloc: Global) -> Result<Cache, Fail> {
     let u = Name::new(alloc, 1, &[b"u"])?;
@@ -319,7 +319,7 @@ fn written_empty(alloc: Global) -> Result<Vec<u8>, Fail> {
     Ok(cache.write(alloc)?)
 }
 
-/// The same, with a fault of its own.
+/// Writes an empty cache of `u`, with the errors of files.
 #[tactic(auto, unfolding(cred_files::specs::Principal::principal))]
 fn written_new(alloc: Global) -> Result<Vec<u8>, FileFault> {
     let u = Name::new(alloc, 1, &[b"u"])?;
@@ -327,14 +327,14 @@ fn written_new(alloc: Global) -> Result<Vec<u8>, FileFault> {
     Ok(cache.write(alloc)?)
 }
 
-/// What comes of putting a credential with this end.
+/// Puts a credential with this end, and returns the error.
 fn put(alloc: Global, cache: &mut Cache, end: i64) -> Result<Option<FileFault>, Fail> {
     let times = times(end)?;
     let credential = credential(alloc, times)?;
     Ok(cache.put(alloc, &credential).err())
 }
 
-/// The end of the credential for a service.
+/// Returns the end of the credential for a service.
 fn end_of(cache: &Cache, service: &Name) -> Result<i64, FileFault> {
     match cache.find(service) {
         Ok(found) => Ok(found.times.end_time.seconds()),
@@ -374,8 +374,8 @@ fn puts_and_finds_credentials(rt: HostRuntime) -> Result<(), Fail> {
     expect_found(&rt, alloc, &mut cache)
 }
 
-/// Whether of two calls each gives these octets, but for one that may want memory.
-fn wants_memory_once(outcomes: &[Result<Vec<u8>, FileFault>; 2], octets: &[u8]) -> bool {
+/// Checks whether both calls return these bytes, or one of them runs out of memory.
+fn fails_at_most_once(outcomes: &[Result<Vec<u8>, FileFault>; 2], octets: &[u8]) -> bool {
     match outcomes {
         [Ok(first), Ok(second)] => first.as_slice() == octets && second.as_slice() == octets,
         [Ok(written), Err(fault)] | [Err(fault), Ok(written)] => {
@@ -385,32 +385,32 @@ fn wants_memory_once(outcomes: &[Result<Vec<u8>, FileFault>; 2], octets: &[u8]) 
     }
 }
 
-// Passes whichever allocation of the calls is refused.
+// Passes if any one allocation of the calls fails.
 #[test]
-fn a_file_without_memory_is_read_and_written_when_it_comes_again(rt: HostRuntime) {
+fn reading_and_writing_work_again_after_memory_ran_out(rt: HostRuntime) {
     let alloc = rt.alloc();
     let keytabs = [rewritten(alloc, &KEYTAB), rewritten(alloc, &KEYTAB)];
-    assert!(rt; wants_memory_once(&keytabs, &KEYTAB));
+    assert!(rt; fails_at_most_once(&keytabs, &KEYTAB));
     let caches = [
         written_again(alloc, &STOCK_CACHE),
         written_again(alloc, &STOCK_CACHE),
     ];
-    assert!(rt; wants_memory_once(&caches, &STOCK_CACHE));
+    assert!(rt; fails_at_most_once(&caches, &STOCK_CACHE));
     let empty = [written_new(alloc), written_new(alloc)];
-    assert!(rt; wants_memory_once(&empty, &CACHE));
+    assert!(rt; fails_at_most_once(&empty, &CACHE));
 }
 
-// Passes whichever allocation of the calls is refused.
+// Passes if any one allocation of the calls fails.
 #[test]
-fn a_keytab_without_memory_is_made_when_asked_again(rt: HostRuntime) -> Result<(), Fail> {
+fn making_a_keytab_works_again_after_memory_ran_out(rt: HostRuntime) -> Result<(), Fail> {
     let alloc = rt.alloc();
     let entries = vec![in alloc; entry(alloc, Vec::from_slice(alloc, b"A.B")?, 1)?]?;
     let keytabs = [written_of(alloc, &entries), written_of(alloc, &entries)];
-    assert!(rt; wants_memory_once(&keytabs, &KEYTAB));
+    assert!(rt; fails_at_most_once(&keytabs, &KEYTAB));
     Ok(())
 }
 
-/// Whether a credential is put by each of two calls, but for one that may want memory.
+/// Checks whether both calls put a credential, or one of them runs out of memory.
 fn is_put_once(alloc: Global, cache: &mut Cache, credential: &Credential) -> bool
     requires { FitsButForTimes credential.now }
 {
@@ -423,7 +423,7 @@ fn is_put_once(alloc: Global, cache: &mut Cache, credential: &Credential) -> boo
     }
 }
 
-/// The same of a credential of `h`, and whether it is found then.
+/// Does the same with a credential for `h`, and checks whether it is found afterwards.
 fn is_put(alloc: Global, cache: &mut Cache) -> Result<bool, Fail> {
     let h = Name::new(alloc, 2, &[b"h"])?;
     let times = times(1_704_103_200)?;
@@ -432,9 +432,9 @@ fn is_put(alloc: Global, cache: &mut Cache) -> Result<bool, Fail> {
     Ok(is_put && end_of(cache, &h) == Ok(1_704_103_200))
 }
 
-// As above.
+// Passes if any one allocation of the calls fails.
 #[test]
-fn a_credential_without_memory_is_put_when_it_comes_again(rt: HostRuntime) -> Result<(), Fail> {
+fn putting_a_credential_works_again_after_memory_ran_out(rt: HostRuntime) -> Result<(), Fail> {
     let alloc = rt.alloc();
     let mut cache = cache(alloc)?;
     assert!(rt; is_put(alloc, &mut cache)?);

@@ -1,7 +1,7 @@
-//! What commands use if no file is named, and the lock between two commands.
+//! Tests of seeds and passwords that are not in a file, and of the lock between two commands.
 use crate::commands::INIT;
 use crate::steps::Step::{
-    Absent, Asked, Copy, Draw, Input, Keep, Leaves, Letters, Run, Same, Says, Tells,
+    Absent, Asked, Copy, Draw, Input, Keep, Leaves, Letters, Reports, Run, Same, Says,
 };
 use crate::steps::{DONE, FAILED, REFUSED, Step, run};
 use std::io;
@@ -24,11 +24,11 @@ const DRAWS: &[Step] = &[
 ];
 
 #[test]
-fn a_seed_that_is_in_no_file_is_the_systems(rt: HostRuntime) -> io::Result<()> {
+fn without_a_seed_file_the_system_draws_the_seed(rt: HostRuntime) -> io::Result<()> {
     run(&rt, rt.alloc(), DRAWS)
 }
 
-/// The database is to be what one password makes of it that a file holds.
+/// A line of standard input makes the same database as a file with that password.
 const LINES: &[Step] = &[
     Run(INIT, "ok\n", DONE),
     Copy("db", "before"),
@@ -60,7 +60,7 @@ const LINES: &[Step] = &[
 ];
 
 #[test]
-fn a_password_that_is_in_no_file_is_a_line_of_the_input(rt: HostRuntime) -> io::Result<()> {
+fn without_a_password_file_the_password_is_a_line_of_the_input(rt: HostRuntime) -> io::Result<()> {
     run(&rt, rt.alloc(), LINES)
 }
 
@@ -76,9 +76,9 @@ const TERMINALS: &[Step] = &[
     Asked("Password for u@A.B: Password for u@A.B: "),
     Copy("before", "db"),
     Input(b"password\npassword\n", true),
-    Tells(
+    Reports(
         ADD,
-        "kadm: a terminal shows what is typed, unless `stty -echo` came before\n",
+        "kadm: the password shows as you type it; run `stty -echo` first to hide it\n",
     ),
     Copy("before", "db"),
     Input(b"password\npasswort\n", true),
@@ -86,7 +86,7 @@ const TERMINALS: &[Step] = &[
 ];
 
 #[test]
-fn a_terminal_is_asked_twice(rt: HostRuntime) -> io::Result<()> {
+fn a_terminal_is_asked_for_the_password_twice(rt: HostRuntime) -> io::Result<()> {
     run(&rt, rt.alloc(), TERMINALS)
 }
 
@@ -105,11 +105,11 @@ const ENDED_INPUTS: &[Step] = &[
 ];
 
 #[test]
-fn an_input_without_a_password_sets_none(rt: HostRuntime) -> io::Result<()> {
+fn an_input_without_a_password_fails(rt: HostRuntime) -> io::Result<()> {
     run(&rt, rt.alloc(), ENDED_INPUTS)
 }
 
-/// Commands that write, where another program keeps the files; and one that reads.
+/// While another program has the lock, commands that write are refused, and one that reads is not.
 const KEPT: &[Step] = &[
     Run(INIT, "ok\n", DONE),
     Run("kadm random --db db --name h", "ok\n", DONE),
@@ -159,6 +159,6 @@ const KEPT: &[Step] = &[
 ];
 
 #[test]
-fn a_database_that_another_command_keeps_is_read_alone(rt: HostRuntime) -> io::Result<()> {
+fn a_locked_database_can_only_be_read(rt: HostRuntime) -> io::Result<()> {
     run(&rt, rt.alloc(), KEPT)
 }

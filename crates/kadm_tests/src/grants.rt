@@ -1,8 +1,7 @@
-//! New keys, and an administrator's other work on principals: values in their own words, lists, and two commands at
-//! once.
+//! Tests of new keys, policy values with units, lists, and two commands at once.
 use crate::commands::INIT;
 use crate::steps::Step::{
-    Clock, Copy, Draw, IsAtFault, KeepFor, Leaves, Put, Refuses, Run, Same, Tells,
+    Clock, Copy, Draw, IsUsageError, KeepFor, Leaves, Put, Refuses, Reports, Run, Same,
 };
 use crate::steps::{DONE, REFUSED, Step, run};
 use std::io;
@@ -13,22 +12,25 @@ const PASSWD: &str = "kadm passwd --db db --name u --password-file pass --types 
 
 const LONG: &str = "kadm list --db db --long";
 
-/// A principal with random keys, by two commands; and one that is there already.
+/// `random` and `add --random` make the same principal, and `random` gives an existing one its next version.
 const RANDOMS: &[Step] = &[
     Run(INIT, "ok\n", DONE),
     Copy("db", "first"),
-    Tells(RANDOM, "kadm: h: made, with keys of version 1\n"),
+    Reports(RANDOM, "kadm: h: added, with keys of version 1\n"),
     Copy("db", "before"),
     Copy("first", "db"),
     Draw,
-    Tells("kadm add --db db --name h --random --types 18", ""),
+    Reports("kadm add --db db --name h --random --types 18", ""),
     Same("db", "before"),
     Leaves(
         "kadm add --db db --name h --random",
         "refused Exists\n",
         REFUSED,
     ),
-    Tells(RANDOM, "kadm: h: new keys, version 2; older ones stay\n"),
+    Reports(
+        RANDOM,
+        "kadm: h: has new keys, version 2; older versions stay\n",
+    ),
 ];
 
 #[test]
@@ -36,7 +38,7 @@ fn random_keys_make_a_principal_or_its_next_version(rt: HostRuntime) -> io::Resu
     run(&rt, rt.alloc(), RANDOMS)
 }
 
-/// For a principal with a password there are to be no tickets, unless it is said to be a service.
+/// Tickets for a principal with a password are denied, unless `--service` allows them.
 const SERVICES: &[Step] = &[
     Run(INIT, "ok\n", DONE),
     Run(
@@ -121,7 +123,7 @@ fn users_are_no_services(rt: HostRuntime) -> io::Result<()> {
     run(&rt, rt.alloc(), SERVICES)
 }
 
-/// Keys that are replaced are those that new keys and `drop --older` leave.
+/// `--replace` leaves the same database as new keys followed by `drop --older`.
 const REPLACED: &[Step] = &[
     Run(INIT, "ok\n", DONE),
     Run(RANDOM, "ok\n", DONE),
@@ -143,14 +145,14 @@ const REPLACED: &[Step] = &[
     Run("kadm drop --db db --name h --older", "ok\n", DONE),
     Same("db", "before"),
     Copy("two", "db"),
-    Tells(
+    Reports(
         "kadm random --db db --name h --seed seed --types 18 --replace",
-        "kadm: h: new keys, version 3; all older ones are dropped\n",
+        "kadm: h: has new keys, version 3; older versions are dropped\n",
     ),
     Same("db", "before"),
-    Tells(
+    Reports(
         "kadm random --db db --name i --seed seed --types 18 --replace",
-        "kadm: i: made, with keys of version 1\n",
+        "kadm: i: added, with keys of version 1\n",
     ),
     Copy("db", "before"),
     Leaves(
@@ -166,11 +168,11 @@ const REPLACED: &[Step] = &[
 ];
 
 #[test]
-fn keys_that_are_replaced_leave_no_older_version(rt: HostRuntime) -> io::Result<()> {
+fn replaced_keys_leave_no_older_version(rt: HostRuntime) -> io::Result<()> {
     run(&rt, rt.alloc(), REPLACED)
 }
 
-/// A new password, before and after the old one has expired.
+/// A new password, given before and after the old one has expired.
 const EXPIRED: &[Step] = &[
     Run(INIT, "ok\n", DONE),
     Run(
@@ -184,16 +186,16 @@ const EXPIRED: &[Step] = &[
         DONE,
     ),
     Clock(1_798_761_599),
-    Tells(PASSWD, ""),
+    Reports(PASSWD, ""),
     Run(
         "kadm list --db db --long --like u",
         "u 2 18 never 2027-01-01T00:00:00Z false 2 false\n",
         DONE,
     ),
     Clock(1_798_761_600),
-    Tells(
+    Reports(
         "kadm passwd --db db --name u --password-file pass --types 18 --replace",
-        "kadm: u: password_expires was past, and is never now\n",
+        "kadm: u: password_expires was past; it is now never\n",
     ),
     Run(
         "kadm list --db db --long --like u",
@@ -208,9 +210,9 @@ fn a_new_password_clears_a_past_expiry(rt: HostRuntime) -> io::Result<()> {
 }
 
 const UNLIKELY: &str =
-    "kadm: u: its password is empty or ends in a carriage return; `--any-password` allows that\n";
+    "kadm: u: the password is empty or ends in a carriage return; `--any-password` allows that\n";
 
-/// Passwords that nobody means to set.
+/// Passwords that are probably a mistake.
 const PASSWORDS: &[Step] = &[
     Run(INIT, "ok\n", DONE),
     Copy("db", "before"),
@@ -232,18 +234,18 @@ const PASSWORDS: &[Step] = &[
         "refused BadPassword\n",
         UNLIKELY,
     ),
-    Tells(
+    Reports(
         "kadm add --db db --name u --password-file dos --types 18 --any-password",
         "",
     ),
-    Tells(
+    Reports(
         "kadm passwd --db db --name u --password-file none --types 18 --any-password",
         "",
     ),
 ];
 
 #[test]
-fn a_password_that_nobody_means_is_refused(rt: HostRuntime) -> io::Result<()> {
+fn an_unlikely_password_is_refused(rt: HostRuntime) -> io::Result<()> {
     run(&rt, rt.alloc(), PASSWORDS)
 }
 
@@ -295,12 +297,12 @@ version 1 18,17,20,19
     Refuses(
         "kadm policy --db db --name krbtgt/A.B --field expires --value 1s",
         "refused BadTime\n",
-        "kadm: 1s: this is past the end of the year 9999\n",
+        "kadm: 1s: this time is past the end of the year 9999\n",
     ),
 ];
 
 #[test]
-fn lives_and_times_are_written_with_units(rt: HostRuntime) -> io::Result<()> {
+fn lifetimes_and_times_take_units(rt: HostRuntime) -> io::Result<()> {
     run(&rt, rt.alloc(), VALUES)
 }
 
@@ -339,11 +341,11 @@ const LISTS: &[Step] = &[
 ];
 
 #[test]
-fn a_list_is_of_the_names_that_fit(rt: HostRuntime) -> io::Result<()> {
+fn a_list_has_the_names_that_match(rt: HostRuntime) -> io::Result<()> {
     run(&rt, rt.alloc(), LISTS)
 }
 
-/// What has expired by the clock, older keys, and a client that gets tickets without preauthentication.
+/// Expired times, older keys, and a client that gets tickets without preauthentication.
 const ODD: &[Step] = &[
     Run(INIT, "ok\n", DONE),
     Clock(1_798_761_600),
@@ -401,28 +403,28 @@ u password_expired 2027-01-01T00:00:01Z
 ];
 
 #[test]
-fn what_is_odd_about_a_principal_is_listed(rt: HostRuntime) -> io::Result<()> {
+fn lint_lists_what_to_check(rt: HostRuntime) -> io::Result<()> {
     run(&rt, rt.alloc(), ODD)
 }
 
-/// A lock that another command has for so long, in tenths of a second.
+/// Another command holds the lock for 1, 1.1, 10 and 10.1 seconds.
 const WAITS: &[Step] = &[
     KeepFor(10),
-    Tells(INIT, ""),
+    Reports(INIT, ""),
     KeepFor(11),
-    Tells(
+    Reports(
         "kadm add --db db --name u --random",
-        "kadm: waiting for another kadm\n",
+        "kadm: waiting for another kadm to finish\n",
     ),
     KeepFor(100),
-    Tells(
+    Reports(
         "kadm remove --db db --name u",
-        "kadm: waiting for another kadm\n",
+        "kadm: waiting for another kadm to finish\n",
     ),
     KeepFor(101),
     Copy("db", "before"),
     Leaves("kadm migrate --db db", "refused Locked\n", REFUSED),
-    Tells("kadm migrate --db db", ""),
+    Reports("kadm migrate --db db", ""),
 ];
 
 #[test]
@@ -437,16 +439,16 @@ const SPELLINGS: &[Step] = &[
         "kadm show --db db --name andré/ü",
         "refused BadName\n",
         "\
-kadm: andré/ü: no name is written so; it stands without @REALM
+kadm: andré/ü: this is not the name of a principal; write it without @REALM
 kadm: write 'é' as \\c3\\a9
 kadm: write 'ü' as \\c3\\bc
 ",
     ),
     Run("kadm --version", "kadm 0.1.0\n", DONE),
-    IsAtFault("kadm list --db db --version", "--version"),
+    IsUsageError("kadm list --db db --version", "--version"),
 ];
 
 #[test]
-fn a_name_at_fault_is_spelled(rt: HostRuntime) -> io::Result<()> {
+fn an_invalid_name_is_explained(rt: HostRuntime) -> io::Result<()> {
     run(&rt, rt.alloc(), SPELLINGS)
 }

@@ -1,5 +1,5 @@
-//! The tests of keytabs and credential caches, of the administration tool, and of its files. They are a crate of their
-//! own because a crate with tests is proved twice.
+//! Tests of keytabs and credential caches, of the administration tool, and of its files. They are a crate of their own
+//! because a crate with tests is proved twice.
 #![tactic(auto)]
 
 #[cfg(test)]

@@ -1,4 +1,4 @@
-//! The contents of a row: policies with seconds and with dates, types of keys, and keytabs with older keys.
+//! Tests of the contents of a row: policies with seconds and dates, types of keys, and keytabs with older keys.
 use crate::commands::INIT;
 use crate::steps::Step::{
     Contains, Copy, FailsAtEach, Holds, NamesFields, Put, Refuses, Run, Same,
@@ -14,7 +14,7 @@ use std::test::Fail;
 
 const SHOW: &str = "kadm show --db db --name u";
 
-/// By `date -u -d DATE +%s`: 1798761600 is 2027-01-01, 1798804800 twelve hours later, 951827696 a leap day's.
+/// By `date -u -d DATE +%s`: 1798761600 is 2027-01-01, 1798804800 is twelve hours later, 951827696 is on a leap day.
 const SHOWN: &str = "\
 disabled false
 expires 1798761600 2027-01-01T00:00:00Z
@@ -95,8 +95,8 @@ fn a_row_shows_its_policy_and_its_versions(rt: HostRuntime) -> io::Result<()> {
     run(&rt, rt.alloc(), POLICIES)
 }
 
-/// The octets that ChaCha20 gives under the seed, as Python's `cryptography` computes them: 32 for type 20, and of the
-/// next 32 the first 16 for type 17.
+/// The bytes of ChaCha20 under the seed, computed by Python's `cryptography`: 32 for type 20, and the first 16 of the
+/// next 32 for type 17.
 const DRAWN: &str = "\
         [{\"etype\":20,\"key\":\"f400927857aaf64114f561baacb379708c79a1dc1476ab573216a4020764bde5\"},{\"etype\":17,\
         \"key\":\"45c143dbb9609c22ab855d60925a9976\"}]";
@@ -123,7 +123,7 @@ const VERSIONS: &[Step] = &[
 ];
 
 #[test]
-fn keys_are_of_the_types_that_are_named(rt: HostRuntime) -> io::Result<()> {
+fn keys_have_the_types_asked_for(rt: HostRuntime) -> io::Result<()> {
     run(&rt, rt.alloc(), VERSIONS)
 }
 
@@ -166,12 +166,12 @@ fn expect_versions(rt: &impl Abort, alloc: Global, octets: &[u8]) -> Result<(), 
     Ok(())
 }
 
-/// An entry of `h` in `A.B`, version 1, with a key of type 23 of 16 octets, at a time that is not zero.
+/// An entry of `h` in `A.B`, version 1, with a key of type 23 of 16 bytes, and a time that is not zero.
 const OTHER_TYPE: &[u8] = b"\
         \x05\x02\x00\x00\x00\x2b\x00\x01\x00\x03A.B\x00\x01h\x00\x00\x00\x01\x65\x92\x00\x80\x01\x00\x17\x00\x10\x00\
         \x01\x02\x03\x04\x05\x06\x07\x08\x09\x0a\x0b\x0c\x0d\x0e\x0f\x00\x00\x00\x01";
 
-/// That entry, the end, and what stands behind it.
+/// That entry, the end of the keytab, and bytes after the end.
 const OLD: &[u8] = b"\
         \x05\x02\x00\x00\x00\x2b\x00\x01\x00\x03A.B\x00\x01h\x00\x00\x00\x01\x65\x92\x00\x80\x01\x00\x17\x00\x10\x00\
         \x01\x02\x03\x04\x05\x06\x07\x08\x09\x0a\x0b\x0c\x0d\x0e\x0f\x00\x00\x00\x01\x00\x00\x00\x00behind";
@@ -188,9 +188,9 @@ const APPENDED_TO_OLD: &[Step] = &[
 ];
 
 #[test]
-fn a_keytab_keeps_what_it_has_octet_by_octet(rt: HostRuntime) -> io::Result<()> {
+fn a_keytab_keeps_its_entries_byte_by_byte(rt: HostRuntime) -> io::Result<()> {
     let made = file_after(&rt, rt.alloc(), APPENDED_TO_OLD, "kt")?;
-    // the entry of `u` has as many octets as that of `h`
+    // the entries of `u` and `h` have the same length
     assert_eq!(&rt; made.len(), OTHER_TYPE.len() + 47);
     assert!(&rt; made.starts_with(OTHER_TYPE));
     Ok(())
@@ -219,7 +219,7 @@ const NO_KEYTABS: &[Step] = &[
     Holds("kt", b"\x05\x02\x00"),
 ];
 
-/// A lock stands beside what a command took for a database.
+/// A keytab replaces no file with a lock beside it, no copy of a database and no lock.
 const DATABASES: &[Step] = &[
     Run(INIT, "ok\n", DONE),
     Run("kadm random --db db --name u --seed seed", "ok\n", DONE),
@@ -236,7 +236,7 @@ const DATABASES: &[Step] = &[
         REFUSED,
     ),
     Holds("other", b"{}"),
-    // a copy of a database, and locks, also of no database
+    // a copy of a database, and locks, even if there is no database
     Copy("db", "copy"),
     Run(
         "kadm keytab --db db --name u --out copy",
@@ -255,7 +255,7 @@ const DATABASES: &[Step] = &[
         "refused IsLock\n",
         REFUSED,
     ),
-    // an empty file is replaced, and so is a keytab
+    // an empty file and a keytab are replaced
     Put("kt", b""),
     Run("kadm keytab --db db --name u --out kt", "ok\n", DONE),
     Run("kadm keytab --db db --name u --out locks", "ok\n", DONE),
@@ -270,12 +270,12 @@ fn a_database_is_not_replaced_by_a_keytab(rt: HostRuntime) -> io::Result<()> {
 }
 
 #[test]
-fn what_is_no_keytab_is_left(rt: HostRuntime) -> io::Result<()> {
+fn a_file_that_is_not_a_keytab_is_left(rt: HostRuntime) -> io::Result<()> {
     run(&rt, rt.alloc(), NO_KEYTABS)
 }
 
-/// A principal comes back out of a keytab with its keys in both versions, so that the database is the same, octet by
-/// octet.
+/// A principal that is removed and imported has its keys in both versions again: the database is the same, byte by
+/// byte.
 const IMPORTED: &[Step] = &[
     Run(INIT, "ok\n", DONE),
     Run("kadm random --db db --name h --seed seed", "ok\n", DONE),
@@ -293,17 +293,17 @@ const IMPORTED: &[Step] = &[
     Refuses(
         "kadm import --db db --name x --keytab kt",
         "refused NoKeys\n",
-        "kadm: kt: it has no key of the principal in this realm, or one of version 0\n",
+        "kadm: kt: it has no key of the principal in this realm with the types asked for, or one of version 0\n",
     ),
     Refuses(
         "kadm import --db db --name h --keytab other",
         "refused NoKeys\n",
-        "kadm: other: it has no key of the principal in this realm, or one of version 0\n",
+        "kadm: other: it has no key of the principal in this realm with the types asked for, or one of version 0\n",
     ),
     Refuses(
         "kadm import --db db --name krbtgt/A.B --keytab pass",
         "refused BadMagic\n",
-        "kadm: pass: it is no keytab of version 2\n",
+        "kadm: pass: this is not a keytab of version 2\n",
     ),
     FailsAtEach("kadm import --db db --name h --keytab kt", 4),
     Run("kadm import --db db --name h --keytab kt", "ok\n", DONE),

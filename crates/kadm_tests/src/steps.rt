@@ -1,7 +1,6 @@
-//! Steps over files in memory: command lines, and what happens beside them, each with its expected result.
+//! Runs the steps of a test over files in memory: command lines and changes around them, each with its expected result.
 //!
-//! A store is dropped only in `file_after`, and everything else borrows it: proofs about a drop take long at each
-//! place.
+//! Only `file_after` drops a store, and everything else borrows it: each place with a drop takes long to prove.
 use file_store::{LONGEST_FILE, MemoryStore};
 use kadm_run::kadm_run;
 use principal_rows::Policy;
@@ -19,56 +18,58 @@ pub const USAGE: u8 = 2;
 
 pub const FAILED: u8 = 3;
 
-/// What is done with a store, or is looked at in it.
+/// A step of a test: a command line, a change of the store, or a check of the store.
 #[derive(Clone, Copy, Debug)]
 pub enum Step {
-    /// A command line, whose words stand between spaces, prints this and has this status.
+    /// A command line, split at spaces, prints this and has this status.
     Run(&'static str, &'static str, u8),
-    /// A command line is done, prints `ok`, and writes this to standard error.
-    Tells(&'static str, &'static str),
-    /// The same as `Run`, and it leaves `db` as `before` is.
+    /// A command line succeeds, prints `ok`, and writes this to standard error.
+    Reports(&'static str, &'static str),
+    /// The same as `Run`, and afterwards `db` is equal to `before`.
     Leaves(&'static str, &'static str, u8),
-    /// A command line is refused so, writes this to standard error, and leaves `db` as `before` is.
+    /// A command line is refused: it prints the first text, writes the second one to standard error, and afterwards
+    /// `db` is equal to `before`.
     Refuses(&'static str, &'static str, &'static str),
-    /// So does a command line at each of so many calls of the store, if that call fails.
+    /// If any one of this many calls of the store fails, the command line has `failed`, and afterwards `db` is equal to
+    /// `before`.
     FailsAtEach(&'static str, u32),
-    /// A command line that ends early writes this to standard error.
+    /// A command line that doesn't succeed writes this to standard error.
     Says(&'static str, &'static str),
-    /// A command line is at fault, and what is printed has this in it.
-    IsAtFault(&'static str, &'static str),
-    /// What a command line prints has the name of each field of a policy in it.
+    /// A command line is a usage error, and prints a text that contains this.
+    IsUsageError(&'static str, &'static str),
+    /// A command line prints the name of each field of a policy.
     NamesFields(&'static str),
-    /// A file is made of these octets.
+    /// Makes a file with these bytes.
     Put(&'static str, &'static [u8]),
-    /// A file is made that is longer than the longest that is read.
+    /// Makes a file that is one byte too long to be read.
     PutTooLong(&'static str),
-    /// The second file is made of what the first one holds.
+    /// Copies the first file to the second one.
     Copy(&'static str, &'static str),
-    /// These octets are the input that is left. It is a terminal's, or not.
+    /// Sets the rest of standard input, and whether it is a terminal.
     Input(&'static [u8], bool),
-    /// So many letters `a` are the input that is left.
+    /// Sets the rest of standard input to this many letters `a`.
     Letters(usize),
-    /// What the system draws is octets 7.
+    /// Makes the system draw bytes 7.
     Draw,
-    /// The system's clock stands at this second since 1970.
+    /// Sets the system's clock, in seconds since 1970.
     Clock(u64),
-    /// Another program has the lock of each file.
+    /// Lets another program hold the lock of each file.
     Keep,
-    /// Another program has it for so many pauses.
+    /// Lets another program hold the locks for this many pauses.
     KeepFor(u32),
-    /// Two files hold the same.
+    /// Two files are equal.
     Same(&'static str, &'static str),
-    /// A file holds these octets.
+    /// A file holds these bytes.
     Holds(&'static str, &'static [u8]),
-    /// A file has this text in it.
+    /// A file contains this text.
     Contains(&'static str, &'static str),
     /// There is no such file.
     Absent(&'static str),
-    /// All that was asked at the terminal.
+    /// The terminal was asked this in all.
     Asked(&'static str),
 }
 
-/// What a command line came to.
+/// The outcome of a command line.
 #[derive(Drop)]
 struct Ended {
     written: Vec<u8>,
@@ -76,7 +77,7 @@ struct Ended {
     status: u8,
 }
 
-/// A store with a seed of 40 octets 7, a short one, and two passwords, the second too long.
+/// Returns a store with a seed of 40 bytes 7, a short seed, a password, and one that is too long.
 fn store(alloc: Global) -> Result<MemoryStore, AllocError> {
     let mut store = MemoryStore::new(alloc);
     fill(alloc, &mut store)?;
@@ -121,7 +122,7 @@ fn expect_run(
     let ended = run_line(alloc, store, line)?;
     assert_eq!(rt; text(&ended.written), printed, "{line}");
     assert_eq!(rt; ended.status, status, "{line}");
-    // what is not done is told beside, but for a fault of the words
+    // a command that fails writes to standard error, except for a usage error
     assert!(rt;
         status == DONE || ended.errors.is_empty() == (status == USAGE),
         "{line}"
@@ -129,7 +130,7 @@ fn expect_run(
     Ok(())
 }
 
-fn expect_told(
+fn expect_report(
     rt: &impl Abort,
     alloc: Global,
     store: &mut MemoryStore,
@@ -199,7 +200,7 @@ fn expect_error(
     Ok(())
 }
 
-fn expect_fault(
+fn expect_usage_error(
     rt: &impl Abort,
     alloc: Global,
     store: &mut MemoryStore,
@@ -212,7 +213,7 @@ fn expect_fault(
     Ok(())
 }
 
-/// Whether a text has this word, which commas and other marks may stand beside.
+/// Checks whether a text has this word, between commas or other marks.
 fn has_word(text: &str, word: &str) -> bool {
     text.split(|mark: char| !mark.is_ascii_lowercase() && mark != '_')
         .any(|found| found == word)
@@ -236,7 +237,7 @@ fn put_too_long(alloc: Global, store: &mut MemoryStore, path: &str) -> io::Resul
     Ok(store.set(alloc, path, &octets)?)
 }
 
-/// What a file holds. No octets where there is none.
+/// Returns the content of a file; nothing if it is absent.
 fn copy_of(alloc: Global, store: &MemoryStore, path: &str) -> Result<Vec<u8>, AllocError> {
     Vec::from_slice(alloc, store.get(path).unwrap_or(&[]))
 }
@@ -272,16 +273,16 @@ fn contains(store: &MemoryStore, path: &str, said: &str) -> bool {
     }
 }
 
-/// Does what a step says to a store. A command line is looked at here too.
+/// Does a step, and checks the result of a command line.
 fn do_step(rt: &impl Abort, alloc: Global, store: &mut MemoryStore, step: Step) -> io::Result<()> {
     match step {
         Step::Run(line, printed, status) => expect_run(rt, alloc, store, line, printed, status),
-        Step::Tells(line, said) => expect_told(rt, alloc, store, line, said),
+        Step::Reports(line, said) => expect_report(rt, alloc, store, line, said),
         Step::Leaves(line, printed, status) => expect_left(rt, alloc, store, line, printed, status),
         Step::Refuses(line, printed, said) => expect_refusal(rt, alloc, store, line, printed, said),
         Step::FailsAtEach(line, calls) => expect_failures(rt, alloc, store, line, calls),
         Step::Says(line, said) => expect_error(rt, alloc, store, line, said),
-        Step::IsAtFault(line, said) => expect_fault(rt, alloc, store, line, said),
+        Step::IsUsageError(line, said) => expect_usage_error(rt, alloc, store, line, said),
         Step::NamesFields(line) => expect_fields(rt, alloc, store, line),
         Step::PutTooLong(path) => put_too_long(alloc, store, path),
         Step::Copy(from, to) => copy(alloc, store, from, to),
@@ -292,7 +293,7 @@ fn do_step(rt: &impl Abort, alloc: Global, store: &mut MemoryStore, step: Step) 
     }
 }
 
-/// Does of these steps what can't fail.
+/// Does the steps that can't fail.
 fn set(store: &mut MemoryStore, step: Step) {
     match step {
         Step::Draw => store.set_random([7; 32]),
@@ -303,7 +304,7 @@ fn set(store: &mut MemoryStore, step: Step) {
     }
 }
 
-/// Whether a store is as a step says, if the step says how it is.
+/// Checks a store, if the step is a check of it.
 fn is_so(store: &MemoryStore, step: Step) -> bool {
     match step {
         Step::Same(path, other) => are_same(store, path, other),
@@ -328,7 +329,7 @@ fn do_steps(
     Ok(())
 }
 
-/// Does the steps, and gives what a file holds then.
+/// Does the steps, and returns what a file holds after them.
 pub fn file_after(
     rt: &impl Abort,
     alloc: Global,

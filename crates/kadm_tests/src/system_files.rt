@@ -1,4 +1,4 @@
-//! The store over the system's files (`file_store`). Each test removes its files at the end.
+//! Tests of the store over the system's files (`file_store`). Each test removes its files at the end.
 use file_store::{FileStore, Store};
 use std::fs::Permissions;
 use std::os::unix::fs::{MetadataExt, PermissionsExt};
@@ -13,7 +13,7 @@ const LIMITED: &str = "tested.limited";
 
 const LOCKED: &str = "tested.locked";
 
-/// What a file holds that was written twice, and the rights on it.
+/// Returns the content and the mode of a file that was written twice.
 fn written_twice(rt: &HostRuntime) -> io::Result<(Option<Vec<u8>>, u32)> {
     let mut store = FileStore::new(rt);
     store.write(rt.alloc(), WRITTEN, b"first, and longer")?;
@@ -23,7 +23,7 @@ fn written_twice(rt: &HostRuntime) -> io::Result<(Option<Vec<u8>>, u32)> {
 }
 
 #[test]
-fn a_file_that_is_written_anew_is_its_owners_alone(rt: HostRuntime) -> Result<(), Fail> {
+fn a_written_file_has_mode_600(rt: HostRuntime) -> Result<(), Fail> {
     let (octets, rights) = written_twice(&rt)?;
     fs::remove_file(&rt, WRITTEN)?;
     assert!(rt; octets.is_some_and(|octets| octets.as_slice() == b"second".as_slice()));
@@ -31,8 +31,8 @@ fn a_file_that_is_written_anew_is_its_owners_alone(rt: HostRuntime) -> Result<()
     Ok(())
 }
 
-/// The rights on a file that others may read, after it is updated, and after it is written anew.
-fn rights_after(rt: &HostRuntime) -> io::Result<[u32; 2]> {
+/// Returns the mode of a file that others may read, after it is updated, and after it is written anew.
+fn modes_after(rt: &HostRuntime) -> io::Result<[u32; 2]> {
     let mut store = FileStore::new(rt);
     store.update(rt.alloc(), UPDATED, b"first")?;
     fs::set_permissions(rt, UPDATED, Permissions::from_mode(0o644))?;
@@ -43,8 +43,8 @@ fn rights_after(rt: &HostRuntime) -> io::Result<[u32; 2]> {
 }
 
 #[test]
-fn a_file_that_is_updated_keeps_its_rights(rt: HostRuntime) -> Result<(), Fail> {
-    let rights = rights_after(&rt)?;
+fn an_updated_file_keeps_its_mode(rt: HostRuntime) -> Result<(), Fail> {
+    let rights = modes_after(&rt)?;
     fs::remove_file(&rt, UPDATED)?;
     assert_eq!(rt; rights, [0o644, 0o600]);
     Ok(())
@@ -52,7 +52,7 @@ fn a_file_that_is_updated_keeps_its_rights(rt: HostRuntime) -> Result<(), Fail> 
 
 const BEGUN: &str = "tested.begun";
 
-/// The first octets of a file that is absent, one that is empty, and one that has three.
+/// Returns the first byte of an absent file, of an empty one, and of one with three bytes.
 fn first_octets(rt: &HostRuntime) -> io::Result<[Option<u8>; 3]> {
     let mut store = FileStore::new(rt);
     let absent = store.first_octet(rt.alloc(), BEGUN)?;
@@ -63,7 +63,7 @@ fn first_octets(rt: &HostRuntime) -> io::Result<[Option<u8>; 3]> {
 }
 
 #[test]
-fn the_first_octet_is_that_of_a_file(rt: HostRuntime) -> Result<(), Fail> {
+fn the_first_byte_of_a_file_is_read(rt: HostRuntime) -> Result<(), Fail> {
     let octets = first_octets(&rt)?;
     fs::remove_file(&rt, BEGUN)?;
     assert!(rt; octets == [None, None, Some(5)]);
@@ -80,7 +80,7 @@ fn a_device_is_not_replaced(rt: HostRuntime) -> Result<(), Fail> {
     Ok(())
 }
 
-/// Whether a file of six octets is taken, with a limit of so many.
+/// Checks whether a file of six bytes is read under a limit.
 fn is_taken(rt: &HostRuntime, most: usize) -> io::Result<bool> {
     let mut store = FileStore::new(rt);
     store.write(rt.alloc(), LIMITED, b"octets")?;
@@ -95,14 +95,14 @@ fn a_file_past_its_limit_is_refused(rt: HostRuntime) -> Result<(), Fail> {
     Ok(())
 }
 
-/// Whether one store gets a file to itself, and another one meanwhile, and behind it.
+/// Returns whether one store gets a lock, and whether a second one gets it meanwhile and after the first is dropped.
 fn locks(rt: &HostRuntime) -> io::Result<[bool; 3]> {
     let mut second = FileStore::new(rt);
     let (is_first, is_second) = locks_beside(rt, &mut second)?;
     Ok([is_first, is_second, second.lock(rt.alloc(), LOCKED)?])
 }
 
-/// Whether a store gets it that is let go in the end, and the other one meanwhile.
+/// Returns whether a store gets the lock, and whether the other one gets it meanwhile. Then the first store is dropped.
 fn locks_beside(
     rt: &HostRuntime,
     second: &mut FileStore<'_, HostRuntime>,
@@ -113,7 +113,7 @@ fn locks_beside(
 }
 
 #[test]
-fn a_file_is_one_stores_until_it_is_let_go(rt: HostRuntime) -> Result<(), Fail> {
+fn a_lock_belongs_to_one_store_until_it_is_dropped(rt: HostRuntime) -> Result<(), Fail> {
     let locks = locks(&rt)?;
     fs::remove_file(&rt, "tested.locked.lock")?;
     assert_eq!(rt; locks, [true, false, true]);

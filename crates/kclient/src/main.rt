@@ -2,10 +2,12 @@
 //! lists them.
 #![tactic(auto)]
 
+use client_files::{Defaults, Variable};
 use client_login::{KdcClient, Kdcs, Transports};
 use client_sockets::{SocketExchange, now};
 use file_store::FileStore;
-use kclient_run::{Context, Defaults, FAILED, USAGE, Variable, kclient_run};
+use kclient_run::{Context, FAILED, USAGE, kclient_run};
+use krb_fields::Moment;
 use std::alloc::AllocError;
 use std::env::VarError;
 use std::process::ExitCode;
@@ -37,57 +39,61 @@ impl From<AllocError> for Fault {
     }
 }
 
+/// What a command is given: the moment, its words, and two variables of the environment.
+#[derive(Drop)]
+struct Given {
+    at: Moment,
+    args: Vec<String>,
+    cache: Result<String, VarError>,
+    config: Result<String, VarError>,
+}
+
+impl Given {
+    fn read(rt: &HostRuntime) -> Result<Given, Fault> {
+        Ok(Given {
+            at: now(rt).map_err(Fault::Clock)?,
+            args: env::args(rt).map_err(Fault::Args)?.collect(rt.alloc())?,
+            cache: env::var(rt, "KRB5CCNAME"),
+            config: env::var(rt, "KRB5_CONFIG"),
+        })
+    }
+
+    fn defaults(&self) -> Result<Defaults<'_>, Fault> {
+        Ok(Defaults {
+            cache: Variable::new(&self.cache)?,
+            config: Variable::new(&self.config)?,
+        })
+    }
+}
+
 fn main(rt: HostRuntime) -> ExitCode {
-    match run(&rt) {
-        Ok(status) => ExitCode::from(status),
-        // if these can't be written, there is nowhere to report it
-        Err(Fault::Args(error)) if error.kind() == io::ErrorKind::InvalidData => {
+    let given = match Given::read(&rt) {
+        Ok(given) => given,
+        Err(fault) => return ended(&rt, fault),
+    };
+    let defaults = match given.defaults() {
+        Ok(defaults) => defaults,
+        Err(fault) => return ended(&rt, fault),
+    };
+    let exchange = SocketExchange::new(&rt);
+    let kdcs = Kdcs::new(exchange, Vec::new(rt.alloc()), Transports::UdpFirst);
+    let client = KdcClient { kdcs, at: given.at };
+    let mut context = Context::new(rt.alloc(), FileStore::new(&rt), client);
+    let args = given.args.as_slice();
+    ExitCode::from(kclient_run(&mut context, args, &defaults, rt.stdout(), rt.stderr()))
+}
+
+/// Reports why the command line can't be used. If that can't be written, there is nowhere to report it.
+fn ended(rt: &HostRuntime, fault: Fault) -> ExitCode {
+    match fault {
+        Fault::Args(error) if error.kind() == io::ErrorKind::InvalidData => {
             let _ = println!(rt; "error: a word is not UTF-8");
             ExitCode::from(USAGE)
         }
-        Err(fault) => {
+        fault => {
             let _ = println!(rt; "failed");
             let _ = eprintln!(rt; "kclient: {fault}");
             ExitCode::from(FAILED)
         }
-    }
-}
-
-/// Runs the program and returns its status.
-fn run(rt: &HostRuntime) -> Result<u8, Fault> {
-    let at = now(rt).map_err(Fault::Clock)?;
-    let alloc = rt.alloc();
-    let args: Vec<String> = env::args(rt).map_err(Fault::Args)?.collect(alloc)?;
-    let cache = env::var(rt, "KRB5CCNAME");
-    let config = env::var(rt, "KRB5_CONFIG");
-    let defaults = Defaults {
-        cache: variable(&cache)?,
-        config: variable(&config)?,
-    };
-    let exchange = SocketExchange::new(rt);
-    let kdcs = Kdcs::new(exchange, Vec::new(alloc), Transports::UdpFirst);
-    let mut context = Context {
-        alloc,
-        store: FileStore::new(rt),
-        client: KdcClient { kdcs, at },
-        ahead: None,
-    };
-    Ok(kclient_run(
-        &mut context,
-        args.as_slice(),
-        &defaults,
-        rt.stdout(),
-        rt.stderr(),
-    ))
-}
-
-/// Returns the variable of the environment for this result of reading it.
-fn variable(read: &Result<String, VarError>) -> Result<Variable<'_>, Fault> {
-    match read {
-        Ok(value) if value.is_empty() => Ok(Variable::Absent),
-        Ok(value) => Ok(Variable::Text(value.as_str())),
-        Err(VarError::NotPresent) => Ok(Variable::Absent),
-        Err(VarError::NotUnicode) => Ok(Variable::NotUtf8),
-        Err(VarError::OutOfMemory) => Err(Fault::Memory),
     }
 }

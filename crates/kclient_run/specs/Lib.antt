@@ -1,3 +1,1 @@
-pub mod Caches
-pub mod Holding
 pub mod Opening

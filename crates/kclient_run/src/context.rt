@@ -1,7 +1,7 @@
 //! The context of a command.
-use crate::faults::Stop;
+use client_files::{Fault, login_fault};
 use client_login::{KdcClient, LoginFault};
-use std::alloc::Global;
+use std::alloc::{AllocError, Global};
 
 /// What a command uses besides its words: memory, files, and a client of KDCs, whose addresses the command finds.
 #[derive(Drop)]
@@ -9,21 +9,74 @@ pub struct Context<T, X> {
     pub alloc: Global,
     pub store: T,
     pub client: KdcClient<X>,
-    /// By how many seconds the KDC's clock is ahead, if the command uses the KDC's time instead of its own.
-    pub ahead: Option<i64>,
+    /// Lines for standard error, besides that of the fault that ends the command.
+    notes: String,
+    /// Whether the command uses the KDC's time instead of its own.
+    has_kdc_time: bool,
 }
 
 impl<T, X> Context<T, X> {
-    /// Takes the time of a KDC that refuses because the clocks differ, once per command. Otherwise the fault ends the
-    /// command.
-    pub(crate) fn take_clock(&mut self, fault: LoginFault) -> Result<(), Stop> {
-        if self.ahead.is_some() {
-            return Err(Stop::from(fault));
+    pub fn new(alloc: Global, store: T, client: KdcClient<X>) -> Context<T, X> {
+        Context {
+            alloc,
+            store,
+            client,
+            notes: String::new(alloc),
+            has_kdc_time: false,
         }
-        self.ahead = self.client.take_clock(fault.why);
-        if self.ahead.is_none() {
-            return Err(Stop::from(fault));
-        }
-        Ok(())
     }
+
+    /// Begins a command: forgets what the one before noted.
+    pub(crate) fn begin(&mut self) {
+        self.notes.clear();
+        self.has_kdc_time = false;
+    }
+
+    pub(crate) fn notes(&self) -> &str {
+        self.notes.as_str()
+    }
+
+    /// Notes hosts that are not asked because their addresses are unknown.
+    pub(crate) fn note_unknown(&mut self, hosts: &str) -> Result<(), AllocError> {
+        if hosts.is_empty() {
+            return Ok(());
+        }
+        writeln!(
+            self.notes,
+            "kclient: {hosts}: no address is known, so it is not asked"
+        )
+    }
+
+    /// Notes which of several names ended the command.
+    pub(crate) fn note_name(&mut self, name: &str) -> Result<(), AllocError> {
+        let word = if name.is_empty() { "--name" } else { name };
+        writeln!(self.notes, "kclient: {word}: this name ended the command")
+    }
+
+    /// Takes the time of a KDC that refuses because the clocks differ, once per command. Otherwise the fault ends the
+    /// command; `source` is the file with the keys of the request.
+    pub(crate) fn take_clock(&mut self, source: &str, fault: LoginFault) -> Result<(), Fault> {
+        if !self.has_kdc_time
+            && let Some(ahead) = self.client.take_clock(fault.why)
+        {
+            self.has_kdc_time = true;
+            return Ok(note_clock(&mut self.notes, ahead)?);
+        }
+        Err(self.fault(source, fault))
+    }
+
+    /// Returns the fault for a login that got no ticket. `source` is the file with the keys of the request.
+    pub(crate) fn fault(&self, source: &str, fault: LoginFault) -> Fault {
+        login_fault(self.alloc, &self.client.kdcs, source, fault)
+    }
+}
+
+/// Notes by how many seconds the KDC's clock is ahead.
+fn note_clock(notes: &mut String, ahead: i64) -> Result<(), AllocError> {
+    let seconds = ahead.unsigned_abs();
+    let way = if ahead < 0 { "behind" } else { "ahead of" };
+    writeln!(
+        notes,
+        "kclient: the KDC's clock is {seconds} seconds {way} this computer's: the KDC's time was taken"
+    )
 }

@@ -1,119 +1,83 @@
 //! `klist`: lists a credential cache or a keytab. `kdestroy`: removes a cache.
-ghost use Rattle.std.specs.Prelude.{◌≤◌, IfOk};
-
-use crate::args::KlistArgs;
-use crate::caches::{read_cache, remove_cache};
 use crate::context::Context;
-use crate::fault_args::{MEMORY, Subject};
-use crate::faults::{Place, Stop};
-use crate::files::read_keytab;
-use crate::guarding::CacheStore;
-use crate::holding::good_credential;
 use crate::listing::{lines_of_cache, lines_of_keytab};
-use crate::places::Places;
-use crate::reporting::report;
-use crate::run::{DONE, FAILED, REFUSED, print_done};
+use crate::places::cache_path;
+use crate::run::{Printed, Status};
+use crate::words::keytab_path;
+use clap::ArgMatches;
+use client_files::{
+    Cause, ClientStore, Defaults, Fault, good_credential, read_cache, read_keytab, remove_cache,
+};
 use client_login::granting_service;
 use krb_fields::Moment;
 use std::alloc::Global;
-use std::io;
-use std::io::Write;
 
-/// Lists a keytab, or else a cache.
-pub(crate) fn run_klist<T: CacheStore, X, W: Write, E: Write>(
+const SILENT_KEYTAB: &str = "-s and --keytab don't go together";
+
+const TWO_FILES: &str = "--cache and --keytab don't go together";
+
+/// Lists a keytab, or else a cache. It prints no line before all are known.
+pub(crate) fn list<T: ClientStore, X>(
     context: &mut Context<T, X>,
-    places: &Places,
-    args: &KlistArgs<'_>,
-    out: &mut W,
-    errors: &mut E,
-) -> io::Result<u8>
-    ensures { IfOk result (λ status. status ≤ 3) }
-{
+    options: &ArgMatches<'_>,
+    defaults: &Defaults<'_>,
+) -> Result<Printed, Fault> {
     let alloc = context.alloc;
-    if let Some(path) = args.keytab {
-        let lines = list_keytab(alloc, &mut context.store, path);
-        return print(out, errors, path, lines);
+    if let Some(path) = keytab_path(options)? {
+        check_alone(options)?;
+        let keytab = read_keytab(alloc, &mut context.store, path)?;
+        return Ok(Printed::done(lines_of_keytab(alloc, &keytab)?));
     }
-    let path = places.cache.as_str();
-    if args.silent {
+    let path = cache_path(alloc, &mut context.store, options, defaults)?;
+    if options.get_flag("s") {
         let at = context.client.at;
-        return Ok(status_of(has_good_ticket(alloc, &mut context.store, path, at)));
+        let found = has_good_ticket(alloc, &mut context.store, path.as_str(), at);
+        return Ok(Printed::silent(alloc, status_of(&found)));
     }
-    let lines = list_cache(alloc, &mut context.store, path);
-    print(out, errors, path, lines)
+    let cache = read_cache(alloc, &mut context.store, path.as_str())?;
+    Ok(Printed::done(lines_of_cache(alloc, &cache)?))
+}
+
+/// Checks that no option of a cache stands beside a keytab.
+fn check_alone(options: &ArgMatches<'_>) -> Result<(), Fault> {
+    if options.get_flag("s") {
+        return Err(Fault::usage(SILENT_KEYTAB));
+    }
+    if options.get_str("cache").is_some() {
+        return Err(Fault::usage(TWO_FILES));
+    }
+    Ok(())
 }
 
 /// Checks whether a cache has a ticket-granting ticket that can be used.
-fn has_good_ticket<T: CacheStore>(
+fn has_good_ticket<T: ClientStore>(
     alloc: Global,
     store: &mut T,
     path: &str,
     at: Moment,
-) -> Result<bool, Stop> {
+) -> Result<bool, Fault> {
     let cache = read_cache(alloc, store, path)?;
     let service = granting_service(alloc, &cache.principal().realm)?;
     Ok(good_credential(&cache, &service, at).is_some())
 }
 
-/// Returns only the status, as MIT's `klist -s` does. A cache that is missing or can't be read counts as one without a
+/// Returns the status of `klist -s`, as MIT's has it. A cache that is missing or can't be read counts as one without a
 /// ticket.
-fn status_of(found: Result<bool, Stop>) -> u8
-    ensures { result ≤ 3 }
-{
+fn status_of(found: &Result<bool, Fault>) -> Status {
     match found {
-        Ok(true) => DONE,
-        Err(Stop::Failed(_, Place::Memory)) => FAILED,
-        _ => REFUSED,
+        Ok(true) => Status::Done,
+        Err(fault) if matches!(fault.cause, Cause::Memory) => Status::Failed,
+        _ => Status::Refused,
     }
 }
 
 /// Removes a cache.
-pub(crate) fn run_kdestroy<T: CacheStore, X, W: Write, E: Write>(
+pub(crate) fn destroy<T: ClientStore, X>(
     context: &mut Context<T, X>,
-    places: &Places,
-    out: &mut W,
-    errors: &mut E,
-) -> io::Result<u8>
-    ensures { IfOk result (λ status. status ≤ 3) }
-{
-    let path = places.cache.as_str();
-    match remove_cache(&mut context.store, path) {
-        Ok(()) => print_done(out),
-        Err(stop) => report(out, errors, subject_of(stop, path), 0, stop),
-    }
-}
-
-fn list_cache<T: CacheStore>(alloc: Global, store: &mut T, path: &str) -> Result<String, Stop> {
-    let cache = read_cache(alloc, store, path)?;
-    Ok(lines_of_cache(alloc, &cache)?)
-}
-
-fn list_keytab<T: CacheStore>(alloc: Global, store: &mut T, path: &str) -> Result<String, Stop> {
-    let keytab = read_keytab(alloc, store, path)?;
-    Ok(lines_of_keytab(alloc, &keytab)?)
-}
-
-/// Prints the lines, or why there are none. It prints no line before all are known.
-fn print<W: Write, E: Write>(
-    out: &mut W,
-    errors: &mut E,
-    path: &str,
-    lines: Result<String, Stop>,
-) -> io::Result<u8>
-    ensures { IfOk result (λ status. status ≤ 3) }
-{
-    match lines {
-        Ok(lines) => {
-            write!(out, "{lines}")?;
-            Ok(DONE)
-        }
-        Err(stop) => report(out, errors, subject_of(stop, path), 0, stop),
-    }
-}
-
-fn subject_of<'a>(stop: Stop, path: &'a str) -> Subject<'a> {
-    match stop.place() {
-        Place::Memory => MEMORY,
-        _ => Subject::Thing(path),
-    }
+    options: &ArgMatches<'_>,
+    defaults: &Defaults<'_>,
+) -> Result<Printed, Fault> {
+    let path = cache_path(context.alloc, &mut context.store, options, defaults)?;
+    remove_cache(context.alloc, &mut context.store, path.as_str())?;
+    Ok(Printed::ok(context.alloc)?)
 }

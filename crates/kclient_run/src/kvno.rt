@@ -1,240 +1,207 @@
 //! `kvno`: gets tickets for services, one after another.
-use crate::args::KvnoArgs;
-use crate::caches::{granting_ticket, put, write_cache};
 use crate::context::Context;
-use crate::faults::{Place, Reason, Stop};
-use crate::files::read_keytab;
-use crate::guarding::CacheStore;
-use crate::holding::good_credential;
-use crate::kinit::{generator, read_name};
+use crate::kinit::generator;
 use crate::opening::check_ticket;
-use crate::places::Places;
-use client_login::{AnyMessage, LoginFault};
+use crate::places::{cache_path, read_held, use_given_kdcs};
+use crate::run::Printed;
+use crate::words::{keytab_path, read_name};
+use clap::ArgMatches;
+use client_files::{
+    Cause, ClientStore, Defaults, Fault, at, good_credential, granting_ticket, put_credential,
+    read_keytab, write_cache,
+};
+use client_login::{AnyMessage, HostNames};
 use cred_files::{Cache, Credential, Keytab};
 use krb_elements::read;
 use krb_fields::{Moment, Name};
 use krb_types::TicketRef;
 use rand_chacha::ChaCha20Rng;
-use std::alloc::{AllocFailed, Global};
+use std::alloc::Global;
 
-/// Why `kvno` ends early.
-#[derive(Clone, Copy)]
-pub(crate) struct KvnoStop {
-    pub stop: Stop,
-    /// The index of the name at which it ends; absent: it ends at no name.
-    pub index: Option<usize>,
+/// The keytab that has to decrypt each ticket.
+#[derive(Drop)]
+struct Checks {
+    path: String,
+    keytab: Keytab,
 }
 
-impl From<Stop> for KvnoStop {
-    fn from(stop: Stop) -> KvnoStop {
-        KvnoStop { stop, index: None }
-    }
-}
-
-impl<T: Drop> From<AllocFailed<T>> for KvnoStop {
-    fn from(failed: AllocFailed<T>) -> KvnoStop {
-        KvnoStop::from(Stop::from(failed))
-    }
-}
-
-/// Returns the result, or why the command ends at the name with this index.
-fn at_name<T: Drop>(done: Result<T, Stop>, index: usize) -> Result<T, KvnoStop> {
-    match done {
-        Ok(value) => Ok(value),
-        Err(stop) => Err(KvnoStop {
-            stop,
-            index: Some(index),
-        }),
-    }
-}
-
-/// The cache, and what is needed to get and check tickets.
+/// The cache, and what is needed to get and to check tickets.
 #[derive(Drop)]
 struct Wallet {
+    path: String,
     cache: Cache,
-    keytab: Option<Keytab>,
+    checks: Option<Checks>,
     rng: ChaCha20Rng,
+    /// Whether to request each ticket, even if the cache has one that can be used.
+    fresh: bool,
     /// Whether the cache has more than its file.
     is_changed: bool,
 }
 
-/// Gets a ticket for each service, unless the cache has one that can be used, and puts it into the cache. It returns
-/// the key versions of the tickets, in the order of the names.
-pub(crate) fn get_tickets<T: CacheStore, X: AnyMessage>(
+/// Gets a ticket for each service, unless the cache has one that can be used, and puts it into the cache. It prints the
+/// key versions of the tickets, in the order of the names.
+pub(crate) fn get_tickets<T: ClientStore, X: AnyMessage + HostNames>(
     context: &mut Context<T, X>,
-    places: &mut Places,
-    args: &KvnoArgs<'_>,
-    names: &[&str],
-) -> Result<Vec<i64>, KvnoStop> {
-    let services = read_services(context.alloc, names)?;
-    let cache = places.take_held()?;
-    let mut wallet = read_wallet(context.alloc, &mut context.store, cache, args)?;
-    get_and_write(context, places, args.fresh, &mut wallet, &services)
+    options: &ArgMatches<'_>,
+    defaults: &Defaults<'_>,
+) -> Result<Printed, Fault> {
+    let names = options.get_strs("name").unwrap_or(&[]);
+    let keytab = keytab_path(options)?;
+    let path = cache_path(context.alloc, &mut context.store, options, defaults)?;
+    use_given_kdcs(context.alloc, &mut context.client.kdcs, options)?;
+    let services = read_services(context, names)?;
+    let mut wallet = read_wallet(context, options, defaults, path, keytab)?;
+    let mut lines = String::new(context.alloc);
+    for (name, service) in names.iter().zip(&services) {
+        match get_ticket(context, &mut wallet, service) {
+            Ok(version) => push_line(&mut lines, name, version, wallet.checks.is_some())?,
+            Err(fault) => return Err(at_name(context, names, name, fault)),
+        }
+    }
+    write_changed(context.alloc, &mut context.store, &wallet)?;
+    Ok(Printed::done(lines))
 }
 
-fn get_and_write<T: CacheStore, X: AnyMessage>(
+fn read_wallet<T: ClientStore, X: HostNames>(
     context: &mut Context<T, X>,
-    places: &Places,
-    fresh: bool,
-    wallet: &mut Wallet,
-    services: &[Name],
-) -> Result<Vec<i64>, KvnoStop> {
-    let versions = get_each(context, fresh, wallet, services)?;
-    if wallet.is_changed {
-        write_cache(
-            context.alloc,
-            &mut context.store,
-            places.cache.as_str(),
-            &wallet.cache,
-        )?;
-    }
-    Ok(versions)
-}
-
-pub(crate) fn read_services(alloc: Global, names: &[&str]) -> Result<Vec<Name>, KvnoStop> {
-    let mut services = Vec::new(alloc);
-    for (index, name) in names.iter().enumerate() {
-        at_name(add_service(alloc, &mut services, name), index)?;
-    }
-    Ok(services)
-}
-
-fn add_service(alloc: Global, services: &mut Vec<Name>, name: &str) -> Result<(), Stop> {
-    let service = read_name(alloc, name, Place::Name)?;
-    Ok(services.push(service)?)
-}
-
-fn read_wallet<T: CacheStore>(
-    alloc: Global,
-    store: &mut T,
-    cache: Cache,
-    args: &KvnoArgs<'_>,
-) -> Result<Wallet, Stop> {
-    let keytab = read_checking_keytab(alloc, store, args.keytab)?;
-    let rng = generator(alloc, store, args.seed)?;
+    options: &ArgMatches<'_>,
+    defaults: &Defaults<'_>,
+    path: String,
+    keytab: Option<&str>,
+) -> Result<Wallet, Fault> {
+    let cache = read_held(context, defaults, path.as_str())?;
+    let checks = read_checks(context.alloc, &mut context.store, keytab)?;
+    let rng = generator(context.alloc, &mut context.store, options)?;
     Ok(Wallet {
+        path,
         cache,
-        keytab,
+        checks,
         rng,
+        fresh: options.get_flag("fresh"),
         is_changed: false,
     })
 }
 
-fn read_checking_keytab<T: CacheStore>(
+fn write_changed<T: ClientStore>(
+    alloc: Global,
+    store: &mut T,
+    wallet: &Wallet,
+) -> Result<(), Fault> {
+    if !wallet.is_changed {
+        return Ok(());
+    }
+    write_cache(alloc, store, wallet.path.as_str(), &wallet.cache)
+}
+
+fn read_services<T, X>(context: &mut Context<T, X>, names: &[&str]) -> Result<Vec<Name>, Fault> {
+    let mut services = Vec::new(context.alloc);
+    for name in names {
+        match read_name(context.alloc, "--name", name, name) {
+            Ok(service) => services.push(service)?,
+            Err(fault) => return Err(at_name(context, names, name, fault)),
+        }
+    }
+    Ok(services)
+}
+
+/// Notes the name that ends the command, if there are several.
+fn at_name<T, X>(context: &mut Context<T, X>, names: &[&str], name: &str, fault: Fault) -> Fault {
+    if names.len() > 1
+        && let Err(error) = context.note_name(name)
+    {
+        return Fault::from(error);
+    }
+    fault
+}
+
+fn read_checks<T: ClientStore>(
     alloc: Global,
     store: &mut T,
     path: Option<&str>,
-) -> Result<Option<Keytab>, Stop> {
+) -> Result<Option<Checks>, Fault> {
     match path {
-        Some(path) => Ok(Some(read_keytab(alloc, store, path)?)),
+        Some(path) => Ok(Some(Checks {
+            path: String::from_str(alloc, path)?,
+            keytab: read_keytab(alloc, store, path)?,
+        })),
         None => Ok(None),
     }
 }
 
-fn get_each<T, X: AnyMessage>(
-    context: &mut Context<T, X>,
-    fresh: bool,
-    wallet: &mut Wallet,
-    services: &[Name],
-) -> Result<Vec<i64>, KvnoStop> {
-    let mut versions = Vec::new(context.alloc);
-    for (index, service) in services.iter().enumerate() {
-        let got = get_ticket(context, fresh, wallet, service);
-        versions.push(at_name(got, index)?)?;
-    }
-    Ok(versions)
+/// Appends the line of a service. If the keytab has decrypted its ticket, the line says so.
+fn push_line(lines: &mut String, name: &str, version: i64, opened: bool) -> Result<(), Fault> {
+    let more = if opened { OPENED } else { "" };
+    Ok(writeln!(lines, "{name} kvno {version}{more}")?)
 }
 
-/// Returns the key version of the service's ticket.
+/// The text after a version if the keytab has decrypted the ticket.
+const OPENED: &str = ", keytab entry valid";
+
+/// Returns the key version of the service's ticket: of the cache's own, if it need not be requested again, or of a new
+/// one. That is requested once more if the KDC's time is taken.
 fn get_ticket<T, X: AnyMessage>(
     context: &mut Context<T, X>,
-    fresh: bool,
     wallet: &mut Wallet,
     service: &Name,
-) -> Result<i64, Stop> {
-    match held_version(context.alloc, fresh, wallet, service, context.client.at)? {
-        Some(version) => Ok(version),
-        None => new_version(context, wallet, service),
+) -> Result<i64, Fault> {
+    let alloc = context.alloc;
+    if let Some(version) = held_version(alloc, wallet, service, context.client.at)? {
+        return Ok(version);
+    }
+    let path = wallet.path.as_str();
+    let granting = unended(alloc, path, &wallet.cache, context.client.at)?;
+    match context
+        .client
+        .service_ticket(alloc, &mut wallet.rng, granting, service)
+    {
+        Ok(credential) => return keep(alloc, wallet, &credential),
+        Err(fault) => context.take_clock(path, fault)?,
+    }
+    match context
+        .client
+        .service_ticket(alloc, &mut wallet.rng, granting, service)
+    {
+        Ok(credential) => keep(alloc, wallet, &credential),
+        Err(fault) => Err(context.fault(path, fault)),
     }
 }
 
 /// Returns the key version of the cache's own ticket, if it need not be requested again.
 fn held_version(
     alloc: Global,
-    fresh: bool,
     wallet: &Wallet,
     service: &Name,
-    at: Moment,
-) -> Result<Option<i64>, Stop> {
-    if fresh {
+    now: Moment,
+) -> Result<Option<i64>, Fault> {
+    if wallet.fresh {
         return Ok(None);
     }
-    match good_credential(&wallet.cache, service, at) {
-        Some(credential) => Ok(Some(checked_version(alloc, &wallet.keytab, credential)?)),
+    match good_credential(&wallet.cache, service, now) {
+        Some(credential) => Ok(Some(checked_version(alloc, &wallet.checks, credential)?)),
         None => Ok(None),
     }
 }
 
-/// Requests a ticket, puts it into the cache, and returns its key version.
-fn new_version<T, X: AnyMessage>(
-    context: &mut Context<T, X>,
-    wallet: &mut Wallet,
-    service: &Name,
-) -> Result<i64, Stop> {
-    let credential = service_ticket(context, wallet, service)?;
-    keep(context.alloc, wallet, &credential)
-}
-
-fn service_ticket<T, X: AnyMessage>(
-    context: &mut Context<T, X>,
-    wallet: &mut Wallet,
-    service: &Name,
-) -> Result<Credential, Stop> {
-    let granting = granting_ticket(context.alloc, &wallet.cache)?;
-    check_end(granting, context.client.at)?;
-    ask_by_clock(context, &mut wallet.rng, granting, service)
-}
-
-/// Requests it once more if the KDC's time is taken.
-fn ask_by_clock<T, X: AnyMessage>(
-    context: &mut Context<T, X>,
-    rng: &mut ChaCha20Rng,
-    granting: &Credential,
-    service: &Name,
-) -> Result<Credential, Stop> {
-    match ask(context, rng, granting, service) {
-        Ok(credential) => Ok(credential),
-        Err(fault) => {
-            context.take_clock(fault)?;
-            Ok(ask(context, rng, granting, service)?)
-        }
-    }
-}
-
-fn ask<T, X: AnyMessage>(
-    context: &mut Context<T, X>,
-    rng: &mut ChaCha20Rng,
-    granting: &Credential,
-    service: &Name,
-) -> Result<Credential, LoginFault> {
-    context
-        .client
-        .service_ticket(context.alloc, rng, granting, service)
-}
-
-/// Checks whether a ticket has not ended.
-fn check_end(granting: &Credential, at: Moment) -> Result<(), Stop> {
+/// Returns the cache's ticket-granting ticket, unless it has ended.
+fn unended<'c>(
+    alloc: Global,
+    path: &str,
+    cache: &'c Cache,
+    now: Moment,
+) -> Result<&'c Credential, Fault> {
+    let granting = at(alloc, path, granting_ticket(alloc, cache))?;
     let end = granting.times.end_time.seconds();
-    if at.sec < end {
-        return Ok(());
+    if now.sec < end {
+        return Ok(granting);
     }
-    Err(Stop::Refused(Reason::Ended(end), Place::Cache))
+    Err(Fault::new(alloc, path, Cause::Ended(end)))
 }
 
 /// Puts a credential into the cache, and returns its key version.
-fn keep(alloc: Global, wallet: &mut Wallet, credential: &Credential) -> Result<i64, Stop> {
-    let version = checked_version(alloc, &wallet.keytab, credential)?;
-    put(alloc, &mut wallet.cache, credential)?;
+fn keep(alloc: Global, wallet: &mut Wallet, credential: &Credential) -> Result<i64, Fault> {
+    let version = checked_version(alloc, &wallet.checks, credential)?;
+    let put = put_credential(alloc, &mut wallet.cache, credential);
+    at(alloc, wallet.path.as_str(), put)?;
     wallet.is_changed = true;
     Ok(version)
 }
@@ -242,11 +209,12 @@ fn keep(alloc: Global, wallet: &mut Wallet, credential: &Credential) -> Result<i
 /// Returns the ticket's key version. If there is a keytab, it has to decrypt the ticket.
 fn checked_version(
     alloc: Global,
-    keytab: &Option<Keytab>,
+    checks: &Option<Checks>,
     credential: &Credential,
-) -> Result<i64, Stop> {
-    if let Some(keytab) = keytab {
-        check_ticket(alloc, keytab, credential.ticket.as_slice())?;
+) -> Result<i64, Fault> {
+    if let Some(Checks { path, keytab }) = checks {
+        let checked = check_ticket(alloc, keytab, credential.ticket.as_slice());
+        at(alloc, path.as_str(), checked)?;
     }
     Ok(version_of(credential))
 }

@@ -2,22 +2,11 @@
 //! cache with it; `kvno` gets service tickets and puts them into the cache; `klist` lists a cache or a keytab;
 //! `kdestroy` removes a cache.
 //!
-//! `kclient_run` takes the words of one command line and runs it in a `Context`: with the files of a `Store`, and a
-//! `KdcClient` of `client_login`.
+//! `kclient_run` takes the words of one command line and runs it in a `Context`: with the files of a `ClientStore`, and
+//! a `KdcClient` of `client_login`.
 #![tactic(auto)]
 
-mod args;
-mod caches;
-mod codes;
-mod configs;
 mod context;
-mod environment;
-mod fault_args;
-mod faults;
-mod file_names;
-mod files;
-mod guarding;
-mod holding;
 mod kinit;
 mod klist;
 mod kvno;
@@ -26,10 +15,8 @@ mod opening;
 mod options;
 mod places;
 mod renewing;
-mod reporting;
 mod run;
+mod words;
 
 pub use context::Context;
-pub use environment::{Defaults, Variable};
-pub use guarding::{CacheStore, Standing};
 pub use run::{DONE, FAILED, REFUSED, USAGE, kclient_run};

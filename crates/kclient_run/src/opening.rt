@@ -2,7 +2,7 @@
 ghost use Rattle.std.specs.Prelude.{◌≡◌, IfOk, option_copied};
 ghost use Rattle.kclient_run.specs.Opening.{IsOpened, part_under, ticket_key};
 
-use crate::faults::{Place, Reason, Stop};
+use client_files::Cause;
 use cred_files::Keytab;
 use enctypes::{Key, KeyUsage};
 use krb_elements::read;
@@ -13,23 +13,21 @@ use sealed_parts::{open_part, type_numbered};
 use std::alloc::{AllocError, Global};
 
 /// Decrypts a ticket with the key that it names.
-pub(crate) fn check_ticket(alloc: Global, keytab: &Keytab, octets: &[u8]) -> Result<(), Stop>
+pub(crate) fn check_ticket(alloc: Global, keytab: &Keytab, octets: &[u8]) -> Result<(), Cause>
     ensures { IfOk result (λ done. IsOpened keytab.now octets.now) }
 {
     let Ok(ticket) = read::<TicketRef<'_>>(octets) else {
-        return Err(UNOPENED);
+        return Err(Cause::Unopened);
     };
     let service = ticket.sname.to_name(alloc)?;
     let Some(key) = ticket_key(keytab, &ticket, &service) else {
-        return Err(Stop::Refused(Reason::NoTicketKey, Place::Keytab));
+        return Err(Cause::NoTicketKey);
     };
     match part_under(alloc, key, &ticket)? {
         Some(_) => Ok(()),
-        None => Err(UNOPENED),
+        None => Err(Cause::Unopened),
     }
 }
-
-const UNOPENED: Stop = Stop::Refused(Reason::Unopened, Place::Keytab);
 
 fn part_under(
     alloc: Global,

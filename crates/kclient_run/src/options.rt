@@ -1,8 +1,11 @@
 //! The subcommands of the command line with their options, and their help texts.
 use clap::error::Error;
 use clap::{ArgMatches, Command};
-use command_options::{FlagRow, OptionRow, SubcommandRow, Times, with_subcommands};
-use std::alloc::Global;
+use command_options::{
+    FlagRow, OptionRow, SubcommandRow, Times, subcommand, with_flags, with_options,
+    with_subcommands,
+};
+use std::alloc::{AllocError, Global};
 use std::convert::AsStr;
 
 const ABOUT: &str = "Gets Kerberos tickets and keeps them in a credential cache";
@@ -12,38 +15,39 @@ A first ticket, and one for a service:
   kclient kinit --kdc 127.0.0.1:88 --realm EXAMPLE.COM --name alice --cache cache
   kclient kvno --kdc 127.0.0.1:88 --cache cache --name host/www.example.com
 
-Without --cache it is the file that KRB5CCNAME names, or else /tmp/krb5cc_ and the user's number. Without --realm or
---kdc it is the default realm, and the realm's KDCs, of the file that KRB5_CONFIG names, or /etc/krb5.conf.
+Without --cache, it uses the file that KRB5CCNAME names, or else /tmp/krb5cc_ and the user's number. Without --realm or
+--kdc, it takes the default realm, and the realm's KDCs, from the file that KRB5_CONFIG names, or else from
+/etc/krb5.conf.
 
 A password that `kinit` asks for at a terminal shows as you type it. To hide it:
   stty -echo; kclient kinit --name alice; stty echo
 
-`kinit` and `kdestroy` print `ok`, and `kvno` prints for each service its name and the version of its key. Else `refused`
-is printed with a reason, or with the error code of the KDC, and the status is 1; or `failed`, with status 3, where a
-file, a socket, the clock or memory failed. A faulty command line has status 2. Standard error says in words what it
-was, and where.
+`kinit` and `kdestroy` print `ok`, and `kvno` prints the name and the key version of each service. A command that is
+refused prints `refused` with a reason, or with the error code of the KDC, and its status is 1. If a file, a socket,
+the clock or memory failed, it prints `failed`, and its status is 3. A usage error has status 2. Standard error says
+what happened, and which word, file or KDC it concerns.
 
-Names are components joined by `/`. Octets but 21 to 7e, and `/`, `\\` and `@` inside a component, are written `\\` and
-two lower case hexadecimal digits.";
+A name is components joined by `/`. In a component, bytes other than 21 to 7e, and `/`, `\\` and `@`, are written as
+`\\` and two lower-case hexadecimal digits.";
 
 const KDC: OptionRow = OptionRow {
     name: "kdc",
     shape: "ADDRESS:PORT",
-    help: "A KDC's address, as 127.0.0.1:88 or [::1]:88; of several the next is asked if one gives nothing",
+    help: "The address of a KDC, such as 127.0.0.1:88 or [::1]:88. If one does not reply, the next is asked",
     times: Times::Any,
 };
 
 const CACHE: OptionRow = OptionRow {
     name: "cache",
     shape: "FILE",
-    help: "The credential cache, as MIT's and Heimdal's tools read it",
+    help: "The credential cache, which MIT's and Heimdal's tools can read too",
     times: Times::AtMostOnce,
 };
 
 const SEED: OptionRow = OptionRow {
     name: "seed",
     shape: "FILE",
-    help: "32 random octets, others for each command; else they are the system's",
+    help: "A file of 32 random bytes, new for each command; without it, the system's random bytes",
     times: Times::AtMostOnce,
 };
 
@@ -57,14 +61,14 @@ const REALM: OptionRow = OptionRow {
 const CLIENT: OptionRow = OptionRow {
     name: "name",
     shape: "NAME",
-    help: "The client's name, also with its realm, as alice@EXAMPLE.COM",
+    help: "The client's name, also with its realm, such as alice@EXAMPLE.COM",
     times: Times::AtMostOnce,
 };
 
 const PASSWORD: OptionRow = OptionRow {
     name: "password-file",
     shape: "FILE",
-    help: "The password is the first line, without its line feed, of at most 1,024 octets; else standard input's",
+    help: "A file whose first line is the password, of at most 1,024 bytes; without it, standard input",
     times: Times::AtMostOnce,
 };
 
@@ -78,60 +82,61 @@ const CLIENT_KEYTAB: OptionRow = OptionRow {
 const SERVICE: OptionRow = OptionRow {
     name: "service",
     shape: "NAME",
-    help: "The service that the ticket is for; else krbtgt/REALM",
+    help: "The service that the ticket is for; without it, krbtgt/REALM",
     times: Times::AtMostOnce,
 };
 
 const LIFE: OptionRow = OptionRow {
     name: "life",
     shape: "TIME",
-    help: "For how long the ticket is asked, in seconds or as 30m, 8h or 7d; else for as long as the KDC gives",
+    help: "The lifetime to ask for, in seconds or as 30m, 8h or 7d; without it, the longest that the KDC gives",
     times: Times::AtMostOnce,
 };
 
 const START: OptionRow = OptionRow {
     name: "start",
     shape: "TIME",
-    help: "Asks for a postdated ticket, which starts after this time and has to be validated then",
+    help: "Asks for a postdated ticket, which starts after this time. It has to be validated then",
     times: Times::AtMostOnce,
 };
 
 const LEAST_COUNT: OptionRow = OptionRow {
     name: "least-count",
     shape: "N",
-    help: "The fewest iterations of string-to-key that the KDC may ask for; else 4096 or 32768, by the encryption type",
+    help: "The fewest iterations of string-to-key that the KDC may ask for; without it, 4096 or 32768, by the encryption type",
     times: Times::AtMostOnce,
 };
 
 const SERVICES: OptionRow = OptionRow {
     name: "name",
     shape: "NAME",
-    help: "A service's name, without its realm; it may stand more than once",
+    help: "The name of a service, without its realm. It may be given more than once",
     times: Times::AtLeastOnce,
 };
 
 const SERVICE_KEYTAB: OptionRow = OptionRow {
     name: "keytab",
     shape: "FILE",
-    help: "The keys of the services, which have to open their tickets",
+    help: "The keys of the services. Each has to decrypt its service's ticket",
     times: Times::AtMostOnce,
 };
 
 const LISTED_KEYTAB: OptionRow = OptionRow {
     name: "keytab",
     shape: "FILE",
-    help: "The keytab, in place of a cache",
+    help: "The keytab to list, in place of a cache",
     times: Times::AtMostOnce,
 };
 
 const TCP: FlagRow = FlagRow {
     name: "tcp",
-    help: "Asks by TCP alone; else by UDP first",
+    help: "Uses only TCP; without it, UDP first",
 };
 
+/// `kinit`, with what describes a first ticket. `--renew` and `--validate` take none of it.
 const KINIT: SubcommandRow = SubcommandRow {
     name: "kinit",
-    about: "Gets a ticket-granting ticket by a password or a keytab, and makes a credential cache of it",
+    about: "Gets a ticket-granting ticket with a password or a keytab, and makes a credential cache with it",
     options: &[
         REALM,
         CLIENT,
@@ -141,9 +146,6 @@ const KINIT: SubcommandRow = SubcommandRow {
         LIFE,
         START,
         LEAST_COUNT,
-        SEED,
-        KDC,
-        CACHE,
     ],
     flags: &[
         FlagRow {
@@ -158,23 +160,25 @@ const KINIT: SubcommandRow = SubcommandRow {
             name: "proxiable",
             help: "Asks for a proxiable ticket",
         },
-        FlagRow {
-            name: "renew",
-            help: "Renews the cache's ticket-granting ticket",
-        },
-        FlagRow {
-            name: "validate",
-            help: "Validates the cache's ticket-granting ticket, which was postdated",
-        },
-        TCP,
     ],
 };
 
-/// The options and flags of `kinit` that `--renew` and `--validate` allow. All others describe a first ticket.
-const OF_RENEWAL: &[&str] = &["seed", "kdc", "cache", "renew", "validate", "tcp"];
+/// What every `kinit` takes.
+const KINIT_OPTIONS: &[OptionRow] = &[SEED, KDC, CACHE];
 
-const SUBCOMMANDS: &[SubcommandRow] = &[
-    KINIT,
+const KINIT_FLAGS: &[FlagRow] = &[
+    FlagRow {
+        name: "renew",
+        help: "Renews the cache's ticket-granting ticket",
+    },
+    FlagRow {
+        name: "validate",
+        help: "Validates the cache's ticket-granting ticket, which was postdated",
+    },
+    TCP,
+];
+
+const OTHERS: &[SubcommandRow] = &[
     SubcommandRow {
         name: "kvno",
         about: "Gets tickets for services, puts them into the cache, and prints the versions of the services' keys",
@@ -182,7 +186,7 @@ const SUBCOMMANDS: &[SubcommandRow] = &[
         flags: &[
             FlagRow {
                 name: "fresh",
-                help: "Asks also for a ticket that the cache has",
+                help: "Asks for each ticket, even if the cache has a good one",
             },
             TCP,
         ],
@@ -193,7 +197,7 @@ const SUBCOMMANDS: &[SubcommandRow] = &[
         options: &[CACHE, LISTED_KEYTAB],
         flags: &[FlagRow {
             name: "s",
-            help: "Prints nothing; the status says whether the cache has a ticket-granting ticket that has not ended",
+            help: "Prints nothing. The status is 0 if the cache has a ticket-granting ticket that has not ended",
         }],
     },
     SubcommandRow {
@@ -211,29 +215,35 @@ pub(crate) fn read_args<'a, S: AsStr>(
 ) -> Result<ArgMatches<'a>, Error> {
     let kclient = Command::new(alloc, "kclient")
         .about(ABOUT)
-        .after_help(AFTER_HELP);
-    with_subcommands(alloc, kclient, SUBCOMMANDS)?.try_get_matches_from(args)
+        .after_help(AFTER_HELP)
+        .subcommand(kinit(alloc)?)?;
+    with_subcommands(alloc, kclient, OTHERS)?.try_get_matches_from(args)
+}
+
+fn kinit<'a>(alloc: Global) -> Result<Command<'a>, AllocError> {
+    let kinit = with_options(alloc, subcommand(alloc, &KINIT)?, KINIT_OPTIONS)?;
+    with_flags(alloc, kinit, KINIT_FLAGS)
 }
 
 /// Checks whether there is an option of `kinit` that describes a first ticket.
 pub(crate) fn asks_for_first(args: &ArgMatches<'_>) -> bool {
-    for row in KINIT.options {
-        if is_first_option(args, row) {
-            return true;
-        }
-    }
-    for row in KINIT.flags {
-        if is_first_flag(args, row) {
+    has_option(args, KINIT.options) || has_flag(args, KINIT.flags)
+}
+
+fn has_option(args: &ArgMatches<'_>, rows: &[OptionRow]) -> bool {
+    for row in rows {
+        if args.get_str(row.name).is_some() {
             return true;
         }
     }
     false
 }
 
-fn is_first_option(args: &ArgMatches<'_>, row: &OptionRow) -> bool {
-    !OF_RENEWAL.contains(&row.name) && args.get_str(row.name).is_some()
-}
-
-fn is_first_flag(args: &ArgMatches<'_>, row: &FlagRow) -> bool {
-    !OF_RENEWAL.contains(&row.name) && args.get_flag(row.name)
+fn has_flag(args: &ArgMatches<'_>, rows: &[FlagRow]) -> bool {
+    for row in rows {
+        if args.get_flag(row.name) {
+            return true;
+        }
+    }
+    false
 }

@@ -72,7 +72,7 @@ const REFUSED_BY_A_REPLY: &[Run] = &[
         status: REFUSED,
         out: "refused 24\n",
         errors: "\
-            kclient: 192.0.2.1:88: error 24: the preauthentication failed: the password is another, or the \
+            kclient: 192.0.2.1:88: error 24: the preauthentication failed: the password is wrong, or the \
             clocks differ\n",
         ..KINIT
     },
@@ -81,8 +81,8 @@ const REFUSED_BY_A_REPLY: &[Run] = &[
         status: REFUSED,
         out: "refused CannotOpen\n",
         errors: "\
-            kclient: 192.0.2.1:88: the client's key does not open the reply: the password, or the keytab, is \
-            another, or the KDC\n",
+            kclient: 192.0.2.1:88: the client's key does not decrypt the reply: the password or the keytab is \
+            wrong, or it is another KDC\n",
         ..KINIT_V
     },
     // the reply to the line before has another nonce
@@ -101,7 +101,7 @@ const REFUSED_BY_A_REPLY: &[Run] = &[
         ..STALE
     },
     Run {
-        errors: "kclient: 192.0.2.1:88: the reply has a ticket for another service than was asked\n",
+        errors: "kclient: 192.0.2.1:88: the reply has a ticket for another service than was asked for\n",
         line: "\
             kclient kinit --kdc 192.0.2.1:88 --realm A.B --name v --password-file pass --cache cc --seed seed \
             --service h",
@@ -109,8 +109,8 @@ const REFUSED_BY_A_REPLY: &[Run] = &[
     },
     Run {
         errors: "\
-            kclient: 192.0.2.1:88: the ticket ends later than was asked, or starts at another time: the clocks may \
-            differ\n",
+            kclient: 192.0.2.1:88: the ticket ends later than was asked for, or starts at another time: the clocks \
+            may differ\n",
         line: "\
             kclient kinit --kdc 192.0.2.1:88 --realm A.B --name v --password-file pass --cache cc --seed seed \
             --life 60",
@@ -119,7 +119,7 @@ const REFUSED_BY_A_REPLY: &[Run] = &[
     OTHER_KDC,
     Run {
         link: Link::Forged(OTHER_SERVICE_REALM),
-        errors: "kclient: 192.0.2.1:88: the reply has a ticket for another service than was asked\n",
+        errors: "kclient: 192.0.2.1:88: the reply has a ticket for another service than was asked for\n",
         ..OTHER_KDC
     },
     // the same reply is one of another exchange
@@ -127,7 +127,7 @@ const REFUSED_BY_A_REPLY: &[Run] = &[
         link: Link::Stale,
         status: REFUSED,
         out: "refused NotAReply\n",
-        errors: "kclient: 192.0.2.1:88: what came back is no reply of a KDC\n",
+        errors: "kclient: 192.0.2.1:88: the bytes that came back are not a reply of a KDC\n",
         ..KVNO
     },
     // "hello"
@@ -135,7 +135,7 @@ const REFUSED_BY_A_REPLY: &[Run] = &[
         link: Link::Forged("68656c6c6f"),
         status: REFUSED,
         out: "refused NotAReply\n",
-        errors: "kclient: 192.0.2.1:88: what came back is no reply of a KDC\n",
+        errors: "kclient: 192.0.2.1:88: the bytes that came back are not a reply of a KDC\n",
         ..KINIT_V
     },
     // KRB-ERROR with code 25, whose PA-ETYPE-INFO2 asks for 4294967295 iterations
@@ -148,7 +148,7 @@ const REFUSED_BY_A_REPLY: &[Run] = &[
         ),
         status: REFUSED,
         out: "refused CountTooLarge\n",
-        errors: "kclient: 192.0.2.1:88: the KDC asks for more iterations of string-to-key than 1048576, or none\n",
+        errors: "kclient: 192.0.2.1:88: the KDC asks for more iterations of string-to-key than 1048576, or for none\n",
         ..KINIT_V
     },
     Run {
@@ -173,7 +173,7 @@ const REFUSED_BY_A_REPLY: &[Run] = &[
         link: Link::Forged(WANTED),
         status: REFUSED,
         out: "refused 25\n",
-        errors: "kclient: 192.0.2.1:88: error 25: the KDC wants preauthentication\n",
+        errors: "kclient: 192.0.2.1:88: error 25: the KDC requires preauthentication\n",
         ..KINIT
     },
     // and without e-data; with a PA-ETYPE-INFO2 that is "hello"; and with one of type 23 alone
@@ -190,7 +190,7 @@ const REFUSED_BY_A_REPLY: &[Run] = &[
         link: Link::Error(99),
         status: REFUSED,
         out: "refused 99\n",
-        errors: "kclient: 192.0.2.1:88: error 99: an error code that has no words here\n",
+        errors: "kclient: 192.0.2.1:88: error 99: RFC 4120 does not have this error code\n",
         ..KINIT_V
     },
     Run {
@@ -198,8 +198,8 @@ const REFUSED_BY_A_REPLY: &[Run] = &[
         status: REFUSED,
         out: "refused CannotOpen\n",
         errors: "\
-            kclient: 192.0.2.1:88: the session key of the cache's ticket does not open the reply: the KDC is \
-            another\n",
+            kclient: 192.0.2.1:88: the session key of the ticket-granting ticket does not decrypt the reply: it is \
+            another KDC\n",
         ..KVNO
     },
     KVNO,
@@ -233,7 +233,7 @@ const NO_TYPE: Run = Run {
     link: Link::Forged(UNREADABLE),
     status: REFUSED,
     out: "refused CannotOpen\n",
-    errors: "kclient: 192.0.2.1:88: the KDC names no key of the client of the encryption types 17 to 20\n",
+    errors: "kclient: 192.0.2.1:88: the KDC names no key of the client with one of the encryption types 17 to 20\n",
     ..KINIT_V
 };
 
@@ -288,71 +288,71 @@ const REFUSED_BY_A_WORD: &[Run] = &[
     KINIT,
     Run {
         line: "kclient kinit --kdc 192.0.2.1:88 --realm A/B --name u --password-file pass --cache cc --seed seed",
-        errors: "kclient: --realm A/B: no name is written so\n",
+        errors: "kclient: --realm A/B: it is not a valid name\n",
         ..BAD_NAME
     },
     Run {
         line: "kclient kinit --kdc 192.0.2.1:88 --realm  --name u --password-file pass --cache cc --seed seed",
-        errors: "kclient: --realm: no name is written so\n",
+        errors: "kclient: --realm: it is not a valid name\n",
         ..BAD_NAME
     },
     Run {
         line: "kclient kinit --kdc 192.0.2.1:88 --name u@ --password-file pass --cache cc --seed seed",
-        errors: "kclient: --name u@: no name is written so\n",
+        errors: "kclient: --name u@: it is not a valid name\n",
         ..BAD_NAME
     },
     Run {
         line: "kclient kvno --kdc 192.0.2.1:88 --cache cc --name h --name  --seed seed",
-        errors: "kclient: --name: this name ended the command\nkclient: --name: no name is written so\n",
+        errors: "kclient: --name: this name ended the command\nkclient: --name: it is not a valid name\n",
         ..BAD_NAME
     },
     BAD_NAME,
     Run {
         line: "kclient kinit --kdc 192.0.2.1:88 --realm A.B --name  --password-file pass --cache cc --seed seed",
-        errors: "kclient: --name: no name is written so\n",
+        errors: "kclient: --name: it is not a valid name\n",
         ..BAD_NAME
     },
     Run {
         line: "\
             kclient kinit --kdc 192.0.2.1:88 --realm A.B --name u --password-file pass --cache cc --seed seed \
             --service h@",
-        errors: "kclient: --service h@: no name is written so\n",
+        errors: "kclient: --service h@: it is not a valid name\n",
         ..BAD_NAME
     },
     Run {
         line: "\
             kclient kinit --kdc 192.0.2.1:88 --realm A.B --name u --password-file pass --cache cc --service  --seed \
             seed",
-        errors: "kclient: --service: no name is written so\n",
+        errors: "kclient: --service: it is not a valid name\n",
         ..BAD_NAME
     },
     Run {
         line: "kclient kvno --kdc 192.0.2.1:88 --cache cc --name h/ --seed seed",
-        errors: "kclient: --name h/: no name is written so\n",
+        errors: "kclient: --name h/: it is not a valid name\n",
         ..BAD_NAME
     },
     Run {
         line: "kclient kinit --kdc 192.0.2.1:88 --realm A.B --name u --password-file long --cache cc --seed seed",
         out: "refused LongPassword\n",
-        errors: "kclient: long: the password has more than 1024 octets\n",
+        errors: "kclient: long: the password has more than 1024 bytes\n",
         ..BAD_NAME
     },
     Run {
         line: "kclient kinit --kdc 192.0.2.1:88 --realm A.B --name u --password-file big --cache cc --seed seed",
         out: "refused LongFile\n",
-        errors: "kclient: big: the file has more than 16777216 octets\n",
+        errors: "kclient: big: the file has more than 16777216 bytes\n",
         ..BAD_NAME
     },
     Run {
         line: "kclient kinit --kdc 192.0.2.1:88 --realm A.B --name u --password-file pass --cache cc --seed short",
         out: "refused ShortSeed\n",
-        errors: "kclient: short: a seed has 32 octets\n",
+        errors: "kclient: short: a seed needs 32 bytes, and the file has fewer\n",
         ..BAD_NAME
     },
     Run {
         line: "kclient kvno --kdc 192.0.2.1:88 --cache pass --name h --seed seed",
         out: "refused BadMagic\n",
-        errors: "kclient: pass: the file is no credential cache of version 4\n",
+        errors: "kclient: pass: the file is not a credential cache of version 4\n",
         ..BAD_NAME
     },
     Run {
@@ -364,7 +364,7 @@ const REFUSED_BY_A_WORD: &[Run] = &[
     Run {
         line: "kclient kvno --kdc 192.0.2.1:88 --cache empty --name h --seed seed",
         out: "refused Absent\n",
-        errors: "kclient: empty: no usable ticket-granting ticket of the realm is there: run kinit\n",
+        errors: "kclient: empty: it has no usable ticket-granting ticket of the realm: run kinit\n",
         ..BAD_NAME
     },
     Run {
@@ -378,13 +378,13 @@ const REFUSED_BY_A_WORD: &[Run] = &[
     Run {
         line: "kclient kvno --kdc 192.0.2.1:88 --cache oddkey --name h --seed seed",
         out: "refused Absent\n",
-        errors: "kclient: oddkey: no usable ticket-granting ticket of the realm is there: run kinit\n",
+        errors: "kclient: oddkey: it has no usable ticket-granting ticket of the realm: run kinit\n",
         ..BAD_NAME
     },
     Run {
         line: "kclient kvno --kdc 192.0.2.1:88 --cache noticket --name h --seed seed",
         out: "refused Absent\n",
-        errors: "kclient: noticket: no usable ticket-granting ticket of the realm is there: run kinit\n",
+        errors: "kclient: noticket: it has no usable ticket-granting ticket of the realm: run kinit\n",
         ..BAD_NAME
     },
     // of two faults the first is told
@@ -405,7 +405,7 @@ const BAD_NAME: Run = Run {
     line: "kclient kinit --kdc 192.0.2.1:88 --realm A.B --name u//v --password-file pass --cache cc --seed seed",
     status: REFUSED,
     out: "refused BadName\n",
-    errors: "kclient: --name u//v: no name is written so\n",
+    errors: "kclient: --name u//v: it is not a valid name\n",
     ways: "",
     ..KINIT
 };

@@ -49,7 +49,7 @@ const DAY: &[Run] = &[
     Run {
         line: "kclient kdestroy",
         out: "refused Absent\n",
-        errors: "kclient: /tmp/krb5cc_1000: no cache is there\n",
+        errors: "kclient: /tmp/krb5cc_1000: there is no cache\n",
         ..NOT_GOOD
     },
     Run {

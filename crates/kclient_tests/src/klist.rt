@@ -74,13 +74,13 @@ const RUNS: &[Run] = &[
         line: "kclient klist --cache kt",
         status: REFUSED,
         out: "refused BadMagic\n",
-        errors: "kclient: kt: the file is no credential cache of version 4\n",
+        errors: "kclient: kt: the file is not a credential cache of version 4\n",
     },
     Run {
         line: "kclient klist --keytab cc",
         status: REFUSED,
         out: "refused BadMagic\n",
-        errors: "kclient: cc: the file is no keytab of version 2\n",
+        errors: "kclient: cc: the file is not a keytab of version 2\n",
     },
     Run {
         line: "kclient klist --cache cut",
@@ -92,7 +92,7 @@ const RUNS: &[Run] = &[
         line: "kclient klist --keytab amiss",
         status: REFUSED,
         out: "refused BadEntry\n",
-        errors: "kclient: amiss: an entry's key has not as many octets as keys of its type have\n",
+        errors: "kclient: amiss: the key of an entry has the wrong length for its encryption type\n",
     },
     Run {
         line: "kclient klist --keytab nowhere",

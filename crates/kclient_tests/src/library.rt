@@ -89,7 +89,7 @@ fn a_silent_kdc_is_not_asked_first(rt: HostRuntime) -> Result<(), Fail> {
         alloc,
         &mut client,
         Link::Error(6),
-        "192.0.2.1:88: the KDC refuses with error 6",
+        "192.0.2.1:88: error 6: the client is not in the database",
         "u",
     )?;
     expect_fault(
@@ -97,7 +97,7 @@ fn a_silent_kdc_is_not_asked_first(rt: HostRuntime) -> Result<(), Fail> {
         alloc,
         &mut client,
         Link::Error(29),
-        "192.0.2.1:88: the KDC refuses with error 29",
+        "192.0.2.1:88: error 29: a service is not available",
         "uU",
     )
 }

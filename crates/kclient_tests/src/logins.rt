@@ -30,7 +30,7 @@ const FIRST: &[Run] = &[
         status: REFUSED,
         out: "refused 24\n",
         errors: "\
-            kclient: 192.0.2.1:88: error 24: the preauthentication failed: the password is another, or the \
+            kclient: 192.0.2.1:88: error 24: the preauthentication failed: the password is wrong, or the \
             clocks differ\n",
         ..KINIT
     },
@@ -39,8 +39,8 @@ const FIRST: &[Run] = &[
         status: REFUSED,
         out: "refused CannotOpen\n",
         errors: "\
-            kclient: 192.0.2.1:88: the client's key does not open the reply: the password, or the keytab, is \
-            another, or the KDC\n",
+            kclient: 192.0.2.1:88: the client's key does not decrypt the reply: the password or the keytab is \
+            wrong, or it is another KDC\n",
         ..KINIT_V
     },
     Run {
@@ -50,14 +50,14 @@ const FIRST: &[Run] = &[
     },
     Run {
         line: "kclient kinit --kdc 192.0.2.1:88 --realm A.B --name v --keytab other --cache cc --seed seed",
-        errors: "kclient: other: no key of the client is there\n",
+        errors: "kclient: other: the keytab has no key of the client\n",
         ways: "",
         ..NO_KEY
     },
     Run {
         line: "kclient kinit --kdc 192.0.2.1:88 --realm A.B --name u --keytab pass --cache cc --seed seed",
         out: "refused BadMagic\n",
-        errors: "kclient: pass: the file is no keytab of version 2\n",
+        errors: "kclient: pass: the file is not a keytab of version 2\n",
         ways: "",
         ..NO_KEY
     },
@@ -73,7 +73,7 @@ const FIRST: &[Run] = &[
             kclient kinit --kdc 192.0.2.1:88 --realm A.B --name u --password-file pass --cache cc --seed seed \
             --service h/",
         out: "refused BadName\n",
-        errors: "kclient: --service h/: no name is written so\n",
+        errors: "kclient: --service h/: it is not a valid name\n",
         ways: "",
         ..NO_KEY
     },
@@ -104,7 +104,7 @@ const FIRST: &[Run] = &[
         status: REFUSED,
         out: "refused 24\n",
         errors: "\
-            kclient: 192.0.2.1:88: error 24: the preauthentication failed: the password is another, or the \
+            kclient: 192.0.2.1:88: error 24: the preauthentication failed: the password is wrong, or the \
             clocks differ\n",
         ..KINIT
     },
@@ -125,7 +125,7 @@ const FIRST: &[Run] = &[
         line: "kclient kinit --kdc 192.0.2.1:88 --realm A.B --name u --keytab other --cache cc --seed seed",
         out: "refused 14\n",
         errors: "\
-            kclient: 192.0.2.1:88: error 14: the KDC, or a key, has none of the encryption types that were asked\n",
+            kclient: 192.0.2.1:88: error 14: the KDC, or a key, has none of the requested encryption types\n",
         ..NO_KEY
     },
     Run {
@@ -147,7 +147,7 @@ const WANTED_BY_17: &str = "\
 const NO_KEY: Run = Run {
     status: REFUSED,
     out: "refused Absent\n",
-    errors: "kclient: keys: no key of the client is there, of a type that the KDC names\n",
+    errors: "kclient: keys: the keytab has no key of the client with an encryption type that the KDC names\n",
     ways: "u",
     ..KINIT
 };
@@ -170,8 +170,8 @@ const WEAK: Run = Run {
     status: REFUSED,
     out: "refused WeakCount\n",
     errors: "\
-        kclient: 192.0.2.1:88: the KDC asks for fewer iterations of string-to-key than --least-count, or else the \
-        type's default: somebody may have changed its reply to find the password\n",
+        kclient: 192.0.2.1:88: the KDC asks for fewer iterations of string-to-key than the least count that is \
+        accepted: somebody may have changed its reply to guess the password\n",
     ways: "u",
     ..KINIT
 };
@@ -211,7 +211,7 @@ const COUNTS: &[Run] = &[
         link: Link::ForgedOnce(wanted!("12", "00000001")),
         out: "refused 24\n",
         errors: "\
-            kclient: 192.0.2.1:88: error 24: the preauthentication failed: the password is another, or the \
+            kclient: 192.0.2.1:88: error 24: the preauthentication failed: the password is wrong, or the \
             clocks differ\n",
         ways: "uu",
         ..WEAK
@@ -259,7 +259,7 @@ const RENEWED: &[Run] = &[
         line: "kclient kinit --renew --kdc 192.0.2.1:88 --cache empty --seed seed",
         status: REFUSED,
         out: "refused Absent\n",
-        errors: "kclient: empty: no usable ticket-granting ticket of the realm is there: run kinit\n",
+        errors: "kclient: empty: it has no usable ticket-granting ticket of the realm: run kinit\n",
         ways: "",
         ..KINIT
     },
@@ -267,7 +267,7 @@ const RENEWED: &[Run] = &[
         line: "kclient kinit --validate --kdc 192.0.2.1:88 --cache cc --seed seed",
         status: REFUSED,
         out: "refused 12\n",
-        errors: "kclient: 192.0.2.1:88: error 12: the KDC's policy refuses the request\n",
+        errors: "kclient: 192.0.2.1:88: error 12: the KDC's policy denies the request\n",
         ways: "u",
         ..KINIT
     },
@@ -313,7 +313,7 @@ const VALIDATED: &[Run] = &[
         line: "kclient kinit --validate --kdc 192.0.2.1:88 --cache cc --seed seed",
         status: REFUSED,
         out: "refused 12\n",
-        errors: "kclient: 192.0.2.1:88: error 12: the KDC's policy refuses the request\n",
+        errors: "kclient: 192.0.2.1:88: error 12: the KDC's policy denies the request\n",
         ways: "u",
         ..KINIT
     },

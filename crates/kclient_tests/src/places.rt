@@ -1,7 +1,8 @@
 //! The places of a command: which of several KDCs, and the defaults for words that a command line lacks.
 use crate::joined::Link;
 use crate::runs::{KINIT, KVNO, Run, expect_runs};
-use kclient_run::{DONE, Defaults, FAILED, REFUSED, USAGE, Variable};
+use client_files::{Defaults, Variable};
+use kclient_run::{FAILED, REFUSED, USAGE};
 use std::test::Fail;
 
 const TWO_KDCS: Run = Run {
@@ -134,7 +135,7 @@ const ODD: Run = Run {
     },
     status: REFUSED,
     out: "refused NotAnAddress\n",
-    errors: "kclient: odd: a\\20b\\1b[\\40: no address is known; --kdc takes one\n",
+    errors: "kclient: odd: a\\20b\\1b[\\40: no address is known: correct the name, or name the address of a KDC\n",
     ways: "",
     ..CONFIGURED
 };
@@ -158,7 +159,7 @@ const BAD_NAME: Run = Run {
     },
     status: REFUSED,
     out: "refused BadName\n",
-    errors: "kclient: --name u//v: no name is written so\n",
+    errors: "kclient: --name u//v: it is not a valid name\n",
     ways: "",
     ..CONFIGURED
 };
@@ -185,7 +186,7 @@ const BY_DEFAULTS: &[Run] = &[
         line: "kclient kinit --realm C --name u --password-file pass --seed seed",
         status: REFUSED,
         out: "refused NoKdc\n",
-        errors: "kclient: conf: C: the realm has no kdc there; --kdc takes its address\n",
+        errors: "kclient: conf: C: it has no kdc of this realm: add one, or name the address of a KDC\n",
         ways: "",
         ..CONFIGURED
     },
@@ -193,7 +194,7 @@ const BY_DEFAULTS: &[Run] = &[
         line: "kclient kinit --realm N --name u --password-file pass --seed seed",
         status: REFUSED,
         out: "refused NotAnAddress\n",
-        errors: "kclient: conf: x.example.com, y.example.com:750: no address is known; --kdc takes one\n",
+        errors: "kclient: conf: x.example.com, y.example.com:750: no address is known: correct the name, or name the address of a KDC\n",
         ways: "",
         ..CONFIGURED
     },
@@ -201,7 +202,7 @@ const BY_DEFAULTS: &[Run] = &[
     Run {
         line: "kclient kinit --realm Y --name u --password-file pass --seed seed",
         out: "refused NoKdc\n",
-        errors: "kclient: odd: Y: the realm has no kdc there; --kdc takes its address\n",
+        errors: "kclient: odd: Y: it has no kdc of this realm: add one, or name the address of a KDC\n",
         ..ODD
     },
     // a host whose name is looked up, beside one without an address; and files that are included
@@ -228,7 +229,7 @@ const BY_DEFAULTS: &[Run] = &[
     Run {
         line: "kclient kinit --name u --password-file pass --seed seed",
         out: "refused BadName\n",
-        errors: "kclient: odd: its default_realm has not 1 to 255 octets; --realm names one\n",
+        errors: "kclient: odd: its default_realm does not have 1 to 255 bytes: correct it, or name the realm\n",
         ..ODD
     },
     Run {
@@ -238,7 +239,7 @@ const BY_DEFAULTS: &[Run] = &[
         },
         status: REFUSED,
         out: "refused NoRealm\n",
-        errors: "kclient: bare: it has no default_realm in [libdefaults]; --realm names one\n",
+        errors: "kclient: bare: it has no default_realm in [libdefaults]: add one, or name the realm\n",
         ways: "",
         ..CONFIGURED
     },
@@ -268,22 +269,22 @@ const BY_DEFAULTS: &[Run] = &[
     },
     Run {
         line: "kclient kinit --realm A/B --name u --password-file pass --seed seed",
-        errors: "kclient: --realm A/B: no name is written so\n",
+        errors: "kclient: --realm A/B: it is not a valid name\n",
         ..BAD_NAME
     },
     Run {
         line: "kclient kinit --name u --password-file pass --seed seed --service h/",
-        errors: "kclient: --service h/: no name is written so\n",
+        errors: "kclient: --service h/: it is not a valid name\n",
         ..BAD_NAME
     },
     Run {
         line: "kclient kvno --cache nowhere --name h --name h/ --seed seed",
-        errors: "kclient: h/: this name ended the command\nkclient: --name h/: no name is written so\n",
+        errors: "kclient: h/: this name ended the command\nkclient: --name h/: it is not a valid name\n",
         ..BAD_NAME
     },
     Run {
         line: "kclient kvno --cache nowhere --name h/ --seed seed",
-        errors: "kclient: --name h/: no name is written so\n",
+        errors: "kclient: --name h/: it is not a valid name\n",
         ..BAD_NAME
     },
     // the command line comes before names

@@ -1,10 +1,11 @@
 //! A command line over files in memory and a KDC in memory, and its result.
 use crate::joined::{JoinedExchange, Link};
 use crate::realm::open;
+use client_files::{Defaults, Variable};
 use client_login::{KdcClient, Kdcs, Transports};
 use cred_files::{Cache, Credential};
 use file_store::{LONGEST_FILE, MemoryStore};
-use kclient_run::{Context, DONE, Defaults, USAGE, Variable, kclient_run};
+use kclient_run::{Context, DONE, USAGE, kclient_run};
 use krb_der::KTime;
 use krb_fields::{Moment, Name};
 use std::alloc::{AllocError, Global};
@@ -411,15 +412,8 @@ pub fn context(alloc: Global) -> Result<Memory, Fail> {
     let at = moment(0)?;
     let store = store(alloc)?;
     let exchange = JoinedExchange::new(alloc, open(alloc)?, at);
-    Ok(Context {
-        alloc,
-        store,
-        client: KdcClient {
-            kdcs: Kdcs::new(exchange, Vec::new(alloc), Transports::UdpFirst),
-            at,
-        },
-        ahead: None,
-    })
+    let kdcs = Kdcs::new(exchange, Vec::new(alloc), Transports::UdpFirst);
+    Ok(Context::new(alloc, store, KdcClient { kdcs, at }))
 }
 
 /// Runs the command lines of a table, each after the one before it, in a new realm.

@@ -153,7 +153,7 @@ const SENT: &[Run] = &[
         link: Link::Error(12),
         status: REFUSED,
         out: "refused 12\n",
-        errors: "kclient: 192.0.2.1:88: error 12: the KDC's policy refuses the request\n",
+        errors: "kclient: 192.0.2.1:88: error 12: the KDC's policy denies the request\n",
         sent: RENEWAL_REQ,
         ..KINIT_V
     },

@@ -45,7 +45,7 @@ const SERVICES: &[Run] = &[
     Run {
         line: "kclient kvno --kdc 192.0.2.1:88 --cache cc --seed seed --name h --name h/",
         out: "refused BadName\n",
-        errors: "kclient: h/: this name ended the command\nkclient: --name h/: no name is written so\n",
+        errors: "kclient: h/: this name ended the command\nkclient: --name h/: it is not a valid name\n",
         ..STOPPED
     },
     Run {
@@ -115,21 +115,21 @@ const OPENED: &[Run] = &[
     Run {
         line: "kclient kvno --kdc 192.0.2.1:88 --cache cc --seed seed --keytab keys --name h --name v",
         errors: "\
-            kclient: v: this name ended the command\nkclient: keys: its key does not open the ticket: it is \
-            another of the same version\n",
+            kclient: v: this name ended the command\nkclient: keys: its key does not decrypt the ticket: it is \
+            another key of the same version\n",
         ways: "u",
         ..STOPPED
     },
     Run {
         line: "kclient kvno --kdc 192.0.2.1:88 --cache cc --seed seed --keytab other --name h",
         out: "refused Absent\n",
-        errors: "kclient: other: no key of the service is there, of the ticket's type and version\n",
+        errors: "kclient: other: it has no key of the service with the ticket's encryption type and version\n",
         ..STOPPED
     },
     Run {
         line: "kclient kvno --kdc 192.0.2.1:88 --cache cc --seed seed --keytab cut --name h",
         out: "refused BadMagic\n",
-        errors: "kclient: cut: the file is no keytab of version 2\n",
+        errors: "kclient: cut: the file is not a keytab of version 2\n",
         ..STOPPED
     },
 ];
@@ -137,7 +137,7 @@ const OPENED: &[Run] = &[
 const STOPPED: Run = Run {
     status: REFUSED,
     out: "refused CannotOpen\n",
-    errors: "kclient: old: its key does not open the ticket: it is another of the same version\n",
+    errors: "kclient: old: its key does not decrypt the ticket: it is another key of the same version\n",
     ways: "",
     ..KINIT
 };

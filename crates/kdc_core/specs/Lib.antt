@@ -17,5 +17,6 @@ pub mod ContentsLaws
 pub mod AgreementLaws
 pub mod RequestLaws
 pub mod IssuedLaws
+pub mod StandingLaws
 pub mod AccountLaws
 pub mod RememberedLaws

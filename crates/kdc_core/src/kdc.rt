@@ -12,6 +12,7 @@ ghost use Rattle.kdc_core.specs.Request.{Request, SpellsRequest, request_of};
 ghost use Rattle.kdc_core.specs.Run.{after_event, replaced};
 ghost use Rattle.kdc_core.specs.View.{Agrees, named, view};
 ghost use Rattle.kdc_core.specs.declared.run.Event.TheVariants.{Reopen, Resume};
+ghost use Rattle.kdc_replies.specs.GoodStanding.{AreInGoodStanding};
 ghost use Rattle.krb_fields.specs.declared.moment.Moment as moments;
 ghost use Rattle.replay.specs.declared.opening.Opening.TheVariants.{Restart};
 ghost use Rattle.kdc_state.specs.Resumed.{resumed_state};
@@ -143,6 +144,10 @@ impl Kdc {
         ensures issued { IfOk result (λ given.
             IfSome (issued (view self.old request.now) at random.now (request_of request.now))
             (λ issue. IsReplyOf issue (option_map (λ octets. octets.items) given.reply))) }
+        // A ticket is issued only if its client and its service are in good standing: both have rows, neither is
+        // disabled or expired, and the service's row allows tickets for it.
+        ensures standing { IfSome (issued (view self.old request.now) at random.now (request_of request.now)) (λ issue.
+            AreInGoodStanding (view self.old request.now).client (view self.old request.now).service at.sec) }
         // The account is the one that the same rules give.
         ensures account { IfOk result (λ given.
             given.account ≡ account (view self.old request.now) at random.now room request.now) }

@@ -126,11 +126,14 @@ asked_reply : (i : Issuing) (at : Moment) (room : ℕ) (request : List ℕ) → 
 unfolding reply_of
 asked_reply i at room request = refl
 
+pub asked_octets : (i : Issuing) (at : Moment) (room : ℕ) (request : List ℕ) → event_reply i.kdc (asked i at room request) ≡ octets_of (reply_of i at room request)
+asked_octets i at room request = sym (event_octets i.accounts i.kdc (asked i at room request)) ∙ ap octets_of (asked_reply i at room request)
+
 asked_accounts : (i : Issuing) (at : Moment) (room : ℕ) (request : List ℕ) → (after i at room request).accounts ≡ i.accounts
 unfolding after
 asked_accounts i at room request = refl
 
-asked_after : (i : Issuing) (at : Moment) (room : ℕ) (request : List ℕ) → after_event i.kdc (asked i at room request) ≡ (after i at room request).kdc
+pub asked_after : (i : Issuing) (at : Moment) (room : ℕ) (request : List ℕ) → after_event i.kdc (asked i at room request) ≡ (after i at room request).kdc
 unfolding after
 asked_after i at room request = refl
 
@@ -439,6 +442,9 @@ turned hub (Replaced database) = record { sent = refl; accounts_are = λ kept. r
 turned hub (Tidied at) = record { sent = refl; accounts_are = λ kept. refl; keeps = λ kept all. kept; seen = refl; kdc = refl }
 turned hub (Reopened database limits at random kept) = record { sent = refl; accounts_are = λ before. refl; keeps = λ before all. all; seen = refl; kdc = refl }
 turned hub (Resumed database limits resumption random kept) = record { sent = refl; accounts_are = λ before. refl; keeps = λ before all. all; seen = refl; kdc = refl }
+
+pub turned_kdc : (hub : Standing) (turn : Turn) → (after_turn hub turn).issuing.kdc ≡ run hub.issuing.kdc (turn_events hub turn)
+turned_kdc hub turn = (turned hub turn).kdc
 
 pub one_run : (start : Standing) (turns : List Turn) → IsOneRun start turns
 one_run start [] = record { replies_are = refl; accounts_are = λ kept all. refl; remembered_are = refl; kdc_is = refl }

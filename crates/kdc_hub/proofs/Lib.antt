@@ -8,3 +8,5 @@ pub mod Working
 pub mod Rounds
 pub mod Runs
 pub mod Histories
+pub mod Due
+pub mod Owning

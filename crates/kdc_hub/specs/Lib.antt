@@ -9,3 +9,5 @@ pub mod Rounds
 pub mod Accounts
 pub mod Acts
 pub mod History
+pub mod Parties
+pub mod OwnBytes

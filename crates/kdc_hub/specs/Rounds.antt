@@ -1,5 +1,6 @@
 -- A run of `serve`: rounds with one poll each.
-use Rattle.std.specs.Prelude.{◌≡◌, ◌⊎◌, ◌^◌, ◌-◌, ℕ, min, Bool, ⊤, List, [], ◌∷◌, ◌++◌, length, count_by, Option, Some, None}
+use Rattle.std.specs.Prelude.{◌≡◌, ◌⊎◌, ◌≤◌, ◌^◌, ◌+◌, ◌-◌, ℕ, min, Bool, ⊤, List, [], ◌∷◌, ◌++◌, length, count_by}
+use Rattle.std.specs.Prelude.{Option, Some, None}
 use Rattle.std.specs.List.{flat_map}
 use Rattle.std.specs.Option.{is_some, option_or}
 use Rattle.krb_fields.specs.declared.moment.Moment.{Moment}
@@ -84,11 +85,16 @@ abbrev pub last_moment : List Round → Option Moment
 last_moment [] = None
 last_moment (round ∷ rounds) = option_or (last_moment rounds) (moment_in round)
 
+-- if memory runs out: one draw for each completed action, and perhaps one for the next
+abbrev pub DrawsWithin : Option Stop → Type 0
+DrawsWithin (Some stop) = (stop.done ≤ stop.draws) × (stop.draws ≤ stop.done + 1)
+DrawsWithin None = ⊤
+
 abbrev pub IsRound : Standing → Round → Type 0
 IsRound hub PollFailed = ⊤
 IsRound hub (NothingCame at) = ⊤
 IsRound hub (Took entry acts close) =
-    Tries (step_of hub entry).actions acts × Tries (closing entry.stop entry.event) close
+    Tries (step_of hub entry).actions acts × Tries (closing entry.stop entry.event) close × DrawsWithin entry.stop
 
 -- rounds that begin with this hub, each with the hub that the log of the earlier rounds leaves
 unfoldable pub AreRounds : Standing → List Round → Type 0

@@ -5,6 +5,8 @@ ghost use Rattle.kdc_hub.specs.History.{AnswersWhoAsked, CanBeResumed, IsOneRun,
 ghost use Rattle.kdc_hub.specs.History.{ServesAlike, Stepped, TidiesUnseen, Turn, Unaffected, after_turns};
 ghost use Rattle.kdc_hub.specs.Hub.{Standing};
 ghost use Rattle.kdc_hub.specs.Logged.{Entry, logged};
+ghost use Rattle.kdc_hub.specs.OwnBytes.{AsksItsOwn};
+ghost use Rattle.kdc_hub.specs.Parties.{GetsItsOwn, RecordsItsOwn};
 
 use framing::two_pieces;
 
@@ -15,6 +17,8 @@ pub fn any_cutting()
     ensures replies { RepliesAreSame }
     // A piece that arrives in two parts at one moment changes nothing.
     ensures two_pieces { IsSameInTwoPieces }
+    // The requests on a connection are the messages of its own bytes, whatever arrives elsewhere.
+    ensures own_bytes { AsksItsOwn }
 {
     two_pieces();
 }
@@ -42,4 +46,9 @@ pub fn one_run()
     ensures resumable { CanBeResumed }
     // Each reply goes to the peer that sent the request.
     ensures who_asked { AnswersWhoAsked }
+    // A peer or a connection is sent, in order, the replies of this run to its own requests, and the ends of its own
+    // connection. It is sent nothing of another's.
+    ensures own { GetsItsOwn }
+    // So a Wire records no other act for it.
+    ensures own_record { RecordsItsOwn }
 {}

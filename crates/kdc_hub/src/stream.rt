@@ -29,6 +29,13 @@ pub struct StreamStep {
     pub stays: bool,
 }
 
+/// Memory ran out for a request.
+#[derive(Clone, Copy)]
+struct RanOut {
+    /// Whether the random bytes for its reply were drawn before that.
+    drawn: bool,
+}
+
 /// Answers the complete messages of a stream.
 pub fn answer_stream<R: Rng>(
     alloc: Global,
@@ -70,7 +77,7 @@ pub fn answer_stream<R: Rng>(
                             stays: false,
                         });
                     }
-                    Err(drawn) => return Err(out_of_memory(actions, conn, drawn)),
+                    Err(fault) => return Err(out_of_memory(actions, conn, fault.drawn)),
                 }
             }
             Ok(None) => {
@@ -103,7 +110,7 @@ fn out_of_memory(done: Vec<Action>, conn: u64, drawn: bool) -> HubFault
     }
 }
 
-/// Answers one request, and returns whether the connection stays open. An `Err` says whether it drew random bytes.
+/// Answers one request, and returns whether the connection stays open.
 #[tactic(auto, unfolding(crate::specs::StreamStep::drawn))]
 fn answer_request<R: Rng>(
     alloc: Global,
@@ -112,7 +119,7 @@ fn answer_request<R: Rng>(
     conn: u64,
     request: &[u8],
     actions: &mut Vec<Action>,
-) -> Result<bool, bool>
+) -> Result<bool, RanOut>
     ensures action { OnOk result
         (actions.new.items ≡ actions.old.items
         ++ action_for conn (reply_of (issuing R.stream issuer.old) at stream_room request.now) ∷ []) }
@@ -126,10 +133,10 @@ fn answer_request<R: Rng>(
     ensures err { OnErr result ((actions.new.items ≡ actions.old.items) × (issuer.new.kdc ≡ issuer.old.kdc)) }
     ensures accounts { issuer.new.keeps_accounts ≡ issuer.old.keeps_accounts }
     ensures drawn { IfErr result
-        (λ one. R.stream issuer.new.rng ≡ drawn (if one then 1 else 0) (R.stream issuer.old.rng)) }
+        (λ fault. R.stream issuer.new.rng ≡ drawn (if fault.drawn then 1 else 0) (R.stream issuer.old.rng)) }
 {
     if actions.reserve(1).is_err() {
-        return Err(false);
+        return Err(RanOut { drawn: false });
     }
     match issuer.answer(alloc, at, ROOM, request) {
         Ok(Some(reply)) => {
@@ -143,7 +150,7 @@ fn answer_request<R: Rng>(
             });
             Ok(false)
         }
-        Err(_) => Err(true),
+        Err(_) => Err(RanOut { drawn: true }),
     }
 }
 

@@ -4,3 +4,4 @@ mod LineTexts
 mod Lines
 mod Running
 mod Taken
+mod Bounded

@@ -1,6 +1,6 @@
 -- A script: the lines of an input, run in order.
-use Rattle.std.specs.Prelude.{◌≡◌, ◌≢◌, ℕ, ◌+◌, ◌≤◌, ◌==◌, if◌then◌else◌, ◌⊎◌, List, [], ◌∷◌, ◌++◌, length, Option}
-use Rattle.std.specs.Prelude.{None, codes, decimal}
+use Rattle.std.specs.Prelude.{◌≡◌, ◌≢◌, ℕ, ◌+◌, ◌≤◌, ◌==◌, if◌then◌else◌, ◌⊎◌, List, [], ◌∷◌, ◌++◌, length, take}
+use Rattle.std.specs.Prelude.{Option, None, codes, decimal}
 use Rattle.std.specs.Io.BufRead.{strip_last}
 use Rattle.std.specs.Io.KnownBytes.{Appends}
 use Rattle.hex.specs.Hex.{encode_lower}
@@ -41,6 +41,10 @@ fault_text number = codes "fault " ++ decimal number ++ codes "\n"
 pub record IsWithinLimits (before : ℕ) (line : List ℕ) : Type 0 where
   pub short : length (line_text line) ≤ 262144
   pub early : before + length line ≤ 16777216
+
+-- the bytes of an input that a run reads at most: the last of them shows that the input is too long
+unfoldable pub read_part : List ℕ → List ℕ
+read_part octets = take 16777217 octets
 
 -- the text of no line that can run
 pub record IsFaultText (kdc : Option State) (text : List ℕ) : Type 0 where

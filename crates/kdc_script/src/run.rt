@@ -4,7 +4,7 @@ ghost use Rattle.std.specs.FinMap as map;
 ghost use Rattle.std.specs.Io.KnownBytes.{Appends};
 ghost use Rattle.kdc_script.specs.Octets.{octets_of};
 ghost use Rattle.kdc_script.specs.Run.{CannotRun, Changes, Runs, policy_of, row_change, stop_of};
-ghost use Rattle.kdc_script.specs.Script.{fault_text, IsFaultText, PrintsScript, PrintsText, PrintsUpToFault};
+ghost use Rattle.kdc_script.specs.Script.{fault_text, IsFaultText, PrintsScript, PrintsText, PrintsUpToFault, read_part};
 ghost use Rattle.kdc_script.specs.declared.line.Line.TheVariants as lines;
 ghost use Rattle.kdc_script.specs.declared.run.Stop.TheVariants.{Failed, Fault};
 ghost use Rattle.krb_fields.specs.NameLimits.{IsComponent};
@@ -75,6 +75,20 @@ impl From<LineFault> for Stop {
 /// Unless it is `FAILED`, the whole output was written, and the status is the script's. Nothing is promised about a
 /// failed run.
 pub fn run_script<R: Read + Drop, W: Write>(alloc: Global, reader: R, writer: &mut W) -> u8
+    ensures status { (result ≡ 0) ⊎ ((result ≡ 1) ⊎ (result ≡ 3)) }
+    ensures run { result ≢ 3
+        → IfSome (R.remaining reader) (λ octets.
+        PrintsScript octets (W.contents writer.old) (W.contents writer.new) result) }
+    // The bytes after the limit change nothing. The first of them shows that the input is too long.
+    ensures bounded { result ≢ 3
+        → IfSome (R.remaining reader) (λ octets.
+        PrintsScript (read_part octets) (W.contents writer.old) (W.contents writer.new) result) }
+{
+    run_input(alloc, reader, writer)
+}
+
+/// Runs the lines, and prints the number of the one that is a fault.
+fn run_input<R: Read + Drop, W: Write>(alloc: Global, reader: R, writer: &mut W) -> u8
     ensures status { (result ≡ 0) ⊎ ((result ≡ 1) ⊎ (result ≡ 3)) }
     ensures run { result ≢ 3
         → IfSome (R.remaining reader) (λ octets.

@@ -1,17 +1,17 @@
-//! The accounts of requests (`kdc_core`).
+//! Tests of the accounts of requests (`kdc_core`).
 use crate::given::BASIC;
 use crate::realm::{AccountRow, Came, Case, Exchange, NOTHING, Realm, UP_FROM_64, expect};
 use crate::service_tickets::REQUEST;
 use kdc_core::{AsRefusal, Bears, TgsRefusal};
 use std::test::Fail;
 
-/// The basic request is asked.
+/// The basic request.
 const BASIC_ASKED: Exchange = Exchange {
     request: BASIC,
     ..NOTHING
 };
 
-/// It is of `u`, for `krbtgt/A.B`.
+/// The account of the basic request: `u` asks for a ticket for `krbtgt/A.B`.
 const LOGIN: AccountRow = AccountRow {
     asked: BASIC_ASKED,
     octet: None,
@@ -20,7 +20,7 @@ const LOGIN: AccountRow = AccountRow {
     came: Came::NoRequest,
 };
 
-/// The TGS-REQ of `u` for `h`.
+/// The account of the TGS-REQ of `u` for `h`.
 const SERVICE: AccountRow = AccountRow {
     asked: Exchange {
         random: UP_FROM_64,
@@ -33,24 +33,24 @@ const SERVICE: AccountRow = AccountRow {
     came: Came::NoRequest,
 };
 
-/// The place of an octet of the ticket's cipher, and of the last one of the authenticator's.
+/// The place of a byte of the ticket's cipher, and of the last byte of the authenticator's.
 const IN_TICKET: usize = 150;
 
 const IN_AUTHENTICATOR: usize = 441;
 
 #[test]
-fn octets_that_are_no_request_have_no_names(rt: HostRuntime) -> Result<(), Fail> {
+fn other_messages_have_no_names(rt: HostRuntime) -> Result<(), Fail> {
     const ROWS: &[AccountRow] = &[AccountRow {
         asked: NOTHING,
         client: None,
         service: None,
         ..LOGIN
     }];
-    expect(rt.alloc(), Realm::Granter, Case::Accounts(ROWS))
+    expect(rt.alloc(), Realm::Tgs, Case::Accounts(ROWS))
 }
 
 #[test]
-fn a_refused_login_is_accounted_by_its_rule(rt: HostRuntime) -> Result<(), Fail> {
+fn the_account_of_a_refused_login_has_its_rule(rt: HostRuntime) -> Result<(), Fail> {
     const ROWS: &[AccountRow] = &[AccountRow {
         came: Came::LoginRefused(AsRefusal::PreauthRequired),
         ..LOGIN
@@ -59,7 +59,7 @@ fn a_refused_login_is_accounted_by_its_rule(rt: HostRuntime) -> Result<(), Fail>
 }
 
 #[test]
-fn a_login_is_accounted_with_its_ticket(rt: HostRuntime) -> Result<(), Fail> {
+fn the_account_of_a_login_has_its_ticket(rt: HostRuntime) -> Result<(), Fail> {
     const ROWS: &[AccountRow] = &[
         AccountRow {
             asked: Exchange {
@@ -82,7 +82,9 @@ fn a_login_is_accounted_with_its_ticket(rt: HostRuntime) -> Result<(), Fail> {
 }
 
 #[test]
-fn a_refused_tgs_req_is_accounted_to_the_client_of_its_ticket(rt: HostRuntime) -> Result<(), Fail> {
+fn the_account_of_a_refused_tgs_req_has_the_client_of_its_ticket(
+    rt: HostRuntime,
+) -> Result<(), Fail> {
     const ROWS: &[AccountRow] = &[
         AccountRow {
             octet: Some(IN_TICKET),
@@ -100,7 +102,7 @@ fn a_refused_tgs_req_is_accounted_to_the_client_of_its_ticket(rt: HostRuntime) -
 }
 
 #[test]
-fn a_repeated_request_is_accounted_as_sent_again(rt: HostRuntime) -> Result<(), Fail> {
+fn the_account_of_a_repeated_request_says_so(rt: HostRuntime) -> Result<(), Fail> {
     const ROWS: &[AccountRow] = &[
         AccountRow {
             came: Came::Issued {

@@ -1,13 +1,13 @@
-//! The expectations of tests. A call of these costs a test about a quarter of what its own `assert!` does.
+//! Assertions of tests. A call of one takes about a quarter of the time to prove that an `assert!` takes.
 use std::fmt::Debug;
 use std::process::Abort;
 
-/// This holds.
+/// Asserts that this holds.
 pub fn holds(rt: &impl Abort, holds: bool, what: &str) {
     assert!(rt; holds, "{what}");
 }
 
-/// What is found of this is what is wanted.
+/// Asserts that the expected value was found for this input.
 pub fn same<T: PartialEq + Debug>(rt: &impl Abort, given: &impl Debug, found: &T, wanted: &T) {
     assert_eq!(rt; *found, *wanted, "of {given:?}");
 }

@@ -1,5 +1,5 @@
-//! Worked cases of a hub (`kdc_hub`). If its KDC, for the realm `A.B`, has no clients, it answers each request with an
-//! error of code 6.
+//! Tests of a hub (`kdc_hub`). If its KDC, for the realm `A.B`, has no clients, it answers each request with an error
+//! of code 6.
 use crate::expect::same;
 use crate::given;
 use crate::given::{BASIC, CLIENT_UNKNOWN};
@@ -18,7 +18,7 @@ use std::collections::VecDeque;
 use std::net::{Ipv4Addr, SocketAddr};
 use std::test::Fail;
 
-/// The basic request for the service `krbtgu/A.B` instead, and its reply.
+/// The basic request with the service `krbtgu/A.B`, and its reply.
 const OTHER_REQUEST: &str = "\
         6a693067a103020105a20302010aa45b3059a00703050000000000a10e300ca003020101a10530031b0175a2051b03412e42\
         a3183016a003020102a10f300d1b066b72627467751b03412e42a511180f31393730303130313030303030305aa703020101\
@@ -28,25 +28,24 @@ const OTHER_CLIENT_UNKNOWN: &str = "\
         7e4a3048a003020105a10302011ea411180f32303234303130313030303030305aa503020100a603020106a9051b03412e42\
         aa183016a003020102a10f300d1b066b72627467751b03412e42";
 
-/// The error of the realm with code 61.
+/// The realm's error with code 61.
 const TOO_LONG: &str = "\
         7e4a3048a003020105a10302011ea411180f32303234303130313030303030305aa503020100a60302013da9051b03412e42\
         aa183016a003020102a10f300d1b066b72627467741b03412e42";
 
 type TestHub = Hub<ChaCha20Rng>;
 
-/// What a test does with a hub, and whether what it saw is right. A hub is let go in `run` alone: proofs about it end
-/// take long for each place.
+/// A test of a hub. Only `run` drops a hub: each place with a drop takes long to prove.
 #[derive(Clone, Copy)]
 enum Scenario {
     Alternating,
     CutAnywhere,
-    WantOfMemory,
-    FaultyLength,
+    OutOfMemory,
+    BadLength,
     EndedConnection,
     FullTable,
     OwnReplies,
-    /// A call of the wire fails, after so many others.
+    /// A call of the wire fails after this many calls.
     FailedCall(u64),
     /// No call fails.
     NoFailedCall,
@@ -58,7 +57,7 @@ impl Scenario {
     fn realm(self) -> Realm {
         match self {
             Scenario::Repeat => Realm::Service,
-            _ => Realm::Granter,
+            _ => Realm::Tgs,
         }
     }
 }
@@ -69,7 +68,7 @@ fn run(alloc: Global, scenario: Scenario) -> Result<bool, Fail> {
     play(alloc, &mut hub, scenario)
 }
 
-/// What the test saw is right.
+/// Fails unless the hub did what it should.
 fn expect(alloc: Global, scenario: Scenario) -> Result<(), Fail> {
     if run(alloc, scenario)? {
         Ok(())
@@ -82,8 +81,8 @@ fn play(alloc: Global, hub: &mut TestHub, scenario: Scenario) -> Result<bool, Fa
     match scenario {
         Scenario::Alternating => octets_alternate(alloc, hub),
         Scenario::CutAnywhere => requests_are_cut(alloc, hub),
-        Scenario::WantOfMemory => a_step_is_refused_memory(alloc, hub),
-        Scenario::FaultyLength => a_length_is_at_fault(alloc, hub),
+        Scenario::OutOfMemory => a_step_runs_out_of_memory(alloc, hub),
+        Scenario::BadLength => a_length_is_bad(alloc, hub),
         Scenario::EndedConnection => a_connection_ends(alloc, hub),
         Scenario::FullTable => a_table_is_full(alloc, hub),
         Scenario::OwnReplies => each_gets_its_own(alloc, hub),
@@ -93,7 +92,7 @@ fn play(alloc: Global, hub: &mut TestHub, scenario: Scenario) -> Result<bool, Fa
     }
 }
 
-/// The first second of 2024.
+/// Returns the first second of 2024.
 fn now() -> Result<Moment, Fail> {
     Ok(Moment::new(1_704_067_200, 0).ok_or("a moment")?)
 }
@@ -123,7 +122,7 @@ fn octets(alloc: Global, digits: &str) -> Result<Octets, Fail> {
     Ok(Octets::new(given::octets(alloc, digits)?))
 }
 
-/// A request behind its length, which is given in hexadecimal digits.
+/// Returns a request, given in hexadecimal digits, after its length.
 fn framed(alloc: Global, digits: &str) -> Result<Vec<u8>, Fail> {
     let request = octets(alloc, digits)?;
     if request.as_slice().len() > 1_400 {
@@ -132,14 +131,14 @@ fn framed(alloc: Global, digits: &str) -> Result<Vec<u8>, Fail> {
     Ok(frame(alloc, request.as_slice())?)
 }
 
-/// Both requests, each behind its length.
+/// Returns both requests, each after its length.
 fn two_requests(alloc: Global) -> Result<Vec<u8>, Fail> {
     let mut stream = framed(alloc, BASIC)?;
     stream.extend_from_slice(&framed(alloc, OTHER_REQUEST)?)?;
     Ok(stream)
 }
 
-/// Whether the action writes this message, which is given in hexadecimal digits.
+/// Checks whether the action writes this message, given in hexadecimal digits.
 fn is_write(alloc: Global, action: &Action, to: u64, digits: &str) -> Result<bool, Fail> {
     let wanted = given::octets(alloc, digits)?;
     Ok(match action {
@@ -150,7 +149,7 @@ fn is_write(alloc: Global, action: &Action, to: u64, digits: &str) -> Result<boo
     })
 }
 
-/// Whether the actions write the replies to both requests, in order.
+/// Checks whether the actions write the replies to both requests, in order.
 fn are_both_replies(alloc: Global, actions: &[Action], conn: u64) -> Result<bool, Fail> {
     Ok(match actions {
         [first, second] => {
@@ -161,7 +160,7 @@ fn are_both_replies(alloc: Global, actions: &[Action], conn: u64) -> Result<bool
     })
 }
 
-/// Whether an octet brings this reply, or nothing where there is none.
+/// Checks whether the hub answers a byte with this reply, or with nothing.
 fn brings(
     alloc: Global,
     hub: &mut TestHub,
@@ -181,7 +180,7 @@ fn is_opened(alloc: Global, hub: &mut TestHub, conn: u64) -> Result<bool, Fail> 
     Ok(step(alloc, hub, Event::Opened { conn })?.is_empty())
 }
 
-/// Whether each octet of both requests brings nothing, but the last one of each its reply.
+/// Checks whether the hub answers the last byte of each request with its reply, and the other bytes with nothing.
 fn bring_in_turn(
     alloc: Global,
     hub: &mut TestHub,
@@ -210,11 +209,11 @@ fn octets_alternate(alloc: Global, hub: &mut TestHub) -> Result<bool, Fail> {
 }
 
 #[test]
-fn connections_whose_octets_alternate_get_their_own_replies(rt: HostRuntime) -> Result<(), Fail> {
+fn connections_whose_bytes_alternate_get_their_own_replies(rt: HostRuntime) -> Result<(), Fail> {
     expect(rt.alloc(), Scenario::Alternating)
 }
 
-/// What two pieces bring on a new connection, which is then at its end.
+/// Returns the actions for two pieces on a new connection, which then ends.
 fn bring_two(
     alloc: Global,
     hub: &mut TestHub,
@@ -231,7 +230,7 @@ fn bring_two(
     Ok(actions)
 }
 
-/// Whether both replies come where the stream is cut at this place.
+/// Checks whether both replies come if the stream is cut at this place.
 fn is_cut_well(
     alloc: Global,
     hub: &mut TestHub,
@@ -258,7 +257,7 @@ fn requests_that_are_cut_anywhere_get_the_same_replies(rt: HostRuntime) -> Resul
     expect(rt.alloc(), Scenario::CutAnywhere)
 }
 
-/// Whether a step that wanted memory has the replies before it and has ended connection 7, its own.
+/// Checks whether a step that ran out of memory has the replies before that, and has ended its connection, 7.
 fn is_ended(alloc: Global, hub: &mut TestHub, fault: &HubFault) -> Result<bool, Fail> {
     for action in &fault.done {
         if !is_write(alloc, action, 7, CLIENT_UNKNOWN)? {
@@ -269,7 +268,7 @@ fn is_ended(alloc: Global, hub: &mut TestHub, fault: &HubFault) -> Result<bool, 
     Ok(fault.conn == Some(7) && fault.done.len() < 2 && later.is_empty())
 }
 
-/// Whether both requests get their replies in one step, or it wants memory.
+/// Checks whether both requests get their replies in one step, or the step runs out of memory.
 fn is_stepped(alloc: Global, hub: &mut TestHub) -> Result<bool, Fail> {
     let piece = Octets::new(two_requests(alloc)?);
     match take(alloc, hub, now()?, Event::Bytes { conn: 7, piece }) {
@@ -285,14 +284,14 @@ fn a_datagram_is_answered(alloc: Global, hub: &mut TestHub) -> Result<bool, Fail
     Ok(matches!(actions.as_slice(), [Action::SendTo { .. }]))
 }
 
-fn a_step_is_refused_memory(alloc: Global, hub: &mut TestHub) -> Result<bool, Fail> {
+fn a_step_runs_out_of_memory(alloc: Global, hub: &mut TestHub) -> Result<bool, Fail> {
     Ok(is_opened(alloc, hub, 7)? && is_stepped(alloc, hub)? && a_datagram_is_answered(alloc, hub)?)
 }
 
-// One allocation may be refused, by `rt try --test --fail-alloc N`.
+// Passes if any one allocation fails (`rt try --test --fail-alloc N`).
 #[test]
-fn a_step_that_is_refused_memory_ends_its_connection_alone(rt: HostRuntime) -> Result<(), Fail> {
-    expect(rt.alloc(), Scenario::WantOfMemory)
+fn a_step_out_of_memory_ends_only_its_connection(rt: HostRuntime) -> Result<(), Fail> {
+    expect(rt.alloc(), Scenario::OutOfMemory)
 }
 
 fn is_refused(alloc: Global, hub: &mut TestHub) -> Result<bool, Fail> {
@@ -309,7 +308,7 @@ fn is_refused(alloc: Global, hub: &mut TestHub) -> Result<bool, Fail> {
     })
 }
 
-fn a_length_is_at_fault(alloc: Global, hub: &mut TestHub) -> Result<bool, Fail> {
+fn a_length_is_bad(alloc: Global, hub: &mut TestHub) -> Result<bool, Fail> {
     Ok(
         is_opened(alloc, hub, 7)?
             && is_refused(alloc, hub)?
@@ -318,8 +317,8 @@ fn a_length_is_at_fault(alloc: Global, hub: &mut TestHub) -> Result<bool, Fail> 
 }
 
 #[test]
-fn a_length_at_fault_is_answered_and_ends_the_connection(rt: HostRuntime) -> Result<(), Fail> {
-    expect(rt.alloc(), Scenario::FaultyLength)
+fn a_bad_length_is_answered_and_ends_the_connection(rt: HostRuntime) -> Result<(), Fail> {
+    expect(rt.alloc(), Scenario::BadLength)
 }
 
 fn a_connection_ends(alloc: Global, hub: &mut TestHub) -> Result<bool, Fail> {
@@ -335,7 +334,7 @@ fn the_end_of_a_connection_gives_no_action(rt: HostRuntime) -> Result<(), Fail> 
     expect(rt.alloc(), Scenario::EndedConnection)
 }
 
-/// Whether connections 0 to 255 are opened, and 5 again.
+/// Checks whether connections 0 to 255 are opened, and 5 again.
 fn fill(alloc: Global, hub: &mut TestHub) -> Result<bool, Fail> {
     for conn in 0..256u64 {
         if !is_opened(alloc, hub, conn)? {
@@ -366,7 +365,7 @@ fn a_table_is_full(alloc: Global, hub: &mut TestHub) -> Result<bool, Fail> {
 }
 
 #[test]
-fn a_full_table_closes_what_comes_new(rt: HostRuntime) -> Result<(), Fail> {
+fn a_full_table_closes_new_connections(rt: HostRuntime) -> Result<(), Fail> {
     expect(rt.alloc(), Scenario::FullTable)
 }
 
@@ -377,7 +376,7 @@ fn peer(port: u16) -> Peer {
     }
 }
 
-/// What comes, and when.
+/// The events of a run, with their moments.
 type Coming = VecDeque<(Moment, Event)>;
 
 fn push(coming: &mut Coming, event: Event) -> Result<(), Fail> {
@@ -395,7 +394,7 @@ fn push_piece(alloc: Global, coming: &mut Coming, conn: u64, piece: &[u8]) -> Re
     push(coming, Event::Bytes { conn, piece })
 }
 
-/// Requests of two peers and on two connections, one of them in two pieces.
+/// Appends requests from two peers and on two connections, one of them in two pieces.
 fn push_requests(alloc: Global, coming: &mut Coming) -> Result<(), Fail> {
     let framed = framed(alloc, BASIC)?;
     let (head, rest) = framed.split_at_checked(9).ok_or("two pieces")?;
@@ -417,7 +416,7 @@ fn coming(alloc: Global) -> Result<Coming, Fail> {
     }
 }
 
-/// How many messages went to the peer of this port or to this connection.
+/// Counts the messages to the peer with this port or to this connection.
 fn replies(did: &[Did], port: u16, number: u64) -> u64 {
     let mut replies = 0u64;
     for call in did {
@@ -436,15 +435,15 @@ fn replies(did: &[Did], port: u16, number: u64) -> u64 {
     replies
 }
 
-/// What is seen of a run over a wire.
+/// A summary of a run over a wire.
 #[derive(Clone, Copy)]
 struct Seen {
     served: Served,
-    /// The faults that the wire counted.
+    /// The number of failed calls that the wire counted.
     faults: u64,
-    /// How often the wire was called.
+    /// The number of calls of the wire.
     calls: usize,
-    /// How many messages each of the four was sent: the two connections and the two peers.
+    /// The number of messages to each of the two connections and the two peers.
     replies: [u64; 4],
 }
 
@@ -463,7 +462,7 @@ fn look_at(served: Served, wire: &MemoryWire) -> Result<Seen, Fail> {
     })
 }
 
-/// Serves the requests for so many rounds. A call of the wire fails after so many others, or none does.
+/// Serves the requests for this many rounds. If `calls` is given, a call of the wire fails after that many calls.
 fn serve_requests(
     alloc: Global,
     hub: &mut TestHub,
@@ -476,7 +475,7 @@ fn serve_requests(
     look_at(served, &wire)
 }
 
-/// There are 64 polls, and each of the four gets one reply.
+/// Checks that there are 64 polls, and that each of the four gets one reply.
 fn each_gets_its_own(alloc: Global, hub: &mut TestHub) -> Result<bool, Fail> {
     let seen = serve_requests(alloc, hub, None, 64)?;
     let is_whole = seen.served.events == 8 && seen.served.faults == 0 && seen.served.refused == 0;
@@ -488,8 +487,8 @@ fn each_gets_its_own_reply(rt: HostRuntime) -> Result<(), Fail> {
     expect(rt.alloc(), Scenario::OwnReplies)
 }
 
-/// How many messages the four are sent, and how many faults are counted, in a run of 16 rounds, which polls 16 times
-/// and acts four times.
+/// Returns the number of messages to the four, and of failed calls, in a run of 16 rounds. It polls 16 times and acts
+/// four times.
 fn serve_with_fault(alloc: Global, hub: &mut TestHub, calls: u64) -> Result<(u64, u64), Fail> {
     let seen = serve_requests(alloc, hub, Some(calls), 16)?;
     if seen.served.faults > seen.faults {
@@ -520,7 +519,7 @@ fn a_failed_call_costs_one_reply_at_most(rt: HostRuntime) -> Result<(), Fail> {
     expect(rt.alloc(), Scenario::NoFailedCall)
 }
 
-/// What is written to a new connection when it has brought these octets, if that is all that happens.
+/// Returns the message that is written to a new connection for these bytes, if there is no other action.
 fn written(
     alloc: Global,
     hub: &mut TestHub,
@@ -537,7 +536,7 @@ fn written(
     }
 }
 
-/// Whether a stream gets the same TGS-REP on one connection and on another.
+/// Checks whether a stream gets the same TGS-REP on two connections.
 fn is_repeated(alloc: Global, hub: &mut TestHub, stream: &[u8]) -> Result<bool, Fail> {
     let first = written(alloc, hub, 1, stream)?.ok_or("a reply")?;
     let second = written(alloc, hub, 2, stream)?.ok_or("a reply")?;

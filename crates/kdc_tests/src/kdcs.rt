@@ -1,15 +1,15 @@
-//! A key distribution centre (`kdc_core`): requests and their replies, changes of rows, and runs.
+//! Tests of a KDC (`kdc_core`): requests and their replies, changes of rows, and runs.
 use crate::given::{BASIC, CLIENT_UNKNOWN};
 use crate::realm::{Altered, Case, Exchange, Happening, NOTHING, Realm, Step, expect};
 use std::test::Fail;
 
-/// The basic request with its first length spelled in two octets.
+/// The basic request with its first length in two bytes.
 const LONG_FORM: &str = "\
         6a81693067a103020105a20302010aa45b3059a00703050000000000a10e300ca003020101a10530031b0175a2051b03412e\
         42a3183016a003020102a10f300d1b066b72627467741b03412e42a511180f31393730303130313030303030305aa7030201\
         01a8053003020112";
 
-/// The basic request with an octet behind it.
+/// The basic request followed by a byte.
 const LONGER: &str = "\
         6a693067a103020105a20302010aa45b3059a00703050000000000a10e300ca003020101a10530031b0175a2051b03412e42\
         a3183016a003020102a10f300d1b066b72627467741b03412e42a511180f31393730303130313030303030305aa703020101\
@@ -25,23 +25,23 @@ const NO_SERVICE: &str = "\
         6a4f304da103020105a20302010aa441303fa00703050000000000a10e300ca003020101a10530031b0175a2051b03412e42\
         a511180f31393730303130313030303030305aa703020101a8053003020112";
 
-/// KRB-ERROR of 2024-01-01 00:00:00 with code 7, realm `A.B` and service `krbtgt/A.B`.
+/// A KRB-ERROR of 2024-01-01 00:00:00 with code 7, realm `A.B` and service `krbtgt/A.B`.
 const SERVICE_UNKNOWN: &str = "\
         7e4a3048a003020105a10302011ea411180f32303234303130313030303030305aa503020100a603020107a9051b03412e42\
         aa183016a003020102a10f300d1b066b72627467741b03412e42";
 
-/// The basic request for a service of name-type -3 without components.
+/// The basic request for a service with name-type -3 and no components.
 const STRANGE_SERVICE: &str = "\
         6a5c305aa103020105a20302010aa44e304ca00703050000000000a10e300ca003020101a10530031b0175a2051b03412e42\
         a30b3009a0030201fda1023000a511180f31393730303130313030303030305aa703020101a8053003020112";
 
-/// KRB-ERROR of 2024-01-01 00:00:00 and 999999 microseconds with code 7, realm `A.B` and that service.
+/// A KRB-ERROR of 2024-01-01 00:00:00 and 999999 microseconds with code 7, realm `A.B` and that service.
 const STRANGE_SERVICE_UNKNOWN: &str = "\
         7e3f303da003020105a10302011ea411180f32303234303130313030303030305aa50502030f423fa603020107a9051b0341\
         2e42aa0b3009a0030201fda1023000";
 
-/// The AS-REP to the basic request, of a Python program over `cryptography`: the keys of `u` and of `krbtgt/A.B` are 32
-/// zeros, the random octets are 0 to 63.
+/// The AS-REP to the basic request, from a Python program over `cryptography`. The keys of `u` and of `krbtgt/A.B` are
+/// 32 zeros, and the random bytes are 0 to 63.
 const TICKET: &str = "\
         6b82022a30820226a003020105a10302010ba21e301c301aa103020113a2130411300f300da003020112a1061b04412e4275\
         a3051b03412e42a40e300ca003020101a10530031b0175a581f76181f43081f1a003020105a1051b03412e42a2183016a003\
@@ -56,28 +56,28 @@ const TICKET: &str = "\
         80baa95d4997b7f18085befac00293589b7c249c090a31a43df2ee67c5e2670e83814a31b9a6455d2a6b168da080206f8c9f\
         dd6967b900f9e18e";
 
-/// KRB-ERROR of 2024-01-01 00:00:00 with code 52.
+/// A KRB-ERROR of 2024-01-01 00:00:00 with code 52.
 const TOO_BIG: &str = "\
         7e4a3048a003020105a10302011ea411180f32303234303130313030303030305aa503020100a603020134a9051b03412e42\
         aa183016a003020102a10f300d1b066b72627467741b03412e42";
 
-/// KRB-ERROR of 2024-01-01 00:00:00 with code 25, and METHOD-DATA for `u` and type 18.
+/// A KRB-ERROR of 2024-01-01 00:00:00 with code 25, and METHOD-DATA for `u` and encryption type 18.
 const PREAUTH_REQUIRED: &str = "\
         7e773075a003020105a10302011ea411180f32303234303130313030303030305aa503020100a603020119a9051b03412e42\
         aa183016a003020102a10f300d1b066b72627467741b03412e42ac2b04293027301aa103020113a2130411300f300da00302\
         0112a1061b04412e42753009a103020102a2020400";
 
-/// The basic request with a PA-ENC-TIMESTAMP, up to a cipher of a million octets.
+/// The basic request with a PA-ENC-TIMESTAMP, up to a cipher of a million bytes.
 const BEFORE_A_MILLION: &str = "\
         6a830f42de30830f42d9a103020105a20302010aa3830f426d30830f426830830f4263a103020102a2830f425904830f4254\
         30830f424fa003020112a2830f424504830f4240";
 
-/// The body of the basic request, which stands behind it.
+/// The body of the basic request, which follows the cipher.
 const BODY: &str = "\
         a45b3059a00703050000000000a10e300ca003020101a10530031b0175a2051b03412e42a3183016a003020102a10f300d1b\
         066b72627467741b03412e42a511180f31393730303130313030303030305aa703020101a8053003020112";
 
-/// KRB-ERROR of 2024-01-01 00:00:00 with code 24.
+/// A KRB-ERROR of 2024-01-01 00:00:00 with code 24.
 const PREAUTH_FAILED: &str = "\
         7e4a3048a003020105a10302011ea411180f32303234303130313030303030305aa503020100a603020118a9051b03412e42\
         aa183016a003020102a10f300d1b066b72627467741b03412e42";
@@ -89,11 +89,11 @@ fn refuses_an_unknown_client(rt: HostRuntime) -> Result<(), Fail> {
         reply: Some(CLIENT_UNKNOWN),
         ..NOTHING
     }];
-    expect(rt.alloc(), Realm::Granter, Case::Exchanges(EXCHANGES))
+    expect(rt.alloc(), Realm::Tgs, Case::Exchanges(EXCHANGES))
 }
 
 #[test]
-fn refuses_where_no_client_or_no_service_is_named(rt: HostRuntime) -> Result<(), Fail> {
+fn refuses_a_request_without_a_client_or_a_service(rt: HostRuntime) -> Result<(), Fail> {
     const EXCHANGES: &[Exchange] = &[
         Exchange {
             request: NO_CLIENT,
@@ -122,11 +122,11 @@ fn names_the_service_and_the_moment_as_they_are(rt: HostRuntime) -> Result<(), F
 
 #[test]
 fn gives_no_reply_to_part_of_a_request(rt: HostRuntime) -> Result<(), Fail> {
-    expect(rt.alloc(), Realm::Granter, Case::Beginnings(BASIC))
+    expect(rt.alloc(), Realm::Tgs, Case::Beginnings(BASIC))
 }
 
 #[test]
-fn gives_no_reply_to_what_is_no_request(rt: HostRuntime) -> Result<(), Fail> {
+fn gives_no_reply_to_other_messages(rt: HostRuntime) -> Result<(), Fail> {
     const EXCHANGES: &[Exchange] = &[
         Exchange {
             request: LONGER,
@@ -137,7 +137,7 @@ fn gives_no_reply_to_what_is_no_request(rt: HostRuntime) -> Result<(), Fail> {
             ..NOTHING
         },
     ];
-    expect(rt.alloc(), Realm::Granter, Case::Exchanges(EXCHANGES))
+    expect(rt.alloc(), Realm::Tgs, Case::Exchanges(EXCHANGES))
 }
 
 #[test]
@@ -160,7 +160,7 @@ fn refuses_by_version_type_and_exchange(rt: HostRuntime) -> Result<(), Fail> {
             code: 40,
         },
     ];
-    expect(rt.alloc(), Realm::Granter, Case::Altered(CHANGES))
+    expect(rt.alloc(), Realm::Tgs, Case::Altered(CHANGES))
 }
 
 #[test]
@@ -182,8 +182,8 @@ fn refuses_what_the_database_lacks(rt: HostRuntime) -> Result<(), Fail> {
 }
 
 #[test]
-fn gets_the_rows_that_there_are(rt: HostRuntime) -> Result<(), Fail> {
-    expect(rt.alloc(), Realm::Granter, Case::Rows)
+fn gets_existing_rows(rt: HostRuntime) -> Result<(), Fail> {
+    expect(rt.alloc(), Realm::Tgs, Case::Rows)
 }
 
 #[test]
@@ -192,19 +192,19 @@ fn adds_a_row_once(rt: HostRuntime) -> Result<(), Fail> {
 }
 
 #[test]
-fn a_request_without_memory_is_answered_when_it_comes_again(rt: HostRuntime) -> Result<(), Fail> {
+fn a_request_is_answered_after_memory_ran_out(rt: HostRuntime) -> Result<(), Fail> {
     const REFUSED: Exchange = Exchange {
         request: BASIC,
         reply: Some(CLIENT_UNKNOWN),
         ..NOTHING
     };
-    expect(rt.alloc(), Realm::Granter, Case::Again(REFUSED))
+    expect(rt.alloc(), Realm::Tgs, Case::Again(REFUSED))
 }
 
-// Passes whichever allocation of the first change is refused.
+// Passes if any one allocation of the first change fails.
 #[test]
-fn a_change_without_memory_leaves_the_kdc(rt: HostRuntime) -> Result<(), Fail> {
-    expect(rt.alloc(), Realm::Granter, Case::AddedAgain)
+fn a_change_out_of_memory_leaves_the_kdc_unchanged(rt: HostRuntime) -> Result<(), Fail> {
+    expect(rt.alloc(), Realm::Tgs, Case::AddedAgain)
 }
 
 #[test]
@@ -238,27 +238,27 @@ fn asks_for_preauthentication(rt: HostRuntime) -> Result<(), Fail> {
 
 #[test]
 fn key_hints_are_the_same_again(rt: HostRuntime) -> Result<(), Fail> {
-    const TOLD: Exchange = Exchange {
+    const HINTS: Exchange = Exchange {
         request: BASIC,
         reply: Some(PREAUTH_REQUIRED),
         ..NOTHING
     };
-    expect(rt.alloc(), Realm::User, Case::Again(TOLD))
+    expect(rt.alloc(), Realm::User, Case::Again(HINTS))
 }
 
 #[test]
-fn a_timestamp_of_a_million_octets_fails_as_any_other(rt: HostRuntime) -> Result<(), Fail> {
+fn a_timestamp_of_a_million_bytes_fails_as_any_other(rt: HostRuntime) -> Result<(), Fail> {
     let case = Case::Million(BEFORE_A_MILLION, BODY, PREAUTH_FAILED);
     expect(rt.alloc(), Realm::LenientUser, case)
 }
 
 #[test]
-fn a_changed_request_changes_no_later_answer(rt: HostRuntime) -> Result<(), Fail> {
+fn a_changed_request_changes_no_later_reply(rt: HostRuntime) -> Result<(), Fail> {
     expect(rt.alloc(), Realm::LenientUser, Case::Unspoilt(TICKET))
 }
 
 #[test]
-fn a_ticket_without_memory_is_issued_when_asked_again(rt: HostRuntime) -> Result<(), Fail> {
+fn a_ticket_is_issued_after_memory_ran_out(rt: HostRuntime) -> Result<(), Fail> {
     const ISSUED: Exchange = Exchange {
         request: BASIC,
         reply: Some(TICKET),
@@ -267,9 +267,9 @@ fn a_ticket_without_memory_is_issued_when_asked_again(rt: HostRuntime) -> Result
     expect(rt.alloc(), Realm::LenientUser, Case::Again(ISSUED))
 }
 
-// Passes whichever allocation of the first run is refused.
+// Passes if any one allocation of the first run fails.
 #[test]
-fn a_run_goes_on_where_it_stopped(rt: HostRuntime) -> Result<(), Fail> {
+fn a_run_continues_where_it_stopped(rt: HostRuntime) -> Result<(), Fail> {
     const RUN: &[Step] = &[
         (Happening::Noise, None),
         (Happening::AddsUser, None),
@@ -278,17 +278,17 @@ fn a_run_goes_on_where_it_stopped(rt: HostRuntime) -> Result<(), Fail> {
         (Happening::Asks(b'x'), Some(CLIENT_UNKNOWN)),
         (Happening::Asks(b'u'), Some(PREAUTH_REQUIRED)),
     ];
-    expect(rt.alloc(), Realm::Granter, Case::Run(RUN))
+    expect(rt.alloc(), Realm::Tgs, Case::Run(RUN))
 }
 
 #[test]
-fn rows_of_the_same_realm_take_the_place_of_the_others(rt: HostRuntime) -> Result<(), Fail> {
+fn rows_of_the_same_realm_replace_the_others(rt: HostRuntime) -> Result<(), Fail> {
     const RUN: &[Step] = &[
         (Happening::Asks(b'u'), Some(CLIENT_UNKNOWN)),
         (Happening::Replaces(b"A.B"), None),
         (Happening::Asks(b'u'), Some(PREAUTH_REQUIRED)),
     ];
-    expect(rt.alloc(), Realm::Granter, Case::Run(RUN))
+    expect(rt.alloc(), Realm::Tgs, Case::Run(RUN))
 }
 
 #[test]
@@ -298,7 +298,7 @@ fn rows_of_another_realm_change_nothing(rt: HostRuntime) -> Result<(), Fail> {
         (Happening::Replaces(b"A.C"), None),
         (Happening::Asks(b'u'), Some(CLIENT_UNKNOWN)),
     ];
-    expect(rt.alloc(), Realm::Granter, Case::Run(RUN))
+    expect(rt.alloc(), Realm::Tgs, Case::Run(RUN))
 }
 
 #[test]
@@ -308,5 +308,5 @@ fn opens_again_with_other_rows(rt: HostRuntime) -> Result<(), Fail> {
         (Happening::Reopens, None),
         (Happening::Asks(b'u'), Some(PREAUTH_REQUIRED)),
     ];
-    expect(rt.alloc(), Realm::Granter, Case::Run(RUN))
+    expect(rt.alloc(), Realm::Tgs, Case::Run(RUN))
 }

@@ -1,5 +1,5 @@
-//! The tests of a KDC and of the crates around it: scripts, streams cut into messages, the hub, and the wire over
-//! sockets. They are a crate of their own because a crate with tests is proved twice.
+//! Tests of a KDC and of the crates around it: scripts, streams cut into messages, the hub, and the wire over sockets.
+//! They are a crate of their own because a crate with tests is proved twice.
 #![tactic(auto)]
 
 #[cfg(test)]
@@ -15,9 +15,11 @@ mod kdcs;
 #[cfg(test)]
 mod lives;
 #[cfg(test)]
-mod memories;
+mod locks;
 #[cfg(test)]
 mod realm;
+#[cfg(test)]
+mod replay_caches;
 #[cfg(test)]
 mod requests;
 #[cfg(test)]

@@ -1,10 +1,10 @@
-//! A realm's life from a login to a revoked ticket, each line with the expected output. The bytes come from a model of
-//! the exchanges in Python, which shares no code with this repository.
+//! Tests of a realm's life from a login to a revoked ticket. Each line has its expected output. The bytes come from a
+//! model of the exchanges in Python, which shares no code with this repository.
 use crate::realm::{Case, Exchange, NOTHING, Realm, expect};
 use crate::scripts::expect_lines;
 use std::test::Fail;
 
-/// A login with a timestamp, which is answered by a ticket.
+/// A login with a timestamp, and the reply with a ticket.
 const LOGIN: (&str, &str) = (
     "\
         request 1704067200 0 a407e0a2dceac6144addde8cc496477b2fe7759bb069cc9ae8a5c8c6c56303258ee8fdda8458739\
@@ -28,9 +28,9 @@ const LOGIN: (&str, &str) = (
         0067f9447ea61afa954e41",
 );
 
-/// A login, which preauthentication comes before; a ticket for `h`; the same request again; another request with the
-/// same authenticator; a restart, after which that request is too old, and a newer one is answered; then tickets from
-/// before 1704067201 are revoked, and a new login gets a ticket that is taken.
+/// A login without and with preauthentication; a ticket for `h`; the same request again; another request with the same
+/// authenticator; a restart, after which that request is too old, and a newer one is answered. Then tickets from before
+/// 1704067201 are revoked, and a new login gets a ticket that is accepted.
 const LIFE: &[(&str, &str)] = &[
     (
         "open A.B 64 0 0 36000 0 18:808182838485868788898a8b8c8d8e8f909192939495969798999a9b9c9d9e9f",
@@ -247,16 +247,16 @@ const LIFE: &[(&str, &str)] = &[
 ];
 
 #[test]
-fn a_whole_life_is_answered_as_the_rules_say(rt: HostRuntime) {
+fn a_whole_life_is_answered_by_the_rules(rt: HostRuntime) {
     expect_lines(&rt, LIFE);
 }
 
-/// A field of a line, the first being 0.
+/// Returns a field of a line. The first one has place 0.
 fn field(line: &'static str, place: usize) -> Result<&'static str, Fail> {
     Ok(line.split(' ').nth(place).ok_or("a field")?)
 }
 
-/// What a line asks, and what is printed of it.
+/// Returns the request in a line, with the expected reply.
 fn exchange(line: &'static str, answer: &'static str) -> Result<Exchange, Fail> {
     Ok(Exchange {
         random: field(line, 3)?,
@@ -267,7 +267,7 @@ fn exchange(line: &'static str, answer: &'static str) -> Result<Exchange, Fail> 
 }
 
 #[test]
-fn a_login_without_memory_is_answered_when_it_comes_again(rt: HostRuntime) -> Result<(), Fail> {
+fn a_login_is_answered_after_memory_ran_out(rt: HostRuntime) -> Result<(), Fail> {
     let (line, answer) = LOGIN;
     expect(
         rt.alloc(),

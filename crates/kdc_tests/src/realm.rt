@@ -1,6 +1,7 @@
-//! KDCs (`kdc_core`) of the realm `A.B`, and what tests do with one. A KDC is dropped only here: proofs about a drop
-//! take long at each place.
+//! KDCs (`kdc_core`) for the realm `A.B`, and the tests of one. A KDC is dropped only here: each place with a drop
+//! takes long to prove.
 use crate::given::{BASIC, name, octets};
+use crate::locks::{LockStep, first_other_step};
 use enctypes::{Etype, Key};
 use kdc_core::{
     Account, Answer, AsOutcome, AsRefusal, Bears, Event, Granted, Kdc, Opening, Resumption,
@@ -16,12 +17,12 @@ use std::test::Fail;
 
 const MIDNIGHT: i64 = 1_704_067_200;
 
-/// The octets 0 to 63.
+/// The bytes 0 to 63.
 pub const UP_FROM_0: &str = "\
         000102030405060708090a0b0c0d0e0f101112131415161718191a1b1c1d1e1f202122232425262728292a2b2c2d2e2f3031\
         32333435363738393a3b3c3d3e3f";
 
-/// The octets 64 to 127.
+/// The bytes 64 to 127.
 pub const UP_FROM_64: &str = "\
         404142434445464748494a4b4c4d4e4f505152535455565758595a5b5c5d5e5f606162636465666768696a6b6c6d6e6f7071\
         72737475767778797a7b7c7d7e7f";
@@ -31,29 +32,31 @@ pub const ZEROS: &str = "\
         0000000000000000000000000000000000000000000000000000000000000000000000000000000000000000000000000000\
         0000000000000000000000000000";
 
-/// What a realm has. All keys are of encryption type 18.
+/// The principals of a realm. All keys have encryption type 18.
 #[derive(Clone, Copy)]
 pub enum Realm {
-    /// The ticket-granting service alone, whose key is 32 zeros.
-    Granter,
-    /// `u` too, with the same key.
+    /// Only the ticket-granting service, whose key is 32 zeros.
+    Tgs,
+    /// The ticket-granting service and `u`, with the same key.
     User,
-    /// The same, where `u` needs no preauthentication.
+    /// The same, but `u` needs no preauthentication.
     LenientUser,
-    /// `u` and `h`. The octets of keys count up: that of `krbtgt/A.B` from 128, of `u` from 64, of `h` from 160.
+    /// The same as `User`, with these limits.
+    Locking(Limits),
+    /// `u` and `h`. The bytes of each key count up: for `krbtgt/A.B` from 128, for `u` from 64, for `h` from 160.
     Service,
-    /// `h`, and no clients. Each octet of both keys is `HOST_OCTET`.
+    /// `h`, and no clients. Each byte of both keys is `HOST_OCTET`.
     Host(Limits),
 }
 
 pub const HOST_OCTET: u8 = 1;
 
-/// The key of this octet over and over.
-fn key_of(octet: u8) -> Key {
+/// Returns the key that repeats this byte.
+pub fn key_of(octet: u8) -> Key {
     Key::from_random(Etype::Aes256CtsHmacSha1_96, &[octet; 32])
 }
 
-/// The key whose octets count up from this one.
+/// Returns the key whose bytes count up from this one.
 fn key_from(first: u8) -> Key {
     let mut octets = [first; 32];
     for (place, octet) in (0..32).zip(&mut octets) {
@@ -63,9 +66,9 @@ fn key_from(first: u8) -> Key {
 }
 
 impl Realm {
-    fn granter_key(self) -> Key {
+    fn tgs_key(self) -> Key {
         match self {
-            Realm::Granter | Realm::User | Realm::LenientUser => key_of(0),
+            Realm::Tgs | Realm::User | Realm::LenientUser | Realm::Locking(_) => key_of(0),
             Realm::Service => key_from(128),
             Realm::Host(_) => key_of(HOST_OCTET),
         }
@@ -73,7 +76,7 @@ impl Realm {
 
     fn limits(self) -> Result<Limits, Fail> {
         match self {
-            Realm::Host(limits) => Ok(limits),
+            Realm::Host(limits) | Realm::Locking(limits) => Ok(limits),
             _ => limits(),
         }
     }
@@ -83,19 +86,19 @@ fn limits() -> Result<Limits, Fail> {
     Ok(Limits::new(64, 0, 0, 36000, 0).ok_or("limits")?)
 }
 
-/// A database of the realm of this name, which has the ticket-granting service alone.
-fn database(alloc: Global, realm: &[u8], granter_key: Key) -> Result<Database, Fail> {
-    let keys = KeyList::new(alloc, &[granter_key])?;
+/// Returns a database of this realm with only the ticket-granting service.
+fn database(alloc: Global, realm: &[u8], tgs_key: Key) -> Result<Database, Fail> {
+    let keys = KeyList::new(alloc, &[tgs_key])?;
     Ok(Database::first(alloc, realm, keys)?)
 }
 
 fn opened(alloc: Global, realm: Realm) -> Result<Kdc, Fail> {
     let limits = realm.limits()?;
-    let database = database(alloc, b"A.B", realm.granter_key())?;
+    let database = database(alloc, b"A.B", realm.tgs_key())?;
     Ok(Kdc::open(alloc, database, limits, Opening::First)?)
 }
 
-/// A principal of this one component comes to be.
+/// Returns a change that adds a principal, whose name has this one component.
 fn addition(alloc: Global, component: &[u8], key: Key) -> Result<Change, Fail> {
     let keys = KeyList::new(alloc, &[key])?;
     Ok(Change {
@@ -104,12 +107,12 @@ fn addition(alloc: Global, component: &[u8], key: Key) -> Result<Change, Fail> {
     })
 }
 
-/// `u` comes to be, with a key of 32 zeros.
+/// Returns a change that adds `u` with a key of 32 zeros.
 fn addition_of_user(alloc: Global) -> Result<Change, Fail> {
     addition(alloc, b"u", key_of(0))
 }
 
-/// `u` needs no preauthentication.
+/// Returns a change after which `u` needs no preauthentication.
 fn leniency(alloc: Global) -> Result<Change, Fail> {
     let policy = Policy {
         preauth: false,
@@ -121,7 +124,7 @@ fn leniency(alloc: Global) -> Result<Change, Fail> {
     })
 }
 
-fn apply(alloc: Global, kdc: &mut Kdc, change: &Change) -> Result<(), ChangeFault> {
+pub fn apply(alloc: Global, kdc: &mut Kdc, change: &Change) -> Result<(), ChangeFault> {
     kdc.apply(alloc, change)
 }
 
@@ -132,8 +135,8 @@ fn add(alloc: Global, kdc: &mut Kdc, component: &[u8], key: Key) -> Result<(), F
 
 fn set_up(alloc: Global, kdc: &mut Kdc, realm: Realm) -> Result<(), Fail> {
     match realm {
-        Realm::Granter => Ok(()),
-        Realm::User => add(alloc, kdc, b"u", key_of(0)),
+        Realm::Tgs => Ok(()),
+        Realm::User | Realm::Locking(_) => add(alloc, kdc, b"u", key_of(0)),
         Realm::LenientUser => {
             add(alloc, kdc, b"u", key_of(0))?;
             let leniency = leniency(alloc)?;
@@ -147,7 +150,7 @@ fn set_up(alloc: Global, kdc: &mut Kdc, realm: Realm) -> Result<(), Fail> {
     }
 }
 
-/// A KDC of this realm.
+/// Returns a KDC for this realm.
 pub fn kdc(alloc: Global, realm: Realm) -> Result<Kdc, Fail> {
     let mut kdc = opened(alloc, realm)?;
     match set_up(alloc, &mut kdc, realm) {
@@ -156,12 +159,12 @@ pub fn kdc(alloc: Global, realm: Realm) -> Result<Kdc, Fail> {
     }
 }
 
-/// What a KDC is asked, and what it replies, if anything. Octets are given in hexadecimal digits.
+/// A request to a KDC, and its reply, if there is one. Bytes are given in hexadecimal digits.
 #[derive(Clone, Copy)]
 pub struct Exchange {
-    /// When it is asked: so many microseconds after the midnight that 2024 began with.
+    /// When the request comes, in microseconds after 2024-01-01 00:00:00.
     pub usec: u32,
-    /// The 64 random octets.
+    /// The 64 random bytes.
     pub random: &'static str,
     /// The room for a reply with a ticket.
     pub room: u32,
@@ -169,7 +172,7 @@ pub struct Exchange {
     pub reply: Option<&'static str>,
 }
 
-/// Nothing is asked, at midnight, with the random octets 0 to 63 and room for 1,400 octets, and nothing replied.
+/// An empty request without a reply, at midnight, with the random bytes 0 to 63 and room for 1,400 bytes.
 pub const NOTHING: Exchange = Exchange {
     usec: 0,
     random: UP_FROM_0,
@@ -178,7 +181,7 @@ pub const NOTHING: Exchange = Exchange {
     reply: None,
 };
 
-/// What a KDC is asked, in octets.
+/// A request to a KDC, in bytes.
 #[derive(Clone, Copy)]
 struct Asked<'a> {
     at: Moment,
@@ -188,7 +191,7 @@ struct Asked<'a> {
 }
 
 impl<'a> Asked<'a> {
-    /// These octets are asked at midnight, with the random octets 0 to 63 and room for 1,400 octets.
+    /// Returns these bytes as a request at midnight, with the random bytes 0 to 63 and room for 1,400 bytes.
     fn at_midnight(request: &'a [u8]) -> Result<Asked<'a>, Fail> {
         let mut random = [0; 64];
         for (place, octet) in (0..64).zip(&mut random) {
@@ -202,7 +205,7 @@ impl<'a> Asked<'a> {
         })
     }
 
-    /// These octets are asked as in the exchange.
+    /// Returns these bytes as the request of an exchange.
     fn new(alloc: Global, exchange: Exchange, request: &'a [u8]) -> Result<Asked<'a>, Fail> {
         Ok(Asked {
             at: Moment::new(MIDNIGHT, exchange.usec).ok_or("a moment")?,
@@ -221,7 +224,7 @@ impl<'a> Asked<'a> {
     }
 }
 
-/// 64 octets.
+/// Returns 64 bytes.
 fn random(alloc: Global, digits: &str) -> Result<[u8; 64], Fail> {
     let mut random = [0; 64];
     for (word, octet) in random.iter_mut().zip(&octets(alloc, digits)?) {
@@ -230,12 +233,12 @@ fn random(alloc: Global, digits: &str) -> Result<[u8; 64], Fail> {
     Ok(random)
 }
 
-/// The reply to these octets at midnight.
+/// Returns the reply to these bytes at midnight.
 fn reply_to(alloc: Global, kdc: &mut Kdc, request: &[u8]) -> Result<Option<Vec<u8>>, Fail> {
     Ok(Asked::at_midnight(request)?.reply(alloc, kdc)?)
 }
 
-/// Whether a reply is the one of these digits.
+/// Checks whether a reply has these digits.
 fn is_reply(alloc: Global, reply: &Option<Vec<u8>>, digits: Option<&str>) -> Result<bool, Fail> {
     match (reply, digits) {
         (Some(reply), Some(digits)) => Ok(*reply == octets(alloc, digits)?),
@@ -250,33 +253,33 @@ fn is_answered(alloc: Global, kdc: &mut Kdc, exchange: Exchange) -> Result<bool,
     is_reply(alloc, &reply, exchange.reply)
 }
 
-/// Whether it is answered so the second time. It passes whichever allocation of the first call is refused.
+/// Checks whether the second request gets this reply. It does even if any one allocation of the first call fails.
 fn is_answered_again(alloc: Global, kdc: &mut Kdc, exchange: Exchange) -> Result<bool, Fail> {
     let request = octets(alloc, exchange.request)?;
     let _ = Asked::new(alloc, exchange, &request)?.reply(alloc, kdc);
     is_answered(alloc, kdc, exchange)
 }
 
-/// What happens to a KDC.
+/// An event of a KDC.
 #[derive(Clone, Copy)]
 pub enum Happening {
-    /// Something that is no request comes.
+    /// Bytes come that are not a request.
     Noise,
-    /// The basic request comes, of the client of this letter.
+    /// The basic request comes, from the client with this letter.
     Asks(u8),
-    /// `u` comes to be.
+    /// `u` is added.
     AddsUser,
-    /// A database of the realm of this name, with `u`, takes the place of the rows.
+    /// A database of this realm, with `u`, replaces the rows.
     Replaces(&'static [u8]),
     Restarts,
-    /// The KDC opens again with a database that has `u`.
+    /// The KDC starts again with a database that has `u`.
     Reopens,
 }
 
 /// The place of the client's letter in the basic request.
 const LETTER: usize = 42;
 
-/// The basic request with one octet changed.
+/// Returns the basic request with one byte changed.
 fn changed(alloc: Global, place: usize, octet: u8) -> Result<Vec<u8>, Fail> {
     let mut request = octets(alloc, BASIC)?;
     *request.get_mut(place).ok_or("a place")? = octet;
@@ -287,7 +290,7 @@ fn midnight() -> Result<Moment, Fail> {
     Ok(Moment::new(MIDNIGHT, 0).ok_or("a moment")?)
 }
 
-/// An event in which this is asked at midnight.
+/// Returns the event of this request at midnight.
 fn asks(request: Vec<u8>) -> Result<Event, Fail> {
     Ok(Event::Request {
         at: midnight()?,
@@ -297,8 +300,9 @@ fn asks(request: Vec<u8>) -> Result<Event, Fail> {
     })
 }
 
-fn database_with_user(alloc: Global, realm: &[u8]) -> Result<Database, Fail> {
-    let addition = addition_of_user(alloc)?;
+/// Returns a database of this realm with `u`, whose key repeats this byte.
+pub fn database_with_user(alloc: Global, realm: &[u8], octet: u8) -> Result<Database, Fail> {
+    let addition = addition(alloc, b"u", key_of(octet))?;
     let mut database = database(alloc, realm, key_of(0))?;
     match database.apply(alloc, &addition) {
         Ok(()) => Ok(database),
@@ -310,7 +314,7 @@ fn reopens(alloc: Global) -> Result<Event, Fail> {
     let limits = limits()?;
     let at = midnight()?;
     Ok(Event::Reopen {
-        database: database_with_user(alloc, b"A.B")?,
+        database: database_with_user(alloc, b"A.B", 0)?,
         limits,
         at,
     })
@@ -324,14 +328,14 @@ fn event(alloc: Global, happening: Happening) -> Result<Event, Fail> {
             change: addition_of_user(alloc)?,
         }),
         Happening::Replaces(realm) => Ok(Event::Replace {
-            database: database_with_user(alloc, realm)?,
+            database: database_with_user(alloc, realm, 0)?,
         }),
         Happening::Restarts => Ok(Event::Restart { at: midnight()? }),
         Happening::Reopens => reopens(alloc),
     }
 }
 
-/// What happens, with the reply to it, if any, in hexadecimal digits.
+/// An event, with its reply, if there is one, in hexadecimal digits.
 pub type Step = (Happening, Option<&'static str>);
 
 fn push_events(alloc: Global, events: &mut Vec<Event>, run: &[Step]) -> Result<(), Fail> {
@@ -341,7 +345,7 @@ fn push_events(alloc: Global, events: &mut Vec<Event>, run: &[Step]) -> Result<(
     Ok(())
 }
 
-/// How many events are done, and the replies to them.
+/// Runs the events, and returns how many of them are done, and their replies.
 fn ran(alloc: Global, kdc: &mut Kdc, events: &[Event]) -> (usize, Vec<Option<Vec<u8>>>) {
     match kdc.run(alloc, events) {
         Ok(replies) => (events.len(), replies),
@@ -349,7 +353,7 @@ fn ran(alloc: Global, kdc: &mut Kdc, events: &[Event]) -> (usize, Vec<Option<Vec
     }
 }
 
-/// Whether these are the replies of this part of a run.
+/// Checks whether these are the replies of this part of a run.
 fn are_replies(
     alloc: Global,
     replies: &[Option<Vec<u8>>],
@@ -364,8 +368,8 @@ fn are_replies(
     Ok(replies.len() == part.len())
 }
 
-/// Whether the replies to the events are those of the run, also where it goes on behind the event at which it stopped
-/// first.
+/// Checks whether the replies to the events are those of the run, also if it continues after the event at which it
+/// first stopped.
 fn goes_on(alloc: Global, kdc: &mut Kdc, events: &[Event], run: &[Step]) -> Result<bool, Fail> {
     let (done, first) = ran(alloc, kdc, events);
     let later = events.get(done..).ok_or("later events")?;
@@ -373,14 +377,14 @@ fn goes_on(alloc: Global, kdc: &mut Kdc, events: &[Event], run: &[Step]) -> Resu
     Ok(are_replies(alloc, &first, run.get(..done))? && are_replies(alloc, &rest, run.get(done..))?)
 }
 
-/// Whether the run has the replies that it should. It passes whichever allocation of the first run is refused.
+/// Checks whether the run has its expected replies. It does even if any one allocation of the first run fails.
 fn is_run(alloc: Global, kdc: &mut Kdc, run: &[Step]) -> Result<bool, Fail> {
     let mut events = Vec::new(alloc);
     push_events(alloc, &mut events, run)?;
     goes_on(alloc, kdc, &events, run)
 }
 
-/// What a KDC resumes with that has no clients, only the service `h`.
+/// Returns the event in which a KDC resumes with the service `h` and no clients.
 pub fn resumes(alloc: Global, resumption: Resumption) -> Result<Event, Fail> {
     let addition = addition(alloc, b"h", key_of(HOST_OCTET))?;
     let mut database = database(alloc, b"A.B", key_of(HOST_OCTET))?;
@@ -394,7 +398,7 @@ pub fn resumes(alloc: Global, resumption: Resumption) -> Result<Event, Fail> {
     }
 }
 
-/// The replies to these events of a KDC that has no clients, only the service `h`.
+/// Returns the replies to these events from a KDC with the service `h` and no clients.
 pub fn replies(
     alloc: Global,
     limits: Limits,
@@ -405,7 +409,7 @@ pub fn replies(
     Ok(replies)
 }
 
-/// A change of the basic request: of an octet at a place, with the error code that it gets.
+/// A change of one byte of the basic request, with the error code of the reply.
 #[derive(Clone, Copy)]
 pub struct Altered {
     pub place: usize,
@@ -416,34 +420,34 @@ pub struct Altered {
 fn has_code(alloc: Global, kdc: &mut Kdc, altered: Altered) -> Result<bool, Fail> {
     let request = changed(alloc, altered.place, altered.octet)?;
     let reply = reply_to(alloc, kdc, &request)?.ok_or("a reply")?;
-    // A reply without ctime and cusec has its code, of one octet, at this place.
+    // A reply without ctime and cusec has its code, one byte, at this place.
     Ok(reply.get(42) == Some(&altered.code))
 }
 
-/// What came of a request.
+/// The outcome of a request.
 #[derive(Clone, Copy, PartialEq, Eq)]
 pub enum Came {
     NoRequest,
     LoginRefused(AsRefusal),
     Refused(TgsRefusal),
-    /// A ticket from midnight on, which ends after so many seconds, not renewable, all of whose keys are of type 18.
+    /// A ticket that starts at midnight, ends after this many seconds and is not renewable. All its keys have type 18.
     Issued { seconds: i64, flags: u32 },
     Resent(Bears),
     TooBig,
 }
 
-/// A request, in which one octet may be changed, and the account that it should get.
+/// A request, with one byte changed or none, and its expected account.
 #[derive(Clone, Copy)]
 pub struct AccountRow {
     pub asked: Exchange,
-    /// The place of the octet whose last bit is changed.
+    /// The place of the byte whose last bit is changed.
     pub octet: Option<usize>,
     pub client: Option<&'static [&'static [u8]]>,
     pub service: Option<&'static [&'static [u8]]>,
     pub came: Came,
 }
 
-/// A ticket of which this cannot be said counts as one of no seconds.
+/// Returns the outcome of an issued ticket. Any other ticket than `Came::Issued` describes counts as one of no seconds.
 fn issued(granted: &Granted) -> Came {
     let aes = Etype::Aes256CtsHmacSha1_96;
     let types = [
@@ -483,7 +487,13 @@ fn came_of(account: &Account<NameRef<'_>>) -> Came {
     }
 }
 
-/// Whether a name has these components.
+/// Returns the outcome of these bytes at midnight.
+pub fn came_at_midnight(alloc: Global, kdc: &mut Kdc, request: &[u8]) -> Result<Came, Fail> {
+    let answer = Asked::at_midnight(request)?.answer(alloc, kdc)?;
+    Ok(came_of(&answer.account))
+}
+
+/// Checks whether a name has these components.
 fn is_lent(
     alloc: Global,
     found: &Option<NameRef<'_>>,
@@ -504,7 +514,7 @@ fn is_owned(alloc: Global, found: &Option<Name>, wanted: Option<&[&[u8]]>) -> Re
     }
 }
 
-/// Whether the names are those of the row.
+/// Checks whether the names are those of the row.
 fn names_both(
     alloc: Global,
     account: &Account<NameRef<'_>>,
@@ -553,30 +563,32 @@ fn first_other_account(
     Ok(None)
 }
 
-/// What a test does with a KDC.
+/// A test of a KDC.
 #[derive(Clone, Copy)]
 pub enum Case {
     /// Each request gets the reply beside it, or none.
     Exchanges(&'static [Exchange]),
-    /// A request gets the reply beside it the second time, whichever allocation of the first time is refused.
+    /// A request gets the reply beside it the second time, even if any one allocation of the first time fails.
     Again(Exchange),
     /// Each request gets this account.
     Accounts(&'static [AccountRow]),
-    /// No beginning of these octets gets a reply.
+    /// Each step ends as it says.
+    Locks(&'static [LockStep]),
+    /// No prefix of these bytes gets a reply.
     Beginnings(&'static str),
     /// Each change of the basic request gets the error code beside it.
     Altered(&'static [Altered]),
-    /// After the basic request with one octet changed, whichever it is, the basic request gets this reply.
+    /// After the basic request with any one byte changed, the basic request gets this reply.
     Unspoilt(&'static str),
-    /// A timestamp of a million octets, behind this and before this, gets this reply.
+    /// A timestamp of a million bytes, between the first two texts, gets the last one as its reply.
     Million(&'static str, &'static str, &'static str),
-    /// The replies to what happens are these, also if it goes on after running out of memory.
+    /// The events get these replies, also if the run continues after running out of memory.
     Run(&'static [Step]),
     /// `krbtgt/A.B` has a row, and `u` has none.
     Rows,
-    /// `u` is there, and is not added.
+    /// `u` exists, and is not added again.
     AddedOnce,
-    /// `u` is added where memory is wanted first, and not twice.
+    /// `u` is added after memory ran out, and not twice.
     AddedAgain,
 }
 
@@ -593,7 +605,7 @@ fn first_other(
     Ok(None)
 }
 
-/// The first of these octets' beginnings that gets a reply, by its length.
+/// Returns the length of the first prefix of these bytes that gets a reply.
 fn first_answered(alloc: Global, kdc: &mut Kdc, digits: &str) -> Result<Option<usize>, Fail> {
     let octets = octets(alloc, digits)?;
     for end in 0..octets.len() {
@@ -617,7 +629,7 @@ fn first_other_code(
     Ok(None)
 }
 
-/// Whether the basic request is answered so after one that has another octet at this place.
+/// Checks whether the basic request gets this reply after a request with another byte at this place.
 fn is_unspoilt(
     alloc: Global,
     kdc: &mut Kdc,
@@ -632,7 +644,7 @@ fn is_unspoilt(
     is_reply(alloc, &found, Some(reply))
 }
 
-/// The first place of the basic request where another octet, asked before it, takes its reply away.
+/// Returns the first place of the basic request where a request with another byte changes its later reply.
 fn first_spoilt(alloc: Global, kdc: &mut Kdc, reply: &str) -> Result<Option<usize>, Fail> {
     let basic = octets(alloc, BASIC)?;
     for (place, octet) in basic.iter().enumerate() {
@@ -664,10 +676,10 @@ fn is_million_answered(
     is_reply(alloc, &found, Some(reply))
 }
 
-fn has_granter_alone(alloc: Global, kdc: &Kdc) -> Result<bool, Fail> {
+fn has_only_tgs(alloc: Global, kdc: &Kdc) -> Result<bool, Fail> {
     let user = name(alloc, &[b"u"])?;
-    let granter = name(alloc, &[b"krbtgt", b"A.B"])?;
-    Ok(kdc.realm() == b"A.B".as_slice() && kdc.get(&user).is_none() && kdc.get(&granter).is_some())
+    let tgs = name(alloc, &[b"krbtgt", b"A.B"])?;
+    Ok(kdc.realm() == b"A.B".as_slice() && kdc.get(&user).is_none() && kdc.get(&tgs).is_some())
 }
 
 fn is_not_added(alloc: Global, kdc: &mut Kdc) -> Result<bool, Fail> {
@@ -675,7 +687,7 @@ fn is_not_added(alloc: Global, kdc: &mut Kdc) -> Result<bool, Fail> {
     Ok(apply(alloc, kdc, &addition) == Err(ChangeFault::Exists))
 }
 
-/// Whether a change is made the second time, if the first time wanted memory, and not otherwise.
+/// Checks whether a change is made the second time exactly if memory ran out the first time.
 fn is_added_again(alloc: Global, kdc: &mut Kdc) -> Result<bool, Fail> {
     let addition = addition_of_user(alloc)?;
     let first = apply(alloc, kdc, &addition);
@@ -686,16 +698,17 @@ fn is_added_again(alloc: Global, kdc: &mut Kdc) -> Result<bool, Fail> {
     })
 }
 
-/// None where it is so, and otherwise the first place.
+/// Returns `None` if it is so, else the first place.
 fn first_of_one(is_so: bool) -> Option<usize> {
     if is_so { None } else { Some(0) }
 }
 
-/// The place of what is not as wanted first, if anything isn't.
+/// Returns the first place that is not as expected, if there is one.
 fn first_wrong(alloc: Global, kdc: &mut Kdc, case: Case) -> Result<Option<usize>, Fail> {
     let is_right = match case {
         Case::Exchanges(exchanges) => return first_other(alloc, kdc, exchanges),
         Case::Accounts(rows) => return first_other_account(alloc, kdc, rows),
+        Case::Locks(steps) => return first_other_step(alloc, kdc, steps),
         Case::Beginnings(digits) => return first_answered(alloc, kdc, digits),
         Case::Altered(changes) => return first_other_code(alloc, kdc, changes),
         Case::Unspoilt(reply) => return first_spoilt(alloc, kdc, reply),
@@ -704,7 +717,7 @@ fn first_wrong(alloc: Global, kdc: &mut Kdc, case: Case) -> Result<Option<usize>
             is_million_answered(alloc, kdc, before, behind, reply)?
         }
         Case::Run(run) => is_run(alloc, kdc, run)?,
-        Case::Rows => has_granter_alone(alloc, kdc)?,
+        Case::Rows => has_only_tgs(alloc, kdc)?,
         Case::AddedOnce => is_not_added(alloc, kdc)?,
         Case::AddedAgain => is_added_again(alloc, kdc)?,
     };
@@ -716,7 +729,7 @@ fn first_wrong_in(alloc: Global, realm: Realm, case: Case) -> Result<Option<usiz
     first_wrong(alloc, &mut kdc, case)
 }
 
-/// A KDC of this realm does as in this case. The failure tells the place of what it does otherwise.
+/// Fails unless a KDC of this realm does as in this case. The failure has the first place that is not as expected.
 pub fn expect(alloc: Global, realm: Realm, case: Case) -> Result<(), Fail> {
     match first_wrong_in(alloc, realm, case)? {
         None => Ok(()),

@@ -3,37 +3,54 @@
 use enctypes::{Etype, Key, KeyUsage, checksum, seal};
 use std::alloc::{AllocError, Global};
 
-/// What stands before the body of an AS-REQ without padata.
-pub const AS_HEAD: &[u8] = b"\x6a\x69\x30\x67\
+/// The bytes before the body of an AS-REQ without padata.
+const AS_HEAD: &[u8] = b"\x6a\x69\x30\x67\
     \xa1\x03\x02\x01\x05\
     \xa2\x03\x02\x01\x0a";
 
-/// What stands before the body of an AS-REQ with a PA-ENC-TIMESTAMP of type 18 that no key opens.
-pub const BAD_TIMESTAMP: &[u8] = b"\x6a\x81\xba\x30\x81\xb7\
+/// The bytes before the cipher of a PA-ENC-TIMESTAMP of type 18 in an AS-REQ. The cipher has 54 bytes.
+const TIMESTAMP_HEAD: &[u8] = b"\x6a\x81\xba\x30\x81\xb7\
     \xa1\x03\x02\x01\x05\
     \xa2\x03\x02\x01\x0a\
-    \xa3\x4e\x30\x4c\x30\x4a\xa1\x03\x02\x01\x02\xa2\x43\x04\x41\x30\x3f\xa0\x03\x02\x01\x12\xa2\x38\x04\x36\
-    \0\0\0\0\0\0\0\0\0\0\0\0\0\0\0\0\0\0\0\0\0\0\0\0\0\0\0\
-    \0\0\0\0\0\0\0\0\0\0\0\0\0\0\0\0\0\0\0\0\0\0\0\0\0\0\0";
+    \xa3\x4e\x30\x4c\x30\x4a\xa1\x03\x02\x01\x02\xa2\x43\x04\x41\x30\x3f\xa0\x03\x02\x01\x12\xa2\x38\x04\x36";
+
+/// A PA-ENC-TS-ENC of 2024-01-01 00:00:00 and no microseconds.
+const TIMESTAMP: &[u8] = b"\x30\x18\xa0\x11\x18\x0f20240101000000Z\xa1\x03\x02\x01\x00";
 
 /// The body of an AS-REQ for `krbtgt/A.B` up to the client's letter: till zero, nonce 1, encryption type 18.
 const AS_BODY: &[u8] = b"\xa4\x5b\x30\x59\
     \xa0\x07\x03\x05\x00\x00\x00\x00\x00\
     \xa1\x0e\x30\x0c\xa0\x03\x02\x01\x01\xa1\x05\x30\x03\x1b\x01";
 
-/// What stands behind that letter.
+/// The bytes after that letter.
 const AS_REST: &[u8] = b"\xa2\x05\x1b\x03A.B\
     \xa3\x18\x30\x16\xa0\x03\x02\x01\x02\xa1\x0f\x30\x0d\x1b\x06krbtgt\x1b\x03A.B\
     \xa5\x11\x18\x0f19700101000000Z\
     \xa7\x03\x02\x01\x01\
     \xa8\x05\x30\x03\x02\x01\x12";
 
-/// An AS-REQ of this client, behind this head.
-pub fn as_req(alloc: Global, head: &[u8], client: u8) -> Result<Vec<u8>, AllocError> {
-    [head, AS_BODY, &[client], AS_REST].concat(alloc)
+/// Returns an AS-REQ of this client without padata.
+pub fn as_req(alloc: Global, client: u8) -> Result<Vec<u8>, AllocError> {
+    [AS_HEAD, AS_BODY, &[client], AS_REST].concat(alloc)
 }
 
-/// A TGS-REQ up to its ticket's cipher, which is sealed under version 1 of a key of type 18 of `krbtgt/A.B`.
+/// Returns an AS-REQ of this client with a PA-ENC-TIMESTAMP with this cipher.
+fn as_req_with(alloc: Global, cipher: &[u8], client: u8) -> Result<Vec<u8>, AllocError> {
+    [TIMESTAMP_HEAD, cipher, AS_BODY, &[client], AS_REST].concat(alloc)
+}
+
+/// Returns an AS-REQ of this client with a PA-ENC-TIMESTAMP that no key decrypts.
+pub fn bad_as_req(alloc: Global, client: u8) -> Result<Vec<u8>, AllocError> {
+    as_req_with(alloc, &[0; 54], client)
+}
+
+/// Returns an AS-REQ of this client with a PA-ENC-TIMESTAMP of 2024-01-01 00:00:00 under this key.
+pub fn as_req_at_midnight(alloc: Global, key: &Key, client: u8) -> Result<Vec<u8>, AllocError> {
+    let cipher = seal(alloc, key, KeyUsage::PaEncTimestamp, &[7; 16], TIMESTAMP)?;
+    as_req_with(alloc, &cipher, client)
+}
+
+/// A TGS-REQ up to its ticket's cipher, which is encrypted under version 1 of a key of type 18 of `krbtgt/A.B`.
 const TGS_HEAD: &[u8] = b"\x6c\x82\x01\xf9\x30\x82\x01\xf5\
     \xa1\x03\x02\x01\x05\
     \xa2\x03\x02\x01\x0c\
@@ -52,12 +69,12 @@ const TGS_HEAD: &[u8] = b"\x6c\x82\x01\xf9\x30\x82\x01\xf5\
     \xa1\x03\x02\x01\x01\
     \xa2\x81\xb8\x04\x81\xb5";
 
-/// What stands between the ciphers of ticket and authenticator, and before the body.
+/// The bytes between the ciphers of ticket and authenticator, and before the body.
 const BEFORE_AUTHENTICATOR: &[u8] = b"\xa4\x78\x30\x76\xa0\x03\x02\x01\x12\xa2\x6f\x04\x6d";
 
 const BEFORE_BODY: &[u8] = b"\xa4\x41";
 
-/// The body, which asks for a ticket for `h`, up to the nonce, and behind it.
+/// The body, which asks for a ticket for `h`, up to the nonce and after it.
 const TGS_BODY: &[u8] = b"\x30\x3f\
     \xa0\x07\x03\x05\x00\x00\x00\x00\x00\
     \xa2\x05\x1b\x03A.B\
@@ -67,8 +84,8 @@ const TGS_BODY: &[u8] = b"\x30\x3f\
 
 const TGS_REST: &[u8] = b"\xa8\x05\x30\x03\x02\x01\x12";
 
-/// What a ticket of 2024-01-01, from 00:00:00 to 10:00:00, holds: up to its session key, then up to the client's
-/// letter, and behind it.
+/// The encrypted part of a ticket for 2024-01-01 from 00:00:00 to 10:00:00: up to its session key, up to the client's
+/// letter, and after it.
 const PART_HEAD: &[u8] = b"\x63\x81\x96\x30\x81\x93\
     \xa0\x07\x03\x05\x00\x00\x40\x00\x00\
     \xa1\x2b\x30\x29\xa0\x03\x02\x01\x12\xa1\x22\x04\x20";
@@ -93,15 +110,15 @@ const BEFORE_CUSEC: &[u8] = b"\xa4\x03\x02\x01";
 
 const BEFORE_TIME: &[u8] = b"\xa5\x11\x18\x0f";
 
-/// The octets of each ticket's session key, which is of type 18.
+/// The bytes of each ticket's session key, which has type 18.
 const SESSION_KEY: [u8; 32] = [7; 32];
 
-/// What tells TGS-REQs apart.
+/// The fields in which TGS-REQs differ.
 #[derive(Clone, Copy)]
 pub struct TgsReq {
-    /// The letter that the client is named by.
+    /// The client's name, one letter.
     pub client: u8,
-    /// When the authenticator was made: so many seconds after the midnight that 2024 began with, less than a day.
+    /// When the authenticator was made, in seconds after 2024-01-01 00:00:00; less than a day.
     pub second: u32,
     /// The microseconds of that time, at most 127.
     pub cusec: u8,
@@ -110,7 +127,7 @@ pub struct TgsReq {
 }
 
 impl TgsReq {
-    /// The request, with a ticket that is sealed under this key.
+    /// Returns the request, with a ticket that is encrypted under this key.
     pub fn octets(self, alloc: Global, key: &Key) -> Result<Vec<u8>, AllocError> {
         let session_key = Key::from_random(Etype::Aes256CtsHmacSha1_96, &SESSION_KEY);
         let part = [
@@ -137,7 +154,7 @@ impl TgsReq {
         .concat(alloc)
     }
 
-    /// The octets of its authenticator, with a checksum of this body.
+    /// Returns its authenticator, with a checksum of this body.
     fn authenticator(
         self,
         alloc: Global,

@@ -1,4 +1,4 @@
-//! Scripts (`kdc_script`).
+//! Tests of scripts (`kdc_script`).
 use crate::expect::{holds, same};
 use kdc_script::{DONE, FAILED, FAULT, run_script};
 use std::alloc::{AllocError, Global};
@@ -6,7 +6,7 @@ use std::io;
 use std::io::{ErrorKind, Read, Write};
 use std::process::Abort;
 
-/// The greatest line and the greatest input, in octets.
+/// The maximum lengths of a line and of an input, in bytes.
 const MAX_LINE: usize = 262_144;
 
 const MAX_INPUT: u64 = 16_777_216;
@@ -14,23 +14,23 @@ const MAX_INPUT: u64 = 16_777_216;
 const OPEN: &str =
     "open A.B 64 0 0 36000 0 18:0000000000000000000000000000000000000000000000000000000000000000";
 
-/// The random octets of a request.
+/// The random bytes of a request.
 const WORDS: &str = "\
         0000000000000000000000000000000000000000000000000000000000000000000000000000000000000000000000000000\
         0000000000000000000000000000";
 
-/// An AS-REQ of `u`, which has no row, for `krbtgt/A.B`.
+/// An AS-REQ for `krbtgt/A.B` of `u`, which has no row.
 const AS_REQ: &str = "\
         6a693067a103020105a20302010aa45b3059a00703050000000000a10e300ca003020101a10530031b0175a2051b03412e42\
         a3183016a003020102a10f300d1b066b72627467741b03412e42a511180f31393730303130313030303030305aa703020101\
         a8053003020112";
 
-/// The KRB-ERROR with KDC_ERR_C_PRINCIPAL_UNKNOWN (6) that answers it.
+/// The reply to it: a KRB-ERROR with KDC_ERR_C_PRINCIPAL_UNKNOWN (6).
 const KRB_ERROR: &str = "\
         7e4a3048a003020105a10302011ea411180f32303234303130313030303030305aa503020100a603020106a9051b03412e42\
         aa183016a003020102a10f300d1b066b72627467741b03412e42";
 
-/// Runs a script, appends what it prints, and gives its status.
+/// Runs a script, appends what it prints, and returns its status.
 fn run(alloc: Global, script: &[u8], written: &mut Vec<u8>) -> u8 {
     run_script(alloc, script, written)
 }
@@ -65,7 +65,7 @@ fn expect_each_after_open(rt: &(impl AllocGlobal + Abort), scripts: &[Script]) {
     }
 }
 
-/// Each of these lines is a fault, as the first line and behind an `open`.
+/// Checks that each of these lines is a `fault`, as the first line and after an `open`.
 fn expect_faults(rt: &(impl AllocGlobal + Abort), lines: &[&str]) {
     for line in lines {
         expect_run(rt, line.as_bytes(), "fault 1\n", FAULT);
@@ -78,7 +78,7 @@ fn push_line(lines: &mut String, line: &str) -> Result<(), AllocError> {
     lines.push('\n')
 }
 
-/// Runs a script of these lines, each of which prints what stands beside it.
+/// Runs a script of these lines. Each one prints the text beside it.
 pub fn expect_lines(rt: &(impl AllocGlobal + Abort), lines: &[(&str, &str)]) {
     let mut script = String::new(rt.alloc());
     let mut printed = String::new(rt.alloc());
@@ -97,7 +97,7 @@ fn a_request_of_an_unknown_client_is_answered(rt: HostRuntime) -> Result<(), All
     Ok(())
 }
 
-/// Lines that are no line of a script.
+/// Lines that a script can't have.
 const OTHER_FORMS: &[&str] = &[
     "open",
     "open ",
@@ -323,7 +323,7 @@ fn each_line_is_answered_in_turn(rt: HostRuntime) {
     expect_each_after_open(&rt, LINES);
 }
 
-/// An `open` and a request with so many zeros in front of a number that its line has `len` octets.
+/// Returns an `open` and a request whose line has `len` bytes, by zeros in front of a number.
 fn request_of_length(rt: &(impl AllocGlobal + Abort), len: usize) -> String {
     let mut script = format!(in rt.alloc(); "{OPEN}\n").expect(rt, "memory");
     let rest = format!(in rt.alloc(); " 0 {WORDS} 1400 -").expect(rt, "memory");
@@ -336,7 +336,7 @@ fn request_of_length(rt: &(impl AllocGlobal + Abort), len: usize) -> String {
 }
 
 #[test]
-fn a_line_has_its_greatest_length(rt: HostRuntime) {
+fn a_line_has_a_maximum_length(rt: HostRuntime) {
     let mut script = request_of_length(&rt, MAX_LINE);
     expect_run(&rt, script.as_bytes(), "ok\nnone\n", DONE);
     script.push_str("\n\nend\n").expect(&rt, "memory");
@@ -346,7 +346,7 @@ fn a_line_has_its_greatest_length(rt: HostRuntime) {
 }
 
 #[test]
-fn an_input_has_its_greatest_length(rt: HostRuntime) {
+fn an_input_has_a_maximum_length(rt: HostRuntime) {
     for (len, printed, status) in [
         (MAX_INPUT, "", DONE),
         (MAX_INPUT + 1, "fault 16777217\n", FAULT),
@@ -358,7 +358,7 @@ fn an_input_has_its_greatest_length(rt: HostRuntime) {
     }
 }
 
-/// A reader in pieces of at most seven octets, whose calls fail once `calls` of them were made.
+/// A reader that returns at most seven bytes a call. After `calls` calls each one fails.
 #[derive(Drop)]
 struct FailingReader<'a> {
     rest: &'a [u8],
@@ -378,7 +378,7 @@ impl Read for FailingReader<'_> {
     }
 }
 
-/// A writer whose calls fail once `calls` of them were made.
+/// A writer. After `calls` calls each one fails.
 #[derive(Drop)]
 struct FailingWriter<'a> {
     written: &'a mut Vec<u8>,
@@ -404,7 +404,7 @@ impl Write for FailingWriter<'_> {
     }
 }
 
-/// Three lines: one is done, one is refused, and one is a fault.
+/// Three lines, which print `ok`, `refused` and `fault`.
 const MIXED: &[u8] = b"\
         open A.B 64 0 0 36000 0 17:00000000000000000000000000000000\nadd krbtgt/A.B \
         17:00000000000000000000000000000000\nadd\n";
@@ -413,7 +413,7 @@ const MIXED_PRINTED: &str = "ok\nrefused Exists\nfault 3\n";
 
 #[test]
 fn a_failed_read_ends_the_run(rt: HostRuntime) {
-    // the last call of a run that is not failed finds the end of the input
+    // the last call of a run without failure finds the end of the input
     for calls in 0..MIXED.len().div_ceil(7) {
         let mut written = Vec::new(rt.alloc());
         let reader = FailingReader { rest: MIXED, calls };
@@ -423,7 +423,7 @@ fn a_failed_read_ends_the_run(rt: HostRuntime) {
     }
 }
 
-/// Whether a run fails whose writer does so after these calls. One that doesn't prints everything.
+/// Returns whether a run fails if its writer fails after these calls. Checks that it prints everything if it doesn't.
 fn is_failed_write(rt: &(impl AllocGlobal + Abort), calls: usize) -> bool {
     let mut written = Vec::new(rt.alloc());
     let mut writer = FailingWriter {
@@ -453,9 +453,9 @@ fn a_failed_write_ends_the_run(rt: HostRuntime) {
     same(&rt, &failures, &(4..63).contains(&failures), &true);
 }
 
-// Passes whichever allocation is refused.
+// Passes if any one allocation fails.
 #[test]
-fn a_run_without_memory_fails_and_another_does_not(rt: HostRuntime) {
+fn a_run_out_of_memory_fails_and_the_next_succeeds(rt: HostRuntime) {
     let mut written = Vec::new(rt.alloc());
     let status = run(rt.alloc(), MIXED, &mut written);
     holds(&rt, status == FAULT || status == FAILED, "its status");

@@ -1,9 +1,9 @@
-//! Service tickets (`kdc_core`).
+//! Tests of service tickets (`kdc_core`).
 use crate::realm::{Case, Exchange, NOTHING, Realm, UP_FROM_64, ZEROS, expect};
 use std::test::Fail;
 
-/// A TGS-REQ of `u` for `h` in `A.B`, of an independent model of the exchanges in Python: its ticket is sealed under
-/// the key of octets 128 to 159.
+/// A TGS-REQ of `u` for `h` in `A.B`, from an independent model of the exchanges in Python. Its ticket is encrypted
+/// under the key of the bytes 128 to 159.
 pub const REQUEST: &str = "\
         6c8201f9308201f5a103020105a20302010ca38201a4308201a03082019ca103020101a28201930482018f6e82018b308201\
         87a003020105a10302010ea20703050000000000a381f76181f43081f1a003020105a1051b03412e42a2183016a003020102\
@@ -17,7 +17,7 @@ pub const REQUEST: &str = "\
         0000000000a2051b03412e42a30e300ca003020101a10530031b0168a511180f31393730303130313030303030305aa70302\
         0101a8053003020112";
 
-/// The TGS-REP to it, of the same model: the key of `h` is the octets 160 to 191, the random octets are 64 to 127.
+/// The TGS-REP to it, from the same model. The key of `h` is the bytes 160 to 191, and the random bytes are 64 to 127.
 const REPLY: &str = "\
         6d8201f1308201eda003020105a10302010da3051b03412e42a40e300ca003020101a10530031b0175a581ed6181ea3081e7\
         a003020105a1051b03412e42a20e300ca003020101a10530031b0168a381c83081c5a003020112a103020101a281b80481b5\
@@ -31,7 +31,7 @@ const REPLY: &str = "\
         c3085cdc6962daed1666eea56b0d65ebf44471efa74a035e24420b3defb6e971391dd265f851990d8fee43fe39041a1ab2ef\
         56";
 
-/// It is asked with the random octets 64 to 127.
+/// The exchange, with the random bytes 64 to 127.
 const ISSUED: Exchange = Exchange {
     random: UP_FROM_64,
     request: REQUEST,
@@ -40,13 +40,13 @@ const ISSUED: Exchange = Exchange {
 };
 
 #[test]
-fn a_service_ticket_without_memory_is_issued_when_asked_again(rt: HostRuntime) -> Result<(), Fail> {
+fn a_service_ticket_is_issued_after_memory_ran_out(rt: HostRuntime) -> Result<(), Fail> {
     expect(rt.alloc(), Realm::Service, Case::Again(ISSUED))
 }
 
 #[test]
 fn the_same_request_gets_the_reply_that_is_kept(rt: HostRuntime) -> Result<(), Fail> {
-    // The second time there are other random octets.
+    // The second time there are other random bytes.
     const EXCHANGES: &[Exchange] = &[
         ISSUED,
         Exchange {

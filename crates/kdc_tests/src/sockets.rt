@@ -1,6 +1,6 @@
-//! Clients of the wire over sockets (`kdc_wire`) on the loopback, on ports that the system chooses. The KDC has the
-//! realm `A.B` and no clients, so it answers each request with an error of code 6. The bytes come from an encoder in
-//! Python.
+//! Tests of the wire over sockets (`kdc_wire`), with clients on the loopback and ports that the system chooses. The KDC
+//! has the realm `A.B` and no clients, so it answers each request with an error of code 6. The bytes come from an
+//! encoder in Python.
 use crate::realm::{Realm, kdc};
 use kdc_hub::{Hub, Served, serve};
 use kdc_wire::SocketWire;
@@ -13,32 +13,32 @@ use std::rt::Clock;
 use std::test::Fail;
 use std::time::{Duration, Instant};
 
-/// An AS-REQ of `u` in `A.B` for `a`, till zero, nonce 1, encryption type 18. The service's one octet has the place
-/// `SERVICE_PLACE`.
+/// An AS-REQ of `u` in `A.B` for `a`, with till zero, nonce 1 and encryption type 18. The service's one byte has the
+/// place `SERVICE_PLACE`.
 const REQUEST: &[u8] = b"\
         6a5f305da103020105a20302010aa451304fa00703050000000000a10e300ca003020101a10530031b0175a2051b03412e42\
         a30e300ca003020101a10530031b0161a511180f31393730303130313030303030305aa703020101a8053003020112";
 
 const SERVICE_PLACE: usize = 65;
 
-/// The KRB-ERROR of 2024-01-01 00:00:00 with code 6, of the realm `A.B` and the service `a`, which is its last octet.
+/// The KRB-ERROR of 2024-01-01 00:00:00 with code 6, realm `A.B` and service `a`, which is its last byte.
 const CLIENT_UNKNOWN: &[u8] = b"\
         7e40303ea003020105a10302011ea411180f32303234303130313030303030305aa503020100a603020106a9051b03412e42\
         aa0e300ca003020101a10530031b0161";
 
-/// The error of the realm with code 61, behind its length.
+/// The realm's error with code 61, after its length.
 const TOO_LONG: &[u8] = b"\
         0000004c7e4a3048a003020105a10302011ea411180f32303234303130313030303030305aa503020100a60302013da9051b\
         03412e42aa183016a003020102a10f300d1b066b72627467741b03412e42";
 
-/// The octets of a framed request before and after a service of one component of 60,000 octets.
+/// The bytes of a framed request before and after its service, whose one component has 60,000 bytes.
 const BEFORE_LONG_SERVICE: &[u8] = b"\
         0000ead26a82eace3082eacaa103020105a20302010aa482eabc3082eab8a00703050000000000a10e300ca003020101a105\
         30031b0175a2051b03412e42a382ea753082ea71a003020101a182ea683082ea641b82ea60";
 
 const AFTER_LONG_SERVICE: &[u8] = b"a511180f31393730303130313030303030305aa703020101a8053003020112";
 
-/// A clock that shows the first second of 2024, while the monotonic clock shows what a test sets.
+/// A clock that stands at the first second of 2024, with a monotonic clock that a test sets.
 #[derive(Drop)]
 struct SetClock {
     since_start: Cell<u64>,
@@ -105,11 +105,11 @@ fn ask_addresses(rt: &HostRuntime, wire: &TestWire<'_>) -> Result<Addresses, Fai
     })
 }
 
-/// The hub is made last, since proofs about its end take long for each place.
+/// Starts a server. The hub is made last, since each place where it may be dropped takes long to prove.
 fn open<'a>(rt: &HostRuntime, clock: &'a SetClock) -> Result<Server<'a>, Fail> {
     let wire = bind(rt, clock)?;
     let addresses = ask_addresses(rt, &wire)?;
-    let kdc = kdc(rt.alloc(), Realm::Granter)?;
+    let kdc = kdc(rt.alloc(), Realm::Tgs)?;
     Ok(Server {
         clock,
         wire,
@@ -118,19 +118,18 @@ fn open<'a>(rt: &HostRuntime, clock: &'a SetClock) -> Result<Server<'a>, Fail> {
     })
 }
 
-/// The address of this place.
+/// Returns the address at this place.
 fn address(addresses: &[SocketAddr], place: usize) -> Result<SocketAddr, Fail> {
     Ok(*addresses.get(place).ok_or("an address")?)
 }
 
-/// What a test does with a server, and whether what it saw is right. A server is let go in `run` alone: proofs about
-/// its end take minutes for each place.
+/// A test of a server. Only `run` drops a server: each place with a drop takes minutes to prove.
 #[derive(Clone, Copy)]
 enum Scenario {
     OwnReplies,
     OneByOne,
     ManyDatagrams,
-    FaultyLength,
+    BadLength,
     KeptOpen,
     ManyConnections,
     IdleConnections,
@@ -148,9 +147,9 @@ fn run(rt: &HostRuntime, scenario: Scenario) -> Result<bool, Fail> {
 fn play(rt: &HostRuntime, server: &mut Server<'_>, scenario: Scenario) -> Result<bool, Fail> {
     match scenario {
         Scenario::OwnReplies => each_gets_its_own(rt, server),
-        Scenario::OneByOne => octets_come_one_by_one(rt, server),
+        Scenario::OneByOne => bytes_come_one_by_one(rt, server),
         Scenario::ManyDatagrams => datagrams_keep_coming(rt, server),
-        Scenario::FaultyLength => a_length_is_at_fault(rt, server),
+        Scenario::BadLength => a_length_is_bad(rt, server),
         Scenario::KeptOpen => a_closed_connection_is_kept_open(rt, server),
         Scenario::ManyConnections => connections_come_and_go(rt, server),
         Scenario::IdleConnections => connections_are_idle(rt, server),
@@ -160,7 +159,7 @@ fn play(rt: &HostRuntime, server: &mut Server<'_>, scenario: Scenario) -> Result
     }
 }
 
-/// What the test saw is right.
+/// Fails unless the server did what it should.
 fn expect(rt: &HostRuntime, scenario: Scenario) -> Result<(), Fail> {
     if run(rt, scenario)? {
         Ok(())
@@ -173,7 +172,7 @@ fn serve_rounds(rt: &HostRuntime, server: &mut Server<'_>, rounds: u32) -> Serve
     serve(rt.alloc(), &mut server.wire, &mut server.hub, rounds)
 }
 
-/// Serves for so many rounds, and gives how many events came. No call may fail.
+/// Serves for this many rounds, and returns the number of events. No call may fail.
 fn rounds(rt: &HostRuntime, server: &mut Server<'_>, rounds: u32) -> Result<u32, Fail> {
     let served = serve_rounds(rt, server, rounds);
     if served.faults != 0 || served.refused != 0 {
@@ -182,14 +181,14 @@ fn rounds(rt: &HostRuntime, server: &mut Server<'_>, rounds: u32) -> Result<u32,
     Ok(served.events)
 }
 
-/// These octets for another service.
+/// Returns these bytes with another service.
 fn for_service(rt: &HostRuntime, digits: &[u8], service: u8) -> Result<Vec<u8>, Fail> {
     let mut octets = hex::decode(rt.alloc(), digits)?;
     *octets.get_mut(SERVICE_PLACE).ok_or("the service")? = service;
     Ok(octets)
 }
 
-/// These octets behind their length, which is below 256.
+/// Returns these bytes after their length, which is below 256.
 fn framed(rt: &HostRuntime, octets: &[u8]) -> Result<Vec<u8>, Fail> {
     let len = u8::try_from(octets.len())?;
     let mut framed = Vec::from_slice(rt.alloc(), &[0, 0, 0, len])?;
@@ -197,7 +196,7 @@ fn framed(rt: &HostRuntime, octets: &[u8]) -> Result<Vec<u8>, Fail> {
     Ok(framed)
 }
 
-/// A peer of the address of this place. It takes replies from there alone.
+/// Returns a peer of the address at this place. It receives replies only from there.
 fn peer(rt: &HostRuntime, server: &Server<'_>, place: usize) -> Result<UdpSocket, Fail> {
     let peer = UdpSocket::bind(rt, SocketAddr::from((Ipv4Addr::LOCALHOST, 0)))?;
     peer.connect(address(&server.addresses.udp, place)?)?;
@@ -222,7 +221,7 @@ fn ask_over(rt: &HostRuntime, connection: &mut TcpStream, service: u8) -> Result
     Ok(())
 }
 
-/// Whether the peer has this one reply, and no other.
+/// Checks whether the peer has this one reply, and no other.
 fn has_reply(rt: &HostRuntime, peer: &UdpSocket, service: u8) -> Result<bool, Fail> {
     let reply = for_service(rt, CLIENT_UNKNOWN, service)?;
     let mut buffer = [0; 200];
@@ -230,14 +229,14 @@ fn has_reply(rt: &HostRuntime, peer: &UdpSocket, service: u8) -> Result<bool, Fa
     Ok(buffer[..len] == reply[..] && peer.recv(&mut buffer).is_err())
 }
 
-/// Whether this came on the connection, and no more yet.
+/// Checks whether exactly these bytes came on the connection so far.
 fn has_come(connection: &mut TcpStream, octets: &[u8]) -> Result<bool, Fail> {
     let mut buffer = [0; 200];
     let len = connection.read(&mut buffer)?;
     Ok(buffer[..len] == octets[..] && is_waiting(connection.read(&mut buffer)))
 }
 
-/// Whether a read found nothing, on a connection that stays open.
+/// Checks whether a read found nothing on a connection that stays open.
 fn is_waiting(read: std::io::Result<usize>) -> bool {
     match read {
         Ok(_) => false,
@@ -272,7 +271,7 @@ fn each_peer_and_connection_gets_its_own_reply(rt: HostRuntime) -> Result<(), Fa
     expect(&rt, Scenario::OwnReplies)
 }
 
-fn octets_come_one_by_one(rt: &HostRuntime, server: &mut Server<'_>) -> Result<bool, Fail> {
+fn bytes_come_one_by_one(rt: &HostRuntime, server: &mut Server<'_>) -> Result<bool, Fail> {
     let mut client = connection(rt, server, 0)?;
     let request = framed(rt, &for_service(rt, REQUEST, b'a')?)?;
     for octet in &request {
@@ -283,11 +282,11 @@ fn octets_come_one_by_one(rt: &HostRuntime, server: &mut Server<'_>) -> Result<b
 }
 
 #[test]
-fn octets_that_come_one_by_one_are_one_request(rt: HostRuntime) -> Result<(), Fail> {
+fn bytes_that_come_one_by_one_are_one_request(rt: HostRuntime) -> Result<(), Fail> {
     expect(&rt, Scenario::OneByOne)
 }
 
-/// In each round a datagram has come.
+/// A datagram comes in each round.
 fn datagrams_keep_coming(rt: &HostRuntime, server: &mut Server<'_>) -> Result<bool, Fail> {
     let peer = peer(rt, server, 0)?;
     let mut client = connection(rt, server, 0)?;
@@ -300,12 +299,12 @@ fn datagrams_keep_coming(rt: &HostRuntime, server: &mut Server<'_>) -> Result<bo
 }
 
 #[test]
-fn datagrams_that_keep_coming_hold_up_no_connection(rt: HostRuntime) -> Result<(), Fail> {
+fn steady_datagrams_delay_no_connection(rt: HostRuntime) -> Result<(), Fail> {
     expect(&rt, Scenario::ManyDatagrams)
 }
 
-/// More comes than the server reads before it closes the connection.
-fn a_length_is_at_fault(rt: &HostRuntime, server: &mut Server<'_>) -> Result<bool, Fail> {
+/// More bytes come than the server reads before it closes the connection.
+fn a_length_is_bad(rt: &HostRuntime, server: &mut Server<'_>) -> Result<bool, Fail> {
     let mut client = connection(rt, server, 0)?;
     client.write_all(&[0x80; 5000])?;
     rounds(rt, server, 16)?;
@@ -315,11 +314,11 @@ fn a_length_is_at_fault(rt: &HostRuntime, server: &mut Server<'_>) -> Result<boo
 }
 
 #[test]
-fn a_length_at_fault_is_answered_before_the_end(rt: HostRuntime) -> Result<(), Fail> {
-    expect(&rt, Scenario::FaultyLength)
+fn a_bad_length_is_answered_before_the_end(rt: HostRuntime) -> Result<(), Fail> {
+    expect(&rt, Scenario::BadLength)
 }
 
-/// The peer keeps its side open after the server closed its own. Rounds with nothing to do wait, each a millisecond.
+/// The peer keeps its side open after the server closed its own. A round without an event waits for a millisecond.
 fn a_closed_connection_is_kept_open(
     rt: &HostRuntime,
     server: &mut Server<'_>,
@@ -337,7 +336,7 @@ fn a_closed_connection_keeps_nobody_busy(rt: HostRuntime) -> Result<(), Fail> {
     expect(&rt, Scenario::KeptOpen)
 }
 
-/// A hub has place for 256 connections.
+/// More connections come, one after another, than the 256 that a hub has room for.
 fn connections_come_and_go(rt: &HostRuntime, server: &mut Server<'_>) -> Result<bool, Fail> {
     for _ in 0..300u32 {
         if !connection_is_answered(rt, server)? {
@@ -355,7 +354,7 @@ fn connection_is_answered(rt: &HostRuntime, server: &mut Server<'_>) -> Result<b
 }
 
 #[test]
-fn connections_that_end_make_place(rt: HostRuntime) -> Result<(), Fail> {
+fn connections_that_end_make_room(rt: HostRuntime) -> Result<(), Fail> {
     expect(&rt, Scenario::ManyConnections)
 }
 
@@ -366,7 +365,7 @@ fn peer_is_answered(rt: &HostRuntime, server: &mut Server<'_>) -> Result<bool, F
     has_reply(rt, &peer, b'b')
 }
 
-/// Opens so many connections one after another, and serves each. They stay open on this side.
+/// Opens this many connections one after another, and serves each. They stay open on this side.
 fn open_many(
     rt: &HostRuntime,
     server: &mut Server<'_>,
@@ -380,22 +379,22 @@ fn open_many(
     Ok(opened)
 }
 
-/// Whether each of these connections was closed by the server.
+/// Checks whether the server closed each of these connections.
 fn are_closed(connections: &mut [TcpStream]) -> bool {
     connections
         .iter_mut()
         .all(|connection| matches!(connection.read(&mut [0; 1]), Ok(0)))
 }
 
-/// Whether each of these connections is open, and nothing came on it.
+/// Checks whether each of these connections is open, and nothing came on it.
 fn are_open(connections: &mut [TcpStream]) -> bool {
     connections
         .iter_mut()
         .all(|connection| is_waiting(connection.read(&mut [0; 1])))
 }
 
-/// The hub's table is full, and 44 more connections come, and one that asks. The first connection asked later than the
-/// others were opened.
+/// With the hub's table full, 44 more connections come, and one that sends a request. The first connection had sent a
+/// request after the others were opened.
 fn connections_are_idle(rt: &HostRuntime, server: &mut Server<'_>) -> Result<bool, Fail> {
     let mut idle = open_many(rt, server, 256)?;
     server.clock.set(1);
@@ -418,11 +417,11 @@ fn connections_are_idle(rt: &HostRuntime, server: &mut Server<'_>) -> Result<boo
 }
 
 #[test]
-fn the_connection_idle_for_longest_makes_place(rt: HostRuntime) -> Result<(), Fail> {
+fn the_longest_idle_connection_is_closed_for_a_new_one(rt: HostRuntime) -> Result<(), Fail> {
     expect(&rt, Scenario::IdleConnections)
 }
 
-/// Of three connections one sends nothing, one half a request after 20 seconds, and one a whole request then.
+/// Of three connections one sends nothing, one sends half a request after 20 seconds, and one a whole request.
 fn no_request_comes(rt: &HostRuntime, server: &mut Server<'_>) -> Result<bool, Fail> {
     let mut silent = open_many(rt, server, 1)?;
     let mut slow = open_many(rt, server, 1)?;
@@ -449,8 +448,8 @@ fn a_connection_without_a_request_is_closed_after_30_seconds(rt: HostRuntime) ->
     expect(&rt, Scenario::NoRequest)
 }
 
-/// The server closes 600 connections, and their peers keep their sides open. A request is answered beside them, and
-/// after 30 seconds none of them is left.
+/// The server closes 600 connections, and their peers keep their sides open. After 30 seconds none of them is left, and
+/// a new request is answered.
 fn closed_connections_are_kept_open(
     rt: &HostRuntime,
     server: &mut Server<'_>,
@@ -468,11 +467,11 @@ fn closed_connections_are_kept_open(
 }
 
 #[test]
-fn connections_that_peers_keep_open_hold_up_nobody(rt: HostRuntime) -> Result<(), Fail> {
+fn connections_that_peers_keep_open_delay_nobody(rt: HostRuntime) -> Result<(), Fail> {
     expect(&rt, Scenario::ClosingConnections)
 }
 
-/// A request for a service whose name has 60,000 octets, behind its length. Its reply is as long.
+/// Returns a request for a service whose name has 60,000 bytes, after its length. Its reply is as long.
 fn long_request(rt: &HostRuntime) -> Result<Vec<u8>, Fail> {
     let mut request = hex::decode(rt.alloc(), BEFORE_LONG_SERVICE)?;
     request.extend_from_slice(&[b'a'; 60_000])?;
@@ -480,8 +479,8 @@ fn long_request(rt: &HostRuntime) -> Result<Vec<u8>, Fail> {
     Ok(request)
 }
 
-/// Sends what fits of these octets over and over, from a place on. It gives the next place, or none where the server
-/// has let go of the connection.
+/// Sends these bytes over and over, from a place on, as far as they fit. Returns the next place, or `None` if the
+/// server has dropped the connection.
 fn send_some(client: &mut TcpStream, octets: &[u8], place: usize) -> Option<usize> {
     match client.write(octets.get(place..)?) {
         Ok(sent) if place + sent < octets.len() => Some(place + sent),
@@ -491,7 +490,7 @@ fn send_some(client: &mut TcpStream, octets: &[u8], place: usize) -> Option<usiz
     }
 }
 
-/// A peer sends long requests without end, and reads nothing.
+/// A peer sends long requests without end and reads nothing.
 fn replies_are_not_read(rt: &HostRuntime, server: &mut Server<'_>) -> Result<bool, Fail> {
     let mut client = connection(rt, server, 0)?;
     let request = long_request(rt)?;
@@ -507,6 +506,6 @@ fn replies_are_not_read(rt: &HostRuntime, server: &mut Server<'_>) -> Result<boo
 }
 
 #[test]
-fn a_peer_that_does_not_read_is_let_go(rt: HostRuntime) -> Result<(), Fail> {
+fn a_peer_that_does_not_read_is_dropped(rt: HostRuntime) -> Result<(), Fail> {
     expect(&rt, Scenario::UnreadReplies)
 }

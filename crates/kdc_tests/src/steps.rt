@@ -1,8 +1,8 @@
-//! Runs of a KDC (`kdc_core`) of the realm `A.B`, step by step.
+//! Runs of a KDC (`kdc_core`) for the realm `A.B`, step by step.
 use crate::given::name;
 use crate::realm;
 use crate::realm::HOST_OCTET;
-use crate::requests::{AS_HEAD, BAD_TIMESTAMP, TgsReq, as_req};
+use crate::requests::{TgsReq, as_req, bad_as_req};
 use enctypes::{Etype, Key};
 use kdc_core::{Event, Resumption, Seen};
 use krb_elements::{Octets, Seq};
@@ -14,46 +14,46 @@ use std::test::Fail;
 
 const MIDNIGHT: i64 = 1_704_067_200;
 
-/// What happens in a step of a run.
+/// The event of a step.
 #[derive(Clone, Copy)]
 pub enum Act {
-    /// The client asks.
+    /// The client sends a request.
     Ask(Asked),
     /// The client's row is changed.
     Change(Changed),
     /// `krbtgt/A.B` gets new keys.
-    GranterKeys,
+    TgsKeys,
     /// `h` gets new keys.
     ServiceKeys,
-    /// What can't come again is forgotten.
+    /// The KDC drops authenticators that can't come again.
     Tidy,
     Restart,
-    /// The KDC resumes, and has no clients. What is known is the authenticator of this step, and that whatever is below
-    /// the step's second was seen or is too old.
+    /// The KDC resumes without clients. It knows this step's authenticator as seen, and refuses all times below the
+    /// step's second.
     Resume,
 }
 
-/// What a client asks: a ticket for `krbtgt/A.B`, or one for `h` by a ticket that it has.
+/// A client's request: for a ticket for `krbtgt/A.B`, or for one for `h` with a ticket that it has.
 #[derive(Clone, Copy)]
 pub enum Asked {
     As,
     AsBadTimestamp,
     Tgs,
-    /// The octets of the client's last `Tgs`.
+    /// The bytes of the client's last `Tgs`.
     TgsAgain,
     /// Another request with the same authenticator's time.
     TgsAltered,
-    /// One whose checksum is that of another body.
+    /// A request with the checksum of another body.
     TgsSpoilt,
 }
 
-/// What is changed of a client's row.
+/// A change of a client's row.
 #[derive(Clone, Copy)]
 pub enum Changed {
     Add,
     Remove,
     NewKeys,
-    /// It needs no preauthentication, and nothing is refused to it.
+    /// It needs no preauthentication, and its policy refuses nothing.
     Free,
     Disable,
     /// Its tickets from before this step are revoked.
@@ -63,7 +63,7 @@ pub enum Changed {
 #[derive(Clone, Copy)]
 pub struct Step {
     pub act: Act,
-    /// The letter that the client is named by.
+    /// The client's name, one letter.
     pub client: u8,
     /// When it happens, in seconds after midnight.
     pub at: u32,
@@ -71,16 +71,16 @@ pub struct Step {
     pub stamp: u32,
     /// The microseconds of that time, at most 127.
     pub cusec: u8,
-    /// Of this octet are its random octets and new keys made.
+    /// The byte of which its random bytes and new keys are made.
     pub octet: u8,
 }
 
 impl Step {
-    /// Whether the step is left for this client.
+    /// Checks whether the step stays in the client's own run.
     pub fn is_left(self, client: u8) -> bool {
         match self.act {
             Act::Ask(_) | Act::Change(_) => self.client == client,
-            Act::GranterKeys | Act::ServiceKeys | Act::Tidy | Act::Restart | Act::Resume => true,
+            Act::TgsKeys | Act::ServiceKeys | Act::Tidy | Act::Restart | Act::Resume => true,
         }
     }
 }
@@ -105,18 +105,18 @@ fn client_keys(alloc: Global, octet: u8) -> Result<KeyList, Fail> {
 fn request(alloc: Global, asked: Asked, step: Step) -> Result<Vec<u8>, AllocError> {
     let key = key(Etype::Aes256CtsHmacSha1_96, HOST_OCTET);
     let nonce = match asked {
-        Asked::As => return as_req(alloc, AS_HEAD, step.client),
-        Asked::AsBadTimestamp => return as_req(alloc, BAD_TIMESTAMP, step.client),
+        Asked::As => return as_req(alloc, step.client),
+        Asked::AsBadTimestamp => return bad_as_req(alloc, step.client),
         Asked::Tgs | Asked::TgsAgain | Asked::TgsSpoilt => 1,
         Asked::TgsAltered => 2,
     };
-    let told = TgsReq {
+    let fields = TgsReq {
         client: step.client,
         second: step.stamp,
         cusec: step.cusec,
         nonce,
     };
-    let mut request = told.octets(alloc, &key)?;
+    let mut request = fields.octets(alloc, &key)?;
     if let (Asked::TgsSpoilt, Some(last)) = (asked, request.last_mut()) {
         *last ^= 1;
     }
@@ -193,7 +193,7 @@ fn event(alloc: Global, step: Step) -> Result<Event, Fail> {
         Act::Change(changed) => Ok(Event::Change {
             change: change(alloc, changed, step)?,
         }),
-        Act::GranterKeys => new_service_keys(alloc, &[b"krbtgt", b"A.B"], step.octet),
+        Act::TgsKeys => new_service_keys(alloc, &[b"krbtgt", b"A.B"], step.octet),
         Act::ServiceKeys => new_service_keys(alloc, &[b"h"], step.octet),
         Act::Tidy => Ok(Event::Tidy { at }),
         Act::Restart => Ok(Event::Restart { at }),
@@ -201,7 +201,7 @@ fn event(alloc: Global, step: Step) -> Result<Event, Fail> {
     }
 }
 
-/// Appends the events of the steps that are left for this client, or of all.
+/// Appends the events of all steps, or of those that stay in a client's own run.
 fn push_events(
     alloc: Global,
     events: &mut Vec<Event>,
@@ -216,7 +216,7 @@ fn push_events(
     Ok(())
 }
 
-/// The replies of a KDC that runs through them. It has no clients at first, only the service `h`.
+/// Runs a KDC through them, and returns its replies. It starts with the service `h` and no clients.
 pub fn replies(
     alloc: Global,
     limits: Limits,
@@ -228,7 +228,7 @@ pub fn replies(
     realm::replies(alloc, limits, &events)
 }
 
-/// A step whose authenticator, if it has one, is made when it happens.
+/// Returns a step whose authenticator, if it has one, is made when it happens.
 pub fn step_at(at: u32, client: u8, act: Act, octet: u8) -> Step {
     Step {
         act,

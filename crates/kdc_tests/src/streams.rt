@@ -1,15 +1,15 @@
-//! Cutting a stream into messages (`framing`).
+//! Tests of cutting a stream into messages (`framing`).
 use framing::{FrameFault, Splitter, frame, prefix};
 use std::alloc::{AllocError, Global};
 use std::test::Fail;
 
-/// The next message is this one.
+/// Checks whether the next message is this one.
 fn hands_out(alloc: Global, splitter: &mut Splitter, message: &[u8]) -> bool {
     matches!(&splitter.next(alloc), Ok(Some(next)) if next.as_slice() == message)
 }
 
 #[test]
-fn a_message_stands_behind_its_length(rt: HostRuntime) -> Result<(), Fail> {
+fn a_message_follows_its_length(rt: HostRuntime) -> Result<(), Fail> {
     let octets = frame(rt.alloc(), &[0x6a])?;
     assert_eq!(rt; octets.as_slice(), [0u8, 0, 0, 1, 0x6a].as_slice());
     assert_eq!(rt; prefix(0x0102_0304), [1, 2, 3, 4]);
@@ -17,7 +17,7 @@ fn a_message_stands_behind_its_length(rt: HostRuntime) -> Result<(), Fail> {
 }
 
 #[test]
-fn a_message_comes_octet_by_octet(rt: HostRuntime) -> Result<(), Fail> {
+fn a_message_comes_byte_by_byte(rt: HostRuntime) -> Result<(), Fail> {
     let alloc = rt.alloc();
     let mut splitter = Splitter::new(alloc, 65_535);
     for octet in [0u8, 0, 0, 1] {
@@ -44,7 +44,7 @@ fn messages_come_in_order(rt: HostRuntime) -> Result<(), Fail> {
 }
 
 #[test]
-fn a_length_at_fault_ends_the_stream(rt: HostRuntime) -> Result<(), Fail> {
+fn a_bad_length_ends_the_stream(rt: HostRuntime) -> Result<(), Fail> {
     let alloc = rt.alloc();
     for (length, fault, text) in [
         (
@@ -66,7 +66,7 @@ fn a_length_at_fault_ends_the_stream(rt: HostRuntime) -> Result<(), Fail> {
         let mut splitter = Splitter::new(alloc, 65_535);
         splitter.feed(&length)?;
         for _ in 0..2 {
-            assert!(rt; matches!(&splitter.next(alloc), Err(told) if *told == fault));
+            assert!(rt; matches!(&splitter.next(alloc), Err(found) if *found == fault));
             splitter.feed(&[0, 0, 0, 0])?;
         }
         assert_eq!(rt; format!(in alloc; "{fault}")?.as_str(), text);
@@ -74,10 +74,10 @@ fn a_length_at_fault_ends_the_stream(rt: HostRuntime) -> Result<(), Fail> {
     Ok(())
 }
 
-/// One allocation may be refused, by `rt try --test --fail-alloc N`: the call then fails
-/// because memory ran out, and the next call succeeds.
+/// If one allocation fails (`rt try --test --fail-alloc N`), the call returns that memory ran out, and the next call
+/// succeeds.
 #[test]
-fn want_of_memory_is_answered(rt: HostRuntime) -> Result<(), Fail> {
+fn a_call_out_of_memory_fails_and_the_next_succeeds(rt: HostRuntime) -> Result<(), Fail> {
     let alloc = rt.alloc();
     let octets = match frame(alloc, &[0x6a]) {
         Ok(octets) => octets,

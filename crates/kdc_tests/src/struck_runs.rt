@@ -1,12 +1,12 @@
-//! Struck runs (`kdc_core`): a client gets the same replies beside others as in a run where their requests and the
-//! changes of their rows are struck out.
+//! Tests of isolation (`kdc_core`): a client gets the same replies beside others as in a struck run, without their
+//! requests and the changes of their rows.
 use crate::expect::same;
 use crate::steps::{Act, Asked, Changed, Step, replies, step_at};
 use principal_rows::Limits;
 use std::alloc::{AllocError, Global};
 use std::test::Fail;
 
-/// Whether it is an AS-REP or a TGS-REP.
+/// Checks whether it is an AS-REP or a TGS-REP.
 fn bears_ticket(reply: &Option<Vec<u8>>) -> bool {
     match reply {
         Some(octets) => matches!(octets.first(), Some(0x6b | 0x6d)),
@@ -14,8 +14,7 @@ fn bears_ticket(reply: &Option<Vec<u8>>) -> bool {
     }
 }
 
-/// How many tickets the client got, where each step that is left for it got in the struck run what it got in the
-/// whole one.
+/// Returns the number of tickets for the client, if each step in its struck run got the same reply as in the whole run.
 fn tickets(
     steps: &[Step],
     whole: &[Option<Vec<u8>>],
@@ -41,7 +40,7 @@ fn tickets(
     }
 }
 
-/// The same, of the struck run of a KDC that never had other clients.
+/// Returns the same for the struck run of a KDC that never had other clients.
 fn struck_tickets(
     alloc: Global,
     limits: Limits,
@@ -53,7 +52,7 @@ fn struck_tickets(
     Ok(tickets(steps, whole, &struck, client))
 }
 
-/// The same, for each of these clients in turn.
+/// Returns the same for each of these clients.
 fn tickets_of_each(
     alloc: Global,
     limits: Limits,
@@ -68,9 +67,9 @@ fn tickets_of_each(
     Ok(found)
 }
 
-/// `u` and `w` come, and the KDC starts again. 301 seconds later, when authenticators are accepted, `u` asks, and `w`
-/// ten times; `w` and `krbtgt/A.B` get new keys, and `u` asks once more. The first and the last request of `w` have the
-/// same authenticators' times as those of `u`.
+/// `u` and `w` are added, and the KDC starts again. 301 seconds later, when authenticators are accepted, `u` sends a
+/// request, and `w` ten. Then `w` and `krbtgt/A.B` get new keys, and `u` sends one more request. The first and the last
+/// request of `w` have the same authenticators' times as those of `u`.
 const BESIDE_ANOTHER: &[(u32, u8, Act)] = &[
     (0, b'u', Act::Change(Changed::Add)),
     (0, b'u', Act::Change(Changed::Free)),
@@ -88,7 +87,7 @@ const BESIDE_ANOTHER: &[(u32, u8, Act)] = &[
     (309, b'w', Act::Ask(Asked::Tgs)),
     (310, b'w', Act::Ask(Asked::Tgs)),
     (310, b'w', Act::Change(Changed::NewKeys)),
-    (310, b' ', Act::GranterKeys),
+    (310, b' ', Act::TgsKeys),
     (310, b'u', Act::Ask(Asked::Tgs)),
 ];
 
@@ -114,7 +113,7 @@ fn a_client_gets_the_same_without_another(rt: HostRuntime) -> Result<(), Fail> {
     Ok(())
 }
 
-/// A linear congruential generator, of whose numbers the highest octet is taken.
+/// A linear congruential generator that returns the highest byte of each number.
 #[derive(Drop)]
 struct Draws {
     last: u64,
@@ -142,7 +141,7 @@ impl Draws {
             238..=245 => Act::Change(Changed::Free),
             246..=247 => Act::Change(Changed::Disable),
             248..=249 => Act::Change(Changed::Revoke),
-            250..=251 => Act::GranterKeys,
+            250..=251 => Act::TgsKeys,
             252 => Act::Tidy,
             253..=254 => Act::ServiceKeys,
             255 => Act::Restart,
@@ -150,7 +149,7 @@ impl Draws {
     }
 }
 
-/// The stamp of the client's last `Tgs`.
+/// Returns the stamp of the client's last `Tgs`.
 fn last_stamp(steps: &[Step], client: u8) -> Option<u32> {
     let mut last = None;
     for step in steps {
@@ -161,7 +160,7 @@ fn last_stamp(steps: &[Step], client: u8) -> Option<u32> {
     last
 }
 
-/// A step of one of eight clients. It may be half a minute late.
+/// Returns a step of one of eight clients. It may be half a minute late.
 fn drawn_step(draws: &mut Draws, steps: &[Step], clock: u32) -> Step {
     let act = draws.act();
     let client = b'p' + draws.draw() % 8;
@@ -173,7 +172,7 @@ fn drawn_step(draws: &mut Draws, steps: &[Step], clock: u32) -> Step {
     step
 }
 
-/// The clients come, and 1,984 steps follow.
+/// Returns the steps that add the clients, followed by 1,984 steps.
 fn drawn_steps(alloc: Global) -> Result<Vec<Step>, AllocError> {
     let mut steps = Vec::new(alloc);
     for client in b'p'..=b'w' {

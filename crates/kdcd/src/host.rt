@@ -3,7 +3,7 @@ ghost use Rattle.std.specs.Prelude.{None};
 
 use kdc_wire::{BindFault, SocketWire, now};
 use kdcd_start::{
-    FileFault, Host, Journals, OpenedJournals, RowsFile, open_journals, read_at_most,
+    FileFault, HeldFiles, Host, Journals, OpenedJournals, RowsFile, open_journals, read_at_most,
 };
 use krb_fields::Moment;
 use principals::Database;
@@ -26,8 +26,8 @@ const LONGEST_SEED: usize = 16_777_216;
 pub struct SystemHost<'a, W> {
     pub rt: &'a HostRuntime,
     pub rows: RowsFile<'a, HostRuntime, W>,
-    /// The file of the journal that was read, if there is one.
-    pub journal: Option<File>,
+    /// The files of the journal, once it was read.
+    pub journal: HeldFiles,
 }
 
 impl<W: Write + Drop> Host for SystemHost<'_, W> {
@@ -38,7 +38,11 @@ impl<W: Write + Drop> Host for SystemHost<'_, W> {
     ghost recorded = { λ _. None };
 
     fn read_rows(&mut self, alloc: Global) -> Result<Database, FileFault> {
-        self.rows.read(alloc)
+        let read = self.rows.read(alloc);
+        if read.is_err() {
+            self.rows.say_place();
+        }
+        read
     }
 
     fn read_seed(&mut self, alloc: Global, path: &str) -> Result<Vec<u8>, FileFault> {
@@ -62,8 +66,8 @@ impl<W: Write + Drop> Host for SystemHost<'_, W> {
     }
 
     fn read_journals(&mut self, alloc: Global, path: &str) -> Result<Journals, FileFault> {
-        let OpenedJournals { journals, file } = open_journals(alloc, self.rt, path)?;
-        self.journal = file;
+        let OpenedJournals { journals, files } = open_journals(alloc, self.rt, path)?;
+        self.journal = files;
         Ok(journals)
     }
 

@@ -4,14 +4,14 @@ use kdc_hub::Hub;
 use kdc_serving::serve_life;
 use kdc_wire::{BindFault, SocketWire};
 use kdcd_start::{
-    ClockWatch, FileFault, JournalFile, JournalFound, JournalNews, JournalWire, LoggedWire,
-    QuietWire, ReadyServer, Refused, RequestLines, RowsFile, ServeOptions, Started, WatchedWire,
-    quiet_until, refused_at_start, start_server, start_with_journal,
+    ClockWatch, FileFault, HeldFiles, JournalFile, JournalFound, JournalNews, JournalWire,
+    LoggedWire, QuietWire, ReadyServer, Refused, RequestLines, RowsFile, ServeOptions, Started,
+    WatchedWire, quiet_until, refused_at_start, start_server, start_with_journal,
 };
 use rand_chacha::ChaCha20Rng;
 use ready_writer::{ReadyWriter, SharedWriter};
 use std::io::{Stderr, Write};
-use std::{fmt, io};
+use std::{fmt, io, mem};
 
 /// The status of a run that served all its rounds.
 const DONE: u8 = 0;
@@ -166,7 +166,7 @@ fn start<'a>(
     let mut host = SystemHost {
         rt,
         rows,
-        journal: None,
+        journal: HeldFiles::none(),
     };
     let begun = match options.journal {
         Some(path) => begin_with_journal(rt, &mut host, options, path, errors.share()?)?,
@@ -220,7 +220,8 @@ fn begin_with_journal<'a>(
     let started = start_with_journal(rt.alloc(), host, options, path)?;
     let refused = started.refused();
     let found = JournalFound::of(&started.start);
-    let (server, begun) = started.begin_journal(rt.alloc(), rt, path, errors, host.journal.take());
+    let held = mem::replace(&mut host.journal, HeldFiles::none());
+    let (server, begun) = started.begin_journal(rt.alloc(), rt, path, errors, held);
     match begun {
         Ok(journal) => Ok(Begun {
             server,

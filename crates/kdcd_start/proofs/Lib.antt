@@ -1,3 +1,5 @@
 pub mod Ready
 mod Handings
 mod Decided
+mod Restarts
+mod Calls

@@ -1,12 +1,12 @@
 -- What a server's journal is handed, and which actions wait for it.
-use Rattle.std.specs.Prelude.{◌≡◌, ◌+◌, ◌-◌, ◌^◌, ℕ, min, Bool, true, false, not, ◌||◌, List, [], ◌∷◌, map, nat_eq}
-use Rattle.std.specs.Prelude.{Option, Some, None, if◌then◌else◌}
+use Rattle.std.specs.Prelude.{◌≡◌, Bool, true, false, not, ◌||◌, List, [], ◌∷◌, map, Option, Some, None}
 use Rattle.krb_fields.specs.declared.moment.Moment.{Moment}
 use Rattle.replay.specs.declared.seen.Seen.{Seen}
 use Rattle.kdc_hub.specs.declared.event.Action.{Action}
 use Rattle.kdc_hub.specs.declared.event.Action.TheVariants.{SendTo, Pass, Write, Close}
 use Rattle.kdc_hub.specs.declared.reply.Reply.{Reply}
 use Rattle.kdc_hub.specs.declared.wires.Did.{Did}
+use Rattle.kdc_hub.specs.declared.wires.Did.TheVariants.{Polled, Waited, Missed, Acted, Failed}
 use Rattle.kdc_hub.specs.History.{reply_in, seen_by}
 use Rattle.kdc_hub.specs.Wire.{Records}
 
@@ -50,10 +50,10 @@ abbrev pub may_act : {J : Type 0} → (J → Bool) → Option J → Option Momen
 may_act is_whole None at action = true
 may_act is_whole (Some journal) at action = not (has_reply action) || has_all is_whole journal at
 
--- the record of a Wire, as long as no action was withheld
-abbrev pub unless_withheld : ℕ → Option (List Did) → Option (List Did)
-unless_withheld withheld did = if nat_eq withheld 0 then did else None
-
--- the calls that failed, with the actions that were withheld; the count stops at the greatest 64-bit number
-abbrev pub fault_sum : ℕ → ℕ → ℕ
-fault_sum faults withheld = min (faults + withheld) (2 ^ 64 - 1)
+-- when the last event came, after something that a Wire did
+abbrev pub moment_after : Option Moment → Did → Option Moment
+moment_after at (Polled came event) = Some came
+moment_after at (Waited now) = at
+moment_after at Missed = at
+moment_after at (Acted action) = at
+moment_after at (Failed action) = at

@@ -6,3 +6,4 @@ pub mod Quiet
 pub mod Journal
 pub mod Handing
 pub mod Resuming
+pub mod Processes

@@ -1,5 +1,5 @@
 -- Which replies a server withholds while it refuses all service tickets.
-use Rattle.std.specs.Prelude.{ℤ, pos, Bool, true, false, ◌&&◌, int_lt, Option, Some, None}
+use Rattle.std.specs.Prelude.{◌+◌, ◌-◌, ◌^◌, ℕ, min, ℤ, pos, Bool, true, false, ◌&&◌, int_lt, Option, Some, None}
 use Rattle.std.specs.Ordering.{int_eq}
 use Rattle.krb_fields.specs.Code.{number_of}
 use Rattle.krb_fields.specs.declared.moment.Moment.{Moment}
@@ -37,3 +37,8 @@ abbrev pub withholds : Option ℤ → Option Moment → Action → Bool
 withholds (Some until) (Some at) action = int_lt at.sec until && sends_skew action
 withholds (Some until) None action = false
 withholds None at action = false
+
+-- the calls of the inner Wire that failed, with the actions that were withheld; the count stops at the greatest 64-bit
+-- number
+abbrev pub fault_sum : ℕ → ℕ → ℕ
+fault_sum faults withheld = min (faults + withheld) (2 ^ 64 - 1)

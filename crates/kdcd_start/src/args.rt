@@ -1,4 +1,4 @@
-//! The words of a command line.
+//! The command line of `kdcd`: its subcommands, their options, and what `--help` says.
 use crate::request_lines::LogFormat;
 use clap::error::Error;
 use clap::{ArgMatches, Command};
@@ -8,36 +8,36 @@ use std::alloc::{AllocError, AllocFailed, Global};
 use std::net::SocketAddr;
 use text_fields::number_u32;
 
-/// What a server is started with.
+/// The options of a server.
 #[derive(Debug, Drop)]
 pub struct ServeOptions<'a> {
     /// The path of the database's file.
     pub db: &'a str,
-    /// Where datagrams are taken.
+    /// The addresses that accept datagrams.
     pub udp: Vec<SocketAddr>,
-    /// Where connections are taken.
+    /// The addresses that accept connections.
     pub tcp: Vec<SocketAddr>,
-    /// How many rounds are served; `None` is as many as come.
+    /// The number of rounds, or `None` to serve until a signal ends the process.
     pub rounds: Option<u32>,
-    /// The path of the seed's file; `None` is the system's own source.
+    /// The path of the seed's file, or `None` to draw a seed from the system.
     pub seed: Option<&'a str>,
     pub limits: Limits,
     /// Whether no request was ever answered with this database.
     pub is_first: bool,
-    /// Whether TGS-REQs get no reply as long as all of them are refused.
+    /// Whether TGS-REQs get no reply while all of them are refused.
     pub is_quiet: bool,
     /// The path of the journal's file, if there is one.
     pub journal: Option<&'a str>,
-    /// Whether the database is read once, and never looked at again.
+    /// Whether the database's file is read only once.
     pub is_fixed: bool,
-    /// How each request is written to standard error, if it is.
+    /// The format of the log on standard error, if there is one.
     pub log: Option<LogFormat>,
 }
 
-/// Why the words behind `serve` are not taken.
+/// Why the words after `serve` are refused.
 #[derive(Clone, Copy, Debug)]
 pub enum ArgsFault {
-    /// What is wrong with them.
+    /// A usage error, in words.
     Amiss(&'static str),
     Memory,
 }
@@ -54,35 +54,36 @@ impl<T: Drop> From<AllocFailed<T>> for ArgsFault {
     }
 }
 
-/// The most addresses of one server.
+/// The greatest number of addresses of one server.
 const MOST_ADDRESSES: usize = 8;
 
 const AFTER_HELP: &str = "\
-Without --rounds it serves until a signal ends it. A round takes one event at most: a datagram, a new connection, a
-piece of what comes on one, or its end. Where nothing comes it waits a tenth of a second. After the last round it prints
-`served EVENTS FAULTS REFUSED`: the events, the calls of the sockets that failed, and the events that were refused
-memory. With --rounds 0 it opens everything, and ends.
+Without --rounds the server runs until a signal ends it. A round takes at most one event: a datagram, a new connection,
+a piece of what comes on one, or its end. If nothing comes, it waits a tenth of a second. After the last round it prints
+`served EVENTS FAULTS REFUSED`: the events, the socket calls that failed, and the events that ran out of memory. With
+--rounds 0 it opens everything and ends.
 
-The file of the database is looked at before each 16 rounds. If it was changed it is read, and its rows are served from
-then on; all that is remembered stays. A file that can't be read, is refused, or is of another realm (OtherRealm) leaves
-the rows as they are. Standard error says so once, and the file is looked at again when it changes again; one that the
-system failed to read is read again after five seconds.
+Before each 16 rounds the server checks the file of the database. If the file changed, the server reads it and serves
+the new rows; replay caches and failed logins stay. If the file can't be read, is refused, or is of another realm
+(OtherRealm), the old rows stay. Standard error says so once, and the server looks again when the file changes again. A
+file that the system failed to read is read again after five seconds.
 
-Once it listens it says so on standard error: the addresses, the database with its rows, until when TGS-REQs are refused,
-and the limits. A port 0 is one that the system gives. While the clock shows an earlier time than before, a line a minute
-says which TGS-REQs are refused for that, and until when. With --log each request is a line there: the time in UTC, the peer, udp or tcp, as or tgs, the
-client, the service, and what became of it: `ticket` with its lifetime, or `refused` with the error's code and a word for
-it; then rule=NAME for a refusal, and etype=, flags=, until= and renew= for a ticket. A line that can't be written is lost.
+Once it listens, standard error says where, which database with how many rows, until when TGS-REQs are refused, and the
+limits. Port 0 is one that the system chooses. If the clock goes back, a line a minute says which TGS-REQs are refused
+for that, and until when. With --log each request is a line: the time in UTC, the peer, udp or tcp, as or tgs, the
+client, the service, and the outcome: `ticket` with its lifetime, or `refused` with the error's code and a word for it;
+then rule=NAME for a refusal, and etype=, flags=, until= and renew= for a ticket. A line that can't be written is lost.
 
-With --journal each authenticator that enters a replay cache is a record of FILE before its reply is sent. A start finds
-the records of the last run, refuses those authenticators, and nothing else. It does so only if nothing is in doubt: the journal is
-of this realm and this boot of the system, whole, and not later than the clock. Else it starts as without a journal, and
-standard error says why. FILE and FILE.old take turns every ten minutes. While a record can't be written no reply is sent;
-standard error says so. --first is refused where there is a journal: it is for the first start alone.
+With --journal the server appends each authenticator that enters a replay cache to FILE before it sends the reply. The
+next start reads FILE, refuses these authenticators, and refuses nothing else. It does so only if the journal is of this
+realm and of this boot of the system, whole, and not later than the clock. Otherwise it starts as without a journal, and
+standard error says why. FILE and FILE.old take turns every ten minutes. FILE.lock keeps a second server from FILE; it
+stays there. While FILE can't be written the server sends no reply, and standard error says so. --first is refused if
+there is a journal, since it is for the first start alone.
 
-Status: 0 after the last round; 1 where a file is refused (`refused NAME`: NotJson, BadVersion, BadRow,
-NoTicketGranter, ShortSeed, LongFile); 2 for these words; 3 where a file, a socket, the clock or memory failed
-(`failed`). Why it could not start stands on standard error.";
+Status: 0 after the last round; 1 if a file is refused (`refused NAME`: NotJson, BadVersion, BadRow, NoTicketGranter,
+ShortSeed, LongFile); 2 for a usage error; 3 if a file, a socket, the clock or memory failed (`failed`). Standard error
+says why the server did not start.";
 
 const SERVE: SubcommandRow = SubcommandRow {
     name: "serve",
@@ -97,67 +98,67 @@ const SERVE: SubcommandRow = SubcommandRow {
         OptionRow {
             name: "udp",
             shape: "ADDRESS:PORT",
-            help: "Where datagrams are taken, as 127.0.0.1:88 or [::1]:88. It and --tcp may stand 8 times in all",
+            help: "Accept datagrams at this address, such as 127.0.0.1:88 or [::1]:88. At most 8 of --udp and --tcp in all",
             times: Times::Any,
         },
         OptionRow {
             name: "tcp",
             shape: "ADDRESS:PORT",
-            help: "Where connections are taken",
+            help: "Accept connections at this address",
             times: Times::Any,
         },
         OptionRow {
             name: "rounds",
             shape: "N",
-            help: "How many rounds it serves, 0 to 4294967295",
+            help: "End after N rounds, 0 to 4294967295",
             times: Times::AtMostOnce,
         },
         OptionRow {
             name: "seed",
             shape: "FILE",
-            help: "32 random octets, others at each start, of which all keys of tickets are made; else the system's",
+            help: "Make all session keys from the first 32 bytes of this file, new for each start (default: the system's)",
             times: Times::AtMostOnce,
         },
         OptionRow {
             name: "remembered",
             shape: "N",
-            help: "How many authenticators are remembered of each client, 1 to 65536; else 4096",
+            help: "Keep up to N authenticators in the replay cache of each client, 1 to 65536 (default 4096)",
             times: Times::AtMostOnce,
         },
         OptionRow {
             name: "lock-after",
             shape: "N",
-            help: "After how many failed logins a client is locked; else, and with 0, never",
+            help: "Lock a client after N failed logins in a row (default 0: never). It needs --lock-seconds",
             times: Times::AtMostOnce,
         },
         OptionRow {
             name: "lock-seconds",
             shape: "N",
-            help: "For how many seconds after the last failure; else 0",
+            help: "Lock it until N seconds after the last failure",
             times: Times::AtMostOnce,
         },
         OptionRow {
             name: "greatest-life",
             shape: "N",
-            help: "How many seconds a ticket lives at most; else 36000",
+            help: "Issue tickets with a lifetime of at most N seconds (default 36000)",
             times: Times::AtMostOnce,
         },
         OptionRow {
             name: "greatest-renewable",
             shape: "N",
-            help: "For how many seconds a ticket is renewed at most; else 604800",
+            help: "Renew tickets for at most N seconds (default 604800)",
             times: Times::AtMostOnce,
         },
         OptionRow {
             name: "journal",
             shape: "FILE",
-            help: "The records of the replay caches, so that a restart goes on with them and refuses nothing new",
+            help: "Append the authenticators of the replay caches to FILE, so that a restart refuses nothing else",
             times: Times::AtMostOnce,
         },
         OptionRow {
             name: "log-format",
             shape: "FORMAT",
-            help: "Each request is a line on standard error, as text, or as an object of JSON with json",
+            help: "Write a line to standard error for each request: text, or with json a JSON object",
             times: Times::AtMostOnce,
         },
     ],
@@ -165,15 +166,15 @@ const SERVE: SubcommandRow = SubcommandRow {
         FlagRow {
             name: "first",
             help: "\
-                No request was ever answered with this database; else TGS-REQs are refused as skewed for 301 seconds",
+                No request was ever answered with this database. Without it, TGS-REQs are refused with error 37 for 301 seconds",
         },
         FlagRow {
             name: "quiet-start",
-            help: "While all TGS-REQs are refused after a start, they get no reply, so that clients ask another KDC",
+            help: "Send no reply to a TGS-REQ while all are refused after the start, so that clients ask another KDC",
         },
         FlagRow {
             name: "fixed",
-            help: "The database is read once, and its file never looked at again",
+            help: "Read the database once, and never look at its file again",
         },
         FlagRow {
             name: "log",
@@ -189,7 +190,7 @@ const SCRIPT: SubcommandRow = SubcommandRow {
     flags: &[],
 };
 
-/// Reads the words, the program's name in front.
+/// Reads the words of a command line, which begin with the program's name.
 pub fn read_args<'a>(alloc: Global, args: &'a [String]) -> Result<ArgMatches<'a>, Error> {
     let kdcd = Command::new(alloc, "kdcd").about("A Kerberos KDC");
     with_subcommands(alloc, kdcd, &[SCRIPT])?
@@ -197,7 +198,7 @@ pub fn read_args<'a>(alloc: Global, args: &'a [String]) -> Result<ArgMatches<'a>
         .try_get_matches_from(args)
 }
 
-/// The options that the words behind `serve` stand for.
+/// Reads the options after `serve`.
 pub fn serve_options<'a>(
     alloc: Global,
     args: &ArgMatches<'a>,
@@ -220,7 +221,7 @@ pub fn serve_options<'a>(
     with_addresses(args, udp, tcp)
 }
 
-/// The same, where the addresses are known.
+/// Reads the other options, and adds the addresses.
 fn with_addresses<'a>(
     args: &ArgMatches<'a>,
     udp: Vec<SocketAddr>,
@@ -231,6 +232,11 @@ fn with_addresses<'a>(
         .ok_or(ArgsFault::Amiss("--db is missing"))?;
     let rounds = rounds(args)?;
     let limits = limits(args)?;
+    if lacks_lock_time(args, &limits) {
+        return Err(ArgsFault::Amiss(
+            "--lock-after needs --lock-seconds, for how long a client is locked, such as --lock-seconds 300",
+        ));
+    }
     let log = log_format(args)?;
     Ok(ServeOptions {
         db,
@@ -247,7 +253,7 @@ fn with_addresses<'a>(
     })
 }
 
-/// How the log is written, if there is to be one.
+/// Reads the format of the log, if there is to be one.
 fn log_format(args: &ArgMatches<'_>) -> Result<Option<LogFormat>, ArgsFault> {
     match args.get_str("log-format") {
         Some("text") => Ok(Some(LogFormat::Text)),
@@ -258,7 +264,7 @@ fn log_format(args: &ArgMatches<'_>) -> Result<Option<LogFormat>, ArgsFault> {
     }
 }
 
-/// The addresses that stand behind an option, each time that it stands there.
+/// Reads the addresses of an option that may be given more than once.
 fn addresses(
     alloc: Global,
     args: &ArgMatches<'_>,
@@ -278,13 +284,13 @@ fn addresses(
     Ok(addresses)
 }
 
-/// What is wrong with so many addresses of each kind.
+/// Returns what is wrong with these numbers of addresses, if anything is.
 fn count_fault(udp: usize, tcp: usize) -> Option<&'static str> {
     if udp == 0 && tcp == 0 {
-        return Some("--udp or --tcp has to stand there");
+        return Some("--udp or --tcp is needed: give at least one address");
     }
     if udp > MOST_ADDRESSES || tcp > MOST_ADDRESSES - udp {
-        return Some("--udp and --tcp may stand 8 times in all");
+        return Some("--udp and --tcp may be given 8 times in all");
     }
     None
 }
@@ -332,7 +338,12 @@ fn limits(args: &ArgMatches<'_>) -> Result<Limits, ArgsFault> {
     limits.ok_or(ArgsFault::Amiss(REMEMBERED_FAULT))
 }
 
-/// The number behind an option, or another where the option is left away.
+/// Checks whether clients are to be locked, and no option says for how long. They would never be.
+fn lacks_lock_time(args: &ArgMatches<'_>, limits: &Limits) -> bool {
+    limits.lock_after > 0 && args.get_str("lock-seconds").is_none()
+}
+
+/// Returns the number behind an option, or another if the option is not given.
 fn limit(
     args: &ArgMatches<'_>,
     name: &str,

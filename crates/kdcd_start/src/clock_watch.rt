@@ -51,19 +51,19 @@ pub fn refused_at_start(opening: Opening) -> Option<Refused>
     }
 }
 
-/// Watches the clock of a server: when requests are refused because it went back, and when that was said last.
+/// A watch over a server's clock: when requests are refused because it went back, and when that was said last.
 #[derive(Clone, Copy, Debug, PartialEq, Eq)]
 pub struct ClockWatch {
     /// When the server started, if it may have answered requests before.
     started: Option<Moment>,
     /// The latest moment that the clock showed.
     latest: Option<Moment>,
-    /// When it was said last that requests are refused, while they are.
+    /// When it was last said that requests are refused, while they are.
     said: Option<Moment>,
 }
 
 impl ClockWatch {
-    /// Watches the clock of a server that starts so.
+    /// Returns the watch of a server that starts so.
     pub fn new(opening: Opening) -> ClockWatch
         ensures { result ≡ record { started = clocks.restarted opening; latest = None; said = None } }
     {
@@ -78,8 +78,7 @@ impl ClockWatch {
         }
     }
 
-    /// Takes the moment of an event. Returns what has to be said then: which requests are refused, once a minute while
-    /// they are.
+    /// Takes the moment of an event. Returns which requests are refused, once a minute while they are.
     pub fn take(&mut self, now: Moment) -> Option<Refused>
         ensures said { result ≡ clocks.said_at self.old now }
         ensures watched { self.new ≡ clocks.watched self.old now }
@@ -131,7 +130,7 @@ fn until_start(started: &Option<Moment>, now: Moment) -> Option<i64>
     }
 }
 
-/// Returns up to when a tidying at the latest moment forgets, if the clock shows an earlier second.
+/// Returns the second up to which a tidying at the latest moment forgets, if the clock shows an earlier one.
 fn until_tidied(latest: &Option<Moment>, now: Moment) -> Option<i64>
     ensures { result ≡ clocks.until_tidied latest.now now.sec }
 {

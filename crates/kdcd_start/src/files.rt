@@ -1,29 +1,29 @@
-//! The files that a server is opened with.
+//! The files that a server reads: what is taken of them, and why they are refused.
 ghost use Rattle.std.specs.Prelude.{◌≡◌, ◌≤◌, ◌<◌, IfErr, IfOk, Ok, length, option_map, take, vec_len};
 ghost use Rattle.principals.specs.Value.{text_database};
 ghost use Rattle.kdcd_start.specs.Refusal.{RefusesDatabase, refusal};
 ghost use Rattle.kdcd_start.specs.declared.files.FileFault.TheVariants.{Failed, ShortSeed};
 
-use principals::{Database, LONGEST_TEXT, ReadFault};
+use principals::{Database, LONGEST_TEXT, ReadFault, fault_place};
 use std::alloc::{AllocError, Global};
 use std::io::Read;
 use std::{fmt, io, str};
 
-/// Why what stands in a file is not taken, or could not be read.
+/// Why a file is refused, or could not be read.
 #[derive(Debug, Drop)]
 pub enum FileFault {
-    /// The file has more octets than are taken of it.
+    /// The file is too long.
     LongFile,
     /// The file of the seed has fewer than 32 octets.
     ShortSeed,
-    /// The file of the database is no text of a database. `Memory` is no such fault.
+    /// The text denotes no database.
     Database(ReadFault),
     /// The file could not be read, or memory ran out.
     Failed(io::Error),
 }
 
 impl FileFault {
-    /// The word for it, where the file was read and is refused.
+    /// Returns the word for the refusal, unless the file could not be read.
     pub fn refusal(&self) -> Option<&'static str>
         ensures { option_map (λ word. word.now) result ≡ refusal self.now }
     {
@@ -61,14 +61,14 @@ impl From<AllocError> for FileFault {
     }
 }
 
-/// All octets of a file, at most as many as a database's text may have.
+/// Reads a whole file of at most as many octets as a database's text may have.
 pub fn read_whole<R: Read + Drop>(alloc: Global, file: R) -> Result<Vec<u8>, FileFault>
     ensures { IfOk result (λ octets. vec_len octets ≤ 1073741824) }
 {
     read_at_most(alloc, file, LONGEST_TEXT)
 }
 
-/// All octets of a file, at most so many. One is read past the limit, to see that there is one.
+/// Reads a whole file of at most `most` octets. It reads one more, to see whether there is one.
 pub fn read_at_most<R: Read + Drop>(
     alloc: Global,
     file: R,
@@ -85,7 +85,7 @@ pub fn read_at_most<R: Read + Drop>(
     Ok(octets)
 }
 
-/// The database that a file holds. One that is no UTF-8 is no JSON.
+/// Reads the octets of a file as a database. Octets that are not UTF-8 are no JSON.
 pub fn database_of(alloc: Global, octets: &[u8]) -> Result<Database, FileFault>
     ensures ok { IfOk result (λ database. text_database octets.now ≡ Ok database) }
     ensures fault { IfErr result (λ fault. RefusesDatabase octets.now fault) }
@@ -99,7 +99,21 @@ pub fn database_of(alloc: Global, octets: &[u8]) -> Result<Database, FileFault>
     }
 }
 
-/// The seed that a file holds: its first 32 octets.
+/// Returns where the octets of a refused database are wrong, if that can be found. It never contains a key.
+pub fn place_of(alloc: Global, octets: &[u8], fault: &FileFault) -> Option<String> {
+    let FileFault::Database(ReadFault::NotJson | ReadFault::BadRow) = fault else {
+        return None;
+    };
+    let Ok(text) = str::from_utf8(octets) else {
+        return None;
+    };
+    match fault_place(alloc, text) {
+        Ok(place) if !place.is_empty() => Some(place),
+        Ok(_) | Err(AllocError) => None,
+    }
+}
+
+/// Returns the seed that a file holds: its first 32 octets.
 pub fn seed_of(octets: &[u8]) -> Result<[u8; 32], FileFault>
     ensures seed { IfOk result (λ seed. (32 ≤ length octets.now) × (seed ≡ take 32 octets.now)) }
     ensures short { IfErr result (λ fault. (length octets.now < 32) × (fault ≡ ShortSeed)) }

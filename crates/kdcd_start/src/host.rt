@@ -1,4 +1,4 @@
-//! What a server is started from.
+//! The host of a server.
 ghost use Rattle.std.specs.Prelude.{◌∷◌, [], List, Option, IfOk};
 ghost use Rattle.kdc_hub.specs.Wire.{Records};
 ghost use Rattle.kdcd_start.specs.Starting.{HostDid, ReadRows, ReadSeed, Drew, Held, ReadJournals, Showed};
@@ -12,10 +12,10 @@ use std::alloc::Global;
 use std::io;
 use std::net::SocketAddr;
 
-/// What stands where a journal is to be.
+/// The journals that a start finds.
 #[derive(Drop)]
 pub struct Journals {
-    /// The system's name for its boot.
+    /// The system's name for its current boot.
     pub boot: Octets,
     /// The journal that went before the newer one.
     pub older: Found,
@@ -23,13 +23,12 @@ pub struct Journals {
     pub newer: Found,
 }
 
-/// What a server is started from: a database, random octets, sockets and a clock. A host may keep a record, for
-/// contracts alone.
+/// The database, random octets, sockets, journal and clock of a server. A host may keep a record, for contracts alone.
 pub trait Host {
     /// Sockets that are held.
     type Sockets: Drop;
 
-    /// Why sockets could not be opened.
+    /// Why sockets can't be opened.
     type SocketFault: Drop;
 
     // The calls so far that succeeded, with their outcomes, in order, if the host keeps a record.
@@ -48,7 +47,7 @@ pub trait Host {
     fn draw(&mut self) -> io::Result<[u8; 32]>
         ensures { IfOk result (λ octets. Records (recorded self.old) (Drew octets ∷ []) (recorded self.new)) };
 
-    /// Opens a socket at each address, and holds them: no other process takes what comes to them from then on.
+    /// Opens a socket at each address. From then on no other process receives what comes to these addresses.
     fn hold(
         &mut self,
         alloc: Global,
@@ -57,8 +56,8 @@ pub trait Host {
     ) -> Result<Self::Sockets, Self::SocketFault>
         ensures { IfOk result (λ _. Records (recorded self.old) (Held udp.now tcp.now ∷ []) (recorded self.new)) };
 
-    /// Holds the journal at a path, and reads it with the one that went before it: no other process appends to it from
-    /// then on.
+    /// Holds the journal at a path, and reads it with the one that went before it. From then on no other process appends
+    /// to it.
     fn read_journals(&mut self, alloc: Global, path: &str) -> Result<Journals, FileFault>
         ensures { IfOk result (λ journals.
             Records (recorded self.old) (ReadJournals path.now journals ∷ []) (recorded self.new)) };

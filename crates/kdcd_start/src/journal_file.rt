@@ -1,162 +1,29 @@
-//! The file of a journal.
+//! The journal of a running server: what it appends, and when the files take turns.
 ghost use Rattle.std.specs.Prelude.{◌≡◌, None};
 ghost use Rattle.std.specs.Option.{is_some};
 ghost use Rattle.std.specs.Result.{is_ok};
 
-use crate::files::{FileFault, read_at_most, read_whole};
 use crate::host::Journals;
+use crate::journal_files::{HeldFiles, OWNER_ONLY, OpenedJournals, Paths};
 use crate::journal_wire::{JournalWriter, NotKept};
-use journal::{
-    Found, JournalFault, Place, Start, WriteFault, above, above_all, read_journal, write_beginning,
-    write_seen,
-};
+use journal::{Found, Place, Start, WriteFault, above, floor_on, write_beginning, write_seen};
 use kdc_core::Seen;
 use krb_der::KTime;
 use krb_elements::Octets;
 use krb_fields::Moment;
-use std::alloc::{AllocError, Global};
-use std::fs::{File, OpenFile, OpenOptions, TryLockError};
+use std::alloc::Global;
+use std::fs::{File, OpenFile, OpenOptions};
 use std::io::{Error, ErrorKind, Write};
-use std::os::unix::fs::{MetadataExt, OpenOptionsExt, PermissionsExt};
+use std::os::unix::fs::OpenOptionsExt;
 use std::rt::Files;
 use std::{fs, io};
 
-/// The mode of a journal: its owner alone reads and writes it.
-const OWNER_ONLY: u32 = 0o600;
-
-/// The bits of a mode that let others write.
-const OTHERS_WRITE: u32 = 0o022;
-
-/// A journal goes on in another file more than this many seconds after it was begun. What its first authenticator could
-/// still be needed for is over by then.
+/// The journal goes on in another file more than this many seconds after the current one was begun. A server needs
+/// nothing any longer of what the first authenticators of that file were.
 const TURN: i64 = 600;
 
-/// How many seconds after a turn that failed the next one is tried.
+/// How many seconds after a failed turn the next one is tried.
 const BETWEEN_TURNS: i64 = 60;
-
-/// Where the system says which boot it is.
-const BOOT_ID: &str = "/proc/sys/kernel/random/boot_id";
-
-/// What belongs to the user of this process.
-const SELF: &str = "/proc/self";
-
-/// The most octets of a boot's name.
-const LONGEST_BOOT_ID: usize = 255;
-
-/// The paths of a journal's files.
-#[derive(Drop)]
-struct Paths<'a> {
-    /// The file that is appended to.
-    newer: &'a str,
-    /// The one that went before it.
-    older: String,
-    /// A new one, until it is in place.
-    beside: String,
-}
-
-impl<'a> Paths<'a> {
-    fn new(alloc: Global, newer: &'a str) -> Result<Paths<'a>, AllocError> {
-        Ok(Paths {
-            newer,
-            older: format!(in alloc; "{newer}.old")?,
-            beside: format!(in alloc; "{newer}.new")?,
-        })
-    }
-}
-
-/// The journals at a path, which this process holds.
-#[derive(Drop)]
-pub struct OpenedJournals {
-    pub journals: Journals,
-    /// The newer file, if it is there.
-    pub file: Option<File>,
-}
-
-/// Opens the journal at a path for this process alone, and reads it with the one that went before it.
-pub fn open_journals<F: Files<File = File>>(
-    alloc: Global,
-    files: &F,
-    path: &str,
-) -> Result<OpenedJournals, FileFault> {
-    let paths = Paths::new(alloc, path)?;
-    let file = open_newer(files, path)?;
-    let boot = boot_id(alloc, files)?;
-    Ok(OpenedJournals {
-        journals: Journals {
-            boot,
-            older: found_at(alloc, files, paths.older.as_str())?,
-            newer: found_at(alloc, files, path)?,
-        },
-        file,
-    })
-}
-
-/// Opens the file that is appended to, if it is there, and locks it.
-fn open_newer<F: Files<File = File>>(files: &F, path: &str) -> io::Result<Option<File>> {
-    let mut how = OpenOptions::new();
-    how.append(true);
-    match how.open(files, path) {
-        Ok(file) => {
-            lock(&file)?;
-            Ok(Some(file))
-        }
-        Err(error) if error.kind() == ErrorKind::NotFound => Ok(None),
-        Err(error) => Err(error),
-    }
-}
-
-fn lock(file: &File) -> io::Result<()> {
-    match file.try_lock() {
-        Ok(()) => Ok(()),
-        Err(TryLockError::WouldBlock) => Err(Error::new(
-            ErrorKind::WouldBlock,
-            "another process appends to it",
-        )),
-        Err(TryLockError::Error(error)) => Err(error),
-    }
-}
-
-/// The system's name for its boot.
-fn boot_id<F: Files<File = File>>(alloc: Global, files: &F) -> Result<Octets, FileFault> {
-    let octets = read_at_most(alloc, File::open(files, BOOT_ID)?, LONGEST_BOOT_ID)?;
-    Ok(Octets::from_slice(alloc, octets.trim_ascii())?)
-}
-
-/// What stands at a path. A file of another user, or one that others may write, is no journal.
-fn found_at<F: Files<File = File>>(
-    alloc: Global,
-    files: &F,
-    path: &str,
-) -> Result<Found, FileFault> {
-    if !fs::exists(files, path)? {
-        return Ok(Found::Nothing);
-    }
-    if !is_ours(files, path)? {
-        return Ok(Found::Broken);
-    }
-    match read_whole(alloc, File::open(files, path)?) {
-        Ok(text) => found_in(alloc, &text),
-        Err(FileFault::LongFile) => Ok(Found::Broken),
-        Err(fault) => Err(fault),
-    }
-}
-
-/// What a text is.
-fn found_in(alloc: Global, text: &[u8]) -> Result<Found, FileFault> {
-    match read_journal(alloc, text) {
-        Ok(journal) => Ok(Found::Whole(journal)),
-        Err(JournalFault::Broken) => Ok(Found::Broken),
-        Err(JournalFault::Memory) => Err(FileFault::from(AllocError)),
-    }
-}
-
-/// Whether a file belongs to the user of this process, who alone may write it.
-fn is_ours(files: &impl Files, path: &str) -> io::Result<bool> {
-    let file = fs::metadata(files, path)?;
-    let process = fs::metadata(files, SELF)?;
-    let mode = file.permissions().mode();
-    Ok(file.is_file() && file.uid() == process.uid() && mode & OTHERS_WRITE == 0)
-}
 
 /// The end of the file that is appended to.
 #[derive(Drop)]
@@ -164,11 +31,11 @@ struct Tail {
     file: File,
     /// The last check.
     check: [u8; 16],
-    /// The last second in which it is appended to.
+    /// The last second in which this file is appended to.
     last: i64,
 }
 
-/// What a journal begins with.
+/// The start of a server, from which its journal begins.
 #[derive(Drop)]
 pub struct JournalBeginning {
     pub realm: Octets,
@@ -176,30 +43,32 @@ pub struct JournalBeginning {
     pub at: Moment,
     /// The floor of the start.
     pub floor: i64,
-    /// What the start made of the journals.
+    /// What the start made of the journals that it found.
     pub start: Start,
     pub opened: OpenedJournals,
 }
 
-/// A journal that is appended to, and where its faults are logged. It keeps no record.
+/// The journal of a running server, which logs its faults. It keeps no record.
 #[derive(Drop)]
 pub struct JournalFile<'a, F, W> {
     files: &'a F,
     paths: Paths<'a>,
+    /// The file whose lock keeps other servers from this journal, as long as it is open.
+    lock: Option<File>,
+    /// Where faults are logged.
     lines: W,
     realm: Octets,
     boot: Octets,
-    /// `None` if an authenticator could not be kept.
+    /// `None` while an authenticator could not be kept.
     tail: Option<Tail>,
-    /// A second above the time of every authenticator that was handed over, and not below the floor of the start.
+    /// A second after the time of every authenticator that was handed over, and not before the floor of the start.
     floor: i64,
-    /// Whether it is said that an authenticator could not be kept.
+    /// Whether it was said that an authenticator could not be kept.
     is_said: bool,
 }
 
 impl<'a, F: Files<File = File>, W: Write + Drop> JournalFile<'a, F, W> {
-    /// The journal at a path, of a server that starts so. Either it goes on behind what was read, or it is begun with
-    /// the floor of the start.
+    /// Begins the journal at a path. Either it goes on behind what was read, or it starts with the floor of the start.
     pub fn start(
         alloc: Global,
         files: &'a F,
@@ -214,10 +83,15 @@ impl<'a, F: Files<File = File>, W: Write + Drop> JournalFile<'a, F, W> {
             start,
             opened,
         } = beginning;
-        let OpenedJournals { journals, file } = opened;
+        let OpenedJournals {
+            journals,
+            files: held,
+        } = opened;
+        let HeldFiles { lock, newer } = held;
         let mut journal = JournalFile {
             files,
             paths: Paths::new(alloc, path)?,
+            lock,
             lines,
             realm,
             boot: journals.boot.copy(alloc)?,
@@ -225,18 +99,18 @@ impl<'a, F: Files<File = File>, W: Write + Drop> JournalFile<'a, F, W> {
             floor,
             is_said: false,
         };
-        match (&start, file) {
+        match (&start, newer) {
             (Start::Resumes { check, .. }, Some(file)) => {
                 journal.go_on(&journals, file, *check);
             }
-            (Start::Resumes { .. } | Start::Refuses { .. }, file) => {
-                journal.begin_first(alloc, at, file.is_some())?;
+            (Start::Resumes { .. } | Start::Refuses { .. }, newer) => {
+                journal.begin_first(alloc, at, newer.is_some())?;
             }
         }
         Ok(journal)
     }
 
-    /// Begins the first file of a server. What is there is kept as the older one.
+    /// Begins the first file of a server. A file that is there becomes the older one.
     fn begin_first(&mut self, alloc: Global, at: Moment, is_there: bool) -> io::Result<()> {
         if is_there {
             fs::rename(self.files, self.paths.newer, self.paths.older.as_str())?;
@@ -247,25 +121,20 @@ impl<'a, F: Files<File = File>, W: Write + Drop> JournalFile<'a, F, W> {
         Ok(())
     }
 
-    /// Goes on behind the newer of these journals.
+    /// Goes on behind the newer of these journals, whose open file and last check these are.
     fn go_on(&mut self, journals: &Journals, file: File, check: [u8; 16]) {
-        if let Found::Whole(older) = &journals.older {
-            self.floor = above_all(self.floor, older.entries.as_slice());
-        }
-        if let Found::Whole(newer) = &journals.newer {
-            self.floor = above_all(
-                self.floor.max(newer.header.floor.seconds()),
-                newer.entries.as_slice(),
-            );
-            self.tail = Some(Tail {
-                file,
-                check,
-                last: newer.header.at.seconds().saturating_add(TURN),
-            });
-        }
+        let Found::Whole(newer) = &journals.newer else {
+            return;
+        };
+        self.floor = floor_on(self.floor, newer, &journals.older);
+        self.tail = Some(Tail {
+            file,
+            check,
+            last: newer.header.at.seconds().saturating_add(TURN),
+        });
     }
 
-    /// Begins a file beside the newer one, behind a link or none.
+    /// Begins a file beside the newer one, with a link to it or with none.
     fn beginning(&self, alloc: Global, at: Moment, link: &[u8]) -> io::Result<Tail> {
         let beside = self.paths.beside.as_str();
         let place = Place {
@@ -282,7 +151,6 @@ impl<'a, F: Files<File = File>, W: Write + Drop> JournalFile<'a, F, W> {
         let mut how = OpenOptions::new();
         how.append(true).create_new(true).mode(OWNER_ONLY);
         let mut file = how.open(self.files, beside)?;
-        lock(&file)?;
         append(&mut file, &written.text)?;
         Ok(Tail {
             file,
@@ -296,7 +164,7 @@ impl<'a, F: Files<File = File>, W: Write + Drop> JournalFile<'a, F, W> {
         let tail = self.beginning(alloc, at, check)?;
         match fs::rename(self.files, self.paths.newer, self.paths.older.as_str()) {
             Ok(()) => {}
-            // It was removed. The next start then finds that something is missing.
+            // Somebody removed it. The next start finds that it is missing.
             Err(error) if error.kind() == ErrorKind::NotFound => {}
             Err(error) => return Err(error),
         }
@@ -304,8 +172,8 @@ impl<'a, F: Files<File = File>, W: Write + Drop> JournalFile<'a, F, W> {
         Ok(tail)
     }
 
-    /// Begins a file that links to none, in the place of the newer one: its floor is above all that could not be kept.
-    /// The older one goes, since it may be why there is no room.
+    /// Begins a file in place of the newer one, with no link. Its floor is above all that could not be kept. The older file
+    /// goes, since it may be why there is no room.
     fn begun_anew(&self, alloc: Global, at: Moment) -> io::Result<Tail> {
         let _ = fs::remove_file(self.files, self.paths.older.as_str());
         let tail = self.beginning(alloc, at, &[])?;
@@ -313,7 +181,7 @@ impl<'a, F: Files<File = File>, W: Write + Drop> JournalFile<'a, F, W> {
         Ok(tail)
     }
 
-    /// Goes on in another file, if this one has had its time. If that fails it goes on in this one.
+    /// Goes on in another file if that is due. If that fails, it goes on in this one.
     fn turn_if_due(&mut self, alloc: Global, at: Moment, tail: Tail) -> Tail {
         if at.sec <= tail.last {
             return tail;
@@ -330,7 +198,7 @@ impl<'a, F: Files<File = File>, W: Write + Drop> JournalFile<'a, F, W> {
         }
     }
 
-    /// Keeps an authenticator behind the others.
+    /// Appends the entry of an authenticator.
     fn append_seen(&mut self, alloc: Global, at: Moment, seen: &Seen) -> io::Result<()> {
         let Some(tail) = self.tail.take() else {
             return Err(Error::from(ErrorKind::NotFound));
@@ -390,7 +258,7 @@ fn say<W: Write>(lines: &mut W, path: &str, error: &Error) {
     let _ = writeln!(lines, "kdcd: journal {path}: {error}");
 }
 
-/// Says that an authenticator could not be kept, unless that is said.
+/// Says that an authenticator could not be kept, unless that was said.
 fn say_lost<W: Write>(lines: &mut W, is_said: &mut bool, path: &str, error: &Error) {
     if *is_said {
         return;
@@ -402,7 +270,7 @@ fn say_lost<W: Write>(lines: &mut W, is_said: &mut bool, path: &str, error: &Err
     );
 }
 
-/// Says that all can be kept again, if it is said that it could not.
+/// Says that the journal can be written again, if it was said that it could not.
 fn say_mended<W: Write>(lines: &mut W, is_said: &mut bool, path: &str) {
     if !*is_said {
         return;

@@ -2,9 +2,10 @@
 ghost use Rattle.std.specs.Prelude.{◌≡◌, ◌∷◌, [], ℕ, Bool, true, false, List, Option, Some, None, option_copied};
 ghost use Rattle.std.specs.Result.{is_ok};
 ghost use Rattle.replay.specs.Run.{with_any};
-ghost use Rattle.kdc_hub.specs.Wire.{IsCounted, Records, acted, faults_of};
-ghost use Rattle.kdcd_start.specs.Journal.{Handed, Hands, fault_sum, handed_at, handed_for, has_all, may_act};
-ghost use Rattle.kdcd_start.specs.Journal.{unless_withheld};
+ghost use Rattle.kdc_hub.specs.Wire.{IsCounted, Records, acted, faults_of, polled};
+ghost use Rattle.kdc_hub.specs.declared.wires.Did.{Did};
+ghost use Rattle.kdc_hub.specs.declared.wires.Did.TheVariants.{Failed};
+ghost use Rattle.kdcd_start.specs.Journal.{Handed, Hands, handed_at, handed_for, has_all, may_act, moment_after};
 
 use kdc_core::Seen;
 use kdc_hub::{Action, Event, Peers, Reply, Wire, WireFault};
@@ -16,7 +17,7 @@ use std::net::SocketAddr;
 #[derive(Clone, Copy, Debug, PartialEq, Eq)]
 pub struct NotKept;
 
-/// Keeps the authenticators that a KDC remembers. It may keep a record, for contracts alone.
+/// Keeps the authenticators that enter a KDC's replay caches. It may keep a record, for contracts alone.
 pub trait JournalWriter {
     // The authenticators that it was handed so far, each with the moment of its request, in order, if it keeps a record.
     ghost handed: { Self → Option (List Handed) };
@@ -35,27 +36,49 @@ pub trait JournalWriter {
         ensures whole { is_whole self.new ≡ is_ok result };
 }
 
-/// A Wire that has its journal keep each authenticator that the KDC remembers, and only then does the action with the reply.
-/// An action with a reply fails as long as the journal has not kept all. Every other call is forwarded to the inner
-/// Wire, whose record is this one's until an action is withheld.
+/// A Wire from which actions may be withheld. Beside the record of what it did it may keep one of all that was tried, in
+/// which a withheld action failed.
+pub trait WithholdingWire: Wire {
+    // The polls and acts so far, and the withheld actions, in order, if the Wire keeps a record.
+    ghost tried: { Self → Option (List Did) };
+
+    /// Polls as `poll` does.
+    fn poll_noted(&mut self, alloc: Global) -> Result<(Moment, Option<Event>), WireFault>
+        ensures records { Records (Self.recorded self.old) (polled result ∷ []) (Self.recorded self.new) }
+        ensures tried { Records (tried self.old) (polled result ∷ []) (tried self.new) }
+        ensures counted { IsCounted (Self.fault_count self.old) (faults_of result) (Self.fault_count self.new) };
+
+    /// Does an action as `act` does.
+    fn act_noted(&mut self, alloc: Global, action: &Action) -> Result<(), WireFault>
+        ensures records { Records (Self.recorded self.old) (acted action.now result ∷ []) (Self.recorded self.new) }
+        ensures tried { Records (tried self.old) (acted action.now result ∷ []) (tried self.new) }
+        ensures counted { IsCounted (Self.fault_count self.old) (faults_of result) (Self.fault_count self.new) };
+
+    /// Counts an action as failed, without doing it.
+    fn withhold(&mut self, alloc: Global, action: &Action)
+        ensures records { Self.recorded self.new ≡ Self.recorded self.old }
+        ensures tried { Records (tried self.old) (Failed action.now ∷ []) (tried self.new) }
+        ensures counted { IsCounted (Self.fault_count self.old) 1 (Self.fault_count self.new) };
+}
+
+/// A Wire that has its journal keep each authenticator that enters a replay cache, and only then sends the reply. As long
+/// as the journal has not kept all, it withholds actions with a reply, which then fail. It forwards every other call to
+/// the inner Wire. Its record is what was tried of that one.
 #[derive(Drop)]
 pub struct JournalWire<W, J> {
     wire: W,
     journal: Option<J>,
     /// When the last event came.
     at: Option<Moment>,
-    /// How many actions were withheld.
-    withheld: u64,
 }
 
 impl<W: Drop, J: Drop> JournalWire<W, J> {
-    /// A Wire from which no event has come yet. Without a journal nothing is kept, and nothing withheld.
+    /// A Wire from which no event has come yet. Without a journal it only forwards calls.
     pub fn new(wire: W, journal: Option<J>) -> JournalWire<W, J> {
         JournalWire {
             wire,
             journal,
             at: None,
-            withheld: 0,
         }
     }
 
@@ -68,17 +91,13 @@ impl<W: Drop, J: Drop> JournalWire<W, J> {
     }
 }
 
-impl<W: Wire, J: JournalWriter> Wire for JournalWire<W, J> {
-    ghost recorded = { λ o. unless_withheld o.withheld (W.recorded o.wire) };
+impl<W: WithholdingWire, J: JournalWriter> Wire for JournalWire<W, J> {
+    ghost recorded = { λ o. W.tried o.wire };
 
-    ghost fault_count = { λ o. fault_sum (W.fault_count o.wire) o.withheld };
+    ghost fault_count = { λ o. W.fault_count o.wire };
 
     fn poll(&mut self, alloc: Global) -> Result<(Moment, Option<Event>), WireFault> {
-        let polled = self.wire.poll(alloc);
-        if let Ok((at, Some(_))) = &polled {
-            self.at = Some(*at);
-        }
-        polled
+        self.poll_and_note(alloc)
     }
 
     fn act(&mut self, alloc: Global, action: &Action) -> Result<(), WireFault> {
@@ -86,32 +105,45 @@ impl<W: Wire, J: JournalWriter> Wire for JournalWire<W, J> {
     }
 
     fn faults(&self) -> u64 {
-        self.wire.faults().saturating_add(self.withheld)
+        self.wire.faults()
     }
 }
 
-impl<W: Wire, J: JournalWriter> JournalWire<W, J> {
+impl<W: WithholdingWire, J: JournalWriter> JournalWire<W, J> {
+    /// Polls, and notes when an event came.
+    fn poll_and_note(&mut self, alloc: Global) -> Result<(Moment, Option<Event>), WireFault>
+        ensures records { Records (W.tried self.old.wire) (polled result ∷ []) (W.tried self.new.wire) }
+        ensures counted { IsCounted (W.fault_count self.old.wire) (faults_of result) (W.fault_count self.new.wire) }
+        ensures journal { self.new.journal ≡ self.old.journal }
+        ensures at { self.new.at ≡ moment_after self.old.at (polled result) }
+    {
+        let polled = self.wire.poll_noted(alloc);
+        if let Ok((at, Some(_))) = &polled {
+            self.at = Some(*at);
+        }
+        polled
+    }
+
     /// Has the journal keep what an action's reply makes the KDC remember, and then does the action.
     fn keep_and_act(&mut self, alloc: Global, action: &Action) -> Result<(), WireFault>
         // That authenticator is handed to the journal, and no other.
         ensures handed { Hands J.handed self.old.journal self.old.at action.now self.new.journal }
-        // Where the journal has kept all, the action is done.
+        // If the journal has kept all, the action is done.
         ensures forwarded { may_act J.is_whole self.new.journal self.old.at action.now ≡ true
             → Records (W.recorded self.old.wire) (acted action.now result ∷ []) (W.recorded self.new.wire) }
-        // Else it is not: so an authenticator is kept before the reply to its request is sent.
+        // Otherwise it is not: so an authenticator is kept before the reply to its request is sent.
         ensures withheld { may_act J.is_whole self.new.journal self.old.at action.now ≡ false
             → (W.recorded self.new.wire ≡ W.recorded self.old.wire) × (is_ok result ≡ false) }
-        ensures records { Records (unless_withheld self.old.withheld (W.recorded self.old.wire)) (acted action.now result ∷ [])
-            (unless_withheld self.new.withheld (W.recorded self.new.wire)) }
-        ensures counted { IsCounted (fault_sum (W.fault_count self.old.wire) self.old.withheld) (faults_of result)
-            (fault_sum (W.fault_count self.new.wire) self.new.withheld) }
+        // Both ways it was tried.
+        ensures records { Records (W.tried self.old.wire) (acted action.now result ∷ []) (W.tried self.new.wire) }
+        ensures counted { IsCounted (W.fault_count self.old.wire) (faults_of result) (W.fault_count self.new.wire) }
         ensures at { self.new.at ≡ self.old.at }
     {
         if !keep_for(alloc, &mut self.journal, &self.at, action) {
-            self.withheld = self.withheld.saturating_add(1);
+            self.wire.withhold(alloc, action);
             return Err(WireFault);
         }
-        self.wire.act(alloc, action)
+        self.wire.act_noted(alloc, action)
     }
 }
 
@@ -142,7 +174,8 @@ fn keep_for<J: JournalWriter>(
     }
 }
 
-/// The same for the reply. Before an event has come there is none.
+/// Has a journal keep what a reply makes the KDC remember. Returns whether it has kept all. Before the first event there
+/// is no reply.
 fn keep_reply<J: JournalWriter>(
     alloc: Global,
     journal: &mut J,

@@ -1,4 +1,5 @@
-//! What `kdcd` is started with: its words, and the files of a server.
+//! Starting `kdcd serve`: its command line, its files, and the wrappers of the wire that log, watch the clock and keep
+//! a journal.
 #![tactic(auto)]
 
 mod args;
@@ -6,6 +7,7 @@ mod clock_watch;
 mod files;
 mod host;
 mod journal_file;
+mod journal_files;
 mod journal_wire;
 mod laws;
 mod logged_wire;
@@ -21,9 +23,10 @@ pub use crate::args::{ArgsFault, ServeOptions, read_args, serve_options};
 pub use crate::clock_watch::{ClockWatch, Refused, refused_at_start};
 pub use crate::files::{FileFault, database_of, read_at_most, read_whole, seed_of};
 pub use crate::host::{Host, Journals};
-pub use crate::journal_file::{JournalBeginning, JournalFile, OpenedJournals, open_journals};
-pub use crate::journal_wire::{JournalWire, JournalWriter, NotKept};
-pub use crate::laws::every_life;
+pub use crate::journal_file::{JournalBeginning, JournalFile};
+pub use crate::journal_files::{HeldFiles, OpenedJournals, open_journals};
+pub use crate::journal_wire::{JournalWire, JournalWriter, NotKept, WithholdingWire};
+pub use crate::laws::{every_life, every_restart};
 pub use crate::logged_wire::{LogWriter, LoggedWire};
 pub use crate::quiet_wire::QuietWire;
 pub use crate::request_lines::{LogFormat, RequestLines, line_of};

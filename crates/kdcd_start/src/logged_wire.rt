@@ -15,20 +15,20 @@ pub trait LogWriter {
     // What the writer becomes by an entry.
     ghost Logs: { Self → LogEntry → Self → Type 0 };
 
-    /// Writes the entry for a request. There is no account where memory ran out.
+    /// Writes the entry for a request. There is no account if memory ran out.
     fn write_entry(&mut self, alloc: Global, at: Moment, asker: Asker, account: Option<&Account>)
         ensures { Logs self.old (record { at = at; asker = asker; account = option_copied account.entry }) self.new };
 }
 
-/// When an event came, and the address that it came from, if it came on a connection whose peer is known.
+/// The moment of an event, and the peer's address if it came on a connection whose peer is known.
 #[derive(Clone, Copy)]
 pub struct Came {
     pub at: Moment,
     pub source: Option<SocketAddr>,
 }
 
-/// A Wire that writes an entry to a log for each request, after the request was answered. Every call is forwarded to the
-/// inner Wire, whose record is this one's. So the log changes no answer.
+/// A Wire that writes an entry to a log for each request, after it was answered. It forwards every call to the inner
+/// Wire, whose record is this one's. So the log changes no answer.
 #[derive(Drop)]
 pub struct LoggedWire<W, L> {
     wire: W,
@@ -38,7 +38,7 @@ pub struct LoggedWire<W, L> {
 }
 
 impl<W: Drop, L: Drop> LoggedWire<W, L> {
-    /// A Wire from which no event has come yet. Without a log nothing is written.
+    /// A Wire from which no event has come yet. Without a log it writes nothing.
     pub fn new(wire: W, log: Option<L>) -> LoggedWire<W, L> {
         LoggedWire {
             wire,

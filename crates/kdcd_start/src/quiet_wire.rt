@@ -1,8 +1,9 @@
-//! A Wire that is quiet after a start.
+//! A Wire that withholds some refusals after a start.
 ghost use Rattle.std.specs.Prelude.{◌≡◌, ◌∷◌, [], true, false, None, option_copied};
 ghost use Rattle.kdc_hub.specs.Wire.{IsCounted, Records, acted, faults_of};
-ghost use Rattle.kdcd_start.specs.Quiet.{is_skew, is_skewed, sends_skew, withholds};
+ghost use Rattle.kdcd_start.specs.Quiet.{fault_sum, is_skew, is_skewed, sends_skew, withholds};
 
+use crate::journal_wire::WithholdingWire;
 use kdc_core::TgsOutcome;
 use kdc_hub::{Account, Action, Event, Peers, Wire, WireFault};
 use krb_fields::{Moment, Second};
@@ -12,24 +13,26 @@ use std::net::SocketAddr;
 /// The number of KRB_AP_ERR_SKEW (RFC 4120, section 7.5.9).
 const SKEW_ERROR: i32 = 37;
 
-/// A Wire that withholds each refusal of a TGS-REQ with KRB_AP_ERR_SKEW up to a second, so that its client asks another
-/// KDC. Every other call is forwarded to the inner Wire. It keeps no record, since an action that it withholds counts
-/// as done.
+/// A Wire that withholds each refusal of a TGS-REQ with KRB_AP_ERR_SKEW before a second, so that its client asks another
+/// KDC. It forwards every other call to the inner Wire. It keeps no record, since a withheld action counts as done.
 #[derive(Drop)]
 pub struct QuietWire<W> {
     wire: W,
     until: Option<Second>,
     /// When the last event came.
     at: Option<Moment>,
+    /// How many actions were withheld from it.
+    withheld: u64,
 }
 
 impl<W: Drop> QuietWire<W> {
-    /// A Wire from which no event has come yet. Without a second nothing is withheld.
+    /// A Wire from which no event has come yet. Without a second it withholds nothing.
     pub fn new(wire: W, until: Option<Second>) -> QuietWire<W> {
         QuietWire {
             wire,
             until,
             at: None,
+            withheld: 0,
         }
     }
 
@@ -41,7 +44,7 @@ impl<W: Drop> QuietWire<W> {
 impl<W: Wire> Wire for QuietWire<W> {
     ghost recorded = { λ _. None };
 
-    ghost fault_count = { λ q. W.fault_count q.wire };
+    ghost fault_count = { λ q. fault_sum (W.fault_count q.wire) q.withheld };
 
     fn poll(&mut self, alloc: Global) -> Result<(Moment, Option<Event>), WireFault> {
         let polled = self.wire.poll(alloc);
@@ -56,7 +59,23 @@ impl<W: Wire> Wire for QuietWire<W> {
     }
 
     fn faults(&self) -> u64 {
-        self.wire.faults()
+        self.wire.faults().saturating_add(self.withheld)
+    }
+}
+
+impl<W: Wire> WithholdingWire for QuietWire<W> {
+    ghost tried = { λ _. None };
+
+    fn poll_noted(&mut self, alloc: Global) -> Result<(Moment, Option<Event>), WireFault> {
+        self.poll(alloc)
+    }
+
+    fn act_noted(&mut self, alloc: Global, action: &Action) -> Result<(), WireFault> {
+        self.act(alloc, action)
+    }
+
+    fn withhold(&mut self, _alloc: Global, _action: &Action) {
+        self.withheld = self.withheld.saturating_add(1);
     }
 }
 
@@ -68,7 +87,8 @@ impl<W: Wire> QuietWire<W> {
             → W.recorded self.new.wire ≡ W.recorded self.old.wire }
         ensures forwarded { withholds self.old.until self.old.at action.now ≡ false
             → Records (W.recorded self.old.wire) (acted action.now result ∷ []) (W.recorded self.new.wire) }
-        ensures counted { IsCounted (W.fault_count self.old.wire) (faults_of result) (W.fault_count self.new.wire) }
+        ensures counted { IsCounted (fault_sum (W.fault_count self.old.wire) self.old.withheld) (faults_of result)
+            (fault_sum (W.fault_count self.new.wire) self.new.withheld) }
         ensures until { self.new.until ≡ self.old.until }
         ensures at { self.new.at ≡ self.old.at }
     {
@@ -85,7 +105,7 @@ impl<W: Peers> Peers for QuietWire<W> {
     }
 }
 
-/// Whether an action is withheld that is done at this moment.
+/// Checks whether an action at this moment is withheld.
 fn withholds(until: &Option<Second>, at: &Option<Moment>, action: &Action) -> bool
     ensures { result ≡ withholds until.now at.now action.now }
 {
@@ -95,7 +115,7 @@ fn withholds(until: &Option<Second>, at: &Option<Moment>, action: &Action) -> bo
     }
 }
 
-/// Whether it sends the refusal of a TGS-REQ with KRB_AP_ERR_SKEW.
+/// Checks whether an action refuses a TGS-REQ with KRB_AP_ERR_SKEW.
 fn sends_skew(action: &Action) -> bool
     ensures { result ≡ sends_skew action.now }
 {

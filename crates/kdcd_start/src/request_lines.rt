@@ -12,17 +12,17 @@ use std::io;
 use std::io::Write;
 use std::net::SocketAddr;
 
-/// How the lines of a log are written.
+/// The format of the lines of a log.
 #[derive(Clone, Copy, Debug, PartialEq, Eq)]
 pub enum LogFormat {
-    /// As fields with a space between two of them.
+    /// Fields with a space between two of them.
     Text,
-    /// As one JSON object each.
+    /// One JSON object each.
     Json,
 }
 
-/// A log that has a line for each request. A line that can't be made or written is lost, and counted; the next one that
-/// is written has a line in front of it that says how many were lost.
+/// A log with a line for each request. A line that can't be made or written is lost and counted. The next one that is
+/// written has a line in front of it that says how many were lost.
 #[derive(Drop)]
 pub struct RequestLines<W> {
     lines: W,
@@ -42,24 +42,24 @@ impl<W: Write + Drop> RequestLines<W> {
         }
     }
 
-    /// Where the lines are written to.
+    /// Returns the writer of the lines.
     pub fn lines(&self) -> &W {
         &self.lines
     }
 
-    /// How many lines were lost. The count stops at the greatest `u64`.
+    /// Returns how many lines were lost. The count stops at the greatest `u64`.
     pub fn lost(&self) -> u64 {
         self.lost
     }
 
-    /// How many of these no line has reported yet.
+    /// Returns how many lost lines no line has reported yet.
     pub fn unreported(&self) -> u64 {
         self.unreported
     }
 }
 
 impl<W: Write> RequestLines<W> {
-    /// Writes the line of an entry, and in front of it how many were lost before it.
+    /// Writes the line of an entry, and in front of it how many lines were lost, if any were.
     fn try_entry(
         &mut self,
         alloc: Global,
@@ -75,7 +75,7 @@ impl<W: Write> RequestLines<W> {
         self.write_line(&line)
     }
 
-    /// Writes how many lines were lost, if any were since it last did.
+    /// Writes how many lines were lost since the last report, if any were.
     fn report_lost(&mut self) -> io::Result<()>
         ensures { TriesLost W.contents self.old self.new result }
     {

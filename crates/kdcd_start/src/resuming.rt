@@ -8,7 +8,8 @@ ghost use Rattle.kdcd_start.specs.Resuming.{IsDecided, IsJournaled, is_there, ma
 use crate::args::ServeOptions;
 use crate::clock_watch::{Refused, refused_at_start};
 use crate::host::{Host, Journals};
-use crate::journal_file::{JournalBeginning, JournalFile, OpenedJournals};
+use crate::journal_file::{JournalBeginning, JournalFile};
+use crate::journal_files::{HeldFiles, OpenedJournals};
 use crate::starting::{ReadyServer, StartFault, keeps_accounts, take_seed};
 use journal::{Found, Place, Start, start_of};
 use kdc_core::{Kdc, Opening};
@@ -25,24 +26,24 @@ use std::io;
 use std::io::Write;
 use std::rt::Files;
 
-/// By how many seconds the floor of a restart is after it.
+/// How many seconds after a restart its floor is.
 const AFTER: i64 = SKEW + 1;
 
-/// A server that holds its sockets and its journal, before its first round.
+/// A server that has its sockets and its journal, before its first round.
 #[derive(Drop)]
 pub struct JournaledServer<S> {
-    /// Its `opening` is one with the same floor.
+    /// Its `opening` has the floor of this start.
     pub server: ReadyServer<S>,
     pub journals: Journals,
-    /// What the start makes of them.
+    /// What the start makes of the journals.
     pub start: Start,
     /// When it started.
     pub at: Moment,
     pub realm: Octets,
 }
 
-/// Starts a server as `start_server` does, with the journal at this path: it holds its sockets, then reads the journals,
-/// and only then looks at the clock. So no earlier process appends to a journal after it was read.
+/// Starts a server as `start_server` does, with the journal at a path. It opens its sockets, then reads the journals, and
+/// only then reads the clock. So no earlier process appends to a journal after it was read.
 pub fn start_with_journal<'a, H: Host>(
     alloc: Global,
     host: &mut H,
@@ -94,7 +95,7 @@ pub fn start_with_journal<'a, H: Host>(
     })
 }
 
-/// Whether a start may be the first, if it is to be: there is no journal, whatever it is.
+/// Checks whether a start may be the first, if it is to be: there is no journal, not even a broken one.
 fn may_be_first(is_first: bool, journals: &Journals) -> bool
     ensures { result ≡ may_be_first is_first journals.now }
 {
@@ -111,7 +112,7 @@ fn is_there(found: &Found) -> bool
     }
 }
 
-/// What a start at this moment makes of the journals.
+/// Decides what a start at this moment makes of the journals.
 fn decide(
     alloc: Global,
     rows: &Database,
@@ -128,7 +129,7 @@ fn decide(
     start_of(alloc, &place, &journals.older, &journals.newer)
 }
 
-/// How the KDC is opened, where it can't resume.
+/// Returns how the KDC starts if it can't resume.
 fn opened_by(is_first: bool, at: Moment) -> Opening
     ensures { result ≡ opened_by is_first at }
 {
@@ -154,7 +155,7 @@ fn open(
     }
 }
 
-/// An opening whose floor is that of the start.
+/// Returns an opening with the floor of the start.
 fn opening_like(opened: Opening, start: &Start) -> Opening {
     match start {
         Start::Refuses { .. } => opened,
@@ -168,7 +169,7 @@ fn opening_like(opened: Opening, start: &Start) -> Opening {
 }
 
 impl<S: Drop> JournaledServer<S> {
-    /// Returns which requests are refused after the start. Below the moment of the start the floor refuses only what is
+    /// Returns which requests are refused after the start. A floor before the moment of the start refuses only what is
     /// too old.
     pub fn refused(&self) -> Option<Refused> {
         let refused = refused_at_start(self.server.opening)?;
@@ -178,14 +179,14 @@ impl<S: Drop> JournaledServer<S> {
         }
     }
 
-    /// Begins the journal of this server, or goes on with the one that was read.
+    /// Begins the journal of this server, or goes on with the one that was read, whose open files these are.
     pub fn begin_journal<'a, F: Files<File = File>, W: Write + Drop>(
         self,
         alloc: Global,
         files: &'a F,
         path: &'a str,
         lines: W,
-        file: Option<File>,
+        held: HeldFiles,
     ) -> (ReadyServer<S>, io::Result<JournalFile<'a, F, W>>) {
         let JournaledServer {
             server,
@@ -199,7 +200,10 @@ impl<S: Drop> JournaledServer<S> {
             at,
             floor: server.opening.floor(),
             start,
-            opened: OpenedJournals { journals, file },
+            opened: OpenedJournals {
+                journals,
+                files: held,
+            },
         };
         let journal = JournalFile::start(alloc, files, path, lines, beginning);
         (server, journal)

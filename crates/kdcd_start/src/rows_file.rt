@@ -1,7 +1,7 @@
 //! The rows of a realm from a file, which may be replaced while they are served.
 ghost use Rattle.std.specs.Prelude.{None};
 
-use crate::files::{FileFault, database_of, read_whole};
+use crate::files::{FileFault, database_of, place_of, read_whole};
 use kdc_serving::{Look, OtherRealm, RowSource};
 use principals::Database;
 use std::alloc::Global;
@@ -15,44 +15,47 @@ use std::{fmt, fs, io};
 /// How many seconds after a read that failed the file is read again.
 const BETWEEN_READS: u64 = 5;
 
-/// What tells a file from the one that was there before.
+/// The metadata by which a file differs from the one that was there before.
 #[derive(Clone, Copy, PartialEq, Eq)]
 struct Stamp {
     node: u64,
-    /// When its octets, its owner or its mode were changed last: seconds since 1970, and nanoseconds.
+    /// The last change of its octets, owner or mode: seconds since 1970, and nanoseconds.
     changed: i64,
     nanos: i64,
     len: u64,
 }
 
-/// What became of the file's last change.
+/// The outcome of the file's last change.
 #[derive(Drop)]
 enum News {
-    /// So many rows are served from it.
+    /// Its rows are served: this many.
     Taken(usize),
-    /// It was not taken.
+    /// It can't be read, or is refused.
     Faulty(FileFault),
     OtherRealm,
 }
 
-/// The file of a database, and where its changes and faults are logged. It keeps no record.
+/// The file of a database, which logs its changes and faults. It keeps no record.
 #[derive(Drop)]
 pub struct RowsFile<'a, F, W> {
     files: &'a F,
     path: &'a str,
+    /// Where it is logged.
     lines: W,
-    /// What was there at the last look, if that could be seen.
+    /// The file at the last look, if there was one.
     seen: Option<Stamp>,
-    /// When the system last failed to read what is there.
+    /// When the system failed to read the file, if it did.
     failed_at: Option<Instant>,
-    /// How many rows the last look found.
+    /// Where the text that was read last is wrong, if it is and the place was found.
+    place: Option<String>,
+    /// The number of rows that the last look found.
     row_count: usize,
     /// What is still to be logged.
     unsaid: Option<News>,
 }
 
 impl<'a, F: Files + Clock, W: Write + Drop> RowsFile<'a, F, W> {
-    /// The file at this path. It is read after this, so that no change is missed.
+    /// Looks at the file at a path. It is read only later, so that no change is missed.
     pub fn new(files: &'a F, path: &'a str, lines: W) -> RowsFile<'a, F, W> {
         let seen = match fs::metadata(files, path) {
             Ok(metadata) => Some(stamp_of(&metadata)),
@@ -64,23 +67,36 @@ impl<'a, F: Files + Clock, W: Write + Drop> RowsFile<'a, F, W> {
             lines,
             seen,
             failed_at: None,
+            place: None,
             row_count: 0,
             unsaid: None,
         }
     }
 
-    /// Reads the rows that the file has.
-    pub fn read(&self, alloc: Global) -> Result<Database, FileFault> {
+    /// Reads the rows of the file.
+    pub fn read(&mut self, alloc: Global) -> Result<Database, FileFault> {
+        self.place = None;
         let octets = read_whole(alloc, File::open(self.files, self.path)?)?;
-        database_of(alloc, &octets)
+        let read = database_of(alloc, &octets);
+        if let Err(fault) = &read {
+            self.place = place_of(alloc, &octets, fault);
+        }
+        read
     }
 
-    /// Returns the rows that the file has, if it is not as it was at the last look, or could not be read then.
+    /// Logs where the text that was read last is wrong, if that is known.
+    pub fn say_place(&mut self) {
+        if let Some(place) = &self.place {
+            let _ = writeln!(self.lines, "kdcd: {}: {place}", self.path);
+        }
+    }
+
+    /// Reads the rows if the file changed since the last look, or could not be read then.
     fn changed_rows(&mut self, alloc: Global) -> Result<Option<Database>, FileFault> {
         let seen = self.seen.take();
         let metadata = match fs::metadata(self.files, self.path) {
             Ok(metadata) => metadata,
-            // That there is nothing to be seen is said once.
+            // That there is no file is said once.
             Err(_) if seen.is_none() => return Ok(None),
             Err(error) => return Err(FileFault::Failed(error)),
         };
@@ -91,14 +107,14 @@ impl<'a, F: Files + Clock, W: Write + Drop> RowsFile<'a, F, W> {
         }
         self.failed_at = None;
         if !metadata.is_file() {
-            // A pipe might have to be waited for.
+            // Reading a pipe might wait.
             let fault = Error::new(ErrorKind::InvalidInput, "it is no file");
             return Err(FileFault::Failed(fault));
         }
         Ok(Some(self.read_or_note(alloc)?))
     }
 
-    /// Reads the rows again, some seconds after the system failed to. That it fails once more is not said.
+    /// Reads the rows again, some seconds after the system failed to. Another such failure is not said.
     fn retried_rows(&mut self, alloc: Global) -> Result<Option<Database>, FileFault> {
         if !self.is_retry_due() {
             return Ok(None);
@@ -130,16 +146,17 @@ impl<'a, F: Files + Clock, W: Write + Drop> RowsFile<'a, F, W> {
         read
     }
 
-    /// Logs these news, in place of older ones that could not be logged yet.
+    /// Logs this, in place of what could not be logged yet.
     fn tell(&mut self, news: News) {
         self.unsaid = Some(news);
         self.say();
     }
 
-    /// Logs what is still to be logged. A line that is lost comes again at the next look.
+    /// Logs what is still to be logged. A lost line comes again at the next look.
     fn say(&mut self) {
         if let Some(news) = self.unsaid.take() {
-            if write_news(&mut self.lines, self.path, &news).is_err() {
+            let place = self.place.as_deref();
+            if write_news(&mut self.lines, self.path, &news, place).is_err() {
                 self.unsaid = Some(news);
             }
         }
@@ -178,18 +195,24 @@ fn is_of_system(fault: &FileFault) -> bool {
     fault.refusal().is_none()
 }
 
-fn write_news(lines: &mut impl Write, path: &str, news: &News) -> io::Result<()> {
+fn write_news(
+    lines: &mut impl Write,
+    path: &str,
+    news: &News,
+    place: Option<&str>,
+) -> io::Result<()> {
     match news {
         News::Taken(rows) => writeln!(lines, "kdcd: database {path} with {rows} rows"),
-        News::Faulty(fault) => match fault.refusal() {
-            Some(word) => write_kept(lines, &word),
-            None => write_kept(lines, fault),
+        News::Faulty(fault) => match (fault.refusal(), place) {
+            (Some(word), Some(place)) => write_kept(lines, &format_args!("{word} ({place})")),
+            (Some(word), None) => write_kept(lines, &word),
+            (None, _) => write_kept(lines, fault),
         },
         News::OtherRealm => write_kept(lines, &"OtherRealm"),
     }
 }
 
-/// Writes why the rows are those from before.
+/// Writes why the old rows stay.
 fn write_kept(lines: &mut impl Write, why: &impl fmt::Display) -> io::Result<()> {
     writeln!(lines, "kdcd: database: {why}; the rows before it stay")
 }

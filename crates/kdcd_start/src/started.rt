@@ -1,4 +1,4 @@
-//! What a server says once it listens.
+//! The lines that a server writes once it listens.
 use crate::clock_watch::Refused;
 use journal::{Doubt, Start};
 use krb_fields::Second;
@@ -6,7 +6,7 @@ use principal_rows::Limits;
 use std::fmt;
 use std::net::SocketAddr;
 
-/// What a start made of the journal at a path.
+/// The journal at a path, and what the start made of it.
 #[derive(Clone, Copy)]
 pub struct JournalNews<'a> {
     pub path: &'a str,
@@ -22,7 +22,7 @@ pub enum JournalFound {
 }
 
 impl JournalFound {
-    /// What a start made of it.
+    /// Returns what a start made of its journal.
     pub fn of(start: &Start) -> JournalFound {
         match start {
             Start::Resumes { resumption, .. } => JournalFound::Resumed(resumption.seen.len()),
@@ -31,15 +31,15 @@ impl JournalFound {
     }
 }
 
-/// A server that listens. Its text is a line with the addresses, one with the database, one with the journal, if there is
-/// one, one with what is refused after a restart, and one with the limits.
+/// A server that listens. Its text is a line each for the addresses, the database, the journal if there is one, what is
+/// refused after the start if anything is, and the limits.
 #[derive(Clone, Copy)]
 pub struct Started<'a> {
     pub udp: &'a [SocketAddr],
     pub tcp: &'a [SocketAddr],
     /// The path of the database's file.
     pub db: &'a str,
-    /// How many rows it has.
+    /// The number of rows.
     pub rows: usize,
     pub journal: Option<JournalNews<'a>>,
     /// Which requests are refused after the start, if any are.
@@ -89,7 +89,7 @@ fn write_refused<W: fmt::Write>(
     Ok(())
 }
 
-/// The second before which all requests that are refused get no reply, if the start is quiet.
+/// Returns the second before which refused requests get no reply, if the start is quiet.
 pub fn quiet_until(refused: Option<Refused>, is_quiet: bool) -> Option<Second> {
     match refused {
         Some(Refused::All(until)) if is_quiet => Second::new(until),
@@ -115,7 +115,7 @@ fn write_addresses<W: fmt::Write>(
     Ok(())
 }
 
-/// What stands before so many more.
+/// Returns the separator before the addresses that are left.
 fn separator(left: usize) -> &'static str {
     match left {
         0 => "",

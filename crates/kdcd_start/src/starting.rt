@@ -20,7 +20,7 @@ use std::{fmt, io};
 /// Why a server did not start.
 #[derive(Debug, Drop)]
 pub enum StartFault<'a, S> {
-    /// The file of this path.
+    /// The file at this path.
     File(&'a str, FileFault),
     /// The system's source of random octets.
     Random(io::Error),
@@ -28,7 +28,7 @@ pub enum StartFault<'a, S> {
     Errors(io::Error),
     Clock(io::Error),
     Sockets(S),
-    /// A first start, with a journal at this path.
+    /// The start is to be the first, and there is a journal at this path.
     NotFirst(&'a str),
     Memory,
 }
@@ -44,7 +44,7 @@ impl<S: fmt::Display> fmt::Display for StartFault<'_, S> {
             StartFault::NotFirst(path) => {
                 write!(
                     f,
-                    "--first is for the first start alone, and there is a journal {path}"
+                    "--first is for the first start alone, and there is a journal {path}; start without --first"
                 )
             }
             StartFault::Memory => f.write_str("out of memory"),
@@ -59,7 +59,7 @@ impl<S> From<AllocError> for StartFault<'_, S> {
 }
 
 impl<S> StartFault<'_, S> {
-    /// Returns the word for the fault, if a file was read and is refused.
+    /// Returns the word for the refusal, if a file was read and is refused.
     pub fn refusal(&self) -> Option<&'static str> {
         match self {
             StartFault::File(_, fault) => fault.refusal(),
@@ -68,19 +68,19 @@ impl<S> StartFault<'_, S> {
     }
 }
 
-/// A server that holds its sockets, before its first round.
+/// A server that has its sockets, before its first round.
 #[derive(Drop)]
 pub struct ReadyServer<S> {
     pub hub: Hub<ChaCha20Rng>,
     pub sockets: S,
-    /// How its KDC was opened.
+    /// How its KDC started.
     pub opening: Opening,
-    /// How many rows it serves.
+    /// The number of rows that it serves.
     pub row_count: usize,
 }
 
-/// Starts a server as its options say: it reads the database and the seed, holds its sockets, and only then looks at
-/// the clock. So no earlier process answers a request after the moment of a restart.
+/// Starts a server as its options say. It reads the database and the seed, opens its sockets, and only then reads the
+/// clock. So no earlier process answers a request after the moment of a restart.
 pub fn start_server<'a, H: Host>(
     alloc: Global,
     host: &mut H,
@@ -111,14 +111,14 @@ pub fn start_server<'a, H: Host>(
     })
 }
 
-/// Whether the log or a quiet start has to know what became of each request.
+/// Checks whether the log or a quiet start needs the account of each request.
 pub(crate) fn keeps_accounts(options: &ServeOptions<'_>) -> bool
     ensures { result ≡ (is_some options.now.log || options.now.is_quiet) }
 {
     options.log.is_some() || options.is_quiet
 }
 
-/// Takes the seed: the first 32 octets of the file at a path, or octets that the system draws.
+/// Takes the seed: the first 32 octets of the file at a path, or 32 octets that the system draws.
 pub(crate) fn take_seed<'a, H: Host>(
     alloc: Global,
     host: &mut H,
@@ -145,7 +145,7 @@ fn read_seed<H: Host>(alloc: Global, host: &mut H, path: &str) -> Result<[u8; 32
     seed_of(&octets)
 }
 
-/// Returns how the server opens: for the first time, or again at the moment that the clock shows.
+/// Returns how the server starts: for the first time, or again at the moment that the clock shows.
 fn take_opening<'a, H: Host>(
     host: &mut H,
     starts_first: bool,

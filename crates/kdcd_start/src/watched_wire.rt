@@ -5,8 +5,8 @@ use krb_fields::Moment;
 use std::alloc::Global;
 use std::io::Write;
 
-/// A Wire that says once a minute which requests are refused, while the clock shows an earlier time than before. Every
-/// call is forwarded to the inner Wire, whose record is this one's. So what is said changes no answer.
+/// A Wire that writes once a minute which requests are refused, while the clock shows an earlier time than before. It
+/// forwards every call to the inner Wire, whose record is this one's. So its lines change no answer.
 #[derive(Drop)]
 pub struct WatchedWire<W, E> {
     wire: W,
@@ -51,7 +51,7 @@ impl<W: Wire + Drop, E: Write + Drop> Wire for WatchedWire<W, E> {
     }
 }
 
-/// Says which requests are refused at a moment, if that has to be said. A line that is lost comes again in a minute.
+/// Writes which requests are refused at a moment, if that is due. A lost line comes again in a minute.
 fn say_refused<E: Write>(clock: &mut ClockWatch, errors: &mut E, at: Moment) {
     if let Some(refused) = clock.take(at) {
         let _ = writeln!(errors, "kdcd: the clock went back: {refused}");

@@ -7,6 +7,6 @@ mod methods;
 mod timestamp;
 
 pub use keys::{first_key, key_by, key_numbered, types_of};
-pub use lock::{after_failure, after_success, is_locked};
+pub use lock::{after_failure, after_success, counted_for, is_locked};
 pub use methods::{etype_info2, method_data};
 pub use timestamp::{Outcome, check_timestamp, first_of};

@@ -13,5 +13,5 @@ second_once = hlevel props
 microsecond_once : IsProp (IsMicrosecond 0)
 microsecond_once = hlevel props
 
-pub no_failures_is : (s : IsSecond (pos 0)) (u : IsMicrosecond 0) → ◌≡◌ {A = Failures} (record { count = 0; last = record { sec = pos 0; usec = 0; sec_in_range = s; usec_in_range = u } }) no_failures
-no_failures_is s u = λ i. record { count = 0; last = record { sec = pos 0; usec = 0; sec_in_range = second_once s zero_is_second i; usec_in_range = microsecond_once u zero_is_microsecond i } }
+pub no_failures_is : (s : IsSecond (pos 0)) (u : IsMicrosecond 0) → ◌≡◌ {A = Failures} (record { count = 0; last = record { sec = pos 0; usec = 0; sec_in_range = s; usec_in_range = u }; version = 0 }) no_failures
+no_failures_is s u = λ i. record { count = 0; last = record { sec = pos 0; usec = 0; sec_in_range = second_once s zero_is_second i; usec_in_range = microsecond_once u zero_is_microsecond i }; version = 0 }

@@ -23,10 +23,10 @@ swap a b c = grind (arith, ints, clamps)
 max_rises : (a b c : ℤ) → a ≤ℤ b → a ≤ℤ int_max b c
 max_rises a b c le = grind (arith, ints, clamps)
 
-max_bound : (a b c d : ℤ) → a ≤ℤ int_max c d → b ≤ℤ d → int_max a b ≤ℤ int_max c d
+pub max_bound : (a b c d : ℤ) → a ≤ℤ int_max c d → b ≤ℤ d → int_max a b ≤ℤ int_max c d
 max_bound a b c d p q = grind (arith, ints, clamps)
 
-max_itself : (a b : ℤ) → a ≤ℤ int_max a b
+pub max_itself : (a b : ℤ) → a ≤ℤ int_max a b
 max_itself a b = grind (arith, ints, clamps)
 
 le_itself : (a : ℤ) → a ≤ℤ a
@@ -59,7 +59,7 @@ module _ {V : Type 0} where
       at rest true = rest
       at rest false = ap (λ f. int_max f (e.0.0 +ℤ pos 1)) rest ∙ swap (raised start floor es) high (e.0.0 +ℤ pos 1)
 
-  not_lower : (start floor : ℤ) (es : List (Stamp × V)) → floor ≤ℤ raised start floor es
+  pub not_lower : (start floor : ℤ) (es : List (Stamp × V)) → floor ≤ℤ raised start floor es
   not_lower start floor [] = le_itself floor
   not_lower start floor (e ∷ es) = at (not_lower start floor es) (is_from start e.0)
     where
@@ -76,7 +76,7 @@ module _ {V : Type 0} where
       at rest false is = max_bound (raised start floor es) (e.0.0 +ℤ pos 1) floor start rest (next_by e.0.0 start is)
 
   -- an entry before the second is below it
-  below : (start floor : ℤ) (q : Stamp) (v : V) (es : List (Stamp × V)) → find stamp_cmp q es ≡ Some v → is_from start q ≡ false → int_lt q.0 (raised start floor es) ≡ true
+  pub below : (start floor : ℤ) (q : Stamp) (v : V) (es : List (Stamp × V)) → find stamp_cmp q es ≡ Some v → is_from start q ≡ false → int_lt q.0 (raised start floor es) ≡ true
   below start floor q v [] found old = cc
   below start floor q v (e ∷ es) found old = at (below start floor q v es) (eq_by_cmp stamp_cmp q e.0) refl found
     where
@@ -121,7 +121,7 @@ module _ {V : Type 0} where
   entries-empty : entries (map.empty {X = V} {R = stamp_cmp}) ≡ []
   entries-empty = no_entries (entries map.empty) (sym (len-entries map.empty) ∙ len-empty stamp_cmp V)
 
-  entries-retain_keys : (m : FinMap stamp_cmp V) (start : ℤ) → entries (map.retain_keys m (is_from start)) ≡ where_key stamp_cmp (is_from start) (entries m)
+  pub entries-retain_keys : (m : FinMap stamp_cmp V) (start : ℤ) → entries (map.retain_keys m (is_from start)) ≡ where_key stamp_cmp (is_from start) (entries m)
   entries-retain_keys m start =
       let sorted = is_sorted-where_key stamp_cmp (is_from start) (entries m) (entries_sorted m) in
       let alike = λ (q x : Stamp) (t : stamp_cmp q x ≡ Equal). ap (is_from start) (sym (stamp_exact q x t)) in

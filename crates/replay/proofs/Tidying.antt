@@ -29,19 +29,26 @@ same_nat a b e = grind (arith, nat_tests)
 same_int : (a b : ℤ) → int_eq a b ≡ true → a ≡ b
 same_int a b e = (signed_Decides a b).0 e
 
+four : (a b c d : Bool) → (a && b && c && d) ≡ true → (a ≡ true) × (b ≡ true) × (c ≡ true) × (d ≡ true)
+four true true true d e = (refl, refl, refl, e)
+four true true false d e = absurd cc
+four true false c d e = absurd cc
+four false b c d e = absurd cc
+
 -- failures are determined by their numbers
-failures_are : (count : ℕ) (sec : ℤ) (usec : ℕ) → count ≡ 0 → sec ≡ pos 0 → usec ≡ 0 → (s : IsSecond sec) (u : IsMicrosecond usec)
-    → ◌≡◌ {A = Failures} (record { count = count; last = record { sec = sec; usec = usec; sec_in_range = s; usec_in_range = u } }) no_failures
-failures_are count sec usec counted seconds micros =
-    subst (λ (n : ℕ). (s : IsSecond sec) (u : IsMicrosecond usec) → ◌≡◌ {A = Failures} (record { count = n; last = record { sec = sec; usec = usec; sec_in_range = s; usec_in_range = u } }) no_failures) (sym counted)
-    (subst (λ (n : ℤ). (s : IsSecond n) (u : IsMicrosecond usec) → ◌≡◌ {A = Failures} (record { count = 0; last = record { sec = n; usec = usec; sec_in_range = s; usec_in_range = u } }) no_failures) (sym seconds)
-    (subst (λ (n : ℕ). (s : IsSecond (pos 0)) (u : IsMicrosecond n) → ◌≡◌ {A = Failures} (record { count = 0; last = record { sec = pos 0; usec = n; sec_in_range = s; usec_in_range = u } }) no_failures) (sym micros)
-    no_failures_is))
+failures_are : (count version : ℕ) (sec : ℤ) (usec : ℕ) → count ≡ 0 → version ≡ 0 → sec ≡ pos 0 → usec ≡ 0 → (s : IsSecond sec) (u : IsMicrosecond usec)
+    → ◌≡◌ {A = Failures} (record { count = count; last = record { sec = sec; usec = usec; sec_in_range = s; usec_in_range = u }; version = version }) no_failures
+failures_are count version sec usec counted current seconds micros =
+    subst (λ (n : ℕ). (s : IsSecond sec) (u : IsMicrosecond usec) → ◌≡◌ {A = Failures} (record { count = n; last = record { sec = sec; usec = usec; sec_in_range = s; usec_in_range = u }; version = version }) no_failures) (sym counted)
+    (subst (λ (n : ℕ). (s : IsSecond sec) (u : IsMicrosecond usec) → ◌≡◌ {A = Failures} (record { count = 0; last = record { sec = sec; usec = usec; sec_in_range = s; usec_in_range = u }; version = n }) no_failures) (sym current)
+    (subst (λ (n : ℤ). (s : IsSecond n) (u : IsMicrosecond usec) → ◌≡◌ {A = Failures} (record { count = 0; last = record { sec = n; usec = usec; sec_in_range = s; usec_in_range = u }; version = 0 }) no_failures) (sym seconds)
+    (subst (λ (n : ℕ). (s : IsSecond (pos 0)) (u : IsMicrosecond n) → ◌≡◌ {A = Failures} (record { count = 0; last = record { sec = pos 0; usec = n; sec_in_range = s; usec_in_range = u }; version = 0 }) no_failures) (sym micros)
+    no_failures_is)))
 
 none_failed : (f : Failures) → never_failed f ≡ true → f ≡ no_failures
 none_failed f e =
-    let all = three (nat_eq f.count 0) (int_eq f.last.sec (pos 0)) (nat_eq f.last.usec 0) e in
-    failures_are f.count f.last.sec f.last.usec (same_nat _ _ all.0) (same_int _ _ all.1) (same_nat _ _ all.2) f.last.sec_in_range f.last.usec_in_range
+    let all = four (nat_eq f.count 0) (nat_eq f.version 0) (int_eq f.last.sec (pos 0)) (nat_eq f.last.usec 0) e in
+    failures_are f.count f.version f.last.sec f.last.usec (same_nat _ _ all.0) (same_nat _ _ all.1) (same_int _ _ all.2) (same_nat _ _ all.3) f.last.sec_in_range f.last.usec_in_range
 
 -- it is the empty cache with that floor
 pub is_empty_memory : {T : Type 0} (floor : ℤ) (m : Memory T) → is_empty floor m ≡ true → m ≡ empty_memory floor

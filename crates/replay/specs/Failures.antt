@@ -17,4 +17,4 @@ abbrev pub epoch : Moment
 epoch = record { sec = pos 0; usec = 0; sec_in_range = zero_is_second; usec_in_range = zero_is_microsecond }
 
 abbrev pub no_failures : Failures
-no_failures = record { count = 0; last = epoch }
+no_failures = record { count = 0; last = epoch; version = 0 }

@@ -15,7 +15,7 @@ empty_memory floor = record { failures = no_failures; floor = floor; pairs = map
 
 -- the failures are those of a client that never failed
 abbrev pub never_failed : Failures → Bool
-never_failed f = nat_eq f.count 0 && int_eq f.last.sec (pos 0) && nat_eq f.last.usec 0
+never_failed f = nat_eq f.count 0 && nat_eq f.version 0 && int_eq f.last.sec (pos 0) && nat_eq f.last.usec 0
 
 -- whether nothing is recorded, and the floor is this one
 abbrev pub is_empty : {T : Type 0} → ℤ → Memory T → Bool

@@ -3,7 +3,7 @@ use Rattle.std.proofs.Common.{◌≡◌, ℕ, List, [], ◌∷◌, Option, Some,
 use Rattle.std.specs.Prelude.{nat_eq}
 use Rattle.std.specs.Cmp.Lexicographic.{pointwise}
 use Rattle.as_exchange.specs.declared.refusal.AsRefusal.{AsRefusal}
-use Rattle.as_exchange.specs.declared.refusal.AsRefusal.TheVariants.{BadVersion as AsBadVersion, BadMessageType as AsBadMessageType, ClientUnknown as AsClientUnknown, ServiceUnknown as AsServiceUnknown, ClientRevoked as AsClientRevoked}
+use Rattle.as_exchange.specs.declared.refusal.AsRefusal.TheVariants.{BadVersion as AsBadVersion, BadMessageType as AsBadMessageType, ClientUnknown as AsClientUnknown, ServiceUnknown as AsServiceUnknown, ClientDisabled as AsClientDisabled, ClientLocked as AsClientLocked}
 use Rattle.as_exchange.specs.declared.refusal.AsRefusal.TheVariants.{ClientExpired as AsClientExpired, PasswordExpired, ServiceRevoked as AsServiceRevoked, ServiceExpired as AsServiceExpired, BadOption as AsBadOption}
 use Rattle.as_exchange.specs.declared.refusal.AsRefusal.TheVariants.{NoCommonType as AsNoCommonType, PreauthFailed, TimestampSkewed, PreauthRequired, PostdatingRefused}
 use Rattle.as_exchange.specs.declared.refusal.AsRefusal.TheVariants.{StartsTooLate as AsStartsTooLate, NeverValid as AsNeverValid, ServiceDenied as AsServiceDenied}
@@ -12,7 +12,7 @@ use Rattle.tgs_opening.specs.declared.refusal.TgsRefusal.TheVariants.{BadVersion
 use Rattle.tgs_opening.specs.declared.refusal.TgsRefusal.TheVariants.{BadApMessageType, SessionKeyAsked, NotForUs, NoKey, BadKeyVersion}
 use Rattle.tgs_opening.specs.declared.refusal.TgsRefusal.TheVariants.{TicketNotOpened, ForeignClient, BoundAddress, BadSessionKey, AuthenticatorNotOpened}
 use Rattle.tgs_opening.specs.declared.refusal.TgsRefusal.TheVariants.{BadMatch, NoChecksum, BadChecksumType, Modified, BadSubkey}
-use Rattle.tgs_opening.specs.declared.refusal.TgsRefusal.TheVariants.{ClientUnknown as TgsClientUnknown, ClientRevoked as TgsClientRevoked, ClientExpired as TgsClientExpired, TicketRevoked, Skewed}
+use Rattle.tgs_opening.specs.declared.refusal.TgsRefusal.TheVariants.{ClientUnknown as TgsClientUnknown, ClientDisabled as TgsClientDisabled, ClientExpired as TgsClientExpired, TicketRevoked, Skewed}
 use Rattle.tgs_opening.specs.declared.refusal.TgsRefusal.TheVariants.{Repeated, Full, NotYetValid, TicketExpired, ServiceUnknown as TgsServiceUnknown}
 use Rattle.tgs_opening.specs.declared.refusal.TgsRefusal.TheVariants.{ServiceRevoked as TgsServiceRevoked, ServiceExpired as TgsServiceExpired, OtherService, AuthorizationData, BadOption as TgsBadOption}
 use Rattle.tgs_opening.specs.declared.refusal.TgsRefusal.TheVariants.{NothingToValidate, ValidatedTooEarly, RenewedTooLate, NoCommonType as TgsNoCommonType, StartsTooLate as TgsStartsTooLate}
@@ -34,7 +34,7 @@ distinct name rules named rule other same = same_some rule other (sym (named rul
 -- all rules of each exchange
 abbrev as_rules : List AsRefusal
 as_rules =
-    AsBadVersion ∷ AsBadMessageType ∷ AsClientUnknown ∷ AsServiceUnknown ∷ AsServiceDenied ∷ AsClientRevoked ∷
+    AsBadVersion ∷ AsBadMessageType ∷ AsClientUnknown ∷ AsServiceUnknown ∷ AsServiceDenied ∷ AsClientDisabled ∷ AsClientLocked ∷
     AsClientExpired ∷ PasswordExpired ∷ AsServiceRevoked ∷ AsServiceExpired ∷ AsBadOption ∷ AsNoCommonType ∷
     PreauthFailed ∷ TimestampSkewed ∷ PreauthRequired ∷ PostdatingRefused ∷ AsStartsTooLate ∷ AsNeverValid ∷ []
 
@@ -43,7 +43,7 @@ tgs_rules =
     TgsBadVersion ∷ TgsBadMessageType ∷ NoApReq ∷ MalformedApReq ∷ BadTicketVersion ∷ BadApMessageType ∷
     SessionKeyAsked ∷ NotForUs ∷ NoKey ∷ BadKeyVersion ∷ TicketNotOpened ∷ ForeignClient ∷ BoundAddress ∷
     BadSessionKey ∷ AuthenticatorNotOpened ∷ BadMatch ∷ NoChecksum ∷ BadChecksumType ∷ Modified ∷ BadSubkey ∷
-    TgsClientUnknown ∷ TgsClientRevoked ∷ TgsClientExpired ∷ TicketRevoked ∷ Skewed ∷ Repeated ∷ Full ∷
+    TgsClientUnknown ∷ TgsClientDisabled ∷ TgsClientExpired ∷ TicketRevoked ∷ Skewed ∷ Repeated ∷ Full ∷
     NotYetValid ∷ TicketExpired ∷ TgsServiceUnknown ∷ TgsServiceDenied ∷ TgsServiceRevoked ∷ TgsServiceExpired ∷
     OtherService ∷ AuthorizationData ∷ TgsBadOption ∷ NothingToValidate ∷ ValidatedTooEarly ∷ RenewedTooLate ∷
     TgsNoCommonType ∷ TgsStartsTooLate ∷ TgsNeverValid ∷ []
@@ -55,7 +55,8 @@ as_named AsBadMessageType = refl
 as_named AsClientUnknown = refl
 as_named AsServiceUnknown = refl
 as_named AsServiceDenied = refl
-as_named AsClientRevoked = refl
+as_named AsClientDisabled = refl
+as_named AsClientLocked = refl
 as_named AsClientExpired = refl
 as_named PasswordExpired = refl
 as_named AsServiceRevoked = refl
@@ -92,7 +93,7 @@ tgs_named BadChecksumType = refl
 tgs_named Modified = refl
 tgs_named BadSubkey = refl
 tgs_named TgsClientUnknown = refl
-tgs_named TgsClientRevoked = refl
+tgs_named TgsClientDisabled = refl
 tgs_named TgsClientExpired = refl
 tgs_named TicketRevoked = refl
 tgs_named Skewed = refl

@@ -1,7 +1,7 @@
 -- The words for rules and error codes.
 use Rattle.std.specs.Prelude.{ℕ, List, codes}
 use Rattle.as_exchange.specs.declared.refusal.AsRefusal.{AsRefusal}
-use Rattle.as_exchange.specs.declared.refusal.AsRefusal.TheVariants.{BadVersion as AsBadVersion, BadMessageType as AsBadMessageType, ClientUnknown as AsClientUnknown, ServiceUnknown as AsServiceUnknown, ClientRevoked as AsClientRevoked}
+use Rattle.as_exchange.specs.declared.refusal.AsRefusal.TheVariants.{BadVersion as AsBadVersion, BadMessageType as AsBadMessageType, ClientUnknown as AsClientUnknown, ServiceUnknown as AsServiceUnknown, ClientDisabled as AsClientDisabled, ClientLocked as AsClientLocked}
 use Rattle.as_exchange.specs.declared.refusal.AsRefusal.TheVariants.{ClientExpired as AsClientExpired, PasswordExpired, ServiceRevoked as AsServiceRevoked, ServiceExpired as AsServiceExpired, BadOption as AsBadOption}
 use Rattle.as_exchange.specs.declared.refusal.AsRefusal.TheVariants.{NoCommonType as AsNoCommonType, PreauthFailed, TimestampSkewed, PreauthRequired, PostdatingRefused}
 use Rattle.as_exchange.specs.declared.refusal.AsRefusal.TheVariants.{StartsTooLate as AsStartsTooLate, NeverValid as AsNeverValid, ServiceDenied as AsServiceDenied}
@@ -10,7 +10,7 @@ use Rattle.tgs_opening.specs.declared.refusal.TgsRefusal.TheVariants.{BadVersion
 use Rattle.tgs_opening.specs.declared.refusal.TgsRefusal.TheVariants.{BadApMessageType, SessionKeyAsked, NotForUs, NoKey, BadKeyVersion}
 use Rattle.tgs_opening.specs.declared.refusal.TgsRefusal.TheVariants.{TicketNotOpened, ForeignClient, BoundAddress, BadSessionKey, AuthenticatorNotOpened}
 use Rattle.tgs_opening.specs.declared.refusal.TgsRefusal.TheVariants.{BadMatch, NoChecksum, BadChecksumType, Modified, BadSubkey}
-use Rattle.tgs_opening.specs.declared.refusal.TgsRefusal.TheVariants.{ClientUnknown as TgsClientUnknown, ClientRevoked as TgsClientRevoked, ClientExpired as TgsClientExpired, TicketRevoked, Skewed}
+use Rattle.tgs_opening.specs.declared.refusal.TgsRefusal.TheVariants.{ClientUnknown as TgsClientUnknown, ClientDisabled as TgsClientDisabled, ClientExpired as TgsClientExpired, TicketRevoked, Skewed}
 use Rattle.tgs_opening.specs.declared.refusal.TgsRefusal.TheVariants.{Repeated, Full, NotYetValid, TicketExpired, ServiceUnknown as TgsServiceUnknown}
 use Rattle.tgs_opening.specs.declared.refusal.TgsRefusal.TheVariants.{ServiceRevoked as TgsServiceRevoked, ServiceExpired as TgsServiceExpired, OtherService, AuthorizationData, BadOption as TgsBadOption}
 use Rattle.tgs_opening.specs.declared.refusal.TgsRefusal.TheVariants.{NothingToValidate, ValidatedTooEarly, RenewedTooLate, NoCommonType as TgsNoCommonType, StartsTooLate as TgsStartsTooLate}
@@ -32,7 +32,8 @@ as_rule_name AsBadMessageType = codes "bad-message-type"
 as_rule_name AsClientUnknown = codes "client-unknown"
 as_rule_name AsServiceUnknown = codes "service-unknown"
 as_rule_name AsServiceDenied = codes "service-denied"
-as_rule_name AsClientRevoked = codes "client-revoked"
+as_rule_name AsClientDisabled = codes "client-disabled"
+as_rule_name AsClientLocked = codes "client-locked"
 as_rule_name AsClientExpired = codes "client-expired"
 as_rule_name PasswordExpired = codes "password-expired"
 as_rule_name AsServiceRevoked = codes "service-revoked"
@@ -69,7 +70,7 @@ tgs_rule_name BadChecksumType = codes "bad-checksum-type"
 tgs_rule_name Modified = codes "modified"
 tgs_rule_name BadSubkey = codes "bad-subkey"
 tgs_rule_name TgsClientUnknown = codes "client-unknown"
-tgs_rule_name TgsClientRevoked = codes "client-revoked"
+tgs_rule_name TgsClientDisabled = codes "client-disabled"
 tgs_rule_name TgsClientExpired = codes "client-expired"
 tgs_rule_name TicketRevoked = codes "ticket-revoked"
 tgs_rule_name Skewed = codes "skewed"

@@ -1,4 +1,4 @@
-//! The lines about a clock that goes back (`kdcd_start`).
+//! Tests of the lines about a clock that goes back (`kdcd_start`).
 use kdc_core::Opening;
 use kdc_hub::{Event, MemoryWire, Wire};
 use kdcd_start::{ClockWatch, Refused, WatchedWire, refused_at_start};
@@ -11,7 +11,7 @@ use std::test::Fail;
 /// 2024-01-01 00:00:00.
 const START: i64 = 1_704_067_200;
 
-/// Seconds behind that moment at which events come, and what is said then.
+/// When an event comes, in seconds after that moment, and what is reported then.
 type Shown = (i64, Option<Refused>);
 
 /// The server starts an hour later than most of its events.
@@ -55,7 +55,7 @@ fn says(opening: Opening, shown: &[Shown]) -> Result<bool, Fail> {
 }
 
 #[test]
-fn a_clock_that_goes_back_is_said_once_a_minute(rt: HostRuntime) -> Result<(), Fail> {
+fn a_clock_that_goes_back_is_reported_once_a_minute(rt: HostRuntime) -> Result<(), Fail> {
     assert!(rt; says(Opening::Restart(moment(3600)?), AHEAD_AT_START)?);
     assert!(rt; says(Opening::First, AHEAD_FOR_A_WHILE)?);
     Ok(())

@@ -1,5 +1,5 @@
-//! Starting a server from a host in memory (`kdcd_start`): the calls that it makes, and the effect of a call that
-//! fails.
+//! Tests of starting a server from a host in memory (`kdcd_start`): the calls that it makes, and the effect of a call
+//! that fails.
 use crate::rows::{GRANTER, text_of};
 use journal::Found;
 use kdcd_start::{
@@ -26,7 +26,7 @@ enum Call {
     Now,
 }
 
-/// What stands behind `kdcd serve`, and the calls that it takes.
+/// The options of `kdcd serve`, and the calls of the start.
 const STARTS: &[(&str, &[Call])] = &[
     (
         "--db d --udp 127.0.0.1:88",
@@ -52,7 +52,7 @@ const STARTS: &[(&str, &[Call])] = &[
     ),
 ];
 
-/// A call that fails, and what is said of it.
+/// A call that fails, and the message.
 const FAULTS: &[(Call, &str)] = &[
     (Call::ReadRows, "d: it has more octets than are taken"),
     (Call::ReadSeed, "s: it has fewer than 32 octets"),
@@ -68,7 +68,7 @@ struct ListedHost {
 }
 
 impl ListedHost {
-    /// Notes a call. Returns whether it fails.
+    /// Records a call, and returns whether it fails.
     fn fails(&mut self, call: Call) -> bool {
         let is_noted = self.calls.push(call).is_ok();
         !is_noted || self.failing == Some(call)
@@ -135,7 +135,7 @@ impl Host for ListedHost {
     }
 }
 
-/// The calls of a start with these words, and why it failed, if it did.
+/// Starts a server with these words. Returns its calls, and the error, if there is one.
 fn start(
     alloc: Global,
     words: &str,
@@ -171,7 +171,7 @@ fn start(
 }
 
 #[test]
-fn a_server_holds_its_sockets_before_it_looks_at_the_clock(rt: HostRuntime) -> Result<(), Fail> {
+fn a_server_binds_its_sockets_before_it_reads_the_clock(rt: HostRuntime) -> Result<(), Fail> {
     let alloc = rt.alloc();
     for (words, wanted) in STARTS {
         let words = format!(in alloc; "kdcd serve {words}")?;

@@ -1,4 +1,4 @@
-//! The file of a journal (`kdcd_start`): what a start makes of it, and what becomes of it where it can't be written.
+//! Tests of the file of a journal (`kdcd_start`): what a start reads from it, and what a server writes to it.
 use journal::{Doubt, Found, Place, Start, start_of};
 use kdc_core::Seen;
 use kdcd_start::{
@@ -15,6 +15,8 @@ const PATH: &str = "tested.journal";
 
 const OLDER: &str = "tested.journal.old";
 
+const LOCK: &str = "tested.journal.lock";
+
 /// The second of the first start.
 const T: i64 = 1_704_067_200;
 
@@ -30,7 +32,7 @@ fn seen(alloc: Global, ctime: i64) -> Result<Seen, Fail> {
     })
 }
 
-/// What a start of a realm at a second makes of the journal, and the journals.
+/// Returns what a start of a realm at a second decides by the journals, and the journals.
 fn look(rt: &HostRuntime, realm: &[u8], second: i64) -> Result<(Start, OpenedJournals), Fail> {
     let Ok(opened) = open_journals(rt.alloc(), rt, PATH) else {
         return Err(Fail::from("the journals"));
@@ -48,7 +50,7 @@ fn decide(alloc: Global, realm: &[u8], second: i64, journals: &Journals) -> Resu
     Ok(start_of(alloc, &place, &journals.older, &journals.newer)?)
 }
 
-/// Why a start at this second does not resume, or with which floor and how many authenticators it does.
+/// Returns the floor and the number of authenticators with which a start at this second resumes, or why it doesn't.
 fn found(rt: &HostRuntime, second: i64) -> Result<Result<(i64, usize), Doubt>, Fail> {
     let (start, _) = look(rt, b"A.B", second)?;
     match start {
@@ -57,8 +59,8 @@ fn found(rt: &HostRuntime, second: i64) -> Result<Result<(i64, usize), Doubt>, F
     }
 }
 
-/// A server starts at this second, and then remembers authenticators of these times, each in its second. Returns whether
-/// all were kept.
+/// Starts a server at this second, which then records authenticators with these times, each in its second. Returns
+/// whether all were kept.
 fn serve(rt: &HostRuntime, second: i64, times: &[i64]) -> Result<bool, Fail> {
     let (start, opened) = look(rt, b"A.B", second)?;
     let beginning = JournalBeginning {
@@ -81,6 +83,11 @@ fn serve(rt: &HostRuntime, second: i64, times: &[i64]) -> Result<bool, Fail> {
 fn clear(rt: &HostRuntime) {
     let _ = fs::remove_file(rt, PATH);
     let _ = fs::remove_file(rt, OLDER);
+    let _ = fs::remove_file(rt, LOCK);
+}
+
+fn opens(rt: &HostRuntime) -> bool {
+    open_journals(rt.alloc(), rt, PATH).is_ok()
 }
 
 #[test]
@@ -90,13 +97,13 @@ fn a_start_resumes_with_what_was_kept(rt: HostRuntime) -> Result<(), Fail> {
     assert!(rt; serve(&rt, T, &[T + 1, T + 2])?, "the records");
     assert_eq!(rt; found(&rt, T + 2)?, Ok((T + 301, 2)));
     assert_eq!(rt; found(&rt, T + 1)?, Err(Doubt::Later));
-    // It goes on behind what was read, and takes turns.
+    // It appends to what was read, and the files take turns.
     assert!(rt;
         serve(&rt, T + 10, &[T + 600, T + 601, T + 602])?,
         "the records"
     );
     assert_eq!(rt; found(&rt, T + 602)?, Ok((T + 302, 5)));
-    // The first file is dropped, and nothing is refused for it.
+    // The first file is dropped, and no start is refused because of that.
     assert!(rt; serve(&rt, T + 610, &[T + 1_202])?, "the records");
     assert_eq!(rt; found(&rt, T + 1_202)?, Ok((T + 902, 3)));
     fs::remove_file(&rt, OLDER)?;
@@ -116,7 +123,19 @@ fn a_start_resumes_with_what_was_kept(rt: HostRuntime) -> Result<(), Fail> {
 }
 
 #[test]
-fn a_file_of_others_is_no_journal(rt: HostRuntime) -> Result<(), Fail> {
+fn a_journal_has_one_server(rt: HostRuntime) -> Result<(), Fail> {
+    clear(&rt);
+    // There is no file yet, as in the moment in which the files take turns.
+    let (_, held) = look(&rt, b"A.B", T)?;
+    assert!(rt; !opens(&rt), "a second server");
+    drop(held);
+    assert!(rt; opens(&rt), "the next one");
+    clear(&rt);
+    Ok(())
+}
+
+#[test]
+fn a_file_that_others_can_write_is_not_a_journal(rt: HostRuntime) -> Result<(), Fail> {
     clear(&rt);
     assert!(rt; serve(&rt, T, &[T + 1])?, "the records");
     for (mode, wanted) in [

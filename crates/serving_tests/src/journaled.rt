@@ -1,10 +1,10 @@
-//! A wire with a journal (`kdcd_start`): what it hands over, and which actions wait for it.
+//! Tests of a wire with a journal (`kdcd_start`): what it records, and which actions wait for a record.
 ghost use Rattle.std.specs.Prelude.{◌≡◌};
 ghost use Rattle.std.specs.Result.{is_ok};
 
 use kdc_core::Seen;
 use kdc_hub::{Action, CloseReason, Event, MemoryWire, Peer, Reply, Wire};
-use kdcd_start::{JournalWire, JournalWriter, NotKept};
+use kdcd_start::{JournalWire, JournalWriter, NotKept, QuietWire};
 use krb_elements::Octets;
 use krb_fields::{Moment, Name};
 use std::alloc::{AllocError, Global};
@@ -15,10 +15,10 @@ use std::test::Fail;
 /// When the only event comes.
 const AT: i64 = 1_704_067_200;
 
-/// A call of a journal.
+/// A call to a journal.
 #[derive(Clone, Copy, Debug, PartialEq, Eq)]
 enum Call {
-    /// An authenticator of this time, at this second.
+    /// Keeps an authenticator with the second time, at the first one.
     Keep(i64, i64),
     Mend(i64),
 }
@@ -27,9 +27,9 @@ enum Call {
 #[derive(Drop)]
 struct ListedJournal {
     calls: Vec<Call>,
-    /// How many calls fail.
+    /// The number of calls that fail.
     failures: usize,
-    /// Whether the last call did not fail.
+    /// Whether the last call succeeded.
     whole: bool,
 }
 
@@ -66,7 +66,7 @@ impl JournalWriter for ListedJournal {
 /// An action that answers a request.
 #[derive(Clone, Copy)]
 enum Answer {
-    /// A datagram, by whose request the KDC remembers an authenticator of this time.
+    /// A datagram, whose request leaves an authenticator with this time in the replay cache.
     Remembers(i64),
     Datagram,
     Message,
@@ -116,8 +116,8 @@ fn seen(alloc: Global, ctime: i64) -> Result<Seen, Fail> {
     })
 }
 
-/// What a wire did with actions, of whose journal the first calls fail: the calls of the journal, how many of the actions
-/// were done, and how many calls failed.
+/// Does actions over a wire whose journal fails at its first calls. Returns the calls of the journal, the number of
+/// actions that were done, and the number of failed calls.
 fn done(
     alloc: Global,
     answers: &[Answer],
@@ -131,12 +131,13 @@ fn done(
         failures,
         whole: true,
     };
-    let mut wire = JournalWire::new(MemoryWire::new(alloc, events, None), Some(journal));
+    let inner = QuietWire::new(MemoryWire::new(alloc, events, None), None);
+    let mut wire = JournalWire::new(inner, Some(journal));
     let _ = wire.poll(alloc);
     for answer in answers {
         let _ = wire.act(alloc, &action(alloc, *answer)?);
     }
-    let did = wire.wire().did().ok_or("a record")?;
+    let did = wire.wire().wire().did().ok_or("a record")?;
     let calls = match wire.journal() {
         Some(journal) => copied(alloc, &journal.calls)?,
         None => Err("the journal")?,
@@ -163,7 +164,7 @@ fn a_reply_waits_for_its_record(rt: HostRuntime) -> Result<(), Fail> {
             2,
             0,
         ),
-        // Not even another reply is sent: it might be the one that was not sent.
+        // No other reply is sent either: it might be the reply that was withheld.
         (
             [Answer::Remembers(AT - 5), Answer::Message],
             2,
@@ -178,7 +179,7 @@ fn a_reply_waits_for_its_record(rt: HostRuntime) -> Result<(), Fail> {
             1,
             1,
         ),
-        // Without a reply there is nothing to wait for.
+        // An action without a reply waits for nothing.
         ([Answer::Nothing, Answer::Close], 1, &[], 2, 0),
     ] {
         let (found, done, failed) = done(alloc, &answers, failures)?;

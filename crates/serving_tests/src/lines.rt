@@ -1,4 +1,4 @@
-//! The lines of a log (`request_log`, `kdcd_start`), for each rule and each outcome. Rules have the names of
+//! Tests of the lines of a log (`request_log`, `kdcd_start`), for each rule and each outcome. Rules have the names of
 //! `docs/PROTOCOL.md`, and the codes of RFC 4120, section 7.5.9. The moment is the first second of 2024.
 use enctypes::Etype;
 use kdc_core::{Account, AsOutcome, AsRefusal, Bears, Granted, TgsOutcome, TgsRefusal};
@@ -15,7 +15,7 @@ use ticket_times::Times;
 /// The first second of 2024.
 const MIDNIGHT: i64 = 1_704_067_200;
 
-/// What became of a request.
+/// The outcome of a request.
 #[derive(Clone, Copy)]
 enum Became {
     NoRequest,
@@ -25,12 +25,12 @@ enum Became {
     Refused(TgsRefusal),
     TooBig,
     Resent(Bears),
-    /// A ticket of these flags, for so many seconds, that can be renewed for so many.
+    /// A ticket with these flags, a lifetime in seconds, and the seconds until which it can be renewed.
     Login(u32, i64, Option<i64>),
     Ticket(u32, i64, Option<i64>),
 }
 
-/// What became of a request of `u` for `krbtgt/A.B`, and what stands on its line behind the asker.
+/// The outcome of a request of `u` for `krbtgt/A.B`, and its line after the peer.
 type Case = (Became, &'static str);
 
 const LOGINS: &[Case] = &[
@@ -55,8 +55,12 @@ const LOGINS: &[Case] = &[
         "refused 7 service-unknown rule=service-denied",
     ),
     (
-        Became::LoginRefused(AsRefusal::ClientRevoked),
-        "refused 18 client-revoked rule=client-revoked",
+        Became::LoginRefused(AsRefusal::ClientDisabled),
+        "refused 18 client-revoked rule=client-disabled",
+    ),
+    (
+        Became::LoginRefused(AsRefusal::ClientLocked),
+        "refused 18 client-revoked rule=client-locked",
     ),
     (
         Became::LoginRefused(AsRefusal::ClientExpired),
@@ -207,8 +211,8 @@ const LATER_TICKETS: &[Case] = &[
         "refused 6 client-unknown rule=client-unknown",
     ),
     (
-        Became::Refused(TgsRefusal::ClientRevoked),
-        "refused 18 client-revoked rule=client-revoked",
+        Became::Refused(TgsRefusal::ClientDisabled),
+        "refused 18 client-revoked rule=client-disabled",
     ),
     (
         Became::Refused(TgsRefusal::ClientExpired),
@@ -371,7 +375,7 @@ fn account(
     })
 }
 
-/// The line of a request from `192.0.2.7:53122` by UDP.
+/// Returns the line of a request from `192.0.2.7:53122` over UDP.
 fn line(
     alloc: Global,
     format: LogFormat,
@@ -392,7 +396,7 @@ fn line(
     Ok(String::from_utf8(line)?)
 }
 
-/// The place of the first case whose line is another one.
+/// Returns the place of the first case with another line.
 fn first_other(alloc: Global, exchange: &str, cases: &[Case]) -> Result<Option<usize>, Fail> {
     for (place, (became, wanted)) in cases.iter().enumerate() {
         let client = Some(Name::from_text(alloc, "u")?);
@@ -421,7 +425,7 @@ fn each_outcome_of_a_ticket_request_has_its_line(rt: HostRuntime) -> Result<(), 
     Ok(())
 }
 
-/// The line of a request that has no names, behind the asker.
+/// Returns the line of a request without names, after the peer.
 fn nameless(alloc: Global, became: Became) -> Result<String, Fail> {
     let line = line(alloc, LogFormat::Text, None, None, became)?;
     let front = "2024-01-01T00:00:00Z 192.0.2.7:53122 udp ";
@@ -429,7 +433,7 @@ fn nameless(alloc: Global, became: Became) -> Result<String, Fail> {
 }
 
 #[test]
-fn what_has_no_name_shows_a_dash(rt: HostRuntime) -> Result<(), Fail> {
+fn a_request_without_names_shows_dashes(rt: HostRuntime) -> Result<(), Fail> {
     let alloc = rt.alloc();
     let refused = Became::LoginRefused(AsRefusal::ClientUnknown);
     assert_eq!(rt; nameless(alloc, Became::NoRequest)?.as_str(), "none\n");
@@ -444,7 +448,7 @@ fn what_has_no_name_shows_a_dash(rt: HostRuntime) -> Result<(), Fail> {
     Ok(())
 }
 
-/// The client of a line, whose name has these components.
+/// Returns the client on a line, for a name with these components.
 fn client_on_line(alloc: Global, components: &[&[u8]]) -> Result<String, Fail> {
     let name = Name::new(alloc, 1, components)?;
     let refused = Became::LoginRefused(AsRefusal::ClientUnknown);
@@ -519,7 +523,7 @@ fn a_line_of_json_has_the_same_fields(rt: HostRuntime) -> Result<(), Fail> {
     Ok(())
 }
 
-/// What a log writes for octets that are no request.
+/// Returns the line for bytes that are not a request.
 fn written(alloc: Global, asker: Asker) -> Result<String, Fail> {
     let mut log = RequestLines::new(Vec::new(alloc), LogFormat::Text);
     log.write_entry(alloc, now()?, asker, Some(&Account::NoRequest));
@@ -547,7 +551,7 @@ fn a_line_says_who_asked(rt: HostRuntime) -> Result<(), Fail> {
     Ok(())
 }
 
-/// How many of three lines are lost, with place for so many octets.
+/// Returns how many of three lines are lost if there is only room for these bytes.
 fn lost_of_three(alloc: Global, place: &mut [u8]) -> Result<u64, Fail> {
     let asker = Asker {
         transport: Transport::Udp,

@@ -1,4 +1,4 @@
-//! The life of a server, with one request before each look for new rows.
+//! Tests of a server's life, with one request before each look for new rows.
 ghost use Rattle.std.specs.Prelude.{None};
 
 use crate::octets::{
@@ -22,11 +22,11 @@ use std::collections::VecDeque;
 use std::net::{Ipv4Addr, SocketAddr};
 use std::test::Fail;
 
-/// What looks find, in order. Then there are no others.
+/// Looks, in order. After the last one, rows are unchanged.
 #[derive(Drop)]
 struct ListedLooks {
     looks: VecDeque<Look>,
-    /// How often the rows were of another realm.
+    /// How often the rows were another realm's.
     refused: u32,
 }
 
@@ -47,7 +47,7 @@ impl RowSource for ListedLooks {
     }
 }
 
-/// What a look finds.
+/// The result of a look.
 #[derive(Clone, Copy)]
 enum Found {
     Same,
@@ -56,7 +56,7 @@ enum Found {
     Fault,
 }
 
-/// What a look finds, the request that comes next, and what its reply begins with.
+/// The result of a look, the next request, and the first bytes of its reply.
 type Period = (Found, &'static [u8], &'static [u8]);
 
 const FIRST_ROWS: &[RowOf] = &[SERVICE, GRANTER, USER];
@@ -78,10 +78,10 @@ const LIFE: &[Period] = &[
         LOGIN,
         CLIENT_REVOKED,
     ),
-    // What was remembered stays.
+    // Replay caches are kept.
     (Found::Same, FOR_SERVICE, SERVICE_TICKET),
     (Found::Same, SAME_AUTHENTICATOR, REPEAT),
-    // New keys of the services. Tickets under the older ones are taken until those are dropped.
+    // New keys of the services. Tickets under the older keys are accepted until those are dropped.
     (
         Found::Rows(&[NEWER_SERVICE, NEWER_GRANTER, USER]),
         NEXT_AUTHENTICATOR,
@@ -114,7 +114,7 @@ fn source(alloc: Global) -> Result<ListedLooks, Fail> {
     Ok(ListedLooks { looks, refused: 0 })
 }
 
-/// So many seconds after the requests.
+/// Returns the moment this many seconds after the requests.
 fn at(later: u16) -> Result<Moment, Fail> {
     Ok(Moment::new(1_704_067_200 + i64::from(later), 0).ok_or("a moment")?)
 }
@@ -126,7 +126,7 @@ fn peer(port: u16) -> Peer {
     }
 }
 
-/// The requests, each from a peer of its own, and behind each 15 events that ask for nothing: 16 rounds.
+/// Returns a wire with the requests, each from its own peer and followed by 15 other events: 16 rounds.
 fn wire(alloc: Global) -> Result<MemoryWire, Fail> {
     let mut events = VecDeque::new(alloc);
     for (port, (_, request, _)) in (0..).zip(LIFE) {
@@ -157,7 +157,7 @@ fn serve_rounds(
     Ok(serve_life(alloc, wire, source, &mut hub, rounds))
 }
 
-/// What was sent to the peer of this port.
+/// Returns the reply to the peer with this port.
 fn reply_to(did: &[Did], port: u16) -> Option<&[u8]> {
     for call in did {
         if let Did::Acted {
@@ -181,7 +181,7 @@ fn begins(alloc: Global, reply: Option<&[u8]>, digits: &[u8]) -> Result<bool, Fa
 }
 
 #[test]
-fn rows_that_change_are_served_and_nothing_is_forgotten(rt: HostRuntime) -> Result<(), Fail> {
+fn changed_rows_are_served_and_replay_caches_are_kept(rt: HostRuntime) -> Result<(), Fail> {
     let alloc = rt.alloc();
     let mut wire = wire(alloc)?;
     let mut source = source(alloc)?;
@@ -192,14 +192,14 @@ fn rows_that_change_are_served_and_nothing_is_forgotten(rt: HostRuntime) -> Resu
     for (port, (_, _, reply)) in (0..).zip(LIFE) {
         assert!(rt; begins(alloc, reply_to(did, port), reply)?, "{port}");
     }
-    // The same request gets the very reply that it got before the rows were replaced.
+    // The same request gets the same reply as before the rows were replaced.
     let first = reply_to(did, 4);
     assert!(rt; reply_to(did, 6) == first && reply_to(did, 9) == first);
     Ok(())
 }
 
-/// A request from a peer of its own, and behind it 15 events that ask for nothing, at a later moment: 16 rounds. Then
-/// the same again.
+/// Returns a wire with a request that comes twice, each time from another peer and followed by 15 other events at a
+/// later moment: 16 rounds.
 fn asked_twice(alloc: Global, later: u16) -> Result<MemoryWire, Fail> {
     let mut events = VecDeque::new(alloc);
     for port in 0..2u16 {
@@ -213,7 +213,7 @@ fn asked_twice(alloc: Global, later: u16) -> Result<MemoryWire, Fail> {
     Ok(MemoryWire::new(alloc, events, None))
 }
 
-/// Whether the second request gets the reply of the first, and what stands where an error has its code.
+/// Returns whether both requests get the same reply, and the byte of the second reply that is an error's code.
 fn second_reply(alloc: Global, later: u16) -> Result<(bool, Option<u8>), Fail> {
     let mut wire = asked_twice(alloc, later)?;
     let mut source = ListedLooks {
@@ -229,10 +229,10 @@ fn second_reply(alloc: Global, later: u16) -> Result<(bool, Option<u8>), Fail> {
 }
 
 #[test]
-fn what_is_too_old_to_come_again_is_forgotten(rt: HostRuntime) -> Result<(), Fail> {
+fn an_authenticator_too_old_to_come_again_is_dropped(rt: HostRuntime) -> Result<(), Fail> {
     let (is_same, _) = second_reply(rt.alloc(), 300)?;
     assert!(rt; is_same);
-    // Its authenticator was forgotten 301 seconds later, and is too old since then, also where the clock goes back.
+    // Its authenticator is dropped after 301 seconds, and is too old from then on, even if the clock goes back.
     let (_, code) = second_reply(rt.alloc(), 301)?;
     assert!(rt; code == Some(37), "{code:?}");
     Ok(())

@@ -1,4 +1,4 @@
-//! A wire with a log (`kdcd_start`), over a hub that keeps accounts, in memory: the log of a few events.
+//! Tests of a wire with a log (`kdcd_start`) in memory, over a hub that keeps accounts: the log of a few events.
 use crate::octets::LOGIN;
 use crate::rows::{GRANTER, NEW_USER, database};
 use kdc_core::{Kdc, Opening};
@@ -15,7 +15,7 @@ use std::net::{Ipv4Addr, SocketAddr};
 use std::str;
 use std::test::Fail;
 
-/// What comes on a wire.
+/// An event on a wire.
 #[derive(Clone, Copy)]
 enum Comes {
     /// A datagram from this port.
@@ -26,7 +26,7 @@ enum Comes {
     Logins(u64),
 }
 
-/// A login; what is no request; the same on a connection, and a length that is too large; and two logins at once.
+/// A login; bytes that are not a request; the same on a connection; a length that is too large; and two logins at once.
 const EVENTS: &[Comes] = &[
     Comes::Datagram(1001, LOGIN),
     Comes::Datagram(1002, b"78"),
@@ -68,7 +68,7 @@ fn event(alloc: Global, comes: Comes) -> Result<Event, Fail> {
     })
 }
 
-/// Two logins, each behind its length.
+/// Returns two logins, each after its length.
 fn logins(alloc: Global) -> Result<Vec<u8>, Fail> {
     let login = hex::decode(alloc, LOGIN)?;
     let length = u32::try_from(login.len())?.to_be_bytes();
@@ -96,7 +96,8 @@ fn hub(alloc: Global) -> Result<Hub<ChaCha20Rng>, Fail> {
     Ok(Hub::new(alloc, kdc, ChaCha20Rng::from_seed([0; 32]), true))
 }
 
-/// The lines of the log after all events. After so many polls and acts one fails, if any is to.
+/// Returns the lines of the log after all events. If `calls_before_fault` is given, a poll or act fails after that
+/// many.
 fn lines(alloc: Global, calls_before_fault: Option<u64>) -> Result<String, Fail> {
     let log = RequestLines::new(Vec::new(alloc), LogFormat::Text);
     let mut wire = LoggedWire::new(wire(alloc, calls_before_fault)?, Some(log));
@@ -108,7 +109,7 @@ fn lines(alloc: Global, calls_before_fault: Option<u64>) -> Result<String, Fail>
 
 #[test]
 fn each_request_has_a_line(rt: HostRuntime) -> Result<(), Fail> {
-    // Whether or not a reply can be sent: the first one, or the first of two on one connection, which is then lost.
+    // They do even if a reply can't be sent: the first one, or the first of two on one connection, which is then lost.
     for calls_before_fault in [None, Some(1), Some(13)] {
         assert_eq!(rt; lines(rt.alloc(), calls_before_fault)?.as_str(), LINES);
     }

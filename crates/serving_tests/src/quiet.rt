@@ -1,4 +1,4 @@
-//! A wire that is quiet after a start (`kdcd_start`): which actions it withholds, and until when.
+//! Tests of a wire that is quiet after a start (`kdcd_start`): which actions it withholds, and until when.
 use kdc_core::{Account, TgsOutcome, TgsRefusal};
 use kdc_hub::{Action, Event, MemoryWire, Peer, Reply, Wire};
 use kdcd_start::QuietWire;
@@ -9,11 +9,11 @@ use std::collections::VecDeque;
 use std::net::{Ipv4Addr, SocketAddr};
 use std::test::Fail;
 
-/// The second before which nothing is sent.
+/// The second until which refusals are withheld.
 const UNTIL: i64 = 1_704_067_501;
 
-/// How many polls and acts reach the inner wire, of a poll at this second and of an act that sends a TGS-REQ's refusal by
-/// this rule.
+/// Polls a wire at this second, and sends the refusal of a TGS-REQ by this rule. Returns how many of the two calls
+/// reach the inner wire.
 fn calls(alloc: Global, second: i64, until: Option<i64>, rule: TgsRefusal) -> Result<usize, Fail> {
     let at = Moment::new(second, 0).ok_or("a moment")?;
     let mut events = VecDeque::new(alloc);
@@ -46,7 +46,7 @@ fn refusal(alloc: Global, rule: TgsRefusal) -> Result<Action, Fail> {
 }
 
 #[test]
-fn refusals_as_skewed_are_withheld_up_to_the_second(rt: HostRuntime) -> Result<(), Fail> {
+fn refusals_for_clock_skew_are_withheld_up_to_the_second(rt: HostRuntime) -> Result<(), Fail> {
     for (second, until, rule, wanted) in [
         (UNTIL - 1, Some(UNTIL), TgsRefusal::Skewed, 1),
         (UNTIL, Some(UNTIL), TgsRefusal::Skewed, 2),

@@ -1,13 +1,13 @@
-//! Databases of a few rows, in their text format (`docs/FORMATS.md`, version 2).
+//! Databases with a few rows, in their text format (`docs/FORMATS.md`, version 2).
 use principals::Database;
 use std::alloc::{AllocError, Global};
 use std::test::Fail;
 
-/// What rows differ in. The rest is the policy of a new principal.
+/// The fields in which rows differ. The rest is the policy of a new principal.
 #[derive(Clone, Copy)]
 pub struct RowOf {
     name: &'static str,
-    /// The keys' digits, of type 18, with the numbers of their versions, the current one first.
+    /// The digits of the keys, of type 18, each with its key version, the current one first.
     keys: &'static [(&'static str, u32)],
     disabled: bool,
     preauth: bool,
@@ -32,7 +32,7 @@ pub const GRANTER: RowOf = RowOf {
     preauth: true,
 };
 
-/// That of another realm.
+/// The ticket-granting service of another realm.
 pub const OTHER_GRANTER: RowOf = RowOf {
     name: "krbtgt/C.D",
     keys: &[(GRANTER_KEY, 1)],
@@ -40,7 +40,7 @@ pub const OTHER_GRANTER: RowOf = RowOf {
     preauth: true,
 };
 
-/// With new keys.
+/// The ticket-granting service with new keys.
 pub const NEWER_GRANTER: RowOf = RowOf {
     name: "krbtgt/A.B",
     keys: &[(NEWER_GRANTER_KEY, 2), (GRANTER_KEY, 1)],
@@ -48,7 +48,7 @@ pub const NEWER_GRANTER: RowOf = RowOf {
     preauth: true,
 };
 
-/// Without its first keys.
+/// The ticket-granting service without its first keys.
 pub const LAST_GRANTER: RowOf = RowOf {
     name: "krbtgt/A.B",
     keys: &[(NEWER_GRANTER_KEY, 2)],
@@ -85,7 +85,7 @@ pub const SERVICE: RowOf = RowOf {
     preauth: true,
 };
 
-/// With new keys.
+/// The service with new keys.
 pub const NEWER_SERVICE: RowOf = RowOf {
     name: "h",
     keys: &[(NEWER_SERVICE_KEY, 2), (SERVICE_KEY, 1)],
@@ -93,13 +93,13 @@ pub const NEWER_SERVICE: RowOf = RowOf {
     preauth: true,
 };
 
-/// A database with these rows, which stand in the order of their names.
+/// Returns a database with these rows, in the order of their names.
 pub fn database(alloc: Global, realm: &str, rows: &[RowOf]) -> Result<Database, Fail> {
     let text = text_of(alloc, realm, rows)?;
     Ok(Database::read(alloc, &text)?)
 }
 
-/// The text of such a database.
+/// Returns the text of such a database.
 pub fn text_of(alloc: Global, realm: &str, rows: &[RowOf]) -> Result<String, AllocError> {
     let mut texts = Vec::new(alloc);
     for row in rows {

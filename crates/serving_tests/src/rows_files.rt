@@ -1,4 +1,4 @@
-//! A file of rows (`kdcd_start`) that is replaced, broken, removed and put back.
+//! Tests of a file of rows (`kdcd_start`) that is replaced, broken, removed and put back.
 use crate::rows::{GRANTER, NEW_USER, RowOf, SERVICE, USER, text_of};
 use kdc_serving::{Look, OtherRealm, RowSource};
 use kdcd_start::RowsFile;
@@ -16,10 +16,10 @@ const ROWS: &[RowOf] = &[SERVICE, GRANTER, USER];
 
 const MORE_ROWS: &[RowOf] = &[SERVICE, GRANTER, USER, NEW_USER];
 
-/// What is done at the path.
+/// A change at the path.
 #[derive(Clone, Copy)]
 enum Deed {
-    /// A file with these rows is put in the place of what is there.
+    /// A file with these rows replaces the old one.
     Replace(&'static [RowOf]),
     Write(&'static [u8]),
     Remove,
@@ -35,7 +35,7 @@ enum Seen {
     Failed,
 }
 
-/// What is done, and what the next look finds.
+/// Changes, each with the result of the next look.
 const DEEDS: &[(Deed, Seen)] = &[
     (Deed::Nothing, Seen::Unchanged),
     (Deed::Replace(MORE_ROWS), Seen::Changed),
@@ -53,10 +53,10 @@ const DEEDS: &[(Deed, Seen)] = &[
     (Deed::Nothing, Seen::Unchanged),
 ];
 
-/// What is said of them, and then of another realm.
+/// The lines about them, and then about another realm.
 const SAID: &str = "\
 kdcd: database tested.database with 4 rows
-kdcd: database: NotJson; the rows before it stay
+kdcd: database: NotJson (EOF while parsing at line 1 column 1); the rows before it stay
 kdcd: database: BadVersion; the rows before it stay
 kdcd: database tested.database with 3 rows
 kdcd: database: No such file or directory (os error 2); the rows before it stay
@@ -66,7 +66,7 @@ kdcd: database tested.database with 3 rows
 kdcd: database: OtherRealm; the rows before it stay
 ";
 
-/// What is said at the second look, where the first line was lost.
+/// The line at the second look, if the first line was lost.
 const LATER: &str = "kdcd: database tested.database with 4 rows\n";
 
 fn replace(rt: &HostRuntime, rows: &[RowOf]) -> Result<(), Fail> {
@@ -97,7 +97,7 @@ fn look(alloc: Global, source: &mut impl RowSource) -> Seen {
     }
 }
 
-/// The first look that finds another thing than it should.
+/// Returns the first look with another result than expected.
 fn first_odd(rt: &HostRuntime, source: &mut impl RowSource) -> Result<Option<usize>, Fail> {
     for (place, (deed, wanted)) in DEEDS.iter().enumerate() {
         do_deed(rt, *deed)?;
@@ -129,7 +129,7 @@ impl Write for FailingOnce<'_> {
     }
 }
 
-/// What is said of a file that is replaced, where the first line is lost.
+/// Returns the lines about a file that is replaced, if the first line is lost.
 fn said_later(rt: &HostRuntime) -> Result<Vec<u8>, Fail> {
     let mut said = Vec::new(rt.alloc());
     let lines = FailingOnce {
@@ -147,7 +147,7 @@ fn said_later(rt: &HostRuntime) -> Result<Vec<u8>, Fail> {
     Ok(said)
 }
 
-/// What is said, where each look finds what it should.
+/// Returns the lines, if each look has its expected result.
 fn said(rt: &HostRuntime) -> Result<Vec<u8>, Fail> {
     let mut said = Vec::new(rt.alloc());
     let mut source = RowsFile::new(rt, PATH, &mut said);
@@ -160,7 +160,7 @@ fn said(rt: &HostRuntime) -> Result<Vec<u8>, Fail> {
 }
 
 #[test]
-fn a_file_is_read_when_it_changes_and_its_faults_are_said_once(
+fn a_file_is_read_when_it_changes_and_its_faults_are_reported_once(
     rt: HostRuntime,
 ) -> Result<(), Fail> {
     replace(&rt, ROWS)?;

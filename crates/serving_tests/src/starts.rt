@@ -1,4 +1,4 @@
-//! The meaning of the words of `kdcd serve`, and which files it accepts (`kdcd_start`).
+//! Tests of the options of `kdcd serve`, and of the files that it accepts (`kdcd_start`).
 use crate::rows::{GRANTER, text_of};
 use clap::ArgMatches;
 use journal::Doubt;
@@ -14,25 +14,25 @@ use std::io::Read;
 use std::net::SocketAddr;
 use std::test::Fail;
 
-/// How options begin, as `derive(Debug)` writes them.
-const TAKEN: &str = "ServeOptions {";
+/// The beginning of options, as `derive(Debug)` writes them.
+const ACCEPTED: &str = "ServeOptions {";
 
-/// What stands behind `kdcd serve`, and how that begins which is made of it: options, or what is said of a fault. An
-/// empty word has a space on each side.
+/// The words after `kdcd serve`, and the beginning of the options or of the error. An empty word has a space on each
+/// side.
 const LINES: &[(&str, &str)] = &[
     (
         "--db d --udp 127.0.0.1:88 --tcp [::1]:88 --rounds 007 --seed s",
-        TAKEN,
+        ACCEPTED,
     ),
     (
         "--db d --udp 127.0.0.1:88 --tcp [::1]:88 --rounds 4294967295 --seed s --first",
-        TAKEN,
+        ACCEPTED,
     ),
     ("--db d --udp 127.0.0.1:88 --rounds 4294967296", "--rounds"),
     ("--db d --udp 127.0.0.1:88 --rounds +7", "--rounds"),
     ("--db d --udp 127.0.0.1:88 --rounds -7", "--rounds"),
     ("--db d --udp 127.0.0.1:88 --rounds many", "--rounds"),
-    ("--db d --tcp [::1]:88 --seed s --fixed --log", TAKEN),
+    ("--db d --tcp [::1]:88 --seed s --fixed --log", ACCEPTED),
     ("--db d --udp 127.0.0.1 --tcp [::1]:88", "--udp"),
     ("--db d --udp 127.0.0.1:88 --tcp localhost:88", "--tcp"),
     ("--db d --udp 127.0.0.1:88 --udp 127.0.0.2", "--udp"),
@@ -41,7 +41,7 @@ const LINES: &[(&str, &str)] = &[
         "\
             --db d --udp 127.0.0.1:1 --udp 127.0.0.1:2 --udp 127.0.0.1:3 --udp 127.0.0.1:4 --tcp [::1]:1 \
             --tcp [::1]:2 --tcp [::1]:3 --tcp [::1]:4",
-        TAKEN,
+        ACCEPTED,
     ),
     (
         "\
@@ -49,8 +49,8 @@ const LINES: &[(&str, &str)] = &[
             --tcp [::1]:2 --tcp [::1]:3 --tcp [::1]:4 --tcp [::1]:5",
         "--udp",
     ),
-    ("--db d --udp 127.0.0.1:88 --remembered 1", TAKEN),
-    ("--db d --udp 127.0.0.1:88 --remembered 65536", TAKEN),
+    ("--db d --udp 127.0.0.1:88 --remembered 1", ACCEPTED),
+    ("--db d --udp 127.0.0.1:88 --remembered 65536", ACCEPTED),
     ("--db d --udp 127.0.0.1:88 --remembered 0", "--remembered"),
     (
         "--db d --udp 127.0.0.1:88 --remembered 65537",
@@ -60,18 +60,20 @@ const LINES: &[(&str, &str)] = &[
     ("--db d --udp 127.0.0.1:88 --remembered -1", "--remembered"),
     (
         "--db d --udp 127.0.0.1:88 --lock-after 0 --lock-seconds 0 --greatest-life 0 --greatest-renewable 0",
-        TAKEN,
+        ACCEPTED,
     ),
     (
         "\
             --db d --udp 127.0.0.1:88 --lock-after 4294967295 --lock-seconds 4294967295 --greatest-life 4294967295 \
             --greatest-renewable 4294967295",
-        TAKEN,
+        ACCEPTED,
     ),
     (
-        "--db d --udp 127.0.0.1:88 --lock-after 4294967296",
+        "--db d --udp 127.0.0.1:88 --lock-after 4294967296 --lock-seconds 1",
         "--lock-after",
     ),
+    ("--db d --udp 127.0.0.1:88 --lock-after 3", "--lock-after"),
+    ("--db d --udp 127.0.0.1:88 --lock-seconds 3", ACCEPTED),
     (
         "--db d --udp 127.0.0.1:88 --lock-seconds 4294967296",
         "--lock-seconds",
@@ -118,7 +120,7 @@ const LINES: &[(&str, &str)] = &[
     ),
 ];
 
-/// What stands behind `kdcd serve`, and its options, as `derive(Debug)` writes them. Each flag stands alone once.
+/// The words after `kdcd serve`, and the options, as `derive(Debug)` writes them. Each flag is once the only one.
 const OPTIONS: &[(&str, &str)] = &[
     (
         "\
@@ -183,8 +185,7 @@ fn args_of(alloc: Global, line: &str) -> Result<Vec<String>, AllocError> {
     Ok(args)
 }
 
-/// What is made of these words behind `kdcd serve`: its options, as `derive(Debug)` writes them, or what is said of a
-/// fault.
+/// Returns the options for these words after `kdcd serve`, as `derive(Debug)` writes them, or the error.
 fn read_text(alloc: Global, words: &str) -> Result<String, Fail> {
     let line = format!(in alloc; "kdcd serve {words}")?;
     let args = args_of(alloc, &line)?;
@@ -230,7 +231,7 @@ kdcd: quiet start: they get no reply until then
 kdcd: limits: remembered 1, lock-after 2, lock-seconds 3, greatest-life 4, greatest-renewable 5
 ";
 
-/// What a server says that serves on these addresses, by this database and this journal, after a restart.
+/// Returns the lines of a server on these addresses, with this database and this journal, after a restart.
 fn started_text<'a>(
     alloc: Global,
     udp: &'a [SocketAddr],
@@ -259,7 +260,7 @@ fn started_text<'a>(
 }
 
 #[test]
-fn a_server_says_what_it_serves(rt: HostRuntime) -> Result<(), Fail> {
+fn a_server_reports_what_it_serves(rt: HostRuntime) -> Result<(), Fail> {
     let udp = ["192.0.2.1:88".parse()?, "[2001:db8::1]:88".parse()?];
     let tcp = ["192.0.2.1:88".parse()?];
     let text = started_text(
@@ -273,7 +274,7 @@ fn a_server_says_what_it_serves(rt: HostRuntime) -> Result<(), Fail> {
     Ok(())
 }
 
-/// The word for what stands in a file of a database, if it is refused.
+/// Returns the word for the content of a database's file, if it is refused.
 fn refusal_of(alloc: Global, octets: &[u8]) -> Option<&'static str> {
     match database_of(alloc, octets) {
         Ok(_) => None,
@@ -282,7 +283,7 @@ fn refusal_of(alloc: Global, octets: &[u8]) -> Option<&'static str> {
 }
 
 #[test]
-fn a_database_is_taken_or_refused_by_name(rt: HostRuntime) -> Result<(), Fail> {
+fn a_database_is_accepted_or_refused_by_name(rt: HostRuntime) -> Result<(), Fail> {
     let alloc = rt.alloc();
     let database = text_of(alloc, "A.B", &[GRANTER])?;
     assert_eq!(rt; refusal_of(alloc, database.as_bytes()), None);
@@ -302,14 +303,14 @@ fn a_database_is_taken_or_refused_by_name(rt: HostRuntime) -> Result<(), Fail> {
 }
 
 #[test]
-fn a_seed_is_the_first_32_octets(rt: HostRuntime) -> Result<(), Fail> {
+fn a_seed_is_the_first_32_bytes(rt: HostRuntime) -> Result<(), Fail> {
     let octets = [[7; 32].as_slice(), [8; 8].as_slice()].concat(rt.alloc())?;
     assert!(rt; matches!(seed_of(&octets), Ok(seed) if seed == [7; 32]));
     assert!(rt; matches!(seed_of(&octets[9..]), Err(FileFault::ShortSeed)));
     Ok(())
 }
 
-/// The word for a file of so many octets, of which 1,000 are taken at most, if it is refused.
+/// Returns the word for a file of this length, with a maximum of 1,000 bytes, if it is refused.
 fn refusal_of_length(alloc: Global, len: u64) -> Option<&'static str> {
     match read_at_most(alloc, std::io::repeat(0).take(len), 1_000) {
         Ok(_) => None,
@@ -318,14 +319,14 @@ fn refusal_of_length(alloc: Global, len: u64) -> Option<&'static str> {
 }
 
 #[test]
-fn a_file_has_a_greatest_length(rt: HostRuntime) {
+fn a_file_has_a_maximum_length(rt: HostRuntime) {
     assert_eq!(rt; refusal_of_length(rt.alloc(), 1_000), None);
     assert_eq!(rt; refusal_of_length(rt.alloc(), 1_001), Some("LongFile"));
 }
 
-/// A seed has another greatest length than a database, so no number is said.
+/// A seed and a database have different maximum lengths, so the message has no number.
 #[test]
-fn a_file_that_is_too_long_has_more_than_is_taken(rt: HostRuntime) -> Result<(), Fail> {
+fn a_file_that_is_too_long_is_reported_without_a_number(rt: HostRuntime) -> Result<(), Fail> {
     let fault = FileFault::LongFile;
     let text = format!(in rt.alloc(); "{fault}")?;
     assert_eq!(rt; text.as_str(), "it has more octets than are taken");

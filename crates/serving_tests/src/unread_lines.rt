@@ -1,5 +1,5 @@
-//! A log that nobody reads (`ready_writer`, `kdcd_start`): over a pipe that becomes full, over a pipe whose reader is
-//! gone, over a file, which takes everything, and over a file on a disk that is full for one write.
+//! Tests of a log that nobody reads (`ready_writer`, `kdcd_start`): over a pipe that becomes full, over a pipe whose
+//! reader is gone, over a file, and over a file on a disk that is full for one write.
 use kdc_core::Account;
 use kdcd_start::{LogFormat, LogWriter, RequestLines};
 use krb_fields::Moment;
@@ -12,16 +12,16 @@ use std::os::fd::{AsFd, BorrowedFd};
 use std::test::Fail;
 use std::{fs, io};
 
-/// Who sends octets that are no request.
+/// The peer, which sends bytes that are not a request.
 const PEER: &str = "[2001:db8:1111:2222:3333:4444:5555:6666]:65535";
 
-/// Their line, of 77 octets.
+/// The line of such a request, 77 bytes.
 const LINE: &str = "2024-01-01T00:00:00Z [2001:db8:1111:2222:3333:4444:5555:6666]:65535 udp none\n";
 
-/// More of these lines than a pipe holds, which is 65,536 octets.
+/// More of these lines than fit in a pipe, which holds 65,536 bytes.
 const MANY: u64 = 1_000;
 
-/// Writes the entries of so many requests to a log.
+/// Writes the entries of this many requests to a log.
 fn write_entries<W: Write + Drop>(
     alloc: Global,
     log: &mut RequestLines<W>,
@@ -45,7 +45,7 @@ fn lost_of_many<W: Write + Drop>(alloc: Global, lines: W) -> Result<u64, Fail> {
     Ok(log.lost())
 }
 
-/// How many of the lines are as wanted; none where one is not.
+/// Counts the lines, or returns `None` if one of them is not as expected.
 fn count_lines(text: &str, wanted: &str) -> Option<u64> {
     let mut count = 0u64;
     for line in text.split_inclusive('\n') {
@@ -57,7 +57,7 @@ fn count_lines(text: &str, wanted: &str) -> Option<u64> {
     Some(count)
 }
 
-/// All that is left in a pipe that nobody writes to any more.
+/// Returns the rest of a pipe after its writer is gone.
 fn rest_of(alloc: Global, reader: PipeReader) -> io::Result<String> {
     let mut reader = reader;
     let mut text = String::new(alloc);
@@ -66,7 +66,7 @@ fn rest_of(alloc: Global, reader: PipeReader) -> io::Result<String> {
 }
 
 #[test]
-fn a_pipe_that_nobody_reads_keeps_no_request_waiting(rt: HostRuntime) -> Result<(), Fail> {
+fn a_pipe_that_nobody_reads_delays_no_request(rt: HostRuntime) -> Result<(), Fail> {
     let alloc = rt.alloc();
     let (reader, writer) = io::pipe(&rt)?;
     let lost = lost_of_many(alloc, ReadyWriter::new(alloc, &rt, writer)?)?;
@@ -106,7 +106,7 @@ fn long_line(alloc: Global) -> Result<String, AllocError> {
     format!(in alloc; "{}\n", "x".repeat(alloc, 639)?)
 }
 
-/// Writes the line until it is refused, and gives how many were written whole.
+/// Writes the line until it is refused, and returns how many were written whole.
 fn fill(lines: &mut ReadyWriter<PipeWriter>, line: &str) -> Result<u64, Fail> {
     for count in 0..MANY {
         if let Err(error) = lines.write_all(line.as_bytes()) {
@@ -120,9 +120,7 @@ fn fill(lines: &mut ReadyWriter<PipeWriter>, line: &str) -> Result<u64, Fail> {
 }
 
 #[test]
-fn what_comes_behind_a_line_that_was_cut_has_a_line_of_its_own(
-    rt: HostRuntime,
-) -> Result<(), Fail> {
+fn text_after_a_cut_line_starts_a_new_line(rt: HostRuntime) -> Result<(), Fail> {
     let alloc = rt.alloc();
     let (mut reader, writer) = io::pipe(&rt)?;
     let mut lines = ReadyWriter::new(alloc, &rt, writer)?;
@@ -147,9 +145,7 @@ fn what_comes_behind_a_line_that_was_cut_has_a_line_of_its_own(
 }
 
 #[test]
-fn what_another_says_behind_a_line_that_was_cut_has_a_line_of_its_own(
-    rt: HostRuntime,
-) -> Result<(), Fail> {
+fn text_of_another_writer_after_a_cut_line_starts_a_new_line(rt: HostRuntime) -> Result<(), Fail> {
     let alloc = rt.alloc();
     let path = "shared_writer.log";
     let disk = FullDisk {
@@ -168,7 +164,7 @@ fn what_another_says_behind_a_line_that_was_cut_has_a_line_of_its_own(
     Ok(())
 }
 
-/// A file on a disk that has room for so many octets, and, after one write that it has none for, for all.
+/// A file on a disk with room for this many bytes. After one write without room, there is room for everything.
 #[derive(Drop)]
 struct FullDisk {
     file: File,
@@ -199,7 +195,7 @@ impl AsFd for FullDisk {
     }
 }
 
-/// What three requests leave of lines in a file on such a disk.
+/// Returns the lines of three requests in a file on such a disk.
 fn left_of_three(rt: &HostRuntime, path: &str, room: usize) -> Result<String, Fail> {
     let alloc = rt.alloc();
     let disk = FullDisk {
@@ -214,7 +210,7 @@ fn left_of_three(rt: &HostRuntime, path: &str, room: usize) -> Result<String, Fa
 }
 
 #[test]
-fn a_line_behind_lost_ones_tells_how_many_they_are(rt: HostRuntime) -> Result<(), Fail> {
+fn the_line_after_lost_ones_says_how_many(rt: HostRuntime) -> Result<(), Fail> {
     let alloc = rt.alloc();
     for (room, begun) in [(77, ""), (78, "2\n"), (153, LINE)] {
         let text = left_of_three(&rt, "full_disk.log", room)?;

@@ -23,7 +23,7 @@ use Rattle.ticket_times.specs.declared.ticket_terms.TicketTerms.{TicketTerms}
 use Rattle.tgs_opening.specs.Tickets.{is_named}
 use Rattle.tgs_opening.specs.declared.presented.Presented.{Presented}
 use Rattle.tgs_opening.specs.declared.refusal.TgsRefusal.{TgsRefusal}
-use Rattle.tgs_opening.specs.declared.refusal.TgsRefusal.TheVariants.{ClientUnknown, ClientRevoked, ClientExpired}
+use Rattle.tgs_opening.specs.declared.refusal.TgsRefusal.TheVariants.{ClientUnknown, ClientDisabled, ClientExpired}
 use Rattle.tgs_opening.specs.declared.refusal.TgsRefusal.TheVariants.{TicketRevoked}
 use Rattle.tgs_opening.specs.declared.refusal.TgsRefusal.TheVariants.{NotYetValid, TicketExpired, ServiceUnknown}
 use Rattle.tgs_opening.specs.declared.refusal.TgsRefusal.TheVariants.{ServiceDenied, ServiceRevoked, ServiceExpired}
@@ -51,7 +51,7 @@ is_ticket_revoked row authtime = holds_of (λ row. is_before authtime row.policy
 abbrev pub client_rules : TgsView → ℤ → ℤ → List (Rule TgsRefusal)
 client_rules v now authtime =
     (is_none v.client, ClientUnknown)  -- 3.3.3.1
-    ∷ (is_disabled v.client, ClientRevoked)  -- 3.3.3.1
+    ∷ (is_disabled v.client, ClientDisabled)  -- 3.3.3.1
     ∷ (is_expired v.client now, ClientExpired)  -- 3.3.3.1
     ∷ (is_ticket_revoked v.client authtime, TicketRevoked)  -- 3.3.3.1
     ∷ []

@@ -23,7 +23,7 @@ pub fn client_rules(view: &TgsView<'_>, at: Moment, authtime: i64) -> [(bool, Tg
 {
     [
         (view.client.is_none(), TgsRefusal::ClientUnknown),
-        (is_disabled(view.client), TgsRefusal::ClientRevoked),
+        (is_disabled(view.client), TgsRefusal::ClientDisabled),
         (is_expired(view.client, at), TgsRefusal::ClientExpired),
         (
             is_ticket_revoked(view.client, authtime),

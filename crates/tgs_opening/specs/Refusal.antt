@@ -9,7 +9,7 @@ use Rattle.tgs_opening.specs.declared.refusal.TgsRefusal.TheVariants.{NoKey, Bad
 use Rattle.tgs_opening.specs.declared.refusal.TgsRefusal.TheVariants.{ForeignClient, BoundAddress, BadSessionKey}
 use Rattle.tgs_opening.specs.declared.refusal.TgsRefusal.TheVariants.{AuthenticatorNotOpened, BadMatch, NoChecksum}
 use Rattle.tgs_opening.specs.declared.refusal.TgsRefusal.TheVariants.{BadChecksumType, Modified, BadSubkey}
-use Rattle.tgs_opening.specs.declared.refusal.TgsRefusal.TheVariants.{ClientUnknown, ClientRevoked, ClientExpired}
+use Rattle.tgs_opening.specs.declared.refusal.TgsRefusal.TheVariants.{ClientUnknown, ClientDisabled, ClientExpired}
 use Rattle.tgs_opening.specs.declared.refusal.TgsRefusal.TheVariants.{TicketRevoked, Skewed, Repeated, Full}
 use Rattle.tgs_opening.specs.declared.refusal.TgsRefusal.TheVariants.{NotYetValid}
 use Rattle.tgs_opening.specs.declared.refusal.TgsRefusal.TheVariants.{TicketExpired, ServiceUnknown, ServiceDenied}
@@ -40,7 +40,7 @@ code_of BadChecksumType = codes.TheVariants.KdcErrSumtypeNosupp
 code_of Modified = codes.TheVariants.KrbApErrModified
 code_of BadSubkey = codes.TheVariants.KdcErrEtypeNosupp
 code_of ClientUnknown = codes.TheVariants.KdcErrCPrincipalUnknown
-code_of ClientRevoked = codes.TheVariants.KdcErrClientRevoked
+code_of ClientDisabled = codes.TheVariants.KdcErrClientRevoked
 code_of ClientExpired = codes.TheVariants.KdcErrNameExp
 code_of TicketRevoked = codes.TheVariants.KdcErrTgtRevoked
 code_of Skewed = codes.TheVariants.KrbApErrSkew

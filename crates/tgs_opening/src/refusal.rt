@@ -31,7 +31,7 @@ pub enum TgsRefusal {
     BadSubkey,
     // who presents it (section 3.3.3.1), and whether the authenticator is timely and new (section 3.2.3)
     ClientUnknown,
-    ClientRevoked,
+    ClientDisabled,
     ClientExpired,
     TicketRevoked,
     Skewed,
@@ -82,7 +82,7 @@ impl TgsRefusal {
             TgsRefusal::Modified => Code::KrbApErrModified,
             TgsRefusal::BadSubkey => Code::KdcErrEtypeNosupp,
             TgsRefusal::ClientUnknown => Code::KdcErrCPrincipalUnknown,
-            TgsRefusal::ClientRevoked => Code::KdcErrClientRevoked,
+            TgsRefusal::ClientDisabled => Code::KdcErrClientRevoked,
             TgsRefusal::ClientExpired => Code::KdcErrNameExp,
             TgsRefusal::TicketRevoked => Code::KdcErrTgtRevoked,
             TgsRefusal::Skewed => Code::KrbApErrSkew,

@@ -1,4 +1,4 @@
-//! The acceptor, `ap_accept`.
+//! Tests of the acceptor, `ap_accept`.
 
 mod acceptances;
 mod given;

@@ -1,4 +1,5 @@
-//! `client_core`. The values are those of the standards, and of Python models of the messages and of the cryptography.
+//! Tests of `client_core`. The expected values come from the standards, and from models of the messages and of the
+//! cryptography in Python.
 
 mod given;
 mod hostile;

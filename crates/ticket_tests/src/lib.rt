@@ -1,6 +1,6 @@
-//! The tests of everything that receives tickets: a client, a service, and the whole path between a KDC and both. They
-//! are a crate of their own because a crate with tests is proved twice. They are one crate because each takes a minute
-//! before its first test.
+//! Tests of everything that receives tickets: a client, a service, and the whole path between a KDC and both. They are
+//! a crate of their own because a crate with tests is proved twice. They are one crate because each crate takes a
+//! minute before its first test.
 #![tactic(auto)]
 
 #[cfg(test)]

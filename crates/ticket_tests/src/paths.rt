@@ -1,5 +1,5 @@
-//! A ticket's whole path: a KDC (`kdc_core`) answers what a client writes (`client_core`), and a service accepts the
-//! ticket (`ap_accept`).
+//! Tests of a ticket's whole path: a KDC (`kdc_core`) answers the requests of a client (`client_core`), and a service
+//! (`ap_accept`) accepts the ticket.
 
 mod ends;
 mod given;

@@ -1,23 +1,23 @@
-//! AES and its ciphertext stealing (`aes_cts`), with the standards' own vectors: FIPS 197, appendices B and C (C in the
-//! edition of 2001), and RFC 3962, appendix B. Other vectors come from the Python package cryptography.
+//! Tests of AES and its ciphertext stealing (`aes_cts`), with the standards' own vectors: FIPS 197, appendices B and C
+//! (C in the edition of 2001), and RFC 3962, appendix B. Other vectors come from the Python package cryptography.
 
 ghost use Rattle.std.specs.Prelude.{◌≤◌, length};
 
 use aes_cts::{AesKey, table_word};
 use std::process::Abort;
 
-// The octets 00, 11, .. ff.
+// The bytes 00, 11, .. ff.
 const PLAIN: [u8; 16] = [
     0x00, 0x11, 0x22, 0x33, 0x44, 0x55, 0x66, 0x77, 0x88, 0x99, 0xaa, 0xbb, 0xcc, 0xdd, 0xee, 0xff,
 ];
 
-// The octets 00, 01, .. 1f.
+// The bytes 00, 01, .. 1f.
 const LONG_KEY: [u8; 32] = [
     0x00, 0x01, 0x02, 0x03, 0x04, 0x05, 0x06, 0x07, 0x08, 0x09, 0x0a, 0x0b, 0x0c, 0x0d, 0x0e, 0x0f,
     0x10, 0x11, 0x12, 0x13, 0x14, 0x15, 0x16, 0x17, 0x18, 0x19, 0x1a, 0x1b, 0x1c, 0x1d, 0x1e, 0x1f,
 ];
 
-// The text that each of RFC 3962's examples takes the beginning of, and their key.
+// The text of RFC 3962's examples, each of which is a prefix of it, and their key.
 const TEXT: &[u8; 64] = b"I would like the General Gau's Chicken, please, and wonton soup.";
 
 const KEY: &[u8; 16] = b"chicken teriyaki";
@@ -31,7 +31,7 @@ fn check_block(rt: &impl Abort, octets: &[u8], plain: &[u8; 16], enciphered: &[u
     assert_eq!(rt; key.decrypt_block(enciphered), *plain);
 }
 
-// Both directions of CTS on the beginning of the text.
+// Checks both directions of CTS on a prefix of the text.
 fn check_cts(rt: &impl Abort, octets: &[u8], iv: &[u8; 16], enciphered: &[u8])
     requires least { 16 ≤ length enciphered.now }
     requires most { length enciphered.now ≤ 64 }
@@ -86,13 +86,13 @@ fn fips_197_appendix_c_3(rt: HostRuntime) {
 }
 
 #[test]
-fn other_lengths_are_no_key(rt: HostRuntime) {
+fn other_lengths_are_not_keys(rt: HostRuntime) {
     for length in [0, 15, 17, 24, 31, 33] {
         assert!(rt; AesKey::new(&[0; 33][..length]).is_none(), "at {length}");
     }
 }
 
-// The first words of the tables as other implementations print them, and past their end.
+// The first words of the tables, as other implementations print them, and a place past their end.
 #[test]
 fn words_of_the_tables(rt: HostRuntime) {
     assert_eq!(rt; table_word(0, 0), Some(0xc663_63a5));

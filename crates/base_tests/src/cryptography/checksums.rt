@@ -1,4 +1,4 @@
-//! Checksums (`enctypes`). Their keys are in `derivations.rt`.
+//! Tests of checksums (`enctypes`). Their keys are in `derivations.rt`.
 
 use crate::cryptography::given::{TEXT, USAGE, base_key, in_hex};
 use enctypes::{Etype, checksum, verify};

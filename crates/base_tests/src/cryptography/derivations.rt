@@ -1,4 +1,4 @@
-//! PBKDF2, n-fold and the key derivation of RFC 8009 (`prf_kdf`).
+//! Tests of PBKDF2, n-fold and the key derivation of RFC 8009 (`prf_kdf`).
 
 use crate::cryptography::given::in_hex;
 use prf_kdf::{kdf_sha256, kdf_sha384, n_fold, pbkdf2_sha1, pbkdf2_sha256, pbkdf2_sha384};
@@ -13,7 +13,7 @@ const BASE_KEY_256: [u8; 32] = [
     0x00, 0xeb, 0x48, 0x36, 0x47, 0x2e, 0xa8, 0xa0, 0x26, 0xd1, 0x6b, 0x71, 0x82, 0x46, 0x0c, 0x52,
 ];
 
-// RFC 6070, section 2, but for the case of 16,777,216 iterations.
+// RFC 6070, section 2, without the case of 16,777,216 iterations.
 #[test]
 fn pbkdf2_sha1_of_rfc_6070(rt: HostRuntime) {
     const ROWS: &[(&[u8], &[u8], u32, &[u8])] = &[
@@ -57,7 +57,7 @@ fn pbkdf2_sha1_of_rfc_6070(rt: HostRuntime) {
     }
 }
 
-// RFC 3962, appendix B: the keys of 256 bits, and one of 128.
+// RFC 3962, appendix B: the keys of 256 bits, and one of 128 bits.
 #[test]
 fn pbkdf2_sha1_of_rfc_3962(rt: HostRuntime) {
     const ROWS: &[(&[u8], &[u8], u32, &[u8])] = &[
@@ -220,7 +220,7 @@ fn n_folds_of_the_standard(rt: HostRuntime) {
     }
 }
 
-// RFC 8009, appendix A: Kc, Ke and Ki of usage 2; the last row by Python's hmac.
+// RFC 8009, appendix A: Kc, Ke and Ki for usage 2. The last row is by Python's hmac.
 #[test]
 fn kdf_sha256_of_rfc_8009(rt: HostRuntime) {
     const ROWS: &[(&[u8], &[u8])] = &[
@@ -241,7 +241,7 @@ fn kdf_sha256_of_rfc_8009(rt: HostRuntime) {
     }
 }
 
-// RFC 8009, appendix A: Kc, Ke and Ki of usage 2; the last row by Python's hmac.
+// RFC 8009, appendix A: Kc, Ke and Ki for usage 2. The last row is by Python's hmac.
 #[test]
 fn kdf_sha384_of_rfc_8009(rt: HostRuntime) {
     const ROWS: &[(&[u8], &[u8])] = &[

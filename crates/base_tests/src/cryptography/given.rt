@@ -7,13 +7,12 @@ use enctypes::{Etype, Key, KeyUsage};
 /// A usage of many of the rows: number 2.
 pub const USAGE: KeyUsage = KeyUsage::Ticket;
 
-/// The octets that RFC 8009, appendix A, seals parts of.
+/// The bytes whose prefixes RFC 8009, appendix A, encrypts.
 pub const TEXT: [u8; 21] = [
     0, 1, 2, 3, 4, 5, 6, 7, 8, 9, 10, 11, 12, 13, 14, 15, 16, 17, 18, 19, 20,
 ];
 
-/// The base keys of RFC 8009, appendix A; the shorter one is followed by octets that no key of 16
-/// octets has.
+/// The base keys of RFC 8009, appendix A. The shorter one is followed by bytes that a key of 16 bytes does not have.
 const BASE_128: [u8; 32] = [
     0x37, 0x05, 0xd9, 0x60, 0x80, 0xc1, 0x77, 0x28, 0xa0, 0xe8, 0x00, 0xea, 0xb6, 0xe0, 0xd2, 0x3c,
     0xff, 0xff, 0xff, 0xff, 0xff, 0xff, 0xff, 0xff, 0xff, 0xff, 0xff, 0xff, 0xff, 0xff, 0xff, 0xff,
@@ -24,7 +23,7 @@ const BASE_256: [u8; 32] = [
     0x00, 0xeb, 0x48, 0x36, 0x47, 0x2e, 0xa8, 0xa0, 0x26, 0xd1, 0x6b, 0x71, 0x82, 0x46, 0x0c, 0x52,
 ];
 
-/// The base key with as many octets as the type's keys have.
+/// Returns the base key with the length of the type's keys.
 pub fn base_key(etype: Etype) -> Key
     ensures { result.etype ≡ etype }
 {
@@ -38,7 +37,7 @@ pub fn base_key(etype: Etype) -> Key
     }
 }
 
-/// Whether the hexadecimal text spells the octets.
+/// Checks whether these are the bytes of the hexadecimal text.
 pub fn in_hex(octets: &[u8], hex: &[u8]) -> bool {
     const DIGITS: &[u8; 16] = b"0123456789abcdef";
     if hex.len() != 2 * octets.len() {

@@ -1,4 +1,4 @@
-//! HMAC over the three hashes (`prf_kdf`).
+//! Tests of HMAC over the three hashes (`prf_kdf`).
 
 use crate::cryptography::given::in_hex;
 use prf_kdf::{hmac_sha1, hmac_sha256, hmac_sha384};
@@ -101,7 +101,7 @@ fn hmac_sha256_of_the_standard(rt: HostRuntime) {
             key.len()
         );
     }
-    // The standard gives the front of this one.
+    // The standard has the first bytes of this one.
     let mac = hmac_sha256(&[0x0c; 20], &[b"Test With Truncation"]);
     assert!(rt; in_hex(&mac[..16], b"a3b6167473100ee06e0c796c2955552b"));
 }
@@ -150,13 +150,12 @@ fn hmac_sha384_of_the_standard(rt: HostRuntime) {
             key.len()
         );
     }
-    // The standard gives the front of this one.
+    // The standard has the first bytes of this one.
     let mac = hmac_sha384(&[0x0c; 20], &[b"Test With Truncation"]);
     assert!(rt; in_hex(&mac[..16], b"3abf34c3503b2a23a46efc619baef897"));
 }
 
-// A text in parts is one text: case 2 of RFC 2202 and RFC 4231. No parts are the empty text (by
-// Python's hmac).
+// A text may come in parts: case 2 of RFC 2202 and RFC 4231. Without parts it is empty (by Python's hmac).
 #[test]
 fn parts_are_one_text(rt: HostRuntime) {
     let parts: [&[u8]; 4] = [b"what do ya want ", b"", b"for ", b"nothing?"];

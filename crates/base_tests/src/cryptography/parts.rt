@@ -1,4 +1,4 @@
-//! Encrypted values of messages (`sealed_parts`).
+//! Tests of encrypted values of messages (`sealed_parts`).
 use enctypes::{Etype, Key, KeyUsage, seal};
 use krb_der::KTime;
 use krb_elements::Microseconds;
@@ -16,7 +16,7 @@ const ETYPES: &[Etype] = &[
 
 const USAGE: KeyUsage = KeyUsage::PaEncTimestamp;
 
-/// A timestamp that is sealed for `USAGE`.
+/// Returns a timestamp, encrypted for `USAGE`.
 #[tactic(auto, using(krb_parts::specs::PaEncTsEnc::pa_enc_ts_enc_short))]
 fn sealed(alloc: Global, key: &Key) -> Result<Vec<u8>, Fail> {
     let part = PaEncTsEnc {
@@ -26,7 +26,7 @@ fn sealed(alloc: Global, key: &Key) -> Result<Vec<u8>, Fail> {
     Ok(seal_part(alloc, key, USAGE, &[9; 16], &part)?)
 }
 
-/// The seconds and the microseconds of the timestamp that is opened.
+/// Decrypts a timestamp, and returns its seconds and microseconds.
 fn opened(
     alloc: Global,
     key: &Key,
@@ -44,7 +44,7 @@ fn opened(
 }
 
 #[test]
-fn opens_its_own_part_for_the_same_use_alone(rt: HostRuntime) -> Result<(), Fail> {
+fn decrypts_its_own_part_for_the_same_usage_only(rt: HostRuntime) -> Result<(), Fail> {
     let timestamp = Some((1_704_067_200, Some(999_999)));
     for &etype in ETYPES {
         let key = Key::from_random(etype, &[7; 32]);
@@ -56,7 +56,7 @@ fn opens_its_own_part_for_the_same_use_alone(rt: HostRuntime) -> Result<(), Fail
 }
 
 #[test]
-fn opens_no_other_text(rt: HostRuntime) -> Result<(), Fail> {
+fn decrypts_no_other_text(rt: HostRuntime) -> Result<(), Fail> {
     for &etype in ETYPES {
         let key = Key::from_random(etype, &[7; 32]);
         let cipher = seal(rt.alloc(), &key, USAGE, &[9; 16], b"no timestamp")?;
@@ -65,7 +65,7 @@ fn opens_no_other_text(rt: HostRuntime) -> Result<(), Fail> {
     Ok(())
 }
 
-/// As `opened`, for `USAGE`, by keys that are ready.
+/// Does the same as `opened`, for `USAGE` and with ready keys.
 fn opened_ready(
     alloc: Global,
     ready: &ReadyKeys,
@@ -82,9 +82,9 @@ fn opened_ready(
     })
 }
 
-// Both keys begin with the same octet, and so have one place.
+// Both keys begin with the same byte, so they have one place.
 #[test]
-fn keys_of_one_place_take_turns(rt: HostRuntime) -> Result<(), Fail> {
+fn keys_with_one_place_take_turns(rt: HostRuntime) -> Result<(), Fail> {
     let ready = ReadyKeys::new(rt.alloc())?;
     let timestamp = Some((1_704_067_200, Some(999_999)));
     for &etype in ETYPES {

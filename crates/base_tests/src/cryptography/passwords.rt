@@ -1,4 +1,4 @@
-//! Keys from passwords (`enctypes`).
+//! Tests of keys from passwords (`enctypes`).
 
 use crate::cryptography::given::in_hex;
 use enctypes::{Etype, string_to_key};
@@ -118,7 +118,7 @@ fn keys_of_rfc_3962(rt: HostRuntime) -> Result<(), Fail> {
     Ok(())
 }
 
-// RFC 8009, appendix A: the salt is random octets and a default salt.
+// RFC 8009, appendix A: the salt is random bytes and a default salt.
 #[test]
 fn keys_of_rfc_8009(rt: HostRuntime) -> Result<(), Fail> {
     const SALT: &[u8; 37] =

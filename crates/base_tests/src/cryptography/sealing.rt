@@ -1,4 +1,4 @@
-//! Encryption and decryption (`enctypes`).
+//! Tests of encryption and decryption (`enctypes`).
 
 use crate::cryptography::given::{TEXT, USAGE, base_key, in_hex};
 use enctypes::{Etype, Key, KeyUsage, ReadyKey, open, seal, string_to_key};
@@ -152,14 +152,14 @@ fn sealed_texts_of_the_standards(rt: HostRuntime) -> Result<(), Fail> {
     Ok(())
 }
 
-/// Whether the octets are opened, and this text is in them.
+/// Checks whether the bytes are decrypted to this text.
 fn is_opened(alloc: Global, key: &Key, sealed: &[u8], text: &[u8]) -> Result<bool, AllocError> {
     let opened = open(alloc, key, USAGE, sealed)?;
     Ok(opened.is_some_and(|opened| opened.as_slice() == text))
 }
 
 #[test]
-fn a_text_of_megabytes_is_opened(rt: HostRuntime) -> Result<(), AllocError> {
+fn a_text_of_megabytes_is_decrypted(rt: HostRuntime) -> Result<(), AllocError> {
     let text = vec![in rt.alloc(); 0x5a; 2_000_001]?;
     for etype in [Etype::Aes128CtsHmacSha1_96, Etype::Aes256CtsHmacSha384_192] {
         let key = base_key(etype);
@@ -170,7 +170,7 @@ fn a_text_of_megabytes_is_opened(rt: HostRuntime) -> Result<(), AllocError> {
 }
 
 #[test]
-fn a_changed_cipher_is_not_opened(rt: HostRuntime) -> Result<(), Fail> {
+fn a_changed_cipher_is_not_decrypted(rt: HostRuntime) -> Result<(), Fail> {
     for (etype, len) in [
         (Etype::Aes128CtsHmacSha1_96, 28),
         (Etype::Aes256CtsHmacSha1_96, 28),
@@ -189,13 +189,13 @@ fn a_changed_cipher_is_not_opened(rt: HostRuntime) -> Result<(), Fail> {
     Ok(())
 }
 
-/// Checks whether the octets are refused, other than by running out of memory.
+/// Checks whether the bytes are refused, and not because memory ran out.
 fn is_refused(alloc: Global, key: &Key, usage: KeyUsage, sealed: &[u8]) -> bool {
     open(alloc, key, usage, sealed).is_ok_and(|opened| opened.is_none())
 }
 
 #[test]
-fn a_ready_key_is_for_its_key_and_its_usage_alone(rt: HostRuntime) -> Result<(), Fail> {
+fn a_ready_key_works_only_for_its_key_and_its_usage(rt: HostRuntime) -> Result<(), Fail> {
     for etype in [
         Etype::Aes128CtsHmacSha1_96,
         Etype::Aes256CtsHmacSha1_96,
@@ -211,9 +211,9 @@ fn a_ready_key_is_for_its_key_and_its_usage_alone(rt: HostRuntime) -> Result<(),
     Ok(())
 }
 
-// Passes whichever allocation is refused.
+// Passes if any one allocation fails.
 #[test]
-fn what_was_refused_memory_succeeds_when_asked_again(rt: HostRuntime) -> Result<(), AllocError> {
+fn calls_succeed_again_after_memory_ran_out(rt: HostRuntime) -> Result<(), AllocError> {
     let alloc = rt.alloc();
     for etype in [
         Etype::Aes128CtsHmacSha1_96,

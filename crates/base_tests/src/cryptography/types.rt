@@ -1,4 +1,4 @@
-//! Encryption types, keys and their printed forms (`enctypes`).
+//! Tests of encryption types, keys and their printed forms (`enctypes`).
 
 use crate::cryptography::given::{base_key, in_hex};
 use enctypes::{Etype, Key, KeyUsage};
@@ -67,7 +67,7 @@ fn a_key_has_its_types_length(rt: HostRuntime) {
 }
 
 #[test]
-fn random_octets_are_a_key_as_they_are(rt: HostRuntime) {
+fn random_bytes_are_a_key_unchanged(rt: HostRuntime) {
     assert!(rt;
         in_hex(
             base_key(Etype::Aes128CtsHmacSha256_128).bytes(),
@@ -83,7 +83,7 @@ fn random_octets_are_a_key_as_they_are(rt: HostRuntime) {
 }
 
 #[test]
-fn a_printed_key_shows_no_octets(rt: HostRuntime) {
+fn a_printed_key_shows_no_bytes(rt: HostRuntime) {
     let key = Key::new(Etype::Aes128CtsHmacSha1_96, &[7; 16]);
     let printed = format!(in rt.alloc(); "{key:?}").expect(&rt, "memory");
     assert_eq!(rt;

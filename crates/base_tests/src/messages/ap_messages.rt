@@ -1,4 +1,4 @@
-//! The messages between a client and a service (`krb_ap`).
+//! Tests of the messages between a client and a service (`krb_ap`).
 use crate::expect::{same, written};
 use crate::messages::whole_messages::is_name;
 use krb_ap::{
@@ -11,9 +11,9 @@ use krb_types::TicketRef;
 use std::alloc::Global;
 use std::process::Abort;
 
-// pyasn1 gives these octets of the types of RFC 4120, sections 5.2.9, 5.3, 5.5.1 and 5.5.2.
+// These bytes come from pyasn1, with the types of RFC 4120, sections 5.2.9, 5.3, 5.5.1 and 5.5.2.
 
-/// A ticket for `krbtgt/A.B`, and the wish for an answer.
+/// A ticket for `krbtgt/A.B`, with mutual-required.
 const AP_REQ: &[u8; 103] = b"\x6e\x65\x30\x63\
     \xa0\x03\x02\x01\x05\
     \xa1\x03\x02\x01\x0e\
@@ -23,7 +23,8 @@ const AP_REQ: &[u8; 103] = b"\x6e\x65\x30\x63\
     \xa3\x13\x30\x11\xa0\x03\x02\x01\x12\xa1\x03\x02\x01\x07\xa2\x05\x04\x03\x01\x02\x03\
     \xa4\x0d\x30\x0b\xa0\x03\x02\x01\x11\xa2\x04\x04\x02\x04\x05";
 
-/// Of version 4 and type 15, with two options that have no name; ciphers of 200 and 130 octets, which count from 0.
+/// An AP-REQ of version 4 and type 15, with two options that have no name, and with ciphers of 200 and 130 bytes, which
+/// count up from 0.
 const LONG_REQ: &[u8] =
     b"6e8201b4308201b0a003020104a10302010fa20703050040010001a38201016181fe3081fba003020105a1051b03412e\
     42a2143012a003020103a10b30091b04686f73741b0162a381d63081d3a003020114a281cb0481c80001020304050607\
@@ -36,13 +37,13 @@ const LONG_REQ: &[u8] =
     4a4b4c4d4e4f505152535455565758595a5b5c5d5e5f606162636465666768696a6b6c6d6e6f70717273747576777879\
     7a7b7c7d7e7f8081";
 
-/// Without a kvno.
+/// An AP-REP without a kvno.
 const AP_REP: &[u8; 30] = b"\x6f\x1c\x30\x1a\
     \xa0\x03\x02\x01\x05\
     \xa1\x03\x02\x01\x0f\
     \xa2\x0e\x30\x0c\xa0\x03\x02\x01\x12\xa2\x05\x04\x03\x06\x07\x08";
 
-/// With the kvno 2147483648, and an empty cipher of type -1.
+/// An AP-REP with the kvno 2147483648 and an empty cipher of type -1.
 const OTHER_REP: &[u8; 36] = b"\x6f\x22\x30\x20\
     \xa0\x03\x02\x01\x05\
     \xa1\x03\x02\x01\x0f\
@@ -55,7 +56,7 @@ fn kvno(sealed: &EncryptedDataRef<'_>) -> Option<i64> {
     }
 }
 
-/// Whether this is the cipher, with the number of its type and its kvno.
+/// Checks whether this is the cipher, with the number of its type and its kvno.
 fn is_sealed(
     sealed: &EncryptedDataRef<'_>,
     etype: i32,
@@ -65,7 +66,7 @@ fn is_sealed(
     sealed.etype == etype && kvno(sealed) == version && sealed.cipher.as_slice() == cipher
 }
 
-/// Whether this is the ticket of `AP_REQ`.
+/// Checks whether this is the ticket of `AP_REQ`.
 fn is_ticket(ticket: &TicketRef<'_>) -> bool {
     ticket.tkt_vno == 5
         && ticket.realm.as_slice() == b"A.B".as_slice()
@@ -73,19 +74,19 @@ fn is_ticket(ticket: &TicketRef<'_>) -> bool {
         && is_sealed(&ticket.enc_part, 18, Some(7), &[1, 2, 3])
 }
 
-/// Reading takes no allocator, so no test has to refuse it memory.
+/// Reading allocates nothing, so no test has to let an allocation fail.
 #[test]
 fn requests_are_read(rt: HostRuntime) {
     same(&rt, &"a request", &is_request(AP_REQ), &Ok(true));
 }
 
-/// Whether the octets are those of `AP_REQ`.
+/// Checks whether the bytes are those of `AP_REQ`.
 fn is_request(octets: &[u8]) -> Result<bool, DerFault> {
     let request = read_ap_req(octets)?;
     Ok(asks_for_an_answer(&request) && has_ticket_and_authenticator(&request))
 }
 
-/// Whether this is of version 5, and wants an answer alone.
+/// Checks whether this has version 5 and mutual-required as its only option.
 fn asks_for_an_answer(request: &ApReqRef<'_>) -> bool {
     request.pvno == 5
         && request.msg_type == 14
@@ -94,12 +95,12 @@ fn asks_for_an_answer(request: &ApReqRef<'_>) -> bool {
         && !request.ap_options.has(ApOption::UseSessionKey)
 }
 
-/// Whether the ticket and the authenticator are those of `AP_REQ`.
+/// Checks whether the ticket and the authenticator are those of `AP_REQ`.
 fn has_ticket_and_authenticator(request: &ApReqRef<'_>) -> bool {
     is_ticket(&request.ticket) && is_sealed(&request.authenticator, 17, None, &[4, 5])
 }
 
-/// Whether the octets count from 0, and are so many.
+/// Checks whether the bytes count up from 0 and have this length.
 fn count(octets: &[u8], len: usize) -> bool {
     for index in 0..octets.len() {
         if usize::from(octets[index]) != index {
@@ -115,18 +116,18 @@ fn requests_of_any_version_are_read(rt: HostRuntime) {
     same(&rt, &"a long request", &is_long_request(&octets), &Ok(true));
 }
 
-/// The octets of `LONG_REQ`.
+/// Returns the bytes of `LONG_REQ`.
 fn long_request(alloc: Global) -> Vec<u8> {
     hex::decode(alloc, LONG_REQ).unwrap_or(Vec::new(alloc))
 }
 
-/// Whether the octets are those of `LONG_REQ`.
+/// Checks whether the bytes are those of `LONG_REQ`.
 fn is_long_request(octets: &[u8]) -> Result<bool, DerFault> {
     let request = read_ap_req(octets)?;
     Ok(has_other_version(&request) && has_long_ciphers(&request))
 }
 
-/// Whether this is of version 4 and type 15, with the options of `LONG_REQ`.
+/// Checks whether this has version 4, type 15 and the options of `LONG_REQ`.
 fn has_other_version(request: &ApReqRef<'_>) -> bool {
     request.pvno == 4
         && request.msg_type == 15
@@ -135,7 +136,7 @@ fn has_other_version(request: &ApReqRef<'_>) -> bool {
         && !request.ap_options.has(ApOption::MutualRequired)
 }
 
-/// Whether the service and the ciphers are those of `LONG_REQ`.
+/// Checks whether the service and the ciphers are those of `LONG_REQ`.
 fn has_long_ciphers(request: &ApReqRef<'_>) -> bool {
     is_name(&request.ticket.sname, 3, &[b"host", b"b"])
         && count(request.ticket.enc_part.cipher.as_slice(), 200)
@@ -144,7 +145,7 @@ fn has_long_ciphers(request: &ApReqRef<'_>) -> bool {
 }
 
 #[test]
-fn other_octets_are_no_request(rt: HostRuntime) {
+fn other_bytes_are_not_a_request(rt: HostRuntime) {
     let octets = AP_REQ.as_slice();
     refused(&rt, AP_REP, DerFault::BadTag);
     refused(&rt, &with_other_tag(), DerFault::BadTag);
@@ -156,33 +157,33 @@ fn other_octets_are_no_request(rt: HostRuntime) {
     }
 }
 
-/// The request with the tag of a reply.
+/// Returns the request with the tag of a reply.
 fn with_other_tag() -> [u8; 103] {
     let mut octets = *AP_REQ;
     octets[0] = 0x6f;
     octets
 }
 
-/// The request with another tag where the ticket's should be.
+/// Returns the request with another tag in place of the ticket's.
 fn without_ticket() -> [u8; 103] {
     let mut octets = *AP_REQ;
     octets[25] = 0x62;
     octets
 }
 
-/// The octets are refused for this fault.
+/// Checks that the bytes are refused with this error.
 fn refused(rt: &impl Abort, octets: &[u8], fault: DerFault) {
     same(rt, &octets, &read_ap_req(octets).err(), &Some(fault));
 }
 
-/// The request, and an octet behind it.
+/// Returns the request followed by a byte.
 fn followed() -> [u8; 104] {
     let mut octets = [0; 104];
     octets[..103].copy_from_slice(AP_REQ);
     octets
 }
 
-/// The request without its last field, the authenticator.
+/// Returns the request without its last field, the authenticator.
 fn without_authenticator() -> [u8; 88] {
     let request = AP_REQ.as_slice();
     let mut octets = [0; 88];
@@ -192,7 +193,7 @@ fn without_authenticator() -> [u8; 88] {
     octets
 }
 
-/// What is written of the request that the octets spell, which are fewer than a thousand.
+/// Reads a request of fewer than a thousand bytes, and writes it again.
 fn request_again(alloc: Global, octets: &[u8]) -> Result<Vec<u8>, Fault> {
     if octets.len() >= 1000 {
         return Ok(Vec::new(alloc));
@@ -209,7 +210,7 @@ fn requests_are_written(rt: HostRuntime) {
     written(&rt, request_again(alloc, &long), &long);
 }
 
-/// Whether the octets spell a reply with this cipher, and with the number of its type and its kvno.
+/// Checks whether the bytes are a reply with this cipher, the number of its type and its kvno.
 fn is_reply(
     alloc: Global,
     octets: &[u8],
@@ -238,7 +239,7 @@ fn replies_are_read(rt: HostRuntime) {
 }
 
 #[test]
-fn other_octets_are_no_reply(rt: HostRuntime) {
+fn other_bytes_are_not_a_reply(rt: HostRuntime) {
     let octets = AP_REP.as_slice();
     no_reply(&rt, rt.alloc(), AP_REQ, DerFault::BadTag);
     no_reply(&rt, rt.alloc(), &with(8, 4), DerFault::BadInteger);
@@ -246,7 +247,7 @@ fn other_octets_are_no_reply(rt: HostRuntime) {
     no_reply(&rt, rt.alloc(), &octets[..29], DerFault::Truncated);
 }
 
-/// The reply with this octet at this place.
+/// Returns the reply with this byte at this place.
 fn with(place: usize, octet: u8) -> [u8; 30] {
     let mut octets = *AP_REP;
     if let Some(old) = octets.get_mut(place) {
@@ -255,13 +256,13 @@ fn with(place: usize, octet: u8) -> [u8; 30] {
     octets
 }
 
-/// The octets are refused for this fault.
+/// Checks that the bytes are refused with this error.
 fn no_reply(rt: &impl Abort, alloc: Global, octets: &[u8], fault: DerFault) {
     let found = is_reply(alloc, octets, 18, None, &[6, 7, 8]);
     same(rt, &octets, &found, &Err(Fault::Der(fault)));
 }
 
-/// What is written of the reply that the octets spell, which are fewer than a thousand.
+/// Reads a reply of fewer than a thousand bytes, and writes it again.
 #[tactic(auto, using(krb_elements::specs::WrittenLaws::tlv_longer))]
 fn reply_again(alloc: Global, octets: &[u8]) -> Result<Vec<u8>, Fault> {
     if octets.len() >= 1000 {
@@ -277,10 +278,10 @@ fn replies_are_written(rt: HostRuntime) {
     written(&rt, reply_again(rt.alloc(), OTHER_REP), OTHER_REP);
 }
 
-/// One allocation may be refused, by `rt try --test --fail-alloc N`: the answer is then want of
-/// memory and nothing else, and the next call succeeds.
+/// If one allocation fails (`rt try --test --fail-alloc N`), the first call returns that memory ran out, and the next
+/// call succeeds.
 #[test]
-fn want_of_memory_for_a_request_is_answered(rt: HostRuntime) {
+fn reading_and_writing_a_request_works_after_memory_ran_out(rt: HostRuntime) {
     match request_again(rt.alloc(), AP_REQ) {
         Ok(octets) => same(
             &rt,
@@ -295,9 +296,9 @@ fn want_of_memory_for_a_request_is_answered(rt: HostRuntime) {
     }
 }
 
-/// As above.
+/// The same for a reply.
 #[test]
-fn want_of_memory_for_a_reply_is_answered(rt: HostRuntime) {
+fn reading_and_writing_a_reply_works_after_memory_ran_out(rt: HostRuntime) {
     match reply_again(rt.alloc(), AP_REP) {
         Ok(octets) => same(
             &rt,

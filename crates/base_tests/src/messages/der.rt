@@ -1,4 +1,4 @@
-//! Single DER values (`krb_der`).
+//! Tests of single DER values (`krb_der`).
 ghost use Rattle.std.specs.Prelude.{◌<◌};
 
 use crate::expect::same;
@@ -33,7 +33,7 @@ fn reads_numbers(rt: HostRuntime) {
     }
 }
 
-// X.690, sections 8.6 and 11.2; the bits of a KDC option, and fewer and more than 32 bits.
+// X.690, sections 8.6 and 11.2: the bits of a KDC option, fewer than 32 bits, and more.
 #[test]
 fn reads_bits(rt: HostRuntime) {
     const BITS: &[(&[u8], Result<(u32, u64), DerFault>)] = &[
@@ -53,7 +53,7 @@ fn reads_bits(rt: HostRuntime) {
 }
 
 #[test]
-fn tells_the_first_fault(rt: HostRuntime) {
+fn returns_the_first_fault(rt: HostRuntime) {
     const REFUSED: &[(&[u8], DerFault)] = &[
         (&[], DerFault::Truncated),
         (&[0x1c], DerFault::BadTag),
@@ -71,7 +71,7 @@ fn tells_the_first_fault(rt: HostRuntime) {
     }
 }
 
-/// The fault of these octets, behind which the reader is where it was.
+/// Returns the error of these bytes, if the reader stays at its place.
 fn fault_of(octets: &[u8]) -> Option<DerFault> {
     let mut reader = Reader::new(octets);
     let fault = reader.read_tlv(0x1b).err();
@@ -81,7 +81,7 @@ fn fault_of(octets: &[u8]) -> Option<DerFault> {
 }
 
 #[test]
-fn goes_over_the_elements(rt: HostRuntime) {
+fn iterates_over_the_elements(rt: HostRuntime) {
     const FIRST: &[u8] = &[0x1b, 1, 0x75];
     const SECOND: &[u8] = &[4, 2, 1, 2];
     let mut items = Items::new(&[0x1b, 1, 0x75, 4, 2, 1, 2]);
@@ -118,7 +118,7 @@ fn put_each_type(out: &mut Writer) -> Result<(), AllocError> {
 }
 
 #[test]
-fn writes_the_length_in_the_fewest_octets(rt: HostRuntime) {
+fn writes_the_length_in_the_fewest_bytes(rt: HostRuntime) {
     const HEADS: &[(usize, &[u8])] = &[
         (127, &[4, 0x7f]),
         (128, &[4, 0x81, 0x80]),
@@ -131,7 +131,7 @@ fn writes_the_length_in_the_fewest_octets(rt: HostRuntime) {
     }
 }
 
-/// Whether the OCTET STRING of so many zeros, fewer than 65,537, begins so and is that much longer.
+/// Checks whether the OCTET STRING of this many zeros, fewer than 65,537, is this head followed by the zeros.
 fn is_head(alloc: Global, length: usize, head: &[u8]) -> Result<bool, AllocError> {
     if length > 65536 {
         return Ok(false);
@@ -140,7 +140,7 @@ fn is_head(alloc: Global, length: usize, head: &[u8]) -> Result<bool, AllocError
     Ok(octets.starts_with(head) && octets.len() == head.len() + length)
 }
 
-/// The OCTET STRING of so many zeros.
+/// Returns the OCTET STRING of this many zeros.
 fn zeros_written(alloc: Global, length: usize) -> Result<Vec<u8>, AllocError>
     requires { length < 65537 }
 {

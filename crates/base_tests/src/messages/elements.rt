@@ -1,4 +1,4 @@
-//! The pieces of messages (`krb_elements`).
+//! Tests of the pieces of messages (`krb_elements`).
 ghost use Rattle.std.specs.Prelude.{◌<◌};
 
 use crate::expect::{holds, same, written};
@@ -24,7 +24,7 @@ fn read_microseconds(octets: &[u8]) -> Result<i64, DerFault> {
     read::<Microseconds>(octets).map(|n| i64::from(n.get()))
 }
 
-/// The bounds of RFC 4120, section 5.2.4, spelled by X.690, section 8.3; a UInt32 may be sent as a signed number.
+/// The bounds of RFC 4120, section 5.2.4, encoded by X.690, section 8.3. A UInt32 may be sent as a signed number.
 #[test]
 fn numbers_have_their_bounds(rt: HostRuntime) {
     const BAD: Result<i64, DerFault> = Err(DerFault::BadInteger);
@@ -100,7 +100,7 @@ fn numbers_are_written(rt: HostRuntime) {
 /// The field [8] with the list of 17 and 18.
 const NUMBERS: [u8; 10] = [0xa8, 8, 0x30, 6, 2, 1, 17, 2, 1, 18];
 
-/// The numbers of the field, or none where it is absent.
+/// Returns the numbers of the field, or `None` if it is absent.
 fn numbers_at(alloc: Global, n: u8) -> Result<Option<Seq<i32>>, Fault>
     requires { n < 31 }
 {
@@ -117,7 +117,7 @@ fn list_written(alloc: Global, list: &Seq<i32>) -> Result<Vec<u8>, AllocError> {
     write(alloc, list)
 }
 
-/// What is written of the list in the field [8], where it is of 17 and 18.
+/// Reads the list in the field [8], and writes it again if it is 17 and 18.
 fn numbers_written(alloc: Global) -> Result<Vec<u8>, Fault> {
     match numbers_at(alloc, 8)? {
         Some(list) if list.as_slice() == [17, 18].as_slice() => Ok(list_written(alloc, &list)?),
@@ -137,15 +137,15 @@ fn lists_are_read_and_written(rt: HostRuntime) {
 }
 
 #[test]
-fn lists_are_gone_through_where_they_stand(rt: HostRuntime) {
+fn lists_are_iterated_in_place(rt: HostRuntime) {
     let numbers = take_field(&mut Reader::new(&NUMBERS), 8);
-    same(&rt, &"a list", &numbers.map(gone_through), &Ok(true));
+    same(&rt, &"a list", &numbers.map(is_iterated_twice), &Ok(true));
     let fault = read::<SeqRef<'_, i32>>(&[0x30, 6, 2, 1, 17, 2, 2, 18]).err();
     same(&rt, &"a faulty list", &fault, &Some(DerFault::Truncated));
 }
 
-/// Whether the list has 17 and 18, and another way through it begins anew.
-fn gone_through(mut numbers: SeqRef<'_, i32>) -> bool {
+/// Checks whether the list has 17 and 18, and whether a second iteration starts at the beginning.
+fn is_iterated_twice(mut numbers: SeqRef<'_, i32>) -> bool {
     let mut again = numbers.iter();
     numbers.next() == Some(17)
         && again.next() == Some(17)
@@ -153,7 +153,7 @@ fn gone_through(mut numbers: SeqRef<'_, i32>) -> bool {
         && numbers.next().is_none()
 }
 
-/// The string that the octets spell.
+/// Returns the string that these bytes encode.
 fn string_of(alloc: Global, octets: &[u8]) -> Result<KerberosString, Fault> {
     let found: KerberosStringRef<'_> = read(octets)?;
     Ok(found.copy(alloc)?)
@@ -166,13 +166,13 @@ fn string_written(alloc: Global, string: &KerberosString) -> Result<Vec<u8>, All
     write(alloc, string)
 }
 
-/// What is written of the string that the octets spell.
+/// Reads a string, and writes it again.
 fn string_again(alloc: Global, octets: &[u8]) -> Result<Vec<u8>, Fault> {
     let string = string_of(alloc, octets)?;
     Ok(string_written(alloc, &string)?)
 }
 
-/// The octets of the string that a text is copied to, where it is that of the octets which are spelled.
+/// Copies a text to a string, and returns its bytes if it equals the encoded string.
 fn string_copied(alloc: Global, text: &[u8], spelled: &[u8]) -> Result<Vec<u8>, Fault> {
     let string = string_of(alloc, spelled)?;
     let copy = KerberosStringRef::new(text).copy(alloc)?;
@@ -209,7 +209,7 @@ fn strings_are_ordered_by_their_octets(rt: HostRuntime) {
     );
 }
 
-/// How the string is to `A.B`.
+/// Returns the order of the string to `A.B`.
 fn order_to_a_b(
     alloc: Global,
     string: Result<KerberosString, AllocError>,
@@ -219,7 +219,7 @@ fn order_to_a_b(
     Ok(string.cmp(&other))
 }
 
-/// The octets of the OCTET STRING that is spelled.
+/// Returns the bytes of an encoded OCTET STRING.
 fn octets_of(alloc: Global, spelled: &[u8]) -> Result<Octets, Fault> {
     let found: OctetsRef<'_> = read(spelled)?;
     Ok(found.copy(alloc)?)
@@ -243,7 +243,7 @@ fn octets_are_read_and_written(rt: HostRuntime) {
     );
 }
 
-/// What is written of the octets that are spelled.
+/// Reads an OCTET STRING, and writes it again.
 fn octets_again(alloc: Global, spelled: &[u8]) -> Result<Vec<u8>, Fault> {
     let octets = octets_of(alloc, spelled)?;
     Ok(octets_written(alloc, &octets)?)
@@ -257,7 +257,7 @@ fn octets_are_made_of_slices_and_lists(rt: HostRuntime) {
     made_of(&rt, Vec::from_slice(alloc, &[8]).map(Octets::new), &[8]);
 }
 
-/// What was made has these octets.
+/// Checks that the value has these bytes.
 fn made_of(rt: &impl Abort, made: Result<Octets, AllocError>, octets: &[u8]) {
     match made {
         Ok(made) => same(rt, &"what is made", &made.as_slice(), &octets),
@@ -273,7 +273,7 @@ fn times_are_read_and_written(rt: HostRuntime) {
     written(&rt, time_again(rt.alloc(), SPELLED), SPELLED);
 }
 
-/// What is written of the time that the octets spell.
+/// Reads a time, and writes it again.
 #[tactic(auto, using(krb_elements::proofs::TextLengths::time_short))]
 fn time_again(alloc: Global, octets: &[u8]) -> Result<Vec<u8>, Fault> {
     let time: KTime = read(octets)?;
@@ -332,7 +332,7 @@ fn fields_are_read(rt: HostRuntime) {
 }
 
 #[test]
-fn octets_are_kept_as_they_were_sent(rt: HostRuntime) {
+fn bytes_are_kept_as_they_were_sent(rt: HostRuntime) {
     const SPELLED: &[u8] = &[0xa0, 3, 2, 1, 5];
     let sent: Result<Sent<'_, i32>, DerFault> = take_sent(&mut Reader::new(SPELLED), 0);
     match sent {
@@ -413,7 +413,7 @@ fn are_7_and_8(numbers: Seq<u32>) -> bool {
 }
 
 #[test]
-fn faults_are_told_apart(rt: HostRuntime) {
+fn each_fault_has_its_error(rt: HostRuntime) {
     let fault = Fault::from(DerFault::BadTag);
     same(&rt, &"a fault", &fault, &Fault::Der(DerFault::BadTag));
     same(&rt, &"no memory", &Fault::from(AllocError), &Fault::Memory);

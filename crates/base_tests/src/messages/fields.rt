@@ -1,4 +1,4 @@
-//! Names, flags, codes and moments (`krb_fields`).
+//! Tests of names, flags, codes and moments (`krb_fields`).
 use crate::expect::{holds, same, written};
 use krb_elements::{KerberosString, Seq};
 use krb_fields::{
@@ -8,7 +8,7 @@ use krb_fields::{
 use std::alloc::{AllocError, Global};
 use std::cmp::Ordering;
 
-/// A name of these components.
+/// Returns a name with these components.
 fn name_of(alloc: Global, name_type: i32, components: &[&[u8]]) -> Result<Name, AllocError> {
     let mut name = Name {
         name_type,
@@ -49,7 +49,7 @@ fn names_are_read_and_written(rt: HostRuntime) {
     }
 }
 
-/// Whether the text is read as a name of these components, which is within the limits, and is written of it.
+/// Checks whether the text is read as a name with these components, within the limits, and written again from it.
 fn is_text_of(alloc: Global, text: &str, components: &[&[u8]]) -> Result<bool, NameFault> {
     let name = Name::from_text(alloc, text)?;
     let same = name_of(alloc, 2, components)?;
@@ -63,7 +63,7 @@ fn is_text_of(alloc: Global, text: &str, components: &[&[u8]]) -> Result<bool, N
 }
 
 #[test]
-fn other_texts_are_no_names(rt: HostRuntime) {
+fn other_texts_are_not_names(rt: HostRuntime) {
     const TEXTS: &[&str] = &[
         "",
         "/",
@@ -89,26 +89,26 @@ fn other_texts_are_no_names(rt: HostRuntime) {
 }
 
 #[test]
-fn components_have_at_most_255_octets(rt: HostRuntime) {
+fn components_have_at_most_255_bytes(rt: HostRuntime) {
     let alloc = rt.alloc();
     same(&rt, &255, &longest_spells(alloc), &Ok(true));
     same(&rt, &256, &is_longer_than_a_component(alloc), &Ok(true));
 }
 
-/// Whether the text of 255 octets is read and written.
+/// Checks whether the text of 255 bytes is read and written.
 fn longest_spells(alloc: Global) -> Result<bool, NameFault> {
     let text = longest_text(alloc)?;
     spells(alloc, text.as_str(), &[0xff; 255])
 }
 
-/// Whether that text with an octet more is no component.
+/// Checks whether that text with one more byte is not a component.
 fn is_longer_than_a_component(alloc: Global) -> Result<bool, AllocError> {
     let mut text = longest_text(alloc)?;
     text.push('a')?;
     Ok(is_no_component(alloc, text.as_str()))
 }
 
-/// The text of a component of 255 octets.
+/// Returns the text of a component of 255 bytes.
 fn longest_text(alloc: Global) -> Result<String, AllocError> {
     let mut text = String::new(alloc);
     for _ in 0..255 {
@@ -117,7 +117,7 @@ fn longest_text(alloc: Global) -> Result<String, AllocError> {
     Ok(text)
 }
 
-/// Whether the text is read as the component of these octets, and is written of it.
+/// Checks whether the text is read as the component with these bytes, and written again from it.
 fn spells(alloc: Global, text: &str, octets: &[u8]) -> Result<bool, NameFault> {
     let component = component_from_text(alloc, text)?;
     let written = component_to_text(alloc, component.as_slice())?;
@@ -129,7 +129,7 @@ fn is_no_component(alloc: Global, text: &str) -> bool {
 }
 
 #[test]
-fn names_have_1_to_16_components_of_1_to_255_octets(rt: HostRuntime) {
+fn names_have_1_to_16_components_of_1_to_255_bytes(rt: HostRuntime) {
     const NAMES: &[&[&[u8]]] = &[
         &[],
         &[b"a", b""],
@@ -146,7 +146,7 @@ fn names_have_1_to_16_components_of_1_to_255_octets(rt: HostRuntime) {
     }
 }
 
-/// The text of a realm is that of one component.
+/// The text of a realm is the text of one component.
 #[test]
 fn realms_are_read(rt: HostRuntime) {
     let alloc = rt.alloc();
@@ -156,7 +156,7 @@ fn realms_are_read(rt: HostRuntime) {
     }
 }
 
-/// The salt of raeburn in ATHENA.MIT.EDU is that of RFC 3962 appendix B.
+/// The salt of raeburn in ATHENA.MIT.EDU is the one in RFC 3962, appendix B.
 #[test]
 fn salts_join_realm_and_components(rt: HostRuntime) {
     const SALTS: &[(&[u8], &[&[u8]], &[u8])] = &[
@@ -171,7 +171,7 @@ fn salts_join_realm_and_components(rt: HostRuntime) {
     }
 }
 
-/// The salt of the name of these components in the realm.
+/// Returns the salt of the name with these components in the realm.
 fn salt_of(
     alloc: Global,
     realm: &[u8],
@@ -201,7 +201,7 @@ fn names_are_ordered_by_components(rt: HostRuntime) {
     }
 }
 
-/// The order of the names of two texts, and whether they are the same.
+/// Returns the order of the names with two texts, and whether they are equal.
 fn order_of(alloc: Global, one: &str, other: &str) -> Result<(Ordering, bool), NameFault> {
     let one = Name::from_text(alloc, one)?;
     let other = Name::from_text(alloc, other)?;
@@ -218,7 +218,7 @@ fn a_copy_of_a_name_is_the_same(rt: HostRuntime) {
     );
 }
 
-/// Whether the copy of the name of these components is the same.
+/// Checks whether a copy of the name with these components is equal to it.
 fn is_copied(alloc: Global, components: &[&[u8]]) -> Result<bool, AllocError> {
     let name = name_of(alloc, 2, components)?;
     let copy = name.copy(alloc)?;
@@ -236,7 +236,7 @@ fn moments_are_in_range(rt: HostRuntime) {
     }
 }
 
-/// The masks are those of krb5.h of MIT Kerberos.
+/// The masks come from krb5.h of MIT Kerberos.
 #[test]
 fn flags_have_their_bits(rt: HostRuntime) {
     const TICKET: &[(TicketFlag, u32)] = &[
@@ -312,7 +312,7 @@ fn flags_are_set_and_cleared(rt: HostRuntime) {
     );
 }
 
-/// Each number is read off the table of RFC 4120 section 7.5.9.
+/// The numbers come from the table of RFC 4120, section 7.5.9.
 #[test]
 fn codes_have_their_names(rt: HostRuntime) {
     const CODES: &[(Code, i32, &str)] = &[
@@ -378,16 +378,16 @@ fn codes_have_their_names(rt: HostRuntime) {
     }
 }
 
-/// Whether the code is printed so.
+/// Checks whether the code is printed with this name.
 fn is_printed(alloc: Global, code: Code, name: &str) -> Result<bool, AllocError> {
     let text = format!(in alloc; "{code}")?;
     Ok(text.as_str() == name)
 }
 
-/// One allocation may be refused, by `rt try --test --fail-alloc N`: the answer is then want of
-/// memory and nothing else, and the next call succeeds.
+/// If one allocation fails (`rt try --test --fail-alloc N`), the first call returns that memory ran out, and the next
+/// call succeeds.
 #[test]
-fn want_of_memory_is_answered(rt: HostRuntime) {
+fn names_work_after_memory_ran_out(rt: HostRuntime) {
     let first = is_read_and_written(rt.alloc());
     holds(
         &rt,
@@ -398,14 +398,14 @@ fn want_of_memory_is_answered(rt: HostRuntime) {
     same(&rt, &"the next call", &later, &Ok(true));
 }
 
-/// Whether a name is read of its text, and is written.
+/// Checks whether a name is read from its text and written again.
 fn is_read_and_written(alloc: Global) -> Result<bool, NameFault> {
     let text = "host\\20of/a.b";
     let name = Name::from_text(alloc, text)?;
     Ok(is_written_as(alloc, &name, text, b"A.Bhost ofa.b")?)
 }
 
-/// Whether the name has this text, and in `A.B` this salt; each is asked for again where an allocation is refused.
+/// Checks whether the name has this text, and this salt in `A.B`. Calls again if an allocation fails.
 fn is_written_as(alloc: Global, name: &Name, text: &str, salt: &[u8]) -> Result<bool, AllocError> {
     let found = name.to_text(alloc).or_else(|_| name.to_text(alloc))?;
     let joined = name

@@ -1,4 +1,4 @@
-//! The contents of the OCTET STRINGs of messages (`krb_parts`).
+//! Tests of the contents of the OCTET STRINGs of messages (`krb_parts`).
 ghost use Rattle.std.specs.Prelude.{◌<◌, ◌*◌, length, IfOk};
 ghost use Rattle.krb_parts.specs.Authenticator.{authenticator};
 ghost use Rattle.krb_parts.specs.EncApRepPart.{enc_ap_rep_part};
@@ -14,7 +14,7 @@ use krb_parts::{
 };
 use std::alloc::{AllocError, Global};
 
-// The octets are those of an encoder in Python, in hexadecimal.
+// The bytes come from an encoder in Python, in hexadecimal.
 
 /// An EncTicketPart with each field.
 const TICKET: &[u8] =
@@ -24,7 +24,7 @@ const TICKET: &[u8] =
     30305aa811180f32303234303130383030303030305aa911300f300da003020102a10604040a000001aa1b3019300ba00302\
     0101a10404023000300aa0030201ffa103040178";
 
-/// An EncTicketPart with no field that may be absent.
+/// An EncTicketPart without optional fields.
 const LEAST_TICKET: &[u8] =
     b"63723070a00703050000400000a11b3019a003020111a1120410000102030405060708090a0b0c0d0e0fa2051b03412e42a3\
     0e300ca003020101a10530031b0175a40b3009a003020101a1020400a511180f32303234303130313030303030305aa71118\
@@ -60,7 +60,7 @@ const AP_REPLY: &[u8] =
 /// An ETYPE-INFO2-ENTRY with each field.
 const ETYPE_INFO2_ENTRY: &[u8] = b"3015a003020112a1061b04412e4275a206040400001000";
 
-/// The octets that digits spell, and none where they spell no octets.
+/// Returns the bytes for digits, or nothing if the digits are invalid.
 fn octets(alloc: Global, digits: &[u8]) -> Vec<u8> {
     hex::decode(alloc, digits).unwrap_or(Vec::new(alloc))
 }
@@ -76,7 +76,7 @@ fn was_sent_at(time: Option<KTime>, later: i64) -> bool {
     time.is_some_and(|time| is_at(time, later))
 }
 
-/// Whether the ticket's part has the fields of `TICKET`, and whether it has none that may be absent.
+/// Returns whether the ticket's part has the fields of `TICKET`, and whether it has no optional field.
 fn ticket_part(alloc: Global, digits: &[u8]) -> Result<(bool, bool), Fault> {
     let part = decode_enc_ticket_part(alloc, &octets(alloc, digits))?;
     Ok((is_ticket(&part), has_no_optional_field(&part)))
@@ -86,7 +86,7 @@ fn is_ticket(part: &EncTicketPart) -> bool {
     has_numbers(part) && has_times(part) && has_lists(part)
 }
 
-/// The start, the end and the bound of renewals are 60, 36,000 and 604,800 seconds after the first ticket.
+/// Checks that starttime, endtime and renew-till are 60, 36,000 and 604,800 seconds after authtime.
 fn has_times(part: &EncTicketPart) -> bool {
     is_at(part.authtime, 0)
         && was_sent_at(part.starttime, 60)
@@ -112,14 +112,14 @@ fn parts_of_tickets_are_read(rt: HostRuntime) {
     );
 }
 
-/// The ticket's part that the octets spell, of which what is written has less than three times their number.
+/// Reads the ticket's part. What is written from it has less than three times its length.
 fn short_ticket_part(alloc: Global, octets: &[u8]) -> Result<EncTicketPart, Fault>
     ensures { IfOk result (λ x. length (enc_ticket_part.text x) < 3 * length octets.now) }
 {
     decode_enc_ticket_part(alloc, octets)
 }
 
-/// What is written of the ticket's part that the octets spell, which are fewer than a thousand.
+/// Reads the ticket's part of fewer than a thousand bytes, and writes it again.
 fn ticket_part_again(alloc: Global, octets: &[u8]) -> Result<Vec<u8>, Fault> {
     if octets.len() >= 1000 {
         return Ok(Vec::new(alloc));
@@ -145,7 +145,7 @@ fn has_numbers(part: &EncTicketPart) -> bool {
 }
 
 #[test]
-fn what_may_be_absent_is_absent(rt: HostRuntime) {
+fn optional_fields_may_be_absent(rt: HostRuntime) {
     same(
         &rt,
         &"the least",
@@ -161,7 +161,7 @@ fn has_no_optional_field(part: &EncTicketPart) -> bool {
         && part.authorization_data.is_none()
 }
 
-/// Whether the authenticator has the fields of `AUTHENTICATOR`.
+/// Checks whether the authenticator has the fields of `AUTHENTICATOR`.
 fn is_authenticator(alloc: Global, digits: &[u8]) -> Result<bool, Fault> {
     let found = decode_authenticator(alloc, &octets(alloc, digits))?;
     Ok(has_time_and_number(&found) && has_key_and_data(&found))
@@ -203,14 +203,14 @@ fn authenticators_have_version_5(rt: HostRuntime) {
     );
 }
 
-/// The authenticator that the octets spell, of which what is written has less than three times their number.
+/// Reads an authenticator. What is written from it has less than three times its length.
 fn short_authenticator(alloc: Global, octets: &[u8]) -> Result<Authenticator, Fault>
     ensures { IfOk result (λ x. length (authenticator.text x) < 3 * length octets.now) }
 {
     decode_authenticator(alloc, octets)
 }
 
-/// What is written of the authenticator that the octets spell, which are fewer than a thousand.
+/// Reads an authenticator of fewer than a thousand bytes, and writes it again.
 fn authenticator_again(alloc: Global, octets: &[u8]) -> Result<Vec<u8>, Fault> {
     if octets.len() >= 1000 {
         return Ok(Vec::new(alloc));
@@ -225,19 +225,19 @@ fn authenticators_are_written(rt: HostRuntime) {
     written(&rt, authenticator_again(rt.alloc(), &octets), &octets);
 }
 
-/// Whether the octets are those of `REPLY`.
+/// Checks whether the bytes are those of `REPLY`.
 fn is_reply(octets: &[u8]) -> Result<bool, DerFault> {
     let part: EncKdcRepPartRef<'_> = read(octets)?;
     Ok(is_for_a_ticket(&part) && has_entry(&part))
 }
 
 #[test]
-fn parts_of_replies_are_read_where_they_stand(rt: HostRuntime) {
+fn parts_of_replies_are_read_in_place(rt: HostRuntime) {
     let octets = octets(rt.alloc(), REPLY);
     same(&rt, &"each field", &is_reply(&octets), &Ok(true));
 }
 
-/// Whether the key, the nonce, the end of the client's key and the service are those of `REPLY`.
+/// Checks whether the key, the nonce, key-expiration and the service are those of `REPLY`.
 fn is_for_a_ticket(part: &EncKdcRepPartRef<'_>) -> bool {
     part.key.number == 18
         && part.nonce.get() == -1
@@ -246,7 +246,7 @@ fn is_for_a_ticket(part: &EncKdcRepPartRef<'_>) -> bool {
         && part.sname.name_type == 2
 }
 
-/// Whether the first request is at midnight.
+/// Checks whether the first entry of last-req is at midnight.
 fn has_entry(part: &EncKdcRepPartRef<'_>) -> bool {
     match part.last_req.iter().next() {
         Some(last) => last.lr_type == 0 && is_at(last.lr_value, 0),
@@ -269,7 +269,7 @@ fn a_service_s_answer_is_read(rt: HostRuntime) {
     );
 }
 
-/// Whether the fields are those of `AP_REPLY`.
+/// Checks whether the fields are those of `AP_REPLY`.
 fn is_service_answer(part: &EncApRepPart) -> bool {
     let has_key = match &part.subkey {
         Some(key) => key.number == 18,
@@ -281,14 +281,14 @@ fn is_service_answer(part: &EncApRepPart) -> bool {
         && part.seq_number.is_some_and(|n| n.get() == 1)
 }
 
-/// The service's answer that the octets spell, of which what is written has less than three times their number.
+/// Reads the service's answer. What is written from it has less than three times its length.
 fn short_service_answer(alloc: Global, octets: &[u8]) -> Result<EncApRepPart, Fault>
     ensures { IfOk result (λ x. length (enc_ap_rep_part.text x) < 3 * length octets.now) }
 {
     decode_enc_ap_rep_part(alloc, octets)
 }
 
-/// What is written of the service's answer that the octets spell, which are fewer than a thousand.
+/// Reads the service's answer of fewer than a thousand bytes, and writes it again.
 fn service_answer_again(alloc: Global, octets: &[u8]) -> Result<Vec<u8>, Fault> {
     if octets.len() >= 1000 {
         return Ok(Vec::new(alloc));
@@ -303,7 +303,7 @@ fn a_service_s_answer_is_written(rt: HostRuntime) {
     written(&rt, service_answer_again(rt.alloc(), &octets), &octets);
 }
 
-/// Whether the octets are those of `ETYPE_INFO2_ENTRY`.
+/// Checks whether the bytes are those of `ETYPE_INFO2_ENTRY`.
 fn etype_info2_entry(octets: &[u8]) -> Result<bool, DerFault> {
     let entry: EtypeInfo2EntryRef<'_> = read(octets)?;
     Ok(is_entry(&entry, 18, b"A.Bu", &[0, 0, 16, 0]))
@@ -329,7 +329,7 @@ fn written_timestamp(alloc: Global, part: &PaEncTsEnc) -> Result<Vec<u8>, AllocE
     encode_pa_enc_ts_enc(alloc, part)
 }
 
-/// What is written of the timestamp that the octets spell, where it is at midnight and 999,999 microseconds.
+/// Reads a timestamp, and writes it again if it is of midnight and 999,999 microseconds.
 fn timestamp_again(alloc: Global, octets: &[u8]) -> Result<Vec<u8>, Fault> {
     let part = decode_pa_enc_ts_enc(alloc, octets)?;
     let is_last = part.pausec.is_some_and(|n| n.get() == 999_999);

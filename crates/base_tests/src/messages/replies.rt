@@ -1,11 +1,11 @@
-//! Replies with a ticket (`krb_replies`).
+//! Tests of replies with a ticket (`krb_replies`).
 use crate::expect::same;
 use krb_der::DerFault;
 use krb_elements::read;
 use krb_replies::KdcRepRef;
 use std::alloc::Global;
 
-/// An AS-REP of a Python program, by the types of RFC 4120, section 5.4.2.
+/// An AS-REP from a Python program, with the types of RFC 4120, section 5.4.2.
 const AS_REP: &[u8] =
     b"6b82022a30820226a003020105a10302010ba21e301c301aa103020113a2130411300f300da003020112a1061b04412e\
     4275a3051b03412e42a40e300ca003020101a10530031b0175a581f76181f43081f1a003020105a1051b03412e42a218\
@@ -20,17 +20,17 @@ const AS_REP: &[u8] =
     34d0bec88c41b7f076924ede04e7b57f273cf3c880baa95d4997b7f18085befac00293589b7c249c090a31a43df2ee67\
     c5e2670e83814a31b9a6455d2a6b168da080206f8c9fdd6967b900f9e18e";
 
-/// The octets of `AS_REP`.
+/// Returns the bytes of `AS_REP`.
 fn as_rep(alloc: Global) -> Vec<u8> {
     hex::decode(alloc, AS_REP).unwrap_or(Vec::new(alloc))
 }
 
 #[test]
-fn a_reply_is_read_where_it_stands(rt: HostRuntime) {
+fn a_reply_is_read_in_place(rt: HostRuntime) {
     same(&rt, &"a reply", &is_as_rep(&as_rep(rt.alloc())), &Ok(true));
 }
 
-/// Whether these are the octets of `AS_REP`.
+/// Checks whether these are the bytes of `AS_REP`.
 fn is_as_rep(octets: &[u8]) -> Result<bool, DerFault> {
     let reply: KdcRepRef<'_, 11> = read(octets)?;
     Ok(

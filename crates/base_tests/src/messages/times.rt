@@ -1,4 +1,4 @@
-//! KerberosTime (`krb_der`).
+//! Tests of KerberosTime (`krb_der`).
 use crate::expect::same;
 use krb_der::KTime;
 
@@ -27,7 +27,7 @@ fn reads_and_writes(rt: HostRuntime) {
     }
 }
 
-/// Whether the octets are read as this time, and are written of it.
+/// Checks whether the bytes are read as this time, and written again from it.
 fn is_spelled(octets: &[u8; 15], seconds: i64) -> bool {
     let Some(time) = KTime::new(seconds) else {
         return false;
@@ -38,7 +38,7 @@ fn is_spelled(octets: &[u8; 15], seconds: i64) -> bool {
 }
 
 #[test]
-fn refuses_what_is_no_time(rt: HostRuntime) {
+fn refuses_other_texts(rt: HostRuntime) {
     const REFUSED: &[&[u8]] = &[
         b"",
         b"2024010100000Z",

@@ -1,4 +1,4 @@
-//! Whole messages (`krb_types`).
+//! Tests of whole messages (`krb_types`).
 ghost use Rattle.std.specs.Prelude.{◌≡◌, ◌<◌, ◌*◌, length, IfOk};
 ghost use Rattle.krb_types.specs.KdcReq.{SpellsKdcReq, message, without_octets};
 
@@ -13,7 +13,7 @@ use krb_types::{
 use std::alloc::{AllocError, Global};
 use std::process::Abort;
 
-// pyasn1 gives these octets of the types of RFC 4120, sections 5.3, 5.4.1 and 5.9.1.
+// These bytes come from pyasn1, with the types of RFC 4120, sections 5.3, 5.4.1 and 5.9.1.
 
 /// The AS-REQ of `u` for `krbtgt/A.B`.
 const AS_REQ: &[u8; 107] = b"\x6a\x69\x30\x67\
@@ -48,7 +48,7 @@ const TGS_REQ: &[u8; 252] = b"\x6c\x81\xf9\x30\x81\xf6\
     \xa2\x18\x30\x16\xa0\x03\x02\x01\x02\xa1\x0f\x30\x0d\x1b\x06krbtgt\x1b\x03A.B\
     \xa3\x11\x30\x0f\xa0\x03\x02\x01\x11\xa1\x03\x02\x01\x07\xa2\x03\x04\x01\x05";
 
-/// An error with no field that may be absent.
+/// An error without optional fields.
 const SHORT_ERROR: &[u8; 76] = b"\x7e\x4a\x30\x48\
     \xa0\x03\x02\x01\x05\
     \xa1\x03\x02\x01\x1e\
@@ -74,7 +74,7 @@ const LONG_ERROR: &[u8; 137] = b"\x7e\x81\x86\x30\x81\x83\
     \xab\x04\x1b\x02no\
     \xac\x04\x04\x02\x30\x00";
 
-/// Whether the name has this name type and these components.
+/// Checks whether the name has this name-type and these components.
 pub fn is_name(name: &NameRef<'_>, name_type: i32, components: &[&[u8]]) -> bool {
     let mut found = name.components.iter();
     for component in components {
@@ -107,7 +107,7 @@ fn has_no_optional_field(body: &ReqBodyRef<'_>) -> bool {
         && body.additional_tickets.is_none()
 }
 
-/// Whether these are the encryption types that are asked for.
+/// Checks whether these are the encryption types of the request.
 fn asks_for(body: &ReqBodyRef<'_>, etypes: &[i32]) -> bool {
     let mut found = body.etype.iter();
     for etype in etypes {
@@ -118,7 +118,7 @@ fn asks_for(body: &ReqBodyRef<'_>, etypes: &[i32]) -> bool {
     found.next().is_none()
 }
 
-/// Reading takes no allocator, so no test has to refuse it memory.
+/// Reading allocates nothing, so no test has to let an allocation fail.
 #[test]
 fn requests_are_read(rt: HostRuntime) {
     same(
@@ -129,7 +129,7 @@ fn requests_are_read(rt: HostRuntime) {
     );
 }
 
-/// The exchange of the request, and whether it is `AS_REQ` or `TGS_REQ`.
+/// Returns the exchange of the request, and whether it is `AS_REQ` or `TGS_REQ`.
 fn kind_of(octets: &[u8]) -> Result<(Exchange, bool, bool), DerFault> {
     let (exchange, request) = read_kdc_req(octets)?;
     Ok((exchange, is_as_req(&request), is_tgs_req(&request)))
@@ -155,7 +155,7 @@ fn is_body_of_as_req(body: &ReqBodyRef<'_>) -> bool {
         && has_no_optional_field(body)
 }
 
-/// Whether the request has this element of data alone.
+/// Checks whether the request has only this element of padata.
 fn has_data(request: &KdcReqRef<'_>, padata_type: i32, value: &[u8]) -> bool {
     let Some(padata) = &request.padata else {
         return false;
@@ -187,7 +187,7 @@ fn is_tgs_req(request: &KdcReqRef<'_>) -> bool {
         && has_parts(&request.body.value)
 }
 
-/// The seconds are those of Python's datetime.
+/// Checks the numbers and times; the seconds come from Python's datetime.
 fn has_numbers_and_times(body: &ReqBodyRef<'_>) -> bool {
     body.kdc_options.bits() == 0x4081_0010
         && body.cname.is_none()
@@ -199,7 +199,7 @@ fn has_numbers_and_times(body: &ReqBodyRef<'_>) -> bool {
         && asks_for(body, &[18, 17])
 }
 
-/// Whether this is the first address.
+/// Checks whether this is the first address.
 fn has_address(body: &ReqBodyRef<'_>, number: i32, octets: &[u8]) -> bool {
     let Some(addresses) = &body.addresses else {
         return false;
@@ -210,7 +210,7 @@ fn has_address(body: &ReqBodyRef<'_>, number: i32, octets: &[u8]) -> bool {
     address.number == number && address.octets.as_slice() == octets
 }
 
-/// Whether there is sealed authorization-data with this cipher.
+/// Checks whether there is encrypted authorization-data with this cipher.
 fn has_sealed_data(body: &ReqBodyRef<'_>, cipher: &[u8]) -> bool {
     match &body.enc_authorization_data {
         Some(sealed) => sealed.cipher.as_slice() == cipher,
@@ -218,7 +218,7 @@ fn has_sealed_data(body: &ReqBodyRef<'_>, cipher: &[u8]) -> bool {
     }
 }
 
-/// Whether there is one ticket, of `krbtgt/A.B` in `A.B`, whose cipher is the octet 5.
+/// Checks whether there is one ticket, for `krbtgt/A.B` in `A.B`, whose cipher is the byte 5.
 fn has_ticket(body: &ReqBodyRef<'_>) -> bool {
     let Some(tickets) = &body.additional_tickets else {
         return false;
@@ -241,9 +241,9 @@ fn has_parts(body: &ReqBodyRef<'_>) -> bool {
     has_address(body, 2, &[10, 0, 0, 1]) && has_sealed_data(body, &[3, 4]) && has_ticket(body)
 }
 
-/// The order of faults: no octet, tag, length, contents cut, contents, what follows.
+/// In the order of their checks: no bytes, tag, length, contents cut, contents, following bytes.
 #[test]
-fn faults_are_told_apart(rt: HostRuntime) {
+fn each_fault_has_its_error(rt: HostRuntime) {
     refused(&rt, &[0x6b], DerFault::BadTag);
     refused(&rt, &followed(), DerFault::Trailing);
     refused(&rt, &in_long_form(), DerFault::BadLength);
@@ -253,19 +253,19 @@ fn faults_are_told_apart(rt: HostRuntime) {
     }
 }
 
-/// The octets are refused for this fault.
+/// Checks that the bytes are refused with this error.
 fn refused(rt: &impl Abort, octets: &[u8], fault: DerFault) {
     same(rt, &octets, &read_kdc_req(octets).err(), &Some(fault));
 }
 
-/// The request, and an octet behind it.
+/// Returns the request followed by a byte.
 fn followed() -> [u8; 108] {
     let mut octets = [0; 108];
     octets[..107].copy_from_slice(AS_REQ);
     octets
 }
 
-/// The request, whose length has an octet more than it needs.
+/// Returns the request with one byte more in its length than needed.
 fn in_long_form() -> [u8; 108] {
     let request = AS_REQ.as_slice();
     let mut octets = [0x81; 108];
@@ -300,7 +300,7 @@ fn owned(alloc: Global, request: &KdcReqRef<'_>) -> Result<KdcReq, AllocError>
     })
 }
 
-/// The request that the octets spell.
+/// Reads a request.
 fn decoded(alloc: Global, octets: &[u8]) -> Result<(Exchange, KdcReq), Fault>
     ensures { IfOk result (λ x. SpellsKdcReq x octets.now) }
 {
@@ -308,14 +308,14 @@ fn decoded(alloc: Global, octets: &[u8]) -> Result<(Exchange, KdcReq), Fault>
     Ok((exchange, owned(alloc, &request)?))
 }
 
-/// The same, of which what is written has less than three times their number.
+/// Reads a request. What is written from it has less than three times its length.
 fn short(alloc: Global, octets: &[u8]) -> Result<(Exchange, KdcReq), Fault>
     ensures { IfOk result (λ x. length ((message x.0).text x.1) < 3 * length octets.now) }
 {
     decoded(alloc, octets)
 }
 
-/// What is written of the request that the octets spell, which are fewer than a thousand.
+/// Reads a request of fewer than a thousand bytes, and writes it again.
 fn request_again(alloc: Global, octets: &[u8]) -> Result<Vec<u8>, Fault> {
     if octets.len() >= 1000 {
         return Ok(Vec::new(alloc));
@@ -324,7 +324,7 @@ fn request_again(alloc: Global, octets: &[u8]) -> Result<Vec<u8>, Fault> {
     Ok(encode_kdc_req(alloc, exchange, &request)?)
 }
 
-/// What is written of the error that the octets spell, which are fewer than a thousand.
+/// Reads an error of fewer than a thousand bytes, and writes it again.
 #[tactic(auto, using(krb_elements::specs::WrittenLaws::tlv_longer))]
 fn error_again(alloc: Global, octets: &[u8]) -> Result<Vec<u8>, Fault> {
     if octets.len() >= 1000 {
@@ -334,7 +334,7 @@ fn error_again(alloc: Global, octets: &[u8]) -> Result<Vec<u8>, Fault> {
     encode_krb_error(alloc, &error).map_err(Fault::from)
 }
 
-/// `AS_REQ` as a TGS-REQ.
+/// Returns `AS_REQ` as a TGS-REQ.
 fn tgs_req() -> [u8; 107] {
     let mut octets = *AS_REQ;
     octets[0] = 0x6c;
@@ -355,7 +355,7 @@ fn errors_are_written(rt: HostRuntime) {
     written(&rt, error_again(rt.alloc(), LONG_ERROR), LONG_ERROR);
 }
 
-/// Whether the octets spell the error with each field.
+/// Checks whether the bytes are the error with each field.
 fn is_long_error(alloc: Global, octets: &[u8]) -> Result<bool, Fault> {
     let error = decode_krb_error(alloc, octets)?;
     Ok(has_time_and_code(&error) && has_text_and_data(&error, b"no", &[0x30, 0]))
@@ -399,10 +399,10 @@ fn errors_have_version_5(rt: HostRuntime) {
     );
 }
 
-/// One allocation may be refused, by `rt try --test --fail-alloc N`: the answer is then want of
-/// memory and nothing else, and the next call succeeds.
+/// If one allocation fails (`rt try --test --fail-alloc N`), the first call returns that memory ran out, and the next
+/// call succeeds.
 #[test]
-fn want_of_memory_for_a_request_is_answered(rt: HostRuntime) {
+fn writing_a_request_works_after_memory_ran_out(rt: HostRuntime) {
     match request_again(rt.alloc(), AS_REQ) {
         Ok(octets) => same(
             &rt,
@@ -417,9 +417,9 @@ fn want_of_memory_for_a_request_is_answered(rt: HostRuntime) {
     }
 }
 
-/// As above.
+/// The same for an error.
 #[test]
-fn want_of_memory_for_an_error_is_answered(rt: HostRuntime) {
+fn writing_an_error_works_after_memory_ran_out(rt: HostRuntime) {
     match error_again(rt.alloc(), LONG_ERROR) {
         Ok(octets) => same(
             &rt,

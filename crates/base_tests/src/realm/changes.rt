@@ -1,15 +1,14 @@
-//! Changes of a database (`principals`).
+//! Tests of changes of a database (`principals`).
 use crate::expect::{holds, same};
 use crate::realm::given::{LONGEST, Step, TOO_LONG, change, database, has, name};
 use principals::{ChangeFault, Database};
 use std::alloc::Global;
 use std::process::Abort;
 
-/// What is seen of the row of `u`: the number of its current keys, how many versions of them it has, and whether it is
-/// disabled.
+/// The row of `u`: its current key version, the number of its versions, and whether it is disabled.
 type Seen = Option<(u32, usize, bool)>;
 
-/// A step of the principal of these components, what comes of it, and then the number of rows and the row of `u`.
+/// A change of the principal with these components, its outcome, and the number of rows and the row of `u` afterwards.
 type Case = (
     Step,
     &'static [&'static [u8]],
@@ -20,13 +19,13 @@ type Case = (
 
 const U: &[u8] = b"u";
 
-const GRANTER: &[&[u8]] = &[b"krbtgt", b"A.B"];
+const TGS: &[&[u8]] = &[b"krbtgt", b"A.B"];
 
 /// A new row.
 const NEW: Seen = Some((1, 1, false));
 
-/// Each step of these on a first database. A database is let go here alone: proofs about its end take long for each
-/// place.
+/// Makes these changes of a first database. Only this function drops a database: each place with a drop takes long to
+/// prove.
 fn runs(rt: &impl Abort, alloc: Global, cases: &[Case]) {
     match database(alloc) {
         Ok(mut database) => {
@@ -62,14 +61,14 @@ fn a_name_is_added_once(rt: HostRuntime) {
     const CASES: &[Case] = &[
         (Step::Add, &[U], Ok(()), 2, NEW),
         (Step::Add, &[U], Err(ChangeFault::Exists), 2, NEW),
-        (Step::Add, GRANTER, Err(ChangeFault::Exists), 2, NEW),
+        (Step::Add, TGS, Err(ChangeFault::Exists), 2, NEW),
     ];
     runs(&rt, rt.alloc(), CASES);
 }
 
-/// The bad names have too few or too many components, or one with too few or too many octets.
+/// The invalid names have too few or too many components, or one with too few or too many bytes.
 #[test]
-fn a_name_has_1_to_16_components_of_1_to_255_octets(rt: HostRuntime) {
+fn a_name_has_1_to_16_components_of_1_to_255_bytes(rt: HostRuntime) {
     const BAD: Result<(), ChangeFault> = Err(ChangeFault::BadName);
     const CASES: &[Case] = &[
         (Step::Add, &[], BAD, 1, None),
@@ -83,9 +82,9 @@ fn a_name_has_1_to_16_components_of_1_to_255_octets(rt: HostRuntime) {
     runs(&rt, rt.alloc(), CASES);
 }
 
-// Passes whichever allocation is refused.
+// Passes if any one allocation fails.
 #[test]
-fn a_change_without_memory_leaves_the_database(rt: HostRuntime) {
+fn a_change_out_of_memory_leaves_the_database_unchanged(rt: HostRuntime) {
     if let Ok(mut database) = database(rt.alloc()) {
         is_left(&rt, rt.alloc(), &mut database);
     }
@@ -108,10 +107,10 @@ fn is_left(rt: &impl Abort, alloc: Global, database: &mut Database) {
 }
 
 #[test]
-fn what_has_to_stay_stays(rt: HostRuntime) {
+fn protected_rows_and_keys_stay(rt: HostRuntime) {
     const CASES: &[Case] = &[
         (Step::Add, &[U], Ok(()), 2, NEW),
-        (Step::Remove, GRANTER, Err(ChangeFault::Protected), 2, NEW),
+        (Step::Remove, TGS, Err(ChangeFault::Protected), 2, NEW),
         (
             Step::DropKeys(1),
             &[U],
@@ -135,7 +134,7 @@ fn keys_come_and_go(rt: HostRuntime) {
 }
 
 #[test]
-fn a_policy_is_set_and_a_row_goes(rt: HostRuntime) {
+fn a_policy_is_set_and_a_row_is_removed(rt: HostRuntime) {
     const CASES: &[Case] = &[
         (Step::Add, &[U], Ok(()), 2, NEW),
         (Step::Disable, &[U], Ok(()), 2, Some((1, 1, true))),

@@ -1,4 +1,4 @@
-//! The text of a database (`principals`).
+//! Tests of the text of a database (`principals`).
 use crate::expect::same;
 use principals::{Database, ReadFault};
 use std::alloc::{AllocError, Global};
@@ -22,13 +22,13 @@ const VERSION_3: &str = "{\"principals\":{\"krbtgt/A.B\":{\"disabled\":false,\"e
     \"ok_as_delegate\":false,\"password_expires\":null,\"postdate\":false,\"preauth\":true,\
     \"proxiable\":true,\"revoked_before\":null,\"service\":true}},\"realm\":\"A.B\",\"version\":3}";
 
-/// The keys in it, and the versions that have them.
+/// The keys in it, and the versions with these keys.
 const KEYS: &str = "[{\"etype\":17,\"key\":\"000102030405060708090a0b0c0d0e0f\"}]";
 
 const VERSIONS: &str =
     "[{\"keys\":[{\"etype\":17,\"key\":\"000102030405060708090a0b0c0d0e0f\"}],\"version\":1}]";
 
-/// The end of the versions, with version 1 once more, or with a later one.
+/// The end of the versions, with version 1 again, or with a later version.
 const AND_VERSION_1: &str =
     "1},{\"keys\":[{\"etype\":17,\"key\":\"000102030405060708090a0b0c0d0e0f\"}],\"version\":1}],";
 
@@ -58,25 +58,25 @@ fn a_text_is_read_and_written_in_version_3(rt: HostRuntime) {
 }
 
 #[test]
-fn a_principal_that_is_no_service_is_none_in_the_text(rt: HostRuntime) {
+fn a_principal_that_is_no_service_is_written_so(rt: HostRuntime) {
     same(&rt, &"service", &is_no_service_kept(rt.alloc()), &Ok(true));
 }
 
-/// Whether a text of a principal for whom there are to be no tickets is written as it is read.
+/// Checks whether the text of a principal that is no service is written as it is read.
 fn is_no_service_kept(alloc: Global) -> Result<bool, ReadFault> {
     let text = VERSION_3.replace(alloc, "\"service\":true", "\"service\":false")?;
     let database = Database::read(alloc, text.as_str())?;
     Ok(database.write(alloc)?.as_str() == text.as_str())
 }
 
-/// Whether the database of the text, and a copy of it, are that of `VERSION_3`.
+/// Returns whether the database of the text is that of `VERSION_3`, and whether its copy is.
 fn read_as(alloc: Global, text: &str) -> Result<(bool, bool), ReadFault> {
     let database = Database::read(alloc, text)?;
     let is_that = is_that_of_version_3(alloc, &database)?;
     Ok((is_that, is_copied(alloc, &database)?))
 }
 
-/// Whether the database has one row, and is written as `VERSION_3`.
+/// Checks whether the database has one row and is written as `VERSION_3`.
 fn is_that_of_version_3(alloc: Global, database: &Database) -> Result<bool, AllocError> {
     Ok(database.len() == 1 && database.write(alloc)?.as_str() == VERSION_3)
 }
@@ -85,9 +85,9 @@ fn is_copied(alloc: Global, database: &Database) -> Result<bool, AllocError> {
     is_that_of_version_3(alloc, &database.copy(alloc)?)
 }
 
-// Passes whichever allocation is refused.
+// Passes if any one allocation fails.
 #[test]
-fn a_text_without_memory_is_read_and_written_when_it_comes_again(rt: HostRuntime) {
+fn a_text_is_read_and_written_after_memory_ran_out(rt: HostRuntime) {
     let mut found = read_as(rt.alloc(), VERSION_3);
     if found == Err(ReadFault::Memory) {
         found = read_as(rt.alloc(), VERSION_3);
@@ -95,12 +95,12 @@ fn a_text_without_memory_is_read_and_written_when_it_comes_again(rt: HostRuntime
     same(&rt, &"the next call", &found, &Ok((true, true)));
 }
 
-/// The text is refused for this fault.
+/// Checks that the text is refused with this error.
 fn refused(rt: &impl Abort, alloc: Global, text: &str, fault: ReadFault) {
     same(rt, &text, &read_as(alloc, text), &Err(fault));
 }
 
-/// What stands in the place of what, and the fault that this makes.
+/// A part of the text, what replaces it, and the error that this causes.
 const FAULTS: &[(&str, &str, ReadFault)] = &[
     ("\"version\":3}", "\"version\":4}", ReadFault::BadVersion),
     ("\"version\":3}", "\"version\":3.0}", ReadFault::BadVersion),
@@ -147,14 +147,14 @@ fn a_text_is_refused_by_its_first_fault(rt: HostRuntime) {
     refused(&rt, rt.alloc(), "[]", ReadFault::NotJson);
 }
 
-/// The same of `VERSION_3` with something in the place of what was there.
+/// Reads `VERSION_3` with a part of it replaced.
 fn read_with(alloc: Global, old: &str, new: &str) -> Result<(bool, bool), ReadFault> {
     let text = VERSION_3.replace(alloc, old, new)?;
     read_as(alloc, text.as_str())
 }
 
 #[test]
-fn every_front_of_a_text_is_no_json(rt: HostRuntime) {
+fn no_proper_prefix_of_a_text_is_json(rt: HostRuntime) {
     for end in 0..VERSION_3.len() {
         if let Some(front) = VERSION_3.get(..end) {
             refused(&rt, rt.alloc(), front, ReadFault::NotJson);
@@ -162,7 +162,7 @@ fn every_front_of_a_text_is_no_json(rt: HostRuntime) {
     }
 }
 
-/// Of a member that stands twice the last counts.
+/// If an object has a member twice, the last one counts.
 #[test]
 fn the_last_of_two_members_counts(rt: HostRuntime) {
     let twice = "\"disabled\":0,\"disabled\":false";
@@ -170,7 +170,7 @@ fn the_last_of_two_members_counts(rt: HostRuntime) {
     same(&rt, &twice, &found, &Ok((true, true)));
 }
 
-/// The text with this character so often for its realm, between these quotes.
+/// Returns the text with this character this many times as its realm, between these quotes.
 fn with_realm(alloc: Global, quote: &str, fill: char, count: usize) -> Result<String, AllocError> {
     let mut realm = String::new(alloc);
     realm.push_str(quote)?;
@@ -189,7 +189,7 @@ fn deep_and_long_texts_are_refused(rt: HostRuntime) {
     same(&rt, &"long", &long, &Err(ReadFault::BadRow));
 }
 
-/// What comes of reading that text.
+/// Reads that text.
 fn read_with_realm(
     alloc: Global,
     quote: &str,

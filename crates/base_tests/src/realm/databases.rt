@@ -1,4 +1,4 @@
-//! Databases and the order of names in them (`principals`).
+//! Tests of databases and the order of names in them (`principals`).
 use crate::expect::{holds, same};
 use crate::realm::given::{LONGEST, Step, TOO_LONG, change, database, first, has, is, name};
 use krb_elements::read;
@@ -21,19 +21,19 @@ fn grants_tickets(rt: &impl Abort, alloc: Global, database: &Database) {
     same(
         rt,
         &"the granter",
-        &granter_version(alloc, database),
+        &tgs_version(alloc, database),
         &Ok(Some(1)),
     );
 }
 
-/// The version of the granter's current keys.
-fn granter_version(alloc: Global, database: &Database) -> Result<Option<u32>, AllocError> {
+/// Returns the current key version of the ticket-granting service.
+fn tgs_version(alloc: Global, database: &Database) -> Result<Option<u32>, AllocError> {
     let row = database.get(&name(alloc, &[b"krbtgt", b"A.B"])?);
     Ok(row.map(|row| row.versions.current().number))
 }
 
 #[test]
-fn a_realm_has_1_to_255_octets(rt: HostRuntime) {
+fn a_realm_has_1_to_255_bytes(rt: HostRuntime) {
     same(&rt, &"255 octets", &fault_of(rt.alloc(), LONGEST), &None);
     same(
         &rt,
@@ -53,7 +53,7 @@ fn fault_of(alloc: Global, realm: &[u8]) -> Option<FirstFault> {
     first(alloc, realm).err()
 }
 
-/// Adds four principals, in another order than theirs.
+/// Adds four principals, in another order than that of their names.
 fn add_principals(alloc: Global, database: &mut Database) -> Result<(), ChangeFault> {
     for component in [b"u", b"h", b"b", b"a"] {
         change(alloc, database, &[component], Step::Add)?;
@@ -61,7 +61,7 @@ fn add_principals(alloc: Global, database: &mut Database) -> Result<(), ChangeFa
     Ok(())
 }
 
-/// Whether the name stands at this place, and is found.
+/// Checks whether the name is at this place, and is found.
 fn stands_at(
     alloc: Global,
     database: &Database,
@@ -74,7 +74,7 @@ fn stands_at(
     Ok(is(name, components) && has(alloc, database, components)?)
 }
 
-/// The first place that does not hold its name of these, or whose name is not found.
+/// Returns the first place without its name, or whose name is not found.
 fn misplaced(alloc: Global, database: &Database, names: &[&[&[u8]]]) -> Option<usize> {
     for (place, components) in names.iter().enumerate() {
         if stands_at(alloc, database, place, components) != Ok(true) {
@@ -87,7 +87,7 @@ fn misplaced(alloc: Global, database: &Database, names: &[&[&[u8]]]) -> Option<u
 const RISING: &[&[&[u8]]] = &[&[b"a"], &[b"b"], &[b"h"], &[b"krbtgt", b"A.B"], &[b"u"]];
 
 #[test]
-fn principals_stand_in_the_order_of_their_components(rt: HostRuntime) {
+fn principals_have_the_order_of_their_components(rt: HostRuntime) {
     match database(rt.alloc()) {
         Ok(mut database) => stand_in_order(&rt, rt.alloc(), &mut database),
         Err(fault) => panic!(rt; "{fault:?}"),
@@ -113,7 +113,7 @@ fn stand_in_order(rt: &impl Abort, alloc: Global, database: &mut Database) {
 }
 
 #[test]
-fn a_name_is_looked_up_where_it_stands(rt: HostRuntime) {
+fn a_name_is_looked_up_in_place(rt: HostRuntime) {
     match database(rt.alloc()) {
         Ok(mut database) => is_looked_up(&rt, rt.alloc(), &mut database),
         Err(fault) => panic!(rt; "{fault:?}"),
@@ -129,15 +129,15 @@ fn is_looked_up(rt: &impl Abort, alloc: Global, database: &mut Database) {
     same(rt, &"v", &has_ref(database, v), &Some(false));
 }
 
-/// Whether the database has the name that these octets spell.
+/// Checks whether the database has the name that these bytes encode.
 fn has_ref(database: &Database, octets: &[u8]) -> Option<bool> {
     let name: NameRef<'_> = read(octets).ok()?;
     Some(database.get_ref(&name).is_some())
 }
 
-// Passes whichever allocation is refused.
+// Passes if any one allocation fails.
 #[test]
-fn a_first_database_without_memory_is_made_when_asked_again(rt: HostRuntime) {
+fn a_first_database_is_made_after_memory_ran_out(rt: HostRuntime) {
     let made = rows(rt.alloc());
     holds(
         &rt,
@@ -149,23 +149,18 @@ fn a_first_database_without_memory_is_made_when_asked_again(rt: HostRuntime) {
     }
 }
 
-/// How many rows a first database has.
+/// Returns the number of rows of a first database.
 fn rows(alloc: Global) -> Result<usize, FirstFault> {
     Ok(database(alloc)?.len())
 }
 
 #[test]
 fn the_ticket_granting_service_is_named_by_its_realm(rt: HostRuntime) {
-    same(
-        &rt,
-        &"the granter",
-        &is_granter_of_a_b(rt.alloc()),
-        &Ok(true),
-    );
+    same(&rt, &"the granter", &is_tgs_of_a_b(rt.alloc()), &Ok(true));
 }
 
-/// Whether the granter of `A.B` is `krbtgt/A.B`, of name-type 2.
-fn is_granter_of_a_b(alloc: Global) -> Result<bool, AllocError> {
+/// Checks whether the ticket-granting service of `A.B` is `krbtgt/A.B`, with name-type 2.
+fn is_tgs_of_a_b(alloc: Global) -> Result<bool, AllocError> {
     let granter = granter_name(alloc, b"A.B")?;
     Ok(granter.name_type == 2 && is(&granter, &[b"krbtgt", b"A.B"]))
 }

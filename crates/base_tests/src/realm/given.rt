@@ -6,7 +6,7 @@ use principal_rows::{KeyList, Policy};
 use principals::{Change, ChangeFault, Database, FirstFault, RowChange};
 use std::alloc::{AllocError, Global};
 
-/// As many octets as a realm, and a component of a name, has at most.
+/// The longest realm and component of a name.
 pub const LONGEST: &[u8] = &[b'x'; 255];
 
 pub const TOO_LONG: &[u8] = &[b'x'; 256];
@@ -20,12 +20,12 @@ pub fn name(alloc: Global, components: &[&[u8]]) -> Result<Name, AllocError> {
     Name::new(alloc, 1, components)
 }
 
-/// A first database of this realm.
+/// Returns a first database of this realm.
 pub fn first(alloc: Global, realm: &[u8]) -> Result<Database, FirstFault> {
     Database::first(alloc, realm, keys(alloc)?)
 }
 
-/// A database of the realm `A.B` that has the row of its granter alone.
+/// Returns a database of the realm `A.B` with only the row of its ticket-granting service.
 pub fn database(alloc: Global) -> Result<Database, FirstFault> {
     first(alloc, b"A.B")
 }
@@ -54,7 +54,7 @@ fn row_change(alloc: Global, step: Step) -> Result<RowChange, AllocError> {
     })
 }
 
-/// Changes the row of the principal of these components.
+/// Changes the row of the principal with these components.
 pub fn change(
     alloc: Global,
     database: &mut Database,

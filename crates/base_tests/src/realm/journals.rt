@@ -1,4 +1,5 @@
-//! Journals (`journal`): their octets, what is read of them where they were cut or changed, and what a start makes of them.
+//! Tests of journals (`journal`): their bytes, what is read if they were cut or changed, and what a start decides by
+//! them.
 use crate::expect::{holds, same};
 use journal::{
     Doubt, Found, JournalFault, Place, Start, Written, read_journal, start_of, write_beginning,
@@ -11,9 +12,9 @@ use std::test::Fail;
 
 const T: i64 = 1_704_067_200;
 
-/// A journal of the realm A.B, begun at the second T after a restart, with two authenticators of the client u: one of T and
-/// 7 microseconds that came a second later, and one of T + 300 and 999999 that came 298 seconds before that.
-/// `tools/journal_vector.py` prints it.
+/// A journal of the realm A.B, begun at the second T after a restart, with two authenticators of the client u. One has
+/// the time T and 7 microseconds, and came a second later. One has T + 300 and 999999, and came 298 seconds before
+/// that. `tools/journal_vector.py` prints it.
 const TEXT: &str = "\
 043b3039a0050403412e42a1060404626f6f74a211180f32303234303130313030303030305aa311180f32303234303130313030303530315aa40204\
 000410331b1f8157f14fd1697f80e639e03267\
@@ -22,7 +23,7 @@ e1c078ddb5366f\
 04323030a00e300ca003020101a10530031b0175a111180f32303234303130313030303530305aa20502030f423fa3040202fed60410af2ac58d5662\
 6dfa63d3b3062dc5cf93";
 
-/// Where the two entries begin, and the text ends.
+/// The places where the two entries begin, and where the text ends.
 const FIRST: usize = 79;
 
 const SECOND: usize = 146;
@@ -33,7 +34,7 @@ fn text(alloc: Global) -> Result<Vec<u8>, Fail> {
     Ok(hex::decode(alloc, TEXT)?)
 }
 
-/// A journal that is begun at this second, behind these octets, with no entry.
+/// Returns a journal without entries, begun at this second and linked to these bytes.
 fn begun(alloc: Global, second: i64, link: &[u8]) -> Result<(Vec<u8>, [u8; 16]), Fail> {
     let place = Place {
         realm: b"A.B",
@@ -44,7 +45,8 @@ fn begun(alloc: Global, second: i64, link: &[u8]) -> Result<(Vec<u8>, [u8; 16]),
     Ok((written.text, written.check))
 }
 
-/// The authenticator of the client u with this time, whose request came at this second, behind a check.
+/// Returns the entry, after a check, for an authenticator of the client u with this time, whose request came at this
+/// second.
 fn entry(
     alloc: Global,
     check: &[u8; 16],
@@ -62,7 +64,7 @@ fn entry(
 }
 
 #[test]
-fn a_journal_has_these_octets(rt: HostRuntime) -> Result<(), Fail> {
+fn a_journal_has_these_bytes(rt: HostRuntime) -> Result<(), Fail> {
     let alloc = rt.alloc();
     let (mut all, check) = begun(alloc, T, &[])?;
     let first = entry(alloc, &check, T + 1, T, 7)?;
@@ -73,7 +75,7 @@ fn a_journal_has_these_octets(rt: HostRuntime) -> Result<(), Fail> {
     Ok(())
 }
 
-/// How many entries are read of a text, if it is a journal.
+/// Returns how many entries are read from a text, if it is a journal.
 fn count(alloc: Global, text: &[u8]) -> Result<Option<usize>, AllocError> {
     match read_journal(alloc, text) {
         Ok(journal) => Ok(Some(journal.entries.len())),
@@ -100,7 +102,7 @@ fn a_journal_that_was_cut_is_broken(rt: HostRuntime) -> Result<(), Fail> {
 }
 
 #[test]
-fn a_journal_of_which_an_octet_was_changed_is_broken(rt: HostRuntime) -> Result<(), Fail> {
+fn a_journal_with_a_changed_byte_is_broken(rt: HostRuntime) -> Result<(), Fail> {
     let alloc = rt.alloc();
     let mut text = text(alloc)?;
     for place in 0..END {
@@ -114,7 +116,7 @@ fn a_journal_of_which_an_octet_was_changed_is_broken(rt: HostRuntime) -> Result<
     Ok(())
 }
 
-/// A text of the parts of the journal between these places.
+/// Returns the parts of the journal between these places.
 fn parts(alloc: Global, places: &[(usize, usize)]) -> Result<Vec<u8>, Fail> {
     let text = text(alloc)?;
     let mut all = Vec::new(alloc);
@@ -125,7 +127,7 @@ fn parts(alloc: Global, places: &[(usize, usize)]) -> Result<Vec<u8>, Fail> {
 }
 
 #[test]
-fn entries_stand_in_their_order(rt: HostRuntime) -> Result<(), Fail> {
+fn entries_have_one_order(rt: HostRuntime) -> Result<(), Fail> {
     let alloc = rt.alloc();
     for (places, wanted) in [
         ([(0, FIRST), (FIRST, SECOND), (SECOND, END)], Some(2)),
@@ -148,7 +150,7 @@ fn found(alloc: Global, text: &[u8]) -> Result<Found, AllocError> {
     }
 }
 
-/// What a start makes of it: why it can't resume, or with which floor and how many authenticators it does.
+/// Returns the floor and the number of authenticators with which a start resumes, or why it can't.
 fn made(
     alloc: Global,
     place: (&[u8], &[u8], i64),
@@ -193,7 +195,7 @@ fn a_start_resumes_or_says_why_not(rt: HostRuntime) -> Result<(), Fail> {
     Ok(())
 }
 
-/// The last check of the journal.
+/// Returns the last check of the journal.
 fn last_check(journal: &Found) -> Result<[u8; 16], Fail> {
     match journal {
         Found::Whole(journal) => {

@@ -1,4 +1,4 @@
-//! The replay cache of a client (`replay`): worked cases of replays, restarts and limits, at the second 1704067200.
+//! Tests of a client's replay cache (`replay`): replays, restarts and limits, at the second 1704067200.
 use crate::expect::{holds, same};
 use krb_elements::Octets;
 use krb_fields::Moment;
@@ -15,7 +15,7 @@ fn at(later: u16) -> Moment {
     }
 }
 
-/// Remembers a pair that is fresh.
+/// Adds a pair to the replay cache, if it is fresh.
 fn accept<K: Keep>(
     memory: &mut Memory<K>,
     at: Moment,
@@ -38,14 +38,14 @@ fn kept(alloc: Global) -> Result<Kept, AllocError> {
     })
 }
 
-/// Whether this is what `kept` gives.
+/// Checks whether this is what `kept` returns.
 fn is_kept(kept: &Kept) -> bool {
     kept.request.as_slice() == b"asked".as_slice()
         && kept.reply.as_slice() == b"told".as_slice()
         && kept.bears == Bears::Ticket
 }
 
-/// The verdict at the second T, and of a pair that came before whether it has what `kept` gives.
+/// Returns the verdict at the second T, and for a repeated pair whether its reply is that of `kept`.
 fn verdict(memory: &Memory<Kept>, ctime: i64, cusec: u32, limit: u32) -> Verdict<bool> {
     match memory.check(at(0), ctime, cusec, limit) {
         Verdict::Fresh => Verdict::Fresh,
@@ -55,7 +55,7 @@ fn verdict(memory: &Memory<Kept>, ctime: i64, cusec: u32, limit: u32) -> Verdict
     }
 }
 
-/// A copy of a memory that was given one pair, which has to be fresh.
+/// Returns a copy of a replay cache with one pair, which must have been fresh.
 fn remembered(alloc: Global) -> Result<Memory<Kept>, AllocError> {
     let kept = kept(alloc)?;
     let mut memory = Memory::first(alloc);
@@ -66,9 +66,9 @@ fn remembered(alloc: Global) -> Result<Memory<Kept>, AllocError> {
     }
 }
 
-// Passes whichever allocation is refused.
+// Passes if any one allocation fails.
 #[test]
-fn a_pair_that_comes_again_finds_what_was_kept(rt: HostRuntime) {
+fn a_repeated_pair_finds_its_kept_reply(rt: HostRuntime) {
     let alloc = rt.alloc();
     match remembered(alloc).or_else(|_| remembered(alloc)) {
         Ok(memory) => finds_what_was_kept(&rt, &memory),
@@ -104,7 +104,7 @@ fn finds_what_was_kept(rt: &impl Abort, memory: &Memory<Kept>) {
 }
 
 #[test]
-fn a_pair_below_the_floor_is_forgotten(rt: HostRuntime) {
+fn a_pair_below_the_floor_is_dropped(rt: HostRuntime) {
     let mut memory = Memory::first(rt.alloc());
     same(&rt, &0, &accept(&mut memory, at(0), T, 0, ()), &Ok(true));
     same(
@@ -113,11 +113,11 @@ fn a_pair_below_the_floor_is_forgotten(rt: HostRuntime) {
         &accept(&mut memory, at(301), T + 301, 0, ()),
         &Ok(true),
     );
-    is_forgotten(&rt, &memory);
+    is_dropped(&rt, &memory);
 }
 
-/// The pair of the second T is forgotten.
-fn is_forgotten(rt: &impl Abort, memory: &Memory<()>) {
+/// Checks that the pair of the second T is dropped.
+fn is_dropped(rt: &impl Abort, memory: &Memory<()>) {
     same(rt, &"the floor", &memory.floor, &(T + 1));
     same(
         rt,
@@ -130,7 +130,7 @@ fn is_forgotten(rt: &impl Abort, memory: &Memory<()>) {
 }
 
 #[test]
-fn a_memory_that_is_tidied_forgets_what_is_too_old(rt: HostRuntime) {
+fn tidying_drops_what_is_too_old(rt: HostRuntime) {
     let mut memory = Memory::first(rt.alloc());
     same(&rt, &0, &accept(&mut memory, at(0), T, 0, ()), &Ok(true));
     memory.tidy(at(300));
@@ -141,13 +141,13 @@ fn a_memory_that_is_tidied_forgets_what_is_too_old(rt: HostRuntime) {
         &Verdict::Repeat(&()),
     );
     memory.tidy(at(301));
-    // It stays so at an earlier moment.
+    // It stays dropped at an earlier moment.
     memory.tidy(at(0));
     is_empty(&rt, &memory);
 }
 
 #[test]
-fn a_clock_that_is_ahead_refuses_nothing_later(rt: HostRuntime) {
+fn a_clock_that_was_ahead_refuses_nothing_later(rt: HostRuntime) {
     let mut memory = Memory::first(rt.alloc());
     same(&rt, &0, &accept(&mut memory, at(0), T, 0, ()), &Ok(true));
     memory.tidy(at(60_000));
@@ -166,7 +166,7 @@ fn a_clock_that_is_ahead_refuses_nothing_later(rt: HostRuntime) {
     holds(&rt, memory.is_empty(T + 10), "the floor is another");
 }
 
-/// Nothing is remembered, and the floor is above the second T.
+/// Checks that the replay cache is empty, and that its floor is above the second T.
 fn is_empty(rt: &impl Abort, memory: &Memory<()>) {
     same(
         rt,
@@ -196,6 +196,7 @@ fn a_restart_refuses_what_may_have_come_before(rt: HostRuntime) {
     memory.set_failures(Failures {
         count: 2,
         last: at(0),
+        version: 1,
     });
     same(
         &rt,

@@ -1,4 +1,4 @@
-//! Rows, keys, limits and maps from names (`principal_rows`).
+//! Tests of rows, keys, limits and maps from names (`principal_rows`).
 use crate::expect::{holds, same};
 use enctypes::{Etype, Key};
 use krb_elements::{KerberosString, Seq};
@@ -49,7 +49,7 @@ fn fault_of(alloc: Global, keys: &[Key]) -> Option<KeyListFault> {
     KeyList::new(alloc, keys).err()
 }
 
-// Passes whichever allocation is refused.
+// Passes if any one allocation fails.
 #[test]
 fn a_key_list_finds_keys_by_their_types(rt: HostRuntime) {
     let mut found = finds_keys(rt.alloc());
@@ -59,7 +59,7 @@ fn a_key_list_finds_keys_by_their_types(rt: HostRuntime) {
     same(&rt, &"two keys", &found, &Ok((2, true, true)));
 }
 
-/// How many keys a copied list of two has, whether the second is found in it, and whether no other is.
+/// Returns the number of keys in a copied list of two, whether the second one is found in it, and whether no other is.
 fn finds_keys(alloc: Global) -> Result<(usize, bool, bool), KeyListFault> {
     let first = key(Etype::Aes256CtsHmacSha1_96);
     let second = key(Etype::Aes256CtsHmacSha384_192);
@@ -74,7 +74,7 @@ fn bytes_of(keys: &KeyList, etype: Etype) -> Option<&[u8]> {
 }
 
 #[test]
-fn limits_remember_1_to_65536(rt: HostRuntime) {
+fn limits_have_1_to_65536_places(rt: HostRuntime) {
     for (remembered, fits) in [
         (0, false),
         (1, true),
@@ -97,7 +97,7 @@ fn a_first_row_has_version_1(rt: HostRuntime) {
     );
 }
 
-/// How many versions a first row has, the number of the current one, and whether its key is found.
+/// Returns the number of versions of a first row, the current one, and whether its key is found.
 fn first_version(alloc: Global) -> Result<(usize, u32, bool), KeyListFault> {
     let keys = KeyList::new(alloc, &[key(Etype::Aes256CtsHmacSha1_96)])?;
     let row = Row::first(alloc, keys)?;
@@ -106,7 +106,7 @@ fn first_version(alloc: Global) -> Result<(usize, u32, bool), KeyListFault> {
     Ok((row.versions.as_slice().len(), current.number, is_found))
 }
 
-/// A name that is borrowed.
+/// A borrowed name.
 #[derive(Clone, Copy)]
 struct Borrowed<'a> {
     components: &'a [KerberosString],
@@ -120,7 +120,7 @@ impl<'a> NameKey for Borrowed<'a> {
     }
 }
 
-/// The letters, each with the value that was put last.
+/// Returns a map of letters, each with its last value.
 fn letters(alloc: Global) -> Result<NameMap<i32>, AllocError> {
     let mut map = NameMap::new(alloc);
     for (name_type, component, value) in [(1, b"u", 1), (1, b"b", 2), (1, b"h", 3), (2, b"b", 4)] {
@@ -152,7 +152,7 @@ fn is_searched(rt: &impl Abort, alloc: Global, map: &NameMap<i32>) {
     same(rt, &"uu", &get(alloc, map, 1, b"uu"), &Ok(None));
 }
 
-/// The values at the first four places.
+/// Returns the values at the first four places.
 fn values(map: &NameMap<i32>) -> [Option<i32>; 4] {
     [
         value_at(map, 0),

@@ -1,4 +1,4 @@
-//! The times and flags of tickets (`ticket_times`).
+//! Tests of the times and flags of tickets (`ticket_times`).
 use crate::expect::same;
 use krb_der::{DerFault, KTime};
 use krb_elements::read;
@@ -10,7 +10,7 @@ use ticket_times::{TicketTerms, Times, as_flags, as_times, starts_too_late, tgs_
 /// 2024-01-01 00:00:00.
 const MIDNIGHT: i64 = 1_704_067_200;
 
-/// A body without cname, from, sname and rtime: no option, till zero.
+/// A body without cname, from, sname and rtime, with no option and till zero.
 const BODY: &[u8; 49] = b"\x30\x2f\
     \xa0\x07\x03\x05\x00\x00\x00\x00\x00\
     \xa2\x05\x1b\x03A.B\
@@ -18,7 +18,7 @@ const BODY: &[u8; 49] = b"\x30\x2f\
     \xa7\x03\x02\x01\x01\
     \xa8\x05\x30\x03\x02\x01\x12";
 
-/// A body like it, with a `from` an hour after midnight.
+/// The same with a `from` an hour after midnight.
 const BODY_FROM: &[u8; 68] = b"\x30\x42\
     \xa0\x07\x03\x05\x00\x00\x00\x00\x00\
     \xa2\x05\x1b\x03A.B\
@@ -54,17 +54,17 @@ fn body_from(options: u32) -> [u8; 68] {
     body
 }
 
-/// The time so many seconds after midnight.
+/// Returns the time this many seconds after midnight.
 fn time(later: u32) -> KTime {
     KTime::new(MIDNIGHT + i64::from(later)).unwrap()
 }
 
-/// The limits of a realm whose tickets live for 36,000 seconds.
+/// Returns the limits of a realm with a ticket lifetime of 36,000 seconds.
 fn limits(renewable: u32) -> Limits {
     Limits::new(64, 0, 0, 36_000, renewable).unwrap()
 }
 
-/// The times and flags by the AS exchange at midnight, with lives of 36,000 seconds.
+/// Returns the times and flags from the AS exchange at midnight, with lifetimes of 36,000 seconds.
 fn granted(octets: &[u8], renewable: u32) -> Result<Option<(Times, Flags)>, DerFault> {
     let policy = Policy::default();
     let at = Moment {
@@ -80,14 +80,14 @@ fn granted(octets: &[u8], renewable: u32) -> Result<Option<(Times, Flags)>, DerF
     )
 }
 
-/// Whether a start is asked for, at midnight, that is too late without POSTDATED.
+/// Checks whether a request at midnight asks for a start that is too late without POSTDATED.
 fn starts_late(octets: &[u8]) -> Result<bool, DerFault> {
     let body: ReqBodyRef<'_> = read(octets)?;
     Ok(starts_too_late(MIDNIGHT, &body))
 }
 
 #[test]
-fn a_ticket_lives_as_long_as_the_realm_allows(rt: HostRuntime) {
+fn a_ticket_has_the_lifetime_that_the_realm_allows(rt: HostRuntime) {
     let times = Times {
         start: time(0),
         end: time(36_000),
@@ -137,7 +137,7 @@ fn a_later_start_is_for_postdated_tickets_and_an_early_end_for_none(rt: HostRunt
     );
 }
 
-/// A ticket of midnight that is renewable until the next day.
+/// Returns a ticket of midnight that is renewable until the next day.
 fn renewable_ticket() -> TicketTerms {
     TicketTerms {
         flags: Flags::from_bits(0x00c0_0000),
@@ -148,7 +148,7 @@ fn renewable_ticket() -> TicketTerms {
     }
 }
 
-/// The times and flags by the TGS exchange, so many seconds after midnight.
+/// Returns the times and flags from the TGS exchange, this many seconds after midnight.
 fn exchanged(
     octets: &[u8],
     ticket: &TicketTerms,
@@ -169,7 +169,7 @@ fn exchanged(
 }
 
 #[test]
-fn a_renewed_ticket_lives_as_long_again(rt: HostRuntime) {
+fn a_renewed_ticket_has_the_same_lifetime_again(rt: HostRuntime) {
     let times = Times {
         start: time(36_300),
         end: time(72_300),

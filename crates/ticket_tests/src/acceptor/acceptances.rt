@@ -1,4 +1,4 @@
-//! The answers of an acceptor for `h` in `A.B`.
+//! Tests of the answers of an acceptor for `h` in `A.B`.
 use crate::acceptor::given::{accept, octets, opened, up};
 use crate::acceptor::requests::{ACCEPTED, MUTUAL, OTHER_CLIENT, REFUSED, REPLY, SECOND};
 use ap_accept::{Accepted, Acceptor, ApFault, ApRefusal};
@@ -12,7 +12,7 @@ use std::test::Fail;
 /// The start of 2024, in seconds since 1970.
 const MIDNIGHT: i64 = 1_704_067_200;
 
-/// An acceptor that remembers so many authenticators of a client.
+/// Returns an acceptor whose replay cache has this many places for each client.
 fn acceptor(alloc: Global, remembered: u32) -> Result<Acceptor, Fail> {
     let entry = KeytabEntry {
         realm: KerberosString::from_slice(alloc, b"A.B")?,
@@ -24,17 +24,17 @@ fn acceptor(alloc: Global, remembered: u32) -> Result<Acceptor, Fail> {
     opened(alloc, Keytab::new(alloc, &entries)?, remembered)
 }
 
-/// What an acceptor is tried on.
+/// A test of an acceptor.
 #[derive(Clone, Copy)]
 enum Trial {
     Once,
     EachRule,
     Full,
     Parts,
-    WantOfMemory,
+    OutOfMemory,
 }
 
-/// Whether an acceptor answers as it has to. It is made and let go here alone.
+/// Checks the answers of an acceptor. Only this function makes one and drops it.
 fn holds(alloc: Global, trial: Trial) -> Result<bool, Fail> {
     let remembered = if matches!(trial, Trial::Full) { 1 } else { 64 };
     let mut acceptor = acceptor(alloc, remembered)?;
@@ -47,11 +47,11 @@ fn answers(alloc: Global, acceptor: &mut Acceptor, trial: Trial) -> Result<bool,
         Trial::EachRule => has_each_code(alloc, acceptor),
         Trial::Full => is_full_for_one(alloc, acceptor),
         Trial::Parts => takes_no_part(alloc, acceptor),
-        Trial::WantOfMemory => wants_memory(alloc, acceptor),
+        Trial::OutOfMemory => are_accepted_once(alloc, acceptor),
     }
 }
 
-/// What is answered to an AP-REQ of these digits.
+/// Returns the answer to an AP-REQ in hexadecimal digits.
 fn accept_digits(
     alloc: Global,
     acceptor: &mut Acceptor,
@@ -60,7 +60,7 @@ fn accept_digits(
     accept(alloc, acceptor, MIDNIGHT, &octets(alloc, digits)?)
 }
 
-/// The code by which it is refused; 0 where it is accepted.
+/// Returns the code of a refusal, or 0 if the AP-REQ is accepted.
 fn code(alloc: Global, acceptor: &mut Acceptor, digits: &str) -> Result<i32, Fail> {
     match accept_digits(alloc, acceptor, digits)? {
         Ok(_) => Ok(0),
@@ -69,7 +69,7 @@ fn code(alloc: Global, acceptor: &mut Acceptor, digits: &str) -> Result<i32, Fai
     }
 }
 
-/// Whether it says what `MUTUAL` holds.
+/// Checks whether the contents are those of `MUTUAL`.
 fn is_mutual(alloc: Global, accepted: &Accepted) -> Result<bool, Fail> {
     let reply = octets(alloc, REPLY)?;
     let client = Name::new(alloc, 1, &[b"u"])?;
@@ -146,7 +146,7 @@ fn is_full_for_one(alloc: Global, acceptor: &mut Acceptor) -> Result<bool, Fail>
 }
 
 #[test]
-fn a_full_memory_refuses_its_own_client_alone(rt: HostRuntime) -> Result<(), Fail> {
+fn a_full_replay_cache_refuses_only_its_own_client(rt: HostRuntime) -> Result<(), Fail> {
     assert!(rt; holds(rt.alloc(), Trial::Full)?);
     Ok(())
 }
@@ -163,12 +163,12 @@ fn takes_no_part(alloc: Global, acceptor: &mut Acceptor) -> Result<bool, Fail> {
 }
 
 #[test]
-fn no_part_of_an_ap_req_is_one(rt: HostRuntime) -> Result<(), Fail> {
+fn a_prefix_of_an_ap_req_is_refused(rt: HostRuntime) -> Result<(), Fail> {
     assert!(rt; holds(rt.alloc(), Trial::Parts)?);
     Ok(())
 }
 
-/// Why an AP-REQ is not accepted, asked again where memory was wanted.
+/// Returns why an AP-REQ is not accepted. Tries once more if memory ran out.
 fn fault_at_last(
     alloc: Global,
     acceptor: &mut Acceptor,
@@ -181,7 +181,7 @@ fn fault_at_last(
     Ok(fault)
 }
 
-/// Whether it is accepted, and then a repeat.
+/// Checks whether an AP-REQ is accepted the first time, and refused as repeated the second time.
 fn is_accepted_once(alloc: Global, acceptor: &mut Acceptor, digits: &str) -> Result<bool, Fail> {
     let octets = octets(alloc, digits)?;
     let first = fault_at_last(alloc, acceptor, &octets)?;
@@ -189,8 +189,8 @@ fn is_accepted_once(alloc: Global, acceptor: &mut Acceptor, digits: &str) -> Res
     Ok(first.is_none() && second == Some(ApFault::Refused(ApRefusal::Repeated)))
 }
 
-/// They are the first of a service, the first of a client, and a later one.
-fn wants_memory(alloc: Global, acceptor: &mut Acceptor) -> Result<bool, Fail> {
+/// Checks this for the first AP-REQ to a service, the first one of another client, and a later one.
+fn are_accepted_once(alloc: Global, acceptor: &mut Acceptor) -> Result<bool, Fail> {
     Ok(
         is_accepted_once(alloc, acceptor, MUTUAL)?
             && is_accepted_once(alloc, acceptor, OTHER_CLIENT)?
@@ -198,10 +198,10 @@ fn wants_memory(alloc: Global, acceptor: &mut Acceptor) -> Result<bool, Fail> {
     )
 }
 
-/// One allocation may be refused, by `rt try --test --fail-alloc N`: nothing is remembered then, and the same AP-REQ is
+/// If one allocation fails (`rt try --test --fail-alloc N`), the replay cache is unchanged, and the same AP-REQ is
 /// accepted afterwards.
 #[test]
-fn want_of_memory_changes_nothing(rt: HostRuntime) -> Result<(), Fail> {
-    assert!(rt; holds(rt.alloc(), Trial::WantOfMemory)?);
+fn running_out_of_memory_changes_nothing(rt: HostRuntime) -> Result<(), Fail> {
+    assert!(rt; holds(rt.alloc(), Trial::OutOfMemory)?);
     Ok(())
 }

@@ -1,4 +1,4 @@
-//! What the tests share.
+//! Helpers of the tests.
 use ap_accept::{Accepted, Acceptor, ApFault, Opening};
 use cred_files::Keytab;
 use krb_fields::Moment;
@@ -6,7 +6,7 @@ use principal_rows::Limits;
 use std::alloc::Global;
 use std::test::Fail;
 
-/// Octets that count up from this one.
+/// Returns bytes that count up from this one.
 pub fn up<const N: usize>(first: u8) -> [u8; N] {
     let mut octets = [first; N];
     for (place, octet) in (0..=u8::MAX).zip(&mut octets) {
@@ -15,18 +15,18 @@ pub fn up<const N: usize>(first: u8) -> [u8; N] {
     octets
 }
 
-/// The octets that hexadecimal digits spell.
+/// Returns the bytes for hexadecimal digits.
 pub fn octets(alloc: Global, digits: &str) -> Result<Vec<u8>, Fail> {
     Ok(hex::decode(alloc, digits.as_bytes())?)
 }
 
-/// An acceptor with these keys that remembers so many authenticators of a client.
+/// Returns an acceptor with these keys, whose replay cache has this many places for each client.
 pub fn opened(alloc: Global, keytab: Keytab, remembered: u32) -> Result<Acceptor, Fail> {
     let limits = Limits::new(remembered, 0, 0, 36_000, 0).ok_or("limits")?;
     Ok(Acceptor::open(alloc, keytab, limits, Opening::First)?)
 }
 
-/// What is answered at this second since 1970. The confounder of an AP-REP is the octets 48 to 63.
+/// Returns the answer at this second since 1970. The confounder of an AP-REP is the bytes 48 to 63.
 pub fn accept(
     alloc: Global,
     acceptor: &mut Acceptor,

@@ -6,10 +6,10 @@
 //! long lists of bytes take minutes to check.
 use enctypes::Etype;
 
-/// An AP-REQ, and what MIT's library reads of it.
+/// An AP-REQ, with the contents that MIT's library reads from it.
 pub struct Made {
     pub ap_req: &'static str,
-    /// From where and to where the ticket's cipher stands in it.
+    /// The start and the end of the ticket's cipher in it.
     pub ticket_cipher: (usize, usize),
     pub authenticator_cipher: (usize, usize),
     /// The components of the client's name.
@@ -27,15 +27,15 @@ pub struct Made {
     pub starttime: Option<i64>,
     pub endtime: i64,
     pub renew_till: Option<i64>,
-    /// Where MUTUAL-REQUIRED is asked, the AP-REP whose confounder is the octets 48 to 63.
+    /// The AP-REP whose confounder is the bytes 48 to 63, if the AP-REQ has MUTUAL-REQUIRED.
     pub ap_rep: Option<&'static str>,
 }
 
-/// The second of all authenticators.
+/// The second in which all authenticators were made.
 pub const MADE_AT: i64 = 1_795_528_176;
 
-/// The keytab of `imap/h17` to `imap/h20` in `A.B`, as MIT's `kadmin.local` wrote it: each has a key of the type of its
-/// number, `imap/h20` one of version 3 and one of version 2.
+/// The keytab of `imap/h17` to `imap/h20` in `A.B`, written by MIT's `kadmin.local`. The number is the type of the key.
+/// `imap/h20` has keys of versions 3 and 2.
 pub const KEYTAB: &str = "\
     05020000003300020003412e420004696d61700003683137000000016b05959f0100110010643a3a5dccdbd6506aa5baffd7\
     5d0f17000000010000004300020003412e420004696d61700003683138000000016b05959f0100120020a1acaabb586b1e04\

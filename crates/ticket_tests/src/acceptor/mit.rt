@@ -1,4 +1,4 @@
-//! AP-REQs from MIT's library are accepted, with the contents that the library reads.
+//! Tests that AP-REQs from MIT's library are accepted, with the contents that the library reads.
 use crate::acceptor::given::{accept, octets, opened};
 use crate::acceptor::made_by_mit::{KEYTAB, MADE, MADE_AT, Made};
 use ap_accept::{Accepted, Acceptor, ApFault, ApRefusal};
@@ -9,8 +9,8 @@ use krb_fields::{Name, Typed};
 use std::alloc::Global;
 use std::test::Fail;
 
-/// Whether an acceptor with the keytab that MIT's `kadmin.local` wrote accepts each of them; and if that is asked,
-/// none with an octet changed before that.
+/// Checks whether an acceptor with the keytab from MIT's `kadmin.local` accepts each AP-REQ. If `changed`, it first
+/// checks that the acceptor refuses each one with a changed byte.
 fn holds(alloc: Global, changed: bool) -> Result<bool, Fail> {
     let keytab = Keytab::read(alloc, &octets(alloc, KEYTAB)?)?;
     let mut acceptor = opened(alloc, keytab, 64)?;
@@ -98,7 +98,7 @@ fn is_reply(alloc: Global, ap_rep: &Option<Octets>, wanted: Option<&str>) -> Res
     })
 }
 
-/// Whether it says what MIT's library says.
+/// Checks whether the contents are those that MIT's library reads.
 fn is_as_made(alloc: Global, accepted: &Accepted, made: &Made) -> Result<bool, Fail> {
     Ok(
         is_of_client(alloc, accepted, made)?
@@ -124,14 +124,14 @@ fn accepts_what_mit_s_library_makes(rt: HostRuntime) -> Result<(), Fail> {
     Ok(())
 }
 
-/// Adds one to an octet, or takes it away.
+/// Inverts the lowest bit of a byte.
 fn flip(octets: &mut [u8], place: usize) {
     if let Some(octet) = octets.get_mut(place) {
         *octet ^= 1;
     }
 }
 
-/// Whether it is refused by this rule wherever one of the octets of the cipher is another.
+/// Checks whether this rule refuses the AP-REQ with any one byte of the cipher changed.
 fn is_sealed(
     alloc: Global,
     acceptor: &mut Acceptor,
@@ -168,7 +168,7 @@ fn are_sealed(alloc: Global, acceptor: &mut Acceptor, made: &Made) -> Result<boo
 }
 
 #[test]
-fn refuses_a_cipher_with_an_octet_changed(rt: HostRuntime) -> Result<(), Fail> {
+fn refuses_a_cipher_with_a_changed_byte(rt: HostRuntime) -> Result<(), Fail> {
     assert!(rt; holds(rt.alloc(), true)?);
     Ok(())
 }

@@ -1,11 +1,11 @@
 //! AP-REQs and an AP-REP in hexadecimal digits, from an independent model of the messages and of the cryptography in
 //! Python.
 //!
-//! The key of `h` in `A.B` is the bytes 160 to 191, with encryption type 18 and version 1; the session key is 64 to 95,
-//! with the same type. The moment is the start of 2024. They are texts, because long lists of bytes take minutes to
-//! check.
+//! The key of `h` in `A.B` is the bytes 160 to 191, with encryption type 18 and version 1. The session key is the bytes
+//! 64 to 95, with the same type. The moment is the start of 2024. The messages are texts because long lists of bytes
+//! take minutes to check.
 
-/// Of `u`, at 5 microseconds of the moment, with a subkey, a sequence number and a checksum, and with MUTUAL-REQUIRED.
+/// An AP-REQ of `u`, 5 microseconds after the moment, with a subkey, a sequence number, a checksum and MUTUAL-REQUIRED.
 pub const MUTUAL: &str = "\
     6e82019430820190a003020105a10302010ea20703050020000000a381da6181d73081d4a003020105a1051b03412e42a20e\
     300ca003020101a10530031b0168a381b53081b2a003020112a103020101a281a50481a2bbe852a8491a7ee32e4d5896a26b\
@@ -17,12 +17,12 @@ pub const MUTUAL: &str = "\
     a0a9630dac3e35bc173a2f2b58c8eb1d4042a5bde29210472bde6bffa875a9b4597c59c5337235ba6bd316296824035ddf75\
     6cf2b37e1da0852c";
 
-/// The AP-REP to it, whose confounder is the octets 48 to 63.
+/// The AP-REP to it, whose confounder is the bytes 48 to 63.
 pub const REPLY: &str = "\
     6f51304fa003020105a10302010fa2433041a003020112a23a04385b76243a190944df09ab9a6d34d9b98095fa7b54417d5d\
     591b705aac83b09dffea74205ac502cd2b61e0c85be9694c148a54dd5bb4e43da2";
 
-/// Of `u`, a microsecond later.
+/// An AP-REQ of `u`, a microsecond later.
 pub const SECOND: &str = "\
     6e82015530820151a003020105a10302010ea20703050000000000a381da6181d73081d4a003020105a1051b03412e42a20e\
     300ca003020101a10530031b0168a381b53081b2a003020112a103020101a281a50481a2bbe852a8491a7ee32e4d5896a26b\
@@ -32,7 +32,7 @@ pub const SECOND: &str = "\
     305da003020112a2560454b600a723d2792a1cc4a16613dff02fbcd6bfed281f40ebee09e7fda4cee1085db46d61c82806f9\
     e934484e446ef71f2223238862b84ef97aa162f814579ff84a13e26db4cbbe173113251ba3c2a7436e61e35ed3";
 
-/// Of `v`, at 5 microseconds of the moment.
+/// An AP-REQ of `v`, 5 microseconds after the moment.
 pub const OTHER_CLIENT: &str = "\
     6e82015530820151a003020105a10302010ea20703050000000000a381da6181d73081d4a003020105a1051b03412e42a20e\
     300ca003020101a10530031b0168a381b53081b2a003020112a103020101a281a50481a2bbe852a8491a7ee32e4d5896a26b\
@@ -42,7 +42,7 @@ pub const OTHER_CLIENT: &str = "\
     305da003020112a2560454b600a723d2792a1cc4a16613dff02fbcd6bfed281f40ebee09e7fda4cee1085d10f7b28dc721b4\
     5f835d76ff37a13a99ae3e294879e015a5bdf4d7f78a5da764429ca2e9670c25240e5ee832833c191383170bd2";
 
-/// Those that are refused, each with its code.
+/// AP-REQs that are refused, each with its code.
 pub const REFUSED: &[(i32, &str)] = &[
     // another version
     (
@@ -116,7 +116,7 @@ pub const REFUSED: &[(i32, &str)] = &[
         305da003020112a2560454b600a723d2792a1cc4a16613dff02fbcd6bfed281f40ebee09e7fda4cee1085db46d61c82806f9\
         e934484e446ef71f22629a7a73a5c5ab53348c634b8bdfe958228241175519bf1e1be02020f875b6211f97906f",
     ),
-    // a type that the keytab has no key of
+    // an encryption type without a key in the keytab
     (
         45,
         "\
@@ -128,7 +128,7 @@ pub const REFUSED: &[(i32, &str)] = &[
         305da003020112a2560454b600a723d2792a1cc4a16613dff02fbcd6bfed281f40ebee09e7fda4cee1085db46d61c82806f9\
         e934484e446ef71f22629a7a73a5c5ab53348c634b8bdfe958228241175519bf1e1be02020f875b6211f97906f",
     ),
-    // a type that is none of the four
+    // an unsupported encryption type
     (
         45,
         "\
@@ -140,7 +140,7 @@ pub const REFUSED: &[(i32, &str)] = &[
         305da003020112a2560454b600a723d2792a1cc4a16613dff02fbcd6bfed281f40ebee09e7fda4cee1085db46d61c82806f9\
         e934484e446ef71f22629a7a73a5c5ab53348c634b8bdfe958228241175519bf1e1be02020f875b6211f97906f",
     ),
-    // a version that it has no key of
+    // a key version without a key in the keytab
     (
         44,
         "\
@@ -152,7 +152,7 @@ pub const REFUSED: &[(i32, &str)] = &[
         305da003020112a2560454b600a723d2792a1cc4a16613dff02fbcd6bfed281f40ebee09e7fda4cee1085db46d61c82806f9\
         e934484e446ef71f22629a7a73a5c5ab53348c634b8bdfe958228241175519bf1e1be02020f875b6211f97906f",
     ),
-    // a version below zero
+    // a key version below zero
     (
         44,
         "\
@@ -188,7 +188,7 @@ pub const REFUSED: &[(i32, &str)] = &[
         305da003020112a2560454b600a723d2792a1cc4a16613dff02fbc087b0debe0097406e6a9e2bac687a746e136182f106d7f\
         aad3a514bb6f60afdee3f4e95137e87c82a22ca35e35f56d44b45459407f6488a524c03d0d9e3328fd8b237c9c",
     ),
-    // no address, in a list of addresses
+    // an empty list of addresses
     (
         38,
         "\
@@ -336,7 +336,7 @@ pub const REFUSED: &[(i32, &str)] = &[
     ),
 ];
 
-/// Those that are just within the limits.
+/// AP-REQs that are just within the limits.
 pub const ACCEPTED: &[&str] = &[
     // a start 300 seconds later
     "\
@@ -357,7 +357,7 @@ pub const ACCEPTED: &[&str] = &[
     22425509b995c6f41d004bce901c1c30c38eac679152954ba0b78bf1fdf6ee9354b7919456a6ba77d509221f1b424a91a45f\
     305da003020112a2560454b600a723d2792a1cc4a16613dff02fbcd6bfed281f40ebee09e7fda4cee1085db46d61c82806f9\
     e934484e446ef71f220aafe79d3fec2a5940f675e8f737bb26c2586756ff97c3dc95735a00e83dac62e2f85e0e",
-    // no version
+    // no key version
     "\
     6e8201503082014ca003020105a10302010ea20703050000000000a381d56181d23081cfa003020105a1051b03412e42a20e\
     300ca003020101a10530031b0168a381b03081ada003020112a281a50481a2bbe852a8491a7ee32e4d5896a26bff7f00a60b\

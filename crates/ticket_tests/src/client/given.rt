@@ -1,4 +1,4 @@
-//! What the tests share.
+//! Helpers of the tests.
 use client_core::{Asked, ClientFault, Mismatch, read_as_reply, read_tgs_reply};
 use cred_files::Credential;
 use enctypes::{Etype, Key};
@@ -11,7 +11,7 @@ use std::test::Fail;
 /// 2024-01-01 00:00:00.
 const MIDNIGHT: i64 = 1_704_067_200;
 
-/// An AS-REP for `u` in `A.B` with a ticket of `krbtgt/A.B`. The key of `u` is the octets 64 to 95, the session key 0
+/// An AS-REP for `u` in `A.B` with a ticket for `krbtgt/A.B`. The key of `u` is the bytes 64 to 95, the session key 0
 /// to 31.
 pub const AS_REP: &str = "\
         6b82022a30820226a003020105a10302010ba21e301c301aa103020113a2130411300f300da003020112a1061b04412e4275\
@@ -27,7 +27,7 @@ pub const AS_REP: &str = "\
         8a3f2381fb2a5c581ff47bd07946531faeafaef34dacab4ba57bc69cfb8a5c59e333c3bc4767b5cb1c4a4276b9c718c4e466\
         d69f988c8dcb19b7";
 
-/// A TGS-REQ with that ticket for `h`, and a checksum; its confounder is the octets 192 to 207.
+/// A TGS-REQ for `h` with that ticket and a checksum. Its confounder is the bytes 192 to 207.
 pub const TGS_REQ: &str = "\
         6c8201f9308201f5a103020105a20302010ca38201a4308201a03082019ca103020101a28201930482018f6e82018b308201\
         87a003020105a10302010ea20703050000000000a381f76181f43081f1a003020105a1051b03412e42a2183016a003020102\
@@ -41,7 +41,7 @@ pub const TGS_REQ: &str = "\
         0000000000a2051b03412e42a30e300ca003020101a10530031b0168a511180f31393730303130313030303030305aa70302\
         0101a8053003020112";
 
-/// The TGS-REP to it. The session key is the octets 64 to 95.
+/// The TGS-REP to it. The session key is the bytes 64 to 95.
 pub const TGS_REP: &str = "\
         6d8201f1308201eda003020105a10302010da3051b03412e42a40e300ca003020101a10530031b0175a581ed6181ea3081e7\
         a003020105a1051b03412e42a20e300ca003020101a10530031b0168a381c83081c5a003020112a103020101a281b80481b5\
@@ -55,12 +55,12 @@ pub const TGS_REP: &str = "\
         c3085cdc6962daed1666eea56b0d65ebf44471efa74a035e24420b3defb6e971391dd265f851990d8fee43fe39041a1ab2ef\
         56";
 
-/// The octets that hexadecimal digits spell.
+/// Returns the bytes for hexadecimal digits.
 pub fn octets(alloc: Global, digits: &str) -> Result<Vec<u8>, Fail> {
     Ok(hex::decode(alloc, digits.as_bytes())?)
 }
 
-/// Octets that count up from this one.
+/// Returns bytes that count up from this one.
 fn up<const N: usize>(first: u8) -> [u8; N] {
     let mut octets = [first; N];
     for (place, octet) in (0..=u8::MAX).zip(&mut octets) {
@@ -69,37 +69,37 @@ fn up<const N: usize>(first: u8) -> [u8; N] {
     octets
 }
 
-/// A key of encryption type 18, whose octets count up from this one.
+/// Returns a key of encryption type 18 whose bytes count up from this one.
 pub fn key_from(first: u8) -> Key {
     Key::from_random(Etype::Aes256CtsHmacSha1_96, &up(first))
 }
 
-/// The octets 192 to 207.
+/// Returns the bytes 192 to 207.
 pub fn confounder() -> [u8; 16] {
     up(192)
 }
 
-/// 2024-01-01 00:00:00 and so many microseconds.
+/// Returns the moment this many microseconds after 2024-01-01 00:00:00.
 pub fn midnight(usec: u32) -> Result<Moment, Fail> {
     moment(0, usec)
 }
 
-/// So many seconds after it, or before it.
+/// Returns the moment this many seconds after it, or before it, and this many microseconds.
 pub fn moment(after: i32, usec: u32) -> Result<Moment, Fail> {
     Ok(Moment::new(MIDNIGHT + i64::from(after), usec).ok_or("a moment")?)
 }
 
-/// Which of a KDC's exchanges a message is of.
+/// An exchange with a KDC.
 #[derive(Clone, Copy, Debug, PartialEq, Eq)]
 pub enum Kind {
-    /// The Authentication Service exchange: `u` asks for a ticket of `krbtgt/A.B`.
+    /// The Authentication Service exchange: `u` asks for a ticket for `krbtgt/A.B`.
     As,
-    /// The Ticket-Granting Service exchange: `u` asks for one of `h`.
+    /// The Ticket-Granting Service exchange: `u` asks for a ticket for `h`.
     Tgs,
 }
 
 impl Kind {
-    /// The reply.
+    /// Returns the reply.
     pub fn reply(self) -> &'static str {
         match self {
             Kind::As => AS_REP,
@@ -107,7 +107,7 @@ impl Kind {
         }
     }
 
-    /// The key that opens it.
+    /// Returns the key that decrypts it.
     pub fn key(self) -> Key {
         match self {
             Kind::As => key_from(64),
@@ -115,7 +115,7 @@ impl Kind {
         }
     }
 
-    /// The session key in it.
+    /// Returns the session key in it.
     pub fn session_key(self) -> Key {
         match self {
             Kind::As => key_from(0),
@@ -131,7 +131,7 @@ impl Kind {
     }
 }
 
-/// What is asked, with nonce 1.
+/// Returns the request, with nonce 1.
 pub fn asked(alloc: Global, kind: Kind) -> Result<Asked, Fail> {
     let service = kind.service(alloc)?;
     let mut etypes = Seq::new(alloc);
@@ -149,12 +149,12 @@ pub fn asked(alloc: Global, kind: Kind) -> Result<Asked, Fail> {
     })
 }
 
-/// What comes of a reply.
+/// The outcome of a reply.
 #[derive(Clone, Copy, Debug, PartialEq, Eq)]
 pub enum Outcome {
     Taken,
     NotAReply,
-    /// With this code, and e-data of three octets.
+    /// A KRB-ERROR with this code, and with e-data of three bytes.
     Refused(i32, Option<[u8; 3]>),
     Differs(Mismatch),
     CannotOpen,
@@ -162,7 +162,7 @@ pub enum Outcome {
     Memory,
 }
 
-/// The e-data, where it has three octets, else three zeros.
+/// Returns the e-data, or three zeros if it doesn't have three bytes.
 fn e_data(found: &Option<Octets>) -> Option<[u8; 3]> {
     match found {
         Some(octets) => Some(three(octets.as_slice())),
@@ -191,17 +191,17 @@ pub fn outcome_by(fault: &ClientFault) -> Outcome {
     }
 }
 
-/// What is seen of the reply to a KDC's client. Credentials are let go where they are read, and nothing else is there
-/// then: proofs about their end take long for each place.
+/// A summary of a KDC's reply. Each credential is dropped where it is read, with nothing else in scope: each place with
+/// a drop takes long to prove.
 #[derive(Clone, Copy)]
 pub struct Seen {
     pub outcome: Outcome,
-    /// Whether the credential has the session key of the reply, of type 18, and the times of a ticket of ten hours.
+    /// Whether the credential has the reply's session key, of type 18, and the times of a ticket of ten hours.
     pub is_whole: bool,
 }
 
 impl Seen {
-    /// Whether it is whole, or none where memory ran out.
+    /// Returns whether it is whole, or `None` if memory ran out.
     pub fn is_due(self) -> Option<bool> {
         match self.outcome {
             Outcome::Memory => None,
@@ -210,7 +210,7 @@ impl Seen {
     }
 }
 
-/// Whether these octets are written, or none where memory ran out.
+/// Returns whether these bytes are written, or `None` if memory ran out.
 pub fn has_octets(found: Result<Vec<u8>, AllocError>, wanted: &[u8]) -> Option<bool> {
     match found {
         Ok(found) => Some(found.as_slice() == wanted),
@@ -218,8 +218,8 @@ pub fn has_octets(found: Result<Vec<u8>, AllocError>, wanted: &[u8]) -> Option<b
     }
 }
 
-/// Whether two calls answer as is due, of which one may have had no memory. A test of this passes whichever allocation
-/// of its calls is refused, by `rt try --test --fail-alloc N`.
+/// Checks whether two calls answer as expected, or one of them ran out of memory. So such a test passes if any one
+/// allocation of its calls fails (`rt try --test --fail-alloc N`).
 pub fn are_due(first: Option<bool>, second: Option<bool>) -> bool {
     match (first, second) {
         (Some(first), Some(second)) => first && second,
@@ -254,7 +254,7 @@ fn see_as(alloc: Global, asked: &Asked, key: &Key, at: Moment, reply: &[u8]) -> 
     seen_in(&found, &Kind::As.session_key())
 }
 
-/// What is seen of these octets as a TGS-REP that is sealed under the session key or under a subkey.
+/// Reads these bytes as a TGS-REP that is encrypted under the session key or under a subkey.
 pub fn see_tgs(
     alloc: Global,
     asked: &Asked,
@@ -267,7 +267,7 @@ pub fn see_tgs(
     seen_in(&found, &Kind::Tgs.session_key())
 }
 
-/// What is seen of these octets as the reply.
+/// Reads these bytes as the reply.
 pub fn see(alloc: Global, kind: Kind, asked: &Asked, key: &Key, at: Moment, reply: &[u8]) -> Seen {
     match kind {
         Kind::As => see_as(alloc, asked, key, at, reply),
@@ -275,7 +275,7 @@ pub fn see(alloc: Global, kind: Kind, asked: &Asked, key: &Key, at: Moment, repl
     }
 }
 
-/// What comes of these octets as the reply.
+/// Returns the outcome of these bytes as the reply.
 pub fn come_of(
     alloc: Global,
     kind: Kind,
@@ -287,7 +287,7 @@ pub fn come_of(
     see(alloc, kind, asked, key, at, reply).outcome
 }
 
-/// The credential of the reply.
+/// Returns the credential in the reply.
 pub fn credential(alloc: Global, kind: Kind, asked: &Asked) -> Result<Credential, Fail> {
     let reply = octets(alloc, kind.reply())?;
     let at = midnight(0)?;

@@ -15,9 +15,9 @@ const CLIENT: Outcome = Differs(Mismatch::Client);
 
 const SERVICE: Outcome = Differs(Mismatch::Service);
 
-/// What comes of `AS_REP` where one of its octets is XORed with 1: for the octets from each place on. What decides
-/// nothing is padata, the types of names, the versions of keys, and the sealed part of the ticket with its encryption
-/// type (RFC 4120, sections 3.1.5 and 6.2).
+/// The outcome of `AS_REP` with one byte XORed with 1: each line is for the bytes from its place on. A client does not
+/// check padata, name-types, key versions, and the ticket's encrypted part and encryption type (RFC 4120, sections
+/// 3.1.5 and 6.2).
 const AS_PARTS: &[(usize, Outcome)] = &[
     (0, NotAReply),
     (28, Taken),
@@ -51,7 +51,7 @@ const AS_PARTS: &[(usize, Outcome)] = &[
     (345, CannotOpen),
 ];
 
-/// The same of `TGS_REP`.
+/// The same for `TGS_REP`.
 const TGS_PARTS: &[(usize, Outcome)] = &[
     (0, NotAReply),
     (22, CLIENT),
@@ -77,7 +77,7 @@ const TGS_PARTS: &[(usize, Outcome)] = &[
     (298, CannotOpen),
 ];
 
-/// What the octet at a place is to lead to.
+/// Returns the expected outcome for the byte at a place.
 fn due(parts: &[(usize, Outcome)], place: usize) -> Outcome {
     let mut found = NotAReply;
     for (first, outcome) in parts {
@@ -88,14 +88,14 @@ fn due(parts: &[(usize, Outcome)], place: usize) -> Outcome {
     found
 }
 
-/// XORs an octet with 1.
+/// XORs a byte with 1.
 fn flip(octets: &mut [u8], place: usize) {
     if let Some(octet) = octets.get_mut(place) {
         *octet ^= 1;
     }
 }
 
-/// The first octet of which something else comes than is due.
+/// Returns the first byte with another outcome than expected.
 fn first_other(
     alloc: Global,
     kind: Kind,
@@ -115,7 +115,7 @@ fn first_other(
     None
 }
 
-/// The first proper prefix that is taken for a reply.
+/// Returns the first proper prefix that is accepted as a reply.
 fn first_prefix(
     alloc: Global,
     kind: Kind,
@@ -132,8 +132,8 @@ fn first_prefix(
     None
 }
 
-/// What comes of the reply, of each change of it, and of its beginnings: whether it is taken, the first octet of which
-/// another thing comes than is due, and the first beginning that is taken.
+/// The outcome of the reply, the first byte whose change has another outcome than expected, and the first proper prefix
+/// that is accepted.
 type Changes = (Outcome, Option<(usize, Outcome)>, Option<usize>);
 
 fn changes_of(
@@ -156,7 +156,7 @@ fn changes(alloc: Global, kind: Kind, parts: &[(usize, Outcome)]) -> Result<Chan
 }
 
 #[test]
-fn a_reply_with_a_changed_octet_or_cut(rt: HostRuntime) -> Result<(), Fail> {
+fn a_reply_that_is_changed_or_cut(rt: HostRuntime) -> Result<(), Fail> {
     for (kind, parts) in [(Kind::As, AS_PARTS), (Kind::Tgs, TGS_PARTS)] {
         let changes = changes(rt.alloc(), kind, parts)?;
         assert_eq!(rt; changes, (Taken, None, None), "{kind:?}");
@@ -164,7 +164,7 @@ fn a_reply_with_a_changed_octet_or_cut(rt: HostRuntime) -> Result<(), Fail> {
     Ok(())
 }
 
-/// In what a request differs from the one of the reply.
+/// How a request differs from the one that the reply answers.
 #[derive(Clone, Copy, Debug, PartialEq, Eq)]
 enum Twist {
     Nothing,
@@ -172,11 +172,11 @@ enum Twist {
     Realm,
     Service,
     Nonce,
-    /// It asks for a ticket that ends a second earlier, or as late, or later.
+    /// It asks for a ticket that ends this many seconds after midnight.
     Till(i32),
-    /// The client's clock differs by so many seconds.
+    /// The client's clock is off by this many seconds.
     Clock(i32),
-    /// It asks for a postdated ticket, and the clock differs so.
+    /// It asks for a postdated ticket, and the clock is off by this many seconds.
     Postdated(i32),
     Key,
 }
@@ -198,7 +198,7 @@ const TWISTS: &[(Twist, Outcome)] = &[
     (Twist::Key, CannotOpen),
 ];
 
-/// Twists a request.
+/// Changes a request.
 fn apply(alloc: Global, asked: &mut Asked, by: Twist) -> Result<(), Fail> {
     match by {
         Twist::Client => asked.client = Name::new(alloc, 1, &[b"v"])?,
@@ -228,7 +228,7 @@ fn clock_by(by: Twist) -> Result<Moment, Fail> {
     }
 }
 
-/// What comes of these digits as the reply to another request.
+/// Returns the outcome of these digits as the reply to another request.
 fn come_of_twisted(
     alloc: Global,
     kind: Kind,
@@ -268,7 +268,7 @@ const PREAUTH_REQUIRED: &str = "\
         7e51304fa003020105a10302011ea411180f32303234303130313030303030305aa503020100a603020119a9051b03412e42\
         aa183016a003020102a10f300d1b066b72627467741b03412e42ac050403616263";
 
-/// `TGS_REP`, its sealed part saying `x` in place of `h`.
+/// `TGS_REP` with `x` in place of `h` in its encrypted part.
 const OTHER_NAME: &str = "\
         6d8201f1308201eda003020105a10302010da3051b03412e42a40e300ca003020101a10530031b0175a581ed6181ea3081e7\
         a003020105a1051b03412e42a20e300ca003020101a10530031b0168a381c83081c5a003020112a103020101a281b80481b5\
@@ -282,7 +282,7 @@ const OTHER_NAME: &str = "\
         7048bac2d95180e8de3405d3e81885498218fe587e5b5ff9baefa29457d577dcd11854cae9526139545aa95b2b62434746df\
         c7";
 
-/// `TGS_REP`, its sealed part saying `C.D` in place of the service's realm `A.B`.
+/// `TGS_REP` with `C.D` in place of the service's realm `A.B` in its encrypted part.
 const OTHER_REALM: &str = "\
         6d8201f1308201eda003020105a10302010da3051b03412e42a40e300ca003020101a10530031b0175a581ed6181ea3081e7\
         a003020105a1051b03412e42a20e300ca003020101a10530031b0168a381c83081c5a003020112a103020101a281b80481b5\

@@ -1,4 +1,4 @@
-//! Keys from passwords.
+//! Tests of keys from passwords.
 use crate::client::given::{Outcome, are_due, octets, outcome_by};
 use client_core::password_key;
 use enctypes::Key;
@@ -11,7 +11,7 @@ use std::test::Fail;
 /// The key of RFC 3962, appendix B: one iteration, 256 bits.
 const PUBLISHED: &str = "fe697b52bc0d3ce14432ba036a92e65bbb52280990a2fa27883998d72af30161";
 
-/// The same of 128 bits.
+/// The same with 128 bits.
 const SHORTER: &str = "42263c6e89f4fc28b8df68ee09799f15";
 
 fn salt(alloc: Global, salted: bool) -> Result<Option<KerberosString>, AllocError> {
@@ -21,7 +21,7 @@ fn salt(alloc: Global, salted: bool) -> Result<Option<KerberosString>, AllocErro
     Ok(None)
 }
 
-/// An entry with these parameters; its salt is `ATHENA.MIT.EDUraeburn`.
+/// Returns an entry with these parameters and the salt `ATHENA.MIT.EDUraeburn`, or without one.
 fn entry(
     alloc: Global,
     etype: i32,
@@ -36,7 +36,7 @@ fn entry(
     })
 }
 
-/// The key of "password" by these entries.
+/// Returns the key of "password" by these entries.
 fn key_in(alloc: Global, name: &Name, info: &Seq<EtypeInfo2Entry>) -> Result<Key, Outcome> {
     match password_key(alloc, b"password", b"ATHENA.MIT.EDU", name, info) {
         Ok(key) => Ok(key),
@@ -44,7 +44,7 @@ fn key_in(alloc: Global, name: &Name, info: &Seq<EtypeInfo2Entry>) -> Result<Key
     }
 }
 
-/// What a KDC says of these types: each entry has the same parameters.
+/// Returns a KDC's entries for these types, all with the same parameters.
 fn info_of(
     alloc: Global,
     etypes: &[i32],
@@ -58,7 +58,7 @@ fn info_of(
     Ok(info)
 }
 
-/// Whether the key has these octets, or none where memory ran out.
+/// Returns whether the key has these bytes, or `None` if memory ran out.
 fn is_key(found: Result<Key, Outcome>, wanted: &[u8]) -> Option<bool> {
     match found {
         Ok(key) => Some(key.bytes() == wanted),
@@ -67,7 +67,7 @@ fn is_key(found: Result<Key, Outcome>, wanted: &[u8]) -> Option<bool> {
     }
 }
 
-/// Whether the key of `raeburn` by entries of these types has these octets, where one allocation may be refused.
+/// Checks whether the key of `raeburn` by entries of these types has these bytes, even if one allocation fails.
 fn gives_key(alloc: Global, etypes: &[i32], salted: bool, digits: &str) -> Result<bool, Fail> {
     let wanted = octets(alloc, digits)?;
     let name = Name::new(alloc, 1, &[b"raeburn"])?;
@@ -78,7 +78,7 @@ fn gives_key(alloc: Global, etypes: &[i32], salted: bool, digits: &str) -> Resul
     ))
 }
 
-/// The types of the entries, and the key. The first of the four types counts.
+/// The types of the entries, and the key. The first supported type decides.
 const KEYS: &[(&[i32], &str)] = &[
     (&[18], PUBLISHED),
     (&[18, 17], PUBLISHED),
@@ -87,9 +87,9 @@ const KEYS: &[(&[i32], &str)] = &[
 ];
 
 #[test]
-fn the_keys_of_rfc_3962_or_want_of_memory(rt: HostRuntime) -> Result<(), Fail> {
+fn keys_are_those_of_rfc_3962(rt: HostRuntime) -> Result<(), Fail> {
     for (etypes, digits) in KEYS {
-        // the salt is that of the entry, or the one of the realm and the name
+        // the salt is the entry's, or that of the realm and the name
         for salted in [true, false] {
             assert!(rt; gives_key(rt.alloc(), etypes, salted, digits)?);
         }
@@ -97,15 +97,15 @@ fn the_keys_of_rfc_3962_or_want_of_memory(rt: HostRuntime) -> Result<(), Fail> {
     Ok(())
 }
 
-/// What comes of the key of `raeburn` by one entry.
+/// Returns the outcome of a key of `raeburn` by one entry.
 fn fault_by(alloc: Global, etype: i32, params: &[u8]) -> Result<Option<Outcome>, Fail> {
     let name = Name::new(alloc, 1, &[b"raeburn"])?;
     let info = info_of(alloc, &[etype], true, params)?;
     Ok(key_in(alloc, &name, &info).err())
 }
 
-/// An encryption type, parameters, and why they give no key.
-const AMISS: &[(i32, &[u8], Outcome)] = &[
+/// An encryption type and parameters, and why they give no key.
+const INVALID: &[(i32, &[u8], Outcome)] = &[
     (18, &[], Outcome::CountTooLarge),
     (18, &[0, 0, 1], Outcome::CountTooLarge),
     (18, &[0, 0, 0, 0], Outcome::CountTooLarge),
@@ -117,7 +117,7 @@ const AMISS: &[(i32, &[u8], Outcome)] = &[
 
 #[test]
 fn parameters_that_give_no_key(rt: HostRuntime) -> Result<(), Fail> {
-    for (etype, params, due) in AMISS {
+    for (etype, params, due) in INVALID {
         assert_eq!(rt; fault_by(rt.alloc(), *etype, params)?, Some(*due));
     }
     Ok(())

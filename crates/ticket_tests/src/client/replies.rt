@@ -1,4 +1,4 @@
-//! Reading a KDC's reply.
+//! Tests of reading a KDC's reply.
 use crate::client::given::{
     Kind, Outcome, are_due, asked, key_from, midnight, octets, see, see_tgs,
 };
@@ -6,14 +6,14 @@ use std::alloc::Global;
 use std::test::Fail;
 
 #[test]
-fn replies_give_credentials_or_want_memory(rt: HostRuntime) -> Result<(), Fail> {
+fn replies_give_credentials(rt: HostRuntime) -> Result<(), Fail> {
     for kind in [Kind::As, Kind::Tgs] {
         assert!(rt; gives_credential(rt.alloc(), kind)?, "{kind:?}");
     }
     Ok(())
 }
 
-/// Where one allocation may be refused.
+/// Checks whether the reply gives its credential, even if one allocation fails.
 fn gives_credential(alloc: Global, kind: Kind) -> Result<bool, Fail> {
     let reply = octets(alloc, kind.reply())?;
     let at = midnight(0)?;
@@ -25,9 +25,9 @@ fn gives_credential(alloc: Global, kind: Kind) -> Result<bool, Fail> {
     ))
 }
 
-/// The reply is sealed under the session key, and is not opened as one under a subkey.
+/// A reply that is encrypted under the session key can't be read as one under a subkey.
 #[test]
-fn a_tgs_reply_is_opened_by_the_role_of_its_key(rt: HostRuntime) -> Result<(), Fail> {
+fn a_tgs_reply_is_decrypted_by_the_role_of_its_key(rt: HostRuntime) -> Result<(), Fail> {
     assert_eq!(rt; under_subkey(rt.alloc())?, Outcome::CannotOpen);
     Ok(())
 }

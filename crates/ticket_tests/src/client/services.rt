@@ -1,4 +1,4 @@
-//! Writing to a service and reading from it.
+//! Tests of the messages to a service and from it.
 ghost use Rattle.std.specs.Prelude.{IfOk};
 ghost use Rattle.client_core.specs.Presenting.{IsShortChecksum};
 
@@ -14,8 +14,8 @@ use krb_fields::{Moment, Typed};
 use std::alloc::{AllocError, Global};
 use std::test::Fail;
 
-/// An AP-REQ with the ticket of `h`: mutual-required, a checksum of type 32771, 7 microseconds, a subkey of the
-/// octets 32 to 63, sequence number 9.
+/// An AP-REQ with the ticket for `h`: mutual-required, a checksum of type 32771, 7 microseconds, a subkey of the bytes
+/// 32 to 63, sequence number 9.
 const AP_REQ: &str = "\
         6e8201b0308201aca003020105a10302010ea20703050020000000a381ed6181ea3081e7a003020105a1051b03412e42a20e\
         300ca003020101a10530031b0168a381c83081c5a003020112a103020101a281b80481b5666a5e762c38b2899c6bfab2d530\
@@ -46,7 +46,7 @@ fn service_asked(alloc: Global) -> Result<ServiceAsked, Fail>
     })
 }
 
-/// The AP-REQ with this credential; no octets where it can't be presented.
+/// Returns the AP-REQ with this credential; no bytes if it can't be presented.
 fn ap_req(
     alloc: Global,
     credential: &Credential,
@@ -61,7 +61,7 @@ fn ap_req(
     ap_request(alloc, credential, at, wanted, &confounder())
 }
 
-/// Whether it has the octets of `AP_REQ`, where one allocation may be refused.
+/// Checks whether it has the bytes of `AP_REQ`, even if one allocation fails.
 fn is_ap_req(alloc: Global, credential: &Credential, at: Moment) -> Result<bool, Fail> {
     let due = octets(alloc, AP_REQ)?;
     let wanted = service_asked(alloc)?;
@@ -71,7 +71,7 @@ fn is_ap_req(alloc: Global, credential: &Credential, at: Moment) -> Result<bool,
     ))
 }
 
-/// The same with the credential of `TGS_REP`, the answer to this.
+/// Checks the same with the credential from `TGS_REP`, the reply to this request.
 fn is_req_after(alloc: Global, asked: &Asked) -> Result<bool, Fail> {
     let at = midnight(7)?;
     let credential = credential(alloc, Kind::Tgs, asked)?;
@@ -84,20 +84,20 @@ fn is_due_ap_req(alloc: Global) -> Result<bool, Fail> {
 }
 
 #[test]
-fn an_ap_request_is_written_or_wants_memory(rt: HostRuntime) -> Result<(), Fail> {
+fn an_ap_request_is_written(rt: HostRuntime) -> Result<(), Fail> {
     assert!(rt; is_due_ap_req(rt.alloc())?);
     Ok(())
 }
 
-/// KRB-ERROR of code 34, without e-data.
+/// A KRB-ERROR with code 34, without e-data.
 const REPEATED: &str = "\
         7e4a3048a003020105a10302011ea411180f32303234303130313030303030305aa503020100a603020122a9051b03412e42\
         aa183016a003020102a10f300d1b066b72627467741b03412e42";
 
-/// What comes of an AP-REP, and the second and the microseconds that it repeats, or zeros.
+/// The outcome of an AP-REP, and the second and the microseconds that it repeats, or zeros.
 type Heard = (Outcome, i64, u32);
 
-/// The first octet of a key, the second and the microseconds of the AP-REQ, and what comes of the AP-REP.
+/// The first byte of a key, the second and the microseconds of the AP-REQ, and the outcome of the AP-REP.
 const AP_REPLIES: &[(u8, i32, u32, &str, Heard)] = &[
     (64, 0, 7, AP_REP, (Taken, 1_704_067_200, 7)),
     (64, 0, 8, AP_REP, (Differs(Mismatch::Times), 0, 0)),
@@ -108,7 +108,7 @@ const AP_REPLIES: &[(u8, i32, u32, &str, Heard)] = &[
     (64, 0, 7, REPEATED, (Refused(34, None), 0, 0)),
 ];
 
-/// What comes of these octets as the AP-REP, by the key that counts up from this octet.
+/// Returns the outcome of these bytes as the AP-REP, with the key that counts up from this byte.
 fn hear(alloc: Global, first: u8, at: Moment, reply: &[u8]) -> Heard {
     match read_ap_reply(alloc, &key_from(first), at, reply) {
         Ok(part) => (Taken, part.ctime.seconds(), part.cusec.get()),
@@ -116,7 +116,7 @@ fn hear(alloc: Global, first: u8, at: Moment, reply: &[u8]) -> Heard {
     }
 }
 
-/// Whether this comes of it, or none where memory ran out.
+/// Returns whether this is the outcome, or `None` if memory ran out.
 fn is_heard(found: Heard, due: Heard) -> Option<bool> {
     match found.0 {
         Memory => None,
@@ -125,7 +125,7 @@ fn is_heard(found: Heard, due: Heard) -> Option<bool> {
 }
 
 #[test]
-fn an_ap_reply_repeats_the_moment_or_wants_memory(rt: HostRuntime) -> Result<(), Fail> {
+fn an_ap_reply_repeats_the_moment(rt: HostRuntime) -> Result<(), Fail> {
     let alloc = rt.alloc();
     for (first, after, usec, digits, due) in AP_REPLIES {
         let at = moment(*after, *usec)?;

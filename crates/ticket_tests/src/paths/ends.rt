@@ -1,4 +1,4 @@
-//! Paths that end in a fault: who rejects the ticket, and why (RFC 4120, sections 3.1.3, 3.1.5 and 3.2.3).
+//! Tests of paths that end early: who rejects the ticket, and why (RFC 4120, sections 3.1.3, 3.1.5 and 3.2.3).
 use crate::paths::given::{MAY_POSTDATE, POSTDATED, Service, key_from, moment, up};
 use crate::paths::legs::{Leg, Sent};
 use crate::paths::realm::{HOST_FIRST, Held, Realm, Types, arrive, open_with};
@@ -9,21 +9,21 @@ use krb_joined::{Client, Issuing, JoinedFault, Reader, Sealing};
 use std::alloc::Global;
 use std::test::Fail;
 
-/// How a way ends.
+/// How a path ends.
 #[derive(Clone, Copy, PartialEq, Eq)]
 enum End {
     Accepted,
     NoReply,
     /// The KDC answers with this error code.
     Refused(i32),
-    /// The client does not take the reply.
+    /// The client rejects the reply.
     Differs(Mismatch),
     NotOpened,
     NotAReply,
     NotPresentable,
     NotAccepted(ApFault),
     NotAnswered,
-    /// The service has accepted, and the client has no memory for its answer.
+    /// The service accepts, and the client runs out of memory for its answer.
     Unheard,
     Memory,
 }
@@ -52,32 +52,32 @@ fn end_of(found: &Result<Accepted, JoinedFault>) -> End {
     }
 }
 
-/// A way of one request, an AS-REQ with a timestamp of midnight by which `u` asks for a ticket for `h`. All keys are of
-/// encryption type 18. Times are in seconds after midnight.
+/// A path with one request: an AS-REQ of `u` for `h`, with a timestamp of midnight. All keys have encryption type 18.
+/// Times are in seconds after midnight.
 #[derive(Clone, Copy)]
 struct Short {
-    /// Whether it is gone twice, and this is how it ends the second time.
+    /// Whether the path is taken twice, and `end` is the end of the second time.
     is_second: bool,
-    /// Whether the request's octets go to the KDC whole, or without the last one.
+    /// Whether the request goes to the KDC whole, or without its last byte.
     is_whole: bool,
     options: u32,
     from: Option<u32>,
     /// When the KDC answers.
     answered: u32,
-    /// The nonce that the client looks for.
+    /// The nonce that the client expects.
     nonce: u32,
-    /// The first octet of the key that the client reads by.
+    /// The first byte of the key with which the client decrypts.
     key: u8,
-    /// What the keytab of the service holds.
+    /// The service's keytab.
     held: Held,
     /// When the client presents the ticket.
     presented: u32,
-    /// When the service looks.
+    /// When the service checks it.
     accepted: u32,
     end: End,
 }
 
-/// The keytab's entry of `h`.
+/// The keytab's entry for `h`.
 const HOST: Held = Held {
     service: Service::Host,
     version: 1,
@@ -85,7 +85,7 @@ const HOST: Held = Held {
     first: HOST_FIRST,
 };
 
-/// Nothing is amiss.
+/// The path without a fault.
 const WELL: Short = Short {
     is_second: false,
     is_whole: true,
@@ -100,10 +100,10 @@ const WELL: Short = Short {
     end: End::Accepted,
 };
 
-/// The ticket lives for ten hours, and clocks may differ by 300 seconds.
+/// The ticket has a lifetime of ten hours, and the clock skew is 300 seconds.
 const WAYS: &[Short] = &[
     WELL,
-    // What the KDC does not answer, and what it refuses: the timestamp is too old.
+    // The KDC does not answer, or refuses a timestamp that is too old.
     Short {
         is_whole: false,
         end: End::NoReply,
@@ -122,7 +122,7 @@ const WAYS: &[Short] = &[
         end: End::Refused(37),
         ..WELL
     },
-    // What the client does not take.
+    // The client rejects the reply.
     Short {
         nonce: 1,
         end: End::Differs(Mismatch::Nonce),
@@ -136,7 +136,7 @@ const WAYS: &[Short] = &[
     // The keytab of the service lacks the key.
     Short {
         held: Held {
-            service: Service::Granter,
+            service: Service::Tgs,
             ..HOST
         },
         end: End::NotAccepted(ApFault::Refused(ApRefusal::NotForUs)),
@@ -175,7 +175,7 @@ const WAYS: &[Short] = &[
         end: End::NotAccepted(ApFault::Refused(ApRefusal::Skewed)),
         ..WELL
     },
-    // It comes twice.
+    // The AP-REQ comes twice.
     Short {
         is_second: true,
         end: End::NotAccepted(ApFault::Refused(ApRefusal::Repeated)),
@@ -215,7 +215,7 @@ impl Short {
         })
     }
 
-    /// What the client sends, and how it reads the reply.
+    /// Returns what the client sends, and how it reads the reply.
     fn sent(&self, alloc: Global) -> Result<Sent, Fail> {
         let leg = Leg {
             at: 0,
@@ -243,7 +243,7 @@ impl Short {
         Ok(())
     }
 
-    /// How the way ends in this realm.
+    /// Returns how the path ends in this realm.
     fn end(&self, alloc: Global, realm: &mut Realm) -> Result<End, Fail> {
         let issuing = self.issuing()?;
         let presenting = sealing(self.presented)?;
@@ -264,7 +264,7 @@ impl Short {
         Ok(end_of(&found))
     }
 
-    /// Returns how it ends if it goes on after running out of memory. The service keeps what it accepted.
+    /// Returns how it ends if it continues after running out of memory. The service's replay cache is kept.
     fn last_end(&self, alloc: Global, realm: &mut Realm) -> Result<End, Fail> {
         match self.end(alloc, realm)? {
             End::Memory => self.end(alloc, realm),
@@ -273,7 +273,7 @@ impl Short {
         }
     }
 
-    /// Whether it ends so.
+    /// Checks whether it ends as expected.
     fn is_ended(&self, alloc: Global, realm: &mut Realm) -> Result<bool, Fail> {
         if self.is_second && self.last_end(alloc, realm)? != End::Accepted {
             return Ok(false);
@@ -281,7 +281,7 @@ impl Short {
         Ok(self.last_end(alloc, realm)? == self.end)
     }
 
-    /// The same, in a new realm.
+    /// Checks the same in a new realm.
     fn is_ended_anew(&self, alloc: Global) -> Result<bool, Fail> {
         let mut realm = open_with(alloc, TYPES, self.held)?;
         self.is_ended(alloc, &mut realm)
@@ -295,7 +295,7 @@ fn sealing(at: u32) -> Result<Sealing, Fail> {
     })
 }
 
-/// The first way that ends otherwise, by its place.
+/// Returns the place of the first path that ends differently.
 fn first_other(alloc: Global, ways: &[Short]) -> Result<Option<usize>, Fail> {
     for (place, way) in ways.iter().enumerate() {
         if !way.is_ended_anew(alloc)? {
@@ -305,9 +305,9 @@ fn first_other(alloc: Global, ways: &[Short]) -> Result<Option<usize>, Fail> {
     Ok(None)
 }
 
-// Passes whichever allocation of `end_to_end` is refused.
+// Passes if any one allocation of `end_to_end` fails.
 #[test]
-fn a_way_ends_where_its_first_fault_is(rt: HostRuntime) -> Result<(), Fail> {
+fn a_path_ends_at_its_first_fault(rt: HostRuntime) -> Result<(), Fail> {
     match first_other(rt.alloc(), WAYS)? {
         None => Ok(()),
         Some(place) => Err(Fail::new(place)),

@@ -1,4 +1,4 @@
-//! A client's requests to a KDC along a ticket's path.
+//! The requests of a client to a KDC along a ticket's path.
 use crate::paths::given::{REALM, Service, moment, up, user};
 use crate::paths::realm::Types;
 use client_core::{Asked, KeyRole, is_presentable, session_key, tgs_request, with_timestamp};
@@ -11,8 +11,8 @@ use krb_joined::{Issuing, Reader};
 use std::alloc::Global;
 use std::test::Fail;
 
-/// A request of a ticket's way. The first one is an AS-REQ with a timestamp; each later one presents the ticket
-/// before it.
+/// A request of a ticket's path. The first one is an AS-REQ with a timestamp; each later one is a TGS-REQ with the
+/// ticket from the request before it.
 #[derive(Clone, Copy)]
 pub struct Leg {
     /// When it is sent and answered, in seconds after midnight.
@@ -32,7 +32,7 @@ pub struct Sent {
 }
 
 impl Leg {
-    /// How the KDC answers: its random octets count up from the leg's own.
+    /// Returns how the KDC answers: its random bytes count up from the leg's own.
     pub fn issuing(&self) -> Result<Issuing, Fail> {
         Ok(Issuing {
             at: moment(self.at, 0)?,
@@ -41,7 +41,7 @@ impl Leg {
         })
     }
 
-    /// The first random octet of the leg.
+    /// Returns the first random byte of the leg.
     pub fn octet(&self) -> u8 {
         (self.at % 256) as u8
     }
@@ -70,7 +70,7 @@ impl Leg {
         })
     }
 
-    /// The request of a client that has no ticket.
+    /// Returns the request of a client without a ticket.
     pub fn first(&self, alloc: Global, types: Types) -> Result<Sent, Fail> {
         let asked = self.asked(alloc, types)?;
         let at = moment(self.at, 0)?;
@@ -91,7 +91,7 @@ impl Leg {
         })
     }
 
-    /// The request of a client that has a ticket, with this subkey.
+    /// Returns the request of a client with a ticket and this subkey.
     pub fn next(
         &self,
         alloc: Global,

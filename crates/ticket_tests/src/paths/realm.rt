@@ -1,4 +1,4 @@
-//! A realm with a client and a service.
+//! The realm of the tests, with a client and a service.
 ghost use Rattle.client_core.specs.Presenting.{IsShortChecksum};
 
 use crate::paths::given::{REALM, Service, key_from, moment, up, user};
@@ -14,15 +14,15 @@ use principals::{Change, Database, RowChange};
 use std::alloc::Global;
 use std::test::Fail;
 
-/// The first octet of the key of `h`.
+/// The first byte of the key of `h`.
 pub const HOST_FIRST: u8 = 160;
 
-/// The encryption types of a realm's keys: there is one of each principal.
+/// The encryption types of a realm's keys. Each principal has one key.
 #[derive(Clone, Copy, Debug)]
 pub struct Types {
-    /// Of `u` and `krbtgt/A.B`, and so of the keys of replies.
+    /// The type of `u` and `krbtgt/A.B`, and so of the keys of replies.
     pub reply: Etype,
-    /// Of `h`.
+    /// The type of `h`.
     pub service: Etype,
 }
 
@@ -31,7 +31,7 @@ impl Types {
         key_from(self.reply, 64)
     }
 
-    pub fn granter_key(self) -> Key {
+    pub fn tgs_key(self) -> Key {
         key_from(self.reply, 128)
     }
 
@@ -47,7 +47,7 @@ pub struct Realm {
     pub acceptor: Acceptor,
 }
 
-/// A ticket lives for ten hours, and is renewable for a week.
+/// Returns the limits of tickets: a lifetime of ten hours, renewable for a week.
 fn limits() -> Result<Limits, Fail> {
     Ok(Limits::new(64, 0, 0, 36_000, 604_800).ok_or("limits")?)
 }
@@ -64,7 +64,7 @@ fn add(alloc: Global, database: &mut Database, name: Name, key: Key) -> Result<(
     Ok(database.apply(alloc, &change)?)
 }
 
-/// Tickets of it and for it may be postdated.
+/// Allows postdated tickets of a principal and for it.
 fn allow_postdating(alloc: Global, database: &mut Database, name: Name) -> Result<(), Fail> {
     let policy = Policy {
         postdate: true,
@@ -83,12 +83,12 @@ fn add_all(alloc: Global, database: &mut Database, types: Types) -> Result<(), F
     add(alloc, database, host.name(alloc)?, types.service_key())?;
     allow_postdating(alloc, database, user(alloc)?)?;
     allow_postdating(alloc, database, host.name(alloc)?)?;
-    allow_postdating(alloc, database, Service::Granter.name(alloc)?)
+    allow_postdating(alloc, database, Service::Tgs.name(alloc)?)
 }
 
 fn database(alloc: Global, types: Types) -> Result<Database, Fail> {
-    let granter_keys = keys(alloc, types.granter_key())?;
-    let mut database = Database::first(alloc, REALM, granter_keys)?;
+    let tgs_keys = keys(alloc, types.tgs_key())?;
+    let mut database = Database::first(alloc, REALM, tgs_keys)?;
     match add_all(alloc, &mut database, types) {
         Ok(()) => Ok(database),
         Err(fail) => Err(fail),
@@ -100,13 +100,13 @@ fn kdc(alloc: Global, types: Types) -> Result<Kdc, Fail> {
     Ok(Kdc::open(alloc, database, limits()?, Opening::First)?)
 }
 
-/// What the keytab of a service holds.
+/// The key in a service's keytab.
 #[derive(Clone, Copy)]
 pub struct Held {
     pub service: Service,
     pub version: u32,
     pub etype: Etype,
-    /// The first octet of the key.
+    /// The first byte of the key.
     pub first: u8,
 }
 
@@ -122,7 +122,7 @@ fn acceptor(alloc: Global, held: Held) -> Result<Acceptor, Fail> {
     Ok(Acceptor::open(alloc, keytab, limits()?, ap_accept::Opening::First)?)
 }
 
-/// A realm whose service has this keytab.
+/// Returns a realm whose service has this key in its keytab.
 pub fn open_with(alloc: Global, types: Types, held: Held) -> Result<Realm, Fail> {
     Ok(Realm {
         acceptor: acceptor(alloc, held)?,
@@ -130,7 +130,7 @@ pub fn open_with(alloc: Global, types: Types, held: Held) -> Result<Realm, Fail>
     })
 }
 
-/// A realm whose service has its own key.
+/// Returns a realm whose service has its own key in its keytab.
 pub fn open(alloc: Global, types: Types) -> Result<Realm, Fail> {
     let held = Held {
         service: Service::Host,
@@ -141,7 +141,7 @@ pub fn open(alloc: Global, types: Types) -> Result<Realm, Fail> {
     open_with(alloc, types, held)
 }
 
-/// What is accepted of the ticket that comes of a request.
+/// Presents the ticket from a request, and returns what the service accepts.
 pub fn arrive(
     alloc: Global,
     realm: &mut Realm,

@@ -1,4 +1,4 @@
-//! The whole paths of tickets, each from the first request to the service.
+//! Tests of whole paths of tickets, each from the first request to the service.
 ghost use Rattle.std.specs.Prelude.{IfOk};
 ghost use Rattle.client_core.specs.Presenting.{IsShortChecksum};
 
@@ -20,10 +20,10 @@ use std::alloc::Global;
 use std::test::Fail;
 use ticket_times::TicketTerms;
 
-/// The legs of a way, and what the ticket says in the end: its flags, and its times in seconds after midnight.
+/// The requests of a path, with the flags and times of its last ticket. Times are in seconds after midnight.
 struct Way {
     legs: &'static [Leg],
-    /// Whether the last request goes to the KDC once before, which has other random octets then.
+    /// Whether the last request goes to the KDC twice. The first time the KDC has other random bytes.
     is_repeated: bool,
     flags: u32,
     start: u32,
@@ -34,11 +34,11 @@ struct Way {
 const LOGIN: Leg = Leg {
     at: 0,
     options: 0,
-    service: Service::Granter,
+    service: Service::Tgs,
     from: None,
 };
 
-/// An AS-REQ may name any service.
+/// An AS-REQ for the service: it may name any service.
 const LOGIN_TO_HOST: Leg = Leg {
     at: 0,
     options: 0,
@@ -53,9 +53,9 @@ const TO_HOST: Leg = Leg {
     from: None,
 };
 
-/// The ways of tickets that live for ten hours and are renewable for a week (RFC 4120, sections 2, 3.1.3 and 3.3.3).
+/// Paths of tickets with a lifetime of ten hours, renewable for a week (RFC 4120, sections 2, 3.1.3 and 3.3.3).
 const WAYS: &[Way] = &[
-    // A ticket of an AS-REP, and one of a TGS-REP.
+    // A ticket from an AS-REP, and one from a TGS-REP.
     Way {
         legs: &[LOGIN_TO_HOST],
         is_repeated: false,
@@ -72,7 +72,7 @@ const WAYS: &[Way] = &[
         end: 36_000,
         renew_till: None,
     },
-    // The same where the reply was kept: the ticket is the first one.
+    // The same if the KDC kept the reply: the ticket is the first one.
     Way {
         legs: &[LOGIN, TO_HOST],
         is_repeated: true,
@@ -81,7 +81,7 @@ const WAYS: &[Way] = &[
         end: 36_000,
         renew_till: None,
     },
-    // A ticket of the service that is renewed, and one by a ticket-granting ticket that is.
+    // A renewed service ticket, and a service ticket from a renewed TGT.
     Way {
         legs: &[
             Leg {
@@ -118,7 +118,7 @@ const WAYS: &[Way] = &[
         end: 36_060,
         renew_till: None,
     },
-    // A ticket by a ticket-granting ticket that is forwarded.
+    // A service ticket from a forwarded TGT.
     Way {
         legs: &[
             Leg {
@@ -141,7 +141,7 @@ const WAYS: &[Way] = &[
         end: 36_000,
         renew_till: None,
     },
-    // Postdated tickets of an AS-REP and of a TGS-REP, which are validated at their start.
+    // Postdated tickets from an AS-REP and from a TGS-REP, validated at their start.
     Way {
         legs: &[
             Leg {
@@ -193,12 +193,12 @@ const ETYPES: &[Etype] = &[
     Etype::Aes256CtsHmacSha384_192,
 ];
 
-/// What a client chooses.
+/// The choices of a client.
 #[derive(Clone, Copy, Debug)]
 struct Choice {
-    /// Whether there is a subkey in each TGS-REQ.
+    /// Whether each TGS-REQ has a subkey.
     tgs_subkey: bool,
-    /// Whether there is one in the AP-REQ, with a sequence number and a checksum.
+    /// Whether the AP-REQ has a subkey, a sequence number and a checksum.
     subkey: bool,
     mutual_required: bool,
 }
@@ -235,7 +235,7 @@ impl Choice {
         }
     }
 
-    /// What it asks of the service.
+    /// Returns the request to the service.
     fn wanted(self, alloc: Global, types: Types) -> Result<ServiceAsked, Fail>
         ensures { IfOk result (λ asked. IsShortChecksum asked.checksum) }
     {
@@ -259,7 +259,7 @@ impl Choice {
     }
 }
 
-/// The request of a leg, behind the ticket that there may be.
+/// Returns the request of a leg, with the ticket before it, if there is one.
 fn send(
     alloc: Global,
     leg: &Leg,
@@ -273,7 +273,7 @@ fn send(
     }
 }
 
-/// The credential that comes of a leg.
+/// Returns the credential from a leg.
 fn take(alloc: Global, kdc: &mut Kdc, issuing: &Issuing, sent: &Sent) -> Result<Credential, Fail> {
     match obtain(
         alloc,
@@ -288,7 +288,7 @@ fn take(alloc: Global, kdc: &mut Kdc, issuing: &Issuing, sent: &Sent) -> Result<
     }
 }
 
-/// Goes a leg, and keeps what comes of it.
+/// Takes a leg, and keeps its credential.
 fn go(
     alloc: Global,
     kdc: &mut Kdc,
@@ -317,7 +317,7 @@ fn go_all(
     Ok(())
 }
 
-/// How the KDC answers the last request. Where that went to it before, its random octets are others now.
+/// Returns how the KDC answers the last request. If that went to it before, its random bytes now differ.
 fn last_issuing(
     alloc: Global,
     kdc: &mut Kdc,
@@ -339,7 +339,7 @@ fn last_issuing(
     }
 }
 
-/// What is accepted of the ticket that comes of the last leg.
+/// Presents the ticket from the last leg, and returns what the service accepts.
 fn come(
     alloc: Global,
     realm: &mut Realm,
@@ -356,7 +356,7 @@ fn come(
     }
 }
 
-/// When the service looks, half a minute behind the client, and by which confounder it answers.
+/// Returns when the service checks the AP-REQ, half a minute after the client, and the confounder of its answer.
 fn accepting(leg: &Leg, first: u8) -> Result<Sealing, Fail> {
     Ok(Sealing {
         at: moment(leg.at.wrapping_add(30), 11)?,
@@ -364,7 +364,7 @@ fn accepting(leg: &Leg, first: u8) -> Result<Sealing, Fail> {
     })
 }
 
-/// The same, by the credential before it, if there is one.
+/// Takes the last leg with the credential before it, if there is one.
 fn go_last(
     alloc: Global,
     realm: &mut Realm,
@@ -396,7 +396,7 @@ fn is_key(found: &Key, wanted: &Key) -> bool {
     found.etype() == wanted.etype() && found.bytes() == wanted.bytes()
 }
 
-/// Whether the ticket says what the way leads to.
+/// Checks whether the ticket has the flags and times of the path.
 fn is_granted(ticket: &TicketTerms, way: &Way) -> bool {
     let renewable = match (ticket.renew_till, way.renew_till) {
         (Some(found), Some(wanted)) => found.seconds() == second(wanted),
@@ -410,8 +410,8 @@ fn is_granted(ticket: &TicketTerms, way: &Way) -> bool {
         && renewable
 }
 
-/// Whether the service learns what the client chose to tell it.
-fn is_told(accepted: &Accepted, types: Types, choice: Choice) -> bool {
+/// Checks whether the service gets what the client chose to send.
+fn is_as_sent(accepted: &Accepted, types: Types, choice: Choice) -> bool {
     let has_subkey = match &accepted.subkey {
         Some(key) => choice.subkey && is_key(key, &key_from(types.reply, 96)),
         None => !choice.subkey,
@@ -429,14 +429,14 @@ fn is_told(accepted: &Accepted, types: Types, choice: Choice) -> bool {
     has_subkey && has_number && has_checksum && accepted.ap_rep.is_some() == choice.mutual_required
 }
 
-/// Whether what is accepted is what was granted, and what the client told.
+/// Checks whether the service gets the ticket that was issued, and what the client sent.
 fn is_due(accepted: &Accepted, user: &Name, way: &Way, types: Types, choice: Choice) -> bool {
     accepted.client.is(REALM, user)
         && is_granted(&accepted.ticket, way)
-        && is_told(accepted, types, choice)
+        && is_as_sent(accepted, types, choice)
 }
 
-/// Whether the AP-REP has these octets, where they are told.
+/// Checks whether the AP-REP has these bytes, if they are given.
 fn is_answered(accepted: &Accepted, ap_rep: Option<&[u8]>) -> bool {
     match (&accepted.ap_rep, ap_rep) {
         (Some(found), Some(wanted)) => found.as_slice() == wanted,
@@ -445,8 +445,8 @@ fn is_answered(accepted: &Accepted, ap_rep: Option<&[u8]>) -> bool {
     }
 }
 
-/// Whether the way ends so, in a realm where nobody went one before. The octets of the service's confounder count up
-/// from this one.
+/// Checks whether the path ends as expected in an unused realm. The bytes of the service's confounder count up from
+/// this one.
 fn is_gone(
     alloc: Global,
     realm: &mut Realm,
@@ -470,7 +470,7 @@ fn is_gone(
         &found,
         first,
     )?;
-    // A key of random octets is these octets (RFC 3961, section 5.3).
+    // A key made from random bytes is these bytes (RFC 3961, section 5.3).
     let session_key = key_from(types.service, last.octet());
     Ok(
         is_key(&accepted.session_key, &session_key)
@@ -479,7 +479,7 @@ fn is_gone(
     )
 }
 
-/// The same, in a new realm.
+/// Checks the same in a new realm.
 fn is_gone_anew(
     alloc: Global,
     way: &Way,
@@ -492,7 +492,7 @@ fn is_gone_anew(
     is_gone(alloc, &mut realm, way, types, choice, first, ap_rep)
 }
 
-/// The first way that ends otherwise, by its place.
+/// Returns the place of the first path that ends differently.
 fn first_other(alloc: Global, types: Types, choice: Choice) -> Result<Option<usize>, Fail> {
     for (place, way) in WAYS.iter().enumerate() {
         if !is_gone_anew(alloc, way, types, choice, 216, None)? {
@@ -519,9 +519,9 @@ fn what_the_kdc_issues_the_service_accepts(rt: HostRuntime) -> Result<(), Fail> 
     Ok(())
 }
 
-/// The encryption type of the session key, whose octets count from 0, the first octet of the service's confounder, and
-/// the AP-REP. It answers an authenticator of midnight and 7 microseconds. A program in Python gives it, which knows
-/// nothing of this code.
+/// The encryption type of the session key, whose bytes count up from 0, the first byte of the service's confounder, and
+/// the AP-REP, which answers an authenticator of midnight and 7 microseconds. It comes from an independent program in
+/// Python.
 const AP_REPS: &[(Etype, u8, &str)] = &[
     (
         Etype::Aes128CtsHmacSha1_96,
@@ -555,7 +555,7 @@ const AP_REPS: &[(Etype, u8, &str)] = &[
     ),
 ];
 
-/// Whether the service answers so on the first way.
+/// Checks whether the service answers with this AP-REP on the first path.
 fn is_ap_rep(alloc: Global, etype: Etype, first: u8, digits: &str) -> Result<bool, Fail> {
     let types = Types {
         reply: etype,

@@ -1,21 +1,33 @@
-use Rattle.std.proofs.Common.{◌≡◌, Option, IfOk, IfSome, sym, subst}
+use Rattle.std.proofs.Common.{◌≡◌, ℕ, List, None, Some}
+use Rattle.enctypes.specs.KeyUsage.{usage_number}
+use Rattle.enctypes.specs.declared.key_usage.KeyUsage.TheVariants.{TgsReqAuthenticator}
 use Rattle.krb_elements.specs.Codec.{written}
-use Rattle.krb_types.specs.KdcReq.{SpellsKdcReq, message}
+use Rattle.krb_parts.specs.Authenticator as parts
+use Rattle.krb_types.specs.KdcReq.{KdcReq, SpellsKdcReq, message}
 use Rattle.krb_types.specs.declared.kdc_req.Exchange.TheVariants.{Tgs}
-use Rattle.client_core.specs.Requests.{asks_tgs}
-use Rattle.client_core.specs.ShortLaws.{presentable_realm}
+use Rattle.krb_types.specs.ReqBody.{ReqBody}
+use Rattle.sealed_parts.specs.Encrypted.{decrypted}
+use Rattle.client_core.specs.Requests.{body_of, tgs_authenticator, tgs_presents}
+use Rattle.client_core.specs.Sessions.{session}
 use Rattle.client_core.specs.declared.sessions.Session.{Session}
+use Rattle.client_core.proofs.Results.{with_equal}
+use Rattle.client_core.proofs.Written.{tgs_written}
 use Rattle.client_core.proofs.tgs_requests.tgs_request.Goals as goal
-
-pub tgs_req-requires-clause-realm : goal.tgs_req-requires-clause-realm
-tgs_req-requires-clause-realm c = presentable_realm c.args.credential.now c.requires.presentable
 
 pub returns-clause-written : goal.returns-clause-written
 returns-clause-written c =
-    subst (λ (o : Option Session). IfSome o (λ s. IfOk c.tgs_req.result (λ v. v.items ≡ written (message Tgs) (asks_tgs c.args.asked.now c.args.credential.now.client s c.args.at c.args.subkey c.args.confounder.now))))
-    (sym c.in_ok-session.ensures.value) c.tgs_req.ensures.written
+    tgs_written (λ (r : KdcReq) (octets : List ℕ). octets ≡ written (message Tgs) r) (λ v. v.items) c.tgs_req.result (session c.args.credential.now)
+    c.args.asked.now c.args.credential.now.client c.args.at c.args.subkey c.args.confounder.now c.in_ok-body.body c.in_ok-entry.entry
+    c.in_ok-entry.ensures.value c.in_ok-body.ensures.value c.tgs_req.ensures.written
 
 pub returns-clause-spelled : goal.returns-clause-spelled
 returns-clause-spelled c =
-    subst (λ (o : Option Session). IfSome o (λ s. IfOk c.tgs_req.result (λ v. SpellsKdcReq (Tgs, asks_tgs c.args.asked.now c.args.credential.now.client s c.args.at c.args.subkey c.args.confounder.now) v.items)))
-    (sym c.in_ok-session.ensures.value) c.tgs_req.ensures.spelled
+    tgs_written (λ (r : KdcReq) (octets : List ℕ). SpellsKdcReq (Tgs, r) octets) (λ v. v.items) c.tgs_req.result (session c.args.credential.now)
+    c.args.asked.now c.args.credential.now.client c.args.at c.args.subkey c.args.confounder.now c.in_ok-body.body c.in_ok-entry.entry
+    c.in_ok-entry.ensures.value c.in_ok-body.ensures.value c.tgs_req.ensures.spelled
+
+pub returns-clause-opens : goal.returns-clause-opens
+returns-clause-opens c =
+    with_equal
+    (λ (s : Session) (b : ReqBody). decrypted parts.authenticator s.key (usage_number TgsReqAuthenticator) (tgs_presents c.args.credential.now.client s c.args.at c.args.subkey c.args.confounder.now b).authenticator ≡ Some (tgs_authenticator c.args.credential.now.client s c.args.at c.args.subkey b))
+    c.tgs_req.result (session c.args.credential.now) c.in_ok-body.body (body_of None c.args.asked.now) c.in_ok-body.ensures.value c.in_ok-entry.ensures.opens

@@ -1,3 +1,4 @@
+use Rattle.kdc_hub.proofs.Due as due
 use Rattle.kdc_hub.proofs.Histories as histories
 use Rattle.kdc_hub.proofs.laws.one_run.Goals as goal
 
@@ -30,3 +31,9 @@ returns-clause-who_asked c = histories.who_asked
 
 pub returns-clause-resumable : goal.returns-clause-resumable
 returns-clause-resumable c = histories.can_be_resumed
+
+pub returns-clause-own : goal.returns-clause-own
+returns-clause-own c = due.gets_its_own
+
+pub returns-clause-own_record : goal.returns-clause-own_record
+returns-clause-own_record c = due.records_its_own

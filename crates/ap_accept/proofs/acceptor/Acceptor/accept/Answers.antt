@@ -1,9 +1,9 @@
-use Rattle.std.proofs.Common.{rules, ◌≡◌, refl, sym, ap, subst, ◌∙◌, arith}
+use Rattle.std.proofs.Common.{rules, ◌≡◌, inl, refl, sym, ap, subst, ◌∙◌, arith}
 use Rattle.ap_accept.specs.Accepts.{accepts, presented_by, IsParty, IsService}
-use Rattle.ap_accept.specs.Clients.{floor_for}
+use Rattle.ap_accept.specs.Clients.{IsKeptOrDropped, floor_for}
 use Rattle.ap_accept.specs.State.{clients_of, memory_of}
 use Rattle.ap_accept.specs.declared.state.State.{State}
-use Rattle.ap_accept.proofs.Frame.{accepts_keeps, call_keeps, others_alike, others_stay}
+use Rattle.ap_accept.proofs.Frame.{accepts_keeps, call_keeps, others_alike, others_kept, others_stay}
 use Rattle.ap_accept.proofs.Raised.{raised, same_from}
 use Rattle.ap_accept.proofs.Ruling.{request_is}
 use Rattle.ap_accept.proofs.acceptor.Acceptor.accept.Goals as goal
@@ -31,6 +31,17 @@ returns-clause-memories c service client other =
     (others_alike state service client c.args.at c.args.confounder.now octets (subst (λ (s : State). IsParty service client (presented_by s octets) → ⊥) (sym is) other)) in
     same_from c.args.at.sec (memory_of c.accept.new.state service client) (memory_of c.args.self.now service client)
     (alike ∙ ap (λ s. raised (floor_for c.args.at.sec) (memory_of s service client)) is)
+
+pub returns-clause-kept : goal.returns-clause-kept
+returns-clause-kept c service client other =
+    let state = c.self.inside.state in
+    let octets = c.args.ap_req.now in
+    let is : state ≡ c.args.self.now = search rules in
+    let floor = (clients_of state service).floor in
+    let old = memory_of state service client in
+    subst (λ (s : State). IsKeptOrDropped c.args.at.sec (clients_of s service).floor (memory_of s service client) (memory_of c.accept.new.state service client)) is
+    (call_keeps (λ s. IsKeptOrDropped c.args.at.sec floor old (memory_of s service client)) c.accept.result state c.accept.new.state (accepts state c.args.at c.args.confounder.now octets).state c.accept.ensures.state (inl refl)
+    (others_kept state service client c.args.at c.args.confounder.now octets (subst (λ (s : State). IsParty service client (presented_by s octets) → ⊥) (sym is) other)))
 
 pub returns-clause-keytab : goal.returns-clause-keytab
 returns-clause-keytab c =

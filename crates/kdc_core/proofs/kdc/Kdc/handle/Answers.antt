@@ -12,6 +12,7 @@ use Rattle.kdc_core.specs.Issued.{IsReplyOf, issued}
 use Rattle.kdc_core.specs.IssuedLaws.{replies_issued, replies_sent}
 use Rattle.kdc_core.specs.Request.{request_of}
 use Rattle.kdc_core.specs.RequestLaws.{request_is}
+use Rattle.kdc_core.specs.StandingLaws.{issued_standing}
 use Rattle.kdc_core.specs.View.{named, view}
 use Rattle.kdc_core.proofs.kdc.Kdc.handle.Goals as goal
 
@@ -35,6 +36,11 @@ returns-clause-issued c =
     subst (λ (s : State). IfOk c.handle.result (λ answer. IfSome (issued (view s bytes) c.args.at c.args.random.now (request_of bytes)) (λ issue. IsReplyOf issue (option_map (λ octets. octets.items) answer.reply)))) is
     (replies_issued (view state bytes) c.args.at c.args.random.now long (λ answer. option_map (λ octets. octets.items) answer.reply) (request_of bytes) c.handle.result
     (replies_sent (view state bytes) c.args.at c.args.random.now (λ answer. option_map (λ octets. octets.items) answer.reply) (request_of bytes) c.handle.result c.handle.ensures.spelled c.handle.ensures.same))
+
+pub returns-clause-standing : goal.returns-clause-standing
+returns-clause-standing c =
+    let bytes = c.args.request.now in
+    issued_standing (view c.args.self.now bytes) c.args.at c.args.random.now (request_of bytes)
 
 pub returns-clause-names : goal.returns-clause-names
 returns-clause-names c =

@@ -1,0 +1,53 @@
+-- The AS exchange issues tickets only to clients, and for services, in good standing.
+use Rattle.std.proofs.Common.{◌≡◌, ℤ, ℕ, List, Option, Result, Ok, Err, IfSome, refl}
+use Rattle.std.proofs.lemmas.Bool.{or_parts}
+use Rattle.std.specs.Prelude.{◌||◌, not, nat_eq, is_none}
+use Rattle.std.specs.Cmp.Lexicographic.{pointwise}
+use Rattle.kdc_replies.specs.GoodStanding.{AreInGoodStanding}
+use Rattle.kdc_replies.specs.GoodStandingLaws.{in_good_standing}
+use Rattle.krb_fields.specs.declared.moment.Moment.{Moment}
+use Rattle.krb_types.specs.KdcReq.{Received}
+use Rattle.preauth.specs.declared.timestamp.Outcome.{Outcome}
+use Rattle.refusals.specs.ClearLaws.{AreClear, decided_clear}
+use Rattle.ticket_times.specs.declared.times.Times.{Times}
+use Rattle.as_exchange.specs.View.{AsView}
+use Rattle.as_exchange.specs.Terms.{admission_of, terms, times_of}
+use Rattle.as_exchange.specs.Rules.{admitted, rules_by, timestamp_of}
+use Rattle.as_exchange.specs.Decision.{by_admission}
+use Rattle.as_exchange.specs.Issued.{issued, issued_by}
+use Rattle.as_exchange.specs.declared.refusal.AsRefusal.{AsRefusal}
+use Rattle.as_exchange.specs.declared.refusal.AsRefusal.TheVariants.{NeverValid}
+use Rattle.as_exchange.specs.declared.terms.Admission.{Admission}
+use Rattle.as_exchange.specs.declared.terms.Terms.{Terms}
+
+module _ (v : AsView) (message : Received) where
+  clear_standing : (now : ℤ) (timestamp : Outcome) (found : Option Terms) (times : Option Times)
+      → AreClear (rules_by v now message timestamp found times) → AreInGoodStanding v.client v.service now
+  clear_standing now timestamp found times clear =
+      let body = message.body.value in
+      let client = or_parts (not (pointwise nat_eq body.realm v.realm) || is_none body.cname) (is_none v.client)
+      clear.1.1.0 in
+      let service = or_parts (is_none body.sname) (is_none v.service) clear.1.1.1.0 in
+      in_good_standing v.client v.service now client.1 clear.1.1.1.1.1.0 clear.1.1.1.1.1.1.1.0 service.1
+      clear.1.1.1.1.0 clear.1.1.1.1.1.1.1.1.1.0 clear.1.1.1.1.1.1.1.1.1.1.0
+
+  module _ (at : Moment) (random : List ℕ) where
+    admitted_standing : (timestamp : Outcome) (r : Result Admission AsRefusal)
+        → admitted v at.sec message timestamp ≡ r
+        → IfSome (issued_by v at random message.body.value (by_admission timestamp r))
+        (λ _. AreInGoodStanding v.client v.service at.sec)
+    admitted_standing timestamp (Ok admission) is =
+        let body = message.body.value in
+        let found = terms v body in
+        let times = times_of v.limits at.sec body found in
+        clear_standing at.sec timestamp found times
+        (decided_clear (rules_by v at.sec message timestamp found times) (admission_of timestamp found times)
+        NeverValid admission is)
+    admitted_standing timestamp (Err refusal) is = tt
+
+    -- of what is issued
+    pub issued_standing : IfSome (issued v at random message)
+        (λ _. AreInGoodStanding v.client v.service at.sec)
+    issued_standing =
+        let timestamp = timestamp_of v.client at.sec message in
+        admitted_standing timestamp (admitted v at.sec message timestamp) refl

@@ -1,0 +1,142 @@
+//! What a client requires of its files beyond a [`Store`]: who owns them, what a folder contains, and how to remove a
+//! file.
+use file_store::{FileStore, MemoryStore, Store};
+use std::alloc::{AllocError, Global};
+use std::fs::File;
+use std::io::{Error, ErrorKind, IsTerminal};
+use std::os::unix::fs::MetadataExt;
+use std::random::RandomSource;
+use std::rt::{Clock, Files};
+use std::{fs, io};
+
+/// What a path has.
+#[derive(Clone, Copy, PartialEq, Eq)]
+pub enum Standing {
+    /// Nothing.
+    Free,
+    /// A file that the user owns, and that no other user may write.
+    Ours,
+    /// A file that another user owns, or may write.
+    Others,
+    /// A folder, a device, a FIFO or a socket. Opening one may wait forever.
+    NoFile,
+}
+
+/// A store that knows who owns its files.
+pub trait ClientStore: Store {
+    /// Checks what a path has, without opening it.
+    fn standing(&mut self, path: &str) -> io::Result<Standing>;
+
+    /// Returns the number of the user whose rights the program has.
+    fn user(&mut self) -> io::Result<u32>;
+
+    /// Removes a file.
+    fn remove(&mut self, path: &str) -> io::Result<()>;
+
+    /// Returns the names of the files in a folder, in rising order.
+    fn names_in(&mut self, alloc: Global, path: &str) -> io::Result<Vec<String>>;
+}
+
+/// The group's and others' permissions to write a file.
+const OTHERS_WRITE: u32 = 0o022;
+
+/// A path that belongs to the user whose rights the program has, on Linux.
+const SELF: &str = "/proc/self";
+
+impl<
+    'a,
+    R: Files<File = File> + RandomSource + Clock + Input + Eprint + Alloc + Clone + Drop,
+> ClientStore for FileStore<'a, R>
+where
+    R::Reader: IsTerminal,
+{
+    fn standing(&mut self, path: &str) -> io::Result<Standing> {
+        standing_of(self.files(), path)
+    }
+
+    fn user(&mut self) -> io::Result<u32> {
+        user_of(self.files())
+    }
+
+    fn remove(&mut self, path: &str) -> io::Result<()> {
+        fs::remove_file(self.files(), path)
+    }
+
+    fn names_in(&mut self, alloc: Global, path: &str) -> io::Result<Vec<String>> {
+        names_of(alloc, self.files(), path)
+    }
+}
+
+fn names_of<R: Files + Alloc + Clone + Drop>(
+    alloc: Global,
+    files: &R,
+    path: &str,
+) -> io::Result<Vec<String>> {
+    let mut names = Vec::new(alloc);
+    for entry in fs::read_dir(files, path)? {
+        let entry = entry?;
+        push_name(alloc, &mut names, entry.file_name())?;
+    }
+    names.sort()?;
+    Ok(names)
+}
+
+fn push_name(alloc: Global, names: &mut Vec<String>, name: &str) -> Result<(), AllocError> {
+    Ok(names.push(String::from_str(alloc, name)?)?)
+}
+
+fn standing_of(files: &impl Files, path: &str) -> io::Result<Standing> {
+    let there = match fs::metadata(files, path) {
+        Ok(there) => there,
+        Err(error) if error.kind() == ErrorKind::NotFound => return Ok(Standing::Free),
+        Err(error) => return Err(error),
+    };
+    if !there.is_file() {
+        return Ok(Standing::NoFile);
+    }
+    if there.uid() == user_of(files)? && there.mode() & OTHERS_WRITE == 0 {
+        return Ok(Standing::Ours);
+    }
+    Ok(Standing::Others)
+}
+
+fn user_of(files: &impl Files) -> io::Result<u32> {
+    Ok(fs::metadata(files, SELF)?.uid())
+}
+
+/// The user of files in memory, who owns all of them.
+const MEMORY_USER: u32 = 1000;
+
+impl ClientStore for MemoryStore {
+    fn standing(&mut self, path: &str) -> io::Result<Standing> {
+        match self.get(path) {
+            Some(_) => Ok(Standing::Ours),
+            None => Ok(Standing::Free),
+        }
+    }
+
+    fn user(&mut self) -> io::Result<u32> {
+        Ok(MEMORY_USER)
+    }
+
+    fn remove(&mut self, path: &str) -> io::Result<()> {
+        if self.remove_file(path) {
+            Ok(())
+        } else {
+            Err(Error::from(ErrorKind::NotFound))
+        }
+    }
+
+    /// A folder in memory is a file of names, one on each line.
+    fn names_in(&mut self, alloc: Global, path: &str) -> io::Result<Vec<String>> {
+        let text = match self.get(path) {
+            Some(octets) => str::from_utf8(octets).unwrap_or(""),
+            None => return Err(Error::from(ErrorKind::NotFound)),
+        };
+        let mut names = Vec::new(alloc);
+        for name in text.lines() {
+            push_name(alloc, &mut names, name)?;
+        }
+        Ok(names)
+    }
+}

@@ -1,0 +1,87 @@
+//! Where a client's files are, by the environment.
+use crate::client_store::ClientStore;
+use crate::faults::{Cause, Fault};
+use crate::file_names::{NameOf, path_in};
+use file_store::Amiss;
+use std::alloc::{AllocError, Global};
+use std::env::VarError;
+use std::io;
+
+/// What the environment names.
+#[derive(Clone, Copy)]
+pub struct Defaults<'a> {
+    /// The value of `KRB5CCNAME`: the cache, as `FILE:PATH` or as a path.
+    pub cache: Variable<'a>,
+    /// The value of `KRB5_CONFIG`: the path of a `krb5.conf`.
+    pub config: Variable<'a>,
+}
+
+/// The value of a variable of the environment.
+#[derive(Clone, Copy)]
+pub enum Variable<'a> {
+    /// It is not set, or empty.
+    Absent,
+    /// It is not UTF-8.
+    NotUtf8,
+    Text(&'a str),
+}
+
+/// The file to read if `KRB5_CONFIG` names none.
+const CONFIG: &str = "/etc/krb5.conf";
+
+// The text after `error:` if a variable is not UTF-8.
+
+const CACHE_NOT_UTF8: &str = "KRB5CCNAME is not UTF-8: --cache takes a file";
+
+const CONFIG_NOT_UTF8: &str = "KRB5_CONFIG, which names the krb5.conf to be read, is not UTF-8";
+
+impl<'a> Defaults<'a> {
+    /// Returns the path of the cache: that of `KRB5CCNAME`, or else the user's own, which MIT's and Heimdal's clients use
+    /// too.
+    pub fn cache_path<T: ClientStore>(
+        &self,
+        alloc: Global,
+        store: &mut T,
+    ) -> Result<String, Fault> {
+        match self.cache {
+            Variable::Absent => own_path(alloc, store.user()),
+            Variable::NotUtf8 => Err(Fault::usage(CACHE_NOT_UTF8)),
+            Variable::Text(name) => {
+                let path = path_in(name, NameOf::CacheVariable)?;
+                Ok(String::from_str(alloc, path)?)
+            }
+        }
+    }
+
+    /// Returns the path of the `krb5.conf`: that of `KRB5_CONFIG`, or else the system's.
+    pub fn config_path(&self) -> Result<&'a str, Fault> {
+        match self.config {
+            Variable::Absent => Ok(CONFIG),
+            Variable::NotUtf8 => Err(Fault::usage(CONFIG_NOT_UTF8)),
+            Variable::Text(path) => Ok(path),
+        }
+    }
+}
+
+impl<'a> Variable<'a> {
+    /// Returns the variable for the result of reading it.
+    pub fn new(read: &'a Result<String, VarError>) -> Result<Variable<'a>, AllocError> {
+        match read {
+            Ok(value) if value.is_empty() => Ok(Variable::Absent),
+            Ok(value) => Ok(Variable::Text(value.as_str())),
+            Err(VarError::NotPresent) => Ok(Variable::Absent),
+            Err(VarError::NotUnicode) => Ok(Variable::NotUtf8),
+            Err(VarError::OutOfMemory) => Err(AllocError),
+        }
+    }
+}
+
+fn own_path(alloc: Global, user: io::Result<u32>) -> Result<String, Fault> {
+    match user {
+        Ok(user) => Ok(format!(in alloc; "/tmp/krb5cc_{user}")?),
+        Err(error) => {
+            let cause = Cause::File(Amiss::Failed(error));
+            Err(Fault::new(alloc, "the number of the user", cause))
+        }
+    }
+}

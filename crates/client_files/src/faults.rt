@@ -1,0 +1,214 @@
+//! Why a client can't go on, and what that concerns.
+use client_login::{Kdcs, LoginFault, Why};
+use cred_files::FileFault;
+use file_store::Amiss;
+use krb_fields::NameFault;
+use std::alloc::{AllocError, AllocFailed, Global};
+use std::net::SocketAddr;
+use std::{fmt, io};
+
+/// Why a client can't go on, and what that concerns.
+#[derive(Drop)]
+pub struct Fault {
+    /// A file, KDCs, or a word. Absent if memory ran out, or if the cause says what it concerns.
+    pub subject: Option<String>,
+    pub cause: Cause,
+}
+
+/// Why a client can't go on.
+#[derive(Clone, Copy)]
+pub enum Cause {
+    /// A word of the command line, or a variable of the environment, has a form that is not accepted. The text says so.
+    Usage(&'static str),
+    BadName,
+    /// What is wrong with a file, or with what takes its place.
+    File(Amiss),
+    /// What is wrong with the contents of a cache.
+    Cache(FileFault),
+    /// What is wrong with the contents of a keytab.
+    Keytab(FileFault),
+    NoCache,
+    /// The cache belongs to another user, or others may write it.
+    NotOurs,
+    /// The cache's ticket-granting ticket ended at this second since 1970.
+    Ended(i64),
+    NotRenewable,
+    /// The keytab has no key with the type and version that a ticket names.
+    NoTicketKey,
+    /// The keytab's key doesn't decrypt the ticket.
+    Unopened,
+    /// A `krb5.conf` names no default realm.
+    NoRealm,
+    /// The default realm of a `krb5.conf` is invalid.
+    BadRealm,
+    /// A `krb5.conf` has no KDC of the realm.
+    NoKdc,
+    /// None of the hosts that a `krb5.conf` names as KDCs has a known address.
+    NotAnAddress,
+    /// A login got no ticket.
+    Login(Why),
+    /// No KDC replied: the error of the last one, and how many messages got no reply.
+    Silent(io::Error, u64),
+    Memory,
+}
+
+impl Cause {
+    /// Returns the cause for what is wrong with a keytab.
+    pub fn of_keytab(fault: FileFault) -> Cause {
+        match fault {
+            FileFault::Memory => Cause::Memory,
+            fault => Cause::Keytab(fault),
+        }
+    }
+}
+
+impl Fault {
+    /// Returns the fault for a form that is not accepted.
+    pub fn usage(text: &'static str) -> Fault {
+        Fault {
+            subject: None,
+            cause: Cause::Usage(text),
+        }
+    }
+
+    /// Returns the fault for a cause and what it concerns.
+    pub fn new(alloc: Global, subject: &str, cause: Cause) -> Fault {
+        match String::from_str(alloc, subject) {
+            Ok(subject) => Fault::of(subject, cause),
+            Err(error) => Fault::from(error),
+        }
+    }
+
+    /// Returns the fault for a cause and what it concerns.
+    pub fn of(subject: String, cause: Cause) -> Fault {
+        match cause {
+            Cause::Memory => Fault::from(AllocError),
+            _ => Fault {
+                subject: Some(subject),
+                cause,
+            },
+        }
+    }
+}
+
+/// Returns what is found, or the fault for what a file or a word is refused for.
+pub fn at<T: Drop>(alloc: Global, subject: &str, found: Result<T, Cause>) -> Result<T, Fault> {
+    match found {
+        Ok(value) => Ok(value),
+        Err(cause) => Err(Fault::new(alloc, subject, cause)),
+    }
+}
+
+/// Returns what was read or written, or the fault of the file.
+pub fn at_file<T: Drop>(
+    alloc: Global,
+    done: Result<T, file_store::FileFault<'_>>,
+) -> Result<T, Fault> {
+    match done {
+        Ok(value) => Ok(value),
+        Err(fault) => Err(Fault::new(alloc, fault.path, Cause::File(fault.amiss))),
+    }
+}
+
+/// Returns the fault for a login that got no ticket. `source` is the file with the keys that it uses: a keytab, or the
+/// cache.
+pub fn login_fault<X>(alloc: Global, kdcs: &Kdcs<X>, source: &str, fault: LoginFault) -> Fault {
+    match fault.why {
+        Why::Memory => Fault::from(AllocError),
+        Why::Silence(error) => silence(alloc, kdcs, error),
+        Why::NotPresentable => Fault::new(alloc, source, Cause::Cache(FileFault::Absent)),
+        Why::NotAskable => Fault::new(alloc, source, Cause::BadName),
+        Why::NoClientKey => Fault::new(alloc, source, Cause::Login(fault.why)),
+        Why::NoKey => Fault::new(alloc, source, Cause::Login(fault.why)),
+        _ => reply_fault(alloc, fault),
+    }
+}
+
+/// Returns the fault that the reply of a KDC shows.
+fn reply_fault(alloc: Global, fault: LoginFault) -> Fault {
+    let cause = Cause::Login(fault.why);
+    let Some(kdc) = fault.kdc else {
+        return Fault {
+            subject: None,
+            cause,
+        };
+    };
+    match format!(in alloc; "{kdc}") {
+        Ok(subject) => Fault::of(subject, cause),
+        Err(error) => Fault::from(error),
+    }
+}
+
+fn silence<X>(alloc: Global, kdcs: &Kdcs<X>, error: io::Error) -> Fault {
+    match addresses_text(alloc, &kdcs.addresses) {
+        Ok(subject) => Fault::of(subject, Cause::Silent(error, kdcs.failures())),
+        Err(error) => Fault::from(error),
+    }
+}
+
+fn addresses_text(alloc: Global, addresses: &[SocketAddr]) -> Result<String, AllocError> {
+    let mut text = String::new(alloc);
+    for address in addresses {
+        begin_item(&mut text)?;
+        write!(text, "{address}")?;
+    }
+    Ok(text)
+}
+
+/// Separates an item of a list from those before it.
+pub(crate) fn begin_item(list: &mut String) -> Result<(), AllocError> {
+    if list.is_empty() {
+        return Ok(());
+    }
+    list.push_str(", ")
+}
+
+impl From<AllocError> for Fault {
+    fn from(_: AllocError) -> Fault {
+        Fault {
+            subject: None,
+            cause: Cause::Memory,
+        }
+    }
+}
+
+impl<T: Drop> From<AllocFailed<T>> for Fault {
+    fn from(_: AllocFailed<T>) -> Fault {
+        Fault::from(AllocError)
+    }
+}
+
+impl From<AllocError> for Cause {
+    fn from(_: AllocError) -> Cause {
+        Cause::Memory
+    }
+}
+
+/// Converts what is wrong with a cache.
+impl From<FileFault> for Cause {
+    fn from(fault: FileFault) -> Cause {
+        match fault {
+            FileFault::Memory => Cause::Memory,
+            fault => Cause::Cache(fault),
+        }
+    }
+}
+
+impl From<NameFault> for Cause {
+    fn from(fault: NameFault) -> Cause {
+        match fault {
+            NameFault::BadName => Cause::BadName,
+            NameFault::Memory => Cause::Memory,
+        }
+    }
+}
+
+/// Writes what it concerns, and why.
+impl fmt::Display for Fault {
+    fn fmt<W: fmt::Write>(&self, f: &mut fmt::Formatter<W>) -> fmt::Result {
+        match &self.subject {
+            Some(subject) => write!(f, "{subject}: {}", self.cause),
+            None => write!(f, "{}", self.cause),
+        }
+    }
+}

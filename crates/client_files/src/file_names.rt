@@ -1,0 +1,53 @@
+//! The names of caches and keytabs: a path, or `FILE:` and a path, as MIT's and Heimdal's tools accept them.
+use crate::faults::Fault;
+
+/// Where a name comes from.
+#[derive(Clone, Copy)]
+pub enum NameOf {
+    /// After `--cache`.
+    Cache,
+    /// In `KRB5CCNAME`.
+    CacheVariable,
+    /// After `--keytab`.
+    Keytab,
+}
+
+impl NameOf {
+    /// Returns the text after `error:` if there is no path.
+    fn no_path(self) -> &'static str {
+        match self {
+            NameOf::Cache => "--cache takes a file: no path stands behind FILE:",
+            NameOf::CacheVariable => "KRB5CCNAME names no file: no path stands behind FILE:",
+            NameOf::Keytab => "--keytab takes a file: no path stands behind FILE:",
+        }
+    }
+
+    /// Returns the text after `error:` if the name has a type other than a file's.
+    fn other_type(self) -> &'static str {
+        match self {
+            NameOf::Cache =>
+                "--cache names a cache of another type than FILE, which kclient has not: it takes a file",
+            NameOf::CacheVariable =>
+                "KRB5CCNAME names a cache of another type than FILE, which kclient has not: --cache takes a file",
+            NameOf::Keytab =>
+                "--keytab names a keytab of another type than FILE, which kclient has not: it takes a file",
+        }
+    }
+}
+
+/// Returns the path in a name, or what is wrong with the name. A word and a colon at the start give the type of the
+/// name. To name a path that begins like that, put a slash before the colon, as in `./a:b`.
+pub fn path_in(name: &str, of: NameOf) -> Result<&str, Fault> {
+    match name.split_once(':') {
+        Some(("FILE", path)) => path_there(path, of),
+        Some((front, _)) if !front.contains('/') => Err(Fault::usage(of.other_type())),
+        _ => path_there(name, of),
+    }
+}
+
+fn path_there(path: &str, of: NameOf) -> Result<&str, Fault> {
+    if path.is_empty() {
+        return Err(Fault::usage(of.no_path()));
+    }
+    Ok(path)
+}

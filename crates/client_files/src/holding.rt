@@ -1,0 +1,44 @@
+//! Credentials of a cache, and whether they can still be used.
+ghost use Rattle.std.specs.Prelude.{◌≡◌, option_copied};
+ghost use Rattle.client_files.specs.Holding.{good_credential, if_good, is_good};
+
+use crate::faults::Cause;
+use client_login::granting_service;
+use cred_files::{Cache, Credential, FileFault};
+use krb_fields::{Moment, Name, TicketFlag};
+use std::alloc::Global;
+
+/// Returns the cache's ticket-granting ticket.
+pub fn granting_ticket(alloc: Global, cache: &Cache) -> Result<&Credential, Cause> {
+    let service = granting_service(alloc, &cache.principal().realm)?;
+    match cache.find(&service) {
+        Ok(granting) => Ok(granting),
+        Err(_) => Err(Cause::Cache(FileFault::Absent)),
+    }
+}
+
+/// Returns the cache's credential for a service, if it has not ended and need not be validated first.
+pub fn good_credential<'c>(cache: &'c Cache, service: &Name, at: Moment) -> Option<&'c Credential>
+    ensures { option_copied result ≡ good_credential at.sec cache.now service.now.components }
+{
+    match cache.find(service) {
+        Ok(credential) => if_good(credential, at),
+        Err(_) => None,
+    }
+}
+
+fn if_good(credential: &Credential, at: Moment) -> Option<&Credential>
+    ensures { option_copied result ≡ if_good at.sec (Some credential.now) }
+{
+    if is_good(credential, at) {
+        Some(credential)
+    } else {
+        None
+    }
+}
+
+fn is_good(credential: &Credential, at: Moment) -> bool
+    ensures { result ≡ is_good at.sec credential.now }
+{
+    at.sec < credential.times.end_time.seconds() && !credential.flags.has(TicketFlag::Invalid)
+}

@@ -1,0 +1,33 @@
+//! A client's files: its credential cache, its keytab, and the `krb5.conf` that names its realm and the KDCs of a realm.
+//!
+//! | call | what it does |
+//! |---|---|
+//! | [`Defaults::cache_path`], [`Defaults::config_path`] | where the files are, by the environment |
+//! | [`Config::read`] | reads a `krb5.conf`, with the files that it includes |
+//! | [`Config::default_realm`], [`Config::kdcs`] | the default realm; the KDCs of a realm |
+//! | [`read_cache`], [`write_cache`], [`write_new_cache`], [`remove_cache`] | the user's own credential cache |
+//! | [`granting_ticket`], [`good_credential`] | a credential of a cache, also only if it can still be used |
+//! | [`read_keytab`] | a keytab |
+//! | [`login_fault`] | why a login got no ticket, and what that concerns |
+//!
+//! All of them fail with a [`Fault`], which names its subject and can be shown to a user.
+#![tactic(auto)]
+
+mod cache_files;
+mod client_store;
+mod configs;
+mod environment;
+mod faults;
+mod file_names;
+mod holding;
+mod words;
+
+pub use cache_files::{
+    put_credential, read_cache, read_keytab, remove_cache, write_cache, write_new_cache,
+};
+pub use client_store::{ClientStore, Standing};
+pub use configs::{Config, KdcList};
+pub use environment::{Defaults, Variable};
+pub use faults::{Cause, Fault, at, at_file, login_fault};
+pub use file_names::{NameOf, path_in};
+pub use holding::{good_credential, granting_ticket};

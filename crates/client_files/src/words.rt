@@ -1,0 +1,150 @@
+//! The words for each cause: one for programs, and what it means, for people.
+use crate::faults::Cause;
+use client_login::Why;
+use cred_files::FileFault;
+use file_store::Amiss;
+use krb_fields::Second;
+use std::fmt;
+use text_fields::UtcDate;
+
+impl Cause {
+    /// Returns the word for it. `None` if something failed and nothing is refused, or if a KDC refuses with a code.
+    pub fn name(self) -> Option<&'static str> {
+        match self {
+            Cause::File(amiss) => amiss.refusal(),
+            Cause::Login(why) => login_name(why),
+            cause => match cause.words() {
+                ("", _) => None,
+                (name, _) => Some(name),
+            },
+        }
+    }
+
+    /// Returns the word for it, and what it means. The word is empty if nothing is refused.
+    fn words(self) -> (&'static str, &'static str) {
+        match self {
+            Cause::Usage(text) => ("", text),
+            Cause::BadName => ("BadName", "it is not a valid name"),
+            Cause::File(amiss) => ("", amiss_text(amiss)),
+            Cause::Cache(fault) => cache_words(fault),
+            Cause::Keytab(fault) => keytab_words(fault),
+            Cause::NoCache => ("Absent", "there is no cache"),
+            Cause::NotOurs => (
+                "NotOurs",
+                "the cache belongs to another user, or other users may write it: name a cache of your own, or chmod go-w",
+            ),
+            Cause::Ended(_) => ("Ended", "the ticket-granting ticket has ended: run kinit"),
+            Cause::NotRenewable => (
+                "NotRenewable",
+                "the ticket is not renewable: use kinit --renewable",
+            ),
+            Cause::NoTicketKey => (
+                "Absent",
+                "it has no key of the service with the ticket's encryption type and version",
+            ),
+            Cause::Unopened => (
+                "CannotOpen",
+                "its key does not decrypt the ticket: it is another key of the same version",
+            ),
+            Cause::NoRealm => (
+                "NoRealm",
+                "it has no default_realm in [libdefaults]: add one, or name the realm",
+            ),
+            Cause::BadRealm => (
+                "BadName",
+                "its default_realm does not have 1 to 255 bytes: correct it, or name the realm",
+            ),
+            Cause::NoKdc => (
+                "NoKdc",
+                "it has no kdc of this realm: add one, or name the address of a KDC",
+            ),
+            Cause::NotAnAddress => (
+                "NotAnAddress",
+                "no address is known: correct the name, or name the address of a KDC",
+            ),
+            Cause::Login(_) => ("", "the login got no ticket"),
+            Cause::Silent(..) => ("", "no KDC replied"),
+            Cause::Memory => ("", "out of memory"),
+        }
+    }
+}
+
+fn amiss_text(amiss: Amiss) -> &'static str {
+    match amiss {
+        Amiss::LongFile => "the file has more than 16777216 bytes",
+        Amiss::ShortSeed => "a seed needs 32 bytes, and the file has fewer",
+        Amiss::LongPassword => "the password has more than 1024 bytes",
+        Amiss::Failed(_) => "a call of the system failed",
+    }
+}
+
+fn cache_words(fault: FileFault) -> (&'static str, &'static str) {
+    match fault {
+        FileFault::BadMagic => (
+            "BadMagic",
+            "the file is not a credential cache of version 4",
+        ),
+        FileFault::Truncated => ("Truncated", "the file ends too early"),
+        FileFault::BadEntry => (
+            "BadEntry",
+            "a part of the credential is too long for a cache",
+        ),
+        FileFault::TooLate => ("TooLate", "a cache can't hold a time after the year 2106"),
+        FileFault::Absent => (
+            "Absent",
+            "it has no usable ticket-granting ticket of the realm: run kinit",
+        ),
+        FileFault::Memory => ("", "out of memory"),
+    }
+}
+
+fn keytab_words(fault: FileFault) -> (&'static str, &'static str) {
+    match fault {
+        FileFault::BadMagic => ("BadMagic", "the file is not a keytab of version 2"),
+        FileFault::BadEntry => (
+            "BadEntry",
+            "the key of an entry has the wrong length for its encryption type",
+        ),
+        fault => cache_words(fault),
+    }
+}
+
+/// Returns the word for a login that got no ticket. `None` if the KDC refuses with a code.
+fn login_name(why: Why) -> Option<&'static str> {
+    Some(match why {
+        Why::NotAskable => "BadName",
+        Why::NotPresentable | Why::NoClientKey | Why::NoKey => "Absent",
+        Why::NotAReply => "NotAReply",
+        Why::Mismatch(_) => "Mismatch",
+        Why::CannotOpen | Why::SessionCannotOpen | Why::NoKnownType => "CannotOpen",
+        Why::CountTooLarge => "CountTooLarge",
+        Why::WeakCount => "WeakCount",
+        Why::Refused(_) | Why::Silence(_) | Why::Memory => return None,
+    })
+}
+
+impl fmt::Display for Cause {
+    fn fmt<W: fmt::Write>(&self, f: &mut fmt::Formatter<W>) -> fmt::Result {
+        match self {
+            Cause::File(Amiss::Failed(error)) => write!(f, "{error}"),
+            Cause::Ended(end) => write_end(f, *end),
+            Cause::Login(why) => write!(f, "{why}"),
+            Cause::Silent(error, failures) => {
+                write!(f, "{error} (messages without a reply: {failures})")
+            }
+            cause => f.write_str(cause.words().1),
+        }
+    }
+}
+
+/// Writes when a ticket-granting ticket ended, if the second is from 1970 on.
+fn write_end<W: fmt::Write>(f: &mut fmt::Formatter<W>, end: i64) -> fmt::Result {
+    match Second::new(end) {
+        Some(end) => write!(
+            f,
+            "the ticket-granting ticket ended at {}: run kinit",
+            UtcDate(end)
+        ),
+        None => f.write_str(Cause::Ended(end).words().1),
+    }
+}

@@ -1,6 +1,0 @@
-use Rattle.client_login.specs.Faults.{IsUnheard}
-use Rattle.client_login.proofs.asking.ask_others.Given as goal
-
--- after the fault so far, other KDCs are tried
-abbrev pub invariant-loop-place : goal.invariant-loop-place
-invariant-loop-place g l = IsUnheard g.X.Exchange.answers l.end.why l.end.kdc

@@ -1,0 +1,5 @@
+use Rattle.journal.proofs.Held.{holds_on}
+use Rattle.journal.proofs.laws.every_journal.Goals as goal
+
+pub returns : goal.returns
+returns c = holds_on

@@ -1,0 +1,208 @@
+//! Reading the words of a command line.
+use crate::options::asks_for_first;
+use clap::ArgMatches;
+use client_files::{Cause, Fault, NameOf, path_in};
+use client_login::{Again, Wishes};
+use krb_elements::KerberosString;
+use krb_fields::{Name, component_from_text};
+use std::alloc::{AllocError, Global};
+use text_fields::number_u32;
+
+/// The words for a first ticket.
+#[derive(Clone, Copy)]
+pub(crate) struct FirstWords<'a> {
+    /// The client's name as it was given, perhaps with its realm.
+    pub given: &'a str,
+    pub name: &'a str,
+    /// The realm's name; absent: the default realm.
+    pub realm: Option<&'a str>,
+    /// Whether the realm has an option of its own.
+    pub has_realm_option: bool,
+    pub secret: SecretWords<'a>,
+    /// The name of the service; absent: the ticket-granting service.
+    pub service: Option<&'a str>,
+    /// The fewest iterations of string-to-key; absent: each type's default.
+    pub least_count: Option<u32>,
+    pub wishes: Wishes,
+}
+
+/// Where the client's key is, or the password that it is derived from.
+#[derive(Clone, Copy)]
+pub(crate) enum SecretWords<'a> {
+    /// The path of the password's file.
+    PasswordFile(&'a str),
+    /// The path of the keytab.
+    Keytab(&'a str),
+    /// The password is a line of standard input.
+    Asked,
+}
+
+impl<'a> SecretWords<'a> {
+    /// Returns the file that the client's key comes from, or what stands for it.
+    pub(crate) fn source(self) -> &'a str {
+        match self {
+            SecretWords::PasswordFile(path) | SecretWords::Keytab(path) => path,
+            SecretWords::Asked => "standard input",
+        }
+    }
+}
+
+// The text after `error:` if options don't go together, or a value is invalid.
+
+const NO_LIFE: &str =
+    "--life takes seconds, 0 to 4294967295, or minutes, hours or days, as 30m, 8h or 7d";
+
+const NO_START: &str =
+    "--start takes seconds, 0 to 4294967295, or minutes, hours or days, as 30m, 8h or 7d";
+
+const TWO_REALMS: &str = "--realm and a realm behind the name of --name don't go together";
+
+const NO_COUNT: &str = "--least-count takes a number, 0 to 4294967295";
+
+const NO_NAME: &str = "--name is missing";
+
+const TWO_SECRETS: &str = "--password-file and --keytab don't go together";
+
+const TWO_WAYS: &str = "--renew and --validate don't go together";
+
+const AGAIN: &str = "\
+--renew and --validate take the ticket of the cache: no option of a first ticket goes with them";
+
+/// Returns the path of a keytab, if one is named.
+pub(crate) fn keytab_path<'a>(options: &ArgMatches<'a>) -> Result<Option<&'a str>, Fault> {
+    match options.get_str("keytab") {
+        Some(name) => Ok(Some(path_in(name, NameOf::Keytab)?)),
+        None => Ok(None),
+    }
+}
+
+/// Returns what to do with a ticket that the client has; `None` if a first ticket is requested.
+pub(crate) fn again(options: &ArgMatches<'_>) -> Result<Option<Again>, Fault> {
+    let again = match (options.get_flag("renew"), options.get_flag("validate")) {
+        (true, true) => return Err(Fault::usage(TWO_WAYS)),
+        (true, false) => Again::Renew,
+        (false, true) => Again::Validate,
+        (false, false) => return Ok(None),
+    };
+    if asks_for_first(options) {
+        return Err(Fault::usage(AGAIN));
+    }
+    Ok(Some(again))
+}
+
+/// Returns the words for a first ticket.
+pub(crate) fn first_words<'a>(options: &ArgMatches<'a>) -> Result<FirstWords<'a>, Fault> {
+    let given = options.get_str("name").ok_or(Fault::usage(NO_NAME))?;
+    let (name, realm) = name_and_realm(given, options.get_str("realm"))?;
+    Ok(FirstWords {
+        given,
+        name,
+        realm,
+        has_realm_option: options.get_str("realm").is_some(),
+        secret: secret_words(options)?,
+        service: options.get_str("service"),
+        least_count: number_in(options, "least-count").ok_or(Fault::usage(NO_COUNT))?,
+        wishes: wishes(options)?,
+    })
+}
+
+/// Returns a client's name and its realm, which follows an `@` or `--realm`.
+fn name_and_realm<'a>(
+    name: &'a str,
+    realm: Option<&'a str>,
+) -> Result<(&'a str, Option<&'a str>), Fault> {
+    match (name.split_once('@'), realm) {
+        (Some(_), Some(_)) => Err(Fault::usage(TWO_REALMS)),
+        (Some((name, realm)), None) => Ok((name, Some(realm))),
+        (None, realm) => Ok((name, realm)),
+    }
+}
+
+fn secret_words<'a>(options: &ArgMatches<'a>) -> Result<SecretWords<'a>, Fault> {
+    match (options.get_str("password-file"), keytab_path(options)?) {
+        (Some(_), Some(_)) => Err(Fault::usage(TWO_SECRETS)),
+        (Some(path), None) => Ok(SecretWords::PasswordFile(path)),
+        (None, Some(path)) => Ok(SecretWords::Keytab(path)),
+        (None, None) => Ok(SecretWords::Asked),
+    }
+}
+
+fn wishes(options: &ArgMatches<'_>) -> Result<Wishes, Fault> {
+    Ok(Wishes {
+        life: seconds_in(options, "life").ok_or(Fault::usage(NO_LIFE))?,
+        start: seconds_in(options, "start").ok_or(Fault::usage(NO_START))?,
+        renewable: options.get_flag("renewable"),
+        forwardable: options.get_flag("forwardable"),
+        proxiable: options.get_flag("proxiable"),
+    })
+}
+
+/// Returns the number after an option, which may be absent; `None` if the word is not a number.
+fn number_in(options: &ArgMatches<'_>, name: &str) -> Option<Option<u32>> {
+    match options.get_str(name) {
+        Some(text) => Some(Some(number_u32(text)?)),
+        None => Some(None),
+    }
+}
+
+/// The seconds in each unit of time.
+const UNITS: &[(char, u32)] = &[('s', 1), ('m', 60), ('h', 3_600), ('d', 86_400)];
+
+/// Returns the seconds after an option, which may be absent; `None` if the word is not a time.
+fn seconds_in(options: &ArgMatches<'_>, name: &str) -> Option<Option<u32>> {
+    match options.get_str(name) {
+        Some(text) => Some(Some(seconds(text)?)),
+        None => Some(None),
+    }
+}
+
+/// Reads a number of seconds, or of the unit after it; `None` if it is no number, or more than 4294967295 seconds.
+fn seconds(text: &str) -> Option<u32> {
+    for (unit, count) in UNITS {
+        if let Some(number) = text.strip_suffix(*unit) {
+            return number_u32(number)?.checked_mul(*count);
+        }
+    }
+    number_u32(text)
+}
+
+/// Reads the name after an option. A fault has the option and the whole word.
+pub(crate) fn read_name(
+    alloc: Global,
+    option: &str,
+    word: &str,
+    text: &str,
+) -> Result<Name, Fault> {
+    match Name::from_text(alloc, text) {
+        Ok(name) => Ok(name),
+        Err(fault) => Err(word_fault(alloc, option, word, Cause::from(fault))),
+    }
+}
+
+/// Reads the realm in the word after an option.
+pub(crate) fn read_realm(
+    alloc: Global,
+    option: &str,
+    word: &str,
+    text: &str,
+) -> Result<KerberosString, Fault> {
+    match component_from_text(alloc, text) {
+        Ok(realm) => Ok(realm),
+        Err(fault) => Err(word_fault(alloc, option, word, Cause::from(fault))),
+    }
+}
+
+/// Returns the fault for a word. If it is empty, the option is named alone.
+pub(crate) fn word_fault(alloc: Global, option: &str, word: &str, cause: Cause) -> Fault {
+    match word_text(alloc, option, word) {
+        Ok(subject) => Fault::of(subject, cause),
+        Err(error) => Fault::from(error),
+    }
+}
+
+fn word_text(alloc: Global, option: &str, word: &str) -> Result<String, AllocError> {
+    if word.is_empty() {
+        return String::from_str(alloc, option);
+    }
+    format!(in alloc; "{option} {word}")
+}
