@@ -37,7 +37,7 @@ PHRASES = (
     ("what it is that|in vain|all the same", "a verb", 0, 1, 0),
     ("where there (?:is|are) none", "if it is absent", 0, 1, 0),
     ("so many", "N, this many", 0, 0, 0),
-    ("tells?|told", "returns, logs, records", 4, 41, 3),
+    ("tells?|told", "returns, logs, records", 4, 31, 3),
 )
 # A space of a phrase: in comments the next line begins with the comment's own sign.
 GAP = r"(?:[ \t]+|[ \t]*\n[ \t]*(?:///?|//!|--|\*|#)?[ \t]*)"
@@ -49,7 +49,7 @@ KEPT = ("    accepted u@A.B", "    2026-11-23T22:46:18Z", '    {"time":', "    k
 WIDE = {}
 
 # The manual pages, and where each program has its commands and options.
-MANUALS = {"kdcd.8": "kdcd_start/src/args.rt", "kadm.8": "kadm_run/src/order.rt", "kclient.1": "kclient_run/src/options.rt"}
+MANUALS = {"kdcd.8": "kdcd_run/src/args.rt", "kadm.8": "kadm_run/src/order.rt", "kclient.1": "kclient_run/src/options.rt"}
 # Options that each program has from the library of command lines.
 GENERAL = {"help", "version"}
 

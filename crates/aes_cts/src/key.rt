@@ -31,6 +31,21 @@ impl Model for AesKey {
     ghost invariant = { λ k. IsSchedule (octets k.schedule) k.key_words };
 }
 
+/// The schedule of round keys for decryption with a key. Contracts see the bytes of its words.
+#[derive(Drop)]
+pub struct DecryptionSchedule {
+    pub(crate) words: [u32; 60],
+}
+
+impl Model for DecryptionSchedule {
+    ghost use Rattle.std.specs.Prelude.{ℕ, List};
+    ghost use Rattle.aes_cts.specs.Words.{octets};
+
+    ghost Value = { List ℕ };
+
+    ghost view = { λ s. octets s.words };
+}
+
 impl AesKey {
     /// Returns the key with these bytes: 16 for AES-128, 32 for AES-256, and `None` for any other length.
     pub fn new(octets: &[u8]) -> Option<AesKey>
@@ -88,7 +103,16 @@ impl AesKey {
         self.decrypt_under(&self.inverse_schedule(), block)
     }
 
-    // Returns the decryption schedule.
+    /// Returns the decryption schedule. `cts_decrypt_under` takes it, so that it is made once for many texts.
+    pub fn decryption_schedule(&self) -> DecryptionSchedule
+        ensures { IsInverseSchedule (key_expansion self.now) result (nr_of self.now) }
+    {
+        DecryptionSchedule {
+            words: self.inverse_schedule(),
+        }
+    }
+
+    // Returns the words of the decryption schedule.
     pub(crate) fn inverse_schedule(&self) -> [u32; 60]
         ensures { IsInverseSchedule (key_expansion self.now) (octets result) (nr_of self.now) }
     {

@@ -1,6 +1,6 @@
 pub mod Storing
 pub mod Raised
-pub mod LettingGo
+pub mod DroppingExpired
 pub mod Frame
 pub mod Once
 pub mod Unseen

@@ -7,9 +7,9 @@ use Rattle.std.specs.FinMap as map
 use Rattle.std.proofs.lemmas.Int.{ints, clamps}
 use Rattle.std.proofs.lemmas.Bool.Decides.{nat_tests}
 use Rattle.krb_fields.specs.Skew.{skew}
-use Rattle.replay.specs.Memory.{floor_at, if_kept, remembered, verdict}
-use Rattle.replay.specs.Stamp.{Stamp, stamp_cmp, is_from, is_untimely}
-use Rattle.replay.specs.declared.memory.Memory.{Memory}
+use Rattle.replay.specs.ReplayCache.{floor_at, if_kept, recorded, verdict}
+use Rattle.replay.specs.Stamp.{Stamp, stamp_cmp, is_from, is_beyond_clock_skew}
+use Rattle.replay.specs.declared.cache.ReplayCache.{ReplayCache}
 use Rattle.replay.specs.declared.verdict.Verdict.{Verdict}
 use Rattle.replay.specs.declared.verdict.Verdict.TheVariants.{Fresh, Skew, Full}
 use Rattle.replay.proofs.Stamps.{stamp_total, stamp_exact}
@@ -25,7 +25,7 @@ View = ℤ × Pairs
 abbrev pub further : ℤ → View → View
 further second v = (int_max v.0 second, map.retain_keys v.1 (is_from (int_max v.0 second)))
 
-abbrev pub raised : ℤ → Memory ⊤ → View
+abbrev pub raised : ℤ → ReplayCache ⊤ → View
 raised second m = further second (m.floor, m.pairs)
 
 -- ---- raised twice
@@ -74,7 +74,7 @@ abbrev compared : View → ℤ → Stamp → ℕ → Verdict ⊤
 compared v now stamp limit = if_kept (map.get v.1 stamp) (if nat_le limit (map.len (map.retain_keys v.1 (is_from (floor_at v.0 now)))) then Full else Fresh)
 
 abbrev seen : View → ℤ → Stamp → ℕ → Verdict ⊤
-seen v now stamp limit = if is_untimely v.0 now stamp.0 then Skew else compared v now stamp limit
+seen v now stamp limit = if is_beyond_clock_skew v.0 now stamp.0 then Skew else compared v now stamp limit
 
 not_far : (far low : Bool) → (far || low) ≡ false → far ≡ false
 not_far true low e = cc
@@ -105,7 +105,7 @@ module _ (second now : ℤ) (v : View) (stamp : Stamp) (le : second ≤ℤ (now 
   same_skew true e = refl
   same_skew false e = same_low e (int_lt stamp.0 v.0) refl
 
-  same_pair : is_untimely v.0 now stamp.0 ≡ false → map.get (further second v).1 stamp ≡ map.get v.1 stamp
+  same_pair : is_beyond_clock_skew v.0 now stamp.0 ≡ false → map.get (further second v).1 stamp ≡ map.get v.1 stamp
   same_pair timely =
       let far = nat_lt skew (unsigned_abs (stamp.0 -ℤ now)) in
       let near : far ≡ false = not_far far (int_lt stamp.0 v.0) timely in
@@ -114,19 +114,19 @@ module _ (second now : ℤ) (v : View) (stamp : Stamp) (le : second ≤ℤ (now 
 
   -- the verdict doesn't change from the second on, with the clock skew
   seen_further : (limit : ℕ) → seen (further second v) now stamp limit ≡ seen v now stamp limit
-  seen_further limit = ap (λ b. cond b Skew (compared (further second v) now stamp limit)) same ∙ at (is_untimely v.0 now stamp.0) refl
+  seen_further limit = ap (λ b. cond b Skew (compared (further second v) now stamp limit)) same ∙ at (is_beyond_clock_skew v.0 now stamp.0) refl
     where
-      same : is_untimely (int_max v.0 second) now stamp.0 ≡ is_untimely v.0 now stamp.0
+      same : is_beyond_clock_skew (int_max v.0 second) now stamp.0 ≡ is_beyond_clock_skew v.0 now stamp.0
       same = same_skew (nat_lt skew (unsigned_abs (stamp.0 -ℤ now))) refl
 
       left : (further (now -ℤ pos skew) (further second v)).1 ≡ (further (now -ℤ pos skew) v).1
       left = ap (λ (w : View). w.1) (sym (further_twice second (now -ℤ pos skew) v le))
 
-      at : (b : Bool) → is_untimely v.0 now stamp.0 ≡ b → cond b Skew (compared (further second v) now stamp limit) ≡ cond b Skew (compared v now stamp limit)
+      at : (b : Bool) → is_beyond_clock_skew v.0 now stamp.0 ≡ b → cond b Skew (compared (further second v) now stamp limit) ≡ cond b Skew (compared v now stamp limit)
       at true e = refl
       at false e = λ i. if_kept (same_pair e i) (if nat_le limit (map.len (left i)) then Full else Fresh)
 
-pub says_the_same : (second now : ℤ) (a b : Memory ⊤) (stamp : Stamp) (limit : ℕ) → second ≤ℤ (now -ℤ pos skew) → raised second a ≡ raised second b → verdict a now stamp limit ≡ verdict b now stamp limit
+pub says_the_same : (second now : ℤ) (a b : ReplayCache ⊤) (stamp : Stamp) (limit : ℕ) → second ≤ℤ (now -ℤ pos skew) → raised second a ≡ raised second b → verdict a now stamp limit ≡ verdict b now stamp limit
 says_the_same second now a b stamp limit le same =
     sym (seen_further second now (a.floor, a.pairs) stamp le limit) ∙ ap (λ v. seen v now stamp limit) same ∙ seen_further second now (b.floor, b.pairs) stamp le limit
 
@@ -135,11 +135,11 @@ an_hour at now le = omega (arith, ints)
 
 -- ---- after a call
 
-pub same_from : (at : ℤ) (a b : Memory ⊤) → raised (floor_for at) a ≡ raised (floor_for at) b → SaysTheSame (at -ℤ pos hour) a b
+pub same_from : (at : ℤ) (a b : ReplayCache ⊤) → raised (floor_for at) a ≡ raised (floor_for at) b → SaysTheSame (at -ℤ pos hour) a b
 same_from at a b same now stamp limit le = says_the_same (floor_for at) now a b stamp limit (an_hour at now le) same
 
 -- recording preserves agreement
-pub remembered_alike : (second now : ℤ) (a b : Memory ⊤) (stamp : Stamp) → second ≤ℤ (now -ℤ pos skew) → raised second a ≡ raised second b
-    → (high : ℤ) → raised high (remembered a now stamp tt) ≡ raised high (remembered b now stamp tt)
-remembered_alike second now a b stamp le same high =
+pub recorded_alike : (second now : ℤ) (a b : ReplayCache ⊤) (stamp : Stamp) → second ≤ℤ (now -ℤ pos skew) → raised second a ≡ raised second b
+    → (high : ℤ) → raised high (recorded a now stamp tt) ≡ raised high (recorded b now stamp tt)
+recorded_alike second now a b stamp le same high =
     ap (λ (v : View). further high (v.0, map.insert v.1 stamp tt)) (alike_on second (now -ℤ pos skew) (a.floor, a.pairs) (b.floor, b.pairs) le same)

@@ -10,7 +10,7 @@ use Rattle.krb_elements.specs.Format.{whole}
 use Rattle.krb_elements.specs.Laws.{IsWhole, whole_ok}
 use Rattle.krb_fields.specs.declared.moment.Moment.{Moment}
 use Rattle.sealed_parts.specs.Parts.{ok_of}
-use Rattle.ap_accept.specs.Accepts.{Answer, IsAfter, IsAnswer, accepts, memory_refusal, presented_by, presented_if}
+use Rattle.ap_accept.specs.Accepts.{Answer, IsAfter, IsAnswer, accepts, cache_refusal, presented_by, presented_if}
 use Rattle.ap_accept.specs.Accepts.{refused, request_of, unless_seen}
 use Rattle.ap_accept.specs.Fault.{Fails}
 use Rattle.ap_accept.specs.Presented.{presented}
@@ -19,11 +19,11 @@ use Rattle.ap_accept.specs.declared.accepted.Accepted.{Accepted}
 use Rattle.ap_accept.specs.declared.fault.ApFault.{ApFault}
 use Rattle.ap_accept.specs.declared.fault.ApFault.TheVariants.{NotAnApReq, Refused, Memory}
 use Rattle.ap_accept.specs.declared.presented.Presented.{Presented}
-use Rattle.ap_accept.specs.declared.refusal.ApRefusal.{ApRefusal}
+use Rattle.ap_opening.specs.declared.refusal.ApRefusal.{ApRefusal}
 use Rattle.ap_accept.specs.declared.state.State.{State}
 
 pub ruled : (state : State) (at : Moment) (confounder octets : List ℕ) (ap : ApReq) (wanted : Bool) (p : Presented) → request_of octets ≡ Some ap → wanted ≡ asks_reply ap → presented state.keytab ap ≡ Ok p
-    → accepts state at confounder octets ≡ unless_seen state at.sec confounder wanted p (memory_refusal state at.sec p)
+    → accepts state at confounder octets ≡ unless_seen state at.sec confounder wanted p (cache_refusal state at.sec p)
 ruled state at confounder octets ap wanted p read asks opened = rw (read, opened, asks) refl
 
 -- if the request presents nothing valid, the answer is its refusal, and the state doesn't change

@@ -12,36 +12,36 @@ use Rattle.krb_fields.specs.Name.{Components, name_cmp}
 use Rattle.krb_fields.specs.Skew.{skew}
 use Rattle.principal_rows.specs.declared.limits.Limits.{Limits}
 use Rattle.cred_files.specs.declared.keytab_entry.KeytabEntry.{KeytabEntry}
-use Rattle.replay.specs.Memory.{remembered, verdict}
-use Rattle.replay.specs.declared.memory.Memory.{Memory}
-use Rattle.ap_accept.specs.Accepts.{accepts, if_presented, if_request, memory_for, memory_refusal, presented_by, presented_if, refusal_by, remembering, request_of, stamp_of, unless_seen}
+use Rattle.replay.specs.ReplayCache.{recorded, verdict}
+use Rattle.replay.specs.declared.cache.ReplayCache.{ReplayCache}
+use Rattle.ap_accept.specs.Accepts.{accepts, if_presented, if_request, cache_for, cache_refusal, presented_by, presented_if, refusal_by, recording, request_of, stamp_of, unless_seen}
 use Rattle.ap_accept.specs.Clients.{floor_for, hour}
 use Rattle.ap_accept.specs.Presented.{presented}
 use Rattle.ap_accept.specs.Reply.{asks_reply}
-use Rattle.ap_accept.specs.Run.{Call, LetsGoUnseen, Steady, after_call, after_keeping, after_presented, answers, is_party, keeping, remembered_unless}
-use Rattle.ap_accept.specs.State.{memory_of}
+use Rattle.ap_accept.specs.Run.{Call, DropsUnseen, Steady, after_call, after_keeping, after_presented, answers, is_party, keeping, recorded_unless}
+use Rattle.ap_accept.specs.State.{cache_of}
 use Rattle.ap_accept.specs.declared.accepted.Accepted.{Accepted}
 use Rattle.ap_accept.specs.declared.fault.ApFault.{ApFault}
 use Rattle.ap_accept.specs.declared.presented.Presented.{Presented}
-use Rattle.ap_accept.specs.declared.refusal.ApRefusal.{ApRefusal}
+use Rattle.ap_opening.specs.declared.refusal.ApRefusal.{ApRefusal}
 use Rattle.ap_accept.specs.declared.state.State.{State}
-use Rattle.ap_accept.proofs.Frame.{next_memory, remembering_keeps, stored_keeps}
-use Rattle.ap_accept.proofs.LettingGo.{as_empty_on}
-use Rattle.ap_accept.proofs.Raised.{alike_on, raised, remembered_alike, says_the_same}
+use Rattle.ap_accept.proofs.Frame.{next_cache, recording_keeps, stored_keeps}
+use Rattle.ap_accept.proofs.DroppingExpired.{as_empty_on}
+use Rattle.ap_accept.proofs.Raised.{alike_on, raised, recorded_alike, says_the_same}
 
 -- the same keys and limits, and replay caches that agree from this second on
 record Alike (second : ℤ) (s t : State) : Type 0 where
   pub keytab : s.keytab ≡ t.keytab
   pub limits : s.limits ≡ t.limits
-  pub memories : (service client : Components) → raised second (memory_of s service client) ≡ raised second (memory_of t service client)
+  pub caches : (service client : Components) → raised second (cache_of s service client) ≡ raised second (cache_of t service client)
 
 -- ---- the answer
 
 module _ (second now : ℤ) (s t : State) (alike : Alike second s t) (le : second ≤ℤ (now -ℤ pos skew)) where
-  same_refusal : (p : Presented) → memory_refusal s now p ≡ memory_refusal t now p
+  same_refusal : (p : Presented) → cache_refusal s now p ≡ cache_refusal t now p
   same_refusal p =
-      ap (λ (l : Limits). refusal_by (verdict (memory_for s p) now (stamp_of p) l.remembered)) alike.limits
-      ∙ ap refusal_by (says_the_same second now (memory_for s p) (memory_for t p) (stamp_of p) t.limits.remembered le (alike.memories p.service.components p.ticket.cname.components))
+      ap (λ (l : Limits). refusal_by (verdict (cache_for s p) now (stamp_of p) l.remembered)) alike.limits
+      ∙ ap refusal_by (says_the_same second now (cache_for s p) (cache_for t p) (stamp_of p) t.limits.remembered le (alike.caches p.service.components p.ticket.cname.components))
 
   module _ (confounder : List ℕ) (wanted : Bool) where
     same_seen : (p : Presented) (r : Option ApRefusal) → (unless_seen s now confounder wanted p r).answer ≡ (unless_seen t now confounder wanted p r).answer
@@ -49,7 +49,7 @@ module _ (second now : ℤ) (s t : State) (alike : Alike second s t) (le : secon
     same_seen p None = refl
 
     same_presented : (r : Result Presented ApRefusal) → (if_presented s now confounder wanted r).answer ≡ (if_presented t now confounder wanted r).answer
-    same_presented (Ok p) = same_seen p (memory_refusal s now p) ∙ ap (λ r. (unless_seen t now confounder wanted p r).answer) (same_refusal p)
+    same_presented (Ok p) = same_seen p (cache_refusal s now p) ∙ ap (λ r. (unless_seen t now confounder wanted p r).answer) (same_refusal p)
     same_presented (Err refusal) = refl
 
   same_answer : (confounder : List ℕ) (o : Option ApReq) → (if_request s now confounder o).answer ≡ (if_request t now confounder o).answer
@@ -65,15 +65,15 @@ module _ (second now : ℤ) (s t : State) (alike : Alike second s t) (le : secon
 -- ---- the state afterwards
 
 module _ (state : State) (now : ℤ) (confounder : List ℕ) where
-  by_refusal : (wanted : Bool) (p : Presented) (r : Option ApRefusal) → (unless_seen state now confounder wanted p r).state ≡ remembered_unless remembering state now p r
+  by_refusal : (wanted : Bool) (p : Presented) (r : Option ApRefusal) → (unless_seen state now confounder wanted p r).state ≡ recorded_unless recording state now p r
   by_refusal wanted p (Some refusal) = refl
   by_refusal wanted p None = refl
 
-  by_presented : (wanted : Bool) (r : Result Presented ApRefusal) → (if_presented state now confounder wanted r).state ≡ after_presented remembering state now (result_ok r)
-  by_presented wanted (Ok p) = by_refusal wanted p (memory_refusal state now p)
+  by_presented : (wanted : Bool) (r : Result Presented ApRefusal) → (if_presented state now confounder wanted r).state ≡ after_presented recording state now (result_ok r)
+  by_presented wanted (Ok p) = by_refusal wanted p (cache_refusal state now p)
   by_presented wanted (Err refusal) = refl
 
-  by_request : (o : Option ApReq) → (if_request state now confounder o).state ≡ after_presented remembering state now (presented_if state o)
+  by_request : (o : Option ApReq) → (if_request state now confounder o).state ≡ after_presented recording state now (presented_if state o)
   by_request (Some ap_req) = by_presented (asks_reply ap_req) (presented state.keytab ap_req)
   by_request None = refl
 
@@ -82,46 +82,46 @@ module _ (second now high : ℤ) (s t : State) (alike : Alike second s t) (le : 
   still_alike = record {
     keytab = alike.keytab;
     limits = alike.limits;
-    memories = λ service client.
-        let a = memory_of s service client in
-        let b = memory_of t service client in
-        alike_on second high (a.floor, a.pairs) (b.floor, b.pairs) on (alike.memories service client);
+    caches = λ service client.
+        let a = cache_of s service client in
+        let b = cache_of t service client in
+        alike_on second high (a.floor, a.pairs) (b.floor, b.pairs) on (alike.caches service client);
   }
 
   module _ (p : Presented) (service client : Components) where
     same_next : (b : Bool)
-        → raised high (cond b (remembered (memory_for s p) now (stamp_of p) tt) (memory_of s service client)) ≡ raised high (cond b (remembered (memory_for t p) now (stamp_of p) tt) (memory_of t service client))
-    same_next true = remembered_alike second now (memory_for s p) (memory_for t p) (stamp_of p) le (alike.memories p.service.components p.ticket.cname.components) high
-    same_next false = still_alike.memories service client
+        → raised high (cond b (recorded (cache_for s p) now (stamp_of p) tt) (cache_of s service client)) ≡ raised high (cond b (recorded (cache_for t p) now (stamp_of p) tt) (cache_of t service client))
+    same_next true = recorded_alike second now (cache_for s p) (cache_for t p) (stamp_of p) le (alike.caches p.service.components p.ticket.cname.components) high
+    same_next false = still_alike.caches service client
 
     -- dropping on one side
-    same_gone : raised high (memory_of (remembering s now p) service client) ≡ raised high (next_memory t now p service client)
+    same_gone : raised high (cache_of (recording s now p) service client) ≡ raised high (next_cache t now p service client)
     same_gone =
-        remembering_keeps s now p service client (λ m. raised high m ≡ raised high (next_memory t now p service client))
+        recording_keeps s now p service client (λ m. raised high m ≡ raised high (next_cache t now p service client))
         (λ m lost same. as_empty_on (floor_for now) m lost high gone ∙ same) (same_next (is_party service client p))
 
-    same_kept : raised high (memory_of (keeping t now p) service client) ≡ raised high (next_memory t now p service client)
-    same_kept = stored_keeps t now p service client (λ clients. clients) (λ m. raised high m ≡ raised high (next_memory t now p service client)) (λ same h. h) refl
+    same_kept : raised high (cache_of (keeping t now p) service client) ≡ raised high (next_cache t now p service client)
+    same_kept = stored_keeps t now p service client (λ clients. clients) (λ m. raised high m ≡ raised high (next_cache t now p service client)) (λ same h. h) refl
 
-  alike_remembering : (p : Presented) → Alike high (remembering s now p) (keeping t now p)
-  alike_remembering p = record {
+  alike_recording : (p : Presented) → Alike high (recording s now p) (keeping t now p)
+  alike_recording p = record {
     keytab = alike.keytab;
     limits = alike.limits;
-    memories = λ service client. same_gone p service client ∙ sym (same_kept p service client);
+    caches = λ service client. same_gone p service client ∙ sym (same_kept p service client);
   }
 
-  alike_unless : (p : Presented) (r : Option ApRefusal) → Alike high (remembered_unless remembering s now p r) (remembered_unless keeping t now p r)
+  alike_unless : (p : Presented) (r : Option ApRefusal) → Alike high (recorded_unless recording s now p r) (recorded_unless keeping t now p r)
   alike_unless p (Some refusal) = still_alike
-  alike_unless p None = alike_remembering p
+  alike_unless p None = alike_recording p
 
-  alike_presented : (o : Option Presented) → Alike high (after_presented remembering s now o) (after_presented keeping t now o)
-  alike_presented (Some p) = subst (λ r. Alike high (remembered_unless remembering s now p (memory_refusal s now p)) (remembered_unless keeping t now p r)) (same_refusal second now s t alike le p) (alike_unless p (memory_refusal s now p))
+  alike_presented : (o : Option Presented) → Alike high (after_presented recording s now o) (after_presented keeping t now o)
+  alike_presented (Some p) = subst (λ r. Alike high (recorded_unless recording s now p (cache_refusal s now p)) (recorded_unless keeping t now p r)) (same_refusal second now s t alike le p) (alike_unless p (cache_refusal s now p))
   alike_presented None = still_alike
 
   alike_after : (confounder : List ℕ) (o : Option ApReq) → Alike high (if_request s now confounder o).state (after_presented keeping t now (presented_if t o))
   alike_after confounder o =
       subst (λ state. Alike high state (after_presented keeping t now (presented_if t o))) (sym (by_request s now confounder o))
-      (subst (λ x. Alike high (after_presented remembering s now (presented_if s o)) (after_presented keeping t now x)) (same_presenting second now s t alike le o) (alike_presented (presented_if s o)))
+      (subst (λ x. Alike high (after_presented recording s now (presented_if s o)) (after_presented keeping t now x)) (same_presenting second now s t alike le o) (alike_presented (presented_if s o)))
 
 -- ---- a run
 
@@ -164,8 +164,8 @@ follow_first : (now : ℤ) (calls : List Call) → AllByRecursion (λ (later : C
 follow_first now [] steady = tt
 follow_first now (call ∷ calls) steady = (an_hour_before now call.at.sec steady.0, follow_first now calls steady.1)
 
-pub lets_go_unseen : LetsGoUnseen
-lets_go_unseen state [] steady = refl
-lets_go_unseen state (call ∷ calls) steady =
-    all_same (floor_for call.at.sec) state state (call ∷ calls) (record { keytab = refl; limits = refl; memories = λ service client. refl })
+pub drops_unseen : DropsUnseen
+drops_unseen state [] steady = refl
+drops_unseen state (call ∷ calls) steady =
+    all_same (floor_for call.at.sec) state state (call ∷ calls) (record { keytab = refl; limits = refl; caches = λ service client. refl })
     (first_itself call.at.sec, follow_first call.at.sec calls steady.0) steady

@@ -7,23 +7,24 @@ use Rattle.krb_fields.specs.Name.{Components}
 use Rattle.krb_fields.specs.declared.moment.Moment.{Moment}
 use Rattle.sealed_parts.specs.Parts.{ok_of}
 use Rattle.refusals.specs.Refusals.{first_holding}
-use Rattle.replay.specs.Memory.{remembered, verdict}
+use Rattle.replay.specs.ReplayCache.{recorded, verdict}
 use Rattle.replay.specs.Stamp.{Stamp}
-use Rattle.replay.specs.declared.memory.Memory.{Memory}
+use Rattle.replay.specs.declared.cache.ReplayCache.{ReplayCache}
 use Rattle.replay.specs.declared.verdict.Verdict.{Verdict}
 use Rattle.replay.specs.declared.verdict.Verdict.TheVariants as verdicts
 use Rattle.ap_accept.specs.Presented.{presented}
 use Rattle.ap_accept.specs.Reply.{asks_reply, reply_if}
-use Rattle.ap_accept.specs.Clients.{let_go, with_memory}
-use Rattle.ap_accept.specs.State.{clients_of, memory_of, with_clients}
-use Rattle.ap_accept.specs.Validity.{terms_of, validity_rules}
+use Rattle.ap_accept.specs.Clients.{drop_expired, with_cache}
+use Rattle.ap_accept.specs.State.{clients_of, cache_of, with_clients}
+use Rattle.ap_opening.specs.Validity.{ticket_terms}
+use Rattle.ap_accept.specs.Validity.{validity_rules}
 use Rattle.ap_accept.specs.declared.accepted.Accepted.{Accepted}
 use Rattle.ap_accept.specs.declared.clients.Clients.{Clients}
 use Rattle.ap_accept.specs.declared.fault.ApFault.{ApFault}
 use Rattle.ap_accept.specs.declared.fault.ApFault.TheVariants.{NotAnApReq, Refused, Memory as NoMemory}
 use Rattle.ap_accept.specs.declared.presented.Presented.{Presented}
-use Rattle.ap_accept.specs.declared.refusal.ApRefusal.{ApRefusal}
-use Rattle.ap_accept.specs.declared.refusal.ApRefusal.TheVariants.{Skewed, Repeated, Full}
+use Rattle.ap_opening.specs.declared.refusal.ApRefusal.{ApRefusal}
+use Rattle.ap_opening.specs.declared.refusal.ApRefusal.TheVariants.{Skewed, Repeated, Full}
 use Rattle.ap_accept.specs.declared.state.State.{State}
 
 -- an answer, and the state afterwards
@@ -41,8 +42,8 @@ refused state refusal = record { answer = Err (Refused refusal); state = state }
 abbrev pub stamp_of : Presented → Stamp
 stamp_of p = (p.authenticator.ctime, p.authenticator.cusec)
 
-abbrev pub memory_for : State → Presented → Memory ⊤
-memory_for state p = memory_of state p.service.components p.ticket.cname.components
+abbrev pub cache_for : State → Presented → ReplayCache ⊤
+cache_for state p = cache_of state p.service.components p.ticket.cname.components
 
 abbrev pub refusal_by : Verdict ⊤ → Option ApRefusal
 refusal_by verdicts.Fresh = None
@@ -50,18 +51,18 @@ refusal_by verdicts.Skew = Some Skewed
 refusal_by (verdicts.Repeat kept) = Some Repeated
 refusal_by verdicts.Full = Some Full
 
-abbrev pub memory_refusal : State → ℤ → Presented → Option ApRefusal
-memory_refusal state now p = refusal_by (verdict (memory_for state p) now (stamp_of p) state.limits.remembered)
+abbrev pub cache_refusal : State → ℤ → Presented → Option ApRefusal
+cache_refusal state now p = refusal_by (verdict (cache_for state p) now (stamp_of p) state.limits.remembered)
 
 -- the service's clients, with the authenticator recorded
-abbrev pub remembering_clients : State → ℤ → Presented → Clients
-remembering_clients state now p =
-    with_memory (clients_of state p.service.components) p.ticket.cname.components
-    (remembered (memory_for state p) now (stamp_of p) tt)
+abbrev pub recording_clients : State → ℤ → Presented → Clients
+recording_clients state now p =
+    with_cache (clients_of state p.service.components) p.ticket.cname.components
+    (recorded (cache_for state p) now (stamp_of p) tt)
 
 -- the state with the authenticator recorded and old entries dropped
-abbrev pub remembering : State → ℤ → Presented → State
-remembering state now p = with_clients state p.service.components (let_go now (remembering_clients state now p))
+abbrev pub recording : State → ℤ → Presented → State
+recording state now p = with_clients state p.service.components (drop_expired now (recording_clients state now p))
 
 -- ---- the answer to an accepted request
 
@@ -70,7 +71,7 @@ abbrev pub accepted_with : Option (List ℕ) → Presented → Accepted
 accepted_with reply p = record {
   client = record { realm = p.ticket.crealm; name = p.ticket.cname };
   session_key = p.session_key;
-  ticket = terms_of p.ticket;
+  ticket = ticket_terms p.ticket;
   subkey = p.subkey;
   seq_number = p.authenticator.seq_number;
   cksum = p.authenticator.cksum;
@@ -95,13 +96,13 @@ unless_invalid confounder wanted p None = Ok (accepted confounder wanted p)
 abbrev pub unless_seen : State → ℤ → List ℕ → Bool → Presented → Option ApRefusal → Answer
 unless_seen state now confounder wanted p (Some refusal) = refused state refusal
 unless_seen state now confounder wanted p None = record {
-  answer = unless_invalid confounder wanted p (first_holding (validity_rules (terms_of p.ticket) now));
-  state = remembering state now p;
+  answer = unless_invalid confounder wanted p (first_holding (validity_rules (ticket_terms p.ticket) now));
+  state = recording state now p;
 }
 
 abbrev pub if_presented : State → ℤ → List ℕ → Bool → Result Presented ApRefusal → Answer
 if_presented state now confounder wanted (Ok p) =
-    unless_seen state now confounder wanted p (memory_refusal state now p)
+    unless_seen state now confounder wanted p (cache_refusal state now p)
 if_presented state now confounder wanted (Err refusal) = refused state refusal
 
 -- the AP-REQ that the bytes encode

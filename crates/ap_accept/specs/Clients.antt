@@ -7,44 +7,44 @@ use Rattle.krb_fields.specs.Name.{Components, name_cmp}
 use Rattle.krb_fields.specs.Skew.{skew}
 use Rattle.sorted_entries.specs.Values.{retain_values}
 use Rattle.replay.specs.Failures.{no_failures}
-use Rattle.replay.specs.Memory.{verdict}
-use Rattle.replay.specs.Opening.{opened_memory}
+use Rattle.replay.specs.ReplayCache.{verdict}
+use Rattle.replay.specs.Opening.{opened_cache}
 use Rattle.replay.specs.Stamp.{Stamp, is_from}
-use Rattle.replay.specs.declared.memory.Memory.{Memory}
+use Rattle.replay.specs.declared.cache.ReplayCache.{ReplayCache}
 use Rattle.replay.specs.declared.opening.Opening.{Opening}
 use Rattle.ap_accept.specs.declared.clients.Clients.{Clients}
 
 -- the replay caches of a service's clients, by name
-abbrev pub Memories : Type 0
-Memories = map.FinMap name_cmp (Memory ⊤)
+abbrev pub ReplayCaches : Type 0
+ReplayCaches = map.FinMap name_cmp (ReplayCache ⊤)
 
 -- the empty cache with this floor
-abbrev pub empty_memory : ℤ → Memory ⊤
-empty_memory floor = record { failures = no_failures; floor = floor; pairs = map.empty }
+abbrev pub empty_cache : ℤ → ReplayCache ⊤
+empty_cache floor = record { failures = no_failures; floor = floor; pairs = map.empty }
 
 -- the cache of a client without a stored one is empty
-abbrev pub memory_among : ℤ → Memories → Components → Memory ⊤
-memory_among floor memories client = unwrap_or (map.get memories client) (empty_memory floor)
+abbrev pub cache_among : ℤ → ReplayCaches → Components → ReplayCache ⊤
+cache_among floor caches client = unwrap_or (map.get caches client) (empty_cache floor)
 
-abbrev pub memory_in : Clients → Components → Memory ⊤
-memory_in clients client = memory_among clients.floor clients.memories client
+abbrev pub cache_in : Clients → Components → ReplayCache ⊤
+cache_in clients client = cache_among clients.floor clients.caches client
 
 -- the clients of a service that has accepted nothing since the acceptor started
 abbrev pub opened_clients : Opening → Clients
-opened_clients opening = record { floor = (opened_memory {T = ⊤} opening).floor; memories = map.empty }
+opened_clients opening = record { floor = (opened_cache {T = ⊤} opening).floor; caches = map.empty }
 
-abbrev pub with_memory : Clients → Components → Memory ⊤ → Clients
-with_memory clients client memory = record clients { memories = map.insert clients.memories client memory }
+abbrev pub with_cache : Clients → Components → ReplayCache ⊤ → Clients
+with_cache clients client cache = record clients { caches = map.insert clients.caches client cache }
 
 -- ---- dropping old entries
 
 -- the cache refuses more than an empty one with this floor: its own floor is higher, or it has a pair at or above it
-abbrev pub lasts : ℤ → Memory ⊤ → Bool
+abbrev pub lasts : ℤ → ReplayCache ⊤ → Bool
 lasts floor m = int_lt floor m.floor || nat_le 1 (map.len (map.retain_keys m.pairs (is_from floor)))
 
 -- the service's floor raised to this one, without the caches that an empty one can replace
 abbrev pub raised_to : ℤ → Clients → Clients
-raised_to floor clients = record { floor = floor; memories = retain_values clients.memories (lasts floor) }
+raised_to floor clients = record { floor = floor; caches = retain_values clients.caches (lasts floor) }
 
 -- in seconds
 abbrev pub hour : ℕ
@@ -55,21 +55,21 @@ abbrev pub floor_for : ℤ → ℤ
 floor_for now = now -ℤ pos (skew + hour)
 
 -- raises the floor to that, if it lies more than an hour below
-abbrev pub let_go : ℤ → Clients → Clients
-let_go now clients =
+abbrev pub drop_expired : ℤ → Clients → Clients
+drop_expired now clients =
     if int_lt clients.floor (floor_for now -ℤ pos hour) then raised_to (floor_for now) clients else clients
 
 -- from this second on, both caches give the same verdict on every authenticator
-abbrev pub SaysTheSame : ℤ → Memory ⊤ → Memory ⊤ → Type 0
+abbrev pub SaysTheSame : ℤ → ReplayCache ⊤ → ReplayCache ⊤ → Type 0
 SaysTheSame second a b =
     (now : ℤ) (stamp : Stamp) (limit : ℕ) → second ≤ℤ now → verdict a now stamp limit ≡ verdict b now stamp limit
 
 -- A call at this second dropped the cache, since the service's floor lay more than an hour too low, and an empty cache
 -- with the raised floor refuses no less.
-pub record IsDropped (now floor : ℤ) (old new : Memory ⊤) : Type 0 where
+pub record IsDropped (now floor : ℤ) (old new : ReplayCache ⊤) : Type 0 where
   pub due : IsTrue (int_lt floor (floor_for now -ℤ pos hour))
   pub spent : IsFalse (lasts (floor_for now) old)
-  pub empty : new ≡ empty_memory (floor_for now)
+  pub empty : new ≡ empty_cache (floor_for now)
 
-abbrev pub IsKeptOrDropped : ℤ → ℤ → Memory ⊤ → Memory ⊤ → Type 0
+abbrev pub IsKeptOrDropped : ℤ → ℤ → ReplayCache ⊤ → ReplayCache ⊤ → Type 0
 IsKeptOrDropped now floor old new = (new ≡ old) ⊎ IsDropped now floor old new

@@ -1,6 +1,4 @@
-pub mod Refusal
 pub mod Fault
-pub mod Tickets
 pub mod Authenticators
 pub mod Presented
 pub mod Clients

@@ -1,17 +1,20 @@
 -- The decrypted contents of an AP-REQ, or the first rule that refuses it (RFC 4120, section 3.2.3).
 use Rattle.std.specs.Prelude.{ℕ, List, ◌∷◌, Option, Result, Ok}
 use Rattle.enctypes.specs.declared.key.Key.{Key}
+use Rattle.enctypes.specs.declared.key_usage.KeyUsage.TheVariants.{ApReqAuthenticator}
 use Rattle.krb_ap.specs.ApReq.{ApReq}
 use Rattle.krb_fields.specs.PrincipalName.{Name}
-use Rattle.krb_parts.specs.Authenticator.{Authenticator}
-use Rattle.krb_parts.specs.EncTicketPart.{EncTicketPart}
+use Rattle.krb_sealed.specs.Authenticator.{Authenticator}
+use Rattle.krb_sealed.specs.EncTicketPart.{EncTicketPart}
 use Rattle.cred_files.specs.declared.keytab_entry.KeytabEntry.{KeytabEntry}
 use Rattle.refusals.specs.Stages.{◌>>=◌}
-use Rattle.ap_accept.specs.Tickets.{shown_ticket, session_key_of}
-use Rattle.ap_accept.specs.Authenticators.{authenticator_of, subkey_of}
+use Rattle.ap_opening.specs.Authenticators.{authenticator_of, session_key_of}
+use Rattle.ap_opening.specs.Keytab.{held_in}
+use Rattle.ap_opening.specs.Tickets.{shown_ticket}
+use Rattle.ap_opening.specs.declared.authenticated.Authenticated.{Authenticated}
+use Rattle.ap_opening.specs.declared.refusal.ApRefusal.{ApRefusal}
+use Rattle.ap_accept.specs.Authenticators.{subkey_of}
 use Rattle.ap_accept.specs.declared.presented.Presented.{Presented}
-use Rattle.ap_accept.specs.declared.presented.Shown.{Shown}
-use Rattle.ap_accept.specs.declared.refusal.ApRefusal.{ApRefusal}
 
 -- the service's name with its realm as the first component
 abbrev pub full_name : List ℕ → Name → Name
@@ -26,17 +29,17 @@ presented_as ap part key auth subkey = record {
   subkey = subkey;
 }
 
--- the authenticator, decrypted with the ticket's session key, and its subkey
-abbrev pub shown_in : ApReq → EncTicketPart → Result Shown ApRefusal
-shown_in ap part = do
+-- the proof that the sender has the ticket's session key
+abbrev pub authenticated : ApReq → EncTicketPart → Result Authenticated ApRefusal
+authenticated ap part = do
   key ← session_key_of ap.ticket.realm part
-  auth ← authenticator_of key ap.authenticator
+  auth ← authenticator_of ApReqAuthenticator key ap.authenticator
   subkey ← subkey_of part auth
   Ok (record { session_key = key; authenticator = auth; subkey = subkey })
 
 -- the request's ticket and authenticator, decrypted and checked
 abbrev pub presented : List KeytabEntry → ApReq → Result Presented ApRefusal
 presented keytab ap = do
-  part ← shown_ticket keytab ap
-  shown ← shown_in ap part
+  part ← shown_ticket (held_in keytab ap.ticket) ap
+  shown ← authenticated ap part
   Ok (presented_as ap part shown.session_key shown.authenticator shown.subkey)

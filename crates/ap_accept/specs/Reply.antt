@@ -9,8 +9,8 @@ use Rattle.krb_elements.specs.Codec.{written}
 use Rattle.krb_fields.specs.ApOption.{ap_option_number}
 use Rattle.krb_fields.specs.Flags.{has_bit}
 use Rattle.krb_fields.specs.declared.ap_option.ApOption.TheVariants.{MutualRequired}
-use Rattle.krb_parts.specs.Authenticator.{Authenticator}
-use Rattle.krb_parts.specs.EncApRepPart.{EncApRepPart, enc_ap_rep_part}
+use Rattle.krb_sealed.specs.Authenticator.{Authenticator}
+use Rattle.krb_sealed.specs.EncApRepPart.{EncApRepPart, enc_ap_rep_part}
 use Rattle.sealed_parts.specs.Encrypted.{encrypted, decrypted}
 
 -- the authenticator's time and nothing else

@@ -7,13 +7,13 @@ use Rattle.krb_fields.specs.Name.{Components, name_cmp}
 use Rattle.krb_fields.specs.declared.moment.Moment.{Moment}
 use Rattle.replay.specs.Run.{collected, EachOnce}
 use Rattle.replay.specs.Stamp.{Stamp}
-use Rattle.ap_accept.specs.Accepts.{accepts, memory_refusal, presented_by, remembering_clients, stamp_of}
+use Rattle.ap_accept.specs.Accepts.{accepts, cache_refusal, presented_by, recording_clients, stamp_of}
 use Rattle.ap_accept.specs.Clients.{hour}
 use Rattle.ap_accept.specs.State.{with_clients}
 use Rattle.ap_accept.specs.declared.accepted.Accepted.{Accepted}
 use Rattle.ap_accept.specs.declared.fault.ApFault.{ApFault}
 use Rattle.ap_accept.specs.declared.presented.Presented.{Presented}
-use Rattle.ap_accept.specs.declared.refusal.ApRefusal.{ApRefusal}
+use Rattle.ap_opening.specs.declared.refusal.ApRefusal.{ApRefusal}
 use Rattle.ap_accept.specs.declared.state.State.{State}
 
 -- a call: the moment, the random bytes, and the bytes of an AP-REQ
@@ -55,16 +55,16 @@ AcceptedOnce =
 
 -- the state with the authenticator recorded, and nothing dropped
 abbrev pub keeping : State → ℤ → Presented → State
-keeping state now p = with_clients state p.service.components (remembering_clients state now p)
+keeping state now p = with_clients state p.service.components (recording_clients state now p)
 
 -- the state after a request, where `remember` records its authenticator
-abbrev pub remembered_unless : (State → ℤ → Presented → State) → State → ℤ → Presented → Option ApRefusal → State
-remembered_unless remember state now p (Some refusal) = state
-remembered_unless remember state now p None = remember state now p
+abbrev pub recorded_unless : (State → ℤ → Presented → State) → State → ℤ → Presented → Option ApRefusal → State
+recorded_unless record_seen state now p (Some refusal) = state
+recorded_unless record_seen state now p None = record_seen state now p
 
 abbrev pub after_presented : (State → ℤ → Presented → State) → State → ℤ → Option Presented → State
-after_presented remember state now (Some p) = remembered_unless remember state now p (memory_refusal state now p)
-after_presented remember state now None = state
+after_presented record_seen state now (Some p) = recorded_unless record_seen state now p (cache_refusal state now p)
+after_presented record_seen state now None = state
 
 abbrev pub after_keeping : State → Call → State
 after_keeping state call = after_presented keeping state call.at.sec (presented_by state call.octets)
@@ -81,7 +81,7 @@ Steady [] = ⊤
 Steady (call ∷ calls) = AllByRecursion (λ later. (call.at.sec -ℤ pos hour) ≤ℤ later.at.sec) calls × Steady calls
 
 -- For all steady calls, an acceptor that drops old entries answers as one that drops nothing.
-abbrev pub LetsGoUnseen : Type 0
-LetsGoUnseen =
+abbrev pub DropsUnseen : Type 0
+DropsUnseen =
     (state : State) (calls : List Call) → Steady calls
     → answers after_call state calls ≡ answers after_keeping state calls

@@ -5,9 +5,9 @@ use Rattle.std.specs.FinMap as map
 use Rattle.krb_fields.specs.Name.{Components}
 use Rattle.principal_rows.specs.declared.limits.Limits.{Limits}
 use Rattle.cred_files.specs.declared.keytab_entry.KeytabEntry.{KeytabEntry}
-use Rattle.replay.specs.declared.memory.Memory.{Memory}
+use Rattle.replay.specs.declared.cache.ReplayCache.{ReplayCache}
 use Rattle.replay.specs.declared.opening.Opening.{Opening}
-use Rattle.ap_accept.specs.Clients.{memory_in, opened_clients}
+use Rattle.ap_accept.specs.Clients.{cache_in, opened_clients}
 use Rattle.ap_accept.specs.declared.clients.Clients.{Clients}
 use Rattle.ap_accept.specs.declared.state.State.{State}
 
@@ -18,8 +18,8 @@ opened keytab limits opening = record { keytab = keytab; limits = limits; openin
 abbrev pub clients_of : State → Components → Clients
 clients_of state service = unwrap_or (map.get state.services service) (opened_clients state.opening)
 
-abbrev pub memory_of : State → Components → Components → Memory ⊤
-memory_of state service client = memory_in (clients_of state service) client
+abbrev pub cache_of : State → Components → Components → ReplayCache ⊤
+cache_of state service client = cache_in (clients_of state service) client
 
 -- the state with these clients stored for a service
 abbrev pub with_clients : State → Components → Clients → State

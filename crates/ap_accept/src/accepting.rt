@@ -1,27 +1,27 @@
 //! Accepts or refuses the bytes of an AP-REQ, and records new authenticators in the replay caches.
 ghost use Rattle.std.specs.Prelude.{◌≡◌, false, None, IfOk, IfNone, IfSome, OnOk, OnErr};
 ghost use Rattle.std.specs.FinMap as map;
-ghost use Rattle.replay.specs.Memory.{verdict_copied};
-ghost use Rattle.replay.specs.Stamp.{is_untimely};
-ghost use Rattle.ap_accept.specs.Accepts.{accepted_if, accepted_with, accepts, memory_for, memory_refusal};
-ghost use Rattle.ap_accept.specs.Accepts.{presented_by, refusal_by, remembering, stamp_of, unless_seen};
+ghost use Rattle.replay.specs.ReplayCache.{verdict_copied};
+ghost use Rattle.replay.specs.Stamp.{is_beyond_clock_skew};
+ghost use Rattle.ap_accept.specs.Accepts.{accepted_if, accepted_with, accepts, cache_for, cache_refusal};
+ghost use Rattle.ap_accept.specs.Accepts.{presented_by, refusal_by, recording, stamp_of, unless_seen};
 ghost use Rattle.ap_accept.specs.Accepts.{IsAfter, IsAnswer};
 ghost use Rattle.ap_accept.specs.Reply.{IsApReply};
 
 use crate::accepted::Accepted;
-use crate::clients::{Clients, empty_memory};
+use crate::clients::{Clients, empty_cache};
 use crate::fault::ApFault;
 use crate::opening::open_request;
 use crate::presented::Presented;
-use crate::refusal::ApRefusal;
 use crate::replies::reply_if;
 use crate::state::State;
-use crate::validity::{terms_of, ticket_refusal};
+use crate::validity::ticket_refusal;
+use ap_opening::{ApRefusal, ticket_terms};
 use cred_files::Principal;
 use krb_ap::read_ap_req;
 use krb_elements::Octets;
 use krb_fields::{ApOption, Moment};
-use krb_parts::{Authenticator, EncTicketPart};
+use krb_sealed::{Authenticator, EncTicketPart};
 use replay::Verdict;
 use std::alloc::{AllocError, Global};
 
@@ -57,10 +57,10 @@ fn judge(
 ) -> Result<Accepted, ApFault>
     ensures answer { IsAnswer result
         (unless_seen state.old at.sec confounder.now wanted presented
-        (memory_refusal state.old at.sec presented)).answer }
+        (cache_refusal state.old at.sec presented)).answer }
     ensures state { IsAfter result state.old state.new
         (unless_seen state.old at.sec confounder.now wanted presented
-        (memory_refusal state.old at.sec presented)).state }
+        (cache_refusal state.old at.sec presented)).state }
     ensures reply { IfOk result (λ accepted. IfSome accepted.ap_rep (λ octets.
         IsApReply presented.session_key confounder.now presented.authenticator octets)) }
 {
@@ -81,45 +81,45 @@ fn admit(
 ) -> Result<Option<Octets>, ApFault>
     ensures answer { IsAnswer (accepted_if presented.now result)
         (unless_seen state.old at.sec confounder.now wanted presented.now
-        (memory_refusal state.old at.sec presented.now)).answer }
+        (cache_refusal state.old at.sec presented.now)).answer }
     ensures state { IsAfter (accepted_if presented.now result) state.old state.new
         (unless_seen state.old at.sec confounder.now wanted presented.now
-        (memory_refusal state.old at.sec presented.now)).state }
+        (cache_refusal state.old at.sec presented.now)).state }
     ensures reply { IfOk result (λ reply. IfSome reply (λ octets.
         IsApReply presented.now.session_key confounder.now presented.now.authenticator octets)) }
 {
-    if let Some(refusal) = memory_refusal(state, alloc, at, presented) {
+    if let Some(refusal) = cache_refusal(state, alloc, at, presented) {
         return Err(ApFault::Refused(refusal));
     }
-    let Some(refusal) = ticket_refusal(&terms_of(&presented.ticket), at) else {
+    let Some(refusal) = ticket_refusal(&ticket_terms(&presented.ticket), at) else {
         let key = &presented.session_key;
         let reply = reply_if(alloc, wanted, key, confounder, &presented.authenticator)?;
-        remember(state, alloc, at, presented)?;
+        record_seen(state, alloc, at, presented)?;
         return Ok(reply);
     };
-    remember(state, alloc, at, presented)?;
+    record_seen(state, alloc, at, presented)?;
     Err(ApFault::Refused(refusal))
 }
 
 /// Returns the reason to refuse the authenticator by the replay cache of its service and client, if there is one.
-fn memory_refusal(
+fn cache_refusal(
     state: &State,
     alloc: Global,
     at: Moment,
     presented: &Presented,
 ) -> Option<ApRefusal>
-    ensures value { result ≡ memory_refusal state.now at.sec presented.now }
+    ensures value { result ≡ cache_refusal state.now at.sec presented.now }
     ensures timely { IfNone result
-        (is_untimely (memory_for state.now presented.now).floor at.sec presented.now.authenticator.ctime ≡ false) }
-    ensures new { IfNone result (map.get (memory_for state.now presented.now).pairs (stamp_of presented.now) ≡ None) }
+        (is_beyond_clock_skew (cache_for state.now presented.now).floor at.sec presented.now.authenticator.ctime ≡ false) }
+    ensures new { IfNone result (map.get (cache_for state.now presented.now).pairs (stamp_of presented.now) ≡ None) }
 {
     let opened = Clients::opened(alloc, state.opening);
     let clients = state.clients(&presented.service, &opened);
-    let empty = empty_memory(alloc, clients.floor);
-    let memory = clients.memory(&presented.ticket.cname, &empty);
+    let empty = empty_cache(alloc, clients.floor);
+    let cache = clients.cache(&presented.ticket.cname, &empty);
     let ctime = presented.authenticator.ctime.seconds();
     let cusec = presented.authenticator.cusec.get();
-    refusal_by(memory.check(at, ctime, cusec, state.limits.remembered))
+    refusal_by(cache.check(at, ctime, cusec, state.limits.remembered))
 }
 
 fn refusal_by(verdict: Verdict<&()>) -> Option<ApRefusal>
@@ -134,29 +134,29 @@ fn refusal_by(verdict: Verdict<&()>) -> Option<ApRefusal>
 }
 
 /// Records the authenticator in the replay cache. Changes nothing if memory runs out.
-fn remember(
+fn record_seen(
     state: &mut State,
     alloc: Global,
     at: Moment,
     presented: &Presented,
 ) -> Result<(), AllocError>
-    requires timely { is_untimely (memory_for state.old presented.now).floor at.sec presented.now.authenticator.ctime
+    requires timely { is_beyond_clock_skew (cache_for state.old presented.now).floor at.sec presented.now.authenticator.ctime
         ≡ false }
-    requires new { map.get (memory_for state.old presented.now).pairs (stamp_of presented.now) ≡ None }
-    ensures ok { OnOk result (state.new ≡ remembering state.old at.sec presented.now) }
+    requires new { map.get (cache_for state.old presented.now).pairs (stamp_of presented.now) ≡ None }
+    ensures ok { OnOk result (state.new ≡ recording state.old at.sec presented.now) }
     ensures err { OnErr result (state.new ≡ state.old) }
 {
     let client = &presented.ticket.cname;
     let ctime = presented.authenticator.ctime.seconds();
     let cusec = presented.authenticator.cusec.get();
-    state.remember(alloc, &presented.service, client, at, ctime, cusec)
+    state.record_seen(alloc, &presented.service, client, at, ctime, cusec)
 }
 
 /// Returns the result for an accepted request, with the bytes of the AP-REP if it was asked for.
 fn accepted_with(ap_rep: Option<Octets>, presented: Presented) -> Accepted
     ensures { result ≡ accepted_with ap_rep presented }
 {
-    let terms = terms_of(&presented.ticket);
+    let terms = ticket_terms(&presented.ticket);
     let Presented {
         ticket,
         session_key,

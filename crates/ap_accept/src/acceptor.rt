@@ -5,7 +5,7 @@ ghost use Rattle.krb_fields.specs.Name.{Components};
 ghost use Rattle.ap_accept.specs.Accepts.{accepts, presented_by, request_of, IsAfter, IsAnswer, IsParty, IsService};
 ghost use Rattle.ap_accept.specs.Clients.{IsKeptOrDropped, SaysTheSame, hour};
 ghost use Rattle.ap_accept.specs.Reply.{IsApReply};
-ghost use Rattle.ap_accept.specs.State.{clients_of, memory_of, opened};
+ghost use Rattle.ap_accept.specs.State.{clients_of, cache_of, opened};
 
 use crate::accepted::Accepted;
 use crate::accepting::accept;
@@ -75,16 +75,16 @@ impl Acceptor {
         // be dropped, but their caches give the same verdict on every authenticator from an hour before this call on.
         ensures services { (service : Components) → (IsService service (presented_by self.old ap_req.now) → ⊥)
             → clients_of self.new service ≡ clients_of self.old service }
-        ensures memories { (service client : Components)
+        ensures caches { (service client : Components)
             → (IsParty service client (presented_by self.old ap_req.now) → ⊥)
-            → SaysTheSame (at.sec -ℤ pos hour) (memory_of self.new service client)
-            (memory_of self.old service client) }
+            → SaysTheSame (at.sec -ℤ pos hour) (cache_of self.new service client)
+            (cache_of self.old service client) }
         // Another client's cache is unchanged or dropped. It is dropped only if the service's floor lay more than an hour
         // too low, and if an empty cache with the raised floor refuses no less.
         ensures kept { (service client : Components)
             → (IsParty service client (presented_by self.old ap_req.now) → ⊥)
-            → IsKeptOrDropped at.sec (clients_of self.old service).floor (memory_of self.old service client)
-            (memory_of self.new service client) }
+            → IsKeptOrDropped at.sec (clients_of self.old service).floor (cache_of self.old service client)
+            (cache_of self.new service client) }
         ensures keytab { self.new.keytab ≡ self.old.keytab }
         ensures limits { self.new.limits ≡ self.old.limits }
     {

@@ -1,14 +1,14 @@
 //! The replay caches of a service's clients.
 ghost use Rattle.std.specs.Prelude.{◌≡◌, false, None, OnOk, OnErr};
 ghost use Rattle.std.specs.FinMap as map;
-ghost use Rattle.replay.specs.Stamp.{is_untimely};
-ghost use Rattle.replay.specs.Memory.{remembered};
-ghost use Rattle.ap_accept.specs.Clients.{empty_memory, floor_for, lasts, let_go, memory_among, memory_in};
-ghost use Rattle.ap_accept.specs.Clients.{opened_clients, with_memory};
+ghost use Rattle.replay.specs.Stamp.{is_beyond_clock_skew};
+ghost use Rattle.replay.specs.ReplayCache.{recorded};
+ghost use Rattle.ap_accept.specs.Clients.{empty_cache, floor_for, lasts, drop_expired, cache_among, cache_in};
+ghost use Rattle.ap_accept.specs.Clients.{opened_clients, with_cache};
 
 use krb_fields::{Moment, Name, SKEW};
 use principal_rows::{NameMap, ValueTest};
-use replay::{Failures, Memory, Opening, Pairs};
+use replay::{Failures, Opening, Pairs, ReplayCache};
 use std::alloc::{AllocError, Global};
 
 /// In seconds. At most once an hour, the acceptor drops entries that can't be replayed any more. It drops only what is
@@ -21,7 +21,7 @@ pub struct Clients {
     /// An authenticator from a client without a cache of its own is too old if its ctime, in seconds since 1970, is
     /// below this. All dropped entries lie below it.
     pub floor: i64,
-    pub memories: NameMap<Memory<()>>,
+    pub caches: NameMap<ReplayCache<()>>,
 }
 
 impl Clients {
@@ -29,27 +29,27 @@ impl Clients {
     pub fn opened(alloc: Global, opening: Opening) -> Clients
         ensures { result ≡ opened_clients opening }
     {
-        let memory: Memory<()> = Memory::opened(alloc, opening);
+        let cache: ReplayCache<()> = ReplayCache::opened(alloc, opening);
         Clients {
-            floor: memory.floor,
-            memories: NameMap::new(alloc),
+            floor: cache.floor,
+            caches: NameMap::new(alloc),
         }
     }
 
     /// Returns a client's replay cache, or `empty` if it has none.
-    pub fn memory<'c>(&'c self, client: &Name, empty: &'c Memory<()>) -> &'c Memory<()>
-        requires { empty.now ≡ empty_memory self.now.floor }
-        ensures { result.now ≡ memory_in self.now client.now.components }
+    pub fn cache<'c>(&'c self, client: &Name, empty: &'c ReplayCache<()>) -> &'c ReplayCache<()>
+        requires { empty.now ≡ empty_cache self.now.floor }
+        ensures { result.now ≡ cache_in self.now client.now.components }
     {
-        match self.memories.get(client) {
-            Some(memory) => memory,
+        match self.caches.get(client) {
+            Some(cache) => cache,
             None => empty,
         }
     }
 
     /// Records an authenticator of the client. It must be within the clock skew and new. Drops entries that can't be
     /// replayed any more. Changes nothing if memory runs out.
-    pub fn remember(
+    pub fn record_seen(
         &mut self,
         alloc: Global,
         client: &Name,
@@ -57,25 +57,25 @@ impl Clients {
         ctime: i64,
         cusec: u32,
     ) -> Result<(), AllocError>
-        requires timely { is_untimely (memory_in self.old client.now.components).floor at.sec ctime ≡ false }
-        requires new { map.get (memory_in self.old client.now.components).pairs (ctime, cusec) ≡ None }
-        ensures ok { OnOk result (self.new ≡ let_go at.sec (with_memory self.old client.now.components
-            (remembered (memory_in self.old client.now.components) at.sec (ctime, cusec) tt))) }
+        requires timely { is_beyond_clock_skew (cache_in self.old client.now.components).floor at.sec ctime ≡ false }
+        requires new { map.get (cache_in self.old client.now.components).pairs (ctime, cusec) ≡ None }
+        ensures ok { OnOk result (self.new ≡ drop_expired at.sec (with_cache self.old client.now.components
+            (recorded (cache_in self.old client.now.components) at.sec (ctime, cusec) tt))) }
         ensures err { OnErr result (self.new ≡ self.old) }
     {
         let floor = self.floor;
-        remember_among(alloc, &mut self.memories, floor, client, at, ctime, cusec)?;
-        self.let_go(at);
+        record_among(alloc, &mut self.caches, floor, client, at, ctime, cusec)?;
+        self.drop_expired(at);
         Ok(())
     }
 
     /// Raises the floor, at most once an hour, and drops the clients whose caches refuse no more than an empty one.
-    fn let_go(&mut self, at: Moment)
-        ensures { self.new ≡ let_go at.sec self.old }
+    fn drop_expired(&mut self, at: Moment)
+        ensures { self.new ≡ drop_expired at.sec self.old }
     {
         let floor = floor_for(at);
         if self.floor < floor - HOUR {
-            self.memories.retain(&Lasting { floor });
+            self.caches.retain(&Lasting { floor });
             self.floor = floor;
         }
     }
@@ -89,10 +89,10 @@ fn floor_for(at: Moment) -> i64
 }
 
 /// Returns an empty replay cache with this floor.
-pub fn empty_memory(alloc: Global, floor: i64) -> Memory<()>
-    ensures { result ≡ empty_memory floor }
+pub fn empty_cache(alloc: Global, floor: i64) -> ReplayCache<()>
+    ensures { result ≡ empty_cache floor }
 {
-    Memory {
+    ReplayCache {
         failures: Failures::none(),
         floor,
         pairs: Pairs::new(alloc),
@@ -100,29 +100,29 @@ pub fn empty_memory(alloc: Global, floor: i64) -> Memory<()>
 }
 
 /// Records an authenticator among the replay caches of a service's clients.
-fn remember_among(
+fn record_among(
     alloc: Global,
-    memories: &mut NameMap<Memory<()>>,
+    caches: &mut NameMap<ReplayCache<()>>,
     floor: i64,
     client: &Name,
     at: Moment,
     ctime: i64,
     cusec: u32,
 ) -> Result<(), AllocError>
-    requires timely { is_untimely (memory_among floor memories.old client.now.components).floor at.sec ctime ≡ false }
-    requires new { map.get (memory_among floor memories.old client.now.components).pairs (ctime, cusec) ≡ None }
-    ensures ok { OnOk result (memories.new ≡ map.insert memories.old client.now.components
-        (remembered (memory_among floor memories.old client.now.components) at.sec (ctime, cusec) tt)) }
-    ensures err { OnErr result (memories.new ≡ memories.old) }
+    requires timely { is_beyond_clock_skew (cache_among floor caches.old client.now.components).floor at.sec ctime ≡ false }
+    requires new { map.get (cache_among floor caches.old client.now.components).pairs (ctime, cusec) ≡ None }
+    ensures ok { OnOk result (caches.new ≡ map.insert caches.old client.now.components
+        (recorded (cache_among floor caches.old client.now.components) at.sec (ctime, cusec) tt)) }
+    ensures err { OnErr result (caches.new ≡ caches.old) }
 {
-    let mut memory = empty_memory(alloc, floor);
-    if memories.replace(client, &mut memory) {
-        let done = memory.remember(at, ctime, cusec, ());
-        let _ = memories.replace(client, &mut memory);
+    let mut cache = empty_cache(alloc, floor);
+    if caches.replace(client, &mut cache) {
+        let done = cache.record_seen(at, ctime, cusec, ());
+        let _ = caches.replace(client, &mut cache);
         done
     } else {
-        memory.remember(at, ctime, cusec, ())?;
-        memories.put(client.copy(alloc)?, memory)
+        cache.record_seen(at, ctime, cusec, ())?;
+        caches.put(client.copy(alloc)?, cache)
     }
 }
 
@@ -132,10 +132,10 @@ struct Lasting {
     floor: i64,
 }
 
-impl ValueTest<Memory<()>> for Lasting {
+impl ValueTest<ReplayCache<()>> for Lasting {
     ghost passes = { λ lasting m. lasts lasting.floor m };
 
-    fn passes(&self, memory: &Memory<()>) -> bool {
-        memory.floor > self.floor || memory.pairs.has_from(self.floor, 1)
+    fn passes(&self, cache: &ReplayCache<()>) -> bool {
+        cache.floor > self.floor || cache.pairs.has_from(self.floor, 1)
     }
 }

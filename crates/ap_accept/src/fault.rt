@@ -2,7 +2,7 @@
 ghost use Rattle.std.specs.Prelude.{◌≡◌};
 ghost use Rattle.ap_accept.specs.declared.fault.ApFault.TheVariants.{Refused, Memory};
 
-use crate::refusal::ApRefusal;
+use ap_opening::ApRefusal;
 use std::alloc::AllocError;
 use std::error::Error;
 use std::fmt;

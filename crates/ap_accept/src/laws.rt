@@ -1,5 +1,5 @@
 //! Properties of every run of an acceptor: laws over the definition that `Acceptor::accept` meets.
-ghost use Rattle.ap_accept.specs.Run.{AcceptedOnce, LetsGoUnseen};
+ghost use Rattle.ap_accept.specs.Run.{AcceptedOnce, DropsUnseen};
 
 /// No authenticator is accepted twice for the same ticket realm, service and client, whatever comes in and whenever.
 pub fn accepted_once()
@@ -7,6 +7,6 @@ pub fn accepted_once()
 {}
 
 /// Dropping old entries changes no answer, as long as the clock never goes back by more than an hour.
-pub fn lets_go_unseen()
-    ensures { LetsGoUnseen }
+pub fn drops_unseen()
+    ensures { DropsUnseen }
 {}

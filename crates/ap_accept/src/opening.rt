@@ -1,17 +1,20 @@
 //! Decrypts the ticket and the authenticator of an AP-REQ (RFC 4120, section 3.2.3).
 ghost use Rattle.std.specs.Prelude.{◌≡◌, IfOk};
+ghost use Rattle.ap_opening.specs.Keytab.{held_in};
+ghost use Rattle.ap_opening.specs.Tickets.{shown_ticket};
 ghost use Rattle.ap_accept.specs.Fault.{Gives};
-ghost use Rattle.ap_accept.specs.Presented.{full_name, presented, shown_in};
+ghost use Rattle.ap_accept.specs.Presented.{authenticated, full_name, presented};
 
-use crate::authenticators::{authenticator_of, subkey_of};
+use crate::authenticators::subkey_of;
 use crate::fault::ApFault;
-use crate::presented::{Presented, Shown};
-use crate::tickets::{session_key_of, shown_ticket};
+use crate::presented::Presented;
+use ap_opening::{ApRefusal, Authenticated, authenticator_of, held_in, session_key_of};
 use cred_files::Keytab;
+use enctypes::KeyUsage;
 use krb_ap::ApReqRef;
 use krb_elements::{KerberosString, Seq};
 use krb_fields::{Name, NameRef};
-use krb_parts::EncTicketPart;
+use krb_sealed::EncTicketPart;
 use std::alloc::{AllocError, Global};
 
 /// Decrypts and checks what an AP-REQ presents, or returns the first rule that refuses it.
@@ -22,13 +25,13 @@ pub fn open_request(
 ) -> Result<Presented, ApFault>
     ensures { Gives result (presented keytab.now request.now) }
 {
-    let ticket = shown_ticket(alloc, keytab, request)?;
+    let ticket = shown_ticket(alloc, keytab, request)??;
     let service = full_name(
         alloc,
         request.ticket.realm.as_slice(),
         &request.ticket.sname,
     )?;
-    let shown = shown_in(alloc, request, &ticket)?;
+    let shown = authenticated(alloc, request, &ticket)?;
     Ok(Presented {
         service,
         ticket,
@@ -38,14 +41,39 @@ pub fn open_request(
     })
 }
 
-/// Decrypts the authenticator with the ticket's session key and reads its subkey.
-fn shown_in(alloc: Global, request: &ApReqRef<'_>, ticket: &EncTicketPart) -> Result<Shown, ApFault>
-    ensures { Gives result (shown_in request.now ticket.now) }
+/// Decrypts the ticket, or returns the first rule that refuses it.
+///
+/// Until it is decrypted, this allocates no more than the service's name and the ticket's cipher need.
+fn shown_ticket(
+    alloc: Global,
+    keytab: &Keytab,
+    request: &ApReqRef<'_>,
+) -> Result<Result<EncTicketPart, ApRefusal>, AllocError>
+    ensures { IfOk result (λ found. found ≡ shown_ticket (held_in keytab.now request.now.ticket) request.now) }
+{
+    let service = request.ticket.sname.to_name(alloc)?;
+    let held = held_in(keytab, &request.ticket, &service);
+    ap_opening::shown_ticket(alloc, None, &held, request)
+}
+
+/// Checks that the sender of the ticket has its session key, and reads the subkey.
+fn authenticated(
+    alloc: Global,
+    request: &ApReqRef<'_>,
+    ticket: &EncTicketPart,
+) -> Result<Authenticated, ApFault>
+    ensures { Gives result (authenticated request.now ticket.now) }
 {
     let session_key = session_key_of(request.ticket.realm.as_slice(), ticket)?;
-    let authenticator = authenticator_of(alloc, &session_key, &request.authenticator)?;
+    let authenticator = authenticator_of(
+        alloc,
+        None,
+        KeyUsage::ApReqAuthenticator,
+        &session_key,
+        &request.authenticator,
+    )??;
     let subkey = subkey_of(ticket, &authenticator)?;
-    Ok(Shown {
+    Ok(Authenticated {
         session_key,
         authenticator,
         subkey,

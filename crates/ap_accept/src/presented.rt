@@ -1,7 +1,7 @@
 //! The decrypted contents of an AP-REQ.
 use enctypes::Key;
 use krb_fields::Name;
-use krb_parts::{Authenticator, EncTicketPart};
+use krb_sealed::{Authenticator, EncTicketPart};
 
 /// A ticket and an authenticator that match.
 #[derive(Drop)]
@@ -12,13 +12,5 @@ pub struct Presented {
     pub session_key: Key,
     pub authenticator: Authenticator,
     /// The key that the client chose for the rest of the connection, if it chose one.
-    pub subkey: Option<Key>,
-}
-
-/// What the ticket's session key decrypts the authenticator to.
-#[derive(Drop)]
-pub struct Shown {
-    pub session_key: Key,
-    pub authenticator: Authenticator,
     pub subkey: Option<Key>,
 }

@@ -2,7 +2,7 @@
 ghost use Rattle.std.specs.Prelude.{◌≡◌, ◌<◌, ◌≤◌, ◌^◌, length, Some, IfOk, IfSome};
 ghost use Rattle.enctypes.specs.KeyUsage.{usage_number};
 ghost use Rattle.krb_ap.specs.ApRep.{ap_rep};
-ghost use Rattle.krb_parts.specs.EncApRepPart.{enc_ap_rep_part};
+ghost use Rattle.krb_sealed.specs.EncApRepPart.{enc_ap_rep_part};
 ghost use Rattle.sealed_parts.specs.Encrypted.{decrypted};
 ghost use Rattle.ap_accept.specs.Reply.{IsApReply, reply_if, reply_of, reply_part};
 
@@ -10,7 +10,7 @@ use enctypes::{Key, KeyUsage};
 use krb_ap::{ApRep, encode_ap_rep};
 use krb_elements::Octets;
 use krb_fields::EncryptedData;
-use krb_parts::{Authenticator, EncApRepPart};
+use krb_sealed::{Authenticator, EncApRepPart};
 use sealed_parts::seal_part;
 use std::alloc::{AllocError, Global};
 

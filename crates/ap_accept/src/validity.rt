@@ -1,26 +1,12 @@
 //! Whether a ticket is valid (RFC 4120, section 3.2.3).
 ghost use Rattle.std.specs.Prelude.{◌≡◌};
 ghost use Rattle.refusals.specs.Refusals.{first_holding};
-ghost use Rattle.ap_accept.specs.Validity.{has_ended, is_not_yet_valid, terms_of, validity_rules};
+ghost use Rattle.ap_accept.specs.Validity.{is_not_yet_valid, validity_rules};
 
-use crate::refusal::ApRefusal;
-use krb_fields::{Moment, SKEW, TicketFlag};
-use krb_parts::EncTicketPart;
+use ap_opening::{ApRefusal, has_ended, has_not_started};
+use krb_fields::{Moment, TicketFlag};
 use refusals::first_holding;
 use ticket_times::TicketTerms;
-
-/// Returns the flags and times of a ticket.
-pub fn terms_of(part: &EncTicketPart) -> TicketTerms
-    ensures { result ≡ terms_of part.now }
-{
-    TicketTerms {
-        flags: part.flags,
-        authtime: part.authtime,
-        starttime: part.starttime,
-        endtime: part.endtime,
-        renew_till: part.renew_till,
-    }
-}
 
 /// Returns the first rule that makes the ticket invalid at this moment.
 pub fn ticket_refusal(ticket: &TicketTerms, at: Moment) -> Option<ApRefusal>
@@ -42,11 +28,5 @@ fn validity_rules(ticket: &TicketTerms, at: Moment) -> [(bool, ApRefusal); 2]
 fn is_not_yet_valid(ticket: &TicketTerms, at: Moment) -> bool
     ensures { result ≡ is_not_yet_valid ticket.now at.sec }
 {
-    at.sec + SKEW < ticket.start() || ticket.has(TicketFlag::Invalid)
-}
-
-fn has_ended(ticket: &TicketTerms, at: Moment) -> bool
-    ensures { result ≡ has_ended ticket.now at.sec }
-{
-    ticket.endtime.seconds() < at.sec - SKEW
+    has_not_started(ticket, at) || ticket.has(TicketFlag::Invalid)
 }

@@ -7,11 +7,11 @@ use Rattle.krb_fields.specs.PrincipalName.{Name}
 use Rattle.krb_fields.specs.Salt.{default_salt}
 use Rattle.krb_fields.specs.declared.moment.Moment.{Moment}
 use Rattle.krb_replies.specs.KdcRep.{KdcRep, kdc_rep}
-use Rattle.krb_parts.specs.EncKdcRepPart.{EncKdcRepPart}
-use Rattle.krb_parts.specs.EncTicketPart.{EncTicketPart}
-use Rattle.krb_types.specs.KdcReq.{Received}
-use Rattle.krb_types.specs.KrbError.{KrbError, krb_error}
-use Rattle.krb_types.specs.ReqBody.{ReqBody}
+use Rattle.krb_sealed.specs.EncKdcRepPart.{EncKdcRepPart}
+use Rattle.krb_sealed.specs.EncTicketPart.{EncTicketPart}
+use Rattle.krb_messages.specs.KdcReq.{Received}
+use Rattle.krb_messages.specs.KrbError.{KrbError, krb_error}
+use Rattle.krb_messages.specs.ReqBody.{ReqBody}
 use Rattle.kdc_replies.specs.ErrorReply.{error_reply, too_big}
 use Rattle.kdc_replies.specs.Grant.{reply_part, ticket_part}
 use Rattle.kdc_replies.specs.Incoming.{Incoming}
@@ -39,7 +39,7 @@ use Rattle.as_exchange.specs.declared.refusal.AsRefusal.TheVariants.{NoCommonTyp
 use Rattle.as_exchange.specs.declared.refusal.AsRefusal.TheVariants.{PreauthFailed, TimestampSkewed, PreauthRequired}
 use Rattle.as_exchange.specs.declared.refusal.AsRefusal.TheVariants.{PostdatingRefused, StartsTooLate, NeverValid}
 use Rattle.as_exchange.specs.declared.refusal.Sequel.{Sequel}
-use Rattle.as_exchange.specs.declared.refusal.Sequel.TheVariants.{Nothing, CountsFailure, TellsMethods}
+use Rattle.as_exchange.specs.declared.refusal.Sequel.TheVariants.{Nothing, CountsFailure, SendsMethods}
 use Rattle.as_exchange.specs.declared.refusal.Sequel.TheVariants.{FollowsTimestamp}
 use Rattle.as_exchange.specs.declared.terms.Admission.{Admission}
 
@@ -65,7 +65,7 @@ sequel_of BadOption = Nothing
 sequel_of NoCommonType = Nothing
 sequel_of PreauthFailed = CountsFailure
 sequel_of TimestampSkewed = Nothing
-sequel_of PreauthRequired = TellsMethods
+sequel_of PreauthRequired = SendsMethods
 sequel_of PostdatingRefused = FollowsTimestamp
 sequel_of StartsTooLate = FollowsTimestamp
 sequel_of NeverValid = FollowsTimestamp
@@ -79,7 +79,7 @@ after_timestamp failures timestamp = if is_good timestamp then Some (after_succe
 abbrev pub after_sequel : Failures → Moment → Outcome → Sequel → Option Failures
 after_sequel failures at timestamp Nothing = None
 after_sequel failures at timestamp CountsFailure = Some (after_failure failures at)
-after_sequel failures at timestamp TellsMethods = None
+after_sequel failures at timestamp SendsMethods = None
 after_sequel failures at timestamp FollowsTimestamp = after_timestamp failures timestamp
 
 -- ---- errors
@@ -95,7 +95,7 @@ methods_for realm body None name = None
 abbrev pub e_data_of : AsView → ReqBody → Sequel → Option (List ℕ)
 e_data_of v body Nothing = None
 e_data_of v body CountsFailure = None
-e_data_of v body TellsMethods = methods_for v.realm body v.client body.cname
+e_data_of v body SendsMethods = methods_for v.realm body v.client body.cname
 e_data_of v body FollowsTimestamp = None
 
 abbrev pub as_error : AsView → Moment → ReqBody → AsRefusal → KrbError

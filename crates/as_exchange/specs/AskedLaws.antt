@@ -4,8 +4,8 @@ use Rattle.std.specs.Prelude.{IfOk}
 use Rattle.kdc_replies.specs.ServiceTerms.{current_keys, service_terms}
 use Rattle.kdc_replies.specs.ServiceTermsLaws.{found_terms}
 use Rattle.krb_fields.specs.PrincipalName.{Name}
-use Rattle.krb_types.specs.KdcReq.{Received}
-use Rattle.krb_types.specs.ReqBody.{ReqBody}
+use Rattle.krb_messages.specs.KdcReq.{Received}
+use Rattle.krb_messages.specs.ReqBody.{ReqBody}
 use Rattle.preauth.specs.Keys.{first_key}
 use Rattle.preauth.specs.declared.timestamp.Outcome.{Outcome}
 use Rattle.principal_rows.specs.declared.row.Row.{Row}

@@ -11,8 +11,8 @@ use Rattle.krb_fields.specs.declared.code.Code.{Code}
 use Rattle.krb_fields.specs.declared.code.Code as codes
 use Rattle.krb_fields.specs.declared.kdc_option.KdcOption.TheVariants.{Forwarded, Proxy, AllowPostdate, Postdated}
 use Rattle.krb_fields.specs.declared.kdc_option.KdcOption.TheVariants.{EncTktInSkey, Renew, Validate}
-use Rattle.krb_types.specs.KdcReq.{Received}
-use Rattle.krb_types.specs.ReqBody.{ReqBody}
+use Rattle.krb_messages.specs.KdcReq.{Received}
+use Rattle.krb_messages.specs.ReqBody.{ReqBody}
 use Rattle.preauth.specs.Lock.{is_locked}
 use Rattle.preauth.specs.Timestamp.{outcome}
 use Rattle.preauth.specs.declared.timestamp.Outcome.{Outcome}

@@ -6,7 +6,7 @@ use Rattle.std.specs.Cmp.Lexicographic.{pointwise}
 use Rattle.kdc_replies.specs.GoodStanding.{AreInGoodStanding}
 use Rattle.kdc_replies.specs.GoodStandingLaws.{in_good_standing}
 use Rattle.krb_fields.specs.declared.moment.Moment.{Moment}
-use Rattle.krb_types.specs.KdcReq.{Received}
+use Rattle.krb_messages.specs.KdcReq.{Received}
 use Rattle.preauth.specs.declared.timestamp.Outcome.{Outcome}
 use Rattle.refusals.specs.ClearLaws.{AreClear, decided_clear}
 use Rattle.ticket_times.specs.declared.times.Times.{Times}

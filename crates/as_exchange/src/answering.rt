@@ -1,7 +1,7 @@
 //! Answers an AS-REQ: the reply, the outcome, and the client's failures afterwards.
 ghost use Rattle.std.specs.Prelude.{◌≡◌, ℕ, List, None, IfOk};
 ghost use Rattle.kdc_replies.specs.ErrorReply.{too_big};
-ghost use Rattle.krb_types.specs.KrbError.{krb_error};
+ghost use Rattle.krb_messages.specs.KrbError.{krb_error};
 ghost use Rattle.as_exchange.specs.Answer.{after_timestamp, after_sequel, answer_by, as_answer, as_error, refused};
 ghost use Rattle.as_exchange.specs.Answer.{refused_room};
 ghost use Rattle.as_exchange.specs.Answer.{Opens, OpensBy, Spelled, SpelledBy};
@@ -23,7 +23,7 @@ use crate::terms::Admission;
 use crate::view::AsView;
 use kdc_replies::{Incoming, too_big};
 use krb_fields::Moment;
-use krb_types::{KdcReqRef, ReqBodyRef};
+use krb_messages::{KdcReqRef, ReqBodyRef};
 use preauth::{Outcome, after_failure, after_success};
 use replay::Failures;
 use std::alloc::{AllocError, Global};
@@ -192,7 +192,7 @@ fn after_sequel(
     match sequel {
         Sequel::CountsFailure => Some(after_failure(failures, at)),
         Sequel::FollowsTimestamp => after_timestamp(failures, timestamp),
-        Sequel::Nothing | Sequel::TellsMethods => None,
+        Sequel::Nothing | Sequel::SendsMethods => None,
     }
 }
 

@@ -3,7 +3,7 @@ ghost use Rattle.std.specs.Prelude.{◌≡◌, ◌<◌, ◌≤◌, length, None,
 ghost use Rattle.krb_elements.specs.Codec.{written};
 ghost use Rattle.krb_fields.specs.NameLimits.{IsWithinLimits};
 ghost use Rattle.krb_fields.specs.Salt.{default_salt};
-ghost use Rattle.krb_types.specs.KrbError.{krb_error};
+ghost use Rattle.krb_messages.specs.KrbError.{krb_error};
 ghost use Rattle.as_exchange.specs.Answer.{as_error, e_data_of, methods_for};
 ghost use Rattle.as_exchange.specs.Known.{IsKnown};
 
@@ -12,7 +12,7 @@ use crate::view::AsView;
 use kdc_replies::error_reply;
 use krb_elements::{KerberosString, Octets};
 use krb_fields::{Moment, NameRef};
-use krb_types::ReqBodyRef;
+use krb_messages::ReqBodyRef;
 use preauth::{method_data, types_of};
 use principal_rows::Row;
 use std::alloc::{AllocError, Global};
@@ -51,7 +51,7 @@ fn e_data_of(
     ensures short { IfOk result (λ found. IfSome found (λ octets. length octets ≤ 65535)) }
 {
     match sequel {
-        Sequel::TellsMethods => methods_for(alloc, view, body),
+        Sequel::SendsMethods => methods_for(alloc, view, body),
         _ => Ok(None),
     }
 }

@@ -21,7 +21,8 @@ use kdc_replies::{
 };
 use krb_elements::{KerberosStringRef, Lent, Seq};
 use krb_fields::{Flags, Moment, PaData};
-use krb_types::ReqBodyRef;
+use krb_messages::ReqBodyRef;
+use krb_replies::{AS_REP, ENC_AS_REP_PART};
 use preauth::etype_info2;
 use std::alloc::{AllocError, Global};
 use ticket_times::as_flags;
@@ -56,7 +57,7 @@ pub fn as_rep(
         ready: incoming.ready,
     };
     let grant = grant_of(view, incoming, body, admission);
-    ticket_reply::<11, 25>(
+    ticket_reply::<AS_REP, ENC_AS_REP_PART>(
         alloc,
         &grant,
         &admission.terms.service.key,

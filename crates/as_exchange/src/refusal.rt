@@ -36,7 +36,7 @@ pub enum Sequel {
     /// Counts a failure of the client.
     CountsFailure,
     /// Sends the client the methods by which it can preauthenticate.
-    TellsMethods,
+    SendsMethods,
     /// Follows the timestamp: a good one ends the count of failures.
     FollowsTimestamp,
 }
@@ -72,7 +72,7 @@ impl AsRefusal {
     {
         match self {
             AsRefusal::PreauthFailed => Sequel::CountsFailure,
-            AsRefusal::PreauthRequired => Sequel::TellsMethods,
+            AsRefusal::PreauthRequired => Sequel::SendsMethods,
             AsRefusal::PostdatingRefused | AsRefusal::StartsTooLate | AsRefusal::NeverValid => {
                 Sequel::FollowsTimestamp
             }

@@ -12,7 +12,7 @@ use crate::terms::{Admission, Terms, admission_of, times_of};
 use crate::view::AsView;
 use kdc_replies::{has_come, is_disabled, is_expired, is_service_denied};
 use krb_fields::{KdcOption, Moment};
-use krb_types::{AS_REQ, KdcReqRef, PVNO, ReqBodyRef};
+use krb_messages::{AS_REQ, KdcReqRef, PVNO, ReqBodyRef};
 use preauth::{Outcome, check_timestamp, is_locked};
 use principal_rows::Row;
 use refusals::decide;

@@ -4,7 +4,7 @@
 mod aes;
 mod checksums;
 mod derivations;
-mod given;
+mod fixtures;
 mod macs;
 mod parts;
 mod passwords;

@@ -3,7 +3,7 @@
 mod changes;
 mod database_texts;
 mod databases;
-mod given;
+mod fixtures;
 mod journals;
 mod replays;
 mod rows;

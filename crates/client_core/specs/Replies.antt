@@ -20,11 +20,11 @@ use Rattle.krb_fields.specs.declared.kdc_option.KdcOption.TheVariants.{Postdated
 use Rattle.krb_fields.specs.Name.{name_cmp}
 use Rattle.krb_fields.specs.PrincipalName.{Name}
 use Rattle.krb_fields.specs.Skew.{skew}
-use Rattle.krb_parts.specs.EncKdcRepPart.{EncKdcRepPart, enc_kdc_rep_part}
+use Rattle.krb_sealed.specs.EncKdcRepPart.{EncKdcRepPart, enc_kdc_rep_part}
 use Rattle.krb_replies.specs.KdcRep.{KdcRep, kdc_rep}
 use Rattle.krb_replies.specs.Under.{under}
-use Rattle.krb_types.specs.KrbError.{KrbError, krb_error}
-use Rattle.krb_types.specs.Ticket.{Ticket}
+use Rattle.krb_messages.specs.KrbError.{KrbError, krb_error}
+use Rattle.krb_messages.specs.Ticket.{Ticket}
 use Rattle.sealed_parts.specs.Encrypted.{decrypted}
 use Rattle.sealed_parts.specs.Parts.{ok_of}
 use Rattle.client_core.specs.declared.asked.Asked.{Asked}

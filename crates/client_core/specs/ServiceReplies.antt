@@ -9,7 +9,7 @@ use Rattle.enctypes.specs.declared.key_usage.KeyUsage.TheVariants.{ApRepEncPart}
 use Rattle.krb_ap.specs.ApRep.{ApRep, ap_rep}
 use Rattle.krb_elements.specs.Format.{whole}
 use Rattle.krb_fields.specs.declared.moment.Moment.{Moment}
-use Rattle.krb_parts.specs.EncApRepPart.{EncApRepPart, enc_ap_rep_part}
+use Rattle.krb_sealed.specs.EncApRepPart.{EncApRepPart, enc_ap_rep_part}
 use Rattle.sealed_parts.specs.Encrypted.{decrypted}
 use Rattle.sealed_parts.specs.Parts.{ok_of}
 use Rattle.client_core.specs.declared.fault.ClientFault.{ClientFault}

@@ -8,7 +8,7 @@ use Rattle.krb_fields.specs.ApOption.{ap_option_number}
 use Rattle.krb_fields.specs.declared.ap_option.ApOption.TheVariants.{MutualRequired}
 use Rattle.krb_fields.specs.Flags.{with_bit}
 use Rattle.krb_fields.specs.declared.moment.Moment.{Moment}
-use Rattle.krb_parts.specs.Authenticator.{Authenticator}
+use Rattle.krb_sealed.specs.Authenticator.{Authenticator}
 use Rattle.client_core.specs.declared.service_asked.ServiceAsked.{ServiceAsked}
 use Rattle.client_core.specs.Presenting.{authenticator_of, presents}
 use Rattle.client_core.specs.declared.sessions.Session.{Session}

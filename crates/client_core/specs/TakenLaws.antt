@@ -12,7 +12,7 @@ use Rattle.krb_der.specs.declared.fault.DerFault.{DerFault}
 use Rattle.krb_elements.specs.Format.{whole}
 use Rattle.krb_fields.specs.Name.{name_cmp, same_name}
 use Rattle.krb_fields.specs.PrincipalName.{Name}
-use Rattle.krb_parts.specs.EncKdcRepPart.{EncKdcRepPart}
+use Rattle.krb_sealed.specs.EncKdcRepPart.{EncKdcRepPart}
 use Rattle.krb_replies.specs.KdcRep.{KdcRep, kdc_rep}
 use Rattle.refusals.specs.ClearLaws.{decided_clear}
 use Rattle.refusals.specs.RefusalLaws.{decided_found}

@@ -4,6 +4,7 @@ ghost use Rattle.client_core.specs.Faults.{IsGiven, fault_of, unless_rejected};
 ghost use Rattle.client_core.specs.declared.fault.ClientFault.TheVariants.{Memory};
 
 use krb_elements::Octets;
+use refusals::Attempt;
 use std::alloc::{AllocError, AllocFailed};
 use std::error::Error;
 use std::fmt;
@@ -81,7 +82,7 @@ pub fn unless_rejected<T: Drop>(found: Result<T, Rejection>) -> Result<T, Client
 }
 
 /// Returns what is given, unless memory ran out.
-pub fn given<T: Drop>(found: Result<Result<T, ClientFault>, AllocError>) -> Result<T, ClientFault>
+pub fn given<T: Drop>(found: Attempt<T, ClientFault>) -> Result<T, ClientFault>
     ensures { IsGiven found result }
 {
     match found {

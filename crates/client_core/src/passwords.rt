@@ -8,7 +8,8 @@ use crate::fault::{ClientFault, given};
 use enctypes::{Etype, Key, string_to_key};
 use krb_elements::{KerberosString, Octets, Seq};
 use krb_fields::Name;
-use krb_parts::EtypeInfo2Entry;
+use krb_sealed::EtypeInfo2Entry;
+use refusals::Attempt;
 use sealed_parts::type_numbered;
 use std::alloc::{AllocError, Global};
 
@@ -38,7 +39,7 @@ fn key_in(
     realm: &[u8],
     name: &Name,
     info: &EtypeInfo2,
-) -> Result<Result<Key, ClientFault>, AllocError>
+) -> Attempt<Key, ClientFault>
     ensures { IfOk result (λ found. found ≡ password_key pass.now realm.now name.now info.now) }
 {
     match entry_of(info.as_slice()) {
@@ -65,7 +66,7 @@ fn key_as(
     realm: &[u8],
     name: &Name,
     entry: &EtypeInfo2Entry,
-) -> Result<Result<Key, ClientFault>, AllocError>
+) -> Attempt<Key, ClientFault>
     ensures { IfOk result (λ found.
         found ≡ key_as pass.now realm.now name.now entry.now (keys.type_numbered entry.now.etype)) }
 {

@@ -4,8 +4,8 @@ ghost use Rattle.enctypes.specs.KeyUsage.{usage_number};
 ghost use Rattle.krb_ap.specs.ApReq.{ap_req};
 ghost use Rattle.krb_elements.specs.Codec.{written};
 ghost use Rattle.krb_fields.specs.NameLimits.{IsComponent, IsWithinLimits};
-ghost use Rattle.krb_parts.specs.Authenticator as parts;
-ghost use Rattle.krb_types.specs.Ticket.{ticket};
+ghost use Rattle.krb_sealed.specs.Authenticator as parts;
+ghost use Rattle.krb_messages.specs.Ticket.{ticket};
 ghost use Rattle.sealed_parts.specs.Encrypted.{decrypted};
 ghost use Rattle.client_core.specs.Presenting.{IsShortChecksum, authenticator_of, number_part, presents, subkey_part};
 
@@ -15,8 +15,8 @@ use enctypes::{Key, KeyUsage};
 use krb_ap::{AP_REQ, ApReq, encode_ap_req};
 use krb_elements::UInt32;
 use krb_fields::{Flags, Moment, Typed};
-use krb_parts::Authenticator;
-use krb_types::PVNO;
+use krb_messages::PVNO;
+use krb_sealed::Authenticator;
 use sealed_parts::{encrypted, key_part};
 use std::alloc::{AllocError, Global};
 

@@ -1,7 +1,7 @@
 //! Reads a KDC's reply (RFC 4120, sections 3.1.5 and 3.3.4).
 ghost use Rattle.std.specs.Prelude.{◌≡◌, ◌<◌, ◌^◌, ◌||◌, not, length, IfOk, IfSome, option_copied};
 ghost use Rattle.enctypes.specs.KeyUsage.{usage_number};
-ghost use Rattle.krb_types.specs.Ticket.{ticket};
+ghost use Rattle.krb_messages.specs.Ticket.{ticket};
 ghost use Rattle.refusals.specs.Optional.{holds_of};
 ghost use Rattle.client_core.specs.Faults.{Gives};
 ghost use Rattle.client_core.specs.Replies.{as_part, ends_too_late, if_part, if_reply, is_other_service, is_principal};
@@ -23,10 +23,12 @@ use enctypes::{Key, KeyUsage};
 use krb_der::KTime;
 use krb_elements::{Octets, OctetsRef, read};
 use krb_fields::{EncryptedDataRef, KdcOption, Moment, SKEW};
-use krb_parts::EncKdcRepPart;
-use krb_replies::{KdcRepRef, Under, read_kdc_rep};
-use krb_types::{KrbErrorRef, PVNO, TicketRef};
-use refusals::decide;
+use krb_messages::{KrbErrorRef, PVNO, TicketRef};
+use krb_replies::{
+    AS_REP, ENC_AS_REP_PART, ENC_TGS_REP_PART, KdcRepRef, TGS_REP, Under, read_kdc_rep,
+};
+use krb_sealed::EncKdcRepPart;
+use refusals::{Attempt, decide};
 use sealed_parts::open_part;
 use std::alloc::{AllocError, Global};
 use std::cmp::Ordering;
@@ -44,7 +46,7 @@ pub fn read_as_reply(
     // So the bytes are the reply to this request.
     ensures taken { IfOk result (λ credential. IsTaken 11 roles.Client asked.now key.now at.sec bytes.now credential) }
 {
-    given(read_reply::<11>(alloc, KeyRole::Client, asked, key, at, bytes))
+    given(read_reply::<AS_REP>(alloc, KeyRole::Client, asked, key, at, bytes))
 }
 
 /// Returns the credential in a TGS-REP, or the first fault. The part is under the subkey of the request, or else under
@@ -63,7 +65,7 @@ pub fn read_tgs_reply(
     ensures taken { IfOk result (λ credential.
         IsTaken 13 (tgs_role subkey) asked.now key.now at.sec bytes.now credential) }
 {
-    given(read_reply::<13>(alloc, tgs_role(subkey), asked, key, at, bytes))
+    given(read_reply::<TGS_REP>(alloc, tgs_role(subkey), asked, key, at, bytes))
 }
 
 /// Returns the credential in an AS-REP, like [`read_as_reply`], for a caller that has already read the bytes.
@@ -112,7 +114,7 @@ fn read_reply<const TYPE: u8>(
     key: &Key,
     at: Moment,
     bytes: &[u8],
-) -> Result<Result<Credential, ClientFault>, AllocError>
+) -> Attempt<Credential, ClientFault>
     ensures { IfOk result (λ found. found ≡ reads TYPE role asked.now key.now at.sec bytes.now) }
 {
     let reply = reply_in::<TYPE>(alloc, bytes)?;
@@ -126,7 +128,7 @@ fn if_reply<const TYPE: u8>(
     key: &Key,
     at: Moment,
     reply: Result<KdcRepRef<'_, TYPE>, ClientFault>,
-) -> Result<Result<Credential, ClientFault>, AllocError>
+) -> Attempt<Credential, ClientFault>
     requires { IfOk reply (λ reply. length (ticket.text reply.ticket) < 2 ^ 32) }
     ensures { IfOk result (λ found. found ≡ if_reply TYPE role asked.now key.now at.sec reply.entry) }
 {
@@ -143,7 +145,7 @@ fn judged<const TYPE: u8>(
     key: &Key,
     at: Moment,
     reply: &KdcRepRef<'_, TYPE>,
-) -> Result<Result<Credential, ClientFault>, AllocError>
+) -> Attempt<Credential, ClientFault>
     requires { length (ticket.text reply.now.ticket) < 2 ^ 32 }
     ensures { IfOk result (λ found. found ≡ judged TYPE role asked.now key.now at.sec reply.now) }
 {
@@ -157,7 +159,7 @@ fn judged<const TYPE: u8>(
 fn reply_in<'a, const TYPE: u8>(
     alloc: Global,
     bytes: &'a [u8],
-) -> Result<Result<KdcRepRef<'a, TYPE>, ClientFault>, AllocError>
+) -> Attempt<KdcRepRef<'a, TYPE>, ClientFault>
     ensures value { IfOk result (λ found. found ≡ reply_in TYPE bytes.now) }
     ensures short { IfOk result (λ found. IfOk found (λ reply. length (ticket.text reply.ticket) < 2 ^ 32)) }
 {
@@ -218,8 +220,18 @@ fn opened_as(
 {
     match role {
         KeyRole::Client => as_part(alloc, key, sealed),
-        KeyRole::Subkey => opened_in::<26>(alloc, key, KeyUsage::TgsRepEncPartSubkey, sealed),
-        KeyRole::Session => opened_in::<26>(alloc, key, KeyUsage::TgsRepEncPartSessionKey, sealed),
+        KeyRole::Subkey => opened_in::<ENC_TGS_REP_PART>(
+            alloc,
+            key,
+            KeyUsage::TgsRepEncPartSubkey,
+            sealed,
+        ),
+        KeyRole::Session => opened_in::<ENC_TGS_REP_PART>(
+            alloc,
+            key,
+            KeyUsage::TgsRepEncPartSessionKey,
+            sealed,
+        ),
     }
 }
 
@@ -231,9 +243,9 @@ fn as_part(
 ) -> Result<Option<EncKdcRepPart>, AllocError>
     ensures { IfOk result (λ found. found ≡ as_part key.now sealed.now) }
 {
-    match opened_in::<25>(alloc, key, KeyUsage::AsRepEncPart, sealed)? {
+    match opened_in::<ENC_AS_REP_PART>(alloc, key, KeyUsage::AsRepEncPart, sealed)? {
         Some(part) => Ok(Some(part)),
-        None => opened_in::<26>(alloc, key, KeyUsage::AsRepEncPart, sealed),
+        None => opened_in::<ENC_TGS_REP_PART>(alloc, key, KeyUsage::AsRepEncPart, sealed),
     }
 }
 
@@ -264,7 +276,7 @@ fn if_part<const TYPE: u8>(
     at: Moment,
     reply: &KdcRepRef<'_, TYPE>,
     part: Result<EncKdcRepPart, Rejection>,
-) -> Result<Result<Credential, Rejection>, AllocError>
+) -> Attempt<Credential, Rejection>
     requires { length (ticket.text reply.now.ticket) < 2 ^ 32 }
     ensures { IfOk result (λ found. found ≡ if_part TYPE asked.now at.sec reply.now part) }
 {
@@ -320,7 +332,7 @@ fn taken<const TYPE: u8>(
     at: Moment,
     reply: &KdcRepRef<'_, TYPE>,
     part: &EncKdcRepPart,
-) -> Result<Result<Credential, Rejection>, AllocError>
+) -> Attempt<Credential, Rejection>
     requires { length (ticket.text reply.now.ticket) < 2 ^ 32 }
     ensures { IfOk result (λ found. found ≡ taken TYPE asked.now at.sec reply.now part.now) }
 {

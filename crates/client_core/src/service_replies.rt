@@ -1,6 +1,6 @@
 //! Reads a service's reply: AP-REP (RFC 4120, sections 3.2.5 and 5.5.2).
 ghost use Rattle.std.specs.Prelude.{◌≡◌, IfOk};
-ghost use Rattle.krb_parts.specs.EncApRepPart.{enc_ap_rep_part};
+ghost use Rattle.krb_sealed.specs.EncApRepPart.{enc_ap_rep_part};
 ghost use Rattle.sealed_parts.specs.Encrypted.{decrypted};
 ghost use Rattle.client_core.specs.Faults.{Gives};
 ghost use Rattle.client_core.specs.ServiceReplies.{ap_part, ap_part_rules, ap_reply_in, ap_rules, if_ap_part};
@@ -12,10 +12,10 @@ use enctypes::{Key, KeyUsage};
 use krb_ap::ApRepRef;
 use krb_elements::read;
 use krb_fields::Moment;
-use krb_parts::EncApRepPart;
-use refusals::decide;
+use krb_sealed::EncApRepPart;
+use refusals::{Attempt, decide};
 use sealed_parts::open_part;
-use std::alloc::{AllocError, Global};
+use std::alloc::Global;
 
 /// Returns the contents of an AP-REP under the session key, or the first fault. `sent` is the moment of the AP-REQ.
 pub fn read_ap_reply(
@@ -34,7 +34,7 @@ fn ap_reply(
     key: &Key,
     sent: Moment,
     bytes: &[u8],
-) -> Result<Result<EncApRepPart, ClientFault>, AllocError>
+) -> Attempt<EncApRepPart, ClientFault>
     ensures { IfOk result (λ found. found ≡ reads_ap key.now sent bytes.now) }
 {
     let reply = ap_reply_in(alloc, bytes)?;
@@ -46,7 +46,7 @@ fn if_ap_reply(
     key: &Key,
     sent: Moment,
     reply: Result<ApRepRef<'_>, ClientFault>,
-) -> Result<Result<EncApRepPart, ClientFault>, AllocError>
+) -> Attempt<EncApRepPart, ClientFault>
     ensures { IfOk result (λ found. found ≡ if_ap_reply key.now sent reply.entry) }
 {
     match reply {
@@ -59,10 +59,7 @@ fn if_ap_reply(
 }
 
 /// Returns the AP-REP, or what the bytes are instead.
-fn ap_reply_in<'a>(
-    alloc: Global,
-    bytes: &'a [u8],
-) -> Result<Result<ApRepRef<'a>, ClientFault>, AllocError>
+fn ap_reply_in<'a>(alloc: Global, bytes: &'a [u8]) -> Attempt<ApRepRef<'a>, ClientFault>
     ensures { IfOk result (λ found. found ≡ ap_reply_in bytes.now) }
 {
     match read::<ApRepRef<'a>>(bytes) {
@@ -72,11 +69,7 @@ fn ap_reply_in<'a>(
 }
 
 /// Decrypts the part with the session key.
-fn ap_part(
-    alloc: Global,
-    key: &Key,
-    reply: &ApRepRef<'_>,
-) -> Result<Result<EncApRepPart, Rejection>, AllocError>
+fn ap_part(alloc: Global, key: &Key, reply: &ApRepRef<'_>) -> Attempt<EncApRepPart, Rejection>
     ensures { IfOk result (λ found. found ≡ ap_part key.now reply.now) }
 {
     let rules = ap_rules(key, reply);

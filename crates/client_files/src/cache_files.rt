@@ -7,7 +7,7 @@ ghost use Rattle.client_files.specs.Caches.{new_cache};
 use crate::client_store::{ClientStore, Standing};
 use crate::faults::{Cause, Fault, at, at_file};
 use cred_files::{Cache, Credential, FileFault, Keytab};
-use file_store::{Amiss, read_file, write_file};
+use file_store::{FileCause, read_file, write_file};
 use std::alloc::Global;
 use std::io;
 use std::io::{Error, ErrorKind};
@@ -50,9 +50,9 @@ fn keytab_in(alloc: Global, octets: &[u8]) -> Result<Keytab, Cause> {
 /// Checks whether the path has a file, or nothing.
 fn check_plain(found: io::Result<Standing>) -> Result<(), Cause> {
     match found {
-        Ok(Standing::NoFile) => Err(Cause::File(Amiss::Failed(no_file()))),
+        Ok(Standing::NoFile) => Err(Cause::File(FileCause::Failed(no_file()))),
         Ok(_) => Ok(()),
-        Err(error) => Err(Cause::File(Amiss::Failed(error))),
+        Err(error) => Err(Cause::File(FileCause::Failed(error))),
     }
 }
 
@@ -135,6 +135,6 @@ fn remove_ours<T: ClientStore>(store: &mut T, path: &str) -> Result<(), Cause> {
     check_ours(found)?;
     match store.remove(path) {
         Ok(()) => Ok(()),
-        Err(error) => Err(Cause::File(Amiss::Failed(error))),
+        Err(error) => Err(Cause::File(FileCause::Failed(error))),
     }
 }

@@ -3,7 +3,7 @@ use crate::client_store::ClientStore;
 use crate::environment::Defaults;
 use crate::faults::{Cause, Fault, at_file, begin_item};
 use client_login::HostNames;
-use file_store::{Amiss, read_file};
+use file_store::{FileCause, read_file};
 use krb_elements::KerberosString;
 use krb_fields::{component_to_text, is_component};
 use krb5_conf::{default_realm, kdc_address, kdcs};
@@ -140,7 +140,7 @@ fn push_folder<T: ClientStore>(
 ) -> Result<(), Fault> {
     match store.names_in(alloc, folder) {
         Ok(names) => push_files(alloc, store, whole, folder, &names),
-        Err(error) => Err(Fault::new(alloc, folder, Cause::File(Amiss::Failed(error)))),
+        Err(error) => Err(Fault::new(alloc, folder, Cause::File(FileCause::Failed(error)))),
     }
 }
 

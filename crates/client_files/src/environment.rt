@@ -2,7 +2,7 @@
 use crate::client_store::ClientStore;
 use crate::faults::{Cause, Fault};
 use crate::file_names::{NameOf, path_in};
-use file_store::Amiss;
+use file_store::FileCause;
 use std::alloc::{AllocError, Global};
 use std::env::VarError;
 use std::io;
@@ -80,7 +80,7 @@ fn own_path(alloc: Global, user: io::Result<u32>) -> Result<String, Fault> {
     match user {
         Ok(user) => Ok(format!(in alloc; "/tmp/krb5cc_{user}")?),
         Err(error) => {
-            let cause = Cause::File(Amiss::Failed(error));
+            let cause = Cause::File(FileCause::Failed(error));
             Err(Fault::new(alloc, "the number of the user", cause))
         }
     }

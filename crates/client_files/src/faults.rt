@@ -1,7 +1,7 @@
 //! Why a client can't go on, and what that concerns.
 use client_login::{Kdcs, LoginFault, Why};
 use cred_files::FileFault;
-use file_store::Amiss;
+use file_store::FileCause;
 use krb_fields::NameFault;
 use std::alloc::{AllocError, AllocFailed, Global};
 use std::net::SocketAddr;
@@ -22,7 +22,7 @@ pub enum Cause {
     Usage(&'static str),
     BadName,
     /// What is wrong with a file, or with what takes its place.
-    File(Amiss),
+    File(FileCause),
     /// What is wrong with the contents of a cache.
     Cache(FileFault),
     /// What is wrong with the contents of a keytab.
@@ -106,7 +106,7 @@ pub fn at_file<T: Drop>(
 ) -> Result<T, Fault> {
     match done {
         Ok(value) => Ok(value),
-        Err(fault) => Err(Fault::new(alloc, fault.path, Cause::File(fault.amiss))),
+        Err(fault) => Err(Fault::new(alloc, fault.path, Cause::File(fault.cause))),
     }
 }
 

@@ -2,7 +2,7 @@
 use crate::faults::Cause;
 use client_login::Why;
 use cred_files::FileFault;
-use file_store::Amiss;
+use file_store::FileCause;
 use krb_fields::Second;
 use std::fmt;
 use text_fields::UtcDate;
@@ -11,7 +11,7 @@ impl Cause {
     /// Returns the word for it. `None` if something failed and nothing is refused, or if a KDC refuses with a code.
     pub fn name(self) -> Option<&'static str> {
         match self {
-            Cause::File(amiss) => amiss.refusal(),
+            Cause::File(cause) => cause.refusal(),
             Cause::Login(why) => login_name(why),
             cause => match cause.words() {
                 ("", _) => None,
@@ -25,7 +25,7 @@ impl Cause {
         match self {
             Cause::Usage(text) => ("", text),
             Cause::BadName => ("BadName", "it is not a valid name"),
-            Cause::File(amiss) => ("", amiss_text(amiss)),
+            Cause::File(cause) => ("", file_cause_text(cause)),
             Cause::Cache(fault) => cache_words(fault),
             Cause::Keytab(fault) => keytab_words(fault),
             Cause::NoCache => ("Absent", "there is no cache"),
@@ -69,12 +69,12 @@ impl Cause {
     }
 }
 
-fn amiss_text(amiss: Amiss) -> &'static str {
-    match amiss {
-        Amiss::LongFile => "the file has more than 16777216 bytes",
-        Amiss::ShortSeed => "a seed needs 32 bytes, and the file has fewer",
-        Amiss::LongPassword => "the password has more than 1024 bytes",
-        Amiss::Failed(_) => "a call of the system failed",
+fn file_cause_text(cause: FileCause) -> &'static str {
+    match cause {
+        FileCause::LongFile => "the file has more than 16777216 bytes",
+        FileCause::ShortSeed => "a seed needs 32 bytes, and the file has fewer",
+        FileCause::LongPassword => "the password has more than 1024 bytes",
+        FileCause::Failed(_) => "a call of the system failed",
     }
 }
 
@@ -126,7 +126,7 @@ fn login_name(why: Why) -> Option<&'static str> {
 impl fmt::Display for Cause {
     fn fmt<W: fmt::Write>(&self, f: &mut fmt::Formatter<W>) -> fmt::Result {
         match self {
-            Cause::File(Amiss::Failed(error)) => write!(f, "{error}"),
+            Cause::File(FileCause::Failed(error)) => write!(f, "{error}"),
             Cause::Ended(end) => write_end(f, *end),
             Cause::Login(why) => write!(f, "{why}"),
             Cause::Silent(error, failures) => {

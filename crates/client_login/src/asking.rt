@@ -5,7 +5,7 @@ ghost use Rattle.client_login.specs.Replies.{IsAnswer, IsReply, counted, said_of
 ghost use Rattle.client_login.specs.Faults.{IsUnheard};
 ghost use Rattle.client_login.specs.declared.faults.Why.TheVariants.{Memory};
 
-use crate::exchange::{Exchange, Transport};
+use crate::exchange::{Network, Transport};
 use crate::faults::{LoginFault, Why};
 use client_core::{ClientFault, Refusal, refusal_in};
 use krb_fields::Code;
@@ -81,7 +81,7 @@ impl Reply {
 /// all requests of a login go to one, and then the others in order. It skips a KDC that doesn't reply, or says that it
 /// is not available or that the clocks differ. If no KDC does better, the first such error counts.
 #[tactic(auto, using(crate::proofs::Takings::counted_unheard))]
-pub(crate) fn ask<X: Exchange>(
+pub(crate) fn ask<X: Network>(
     alloc: Global,
     kdcs: &mut Kdcs<X>,
     request: &[u8],
@@ -136,7 +136,7 @@ fn passed_over(before: LoginFault, fault: LoginFault) -> Result<LoginFault, Logi
 /// Returns the reply of one KDC. The request goes by UDP, and by TCP if no reply comes or the reply is too big for a
 /// datagram.
 #[tactic(auto, using(crate::proofs::Takings::answered))]
-fn ask_kdc<X: Exchange>(
+fn ask_kdc<X: Network>(
     alloc: Global,
     kdcs: &mut Kdcs<X>,
     kdc: SocketAddr,
@@ -172,7 +172,7 @@ fn ask_kdc<X: Exchange>(
 /// Returns a reply, unless another KDC may do better: if this one says that it is not available or that the clocks
 /// differ.
 #[tactic(auto, using(crate::proofs::Takings::refused_reply))]
-fn useful<X: Exchange>(kdcs: &mut Kdcs<X>, reply: Reply) -> Result<Reply, LoginFault>
+fn useful<X: Network>(kdcs: &mut Kdcs<X>, reply: Reply) -> Result<Reply, LoginFault>
     requires { IsReply X.answers reply }
     ensures ok { IfOk result (λ reply. IsReply X.answers reply) }
     ensures err { IfErr result (λ fault. IsUnheard X.answers fault.why fault.kdc) }
@@ -192,7 +192,7 @@ fn is_passed_over(code: i32) -> bool {
 }
 
 /// Reads the bytes that a KDC answered with.
-fn read_reply<X: Exchange>(
+fn read_reply<X: Network>(
     alloc: Global,
     kdc: SocketAddr,
     octets: Vec<u8>,

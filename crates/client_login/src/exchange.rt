@@ -14,7 +14,7 @@ pub enum Transport {
 }
 
 /// Sends messages to KDCs, and waits for their replies.
-pub trait Exchange {
+pub trait Network {
     // The messages that it takes. An exchange over a real network says `λ message. ⊤`: any.
     ghost carries: { List ℕ → Type 0 };
 
@@ -44,6 +44,6 @@ pub trait HostNames {
 }
 
 /// An exchange that takes any message.
-pub trait AnyMessage: Exchange {
+pub trait AnyMessage: Network {
     ghost takes_any: { (message : List ℕ) → Self.carries message };
 }

@@ -4,7 +4,7 @@ ghost use Rattle.client_core.specs.Asked.{IsAskable};
 ghost use Rattle.client_core.specs.Replies as replies;
 ghost use Rattle.client_core.specs.declared.fault.ClientFault.TheVariants as found;
 ghost use Rattle.client_core.specs.declared.key_role.KeyRole.TheVariants as roles;
-ghost use Rattle.krb_types.specs.Ticket as tickets;
+ghost use Rattle.krb_messages.specs.Ticket as tickets;
 ghost use Rattle.client_login.specs.Draws.{after_confounder, after_nonce, drawn_confounder, drawn_nonce};
 ghost use Rattle.client_login.specs.Faults.{IsFirstFault, IsRejection, IsUnheard, SaysFirst, SaysRefused};
 ghost use Rattle.client_login.specs.Keys.{IsOwnKey};
@@ -15,7 +15,7 @@ ghost use Rattle.client_login.specs.Replies.{IsReply, said_of};
 use crate::asking::{Reply, ask};
 use crate::client::KdcClient;
 use crate::draws::{draw_confounder, draw_nonce};
-use crate::exchange::Exchange;
+use crate::exchange::Network;
 use crate::faults::{LoginFault, Why, said_by};
 use crate::infos::info_of_refusal;
 use crate::secrets::{Secret, etypes_for, key_of_next_reply, key_of_reply, key_wanted};
@@ -30,7 +30,7 @@ use krb_replies::KdcRepRef;
 use rand_core::Rng;
 use std::alloc::Global;
 
-impl<X: Exchange> KdcClient<X> {
+impl<X: Network> KdcClient<X> {
     /// Gets a first ticket. The client sends a request without a timestamp, and another with one if the KDC requires
     /// preauthentication. It derives its key as the KDC says, but with no fewer iterations of string-to-key than the
     /// password's least count. With a keytab it requests exactly the types of the client's keys in it.
@@ -67,7 +67,7 @@ impl<X: Exchange> KdcClient<X> {
 
 /// Sends the request without a timestamp.
 #[tactic(auto, using(crate::proofs::Takings::first_blamed, crate::proofs::Takings::first_taken, crate::proofs::Takings::first_unheard))]
-fn ask_plainly<X: Exchange, R: Rng>(
+fn ask_plainly<X: Network, R: Rng>(
     alloc: Global,
     client: &mut KdcClient<X>,
     rng: &mut R,
@@ -116,7 +116,7 @@ fn key_for_timestamp(
 /// Sends the request with a timestamp under the client's key. A KDC that has seen another request of the client with the
 /// same moment gets another one, with another timestamp.
 #[tactic(auto, using(crate::proofs::Takings::first_blamed, crate::proofs::Takings::first_taken, crate::proofs::Takings::first_unheard))]
-fn ask_with_timestamp<X: Exchange, R: Rng>(
+fn ask_with_timestamp<X: Network, R: Rng>(
     alloc: Global,
     client: &mut KdcClient<X>,
     rng: &mut R,
@@ -147,7 +147,7 @@ fn ask_with_timestamp<X: Exchange, R: Rng>(
     )
 }
 
-fn send_timestamp<X: Exchange, R: Rng>(
+fn send_timestamp<X: Network, R: Rng>(
     alloc: Global,
     client: &mut KdcClient<X>,
     rng: &mut R,

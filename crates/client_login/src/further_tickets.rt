@@ -6,7 +6,7 @@ ghost use Rattle.client_core.specs.Sessions as sessions;
 ghost use Rattle.client_core.specs.Taken.{IsTaken};
 ghost use Rattle.client_core.specs.declared.key_role.KeyRole.TheVariants as roles;
 ghost use Rattle.client_core.specs.declared.sessions.Session as session;
-ghost use Rattle.krb_types.specs.Ticket as tickets;
+ghost use Rattle.krb_messages.specs.Ticket as tickets;
 ghost use Rattle.client_login.specs.Asking.{again_options, further_asked};
 ghost use Rattle.client_login.specs.Draws.{after_confounder, after_nonce, drawn_confounder, drawn_nonce};
 ghost use Rattle.client_login.specs.Faults.{IsFurtherFault, IsTgsRejection, IsUnheard, SaysTgs};
@@ -17,7 +17,7 @@ ghost use Rattle.client_login.specs.Replies.{IsReply, said_of};
 use crate::asking::{Reply, ask};
 use crate::client::KdcClient;
 use crate::draws::{draw_confounder, draw_nonce};
-use crate::exchange::Exchange;
+use crate::exchange::Network;
 use crate::faults::{LoginFault, Why, said_by};
 use crate::wishes::{Again, again_options, further_asked};
 use client_core::{
@@ -30,7 +30,7 @@ use krb_replies::KdcRepRef;
 use rand_core::Rng;
 use std::alloc::Global;
 
-impl<X: Exchange> KdcClient<X> {
+impl<X: Network> KdcClient<X> {
     /// Gets a ticket for a service of the client's realm, with a ticket-granting ticket. It ends as late as that one.
     pub fn service_ticket<R: Rng>(
         &mut self,
@@ -92,7 +92,7 @@ impl<X: Exchange> KdcClient<X> {
 /// Sends the request with the ticket. A KDC that has seen another authenticator of the client with the same moment gets
 /// another request, with another authenticator.
 #[tactic(auto, using(crate::proofs::Takings::further_blamed, crate::proofs::Takings::further_taken, crate::proofs::Takings::further_unheard))]
-fn ask_with_ticket<X: Exchange, R: Rng>(
+fn ask_with_ticket<X: Network, R: Rng>(
     alloc: Global,
     client: &mut KdcClient<X>,
     rng: &mut R,
@@ -123,7 +123,7 @@ fn ask_with_ticket<X: Exchange, R: Rng>(
     said_by(reply.kdc, take_presented(alloc, asked, &key, at, &reply))
 }
 
-fn send_ticket<X: Exchange, R: Rng>(
+fn send_ticket<X: Network, R: Rng>(
     alloc: Global,
     client: &mut KdcClient<X>,
     rng: &mut R,

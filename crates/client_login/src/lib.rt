@@ -30,7 +30,7 @@ mod wishes;
 pub use asking::{Kdcs, Transports};
 pub use client::KdcClient;
 pub use draws::{draw_confounder, draw_nonce};
-pub use exchange::{AnyMessage, Exchange, HostNames, Transport};
+pub use exchange::{AnyMessage, HostNames, Network, Transport};
 pub use faults::{LoginFault, Why};
 pub use secrets::{Password, Secret};
 pub use wishes::{Again, Login, Wishes, granting_service};

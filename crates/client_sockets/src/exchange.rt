@@ -3,7 +3,7 @@ ghost use Rattle.std.specs.Prelude.{◌≤◌, ⊤, IfOk, vec_len};
 
 use crate::deadline::{Deadline, no_reply};
 use crate::stream::TimedStream;
-use client_login::{AnyMessage, Exchange, Transport};
+use client_login::{AnyMessage, Network, Transport};
 use framing::frame;
 use std::alloc::Global;
 use std::io;
@@ -32,21 +32,21 @@ const LONGEST_DATAGRAM: usize = 65_535;
 /// An exchange over the sockets of a runtime. Each message has a socket of its own, which receives only from its peer. So
 /// a reply from elsewhere, or a late reply to an earlier message, is ignored.
 #[derive(Drop)]
-pub struct SocketExchange<'a, R> {
+pub struct SocketNetwork<'a, R> {
     system: &'a R,
     /// When a login ends that got no reply; `None` before its first message.
     end: Option<Deadline>,
 }
 
-impl<'a, R> SocketExchange<'a, R> {
+impl<'a, R> SocketNetwork<'a, R> {
     pub(crate) fn system(&self) -> &'a R {
         self.system
     }
 }
 
-impl<'a, R: Net + Clock> SocketExchange<'a, R> {
-    pub fn new(system: &'a R) -> SocketExchange<'a, R> {
-        SocketExchange { system, end: None }
+impl<'a, R: Net + Clock> SocketNetwork<'a, R> {
+    pub fn new(system: &'a R) -> SocketNetwork<'a, R> {
+        SocketNetwork { system, end: None }
     }
 
     /// Returns when a login ends that got no reply: `WHOLE_WAIT` after its first message.
@@ -60,7 +60,7 @@ impl<'a, R: Net + Clock> SocketExchange<'a, R> {
     }
 }
 
-impl<'a, R: Net + Clock> Exchange for SocketExchange<'a, R> {
+impl<'a, R: Net + Clock> Network for SocketNetwork<'a, R> {
     ghost carries = { λ message. ⊤ };
 
     ghost answers = { λ to message reply. ⊤ };
@@ -86,7 +86,7 @@ impl<'a, R: Net + Clock> Exchange for SocketExchange<'a, R> {
     }
 }
 
-impl<'a, R: Net + Clock> AnyMessage for SocketExchange<'a, R> {
+impl<'a, R: Net + Clock> AnyMessage for SocketNetwork<'a, R> {
     ghost takes_any = { λ message. tt };
 }
 

@@ -8,5 +8,5 @@ mod moment;
 mod names;
 mod stream;
 
-pub use exchange::{LONGEST_REPLY, SocketExchange};
+pub use exchange::{LONGEST_REPLY, SocketNetwork};
 pub use moment::now;

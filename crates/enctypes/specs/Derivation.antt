@@ -68,12 +68,12 @@ ki etype key usage = derived_key etype key usage Integrity
 -- the key that PBKDF2 derives from a password: tkey of RFC 3962, section 4, and RFC 8009, section 4. In the latter the
 -- salt is preceded by the name of the encryption type and a zero byte
 unfoldable pub stretched : Etype → List ℕ → List ℕ → ℕ → List ℕ
-stretched Aes128CtsHmacSha1_96 pass salt count = pbkdf2_sha1 pass salt count 16
-stretched Aes256CtsHmacSha1_96 pass salt count = pbkdf2_sha1 pass salt count 32
+stretched Aes128CtsHmacSha1_96 pass salt count = pbkdf2_sha1 pass salt count (key_len Aes128CtsHmacSha1_96)
+stretched Aes256CtsHmacSha1_96 pass salt count = pbkdf2_sha1 pass salt count (key_len Aes256CtsHmacSha1_96)
 stretched Aes128CtsHmacSha256_128 pass salt count =
-    pbkdf2_sha256 pass (codes "aes128-cts-hmac-sha256-128" ++ 0 ∷ salt) count 16
+    pbkdf2_sha256 pass (codes "aes128-cts-hmac-sha256-128" ++ 0 ∷ salt) count (key_len Aes128CtsHmacSha256_128)
 stretched Aes256CtsHmacSha384_192 pass salt count =
-    pbkdf2_sha384 pass (codes "aes256-cts-hmac-sha384-192" ++ 0 ∷ salt) count 32
+    pbkdf2_sha384 pass (codes "aes256-cts-hmac-sha384-192" ++ 0 ∷ salt) count (key_len Aes256CtsHmacSha384_192)
 
 -- string-to-key
 unfoldable pub string_key : Etype → List ℕ → List ℕ → ℕ → List ℕ

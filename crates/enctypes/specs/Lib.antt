@@ -5,4 +5,3 @@ pub mod ShortOctets
 pub mod Derivation
 pub mod Sealing
 pub mod ReadyKey
-pub mod Suite

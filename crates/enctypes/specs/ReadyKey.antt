@@ -1,5 +1,7 @@
 -- Keys prepared for sealing and opening with one usage.
-use Rattle.std.specs.Prelude.{◌≡◌, ℕ, List}
+use Rattle.std.specs.Prelude.{◌≡◌, ℕ, List, Option, IfSome}
+use Rattle.aes_cts.specs.Cipher.{IsInverseSchedule}
+use Rattle.aes_cts.specs.KeyExpansion.{key_expansion, nr_of}
 use Rattle.prf_kdf.specs.MacKeys.{IsSha1Key, IsSha256Key, IsSha384Key}
 use Rattle.enctypes.specs.declared.etype.Etype.{Etype}
 use Rattle.enctypes.specs.declared.etype.Etype.TheVariants.{Aes128CtsHmacSha1_96, Aes256CtsHmacSha1_96}
@@ -24,7 +26,9 @@ pub record ReadyKey : Type 0 where
   pub key : ProtocolKey
   pub usage : KeyUsage
 
--- the AES key is Ke, and the HMAC key is Ki
-pub record IsReady (key : ProtocolKey) (usage : KeyUsage) (cipher : List ℕ) (hashers : MacKey) : Type 0 where
+-- the AES key is Ke, a decryption schedule is that of Ke, and the HMAC key is Ki
+pub record IsReady (key : ProtocolKey) (usage : KeyUsage) (cipher : List ℕ) (schedule : Option (List ℕ))
+    (hashers : MacKey) : Type 0 where
   pub encryption : cipher ≡ ke key.etype key.bytes (usage_number usage)
+  pub decryption : IfSome schedule (λ words. IsInverseSchedule (key_expansion cipher) words (nr_of cipher))
   pub integrity : IsMacKey key.etype (ki key.etype key.bytes (usage_number usage)) hashers

@@ -1,24 +1,25 @@
 //! Keyed checksums (RFC 3961, section 5.4; RFC 8009, section 6).
 ghost use Rattle.std.specs.Prelude.{◌≡◌, ◌≤◌, ◌↔◌, IsTrue, length};
-ghost use Rattle.enctypes.specs.Etype.{key_len, mac_len};
+ghost use Rattle.enctypes.specs.Etype.{mac_len};
 ghost use Rattle.enctypes.specs.KeyUsage.{usage_number};
+ghost use Rattle.enctypes.specs.Derivation.{kc};
+ghost use Rattle.enctypes.specs.ReadyKey.{IsMacKey};
 ghost use Rattle.enctypes.specs.Sealing.{mac};
 
 use crate::derived_key::derived_key;
 use crate::mac_key::MacKey;
 use crate::octets::are_same;
 use crate::purpose::Purpose;
-use crate::suite::{Suite, with_suite};
 use crate::{Key, KeyUsage, Mac};
 
 /// Returns the checksum of a text, of the checksum type for the key's encryption type. It doesn't allocate.
+#[tactic(auto, unfolding(crate::specs::Sealing::mac))]
 pub fn checksum(key: &Key, usage: KeyUsage, text: &[u8]) -> Mac
     ensures value { result ≡ mac key.now.etype key.now.bytes (usage_number usage) text.now }
     ensures len { length result ≡ mac_len key.now.etype }
     ensures most { length result ≤ 24 }
 {
-    let (octets, number) = (key.bytes(), usage.number());
-    with_suite!(key.etype(), checksum_as(octets, number, text))
+    checksum_key(key, usage).mac(&[text])
 }
 
 /// Checks whether the bytes are the checksum of the text. It always compares all of them.
@@ -29,13 +30,11 @@ pub fn verify(key: &Key, usage: KeyUsage, text: &[u8], octets: &[u8]) -> bool
     are_same(octets, checksum(key, usage, text).bytes())
 }
 
-#[tactic(auto, unfolding(crate::specs::Sealing::mac))]
-fn checksum_as<S: Suite>(key: &[u8], usage: u32, text: &[u8]) -> Mac
-    requires { length key.now ≡ key_len S.ETYPE }
-    ensures value { result ≡ mac S.ETYPE key.now usage text.now }
-    ensures len { length result ≡ mac_len S.ETYPE }
-    ensures most { length result ≤ 24 }
+/// Derives Kc from a key for a usage, and hashes it.
+pub fn checksum_key(key: &Key, usage: KeyUsage) -> MacKey
+    ensures { IsMacKey key.now.etype (kc key.now.etype key.now.bytes (usage_number usage)) result }
 {
-    let checksum_key = derived_key::<S>(key, usage, Purpose::Checksum);
-    MacKey::new(S::ETYPE, checksum_key.bytes()).mac(&[text])
+    let etype = key.etype();
+    let checksum_key = derived_key(etype, key.bytes(), usage.number(), Purpose::Checksum);
+    MacKey::new(etype, checksum_key.bytes())
 }

@@ -10,14 +10,16 @@
 //! | [`open`] | the same | the text again, if the HMAC is right |
 //! | [`ReadyKey::seal`], [`ReadyKey::open`] | the same | the same, with a prepared key |
 //! | [`checksum`], [`verify`] | RFC 3961, section 5.4; RFC 8009, section 6 | the HMAC of a text |
+//! | [`ReadyChecksum::verify`] | the same | the same, with a prepared key |
 //!
 //! `open` returns a text exactly if some confounder seals it to this cipher, and no cipher has two texts with one key.
-//! It opens what `seal` returned for the same key and usage. The calls depend on the key's encryption type. What the
-//! encryption types differ in is the trait [`Suite`], with an impl for each.
+//! It opens what `seal` returned for the same key and usage. The calls depend on the key's encryption type: its
+//! numbers and sizes are the table in `etype`, and its functions one of the two profiles in `derivation`.
 #![tactic(auto)]
 
 mod aes_key;
 mod checksums;
+mod derivation;
 mod derived_key;
 mod etype;
 mod key;
@@ -26,21 +28,19 @@ mod mac_key;
 mod octets;
 mod passwords;
 mod purpose;
+mod ready_checksum;
 mod ready_key;
 mod sealing;
 mod sha2_profile;
 mod short_octets;
 mod simplified;
-mod suite;
 
 pub use checksums::{checksum, verify};
 pub use etype::Etype;
 pub use key::Key;
 pub use key_usage::KeyUsage;
 pub use passwords::string_to_key;
+pub use ready_checksum::ReadyChecksum;
 pub use ready_key::ReadyKey;
 pub use sealing::{open, seal};
-pub use sha2_profile::{Aes128Sha2, Aes256Sha2};
 pub use short_octets::Mac;
-pub use simplified::{Aes128Sha1, Aes256Sha1};
-pub use suite::Suite;

@@ -8,6 +8,15 @@ ghost use Rattle.enctypes.specs.Sealing.{cut_hmac};
 use crate::{Etype, Mac};
 use prf_kdf::{HmacKey, HmacSha1, HmacSha256, HmacSha384};
 
+/// The length that encryption types 17 and 18 keep of an HMAC, in bytes.
+pub const SHA1_MAC_LEN: usize = 12;
+
+/// The length that encryption type 19 keeps of an HMAC, in bytes.
+pub const SHA256_MAC_LEN: usize = 16;
+
+/// The length that encryption type 20 keeps of an HMAC, in bytes.
+pub const SHA384_MAC_LEN: usize = 24;
+
 /// A key for HMACs, hashed once for all of them.
 #[derive(Drop)]
 pub enum MacKey {
@@ -42,17 +51,17 @@ impl MacKey {
             MacKey::Sha1(key) => {
                 let mut mac = [0; 20];
                 key.write_mac(parts, &mut mac);
-                Mac::new(&mac[..12])
+                Mac::new(&mac[..SHA1_MAC_LEN])
             }
             MacKey::Sha256(key) => {
                 let mut mac = [0; 32];
                 key.write_mac(parts, &mut mac);
-                Mac::new(&mac[..16])
+                Mac::new(&mac[..SHA256_MAC_LEN])
             }
             MacKey::Sha384(key) => {
                 let mut mac = [0; 48];
                 key.write_mac(parts, &mut mac);
-                Mac::new(&mac[..24])
+                Mac::new(&mac[..SHA384_MAC_LEN])
             }
         }
     }

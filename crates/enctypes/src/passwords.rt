@@ -2,8 +2,8 @@
 ghost use Rattle.std.specs.Prelude.{◌≡◌, ◌≤◌, IfOk};
 ghost use Rattle.enctypes.specs.Derivation.{string_key};
 
+use crate::derivation::{derive, stretch};
 use crate::key::LONGEST;
-use crate::suite::{Suite, with_suite};
 use crate::{Etype, Key};
 use std::alloc::{AllocError, Global};
 
@@ -23,24 +23,11 @@ pub fn string_to_key(
     ensures { IfOk result (λ key. key
         ≡ record { etype = etype; bytes = string_key etype pass.now salt.now count }) }
 {
-    with_suite!(etype, string_to_key_as(alloc, pass, salt, count))
-}
-
-fn string_to_key_as<S: Suite>(
-    alloc: Global,
-    pass: &[u8],
-    salt: &[u8],
-    count: u32,
-) -> Result<Key, AllocError>
-    requires { 1 ≤ count }
-    ensures { IfOk result (λ key. key
-        ≡ record { etype = S.ETYPE; bytes = string_key S.ETYPE pass.now salt.now count }) }
-{
     let mut stretched = [0; LONGEST];
-    let stretched = &mut stretched[..S::KEY_LEN];
-    S::stretch(alloc, pass, salt, count, stretched)?;
+    let stretched = &mut stretched[..etype.key_len()];
+    stretch(alloc, etype, pass, salt, count, stretched)?;
     let mut octets = [0; LONGEST];
-    let octets = &mut octets[..S::KEY_LEN];
-    S::derive(stretched, KERBEROS, octets);
-    Ok(Key::with_octets(S::ETYPE, octets))
+    let octets = &mut octets[..etype.key_len()];
+    derive(etype, stretched, KERBEROS, octets);
+    Ok(Key::with_octets(etype, octets))
 }

@@ -12,14 +12,14 @@ ghost use Rattle.enctypes.specs.Sealing.{cut_hmac, zero_vector, macs_cipher, aut
 ghost use Rattle.enctypes.specs.Sealing.{Opens, OpensNothing, opened};
 
 use crate::aes_key::aes_key;
+use crate::derivation::derive_both;
 use crate::derived_key::DerivedKey;
 use crate::key::LONGEST;
 use crate::mac_key::MacKey;
 use crate::octets::are_same;
 use crate::purpose::{Purpose, usage_constant};
-use crate::suite::{Suite, with_suite};
 use crate::{Etype, Key, KeyUsage, Mac};
-use aes_cts::AesKey;
+use aes_cts::{AesKey, DecryptionSchedule};
 use std::alloc::{AllocError, Global};
 use std::fmt;
 use std::marker::Model;
@@ -38,6 +38,8 @@ pub struct ReadyKey {
     key: Key,
     usage: KeyUsage,
     cipher: AesKey,
+    // The decryption schedule of `cipher`, after `prepare_to_open`.
+    decryption: Option<DecryptionSchedule>,
     integrity: MacKey,
 }
 
@@ -48,7 +50,7 @@ impl Model for ReadyKey {
 
     ghost view = { λ r. record { key = r.key; usage = r.usage } };
 
-    ghost invariant = { λ r. ready.IsReady r.key r.usage r.cipher r.integrity };
+    ghost invariant = { λ r. ready.IsReady r.key r.usage r.cipher r.decryption r.integrity };
 }
 
 impl ReadyKey {
@@ -57,13 +59,22 @@ impl ReadyKey {
         ensures ready { result ≡ record { key = key.now; usage = usage } }
         ensures octets { All (λ b. b < 256) key.now.bytes }
     {
-        let (octets, number) = (key.bytes(), usage.number());
-        let (cipher, integrity) = with_suite!(key.etype(), sealing_keys(octets, number));
+        let (cipher, integrity) = sealing_keys(key.etype(), key.bytes(), usage.number());
         ReadyKey {
             key: *key,
             usage,
             cipher,
+            decryption: None,
             integrity: MacKey::new(key.etype(), integrity.bytes()),
+        }
+    }
+
+    /// Prepares the key for opening too: each `open` takes less time after it.
+    pub fn prepare_to_open(&mut self)
+        ensures { self.new ≡ self.old }
+    {
+        if self.decryption.is_none() {
+            self.decryption = Some(self.cipher.decryption_schedule());
         }
     }
 
@@ -177,11 +188,24 @@ impl ReadyKey {
     {
         if self.key.etype().macs_cipher() {
             let mac = mac_of_cipher(&self.integrity, text);
-            self.cipher.cts_decrypt(&ZERO_VECTOR, text);
+            self.decrypt(text);
             mac
         } else {
-            self.cipher.cts_decrypt(&ZERO_VECTOR, text);
+            self.decrypt(text);
             mac_of_plain(&self.integrity, text)
+        }
+    }
+
+    // Decrypts confounder and text in place.
+    fn decrypt(&self, text: &mut [u8])
+        requires { 16 ≤ length text.old }
+        ensures { text.new
+            ≡ cts_inverse (ke self.now.key.etype self.now.key.bytes (usage_number self.now.usage)) zero_vector
+            text.old }
+    {
+        match &self.decryption {
+            Some(schedule) => self.cipher.cts_decrypt_under(schedule, &ZERO_VECTOR, text),
+            None => self.cipher.cts_decrypt(&ZERO_VECTOR, text),
         }
     }
 }
@@ -197,16 +221,17 @@ impl fmt::Debug for ReadyKey {
 }
 
 // Derives Ke, as an AES key, and Ki.
-fn sealing_keys<S: Suite>(key: &[u8], usage: u32) -> (AesKey, DerivedKey)
-    requires { length key.now ≡ key_len S.ETYPE }
-    ensures encryption { result.0 ≡ ke S.ETYPE key.now usage }
-    ensures integrity { result.1 ≡ ki S.ETYPE key.now usage }
+fn sealing_keys(etype: Etype, key: &[u8], usage: u32) -> (AesKey, DerivedKey)
+    requires { length key.now ≡ key_len etype }
+    ensures encryption { result.0 ≡ ke etype key.now usage }
+    ensures integrity { result.1 ≡ ki etype key.now usage }
 {
     let mut encryption = [0; LONGEST];
     let mut integrity = [0; LONGEST];
-    let encryption = &mut encryption[..S::KEY_LEN];
-    let integrity = &mut integrity[..S::MAC_KEY_LEN];
-    S::derive_both(
+    let encryption = &mut encryption[..etype.key_len()];
+    let integrity = &mut integrity[..etype.mac_key_len()];
+    derive_both(
+        etype,
         key,
         &usage_constant(usage, Purpose::Encryption),
         encryption,

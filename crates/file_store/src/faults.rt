@@ -7,12 +7,12 @@ use std::{fmt, io};
 pub struct FileFault<'p> {
     /// The path; if there is no file, a name for the source.
     pub path: &'p str,
-    pub amiss: Amiss,
+    pub cause: FileCause,
 }
 
 /// Why a file is not accepted, or could not be read or written.
 #[derive(Clone, Copy, Debug)]
-pub enum Amiss {
+pub enum FileCause {
     /// It has more bytes than are accepted.
     LongFile,
     /// A seed file has fewer than 32 bytes.
@@ -23,36 +23,36 @@ pub enum Amiss {
     Failed(io::Error),
 }
 
-impl Amiss {
+impl FileCause {
     /// Returns the word for it, if the file was read and is refused.
     pub fn refusal(self) -> Option<&'static str> {
         match self {
-            Amiss::LongFile => Some("LongFile"),
-            Amiss::ShortSeed => Some("ShortSeed"),
-            Amiss::LongPassword => Some("LongPassword"),
-            Amiss::Failed(_) => None,
+            FileCause::LongFile => Some("LongFile"),
+            FileCause::ShortSeed => Some("ShortSeed"),
+            FileCause::LongPassword => Some("LongPassword"),
+            FileCause::Failed(_) => None,
         }
     }
 }
 
-impl fmt::Display for Amiss {
+impl fmt::Display for FileCause {
     fn fmt<W: fmt::Write>(&self, f: &mut fmt::Formatter<W>) -> fmt::Result {
         match self {
-            Amiss::LongFile => f.write_str("the file is too long"),
-            Amiss::ShortSeed => f.write_str("the seed has fewer than 32 bytes"),
-            Amiss::LongPassword => f.write_str("the password has more than 1024 bytes"),
-            Amiss::Failed(error) => write!(f, "{error}"),
+            FileCause::LongFile => f.write_str("the file is too long"),
+            FileCause::ShortSeed => f.write_str("the seed has fewer than 32 bytes"),
+            FileCause::LongPassword => f.write_str("the password has more than 1024 bytes"),
+            FileCause::Failed(error) => write!(f, "{error}"),
         }
     }
 }
 
-impl Error for Amiss {}
+impl Error for FileCause {}
 
 impl fmt::Display for FileFault<'_> {
     fn fmt<W: fmt::Write>(&self, f: &mut fmt::Formatter<W>) -> fmt::Result {
         let path = self.path;
-        let amiss = self.amiss;
-        write!(f, "{path}: {amiss}")
+        let cause = self.cause;
+        write!(f, "{path}: {cause}")
     }
 }
 

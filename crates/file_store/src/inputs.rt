@@ -7,7 +7,7 @@ ghost use Rattle.file_store.specs.Counting.{IsShown};
 ghost use Rattle.file_store.specs.Inputs.{first_line};
 ghost use Rattle.file_store.specs.World.{World, with_file, HasFirstLine, HasSeed, IsDrawn, IsFirst, IsNow, IsRead, IsThere};
 
-use crate::faults::{Amiss, FileFault};
+use crate::faults::{FileCause, FileFault};
 use crate::store::{LONGEST_FILE, Store};
 use std::alloc::Global;
 use std::io;
@@ -38,7 +38,7 @@ pub fn has_file<'p, S: Store>(store: &mut S, path: &'p str) -> Result<bool, File
         Ok(found) => Ok(found),
         Err(error) => Err(FileFault {
             path,
-            amiss: Amiss::Failed(error),
+            cause: FileCause::Failed(error),
         }),
     }
 }
@@ -75,11 +75,11 @@ pub fn read_at_most<'p, S: Store>(
         Ok(Some(octets)) => Ok(octets),
         Ok(None) => Err(FileFault {
             path,
-            amiss: Amiss::LongFile,
+            cause: FileCause::LongFile,
         }),
         Err(error) => Err(FileFault {
             path,
-            amiss: Amiss::Failed(error),
+            cause: FileCause::Failed(error),
         }),
     }
 }
@@ -99,7 +99,7 @@ pub fn first_octet<'p, S: Store>(
         Ok(octet) => Ok(octet),
         Err(error) => Err(FileFault {
             path,
-            amiss: Amiss::Failed(error),
+            cause: FileCause::Failed(error),
         }),
     }
 }
@@ -121,7 +121,7 @@ pub fn write_file<'p, S: Store>(
         Ok(()) => Ok(()),
         Err(error) => Err(FileFault {
             path,
-            amiss: Amiss::Failed(error),
+            cause: FileCause::Failed(error),
         }),
     }
 }
@@ -142,7 +142,7 @@ pub fn update_file<'p, S: Store>(
         Ok(()) => Ok(()),
         Err(error) => Err(FileFault {
             path,
-            amiss: Amiss::Failed(error),
+            cause: FileCause::Failed(error),
         }),
     }
 }
@@ -161,7 +161,7 @@ pub fn lock_file<'p, S: Store>(
         Ok(locked) => Ok(locked),
         Err(error) => Err(FileFault {
             path,
-            amiss: Amiss::Failed(error),
+            cause: FileCause::Failed(error),
         }),
     }
 }
@@ -176,7 +176,7 @@ pub fn read_clock<S: Store>(store: &mut S) -> Result<u64, FileFault<'static>>
         Ok(seconds) => Ok(seconds),
         Err(error) => Err(FileFault {
             path: SYSTEM_CLOCK,
-            amiss: Amiss::Failed(error),
+            cause: FileCause::Failed(error),
         }),
     }
 }
@@ -197,7 +197,7 @@ pub fn read_seed<'p, S: Store>(
         Some(seed) => Ok(seed),
         None => Err(FileFault {
             path,
-            amiss: Amiss::ShortSeed,
+            cause: FileCause::ShortSeed,
         }),
     }
 }
@@ -228,7 +228,7 @@ pub fn draw_seed<S: Store>(store: &mut S) -> Result<[u8; 32], FileFault<'static>
         Ok(seed) => Ok(seed),
         Err(error) => Err(FileFault {
             path: SYSTEM_SOURCE,
-            amiss: Amiss::Failed(error),
+            cause: FileCause::Failed(error),
         }),
     }
 }
@@ -260,7 +260,7 @@ pub fn read_password<'p, S: Store>(
     let Some(pass) = password_of(&octets) else {
         return Err(FileFault {
             path,
-            amiss: Amiss::LongPassword,
+            cause: FileCause::LongPassword,
         });
     };
     let len = pass.len();
@@ -284,11 +284,11 @@ pub fn ask_password<S: Store>(
         Ok(Some(pass)) => Ok(pass),
         Ok(None) => Err(FileFault {
             path: STANDARD_INPUT,
-            amiss: Amiss::LongPassword,
+            cause: FileCause::LongPassword,
         }),
         Err(error) => Err(FileFault {
             path: STANDARD_INPUT,
-            amiss: Amiss::Failed(error),
+            cause: FileCause::Failed(error),
         }),
     }
 }

@@ -12,7 +12,7 @@ mod store;
 mod system_store;
 
 pub use crate::counting::counted;
-pub use crate::faults::{Amiss, FileFault};
+pub use crate::faults::{FileCause, FileFault};
 pub use crate::inputs::{
     ask_password, draw_seed, first_octet, has_file, lock_file, password_of, read_at_most,
     read_clock, read_file, read_or_draw_seed, read_password, read_seed, seed_of, update_file,

@@ -21,7 +21,7 @@ impl fmt::Display for FrameFault {
     fn fmt<W: fmt::Write>(&self, f: &mut fmt::Formatter<W>) -> fmt::Result {
         f.write_str(match self {
             FrameFault::HighBit => "the first bit of a message's length is set",
-            FrameFault::TooLong => "a message is longer than the greatest that is taken",
+            FrameFault::TooLong => "a message is longer than the maximum",
             FrameFault::Memory => "out of memory",
         })
     }

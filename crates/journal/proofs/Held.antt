@@ -18,7 +18,7 @@ use Rattle.krb_fields.specs.Skew.{skew}
 use Rattle.replay.proofs.Holding.{extended_holds, last_spent}
 use Rattle.replay.proofs.Stamps.{stamp_exact, stamp_total}
 use Rattle.replay.specs.Kept.{nothing_kept}
-use Rattle.replay.specs.Resumed.{Holds, is_spent, resumed_memory, stamp_seen, with_all_seen, with_seen}
+use Rattle.replay.specs.Resumed.{Holds, is_spent, resumed_cache, stamp_seen, with_all_seen, with_seen}
 use Rattle.replay.specs.Stamp.{Stamp, stamp_cmp}
 use Rattle.replay.specs.declared.keep.Kept.{Kept}
 use Rattle.replay.specs.declared.seen.Resumption.{Resumption}
@@ -382,14 +382,14 @@ module _ (c : Components) (s : Stamp) where
 
   -- one of the client's authenticators is spent after a start that resumes with it
   contained_spent : (r : Resumption) (x : Seen) → eq_by_cmp name_cmp c x.client.components ≡ true → s ≡ stamp_seen x → (before after : List Seen)
-      → r.seen ≡ before ++ x ∷ after → is_spent (resumed_memory r c) s ≡ true
+      → r.seen ≡ before ++ x ∷ after → is_spent (resumed_cache r c) s ≡ true
   contained_spent r x own same before after is =
       let first : Resumption = record { floor = r.floor; seen = before } in
       let upto : Resumption = record { floor = r.floor; seen = before ++ x ∷ [] } in
-      let there : is_spent (resumed_memory upto c) s ≡ true =
-      subst (λ t. is_spent (resumed_memory upto c) t ≡ true) (sym same) (last_spent c first r.floor x own) in
+      let there : is_spent (resumed_cache upto c) s ≡ true =
+      subst (λ t. is_spent (resumed_cache upto c) t ≡ true) (sym same) (last_spent c first r.floor x own) in
       let seen_is : (before ++ x ∷ []) ++ after ≡ r.seen = append_assoc before (x ∷ []) after ∙ sym is in
-      subst (λ l. is_spent (resumed_memory (record { floor = r.floor; seen = l }) c) s ≡ true) seen_is
+      subst (λ l. is_spent (resumed_cache (record { floor = r.floor; seen = l }) c) s ≡ true) seen_is
       (extended_holds c upto r.floor after (same_le r.floor) s there)
 
 -- a list that contains something is cut there
@@ -402,15 +402,15 @@ cut_at (y ∷ ys) x (suc k, lt, is) =
 
 module _ (c : Components) (s : Stamp) (floor : ℤ) (es : List Entry) (found : Resumption) (le : floor ≤ℤ found.floor) (seen_is : found.seen ≡ map seen_of es) where
   one_spent : (x : Seen) → eq_by_cmp name_cmp c x.client.components ≡ true → s ≡ stamp_seen x → IsHeld floor es x
-      → is_spent (resumed_memory found c) s ≡ true
+      → is_spent (resumed_cache found c) s ≡ true
   one_spent x own same (inl lt) =
-      by_first (int_lt s.0 found.floor) (is_some (finmap.get (resumed_memory found c).pairs s))
+      by_first (int_lt s.0 found.floor) (is_some (finmap.get (resumed_cache found c).pairs s))
       (subst (λ (t : Stamp). int_lt t.0 found.floor ≡ true) (sym same) (lt_test x.ctime floor found.floor lt le))
   one_spent x own same (inr has) =
       let (before, after, is) = cut_at (map seen_of es) x has in
       contained_spent c s found x own same before after (seen_is ∙ is)
 
-  among_spent : (xs : List Seen) → All (IsHeld floor es) xs → IsAmong c s xs → is_spent (resumed_memory found c) s ≡ true
+  among_spent : (xs : List Seen) → All (IsHeld floor es) xs → IsAmong c s xs → is_spent (resumed_cache found c) s ≡ true
   among_spent [] all among = absurd among
   among_spent (x ∷ xs) all (inl (own, same)) = one_spent x own same (All-head (IsHeld floor es) x xs all)
   among_spent (x ∷ xs) all (inr others) = among_spent xs (All-tail (IsHeld floor es) x xs all) others
@@ -429,23 +429,23 @@ module _ (place : Place) (older : Found) (newer : Journal) (low : ℤ) (r : Resu
   abbrev found : Resumption
   found = resumption_of place older newer
 
-  held_spent : Holds (resumed_memory (record { floor = raised; seen = r.seen }) c) (resumed_memory found c)
+  held_spent : Holds (resumed_cache (record { floor = raised; seen = r.seen }) c) (resumed_cache found c)
   held_spent s is = by_part (either_of (int_lt s.0 raised) (is_some (finmap.get (with_all_seen c finmap.empty r.seen) s)) is)
     where
-      by_place : (is_some (finmap.get none_yet s) ≡ true) ⊎ IsAmong c s r.seen → is_spent (resumed_memory found c) s ≡ true
+      by_place : (is_some (finmap.get none_yet s) ≡ true) ⊎ IsAmong c s r.seen → is_spent (resumed_cache found c) s ≡ true
       by_place (inl none) = absurd (none_there s none)
       by_place (inr among) =
           among_spent c s (floor_behind newer older) (entries_behind newer older) found (max_first (floor_behind newer older) (place.at.sec -ℤ pos skew)) refl r.seen hold.seen among
 
-      by_part : (int_lt s.0 raised ≡ true) ⊎ (is_some (finmap.get (with_all_seen c finmap.empty r.seen) s) ≡ true) → is_spent (resumed_memory found c) s ≡ true
+      by_part : (int_lt s.0 raised ≡ true) ⊎ (is_some (finmap.get (with_all_seen c finmap.empty r.seen) s) ≡ true) → is_spent (resumed_cache found c) s ≡ true
       by_part (inl below) =
-          by_first (int_lt s.0 found.floor) (is_some (finmap.get (resumed_memory found c).pairs s))
+          by_first (int_lt s.0 found.floor) (is_some (finmap.get (resumed_cache found c).pairs s))
           (test_le s.0 raised found.floor below (max_both r.floor (floor_behind newer older) low (place.at.sec -ℤ pos skew) hold.floor late))
       by_part (inr there) = by_place (all_in c s finmap.empty r.seen there)
 
 pub resumes_with_held : ResumesWithHeld
 resumes_with_held place older newer low r found check hold late is c =
-    subst (λ (x : Resumption). Holds (resumed_memory (record { floor = int_max r.floor (place.at.sec -ℤ pos skew); seen = r.seen }) c) (resumed_memory x c))
+    subst (λ (x : Resumption). Holds (resumed_cache (record { floor = int_max r.floor (place.at.sec -ℤ pos skew); seen = r.seen }) c) (resumed_cache x c))
     (is_resumption place older newer found check is)
     (held_spent place older newer low r hold late c)
 

@@ -6,7 +6,7 @@ use Rattle.std.specs.Int.{int_max}
 use Rattle.krb_fields.specs.Name.{Components}
 use Rattle.krb_fields.specs.Skew.{skew}
 use Rattle.krb_fields.specs.declared.moment.Moment.{Moment}
-use Rattle.replay.specs.Resumed.{Holds, resumed_memory}
+use Rattle.replay.specs.Resumed.{Holds, resumed_cache}
 use Rattle.replay.specs.declared.keep.Kept.{Kept}
 use Rattle.replay.specs.declared.seen.Resumption.{Resumption}
 use Rattle.replay.specs.declared.seen.Seen.{Seen}
@@ -137,8 +137,8 @@ ResumesWithHeld = (place : Place) (older : Found) (newer : Journal) (low : ℤ) 
     → HoldAll older newer low r → low ≤ℤ (place.at.sec -ℤ pos skew)
     → start_of place older (Whole newer) ≡ Resumes found check
     → (c : Components)
-    → Holds {T = Kept} (resumed_memory (record { floor = int_max r.floor (place.at.sec -ℤ pos skew); seen = r.seen }) c)
-    (resumed_memory found c)
+    → Holds {T = Kept} (resumed_cache (record { floor = int_max r.floor (place.at.sec -ℤ pos skew); seen = r.seen }) c)
+    (resumed_cache found c)
 
 -- Whatever the files of a journal go through, they hold all that was seen, and a start that resumes with them refuses
 -- it.

@@ -8,8 +8,8 @@ use Rattle.json.specs.Json.{value}
 use Rattle.serde_json.specs.Read.{read}
 use Rattle.file_store.specs.World.{World, IsFirst, IsThere, first_octet}
 use Rattle.principals.specs.Database.{Principals}
-use Rattle.principals.specs.Value.{database_or, text_database}
-use Rattle.principals.specs.declared.read_fault.ReadFault.{ReadFault}
+use Rattle.principals_text.specs.Value.{database_or, text_database}
+use Rattle.principals_text.specs.declared.read_fault.ReadFault.{ReadFault}
 use Rattle.kadm_run.specs.Keytabs.{IsFreePath, IsKeytabStart, IsNoDatabase, lock_of}
 
 -- no JSON begins with the first byte of a keytab

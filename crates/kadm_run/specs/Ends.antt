@@ -2,8 +2,8 @@
 use Rattle.std.specs.Prelude.{◌≡◌, ◌⊎◌, ℕ, List, Option}
 use Rattle.enctypes.specs.declared.etype.Etype.{Etype}
 use Rattle.file_store.specs.World.{World}
-use Rattle.file_store.specs.declared.faults.Amiss.{Amiss}
-use Rattle.file_store.specs.declared.faults.Amiss.TheVariants.{LongFile, ShortSeed, LongPassword, Failed}
+use Rattle.file_store.specs.declared.faults.FileCause.{FileCause}
+use Rattle.file_store.specs.declared.faults.FileCause.TheVariants.{LongFile, ShortSeed, LongPassword, Failed}
 use Rattle.kadm_run.specs.Worlds.{Did, DidSome}
 use Rattle.kadm_run.specs.declared.order.Order.{Order}
 use Rattle.kadm_run.specs.declared.order.Task.{Task}
@@ -20,7 +20,7 @@ status_code statuses.Refused = 1
 status_code statuses.Usage = 2
 status_code statuses.Failed = 3
 
-abbrev pub IsFailure : Amiss → Type 0
+abbrev pub IsFailure : FileCause → Type 0
 IsFailure LongFile = ⊥
 IsFailure ShortSeed = ⊥
 IsFailure LongPassword = ⊥
@@ -30,7 +30,7 @@ IsFailure (Failed error) = Unit {0}
 abbrev pub IsFailed : Stop → Type 0
 IsFailed Usage = ⊥
 IsFailed (Refused reason) = ⊥
-IsFailed (File fault) = IsFailure fault.amiss
+IsFailed (File fault) = IsFailure fault.cause
 
 -- refused or failed
 abbrev pub IsNotDone : Status → Type 0
@@ -39,16 +39,16 @@ IsNotDone statuses.Refused = Unit {0}
 IsNotDone statuses.Usage = ⊥
 IsNotDone statuses.Failed = Unit {0}
 
-abbrev pub IsAmissStatus : Amiss → Status → Type 0
-IsAmissStatus LongFile status = IsNotDone status
-IsAmissStatus ShortSeed status = IsNotDone status
-IsAmissStatus LongPassword status = IsNotDone status
-IsAmissStatus (Failed error) status = status ≡ statuses.Failed
+abbrev pub IsFileCauseStatus : FileCause → Status → Type 0
+IsFileCauseStatus LongFile status = IsNotDone status
+IsFileCauseStatus ShortSeed status = IsNotDone status
+IsFileCauseStatus LongPassword status = IsNotDone status
+IsFileCauseStatus (Failed error) status = status ≡ statuses.Failed
 
 abbrev pub IsStatusOf : Stop → Status → Type 0
 IsStatusOf Usage status = status ≡ statuses.Usage
 IsStatusOf (Refused reason) status = status ≡ statuses.Refused
-IsStatusOf (File fault) status = IsAmissStatus fault.amiss status
+IsStatusOf (File fault) status = IsFileCauseStatus fault.cause status
 
 -- a command that stops early leaves the files unchanged, unless it was done and then the output failed
 abbrev pub IsStopped : Stop → Option World → Option World → Type 0

@@ -12,7 +12,7 @@ use Rattle.principal_rows.specs.Versions.{current}
 use Rattle.principal_rows.specs.declared.row.KeyVersion.{KeyVersion}
 use Rattle.principal_rows.specs.declared.row.Row.{Row}
 use Rattle.principals.specs.Database.{Principals}
-use Rattle.principals.specs.Value.{text_database}
+use Rattle.principals_text.specs.Value.{text_database}
 use Rattle.kadm_run.specs.declared.order.KeytabOrder.{KeytabOrder}
 
 -- ---- where it may be written

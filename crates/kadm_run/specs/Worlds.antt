@@ -9,8 +9,8 @@ use Rattle.krb_fields.specs.Salt.{default_salt}
 use Rattle.principal_keys.specs.Keys.{drawn_keys, password_key, seeded}
 use Rattle.principal_rows.specs.declared.row.KeyVersion.{KeyVersion}
 use Rattle.principals.specs.Database.{Principals, first_database}
-use Rattle.principals.specs.Value.{text_database}
-use Rattle.principals.specs.Written.{database_value}
+use Rattle.principals_text.specs.Value.{text_database}
+use Rattle.principals_text.specs.Written.{database_value}
 use Rattle.file_store.specs.World.{World, with_file, HasFirstLine, HasSeed, IsRead, IsThere}
 use Rattle.kadm_run.specs.Denying.{migrated_rows}
 use Rattle.kadm_run.specs.Granting.{IsChanged, IsCleared, IsGranted}

@@ -8,7 +8,8 @@ use crate::reason::Reason;
 use crate::stop::Stop;
 use file_store::{Store, lock_file, read_at_most, update_file};
 use krb_fields::Name;
-use principals::{Change, ChangeFault, Database, LONGEST_TEXT, ReadFault, RowChange, fault_place};
+use principals::{Change, ChangeFault, Database, RowChange};
+use principals_text::{LONGEST_TEXT, ReadFault, fault_place};
 use std::alloc::Global;
 use std::io::Write;
 use std::str;
@@ -78,7 +79,7 @@ pub(crate) fn read_database<'p, T: Store, E: Write>(
     let Ok(text) = str::from_utf8(&octets) else {
         return Err(Stop::Refused(Reason::NotJson));
     };
-    match Database::read(alloc, text) {
+    match principals_text::read(alloc, text) {
         Ok(database) => Ok(database),
         Err(fault) => {
             report_place(alloc, errors, db, text, fault);
@@ -110,7 +111,7 @@ pub(crate) fn write_database<'p, T: Store>(
     ensures written { OnOk result (T.world store.new ≡ with_database db.now database.now (T.world store.old)) }
     ensures kept { OnErr result (T.world store.new ≡ T.world store.old) }
 {
-    let text = database.write(alloc)?;
+    let text = principals_text::write(alloc, database)?;
     update_file(alloc, store, db, text.as_bytes())?;
     Ok(())
 }

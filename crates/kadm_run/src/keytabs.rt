@@ -12,7 +12,7 @@ use crate::stop::Stop;
 use cred_files::{Keytab, KeytabEntry};
 use enctypes::Key;
 use file_store::{
-    Amiss, FileFault, Store, first_octet, has_file, read_file, update_file, write_file,
+    FileCause, FileFault, Store, first_octet, has_file, read_file, update_file, write_file,
 };
 use krb_elements::KerberosString;
 use krb_fields::Name;
@@ -84,7 +84,7 @@ fn has_lock<'p, T: Store>(alloc: Global, store: &mut T, path: &'p str) -> Result
         Ok(found) => Ok(found),
         Err(error) => Err(Stop::from(FileFault {
             path,
-            amiss: Amiss::Failed(error),
+            cause: FileCause::Failed(error),
         })),
     }
 }

@@ -7,10 +7,11 @@ use crate::reason::{KEYTAB, Reason};
 use crate::status::Status;
 use clap::ArgMatches;
 use clap::error::Error;
-use file_store::{Amiss, FileFault};
+use file_store::{FileCause, FileFault};
 use krb_fields::NameFault;
 use principal_rows::KeyListFault;
-use principals::{ChangeFault, FirstFault, ReadFault};
+use principals::{ChangeFault, FirstFault};
+use principals_text::ReadFault;
 use std::alloc::{AllocError, AllocFailed};
 use std::io;
 use std::io::Write;
@@ -37,7 +38,7 @@ impl Stop<'_> {
     {
         Stop::File(FileFault {
             path,
-            amiss: Amiss::Failed(error),
+            cause: FileCause::Failed(error),
         })
     }
 }
@@ -164,8 +165,8 @@ pub(crate) fn report<W: Write, E: Write>(
         }
         Stop::File(fault) => {
             let _ = writeln!(errors, "kadm: {fault}");
-            match (fault.amiss, fault.amiss.refusal()) {
-                (Amiss::Failed(_), _) | (_, None) => print_failure(out),
+            match (fault.cause, fault.cause.refusal()) {
+                (FileCause::Failed(_), _) | (_, None) => print_failure(out),
                 (_, Some(name)) => print_refusal(out, name),
             }
         }

@@ -4,7 +4,7 @@
 
 use client_files::{Defaults, Variable};
 use client_login::{KdcClient, Kdcs, Transports};
-use client_sockets::{SocketExchange, now};
+use client_sockets::{SocketNetwork, now};
 use file_store::FileStore;
 use kclient_run::{Context, FAILED, USAGE, kclient_run};
 use krb_fields::Moment;
@@ -75,7 +75,7 @@ fn main(rt: HostRuntime) -> ExitCode {
         Ok(defaults) => defaults,
         Err(fault) => return ended(&rt, fault),
     };
-    let exchange = SocketExchange::new(&rt);
+    let exchange = SocketNetwork::new(&rt);
     let kdcs = Kdcs::new(exchange, Vec::new(rt.alloc()), Transports::UdpFirst);
     let client = KdcClient { kdcs, at: given.at };
     let mut context = Context::new(rt.alloc(), FileStore::new(&rt), client);

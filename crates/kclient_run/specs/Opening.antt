@@ -1,27 +1,14 @@
 -- A ticket that a service's keytab decrypts (RFC 4120, section 5.3).
-use Rattle.std.specs.Prelude.{◌≡◌, ℕ, List, ◌∷◌, Option, Some, None, option_map}
-use Rattle.cred_files.specs.Keytab.{entry_for}
+use Rattle.std.specs.Prelude.{◌≡◌, ℕ, List, Option, Some}
+use Rattle.ap_opening.specs.Keytab.{ticket_key}
 use Rattle.cred_files.specs.declared.keytab_entry.KeytabEntry.{KeytabEntry}
 use Rattle.enctypes.specs.KeyUsage.{usage_number}
 use Rattle.enctypes.specs.declared.key.Key.{Key}
 use Rattle.enctypes.specs.declared.key_usage.KeyUsage.TheVariants as usages
-use Rattle.krb_fields.specs.Name.{Components}
-use Rattle.krb_parts.specs.EncTicketPart.{EncTicketPart, enc_ticket_part}
-use Rattle.krb_types.specs.Ticket.{Ticket}
+use Rattle.krb_sealed.specs.EncTicketPart.{EncTicketPart, enc_ticket_part}
+use Rattle.krb_messages.specs.Ticket.{Ticket}
 use Rattle.client_core.specs.Sessions.{ticket_in}
-use Rattle.sealed_parts.specs.Keys.{type_numbered}
 use Rattle.sealed_parts.specs.Parts.{opened_as}
-
--- a service is its realm and the components of its name
-abbrev pub service_of : Ticket → Components
-service_of ticket = ticket.realm ∷ ticket.sname.components
-
--- the key that the ticket names by its type and version
-abbrev pub ticket_key : List KeytabEntry → Ticket → Option Key
-ticket_key keytab ticket =
-    option_map
-    (λ e. e.key)
-    (entry_for keytab (service_of ticket) (type_numbered ticket.enc_part.etype) ticket.enc_part.kvno)
 
 -- what a key decrypts a ticket to, with the key usage of tickets
 abbrev pub part_under : Key → Ticket → Option EncTicketPart

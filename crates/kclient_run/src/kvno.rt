@@ -14,7 +14,7 @@ use client_login::{AnyMessage, HostNames};
 use cred_files::{Cache, Credential, Keytab};
 use krb_elements::read;
 use krb_fields::{Moment, Name};
-use krb_types::TicketRef;
+use krb_messages::TicketRef;
 use rand_chacha::ChaCha20Rng;
 use std::alloc::Global;
 

@@ -7,7 +7,7 @@ use cred_files::{Cache, Credential, Keytab, KeytabEntry, Principal};
 use krb_der::KTime;
 use krb_elements::{KerberosString, read};
 use krb_fields::{Flags, Name, Second, component_to_text};
-use krb_types::TicketRef;
+use krb_messages::TicketRef;
 use std::alloc::{AllocError, Global};
 use text_fields::UtcDate;
 

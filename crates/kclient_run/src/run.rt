@@ -97,14 +97,14 @@ pub fn kclient_run<
     let mut out = match BufWriter::new(context.alloc, writer) {
         Ok(out) => out,
         Err(error) => {
-            tell_unwritten(&mut errors, error);
+            report_unwritten(&mut errors, error);
             return FAILED;
         }
     };
     match print(&mut out, &mut errors, context.notes(), &ended) {
         Ok(status) => status,
         Err(error) => {
-            tell_unwritten(&mut errors, error);
+            report_unwritten(&mut errors, error);
             FAILED
         }
     }
@@ -200,7 +200,7 @@ fn print_word<W: Write>(out: &mut W, cause: Cause) -> io::Result<Status> {
 }
 
 /// Reports on standard error that standard output can't be written. If that fails too, there is nowhere to report it.
-fn tell_unwritten<E: Write>(errors: &mut E, error: io::Error) {
+fn report_unwritten<E: Write>(errors: &mut E, error: io::Error) {
     let _ = writeln!(errors, "kclient: standard output: {error}");
     let _ = errors.flush();
 }

@@ -1,7 +1,7 @@
 //! An exchange of messages that is connected to a KDC in memory.
 ghost use Rattle.std.specs.Prelude.{⊤};
 
-use client_login::{AnyMessage, Exchange, HostNames, Transport};
+use client_login::{AnyMessage, HostNames, Network, Transport};
 use kdc_core::Kdc;
 use krb_fields::Moment;
 use std::alloc::{AllocError, Global};
@@ -59,7 +59,7 @@ const SECOND_PORT: u16 = 89;
 
 /// A KDC, and what happens to the messages on their way to it.
 #[derive(Drop)]
-pub struct JoinedExchange {
+pub struct JoinedNetwork {
     kdc: Kdc,
     /// The moment of the KDC.
     at: Moment,
@@ -75,9 +75,9 @@ pub struct JoinedExchange {
     answered: Vec<u8>,
 }
 
-impl JoinedExchange {
-    pub fn new(alloc: Global, kdc: Kdc, at: Moment) -> JoinedExchange {
-        JoinedExchange {
+impl JoinedNetwork {
+    pub fn new(alloc: Global, kdc: Kdc, at: Moment) -> JoinedNetwork {
+        JoinedNetwork {
             kdc,
             at,
             link: Link::Good,
@@ -143,7 +143,7 @@ impl JoinedExchange {
     }
 }
 
-impl Exchange for JoinedExchange {
+impl Network for JoinedNetwork {
     ghost carries = { λ message. ⊤ };
 
     ghost answers = { λ to message reply. ⊤ };
@@ -161,7 +161,7 @@ impl Exchange for JoinedExchange {
     }
 }
 
-impl HostNames for JoinedExchange {
+impl HostNames for JoinedNetwork {
     /// Of one host an address is known.
     fn look_up(&mut self, alloc: Global, host: &str, port: u16) -> io::Result<Vec<SocketAddr>> {
         if host != "kdc.example.com" {
@@ -173,7 +173,7 @@ impl HostNames for JoinedExchange {
     }
 }
 
-impl AnyMessage for JoinedExchange {
+impl AnyMessage for JoinedNetwork {
     ghost takes_any = { λ message. tt };
 }
 

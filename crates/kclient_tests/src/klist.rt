@@ -89,10 +89,10 @@ const RUNS: &[Run] = &[
         errors: "kclient: cut: the file ends too early\n",
     },
     Run {
-        line: "kclient klist --keytab amiss",
+        line: "kclient klist --keytab broken",
         status: REFUSED,
         out: "refused BadEntry\n",
-        errors: "kclient: amiss: the key of an entry has the wrong length for its encryption type\n",
+        errors: "kclient: broken: the key of an entry has the wrong length for its encryption type\n",
     },
     Run {
         line: "kclient klist --keytab nowhere",
@@ -109,7 +109,7 @@ const RUNS: &[Run] = &[
 ];
 
 /// The key of the keytab's entry has one octet.
-const AMISS: &[u8] =
+const BROKEN: &[u8] =
     b"\x05\x02\x00\x00\x00\x18\x00\x01\x00\x03A.B\x00\x01h\x00\x00\x00\x01\x00\x00\x00\x00\x01\x00\x11\x00\x01k";
 
 fn fill(alloc: Global, store: &mut MemoryStore) -> Result<(), Fail> {
@@ -118,7 +118,7 @@ fn fill(alloc: Global, store: &mut MemoryStore) -> Result<(), Fail> {
     store.set(alloc, "cc", &cache)?;
     store.set(alloc, "kt", &keytab)?;
     store.set(alloc, "cut", cache.get(..100).unwrap_or(&[]))?;
-    store.set(alloc, "amiss", AMISS)?;
+    store.set(alloc, "broken", BROKEN)?;
     Ok(())
 }
 

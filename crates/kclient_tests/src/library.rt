@@ -1,5 +1,5 @@
 //! Calls of `client_login` by themselves.
-use crate::joined::{JoinedExchange, Link};
+use crate::joined::{JoinedNetwork, Link};
 use crate::realm::open;
 use client_login::{
     KdcClient, Kdcs, Login, LoginFault, Password, Secret, Transports, Why, Wishes, granting_service,
@@ -14,7 +14,7 @@ use std::net::SocketAddr;
 use std::process::Abort;
 use std::test::Fail;
 
-type Client = KdcClient<JoinedExchange>;
+type Client = KdcClient<JoinedNetwork>;
 
 /// A client of two KDCs, at midnight.
 fn client(alloc: Global) -> Result<Client, Fail> {
@@ -22,7 +22,7 @@ fn client(alloc: Global) -> Result<Client, Fail> {
     let first: SocketAddr = "192.0.2.1:88".parse()?;
     let second: SocketAddr = "192.0.2.2:89".parse()?;
     let addresses = Vec::from_array(alloc, [first, second])?;
-    let exchange = JoinedExchange::new(alloc, open(alloc)?, at);
+    let exchange = JoinedNetwork::new(alloc, open(alloc)?, at);
     Ok(KdcClient {
         kdcs: Kdcs::new(exchange, addresses, Transports::UdpFirst),
         at,

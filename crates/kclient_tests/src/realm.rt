@@ -69,7 +69,7 @@ const ROWS: &[Row] = &[
 pub fn open(alloc: Global) -> Result<Kdc, Fail> {
     let limits = Limits::new(64, 0, 0, 36_000, 604_800).ok_or("limits")?;
     let text = database_text(alloc)?;
-    let database = Database::read(alloc, &text)?;
+    let database = principals_text::read(alloc, &text)?;
     Ok(Kdc::open(alloc, database, limits, Opening::First)?)
 }
 

@@ -1,5 +1,5 @@
 //! A command line over files in memory and a KDC in memory, and its result.
-use crate::joined::{JoinedExchange, Link};
+use crate::joined::{JoinedNetwork, Link};
 use crate::realm::open;
 use client_files::{Defaults, Variable};
 use client_login::{KdcClient, Kdcs, Transports};
@@ -39,7 +39,7 @@ pub struct Run {
     pub errors: &'static str,
     /// All that was asked at the terminal.
     pub asked: &'static str,
-    /// The messages, as `JoinedExchange` notes them.
+    /// The messages, as `JoinedNetwork` notes them.
     pub ways: &'static str,
     /// The octets of all messages, one behind the other, in hexadecimal digits; empty where they are not compared.
     pub sent: &'static str,
@@ -240,7 +240,7 @@ struct Ended {
 }
 
 /// What a command line works with in the tests.
-pub type Memory = Context<MemoryStore, JoinedExchange>;
+pub type Memory = Context<MemoryStore, JoinedNetwork>;
 
 /// Nothing stands for words that a command line lacks.
 pub const NO_DEFAULTS: Defaults<'static> = Defaults {
@@ -297,26 +297,26 @@ const SERVICES: &[&str] = &["krbtgt/A.B", "h", "u", "v"];
 fn held_text(alloc: Global, octets: &[u8]) -> Result<String, Fail> {
     let cache = Cache::read(alloc, octets)?;
     let mut held = String::new(alloc);
-    tell_all(alloc, &mut held, &cache)?;
+    print_cache(alloc, &mut held, &cache)?;
     Ok(held)
 }
 
-fn tell_all(alloc: Global, held: &mut String, cache: &Cache) -> Result<(), Fail> {
+fn print_cache(alloc: Global, held: &mut String, cache: &Cache) -> Result<(), Fail> {
     for name in SERVICES {
-        tell_service(alloc, held, cache, name)?;
+        print_service(alloc, held, cache, name)?;
     }
     Ok(())
 }
 
-fn tell_service(alloc: Global, held: &mut String, cache: &Cache, name: &str) -> Result<(), Fail> {
+fn print_service(alloc: Global, held: &mut String, cache: &Cache, name: &str) -> Result<(), Fail> {
     let service = Name::from_text(alloc, name)?;
     match cache.find(&service) {
-        Ok(credential) => tell(held, name, credential),
+        Ok(credential) => print_credential(held, name, credential),
         Err(_) => Ok(()),
     }
 }
 
-fn tell(held: &mut String, name: &str, credential: &Credential) -> Result<(), Fail> {
+fn print_credential(held: &mut String, name: &str, credential: &Credential) -> Result<(), Fail> {
     let times = &credential.times;
     held.push_str(name)?;
     for time in [
@@ -325,14 +325,14 @@ fn tell(held: &mut String, name: &str, credential: &Credential) -> Result<(), Fa
         times.end_time,
         times.renew_till,
     ] {
-        tell_time(held, time)?;
+        print_time(held, time)?;
     }
     let flags = credential.flags.bits();
     writeln!(held, " {flags:08x} {}", credential.key.key_type)?;
     Ok(())
 }
 
-fn tell_time(held: &mut String, time: KTime) -> Result<(), Fail> {
+fn print_time(held: &mut String, time: KTime) -> Result<(), Fail> {
     match time.seconds() {
         0 => write!(held, " -")?,
         seconds => write!(held, " {}", seconds.saturating_sub(MIDNIGHT))?,
@@ -411,7 +411,7 @@ fn expect_each(rt: &impl Abort, context: &mut Memory, runs: &[Run]) -> Result<()
 pub fn context(alloc: Global) -> Result<Memory, Fail> {
     let at = moment(0)?;
     let store = store(alloc)?;
-    let exchange = JoinedExchange::new(alloc, open(alloc)?, at);
+    let exchange = JoinedNetwork::new(alloc, open(alloc)?, at);
     let kdcs = Kdcs::new(exchange, Vec::new(alloc), Transports::UdpFirst);
     Ok(Context::new(alloc, store, KdcClient { kdcs, at }))
 }

@@ -12,7 +12,7 @@ use Rattle.principal_rows.specs.Versions.{with_keys, without}
 use Rattle.principal_rows.specs.declared.row.Row.{Row}
 use Rattle.principals.specs.Change.{changed, refusal, row_changed, row_refusal, with_row}
 use Rattle.principals.specs.Change.{new_keys_rules, drop_keys_rules, set_policy_rules}
-use Rattle.principals.specs.Database.{Principals, ticket_granter}
+use Rattle.principals.specs.Database.{Principals, tgs_principal}
 use Rattle.principals.specs.declared.change.Change.{Change}
 use Rattle.principals.specs.declared.change.RowChange.{RowChange}
 use Rattle.principals.specs.declared.change.RowChange.TheVariants.{Add, Remove, NewKeys, DropKeys, SetPolicy}
@@ -23,7 +23,7 @@ use Rattle.principals.specs.declared.change.ChangeFault.TheVariants.{BadName, Ex
 abbrev rules_by : List ℕ → Components → RowChange → Option Row → List (Rule ChangeFault)
 rules_by realm name (Add keys) row = (not (is_within_limits name), BadName) ∷ (is_some row, Exists) ∷ []
 rules_by realm name Remove row =
-    (eq_by_cmp name_cmp name (ticket_granter realm), Protected) ∷ (not (is_some row), Absent) ∷ []
+    (eq_by_cmp name_cmp name (tgs_principal realm), Protected) ∷ (not (is_some row), Absent) ∷ []
 rules_by realm name (NewKeys keys) row = new_keys_rules row
 rules_by realm name (DropKeys version) row = drop_keys_rules version row
 rules_by realm name (SetPolicy policy) row = set_policy_rules row

@@ -11,20 +11,20 @@ use Rattle.kdc_replies.specs.Incoming.{Incoming}
 use Rattle.krb_fields.specs.Name.{Components, name_cmp, name_total, same_name}
 use Rattle.krb_fields.specs.declared.moment.Moment.{Moment}
 use Rattle.principals.specs.Change.{changed, refusal}
-use Rattle.principals.specs.Database.{Principals, ticket_granter}
+use Rattle.principals.specs.Database.{Principals, tgs_principal}
 use Rattle.principals.specs.declared.change.Change.{Change as PrincipalChange}
 use Rattle.principals.specs.declared.change.ChangeFault.{ChangeFault}
 use Rattle.replay.specs.declared.keep.Kept.{Kept}
-use Rattle.replay.specs.declared.memory.Memory.{Memory}
+use Rattle.replay.specs.declared.cache.ReplayCache.{ReplayCache}
 use Rattle.replay.specs.Opening.{opening_floor}
-use Rattle.replay.specs.Tidied.{empty_memory, tidied}
+use Rattle.replay.specs.Tidied.{empty_cache, tidied}
 use Rattle.principal_rows.specs.declared.limits.Limits.{Limits}
-use Rattle.replay.specs.Resumed.{resumed_memory}
+use Rattle.replay.specs.Resumed.{resumed_cache}
 use Rattle.replay.specs.declared.seen.Resumption.{Resumption}
-use Rattle.kdc_state.proofs.MemoriesSeen.{database_resumed, limits_resumed, memory_resumed}
-use Rattle.kdc_state.proofs.Tidied.{memory_tidied}
+use Rattle.kdc_state.proofs.CachesSeen.{database_resumed, limits_resumed, cache_resumed}
+use Rattle.kdc_state.proofs.Tidied.{cache_tidied}
 use Rattle.kdc_state.specs.Resumed.{resumed_state}
-use Rattle.kdc_state.specs.State.{memory_of, restarted, tidied_state}
+use Rattle.kdc_state.specs.State.{cache_of, restarted, tidied_state}
 use Rattle.replay.specs.declared.opening.Opening.TheVariants.{Restart as Restarted}
 use Rattle.kdc_state.specs.declared.state.State.{State}
 use Rattle.kdc_core.proofs.Changes.{other_row, realm_stays, same_refusal, same_row_after}
@@ -65,25 +65,25 @@ not_both b t f = cc
 
 -- ---- caches
 
-memory_kept : (state : State) (c : Components) (m : Option (Memory Kept)) → memory_of (keep state (Some c) m) c ≡ unwrap_or m (memory_of state c)
-memory_kept state c (Some m) =
-    ap (λ o. unwrap_or o (empty_memory state.floor)) (get-insert name_total state.memories c m c ∙ ap (λ b. cond b (Some m) (map.get state.memories c)) (itself c))
-memory_kept state c None = refl
+cache_kept : (state : State) (c : Components) (m : Option (ReplayCache Kept)) → cache_of (keep state (Some c) m) c ≡ unwrap_or m (cache_of state c)
+cache_kept state c (Some m) =
+    ap (λ o. unwrap_or o (empty_cache state.floor)) (get-insert name_total state.caches c m c ∙ ap (λ b. cond b (Some m) (map.get state.caches c)) (itself c))
+cache_kept state c None = refl
 
-memory_restarted : (state : State) (at : Moment) (c : Components) → memory_of (restarted state at) c ≡ empty_memory (opening_floor (Restarted at))
-memory_restarted state at c = ap (λ o. unwrap_or o (empty_memory (opening_floor (Restarted at)))) (get-empty name_cmp c)
+cache_restarted : (state : State) (at : Moment) (c : Components) → cache_of (restarted state at) c ≡ empty_cache (opening_floor (Restarted at))
+cache_restarted state at c = ap (λ o. unwrap_or o (empty_cache (opening_floor (Restarted at)))) (get-empty name_cmp c)
 
 module _ (c : Components) (S : Names) where
   -- ---- requests
 
   -- whatever both sides store, if c's cache is then the same
-  kept_agrees : (state other : State) → AgreesFor c S state other → (n o : Option Components) (m k : Option (Memory Kept)) → memory_of (keep other o k) c ≡ memory_of (keep state n m) c
+  kept_agrees : (state other : State) → AgreesFor c S state other → (n o : Option Components) (m k : Option (ReplayCache Kept)) → cache_of (keep other o k) c ≡ cache_of (keep state n m) c
       → AgreesFor c S (keep state n m) (keep other o k)
   kept_agrees state other a n o m k same = record {
     realm = ap (λ d. d.realm) (database_kept other o k) ∙ a.realm ∙ sym (ap (λ d. d.realm) (database_kept state n m));
     limits = limits_kept other o k ∙ a.limits ∙ sym (limits_kept state n m);
     row = ap (λ d. map.get d.rows c) (database_kept other o k) ∙ a.row ∙ sym (ap (λ d. map.get d.rows c) (database_kept state n m));
-    memory = same;
+    cache = same;
     rows = λ name within. ap (λ d. map.get d.rows name) (database_kept other o k) ∙ a.rows name within ∙ sym (ap (λ d. map.get d.rows name) (database_kept state n m));
   }
 
@@ -96,33 +96,33 @@ module _ (c : Components) (S : Names) where
     other_request : is_client c (named state incoming.octets).client ≡ false → AgreesFor c S (after_incoming state incoming) other
     other_request apart =
         let kept = (answer_to (view state incoming.octets) incoming).kept in
-        kept_agrees state other a (named state incoming.octets).client None kept None (a.memory ∙ sym (other_kept state (named state incoming.octets).client kept c (is_not_named c (named state incoming.octets).client apart)))
+        kept_agrees state other a (named state incoming.octets).client None kept None (a.cache ∙ sym (other_kept state (named state incoming.octets).client kept c (is_not_named c (named state incoming.octets).client apart)))
 
     -- the states agree at what a request of c names
-    agrees_at : IsTrue (S (ticket_granter state.database.realm)) → (named state incoming.octets).client ≡ Some c → IfSome (named state incoming.octets).service (λ service. IsTrue (S service)) → Agrees state other incoming.octets
-    agrees_at granter is within = record {
+    agrees_at : IsTrue (S (tgs_principal state.database.realm)) → (named state incoming.octets).client ≡ Some c → IfSome (named state incoming.octets).service (λ service. IsTrue (S service)) → Agrees state other incoming.octets
+    agrees_at tgs is within = record {
       realm = a.realm;
       limits = a.limits;
-      granter = a.rows (ticket_granter state.database.realm) granter;
-      client = subst (λ o. IfSome o (λ n. (map.get other.database.rows n ≡ map.get state.database.rows n) × (memory_of other n ≡ memory_of state n))) (sym is) (a.row, a.memory);
+      tgs = a.rows (tgs_principal state.database.realm) tgs;
+      client = subst (λ o. IfSome o (λ n. (map.get other.database.rows n ≡ map.get state.database.rows n) × (cache_of other n ≡ cache_of state n))) (sym is) (a.row, a.cache);
       service = service_agrees state other a (named state incoming.octets).service within;
     }
 
-    own_memory : (named state incoming.octets).client ≡ Some c → Agrees state other incoming.octets → memory_of (after_incoming other incoming) c ≡ memory_of (after_incoming state incoming) c
-    own_memory is agrees =
+    own_cache : (named state incoming.octets).client ≡ Some c → Agrees state other incoming.octets → cache_of (after_incoming other incoming) c ≡ cache_of (after_incoming state incoming) c
+    own_cache is agrees =
         let kept : (answer_to (view other incoming.octets) incoming).kept ≡ (answer_to (view state incoming.octets) incoming).kept = ap (λ v. (answer_to v incoming).kept) (view_agrees state other incoming.octets agrees) in
         let client : (named other incoming.octets).client ≡ Some c = ap (λ names. names.client) (names_agree state other incoming.octets agrees) ∙ is in
-        ap (λ o. memory_of (keep other o (answer_to (view other incoming.octets) incoming).kept) c) client
-        ∙ memory_kept other c (answer_to (view other incoming.octets) incoming).kept
-        ∙ (λ i. unwrap_or (kept i) (a.memory i))
-        ∙ sym (memory_kept state c (answer_to (view state incoming.octets) incoming).kept)
-        ∙ sym (ap (λ o. memory_of (keep state o (answer_to (view state incoming.octets) incoming).kept) c) is)
+        ap (λ o. cache_of (keep other o (answer_to (view other incoming.octets) incoming).kept) c) client
+        ∙ cache_kept other c (answer_to (view other incoming.octets) incoming).kept
+        ∙ (λ i. unwrap_or (kept i) (a.cache i))
+        ∙ sym (cache_kept state c (answer_to (view state incoming.octets) incoming).kept)
+        ∙ sym (ap (λ o. cache_of (keep state o (answer_to (view state incoming.octets) incoming).kept) c) is)
 
     -- a request of c changes both in the same way
     own_request : (named state incoming.octets).client ≡ Some c → Agrees state other incoming.octets → AgreesFor c S (after_incoming state incoming) (after_incoming other incoming)
     own_request is agrees =
         kept_agrees state other a (named state incoming.octets).client (named other incoming.octets).client (answer_to (view state incoming.octets) incoming).kept (answer_to (view other incoming.octets) incoming).kept
-        (own_memory is agrees)
+        (own_cache is agrees)
 
     same_reply : Agrees state other incoming.octets → (answer_to (view other incoming.octets) incoming).reply ≡ (answer_to (view state incoming.octets) incoming).reply
     same_reply agrees = ap (λ v. (answer_to v incoming).reply) (view_agrees state other incoming.octets agrees)
@@ -143,7 +143,7 @@ module _ (c : Components) (S : Names) where
       realm = realm_stays other.database change ∙ a.realm ∙ sym (realm_stays state.database change);
       limits = a.limits;
       row = same_row_after state.database other.database change c own a.row;
-      memory = a.memory;
+      cache = a.cache;
       rows = λ name within. same_row_after state.database other.database change name own (a.rows name within);
     }
 
@@ -172,7 +172,7 @@ module _ (c : Components) (S : Names) where
       realm = a.realm ∙ sym (realm_stays state.database change);
       limits = a.limits;
       row = a.row ∙ sym (other_row state.database change c apart);
-      memory = a.memory;
+      cache = a.cache;
       rows = λ name within. a.rows name within ∙ sym (other_row state.database change name (apart_from name within without));
     }
 
@@ -197,7 +197,7 @@ module _ (c : Components) (S : Names) where
       (by_test (pointwise nat_eq database.realm state.database.realm)))
     where
       by_test : (b : Bool) → AgreesFor c S (if b then record state { database = database } else state) (if b then record other { database = new } else other)
-      by_test true = record { realm = same.realm; limits = a.limits; row = same.row; memory = a.memory; rows = same.rows }
+      by_test true = record { realm = same.realm; limits = a.limits; row = same.row; cache = a.cache; rows = same.rows }
       by_test false = a
 
   realm_replaced : (state : State) (database : Principals) → (replaced state database).database.realm ≡ state.database.realm
@@ -214,7 +214,7 @@ module _ (c : Components) (S : Names) where
     realm = a.realm;
     limits = a.limits;
     row = a.row;
-    memory = memory_tidied other at c ∙ ap (λ m. tidied m at.sec) a.memory ∙ sym (memory_tidied state at c);
+    cache = cache_tidied other at c ∙ ap (λ m. tidied m at.sec) a.cache ∙ sym (cache_tidied state at c);
     rows = a.rows;
   }
 
@@ -225,23 +225,23 @@ module _ (c : Components) (S : Names) where
     realm = a.realm;
     limits = a.limits;
     row = a.row;
-    memory = memory_restarted other at c ∙ sym (memory_restarted state at c);
+    cache = cache_restarted other at c ∙ sym (cache_restarted state at c);
     rows = a.rows;
   }
 
   -- ---- resuming
 
   -- with the same authenticators of c, and databases that have the same rows for c and S
-  both_resumed : (database new : Principals) (limits : Limits) (r others : Resumption) → HasSameRows c S database new → resumed_memory others c ≡ resumed_memory r c
+  both_resumed : (database new : Principals) (limits : Limits) (r others : Resumption) → HasSameRows c S database new → resumed_cache others c ≡ resumed_cache r c
       → AgreesFor c S (resumed_state database limits r) (resumed_state new limits others)
-  both_resumed database new limits r others same memory_is =
+  both_resumed database new limits r others same cache_is =
       let here = database_resumed database limits r in
       let there = database_resumed new limits others in
       record {
         realm = ap (λ (d : Principals). d.realm) there ∙ same.realm ∙ sym (ap (λ (d : Principals). d.realm) here);
         limits = limits_resumed new limits others ∙ sym (limits_resumed database limits r);
         row = ap (λ (d : Principals). map.get d.rows c) there ∙ same.row ∙ sym (ap (λ (d : Principals). map.get d.rows c) here);
-        memory = memory_resumed c new limits others ∙ memory_is ∙ sym (memory_resumed c database limits r);
+        cache = cache_resumed c new limits others ∙ cache_is ∙ sym (cache_resumed c database limits r);
         rows = λ name within. ap (λ (d : Principals). map.get d.rows name) there ∙ same.rows name within ∙ sym (ap (λ (d : Principals). map.get d.rows name) here);
       }
 
@@ -251,19 +251,19 @@ module _ (c : Components) (S : Names) where
   realm_unless state change (Some fault) = refl
   realm_unless state change None = realm_stays state.database change
 
-  same_granted : (realm later : List ℕ) → later ≡ realm → IsTrue (S (ticket_granter realm)) → IsTrue (S (ticket_granter later))
-  same_granted realm later is granter = subst (λ r. IsTrue (S (ticket_granter r))) (sym is) granter
+  same_granted : (realm later : List ℕ) → later ≡ realm → IsTrue (S (tgs_principal realm)) → IsTrue (S (tgs_principal later))
+  same_granted realm later is tgs = subst (λ r. IsTrue (S (tgs_principal r))) (sym is) tgs
 
   -- S still holds the realm's ticket-granting service afterwards
-  still_granted : (state : State) (event : Event) → NamesWithin c S state event → IsTrue (S (ticket_granter state.database.realm)) → IsTrue (S (ticket_granter (after_event state event).database.realm))
-  still_granted state (Request at random room request) within granter =
-      same_granted _ _ (ap (λ d. d.realm) (database_kept state (named state request).client (answer (view state request) at random room request).kept)) granter
-  still_granted state (Change change) within granter = same_granted _ _ (realm_unless state change (refusal state.database change)) granter
-  still_granted state (Replace database) within granter = same_granted _ _ (realm_replaced state database) granter
-  still_granted state (Tidy at) within granter = granter
-  still_granted state (Restart at) within granter = granter
-  still_granted state (Reopen database limits at) within granter = within
-  still_granted state (Resume database limits resumption) within granter = same_granted _ _ (ap (λ (d : Principals). d.realm) (database_resumed database limits resumption)) within
+  still_granted : (state : State) (event : Event) → NamesWithin c S state event → IsTrue (S (tgs_principal state.database.realm)) → IsTrue (S (tgs_principal (after_event state event).database.realm))
+  still_granted state (Request at random room request) within tgs =
+      same_granted _ _ (ap (λ d. d.realm) (database_kept state (named state request).client (answer (view state request) at random room request).kept)) tgs
+  still_granted state (Change change) within tgs = same_granted _ _ (realm_unless state change (refusal state.database change)) tgs
+  still_granted state (Replace database) within tgs = same_granted _ _ (realm_replaced state database) tgs
+  still_granted state (Tidy at) within tgs = tgs
+  still_granted state (Restart at) within tgs = tgs
+  still_granted state (Reopen database limits at) within tgs = within
+  still_granted state (Resume database limits resumption) within tgs = same_granted _ _ (ap (λ (d : Principals). d.realm) (database_resumed database limits resumption)) within
 
   -- an event that stays: the second state runs it, or one like it, and gives the same reply
   record IsLeft (state other : State) (event given : Event) : Type 0 where
@@ -274,25 +274,25 @@ module _ (c : Components) (S : Names) where
   left_itself : (state other : State) (event : Event) (given : Event) → given ≡ event → IsLeft state other event event → IsLeft state other event given
   left_itself state other event given is at = subst (λ (e : Event). IsLeft state other event e) (sym is) at
 
-  event_left : (state other : State) (event given : Event) → IsTrue (S (ticket_granter state.database.realm)) → NamesWithin c S state event → AgreesFor c S state other → is_left c S state event ≡ true → IsAlike c S event given → IsLeft state other event given
-  event_left state other (Request at random room octets) given granter within a left is =
+  event_left : (state other : State) (event given : Event) → IsTrue (S (tgs_principal state.database.realm)) → NamesWithin c S state event → AgreesFor c S state other → is_left c S state event ≡ true → IsAlike c S event given → IsLeft state other event given
+  event_left state other (Request at random room octets) given tgs within a left is =
       let incoming : Incoming = record { at = at; random = random; room = room; octets = octets } in
       let named_c = is_named c (named state octets).client left in
-      let agrees = agrees_at state other incoming a granter named_c (within left) in
+      let agrees = agrees_at state other incoming a tgs named_c (within left) in
       left_itself state other (Request at random room octets) given is
       (record { reply = same_reply state other incoming a agrees; is_own = sym left; agrees = own_request state other incoming a named_c agrees })
-  event_left state other (Change change) given granter within a left is =
+  event_left state other (Change change) given tgs within a left is =
       left_itself state other (Change change) given is (record { reply = refl; is_own = refl; agrees = own_change state other change a left })
-  event_left state other (Replace database) given granter within a left is =
+  event_left state other (Replace database) given tgs within a left is =
       subst (λ (e : Event). IsLeft state other (Replace database) e) (sym is.1) (record { reply = refl; is_own = refl; agrees = both_replaced state other database is.0 is.2 a })
-  event_left state other (Tidy at) given granter within a left is =
+  event_left state other (Tidy at) given tgs within a left is =
       left_itself state other (Tidy at) given is (record { reply = refl; is_own = refl; agrees = both_tidied state other at a })
-  event_left state other (Restart at) given granter within a left is =
+  event_left state other (Restart at) given tgs within a left is =
       left_itself state other (Restart at) given is (record { reply = refl; is_own = refl; agrees = both_restart state other at a })
-  event_left state other (Reopen database limits at) given granter within a left is =
+  event_left state other (Reopen database limits at) given tgs within a left is =
       subst (λ (e : Event). IsLeft state other (Reopen database limits at) e) (sym is.1)
-      (record { reply = refl; is_own = refl; agrees = record { realm = is.2.realm; limits = refl; row = is.2.row; memory = refl; rows = is.2.rows } })
-  event_left state other (Resume database limits resumption) given granter within a left is =
+      (record { reply = refl; is_own = refl; agrees = record { realm = is.2.realm; limits = refl; row = is.2.row; cache = refl; rows = is.2.rows } })
+  event_left state other (Resume database limits resumption) given tgs within a left is =
       subst (λ (e : Event). IsLeft state other (Resume database limits resumption) e) (sym is.2)
       (record { reply = refl; is_own = refl; agrees = both_resumed database is.0 limits resumption is.1 is.3 is.4 })
 
@@ -328,19 +328,19 @@ module _ (c : Components) (S : Names) where
     }
 
   -- the second state runs the events that stay, or events like them
-  isolated : (events : List Event) (state other : State) (others : List Event) → IsTrue (S (ticket_granter state.database.realm)) → ServicesWithin c S state events → AgreesFor c S state other
+  isolated : (events : List Event) (state other : State) (others : List Event) → IsTrue (S (tgs_principal state.database.realm)) → ServicesWithin c S state events → AgreesFor c S state other
       → AreAlike c S (strike c S state events) others → IsIsolated c S state other events others
-  isolated [] state other [] granter within a alike = record { own = refl; left = refl; afterwards = a }
-  isolated [] state other (given ∷ others) granter within a alike = absurd alike
-  isolated (event ∷ events) state other others granter within a alike =
-      by_test (λ t rest agrees same. isolated events (after_event state event) t rest (still_granted state event within.0 granter) within.1 agrees same) (is_left c S state event) refl others alike
+  isolated [] state other [] tgs within a alike = record { own = refl; left = refl; afterwards = a }
+  isolated [] state other (given ∷ others) tgs within a alike = absurd alike
+  isolated (event ∷ events) state other others tgs within a alike =
+      by_test (λ t rest agrees same. isolated events (after_event state event) t rest (still_granted state event within.0 tgs) within.1 agrees same) (is_left c S state event) refl others alike
     where
       by_test : ((t : State) (rest : List Event) → AgreesFor c S (after_event state event) t → AreAlike c S (strike c S (after_event state event) events) rest → IsIsolated c S (after_event state event) t events rest)
           → (b : Bool) → is_left c S state event ≡ b → (others : List Event)
           → AreAlike c S (if b then event ∷ strike c S (after_event state event) events else strike c S (after_event state event) events) others → IsIsolated c S state other (event ∷ events) others
       by_test later true left [] alike = absurd alike
       by_test later true left (given ∷ others) alike =
-          let at = event_left state other event given granter within.0 a left alike.0 in
+          let at = event_left state other event given tgs within.0 a left alike.0 in
           with_left state other event events given others left at (later (after_event other given) others at.agrees alike.1)
       by_test later false struck others alike =
           let at = event_struck state other event a struck in
@@ -365,13 +365,13 @@ module _ (c : Components) (S : Names) where
   alike_all (event ∷ events) = (alike_itself event, alike_all events)
 
 pub isolation : (state : State) (events : List Event) → Isolation state events
-isolation state events c S other granter within a = isolated c S events state other (strike c S state events) granter within a (alike_all c S (strike c S state events))
+isolation state events c S other tgs within a = isolated c S events state other (strike c S state events) tgs within a (alike_all c S (strike c S state events))
 
 -- ---- two runs
 
 module _ (c : Components) (S : Names) where
   agrees_itself : (state : State) → AgreesFor c S state state
-  agrees_itself state = record { realm = refl; limits = refl; row = refl; memory = refl; rows = λ name within. refl }
+  agrees_itself state = record { realm = refl; limits = refl; row = refl; cache = refl; rows = λ name within. refl }
 
   -- two states that agree with a third
   both_agree : (a b third : State) → AgreesFor c S a third → AgreesFor c S b third → AgreesFor c S a b
@@ -379,15 +379,15 @@ module _ (c : Components) (S : Names) where
     realm = sym t.realm ∙ s.realm;
     limits = sym t.limits ∙ s.limits;
     row = sym t.row ∙ s.row;
-    memory = sym t.memory ∙ s.memory;
+    cache = sym t.cache ∙ s.cache;
     rows = λ name within. sym (t.rows name within) ∙ s.rows name within;
   }
 
 pub unaffected : Unaffected
-unaffected c S state other events others granter within within_other a alike =
+unaffected c S state other events others tgs within within_other a alike =
     let struck = strike c S other others in
-    let here = isolated c S events state other struck granter within a alike in
-    let there = isolated c S others other other struck (subst (λ r. IsTrue (S (ticket_granter r))) (sym a.realm) granter) within_other (agrees_itself c S other) (alike_all c S struck) in
+    let here = isolated c S events state other struck tgs within a alike in
+    let there = isolated c S others other other struck (subst (λ r. IsTrue (S (tgs_principal r))) (sym a.realm) tgs) within_other (agrees_itself c S other) (alike_all c S struck) in
     record {
       replies = sym there.own ∙ here.own;
       afterwards = both_agree c S (run state events) (run other others) (run other struck) here.afterwards there.afterwards;

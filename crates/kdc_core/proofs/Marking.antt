@@ -13,11 +13,11 @@ use Rattle.krb_der.specs.Spelling.{tlv}
 use Rattle.krb_elements.specs.Codec.{written}
 use Rattle.krb_fields.specs.Name.{Components, name_cmp, name_total}
 use Rattle.krb_replies.specs.KdcRep.{KdcRep, kdc_rep}
-use Rattle.krb_types.specs.KrbError.{KrbError, krb_error}
-use Rattle.krb_types.specs.ReqBody.{ReqBody}
-use Rattle.kdc_state.proofs.MemoriesSeen.{memory_resumed}
-use Rattle.kdc_state.proofs.Tidied.{memory_tidied}
-use Rattle.kdc_state.specs.State.{memory_of, opened_state}
+use Rattle.krb_messages.specs.KrbError.{KrbError, krb_error}
+use Rattle.krb_messages.specs.ReqBody.{ReqBody}
+use Rattle.kdc_state.proofs.CachesSeen.{cache_resumed}
+use Rattle.kdc_state.proofs.Tidied.{cache_tidied}
+use Rattle.kdc_state.specs.State.{cache_of, opened_state}
 use Rattle.kdc_state.specs.declared.state.State.{State}
 use Rattle.principals.specs.Change.{changed, refusal}
 use Rattle.principals.specs.Database.{Principals}
@@ -26,22 +26,22 @@ use Rattle.principals.specs.declared.change.ChangeFault.{ChangeFault}
 use Rattle.replay.proofs.Resumed.{resumed_are}
 use Rattle.replay.proofs.Stamps.{stamp_exact, stamp_total}
 use Rattle.replay.specs.Kept.{nothing_kept}
-use Rattle.replay.specs.Memory.{floor_at, remembered}
+use Rattle.replay.specs.ReplayCache.{floor_at, recorded}
 use Rattle.replay.specs.Opening.{opening_floor}
-use Rattle.replay.specs.Tidied.{empty_memory, tidied}
+use Rattle.replay.specs.Tidied.{empty_cache, tidied}
 use Rattle.replay.specs.Stamp.{Stamp, is_from, stamp_cmp}
 use Rattle.replay.specs.declared.failures.Failures.{Failures}
 use Rattle.replay.specs.declared.keep.Bears.{Bears}
 use Rattle.replay.specs.declared.keep.Bears.TheVariants.{Ticket, Error}
 use Rattle.replay.specs.declared.keep.Kept.{Kept}
-use Rattle.replay.specs.declared.memory.Memory.{Memory}
+use Rattle.replay.specs.declared.cache.ReplayCache.{ReplayCache}
 use Rattle.replay.specs.declared.opening.Opening.TheVariants.{First, Restart as OpenedAgain}
 use Rattle.tgs_exchange.specs.Answer.{TgsAnswer, answer_by, is_ticket, kept_of, longest_kept, tgs_answer, tgs_error}
 use Rattle.tgs_exchange.specs.Decision.{decision}
 use Rattle.tgs_exchange.specs.Issue.{tgs_rep}
 use Rattle.tgs_exchange.specs.View.{TgsView}
 use Rattle.tgs_exchange.specs.declared.decision.Decision.{Decision}
-use Rattle.tgs_exchange.specs.declared.decision.Decision.TheVariants.{Refuses, Remembers, Repeats, Issues}
+use Rattle.tgs_exchange.specs.declared.decision.Decision.TheVariants.{Refuses, Records, Repeats, Issues}
 use Rattle.tgs_opening.specs.declared.presented.Presented.{Presented}
 use Rattle.kdc_core.specs.Answer.{answer_of, counted, keep, stamped}
 use Rattle.kdc_core.specs.Contents.{contents}
@@ -49,7 +49,7 @@ use Rattle.kdc_core.specs.Marked.{AllMarked, AreMarked, IsMarked, KeepsMarked}
 use Rattle.kdc_core.specs.Request.{request_of}
 use Rattle.kdc_core.specs.Run.{after_event, run, unless_faulty}
 use Rattle.kdc_core.specs.Tickets.{bears_ticket}
-use Rattle.kdc_core.specs.View.{View, as_view, memory_named, named, tgs_view, view}
+use Rattle.kdc_core.specs.View.{View, as_view, cache_named, named, tgs_view, view}
 use Rattle.kdc_core.specs.declared.contents.Contents.{Contents}
 use Rattle.kdc_core.specs.declared.contents.Contents.TheVariants.{NoRequest, AsReq, RefusedTgsReq, TgsReq}
 use Rattle.kdc_core.specs.declared.run.Event.{Event}
@@ -86,7 +86,7 @@ module _ (v : TgsView) (incoming : Incoming) (body : ReqBody) (p : Presented) wh
 
   decision_marked : (decided : Decision Kept) → IfSome (answer_by v incoming body p decided).kept IsMarked
   decision_marked (Refuses refusal) = tt
-  decision_marked (Remembers refusal) =
+  decision_marked (Records refusal) =
       let e = tgs_error v.realm incoming.at body refusal in
       kept_marked incoming.octets Error (written krb_error e) (sym (error_bears_none e))
   decision_marked (Repeats kept) =
@@ -102,9 +102,9 @@ module _ (v : TgsView) (incoming : Incoming) (body : ReqBody) (p : Presented) wh
 
 -- ---- caches
 
-remembered_marked : (m : Memory Kept) (now : ℤ) (stamp : Stamp) (made : Kept) → AreMarked m → IsMarked made
-    → AreMarked (remembered m now stamp made)
-remembered_marked m now stamp made marked is s =
+recorded_marked : (m : ReplayCache Kept) (now : ℤ) (stamp : Stamp) (made : Kept) → AreMarked m → IsMarked made
+    → AreMarked (recorded m now stamp made)
+recorded_marked m now stamp made marked is s =
     let late = is_from (floor_at m.floor now) in
     subst (λ (o : Option Kept). IfSome o IsMarked)
     (sym (get-insert stamp_total (map.retain_keys m.pairs late) stamp made s)) (at (eq_by_cmp stamp_cmp s stamp))
@@ -125,17 +125,17 @@ remembered_marked m now stamp made marked is s =
     at true = is
     at false = retained
 
-stamped_marked : (m : Memory Kept) (now : ℤ) (p : Presented) (k : Option Kept) → AreMarked m → IfSome k IsMarked
+stamped_marked : (m : ReplayCache Kept) (now : ℤ) (p : Presented) (k : Option Kept) → AreMarked m → IfSome k IsMarked
     → IfSome (stamped m now p k) AreMarked
 stamped_marked m now p (Some kept) marked is =
-    remembered_marked m now (p.authenticator.ctime, p.authenticator.cusec) kept marked is
+    recorded_marked m now (p.authenticator.ctime, p.authenticator.cusec) kept marked is
 stamped_marked m now p None marked is = tt
 
-counted_marked : (m : Memory Kept) (failures : Option Failures) → AreMarked m → IfSome (counted m failures) AreMarked
+counted_marked : (m : ReplayCache Kept) (failures : Option Failures) → AreMarked m → IfSome (counted m failures) AreMarked
 counted_marked m (Some failures) marked = marked
 counted_marked m None marked = tt
 
-tidied_marked : (m : Memory Kept) (now : ℤ) → AreMarked m → AreMarked (tidied m now)
+tidied_marked : (m : ReplayCache Kept) (now : ℤ) → AreMarked m → AreMarked (tidied m now)
 tidied_marked m now marked s =
     subst (λ (o : Option Kept). IfSome o IsMarked)
     (sym (get-retain_keys m.pairs (is_from (floor_at m.floor now)) s
@@ -146,42 +146,42 @@ tidied_marked m now marked s =
     left true o h = h
     left false o h = tt
 
-empty_marked : (floor : ℤ) → AreMarked (empty_memory floor)
+empty_marked : (floor : ℤ) → AreMarked (empty_cache floor)
 empty_marked floor stamp = subst (λ (o : Option Kept). IfSome o IsMarked) (sym (get-empty stamp_cmp stamp)) tt
 
 -- if nothing is stored
 unstored_marked : (floor : ℤ) (client : Components)
-    → AreMarked (unwrap_or (map.get (map.empty {R = name_cmp}) client) (empty_memory floor))
+    → AreMarked (unwrap_or (map.get (map.empty {R = name_cmp}) client) (empty_cache floor))
 unstored_marked floor client =
-    subst (λ (o : Option (Memory Kept)). AreMarked (unwrap_or o (empty_memory floor)))
+    subst (λ (o : Option (ReplayCache Kept)). AreMarked (unwrap_or o (empty_cache floor)))
     (sym (get-empty name_cmp client)) (empty_marked floor)
 
 -- ---- answers
 
-answer_marked : (v : View) (incoming : Incoming) (held : Contents) → AreMarked v.memory
+answer_marked : (v : View) (incoming : Incoming) (held : Contents) → AreMarked v.cache
     → IfSome (answer_of v incoming held).kept AreMarked
 answer_marked v incoming NoRequest marked = tt
 answer_marked v incoming (AsReq message) marked =
-    counted_marked v.memory (as_answer (as_view v) incoming message).failures marked
+    counted_marked v.cache (as_answer (as_view v) incoming message).failures marked
 answer_marked v incoming (RefusedTgsReq message rejected) marked = tt
 answer_marked v incoming (TgsReq message p) marked =
-    stamped_marked v.memory incoming.at.sec p (tgs_answer (tgs_view v) incoming message.body.value p).kept marked
+    stamped_marked v.cache incoming.at.sec p (tgs_answer (tgs_view v) incoming message.body.value p).kept marked
     (tgs_marked (tgs_view v) incoming message.body.value p)
 
 -- ---- states
 
 module _ (state : State) (marked : AllMarked state) where
-  named_marked : (o : Option Components) → AreMarked (memory_named state o)
+  named_marked : (o : Option Components) → AreMarked (cache_named state o)
   named_marked (Some name) = marked name
   named_marked None = empty_marked (opening_floor First)
 
-  keep_marked : (o : Option Components) (m : Option (Memory Kept)) → IfSome m AreMarked → AllMarked (keep state o m)
+  keep_marked : (o : Option Components) (m : Option (ReplayCache Kept)) → IfSome m AreMarked → AllMarked (keep state o m)
   keep_marked (Some name) (Some m) is client =
-      subst (λ (o : Option (Memory Kept)). AreMarked (unwrap_or o (empty_memory state.floor)))
-      (sym (get-insert name_total state.memories name m client)) (at (eq_by_cmp name_cmp client name))
+      subst (λ (o : Option (ReplayCache Kept)). AreMarked (unwrap_or o (empty_cache state.floor)))
+      (sym (get-insert name_total state.caches name m client)) (at (eq_by_cmp name_cmp client name))
     where
       at : (b : Bool)
-          → AreMarked (unwrap_or (cond b (Some m) (map.get state.memories client)) (empty_memory state.floor))
+          → AreMarked (unwrap_or (cond b (Some m) (map.get state.caches client)) (empty_cache state.floor))
       at true = is
       at false = marked client
   keep_marked (Some name) None is client = marked client
@@ -208,11 +208,11 @@ module _ (state : State) (marked : AllMarked state) where
   event_marked (Replace database) client =
       replaced_marked database (pointwise nat_eq database.realm state.database.realm) client
   event_marked (Tidy at) client =
-      subst AreMarked (sym (memory_tidied state at client)) (tidied_marked (memory_of state client) at.sec (marked client))
+      subst AreMarked (sym (cache_tidied state at client)) (tidied_marked (cache_of state client) at.sec (marked client))
   event_marked (Restart at) client = unstored_marked (opening_floor (OpenedAgain at)) client
   event_marked (Reopen database limits at) client = unstored_marked (opening_floor (OpenedAgain at)) client
   event_marked (Resume database limits resumption) client =
-      subst AreMarked (sym (memory_resumed client database limits resumption)) (resumed_are IsMarked refl resumption client)
+      subst AreMarked (sym (cache_resumed client database limits resumption)) (resumed_are IsMarked refl resumption client)
 
 run_marked : (state : State) (events : List Event) → AllMarked state → AllMarked (run state events)
 run_marked state [] marked = marked

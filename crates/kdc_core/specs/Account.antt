@@ -6,9 +6,9 @@ use Rattle.kdc_replies.specs.Incoming.{Incoming}
 use Rattle.kdc_replies.specs.Issue.{Issue}
 use Rattle.krb_fields.specs.PrincipalName.{Name}
 use Rattle.krb_fields.specs.declared.moment.Moment.{Moment}
-use Rattle.krb_types.specs.KrbError.{krb_error}
-use Rattle.krb_types.specs.declared.kdc_req.Exchange.{Exchange}
-use Rattle.krb_types.specs.declared.kdc_req.Exchange.TheVariants.{As as OfAs, Tgs as OfTgs}
+use Rattle.krb_messages.specs.KrbError.{krb_error}
+use Rattle.krb_messages.specs.declared.kdc_req.Exchange.{Exchange}
+use Rattle.krb_messages.specs.declared.kdc_req.Exchange.TheVariants.{As as OfAs, Tgs as OfTgs}
 use Rattle.replay.specs.declared.keep.Kept.{Kept}
 use Rattle.tgs_exchange.specs.Answer.{tgs_error}
 use Rattle.tgs_exchange.specs.Decision.{stamp_of}
@@ -92,7 +92,7 @@ abbrev pub kept_for : View → Contents → Option Kept
 kept_for v NoRequest = None
 kept_for v (AsReq message) = None
 kept_for v (RefusedTgsReq message rejected) = None
-kept_for v (TgsReq message p) = map.get v.memory.pairs (stamp_of p)
+kept_for v (TgsReq message p) = map.get v.cache.pairs (stamp_of p)
 
 -- the exchange of a request, or of an account
 abbrev pub exchange_in : Option Request → Option Exchange

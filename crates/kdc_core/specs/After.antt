@@ -3,13 +3,13 @@ use Rattle.std.specs.Prelude.{◌≡◌, ⊤, false, Option, Some, None}
 use Rattle.std.specs.FinMap as map
 use Rattle.krb_fields.specs.PrincipalName.{Name}
 use Rattle.krb_fields.specs.declared.moment.Moment.{Moment}
-use Rattle.replay.specs.Memory.{remembered}
-use Rattle.replay.specs.Stamp.{is_untimely}
+use Rattle.replay.specs.ReplayCache.{recorded}
+use Rattle.replay.specs.Stamp.{is_beyond_clock_skew}
 use Rattle.replay.specs.declared.failures.Failures.{Failures}
 use Rattle.replay.specs.declared.keep.Kept.{Kept}
 use Rattle.replay.specs.declared.seen.Seen.{Seen}
 use Rattle.kdc_state.specs.declared.state.State.{State}
-use Rattle.kdc_state.specs.State.{memory_of, with_memory}
+use Rattle.kdc_state.specs.State.{cache_of, with_cache}
 use Rattle.tgs_opening.specs.declared.presented.Presented.{Presented}
 use Rattle.kdc_core.specs.declared.mark.Mark.{Mark}
 use Rattle.kdc_core.specs.declared.mark.Mark.TheVariants.{Counted, Stamped}
@@ -38,9 +38,9 @@ seen_left None = None
 
 abbrev pub after_mark : State → Mark → State
 after_mark state (Counted client failures) =
-    with_memory state client.components (record (memory_of state client.components) { failures = failures })
+    with_cache state client.components (record (cache_of state client.components) { failures = failures })
 after_mark state (Stamped client at ctime cusec kept) =
-    with_memory state client.components (remembered (memory_of state client.components) at.sec (ctime, cusec) kept)
+    with_cache state client.components (recorded (cache_of state client.components) at.sec (ctime, cusec) kept)
 
 abbrev pub after : State → Option Mark → State
 after state (Some mark) = after_mark state mark
@@ -55,5 +55,5 @@ after_reply state None = state
 abbrev pub MayStay : State → Mark → Type 0
 MayStay state (Counted client failures) = ⊤
 MayStay state (Stamped client at ctime cusec kept) =
-    (is_untimely (memory_of state client.components).floor at.sec ctime ≡ false)
-    × (map.get (memory_of state client.components).pairs (ctime, cusec) ≡ None)
+    (is_beyond_clock_skew (cache_of state client.components).floor at.sec ctime ≡ false)
+    × (map.get (cache_of state client.components).pairs (ctime, cusec) ≡ None)

@@ -13,12 +13,12 @@ use Rattle.krb_elements.specs.Codec.{written}
 use Rattle.krb_fields.specs.declared.code.Code.{Code}
 use Rattle.krb_fields.specs.declared.moment.Moment.{Moment}
 use Rattle.krb_fields.specs.Name.{Components}
-use Rattle.krb_types.specs.KdcReq.{Received}
-use Rattle.krb_types.specs.KrbError.{krb_error}
+use Rattle.krb_messages.specs.KdcReq.{Received}
+use Rattle.krb_messages.specs.KrbError.{krb_error}
 use Rattle.replay.specs.declared.failures.Failures.{Failures}
 use Rattle.replay.specs.declared.keep.Kept.{Kept}
-use Rattle.replay.specs.Memory.{remembered}
-use Rattle.replay.specs.declared.memory.Memory.{Memory}
+use Rattle.replay.specs.ReplayCache.{recorded}
+use Rattle.replay.specs.declared.cache.ReplayCache.{ReplayCache}
 use Rattle.kdc_state.specs.declared.state.State.{State}
 use Rattle.kdc_core.specs.Request.{Request, request_of}
 use Rattle.kdc_core.specs.Contents.{contents}
@@ -33,21 +33,21 @@ error_octets state at code = written krb_error (error_reply state.database.realm
 -- the bytes of the reply, if any, and the named client's replay cache afterwards; `None` leaves it unchanged
 pub record Answer : Type 0 where
   pub reply : Option (List ℕ)
-  pub kept : Option (Memory Kept)
+  pub kept : Option (ReplayCache Kept)
 
 -- the client's cache with these failures, if they changed
-abbrev pub counted : Memory Kept → Option Failures → Option (Memory Kept)
-counted memory = option_map (λ failures. record memory { failures = failures })
+abbrev pub counted : ReplayCache Kept → Option Failures → Option (ReplayCache Kept)
+counted cache = option_map (λ failures. record cache { failures = failures })
 
 abbrev pub of_as : View → AsAnswer → Answer
-of_as v a = record { reply = Some a.reply; kept = counted v.memory a.failures }
+of_as v a = record { reply = Some a.reply; kept = counted v.cache a.failures }
 
 -- the client's cache with this authenticator recorded, if it is to be recorded
-abbrev pub stamped : Memory Kept → ℤ → Presented → Option Kept → Option (Memory Kept)
-stamped memory now presented = option_map (λ kept. remembered memory now (stamp_of presented) kept)
+abbrev pub stamped : ReplayCache Kept → ℤ → Presented → Option Kept → Option (ReplayCache Kept)
+stamped cache now presented = option_map (λ kept. recorded cache now (stamp_of presented) kept)
 
 abbrev pub of_tgs : View → ℤ → Presented → TgsAnswer → Answer
-of_tgs v now presented a = record { reply = Some a.reply; kept = stamped v.memory now presented a.kept }
+of_tgs v now presented a = record { reply = Some a.reply; kept = stamped v.cache now presented a.kept }
 
 abbrev pub refused : View → Moment → Received → TgsRefusal → Answer
 refused v at message refusal = record {
@@ -119,8 +119,8 @@ OneTicketTwoKeys v at random request reply = IsSentTo v at random reply (content
 -- ---- the state afterwards
 
 -- the state with a cache stored for a client
-abbrev pub keep : State → Option Components → Option (Memory Kept) → State
-keep state (Some name) (Some memory) = record state { memories = map.insert state.memories name memory }
+abbrev pub keep : State → Option Components → Option (ReplayCache Kept) → State
+keep state (Some name) (Some cache) = record state { caches = map.insert state.caches name cache }
 keep state (Some name) None = state
 keep state None kept = state
 

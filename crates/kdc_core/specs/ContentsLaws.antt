@@ -2,11 +2,11 @@
 use Rattle.std.proofs.Common.{◌≡◌, ℕ, List, Option, Some, None, Result, Ok, Err, refl, sym, ap, subst, ◌∙◌}
 use Rattle.std.specs.Prelude.{⊤, IfOk}
 use Rattle.krb_fields.specs.Name.{Components}
-use Rattle.krb_parts.specs.EncTicketPart.{EncTicketPart}
+use Rattle.krb_sealed.specs.EncTicketPart.{EncTicketPart}
 use Rattle.krb_fields.specs.declared.moment.Moment.{Moment}
-use Rattle.krb_types.specs.declared.kdc_req.Exchange.{Exchange}
-use Rattle.krb_types.specs.declared.kdc_req.Exchange.TheVariants.{As, Tgs}
-use Rattle.krb_types.specs.KdcReq.{Received}
+use Rattle.krb_messages.specs.declared.kdc_req.Exchange.{Exchange}
+use Rattle.krb_messages.specs.declared.kdc_req.Exchange.TheVariants.{As, Tgs}
+use Rattle.krb_messages.specs.KdcReq.{Received}
 use Rattle.replay.specs.declared.keep.Kept.{Kept}
 use Rattle.kdc_replies.specs.Incoming.{Incoming}
 use Rattle.tgs_opening.specs.Opening.{opened_ticket, presented}
@@ -14,7 +14,7 @@ use Rattle.tgs_opening.specs.OpeningLaws.{ticket_opened}
 use Rattle.tgs_opening.specs.View.{TicketView}
 use Rattle.tgs_opening.specs.declared.presented.Presented.{Presented}
 use Rattle.tgs_opening.specs.declared.rejection.Rejection.{Rejection}
-use Rattle.kdc_state.specs.State.{memory_of}
+use Rattle.kdc_state.specs.State.{cache_of}
 use Rattle.kdc_state.specs.declared.state.State.{State}
 use Rattle.kdc_core.specs.After.{after, after_reply, stamped_of}
 use Rattle.kdc_core.specs.Answer.{answer_of, answer_to, keep, after_incoming, stamped}
@@ -180,6 +180,6 @@ module _ {A E : Type 0} (state : State) (incoming : Incoming) (r : Result A E) (
 
 pub stamped_after : (state : State) (at : Moment) (p : Presented) (kept : Option Kept)
     → after state (stamped_of at p kept) ≡ keep state (Some p.ticket.cname.components)
-    (stamped (memory_of state p.ticket.cname.components) at.sec p kept)
+    (stamped (cache_of state p.ticket.cname.components) at.sec p kept)
 stamped_after state at p (Some kept) = refl
 stamped_after state at p None = refl

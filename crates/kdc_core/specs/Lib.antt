@@ -6,7 +6,7 @@ pub mod Issued
 pub mod Account
 pub mod Run
 pub mod Struck
-pub mod Remembered
+pub mod NewlySeen
 pub mod Tickets
 pub mod Marked
 pub mod Unaffected
@@ -19,4 +19,4 @@ pub mod RequestLaws
 pub mod IssuedLaws
 pub mod StandingLaws
 pub mod AccountLaws
-pub mod RememberedLaws
+pub mod NewlySeenLaws

@@ -6,9 +6,9 @@ use Rattle.principal_rows.specs.declared.limits.Limits.{Limits}
 use Rattle.principals.specs.Database.{Principals}
 use Rattle.replay.specs.Stamp.{Stamp}
 use Rattle.replay.specs.declared.keep.Kept.{Kept}
-use Rattle.replay.specs.declared.memory.Memory.{Memory}
+use Rattle.replay.specs.declared.cache.ReplayCache.{ReplayCache}
 use Rattle.replay.specs.declared.opening.Opening.{Opening}
-use Rattle.kdc_state.specs.State.{memory_of, opened_state}
+use Rattle.kdc_state.specs.State.{cache_of, opened_state}
 use Rattle.kdc_state.specs.declared.state.State.{State}
 use Rattle.tgs_exchange.specs.Answer.{is_ticket}
 use Rattle.kdc_core.specs.Run.{run}
@@ -19,12 +19,12 @@ use Rattle.kdc_core.specs.declared.run.Event.{Event}
 abbrev pub IsMarked : Kept → Type 0
 IsMarked kept = is_ticket kept.bears ≡ bears_ticket kept.reply
 
-abbrev pub AreMarked : Memory Kept → Type 0
-AreMarked memory = (stamp : Stamp) → IfSome (map.get memory.pairs stamp) IsMarked
+abbrev pub AreMarked : ReplayCache Kept → Type 0
+AreMarked cache = (stamp : Stamp) → IfSome (map.get cache.pairs stamp) IsMarked
 
 -- everything that is stored for any client
 abbrev pub AllMarked : State → Type 0
-AllMarked state = (client : Components) → AreMarked (memory_of state client)
+AllMarked state = (client : Components) → AreMarked (cache_of state client)
 
 -- in every run that begins with an opening, whatever events come
 abbrev pub KeepsMarked : Type 0

@@ -5,8 +5,8 @@ use Rattle.std.specs.Prelude.{⊤}
 use Rattle.std.specs.FinMap as map
 use Rattle.std.specs.Ordering.{eq_by_cmp}
 use Rattle.krb_fields.specs.Name.{Components, name_cmp}
-use Rattle.principals.specs.Database.{ticket_granter}
-use Rattle.kdc_state.specs.State.{memory_of}
+use Rattle.principals.specs.Database.{tgs_principal}
+use Rattle.kdc_state.specs.State.{cache_of}
 use Rattle.kdc_state.specs.declared.state.State.{State}
 use Rattle.kdc_core.specs.Run.{after_event, event_reply, replies, run}
 use Rattle.kdc_core.specs.View.{named}
@@ -76,8 +76,8 @@ NamesWithin c S state (Change change) = ⊤
 NamesWithin c S state (Replace database) = ⊤
 NamesWithin c S state (Tidy at) = ⊤
 NamesWithin c S state (Restart at) = ⊤
-NamesWithin c S state (Reopen database limits at) = IsTrue (S (ticket_granter database.realm))
-NamesWithin c S state (Resume database limits resumption) = IsTrue (S (ticket_granter database.realm))
+NamesWithin c S state (Reopen database limits at) = IsTrue (S (tgs_principal database.realm))
+NamesWithin c S state (Resume database limits resumption) = IsTrue (S (tgs_principal database.realm))
 
 -- each service that a request of c names at its place in the run is in S, and so is the ticket-granting service of each
 -- realm that an event starts with
@@ -91,7 +91,7 @@ pub record AgreesFor (c : Components) (S : Names) (state other : State) : Type 0
   pub realm : other.database.realm ≡ state.database.realm
   pub limits : other.limits ≡ state.limits
   pub row : map.get other.database.rows c ≡ map.get state.database.rows c
-  pub memory : memory_of other c ≡ memory_of state c
+  pub cache : cache_of other c ≡ cache_of state c
   pub rows : (name : Components) → IsTrue (S name) → map.get other.database.rows name ≡ map.get state.database.rows name
 
 -- how a run and the struck run of a second state are related
@@ -108,7 +108,7 @@ pub record IsIsolated (c : Components) (S : Names) (state other : State) (events
 -- agrees for c. The moments need not be in order.
 abbrev pub Isolation : State → List Event → Type 0
 Isolation state events =
-    (c : Components) (S : Names) (other : State) → IsTrue (S (ticket_granter state.database.realm))
+    (c : Components) (S : Names) (other : State) → IsTrue (S (tgs_principal state.database.realm))
     → ServicesWithin c S state events → AgreesFor c S state other
     → IsIsolated c S state other events (strike c S state events)
 

@@ -8,7 +8,7 @@ use Rattle.tgs_exchange.specs.Decision.{stamp_of}
 use Rattle.tgs_opening.specs.declared.presented.Presented.{Presented}
 use Rattle.kdc_state.specs.declared.state.State.{State}
 use Rattle.kdc_core.specs.Request.{Request as Read, request_of}
-use Rattle.kdc_core.specs.Remembered.{Covers}
+use Rattle.kdc_core.specs.NewlySeen.{Covers}
 use Rattle.kdc_core.specs.Run.{after_event, event_reply}
 use Rattle.kdc_core.specs.Struck.{is_client}
 use Rattle.kdc_core.specs.Contents.{contents, presented_in}

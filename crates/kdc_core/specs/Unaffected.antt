@@ -2,8 +2,8 @@
 use Rattle.std.specs.Prelude.{◌≡◌, ⊤, IsTrue, List, [], ◌∷◌}
 use Rattle.std.specs.FinMap as map
 use Rattle.krb_fields.specs.Name.{Components}
-use Rattle.principals.specs.Database.{Principals, ticket_granter}
-use Rattle.replay.specs.Resumed.{resumed_memory}
+use Rattle.principals.specs.Database.{Principals, tgs_principal}
+use Rattle.replay.specs.Resumed.{resumed_cache}
 use Rattle.replay.specs.declared.seen.Resumption.{Resumption}
 use Rattle.kdc_state.specs.declared.state.State.{State}
 use Rattle.kdc_core.specs.Run.{run}
@@ -29,7 +29,7 @@ IsAlike c S (Reopen database limits at) other =
     (new : Principals) × (other ≡ Reopen new limits at) × HasSameRows c S database new
 IsAlike c S (Resume database limits resumption) other =
     (new : Principals) × (others : Resumption) × (other ≡ Resume new limits others) × HasSameRows c S database new
-    × (resumed_memory others c ≡ resumed_memory resumption c)
+    × (resumed_cache others c ≡ resumed_cache resumption c)
 
 -- one by one
 abbrev pub AreAlike : Components → Names → List Event → List Event → Type 0
@@ -48,7 +48,7 @@ pub record GetsTheSame (c : Components) (S : Names) (state other : State) (event
 -- and each service that c's requests name in either run.
 abbrev pub Unaffected : Type 0
 Unaffected = (c : Components) (S : Names) (state other : State) (events others : List Event)
-    → IsTrue (S (ticket_granter state.database.realm)) → ServicesWithin c S state events
+    → IsTrue (S (tgs_principal state.database.realm)) → ServicesWithin c S state events
     → ServicesWithin c S other others → AgreesFor c S state other
     → AreAlike c S (strike c S state events) (strike c S other others)
     → GetsTheSame c S state other events others

@@ -3,18 +3,18 @@ use Rattle.std.specs.Prelude.{◌≡◌, ℕ, List, Option, Some, None, Result, 
 use Rattle.std.specs.FinMap as map
 use Rattle.krb_fields.specs.PrincipalName.{Name}
 use Rattle.krb_fields.specs.Name.{Components}
-use Rattle.krb_types.specs.declared.kdc_req.Exchange.{Exchange}
-use Rattle.krb_types.specs.declared.kdc_req.Exchange.TheVariants.{As, Tgs}
-use Rattle.krb_types.specs.KdcReq.{Received}
+use Rattle.krb_messages.specs.declared.kdc_req.Exchange.{Exchange}
+use Rattle.krb_messages.specs.declared.kdc_req.Exchange.TheVariants.{As, Tgs}
+use Rattle.krb_messages.specs.KdcReq.{Received}
 use Rattle.principal_rows.specs.declared.limits.Limits.{Limits}
 use Rattle.principal_rows.specs.declared.row.Row.{Row}
-use Rattle.principals.specs.Database.{ticket_granter}
+use Rattle.principals.specs.Database.{tgs_principal}
 use Rattle.replay.specs.declared.keep.Kept.{Kept}
-use Rattle.replay.specs.declared.memory.Memory.{Memory}
+use Rattle.replay.specs.declared.cache.ReplayCache.{ReplayCache}
 use Rattle.replay.specs.declared.opening.Opening.TheVariants.{First}
 use Rattle.kdc_state.specs.declared.state.State.{State}
-use Rattle.replay.specs.Opening.{opened_memory}
-use Rattle.kdc_state.specs.State.{memory_of}
+use Rattle.replay.specs.Opening.{opened_cache}
+use Rattle.kdc_state.specs.State.{cache_of}
 use Rattle.as_exchange.specs.View as as_exchange
 use Rattle.tgs_exchange.specs.View as tgs_exchange
 use Rattle.tgs_opening.specs.View as tgs_opening
@@ -40,7 +40,7 @@ row_of state None = None
 abbrev pub ticket_view : State → Received → tgs_opening.TicketView
 ticket_view state message = record {
   realm = state.database.realm;
-  granter = map.get state.database.rows (ticket_granter state.database.realm);
+  tgs = map.get state.database.rows (tgs_principal state.database.realm);
   service = row_of state (components_of message.body.value.sname);
 }
 
@@ -74,13 +74,13 @@ pub record View : Type 0 where
   pub limits : Limits
   pub client : Option Row
   pub service : Option Row
-  pub granter : Option Row
-  pub memory : Memory Kept
+  pub tgs : Option Row
+  pub cache : ReplayCache Kept
 
 -- if no client is named, the cache of a first opening; no answer depends on it
-abbrev pub memory_named : State → Option Components → Memory Kept
-memory_named state (Some name) = memory_of state name
-memory_named state None = opened_memory First
+abbrev pub cache_named : State → Option Components → ReplayCache Kept
+cache_named state (Some name) = cache_of state name
+cache_named state None = opened_cache First
 
 abbrev pub view_of : State → Named → View
 view_of state names = record {
@@ -88,8 +88,8 @@ view_of state names = record {
   limits = state.limits;
   client = row_of state names.client;
   service = row_of state names.service;
-  granter = map.get state.database.rows (ticket_granter state.database.realm);
-  memory = memory_named state names.client;
+  tgs = map.get state.database.rows (tgs_principal state.database.realm);
+  cache = cache_named state names.client;
 }
 
 -- of a request that was read
@@ -111,20 +111,20 @@ view state bytes = view_of state (named state bytes)
 pub record Agrees (state other : State) (bytes : List ℕ) : Type 0 where
   pub realm : other.database.realm ≡ state.database.realm
   pub limits : other.limits ≡ state.limits
-  pub granter : map.get other.database.rows (ticket_granter state.database.realm) ≡ map.get state.database.rows
-      (ticket_granter state.database.realm)
+  pub tgs : map.get other.database.rows (tgs_principal state.database.realm) ≡ map.get state.database.rows
+      (tgs_principal state.database.realm)
   pub client : IfSome (named state bytes).client
-      (λ c. (map.get other.database.rows c ≡ map.get state.database.rows c) × (memory_of other c ≡ memory_of state c))
+      (λ c. (map.get other.database.rows c ≡ map.get state.database.rows c) × (cache_of other c ≡ cache_of state c))
   pub service : IfSome (named state bytes).service (λ s. map.get other.database.rows s ≡ map.get state.database.rows s)
 
 -- the part that the AS exchange answers from
 abbrev pub as_view : View → as_exchange.AsView
 as_view v =
-    record { realm = v.realm; limits = v.limits; client = v.client; service = v.service; failures = v.memory.failures }
+    record { realm = v.realm; limits = v.limits; client = v.client; service = v.service; failures = v.cache.failures }
 
 -- the parts that the TGS exchange decrypts a ticket with, and answers from
 abbrev pub opening_view : View → tgs_opening.TicketView
-opening_view v = record { realm = v.realm; granter = v.granter; service = v.service }
+opening_view v = record { realm = v.realm; tgs = v.tgs; service = v.service }
 
 abbrev pub tgs_view : View → tgs_exchange.TgsView
-tgs_view v = record { realm = v.realm; limits = v.limits; client = v.client; service = v.service; memory = v.memory }
+tgs_view v = record { realm = v.realm; limits = v.limits; client = v.client; service = v.service; cache = v.cache }

@@ -6,7 +6,7 @@ ghost use Rattle.kdc_core.specs.Request.{request_of};
 use crate::contents::GREATEST_REQUEST;
 use as_exchange::AsOutcome;
 use krb_fields::{Name, NameRef};
-use krb_types::read_kdc_req;
+use krb_messages::read_kdc_req;
 use replay::Seen;
 use std::alloc::{AllocError, Global};
 use tgs_exchange::TgsOutcome;
@@ -38,7 +38,7 @@ pub struct Answer<'q> {
     pub reply: Option<Vec<u8>>,
     pub account: Account<NameRef<'q>>,
     /// A refused request may record one too: if its authenticator was new.
-    pub remembered: Option<Seen>,
+    pub newly_seen: Option<Seen>,
 }
 
 /// The names that a request gives: its fields cname and sname (RFC 4120, section 5.4.1).

@@ -2,7 +2,7 @@
 //! contents of the bytes first; all else follows from them.
 ghost use Rattle.std.specs.Prelude.{◌≡◌, None, IfOk, IfSome, OnOk, OnErr, option_map};
 ghost use Rattle.std.specs.Option.{unwrap_or};
-ghost use Rattle.krb_types.specs.KrbError.{krb_error};
+ghost use Rattle.krb_messages.specs.KrbError.{krb_error};
 ghost use Rattle.tgs_exchange.specs.Answer.{tgs_error};
 ghost use Rattle.krb_elements.specs.Codec.{written};
 ghost use Rattle.kdc_core.specs.Account.{account_of, account_to, AccountSpelled};
@@ -10,7 +10,7 @@ ghost use Rattle.kdc_core.specs.After.{after_reply, seen_left, MayStay};
 ghost use Rattle.kdc_core.specs.Answer.{answer_of, answer_to, keep, after_incoming};
 ghost use Rattle.kdc_core.specs.Answer.{IsReply, IsReplyTo, OpensOf, ReplyOpens};
 ghost use Rattle.kdc_core.specs.Contents.{AreShort, IsShortName, contents, names_answered};
-ghost use Rattle.kdc_core.specs.Remembered.{remembered_of, remembered_to};
+ghost use Rattle.kdc_core.specs.NewlySeen.{newly_seen_of, newly_seen_to};
 ghost use Rattle.kdc_core.specs.Request.{request_of};
 ghost use Rattle.kdc_core.specs.View.{view, view_of};
 ghost use Rattle.kdc_core.specs.declared.account.Account.TheVariants.{NoRequest, Tgs};
@@ -24,7 +24,7 @@ use crate::tgs_replies::tgs_reply;
 use kdc_replies::Incoming;
 use kdc_state::State;
 use krb_fields::NameRef;
-use krb_types::KdcReqRef;
+use krb_messages::KdcReqRef;
 use std::alloc::{AllocError, Global};
 use tgs_exchange::{TgsOutcome, tgs_error};
 use tgs_opening::Rejection;
@@ -50,8 +50,8 @@ pub fn handle<'q>(
         ≡ (answer_to (view state.old incoming.now.octets) incoming.now).reply) }
     ensures account { IfOk result (λ answer.
         answer.account ≡ account_to (view state.old incoming.now.octets) incoming.now) }
-    ensures remembered { IfOk result (λ answer.
-        answer.remembered ≡ remembered_to (view state.old incoming.now.octets) incoming.now) }
+    ensures newly_seen { IfOk result (λ answer.
+        answer.newly_seen ≡ newly_seen_to (view state.old incoming.now.octets) incoming.now) }
     ensures spelled { IfOk result (λ answer.
         IsReply (view state.old incoming.now.octets) incoming.now.at incoming.now.random
         (request_of incoming.now.octets) (option_map (λ octets. octets.items) answer.reply)) }
@@ -69,7 +69,7 @@ pub fn handle<'q>(
         return Ok(Answer {
             reply: None,
             account: Account::NoRequest,
-            remembered: None,
+            newly_seen: None,
         });
     };
     let Answered {
@@ -77,11 +77,11 @@ pub fn handle<'q>(
         mark,
         account,
     } = answered;
-    let remembered = keep_mark(state, alloc, mark)?;
+    let newly_seen = keep_mark(state, alloc, mark)?;
     Ok(Answer {
         reply: Some(octets),
         account,
-        remembered,
+        newly_seen,
     })
 }
 
@@ -100,8 +100,8 @@ fn reply<'q>(
     ensures account { IfOk result (λ reply.
         unwrap_or (option_map (λ r. r.account) reply) NoRequest
         ≡ account_to (view state.now incoming.now.octets) incoming.now) }
-    ensures remembered { IfOk result (λ reply.
-        seen_left (option_map (λ r. r.mark) reply) ≡ remembered_to (view state.now incoming.now.octets) incoming.now) }
+    ensures newly_seen { IfOk result (λ reply.
+        seen_left (option_map (λ r. r.mark) reply) ≡ newly_seen_to (view state.now incoming.now.octets) incoming.now) }
     ensures spelled { IfOk result (λ reply.
         IsReply (view state.now incoming.now.octets) incoming.now.at incoming.now.random
         (request_of incoming.now.octets) (option_map (λ r. r.octets.items) reply)) }
@@ -135,9 +135,9 @@ fn reply_to<'q>(
     ensures account { IfOk result (λ reply.
         unwrap_or (option_map (λ r. r.account) reply) NoRequest
         ≡ account_of (view_of state.now (names_answered held.entry)) incoming.now held.entry) }
-    ensures remembered { IfOk result (λ reply.
+    ensures newly_seen { IfOk result (λ reply.
         seen_left (option_map (λ r. r.mark) reply)
-        ≡ remembered_of (view_of state.now (names_answered held.entry)) incoming.now held.entry) }
+        ≡ newly_seen_of (view_of state.now (names_answered held.entry)) incoming.now held.entry) }
     ensures spelled { IfOk result (λ reply.
         IsReplyTo (view_of state.now (names_answered held.entry)) incoming.now.at incoming.now.random
         (option_map (λ r. r.octets.items) reply) held.entry) }

@@ -1,12 +1,12 @@
 //! The AS exchange of a KDC.
 ghost use Rattle.std.specs.Prelude.{◌≡◌, None, Some, IfOk, IfSome, option_copied};
 ghost use Rattle.as_exchange.specs.Known.{IsKnown};
-ghost use Rattle.krb_types.specs.declared.kdc_req.Exchange.TheVariants.{As};
+ghost use Rattle.krb_messages.specs.declared.kdc_req.Exchange.TheVariants.{As};
 ghost use Rattle.kdc_core.specs.Account.{account_of, AccountSpelledOf};
 ghost use Rattle.kdc_core.specs.After.{after, counted_of, seen_in, MayStay};
 ghost use Rattle.kdc_core.specs.Answer.{answer_of, keep, OpensOf, SpelledOf};
 ghost use Rattle.kdc_core.specs.Contents.{IsShortName};
-ghost use Rattle.kdc_core.specs.View.{as_view, components_of, memory_named, view_in};
+ghost use Rattle.kdc_core.specs.View.{as_view, components_of, cache_named, view_in};
 ghost use Rattle.kdc_core.specs.declared.contents.Contents.TheVariants.{AsReq};
 ghost use Rattle.kdc_state.specs.declared.state.State as states;
 
@@ -18,7 +18,7 @@ use as_exchange::{AsAnswer, AsView, as_answer};
 use kdc_replies::Incoming;
 use kdc_state::State;
 use krb_fields::NameRef;
-use krb_types::KdcReqRef;
+use krb_messages::KdcReqRef;
 use replay::Failures;
 use std::alloc::{AllocError, Global};
 
@@ -40,7 +40,7 @@ pub fn as_reply<'q>(
     ensures account { IfOk result (λ reply.
         reply.account ≡ account_of (view_in state.now As message.now) incoming.now (AsReq message.now)) }
     // It records no authenticator.
-    ensures remembered { IfOk result (λ reply. seen_in reply.mark ≡ None) }
+    ensures newly_seen { IfOk result (λ reply. seen_in reply.mark ≡ None) }
     ensures outcome_spelled { IfOk result (λ reply.
         AccountSpelledOf (view_in state.now As message.now) incoming.now (AsReq message.now) reply.octets.items) }
     ensures spelled { IfOk result (λ reply.
@@ -87,7 +87,7 @@ fn as_view<'s>(state: &'s State, message: &KdcReqRef<'_>) -> AsView<'s>
 
 /// Returns the failures of the client that a request names.
 fn failures_of(state: &State, name: Option<&NameRef<'_>>) -> Failures
-    ensures { result ≡ (memory_named state.now (components_of (option_copied name.entry))).failures }
+    ensures { result ≡ (cache_named state.now (components_of (option_copied name.entry))).failures }
 {
     match name {
         Some(name) => state.failures(name),

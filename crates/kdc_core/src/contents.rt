@@ -11,8 +11,9 @@ ghost use Rattle.kdc_core.specs.View.{components_of, row_of, ticket_view, view, 
 
 use kdc_state::State;
 use krb_fields::NameRef;
-use krb_types::{Exchange, KdcReqRef, read_kdc_req};
+use krb_messages::{Exchange, KdcReqRef, read_kdc_req};
 use principal_rows::Row;
+use refusals::Attempt;
 use sealed_parts::ReadyKeys;
 use std::alloc::{AllocError, Global};
 use tgs_opening::{Presented, Rejection, TicketView, tgs_open};
@@ -94,7 +95,7 @@ fn open_presented(
     alloc: Global,
     ready: &ReadyKeys,
     message: &KdcReqRef<'_>,
-) -> Result<Result<Presented, Rejection>, AllocError>
+) -> Attempt<Presented, Rejection>
     requires { IfSome (tgs_data message.now) (λ value. length value < 2147483648) }
     ensures value { IfOk result (λ found. found ≡ presented (ticket_view state.now message.now) message.now) }
     ensures authorization { IfOk result (λ found. IfOk found (λ presented.
@@ -102,7 +103,7 @@ fn open_presented(
 {
     let view = TicketView {
         realm: state.database.realm(),
-        granter: state.database.granter(),
+        tgs: state.database.tgs(),
         service: row_of(state, message.body.value.sname.as_ref()),
         ready,
     };

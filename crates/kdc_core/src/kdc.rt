@@ -7,7 +7,7 @@ ghost use Rattle.krb_fields.specs.Name.{Components};
 ghost use Rattle.kdc_core.specs.Account.{account, account_names, AccountHolds};
 ghost use Rattle.kdc_core.specs.Answer.{answer, after_request, error_octets, IsReply, OneTicketTwoKeys};
 ghost use Rattle.kdc_core.specs.Issued.{issued, IsReplyOf};
-ghost use Rattle.kdc_core.specs.Remembered.{remembered};
+ghost use Rattle.kdc_core.specs.NewlySeen.{newly_seen};
 ghost use Rattle.kdc_core.specs.Request.{Request, SpellsRequest, request_of};
 ghost use Rattle.kdc_core.specs.Run.{after_event, replaced};
 ghost use Rattle.kdc_core.specs.View.{Agrees, named, view};
@@ -16,9 +16,9 @@ ghost use Rattle.kdc_replies.specs.GoodStanding.{AreInGoodStanding};
 ghost use Rattle.krb_fields.specs.declared.moment.Moment as moments;
 ghost use Rattle.replay.specs.declared.opening.Opening.TheVariants.{Restart};
 ghost use Rattle.kdc_state.specs.Resumed.{resumed_state};
-ghost use Rattle.kdc_state.specs.State.{opened_state, memory_of, restarted, tidied_state};
-ghost use Rattle.replay.specs.Memory as memories;
-ghost use Rattle.replay.specs.Resumed.{resumed_memory};
+ghost use Rattle.kdc_state.specs.State.{opened_state, cache_of, restarted, tidied_state};
+ghost use Rattle.replay.specs.ReplayCache as caches;
+ghost use Rattle.replay.specs.Resumed.{resumed_cache};
 ghost use Rattle.replay.specs.Tidied.{tidied};
 ghost use Rattle.kdc_state.specs.declared.state.State as states;
 ghost use Rattle.principals.specs.Change.{refusal, changed};
@@ -102,8 +102,8 @@ impl Kdc {
         ensures goes_on { (state : states.State)
             → IfOk result (λ kdc. kdc ≡ after_event state (Resume database limits resumption.now)) }
         // Each client has the replay cache that the resumption gives it.
-        ensures memories { (name : Components)
-            → IfOk result (λ kdc. memory_of kdc name ≡ resumed_memory resumption.now name) }
+        ensures caches { (name : Components)
+            → IfOk result (λ kdc. cache_of kdc name ≡ resumed_cache resumption.now name) }
     {
         let ready = ReadyKeys::new(alloc)?;
         let state = State::resume(alloc, database, limits, resumption)?;
@@ -153,8 +153,8 @@ impl Kdc {
             given.account ≡ account (view self.old request.now) at random.now room request.now) }
         // The authenticator that it reports as recorded is the one that the same rules record: a resumption has to have
         // it.
-        ensures remembered { IfOk result (λ given.
-            given.remembered ≡ remembered (view self.old request.now) at random.now room request.now) }
+        ensures newly_seen { IfOk result (λ given.
+            given.newly_seen ≡ newly_seen (view self.old request.now) at random.now room request.now) }
         // The account names the client and the service that the request names.
         ensures names { IfOk result (λ given. account_names given.account ≡ named self.old request.now) }
         // The account is true of the reply. If it says that a ticket was issued, the bytes encode the reply for a
@@ -183,8 +183,8 @@ impl Kdc {
         // No request changes a row, the realm or the limits, or any replay cache but the named client's.
         ensures database { self.new.database ≡ self.old.database }
         ensures limits { self.new.limits ≡ self.old.limits }
-        ensures memories { (name : Components) → (named self.old request.now).client ≢ Some name
-            → memory_of self.new name ≡ memory_of self.old name }
+        ensures caches { (name : Components) → (named self.old request.now).client ≢ Some name
+            → cache_of self.new name ≡ cache_of self.old name }
         ensures err { OnErr result (self.new ≡ self.old) }
     {
         let incoming = Incoming {
@@ -227,7 +227,7 @@ impl Kdc {
     pub fn tidy(&mut self, at: Moment)
         ensures state { self.new ≡ tidied_state self.old at }
         // Each client's cache is tidied; rows, realm and limits are unchanged.
-        ensures memories { (name : Components) → memory_of self.new name ≡ tidied (memory_of self.old name) at.sec }
+        ensures caches { (name : Components) → cache_of self.new name ≡ tidied (cache_of self.old name) at.sec }
         ensures database { self.new.database ≡ self.old.database }
         ensures limits { self.new.limits ≡ self.old.limits }
     {
@@ -239,7 +239,7 @@ impl Kdc {
     pub fn restart(&mut self, at: Moment)
         ensures state { self.new ≡ restarted self.old at }
         // Each client has the cache of a restart; rows, realm and limits are unchanged.
-        ensures memories { (name : Components) → memory_of self.new name ≡ memories.restarted_memory at.sec }
+        ensures caches { (name : Components) → cache_of self.new name ≡ caches.restarted_cache at.sec }
         ensures database { self.new.database ≡ self.old.database }
         ensures limits { self.new.limits ≡ self.old.limits }
     {

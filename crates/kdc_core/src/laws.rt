@@ -1,7 +1,7 @@
 //! Laws of every run, from any state, over the definitions that `Kdc::run` meets.
 ghost use Rattle.std.specs.Prelude.{List};
 ghost use Rattle.kdc_core.specs.Marked.{KeepsMarked};
-ghost use Rattle.kdc_core.specs.Remembered.{CanBeResumed};
+ghost use Rattle.kdc_core.specs.NewlySeen.{CanBeResumed};
 ghost use Rattle.kdc_core.specs.Struck.{Isolation};
 ghost use Rattle.kdc_core.specs.Tickets.{OneTicket};
 ghost use Rattle.kdc_core.specs.Unaffected.{Unaffected};

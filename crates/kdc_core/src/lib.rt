@@ -12,6 +12,7 @@ mod run;
 mod tgs_replies;
 
 pub use account::{Account, Answer, RequestNames};
+pub use ap_opening::ApRefusal;
 pub use as_exchange::{AsOutcome, AsRefusal};
 pub use kdc::{Kdc, OtherRealm};
 pub use kdc_replies::Granted;

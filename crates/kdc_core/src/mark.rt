@@ -52,7 +52,7 @@ pub fn keep_mark(
                 kept,
             },
         ) => {
-            state.remember(alloc, &client, at, ctime, cusec, kept)?;
+            state.record_seen(alloc, &client, at, ctime, cusec, kept)?;
             Ok(Some(Seen {
                 client,
                 ctime,

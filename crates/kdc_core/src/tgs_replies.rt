@@ -3,13 +3,13 @@ ghost use Rattle.std.specs.Prelude.{◌≡◌, Some, IfOk, IfSome};
 ghost use Rattle.tgs_exchange.specs.Answer.{tgs_answer, Opens, Spelled};
 ghost use Rattle.tgs_exchange.specs.Known.{IsKnown};
 ghost use Rattle.tgs_exchange.specs.Outcome.{tgs_outcome, OutcomeSpelled};
-ghost use Rattle.replay.specs.Tidied.{empty_memory};
-ghost use Rattle.kdc_state.specs.State.{memory_of};
+ghost use Rattle.replay.specs.Tidied.{empty_cache};
+ghost use Rattle.kdc_state.specs.State.{cache_of};
 ghost use Rattle.kdc_core.specs.Account.{account_of, AccountSpelledOf};
 ghost use Rattle.kdc_core.specs.After.{after, seen_in, stamped_of, MayStay};
 ghost use Rattle.kdc_core.specs.Answer.{answer_of, keep, OpensOf, SpelledOf};
 ghost use Rattle.kdc_core.specs.Contents.{IsShortData, IsShortName};
-ghost use Rattle.kdc_core.specs.Remembered.{remembered_of, seen_of};
+ghost use Rattle.kdc_core.specs.NewlySeen.{newly_seen_of, seen_of};
 ghost use Rattle.kdc_core.specs.View.{presented_view, tgs_view};
 ghost use Rattle.kdc_core.specs.declared.contents.Contents.TheVariants.{TgsReq};
 
@@ -20,8 +20,8 @@ use crate::mark::Mark;
 use kdc_replies::Incoming;
 use kdc_state::State;
 use krb_fields::{Moment, Name};
-use krb_types::KdcReqRef;
-use replay::{Kept, Memory};
+use krb_messages::KdcReqRef;
+use replay::{Kept, ReplayCache};
 use std::alloc::{AllocError, Global};
 use tgs_exchange::{TgsAnswer, TgsView, tgs_answer};
 use tgs_opening::Presented;
@@ -47,9 +47,9 @@ pub fn tgs_reply<'q>(
     ensures account { IfOk result (λ reply.
         reply.account ≡ account_of (presented_view state.now message.now presented) incoming.now
         (TgsReq message.now presented)) }
-    ensures remembered { IfOk result (λ reply.
+    ensures newly_seen { IfOk result (λ reply.
         seen_in reply.mark
-        ≡ remembered_of (presented_view state.now message.now presented) incoming.now (TgsReq message.now presented)) }
+        ≡ newly_seen_of (presented_view state.now message.now presented) incoming.now (TgsReq message.now presented)) }
     ensures outcome_spelled { IfOk result (λ reply.
         AccountSpelledOf (presented_view state.now message.now presented) incoming.now (TgsReq message.now presented)
         reply.octets.items) }
@@ -120,7 +120,7 @@ fn answered(
     ensures stays { IfOk result (λ answer.
         IfSome (stamped_of incoming.now.at presented.now answer.kept) (MayStay state.now)) }
 {
-    let unstored = Memory::empty(alloc, state.floor);
+    let unstored = ReplayCache::empty(alloc, state.floor);
     let view = tgs_view(state, message, presented, &unstored);
     tgs_answer(alloc, &view, incoming, &message.body.value, presented)
 }
@@ -130,9 +130,9 @@ fn tgs_view<'s>(
     state: &'s State,
     message: &KdcReqRef<'_>,
     presented: &Presented,
-    unstored: &'s Memory<Kept>,
+    unstored: &'s ReplayCache<Kept>,
 ) -> TgsView<'s>
-    requires unstored { unstored.now ≡ empty_memory state.now.floor }
+    requires unstored { unstored.now ≡ empty_cache state.now.floor }
     requires sname { IsShortName message.now }
     requires authorization { IsShortData presented.now }
     ensures view { result ≡ tgs_view (presented_view state.now message.now presented.now) }
@@ -144,17 +144,21 @@ fn tgs_view<'s>(
         limits: &state.limits,
         client: state.database.get(&presented.ticket.cname),
         service: row_of(state, message.body.value.sname.as_ref()),
-        memory: memory_of(state, &presented.ticket.cname, unstored),
+        cache: cache_of(state, &presented.ticket.cname, unstored),
     }
 }
 
 /// Returns the replay cache of a client.
-fn memory_of<'s>(state: &'s State, client: &Name, unstored: &'s Memory<Kept>) -> &'s Memory<Kept>
-    requires { unstored.now ≡ empty_memory state.now.floor }
-    ensures { result.now ≡ memory_of state.now client.now.components }
+fn cache_of<'s>(
+    state: &'s State,
+    client: &Name,
+    unstored: &'s ReplayCache<Kept>,
+) -> &'s ReplayCache<Kept>
+    requires { unstored.now ≡ empty_cache state.now.floor }
+    ensures { result.now ≡ cache_of state.now client.now.components }
 {
-    match state.memories.get(client) {
-        Some(memory) => memory,
+    match state.caches.get(client) {
+        Some(cache) => cache,
         None => unstored,
     }
 }

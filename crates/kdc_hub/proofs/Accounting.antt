@@ -6,7 +6,7 @@ use Rattle.krb_fields.specs.declared.moment.Moment.{Moment}
 use Rattle.kdc_core.specs.Account.{Account, AccountHolds, account, names_in, with_names}
 use Rattle.kdc_core.specs.AccountLaws.{names_are_given}
 use Rattle.kdc_core.specs.Answer.{answer}
-use Rattle.kdc_core.specs.Remembered.{remembered}
+use Rattle.kdc_core.specs.NewlySeen.{newly_seen}
 use Rattle.kdc_core.specs.Request.{request_of}
 use Rattle.kdc_core.specs.View.{View, view}
 use Rattle.kdc_core.specs.declared.account.Account.TheVariants.{NoRequest, As, Tgs}
@@ -24,15 +24,15 @@ module _ (keeps : Bool) (v : View) (at : Moment) (random : List ℕ) (room : ℕ
 
   -- a reply with the copied names is the reply with its account
   pub made : (octets : Option (List ℕ)) (a : Account) (names : Option RequestNames) (seen : Option Seen) → octets ≡ (answer v at random room request).reply
-      → a ≡ account v at random room request → names ≡ names_kept keeps request → seen ≡ remembered v at random room request
+      → a ≡ account v at random room request → names ≡ names_kept keeps request → seen ≡ newly_seen v at random room request
       → reply_with octets a names seen ≡ reply_by keeps v at random room request
   unfolding reply_by
   made octets a names seen octets_are is names_are seen_is =
       (λ k. reply_with (octets_are k) (is k) (names_are k) (seen_is k))
-      ∙ ap (λ (x : Option Account). option_map (λ (message : List ℕ). let r : Reply = record { message = message; account = x; remembered = remembered v at random room request } in r) (answer v at random room request).reply) (named keeps)
+      ∙ ap (λ (x : Option Account). option_map (λ (message : List ℕ). let r : Reply = record { message = message; account = x; newly_seen = newly_seen v at random room request } in r) (answer v at random room request).reply) (named keeps)
 
   true_of : (b : Bool) (o : Option (List ℕ)) (a : Account) → AccountHolds v at random (request_of request) a o
-      → ReplyHolds v at random request (option_map (λ (message : List ℕ). let r : Reply = record { message = message; account = kept_account b a; remembered = remembered v at random room request } in r) o)
+      → ReplyHolds v at random request (option_map (λ (message : List ℕ). let r : Reply = record { message = message; account = kept_account b a; newly_seen = newly_seen v at random room request } in r) o)
   true_of true (Some octets) a h = h
   true_of false (Some octets) a h = tt
   true_of b None NoRequest h = h

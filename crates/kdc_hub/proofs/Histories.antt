@@ -17,8 +17,8 @@ use Rattle.kdc_core.proofs.Unseen.{tidies_unseen}
 use Rattle.kdc_core.proofs.Runs.{replies_append, run_append}
 use Rattle.kdc_core.specs.Account.{Account, account, account_to}
 use Rattle.kdc_core.specs.AccountLaws.{unanswered}
-use Rattle.kdc_core.specs.Remembered.{Covers, event_remembers, remembered, resumption_at, run_remembers}
-use Rattle.kdc_core.specs.RememberedLaws.{unremembered}
+use Rattle.kdc_core.specs.NewlySeen.{Covers, event_sees, newly_seen, resumption_at, run_sees}
+use Rattle.kdc_core.specs.NewlySeenLaws.{none_newly_seen}
 use Rattle.kdc_core.specs.Answer.{answer, answer_to}
 use Rattle.kdc_core.specs.Run.{after_event, event_reply, replies, run}
 use Rattle.kdc_core.specs.View.{View, view}
@@ -38,7 +38,7 @@ use Rattle.kdc_hub.specs.Issuing.{Issuing, after, kept_account, reply_by, reply_
 use Rattle.kdc_hub.specs.StreamStep.{StreamStep, action_for, after_reply, after_some, messages_step, reply_then, stream_room, stream_step}
 use Rattle.kdc_hub.specs.Hub.{Standing, Step, brings, datagram_room, greatest_request, hub_step, kept, most_connections, nothing, opened, requests_of as messages_of, sent, stopped}
 use Rattle.kdc_hub.specs.Logged.{Entry, Stop, logged, step_by, step_of}
-use Rattle.kdc_hub.specs.History.{AnswersWhoAsked, Begins, CanBeResumed, IsOfOneProcess, IsOneRun, KeepsAccounts, account_in, accounts, accounts_in, entry_replies, event_accounts, octets_of, turn_accounts, OneTicketInProcess, OneTicketSent, ServesAlike, TidiesUnseen, Turn, Unaffected, Stepped, Replaced, Tidied, Reopened, Resumed, after_turn, all_seen_by, seen_by, turn_remembers, after_turns, answers, asked, chosen, event_requests, events_in, others_after, piece_requests, remembered_in, replies_by, reply_in, requests_by, stopped_requests, stream_requests, tickets_among, turn_events, turn_replies}
+use Rattle.kdc_hub.specs.History.{AnswersWhoAsked, Begins, CanBeResumed, IsOfOneProcess, IsOneRun, KeepsAccounts, account_in, accounts, accounts_in, entry_replies, event_accounts, octets_of, turn_accounts, OneTicketInProcess, OneTicketSent, ServesAlike, TidiesUnseen, Turn, Unaffected, Stepped, Replaced, Tidied, Reopened, Resumed, after_turn, all_seen_by, seen_by, turn_sees, after_turns, answers, asked, chosen, event_requests, events_in, others_after, piece_requests, newly_seen_in, replies_by, reply_in, requests_by, stopped_requests, stream_requests, tickets_among, turn_events, turn_replies}
 
 -- ---- one request
 
@@ -62,7 +62,7 @@ unfolding reply_by
 octets_given kept v at random room request = by_reply (answer v at random room request).reply
   where
     by_reply : (o : Option (List ℕ))
-        → octets_of (option_map (λ message. record { message = message; account = kept_account kept (account v at random room request); remembered = remembered v at random room request }) o) ≡ o
+        → octets_of (option_map (λ message. record { message = message; account = kept_account kept (account v at random room request); newly_seen = newly_seen v at random room request }) o) ≡ o
     by_reply (Some octets) = refl
     by_reply None = refl
 
@@ -86,24 +86,24 @@ account_given v at random room request =
     by_reply (answer v at random room request).reply (unanswered v (record { at = at; random = random; room = room; octets = request }))
   where
     by_reply : (o : Option (List ℕ)) → (o ≡ None → account v at random room request ≡ NoRequest)
-        → account_in (option_map (λ message. record { message = message; account = kept_account true (account v at random room request); remembered = remembered v at random room request }) o)
+        → account_in (option_map (λ message. record { message = message; account = kept_account true (account v at random room request); newly_seen = newly_seen v at random room request }) o)
         ≡ Some (account v at random room request)
     by_reply (Some octets) none = refl
     by_reply None none = ap Some (sym (none refl))
 
 seen_given : (kept : Bool) (v : View) (at : Moment) (random : List ℕ) (room : ℕ) (request : List ℕ)
-    → seen_by (reply_by kept v at random room request) ≡ with_any (remembered v at random room request) []
+    → seen_by (reply_by kept v at random room request) ≡ with_any (newly_seen v at random room request) []
 unfolding reply_by
 seen_given kept v at random room request =
-    by_reply (answer v at random room request).reply (unremembered v (record { at = at; random = random; room = room; octets = request }))
+    by_reply (answer v at random room request).reply (none_newly_seen v (record { at = at; random = random; room = room; octets = request }))
   where
-    by_reply : (o : Option (List ℕ)) → (o ≡ None → remembered v at random room request ≡ None)
-        → seen_by (option_map (λ message. record { message = message; account = kept_account kept (account v at random room request); remembered = remembered v at random room request }) o)
-        ≡ with_any (remembered v at random room request) []
+    by_reply : (o : Option (List ℕ)) → (o ≡ None → newly_seen v at random room request ≡ None)
+        → seen_by (option_map (λ message. record { message = message; account = kept_account kept (account v at random room request); newly_seen = newly_seen v at random room request }) o)
+        ≡ with_any (newly_seen v at random room request) []
     by_reply (Some octets) none = refl
     by_reply None none = ap (λ o. with_any o []) (sym (none refl))
 
-event_seen : (kept : Bool) (state : State) (event : KdcEvent) → seen_by (event_given kept state event) ≡ with_any (event_remembers state event) []
+event_seen : (kept : Bool) (state : State) (event : KdcEvent) → seen_by (event_given kept state event) ≡ with_any (event_sees state event) []
 event_seen kept state (Request at random room request) = seen_given kept (view state request) at random room request
 event_seen kept state (Change change) = refl
 event_seen kept state (Replace database) = refl
@@ -112,15 +112,15 @@ event_seen kept state (Restart at) = refl
 event_seen kept state (Reopen database limits at) = refl
 event_seen kept state (Resume database limits resumption) = refl
 
-remembers_given : (kept : Bool) (state : State) (events : List KdcEvent) → all_seen_by (given kept state events) ≡ run_remembers state events
-remembers_given kept state [] = refl
-remembers_given kept state (event ∷ events) = λ k. event_seen kept state event k ++ remembers_given kept (after_event state event) events k
+sees_given : (kept : Bool) (state : State) (events : List KdcEvent) → all_seen_by (given kept state events) ≡ run_sees state events
+sees_given kept state [] = refl
+sees_given kept state (event ∷ events) = λ k. event_seen kept state event k ++ sees_given kept (after_event state event) events k
 
-remembers_append : (state : State) (events others : List KdcEvent) → run_remembers state (events ++ others) ≡ run_remembers state events ++ run_remembers (run state events) others
-remembers_append state [] others = refl
-remembers_append state (event ∷ events) others =
-    ap (λ l. with_any (event_remembers state event) [] ++ l) (remembers_append (after_event state event) events others)
-    ∙ sym (append_assoc (with_any (event_remembers state event) []) (run_remembers (after_event state event) events) (run_remembers (run (after_event state event) events) others))
+sees_append : (state : State) (events others : List KdcEvent) → run_sees state (events ++ others) ≡ run_sees state events ++ run_sees (run state events) others
+sees_append state [] others = refl
+sees_append state (event ∷ events) others =
+    ap (λ l. with_any (event_sees state event) [] ++ l) (sees_append (after_event state event) events others)
+    ∙ sym (append_assoc (with_any (event_sees state event) []) (run_sees (after_event state event) events) (run_sees (run (after_event state event) events) others))
 
 asked_reply : (i : Issuing) (at : Moment) (room : ℕ) (request : List ℕ) → event_given i.accounts i.kdc (asked i at room request) ≡ reply_of i at room request
 unfolding reply_of
@@ -423,7 +423,7 @@ record IsTurned (hub : Standing) (turn : Turn) : Type 0 where
   pub sent : turn_replies hub turn ≡ replies hub.issuing.kdc (turn_events hub turn)
   pub accounts_are : IsTrue hub.issuing.accounts → turn_accounts hub turn ≡ accounts hub.issuing.kdc (turn_events hub turn)
   pub keeps : IsTrue hub.issuing.accounts → KeepsAccounts turn → IsTrue (after_turn hub turn).issuing.accounts
-  pub seen : turn_remembers hub turn ≡ run_remembers hub.issuing.kdc (turn_events hub turn)
+  pub seen : turn_sees hub turn ≡ run_sees hub.issuing.kdc (turn_events hub turn)
   pub kdc : (after_turn hub turn).issuing.kdc ≡ run hub.issuing.kdc (turn_events hub turn)
 
 turned : (hub : Standing) (turn : Turn) → IsTurned hub turn
@@ -435,7 +435,7 @@ turned hub (Stepped entry) =
       accounts_are = λ kept. ap (map_list account_in) step.sent
           ∙ accounts_given hub.issuing.accounts kept hub.issuing.kdc requests (entry_asks hub entry.at entry.stop entry.event);
       keeps = λ kept all. step.accounts ∙ kept;
-      seen = ap all_seen_by step.sent ∙ remembers_given hub.issuing.accounts hub.issuing.kdc requests;
+      seen = ap all_seen_by step.sent ∙ sees_given hub.issuing.accounts hub.issuing.kdc requests;
       kdc = step.kdc;
     }
 turned hub (Replaced database) = record { sent = refl; accounts_are = λ kept. refl; keeps = λ kept all. kept; seen = refl; kdc = refl }
@@ -447,7 +447,7 @@ pub turned_kdc : (hub : Standing) (turn : Turn) → (after_turn hub turn).issuin
 turned_kdc hub turn = (turned hub turn).kdc
 
 pub one_run : (start : Standing) (turns : List Turn) → IsOneRun start turns
-one_run start [] = record { replies_are = refl; accounts_are = λ kept all. refl; remembered_are = refl; kdc_is = refl }
+one_run start [] = record { replies_are = refl; accounts_are = λ kept all. refl; newly_seen_are = refl; kdc_is = refl }
 one_run start (turn ∷ turns) =
     let first = turned start turn in
     let rest = one_run (after_turn start turn) turns in
@@ -457,8 +457,8 @@ one_run start (turn ∷ turns) =
       accounts_are = λ kept all.
           (λ k. first.accounts_are kept k ++ (rest.accounts_are (first.keeps kept all.0) all.1 ∙ ap (λ s. accounts s later) first.kdc) k)
           ∙ sym (accounts_append start.issuing.kdc (turn_events start turn) later);
-      remembered_are = (λ k. first.seen k ++ (rest.remembered_are ∙ ap (λ s. run_remembers s later) first.kdc) k)
-          ∙ sym (remembers_append start.issuing.kdc (turn_events start turn) later);
+      newly_seen_are = (λ k. first.seen k ++ (rest.newly_seen_are ∙ ap (λ s. run_sees s later) first.kdc) k)
+          ∙ sym (sees_append start.issuing.kdc (turn_events start turn) later);
       kdc_is = rest.kdc_is ∙ ap (λ s. run s later) first.kdc ∙ sym (run_append start.issuing.kdc (turn_events start turn) later);
     }
 
@@ -478,12 +478,12 @@ chosen_of_run test state (event ∷ events) =
     ap (λ l. if test state event then event_reply state event ∷ l else l) (chosen_of_run test (after_event state event) events)
 
 pub serves_alike : ServesAlike
-serves_alike start turns other others c S granter within a same =
+serves_alike start turns other others c S tgs within a same =
     let here = one_run start turns in
     let there = one_run other others in
     let k = start.issuing.kdc in
     let l = other.issuing.kdc in
-    let isolated = isolation k (events_in start turns) c S l granter within a in
+    let isolated = isolation k (events_in start turns) c S l tgs within a in
     record {
       replies = ap (chosen is_request l (events_in other others)) there.replies_are
           ∙ chosen_of_run is_request l (events_in other others)
@@ -496,12 +496,12 @@ serves_alike start turns other others c S granter within a same =
     }
 
 pub unaffected : Unaffected
-unaffected start turns other others c S granter within within_other a same =
+unaffected start turns other others c S tgs within within_other a same =
     let here = one_run start turns in
     let there = one_run other others in
     let k = start.issuing.kdc in
     let l = other.issuing.kdc in
-    let gets = unaffected_run c S k l (events_in start turns) (events_in other others) granter within within_other a same in
+    let gets = unaffected_run c S k l (events_in start turns) (events_in other others) tgs within within_other a same in
     record {
       replies = ap (chosen (is_request_of c) l (events_in other others)) there.replies_are
           ∙ chosen_of_run (is_request_of c) l (events_in other others)
@@ -522,8 +522,8 @@ unseen start turns follow =
 pub can_be_resumed : CanBeResumed
 can_be_resumed start turns r now covers up_to =
     let is = one_run start turns in
-    subst (λ (s : State). Covers s (resumption_at now r (remembered_in start turns))) (sym is.kdc_is)
-    (subst (λ seen. Covers (run start.issuing.kdc (events_in start turns)) (resumption_at now r seen)) (sym is.remembered_are)
+    subst (λ (s : State). Covers s (resumption_at now r (newly_seen_in start turns))) (sym is.kdc_is)
+    (subst (λ seen. Covers (run start.issuing.kdc (events_in start turns)) (resumption_at now r seen)) (sym is.newly_seen_are)
     (core.on start.issuing.kdc (events_in start turns) r now covers up_to))
 
 tickets_are : (c : Components) (state : State) (events : List KdcEvent) → tickets_among c state events (replies state events) ≡ tickets_to c state events

@@ -8,7 +8,7 @@ use Rattle.framing.specs.Splitting.{Splitting, fed, handed_out}
 use Rattle.krb_fields.specs.Name.{Components}
 use Rattle.krb_fields.specs.declared.moment.Moment.{Moment}
 use Rattle.principal_rows.specs.declared.limits.Limits.{Limits}
-use Rattle.principals.specs.Database.{Principals, ticket_granter}
+use Rattle.principals.specs.Database.{Principals, tgs_principal}
 use Rattle.replay.specs.declared.opening.Opening.TheVariants.{Restart}
 use Rattle.replay.specs.Run.{OneForEach, with_any}
 use Rattle.replay.specs.Stamp.{Stamp}
@@ -18,7 +18,7 @@ use Rattle.kdc_state.specs.Resumed.{resumed_state}
 use Rattle.kdc_state.specs.State.{opened_state, tidied_state}
 use Rattle.kdc_state.specs.declared.state.State.{State}
 use Rattle.kdc_core.specs.Account.{Account, account}
-use Rattle.kdc_core.specs.Remembered.{AreUpTo, Covers, resumption_at, run_remembers}
+use Rattle.kdc_core.specs.NewlySeen.{AreUpTo, Covers, resumption_at, run_sees}
 use Rattle.kdc_core.specs.Run.{after_event, replaced, replies, run}
 use Rattle.kdc_core.specs.Struck.{AgreesFor, Names, ServicesWithin, is_request, is_request_of, replies_to, strike}
 use Rattle.kdc_core.specs.Tickets.{RestartsFollow, ResumesFollow, ticket_for}
@@ -213,23 +213,23 @@ KeepsAccounts (Resumed database limits resumption random kept) = IsTrue kept
 
 -- the authenticators recorded by the requests that these replies answer, in order
 abbrev pub seen_by : Option Reply → List Seen
-seen_by (Some reply) = with_any reply.remembered []
+seen_by (Some reply) = with_any reply.newly_seen []
 seen_by None = []
 
 abbrev pub all_seen_by : List (Option Reply) → List Seen
 all_seen_by [] = []
 all_seen_by (reply ∷ replies) = seen_by reply ++ all_seen_by replies
 
-abbrev pub turn_remembers : Standing → Turn → List Seen
-turn_remembers hub (Stepped entry) = all_seen_by (entry_replies hub entry)
-turn_remembers hub (Replaced database) = []
-turn_remembers hub (Tidied at) = []
-turn_remembers hub (Reopened database limits at random kept) = []
-turn_remembers hub (Resumed database limits resumption random kept) = []
+abbrev pub turn_sees : Standing → Turn → List Seen
+turn_sees hub (Stepped entry) = all_seen_by (entry_replies hub entry)
+turn_sees hub (Replaced database) = []
+turn_sees hub (Tidied at) = []
+turn_sees hub (Reopened database limits at random kept) = []
+turn_sees hub (Resumed database limits resumption random kept) = []
 
-abbrev pub remembered_in : Standing → List Turn → List Seen
-remembered_in hub [] = []
-remembered_in hub (turn ∷ turns) = turn_remembers hub turn ++ remembered_in (after_turn hub turn) turns
+abbrev pub newly_seen_in : Standing → List Turn → List Seen
+newly_seen_in hub [] = []
+newly_seen_in hub (turn ∷ turns) = turn_sees hub turn ++ newly_seen_in (after_turn hub turn) turns
 
 -- a list is the beginning of another
 pub record Begins {X : Type 0} (front whole : List X) : Type 0 where
@@ -249,7 +249,7 @@ pub record IsOneRun (start : Standing) (turns : List Turn) : Type 0 where
   pub accounts_are : IsTrue start.issuing.accounts → AllByRecursion KeepsAccounts turns
       → accounts_in start turns ≡ accounts start.issuing.kdc (events_in start turns)
   -- the replies report every authenticator that the run records, in order
-  pub remembered_are : remembered_in start turns ≡ run_remembers start.issuing.kdc (events_in start turns)
+  pub newly_seen_are : newly_seen_in start turns ≡ run_sees start.issuing.kdc (events_in start turns)
   pub kdc_is : (after_turns start turns).issuing.kdc ≡ run start.issuing.kdc (events_in start turns)
 
 -- A history of one process can be resumed: what covered the state that it began with, and what its replies have
@@ -257,7 +257,7 @@ pub record IsOneRun (start : Standing) (turns : List Turn) : Type 0 where
 abbrev pub CanBeResumedFrom : Standing → List Turn → Type 0
 CanBeResumedFrom start turns = (r : Resumption) (now : ℤ) → Covers start.issuing.kdc r
     → AreUpTo now (events_in start turns)
-    → Covers (after_turns start turns).issuing.kdc (resumption_at now r (remembered_in start turns))
+    → Covers (after_turns start turns).issuing.kdc (resumption_at now r (newly_seen_in start turns))
 
 abbrev pub CanBeResumed : Type 0
 CanBeResumed = (start : Standing) (turns : List Turn) → CanBeResumedFrom start turns
@@ -284,7 +284,7 @@ pub record AreServedAlike (c : Components) (S : Names) (start other : Standing) 
 -- replacements, tidyings and restarts are the same. Then c's requests get the same replies there, in order.
 abbrev pub ServesAlikeFrom : Standing → List Turn → Type 0
 ServesAlikeFrom start turns = (other : Standing) (others : List Turn) (c : Components) (S : Names)
-    → IsTrue (S (ticket_granter start.issuing.kdc.database.realm))
+    → IsTrue (S (tgs_principal start.issuing.kdc.database.realm))
     → ServicesWithin c S start.issuing.kdc (events_in start turns) → AgreesFor c S start.issuing.kdc other.issuing.kdc
     → events_in other others ≡ strike c S start.issuing.kdc (events_in start turns)
     → AreServedAlike c S start other turns others
@@ -301,7 +301,7 @@ pub record GetsTheSame (c : Components) (S : Names) (start other : Standing) (tu
 -- replacement databases.
 abbrev pub UnaffectedFrom : Standing → List Turn → Type 0
 UnaffectedFrom start turns = (other : Standing) (others : List Turn) (c : Components) (S : Names)
-    → IsTrue (S (ticket_granter start.issuing.kdc.database.realm))
+    → IsTrue (S (tgs_principal start.issuing.kdc.database.realm))
     → ServicesWithin c S start.issuing.kdc (events_in start turns)
     → ServicesWithin c S other.issuing.kdc (events_in other others)
     → AgreesFor c S start.issuing.kdc other.issuing.kdc

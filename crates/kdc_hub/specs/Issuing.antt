@@ -7,7 +7,7 @@ use Rattle.replay.specs.declared.seen.Seen.{Seen}
 use Rattle.kdc_state.specs.declared.state.State.{State}
 use Rattle.kdc_core.specs.Account.{Account, account, names_in, with_names}
 use Rattle.kdc_core.specs.Answer.{answer, error_octets, after_request}
-use Rattle.kdc_core.specs.Remembered.{remembered}
+use Rattle.kdc_core.specs.NewlySeen.{newly_seen}
 use Rattle.kdc_core.specs.Request.{request_of}
 use Rattle.kdc_core.specs.View.{View, view}
 use Rattle.kdc_core.specs.declared.account.RequestNames.{RequestNames}
@@ -34,7 +34,7 @@ reply_with octets account names seen =
     option_map (λ message. record {
       message = message;
       account = option_map (λ n. with_names n account) names;
-      remembered = seen;
+      newly_seen = seen;
     }) octets
 
 abbrev pub kept_account : Bool → Account → Option Account
@@ -47,7 +47,7 @@ reply_by accounts v at random room request =
     option_map (λ message. record {
       message = message;
       account = kept_account accounts (account v at random room request);
-      remembered = remembered v at random room request;
+      newly_seen = newly_seen v at random room request;
     }) (answer v at random room request).reply
 
 -- the reply to a request, made with the next 64 bytes
@@ -63,4 +63,4 @@ after i at room request = record {
 
 -- the error for a bad length
 unfoldable pub too_long : State → Moment → Reply
-too_long kdc at = record { message = error_octets kdc at KrbErrFieldToolong; account = None; remembered = None }
+too_long kdc at = record { message = error_octets kdc at KrbErrFieldToolong; account = None; newly_seen = None }

@@ -28,7 +28,7 @@ use rand_core::Rng;
 use std::alloc::Global;
 
 /// The greatest size of a request on a connection, in bytes.
-const GREATEST_REQUEST: u32 = 65_535;
+const GREATEST_STREAM_REQUEST: u32 = 65_535;
 
 /// The greatest size of a reply with a ticket in a datagram, in bytes.
 const DATAGRAM_ROOM: u32 = 1_400;
@@ -166,7 +166,7 @@ impl<R: Rng> Hub<R> {
         if self.connections.len() >= MOST_CONNECTIONS {
             return refuse_connection(alloc, conn);
         }
-        let stream = Splitter::new(alloc, GREATEST_REQUEST);
+        let stream = Splitter::new(alloc, GREATEST_STREAM_REQUEST);
         match self.connections.put(conn, stream) {
             Ok(()) => Ok(Vec::new(alloc)),
             Err(_) => Err(nothing_done(alloc, Some(conn), 0)),
@@ -187,7 +187,7 @@ impl<R: Rng> Hub<R> {
         ensures draws { IfErr result AreDraws }
         ensures accounts { AccountsHold (standing R.stream self.old) at (Bytes conn piece.now) result }
     {
-        let place = Splitter::new(alloc, GREATEST_REQUEST);
+        let place = Splitter::new(alloc, GREATEST_STREAM_REQUEST);
         let Some(mut stream) = self.connections.replace(conn, place) else {
             return Ok(Vec::new(alloc));
         };

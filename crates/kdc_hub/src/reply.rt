@@ -12,7 +12,7 @@ pub struct Reply {
     /// `None` if the hub keeps no accounts, and in the answer to a length that is too large.
     pub account: Option<Account>,
     /// The authenticator that this request records, if any. A reply that is sent again has none.
-    pub remembered: Option<Seen>,
+    pub newly_seen: Option<Seen>,
 }
 
 impl Reply {
@@ -23,14 +23,14 @@ impl Reply {
             Some(account) => Some(account.copy(alloc)?),
             None => None,
         };
-        let remembered = match &self.remembered {
+        let newly_seen = match &self.newly_seen {
             Some(seen) => Some(seen.copy(alloc)?),
             None => None,
         };
         Ok(Reply {
             message: self.message.copy(alloc)?,
             account,
-            remembered,
+            newly_seen,
         })
     }
 }

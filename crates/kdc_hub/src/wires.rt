@@ -15,7 +15,7 @@ pub struct WireFault;
 
 impl fmt::Display for WireFault {
     fn fmt<W: fmt::Write>(&self, f: &mut fmt::Formatter<W>) -> fmt::Result {
-        f.write_str("a call of the wire failed")
+        f.write_str("a call to the network failed")
     }
 }
 

@@ -6,9 +6,9 @@ use Rattle.krb_fields.specs.declared.code.Code.TheVariants.{KrbErrResponseTooBig
 use Rattle.krb_fields.specs.declared.moment.Moment.{Moment}
 use Rattle.krb_fields.specs.Code.{number_of}
 use Rattle.krb_fields.specs.PrincipalName.{Name}
-use Rattle.krb_types.specs.KrbError.{KrbError}
-use Rattle.krb_types.specs.ReqBody.{ReqBody}
-use Rattle.principals.specs.Database.{granter_name}
+use Rattle.krb_messages.specs.KrbError.{KrbError}
+use Rattle.krb_messages.specs.ReqBody.{ReqBody}
+use Rattle.principals.specs.Database.{tgs_name}
 
 -- KRB-ERROR (RFC 4120, section 5.9.1): the moment, the code, this realm, the requested service or else the
 -- ticket-granting service, and the data for the code
@@ -22,7 +22,7 @@ error_reply realm at code sname e_data = record {
   crealm = None;
   cname = None;
   realm = realm;
-  sname = unwrap_or sname (granter_name realm);
+  sname = unwrap_or sname (tgs_name realm);
   e_text = None;
   e_data = e_data;
 }

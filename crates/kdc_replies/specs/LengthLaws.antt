@@ -11,22 +11,22 @@ use Rattle.krb_fields.specs.NameLimits.{IsWithinLimits}
 use Rattle.krb_fields.specs.PaData.{PaData, pa_data}
 use Rattle.krb_fields.specs.PrincipalName.{Name, name, name_form}
 use Rattle.krb_fields.specs.Typed.{Typed, typed, typed_form}
-use Rattle.krb_parts.specs.EncKdcRepPart.{enc_kdc_rep_part, enc_kdc_rep_part_of, enc_kdc_rep_part_form}
-use Rattle.krb_parts.specs.EncTicketPart.{enc_ticket_part, enc_ticket_part_of, enc_ticket_part_form}
-use Rattle.krb_parts.specs.LastReq.{last_req, last_req_form}
+use Rattle.krb_sealed.specs.EncKdcRepPart.{enc_kdc_rep_part, enc_kdc_rep_part_of, enc_kdc_rep_part_form}
+use Rattle.krb_sealed.specs.EncTicketPart.{enc_ticket_part, enc_ticket_part_of, enc_ticket_part_form}
+use Rattle.krb_sealed.specs.LastReq.{last_req, last_req_form}
 use Rattle.krb_replies.specs.KdcRep.{KdcRep, kdc_rep, kdc_rep_of, kdc_rep_form}
-use Rattle.krb_types.specs.Ticket.{ticket_of, ticket_form}
-use Rattle.krb_types.specs.KrbError.{krb_error, krb_error_of, krb_error_form}
-use Rattle.principals.specs.Database.{granter_name}
+use Rattle.krb_messages.specs.Ticket.{ticket_of, ticket_form}
+use Rattle.krb_messages.specs.KrbError.{krb_error, krb_error_of, krb_error_form}
+use Rattle.principals.specs.Database.{tgs_name}
 use Rattle.kdc_replies.specs.ErrorReply.{error_reply}
 use Rattle.kdc_replies.specs.declared.grant.Grant.{Grant}
 use Rattle.kdc_replies.specs.Grant.{IsShort, ticket_part, reply_part}
 
 -- ---- errors
 
-granter_short : (realm : List ℕ) → length realm ≤ 255 → length (name.text (granter_name realm)) < 2147483648
+tgs_short : (realm : List ℕ) → length realm ≤ 255 → length (name.text (tgs_name realm)) < 2147483648
 unfolding name_form
-granter_short realm short = omega (arith, name.bounded (granter_name realm))
+tgs_short realm short = omega (arith, name.bounded (tgs_name realm))
 
 error_bounded : (realm : List ℕ) (at : Moment) (code : Code) (sname : Name) (e_data : Option (List ℕ))
     → length realm ≤ 255 → length (name.text sname) < 2147483648 → IfSome e_data (λ d. length d ≤ 65535)
@@ -46,7 +46,7 @@ pub error_short : (realm : List ℕ) (at : Moment) (code : Code) (sname : Option
     → length (krb_error.text (error_reply realm at code sname e_data)) < 2 ^ 32
 error_short realm at code (Some n) e_data short shorter few = error_bounded realm at code n e_data short shorter few
 error_short realm at code None e_data short shorter few =
-    error_bounded realm at code (granter_name realm) e_data short (granter_short realm short) few
+    error_bounded realm at code (tgs_name realm) e_data short (tgs_short realm short) few
 
 -- ---- tickets and replies
 

@@ -4,14 +4,14 @@ ghost use Rattle.std.specs.Option.{option_copied};
 ghost use Rattle.krb_elements.specs.Codec.{written};
 ghost use Rattle.krb_fields.specs.Code.{number_of};
 ghost use Rattle.krb_fields.specs.PrincipalName.{name};
-ghost use Rattle.krb_types.specs.KrbError.{krb_error};
+ghost use Rattle.krb_messages.specs.KrbError.{krb_error};
 ghost use Rattle.kdc_replies.specs.ErrorReply.{error_reply, too_big};
 
 use crate::sent_names::sent_name;
 use krb_elements::{Coded, KerberosStringRef, Octets, write};
 use krb_fields::{Code, Moment, NameRef};
-use krb_types::{KrbError, ReqBodyRef};
-use principals::granter_name;
+use krb_messages::{KrbError, ReqBodyRef};
+use principals::tgs_name;
 use std::alloc::{AllocError, Global};
 
 /// An error that borrows its realm.
@@ -37,8 +37,8 @@ pub fn error_reply(
     match sname {
         Some(name) => write(alloc, &error_of(realm, at, code, sent_name(name), e_data)),
         None => {
-            let granter = granter_name(alloc, realm)?;
-            write(alloc, &error_of(realm, at, code, granter, e_data))
+            let tgs = tgs_name(alloc, realm)?;
+            write(alloc, &error_of(realm, at, code, tgs, e_data))
         }
     }
 }

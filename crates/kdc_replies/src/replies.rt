@@ -2,7 +2,7 @@
 ghost use Rattle.std.specs.Prelude.{◌≡◌, ◌≤◌, ◌<◌, ◌+◌, ◌^◌, length, Some, IfOk, IfSome};
 ghost use Rattle.krb_elements.specs.Codec.{list_of, written};
 ghost use Rattle.krb_fields.specs.PaData.{pa_data};
-ghost use Rattle.krb_parts.specs.EncKdcRepPart.{enc_kdc_rep_part};
+ghost use Rattle.krb_sealed.specs.EncKdcRepPart.{enc_kdc_rep_part};
 ghost use Rattle.krb_replies.specs.KdcRep.{kdc_rep};
 ghost use Rattle.krb_replies.specs.Under.{under};
 ghost use Rattle.enctypes.specs.KeyUsage.{usage_number};

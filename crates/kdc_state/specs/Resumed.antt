@@ -8,14 +8,14 @@ use Rattle.replay.specs.declared.seen.Seen.{Seen}
 use Rattle.replay.specs.Kept.{nothing_kept}
 use Rattle.replay.specs.Resumed.{stamp_seen}
 use Rattle.kdc_state.specs.declared.state.State.{State}
-use Rattle.kdc_state.specs.State.{memory_of, with_memory}
+use Rattle.kdc_state.specs.State.{cache_of, with_cache}
 
 -- the seen authenticator is recorded for its client, with nothing stored for it
 abbrev pub after_seen : State → Seen → State
 after_seen state seen =
-    with_memory state seen.client.components
-    (record (memory_of state seen.client.components) {
-      pairs = map.insert (memory_of state seen.client.components).pairs (stamp_seen seen) nothing_kept;
+    with_cache state seen.client.components
+    (record (cache_of state seen.client.components) {
+      pairs = map.insert (cache_of state seen.client.components).pairs (stamp_seen seen) nothing_kept;
     })
 
 -- all of these are
@@ -25,4 +25,4 @@ after_all_seen state (seen ∷ others) = after_all_seen (after_seen state seen) 
 
 abbrev pub resumed_state : Principals → Limits → Resumption → State
 resumed_state database limits r =
-    after_all_seen (record { database = database; limits = limits; floor = r.floor; memories = map.empty }) r.seen
+    after_all_seen (record { database = database; limits = limits; floor = r.floor; caches = map.empty }) r.seen

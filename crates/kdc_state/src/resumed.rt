@@ -3,15 +3,15 @@ ghost use Rattle.std.specs.Prelude.{◌≡◌, IfOk, OnOk, OnErr};
 ghost use Rattle.std.specs.FinMap as map;
 ghost use Rattle.krb_fields.specs.Name.{Components};
 ghost use Rattle.replay.specs.Kept.{nothing_kept};
-ghost use Rattle.replay.specs.Resumed.{resumed_memory};
+ghost use Rattle.replay.specs.Resumed.{resumed_cache};
 ghost use Rattle.kdc_state.specs.Resumed.{after_all_seen, resumed_state};
-ghost use Rattle.kdc_state.specs.State.{memory_of, with_memory};
+ghost use Rattle.kdc_state.specs.State.{cache_of, with_cache};
 
 use crate::state::State;
 use krb_fields::Name;
 use principal_rows::{Limits, NameMap};
 use principals::Database;
-use replay::{Kept, Memory, Resumption, Seen};
+use replay::{Kept, ReplayCache, Resumption, Seen};
 use std::alloc::{AllocError, Global};
 
 impl State {
@@ -24,8 +24,8 @@ impl State {
         resumption: &Resumption,
     ) -> Result<State, AllocError>
         ensures state { IfOk result (λ state. state ≡ resumed_state database limits resumption.now) }
-        ensures memories { (name : Components)
-            → IfOk result (λ state. memory_of state name ≡ resumed_memory resumption.now name) }
+        ensures caches { (name : Components)
+            → IfOk result (λ state. cache_of state name ≡ resumed_cache resumption.now name) }
     {
         let state = State::with_seen(alloc, database, limits, resumption)?;
         Ok(state)
@@ -43,7 +43,7 @@ impl State {
             database,
             limits,
             floor: resumption.floor,
-            memories: NameMap::new(alloc),
+            caches: NameMap::new(alloc),
         };
         state.see_all(alloc, resumption.seen.as_slice())?;
         Ok(state)
@@ -69,30 +69,30 @@ impl State {
     ) -> Result<(), AllocError>
         ensures ok { OnOk result
             (self.new
-            ≡ with_memory self.old client.now.components
-            (record (memory_of self.old client.now.components) {
-              pairs = map.insert (memory_of self.old client.now.components).pairs (ctime, cusec) nothing_kept;
+            ≡ with_cache self.old client.now.components
+            (record (cache_of self.old client.now.components) {
+              pairs = map.insert (cache_of self.old client.now.components).pairs (ctime, cusec) nothing_kept;
             })) }
         ensures err { OnErr result (self.new ≡ self.old) }
     {
         let kept = Kept::nothing(alloc);
-        let mut memory = Memory::empty(alloc, self.floor);
-        if self.memories.replace(client, &mut memory) {
-            let done = keep(&mut memory, ctime, cusec, kept);
-            let _ = self.memories.replace(client, &mut memory);
+        let mut cache = ReplayCache::empty(alloc, self.floor);
+        if self.caches.replace(client, &mut cache) {
+            let done = keep(&mut cache, ctime, cusec, kept);
+            let _ = self.caches.replace(client, &mut cache);
             done
         } else {
-            keep(&mut memory, ctime, cusec, kept)?;
-            self.memories.put(client.copy(alloc)?, memory)
+            keep(&mut cache, ctime, cusec, kept)?;
+            self.caches.put(client.copy(alloc)?, cache)
         }
     }
 }
 
 /// Sets what is stored for a pair. The floor and all other pairs are unchanged. If memory runs out, nothing changes.
-fn keep(memory: &mut Memory<Kept>, ctime: i64, cusec: u32, kept: Kept) -> Result<(), AllocError>
+fn keep(cache: &mut ReplayCache<Kept>, ctime: i64, cusec: u32, kept: Kept) -> Result<(), AllocError>
     ensures ok { OnOk result
-        (memory.new ≡ record memory.old { pairs = map.insert memory.old.pairs (ctime, cusec) kept }) }
-    ensures err { OnErr result (memory.new ≡ memory.old) }
+        (cache.new ≡ record cache.old { pairs = map.insert cache.old.pairs (ctime, cusec) kept }) }
+    ensures err { OnErr result (cache.new ≡ cache.old) }
 {
-    memory.pairs.put(ctime, cusec, kept)
+    cache.pairs.put(ctime, cusec, kept)
 }

@@ -1,12 +1,12 @@
 //! Tests of the accounts of requests (`kdc_core`).
-use crate::given::BASIC;
-use crate::realm::{AccountRow, Came, Case, Exchange, NOTHING, Realm, UP_FROM_64, expect};
+use crate::fixtures::BASIC;
+use crate::realm::{AccountRow, Came, Case, Example, NOTHING, Realm, UP_FROM_64, expect};
 use crate::service_tickets::REQUEST;
-use kdc_core::{AsRefusal, Bears, TgsRefusal};
+use kdc_core::{ApRefusal, AsRefusal, Bears, TgsRefusal};
 use std::test::Fail;
 
 /// The basic request.
-const BASIC_ASKED: Exchange = Exchange {
+const BASIC_ASKED: Example = Example {
     request: BASIC,
     ..NOTHING
 };
@@ -22,7 +22,7 @@ const LOGIN: AccountRow = AccountRow {
 
 /// The account of the TGS-REQ of `u` for `h`.
 const SERVICE: AccountRow = AccountRow {
-    asked: Exchange {
+    asked: Example {
         random: UP_FROM_64,
         request: REQUEST,
         ..NOTHING
@@ -62,7 +62,7 @@ fn the_account_of_a_refused_login_has_its_rule(rt: HostRuntime) -> Result<(), Fa
 fn the_account_of_a_login_has_its_ticket(rt: HostRuntime) -> Result<(), Fail> {
     const ROWS: &[AccountRow] = &[
         AccountRow {
-            asked: Exchange {
+            asked: Example {
                 room: 100,
                 ..BASIC_ASKED
             },
@@ -89,12 +89,12 @@ fn the_account_of_a_refused_tgs_req_has_the_client_of_its_ticket(
         AccountRow {
             octet: Some(IN_TICKET),
             client: None,
-            came: Came::Refused(TgsRefusal::TicketNotOpened),
+            came: Came::Refused(TgsRefusal::Ap(ApRefusal::TicketNotOpened)),
             ..SERVICE
         },
         AccountRow {
             octet: Some(IN_AUTHENTICATOR),
-            came: Came::Refused(TgsRefusal::AuthenticatorNotOpened),
+            came: Came::Refused(TgsRefusal::Ap(ApRefusal::AuthenticatorNotOpened)),
             ..SERVICE
         },
     ];

@@ -1,8 +1,8 @@
 //! Tests of a hub (`kdc_hub`). If its KDC, for the realm `A.B`, has no clients, it answers each request with an error
 //! of code 6.
 use crate::expect::same;
-use crate::given;
-use crate::given::{BASIC, CLIENT_UNKNOWN};
+use crate::fixtures;
+use crate::fixtures::{BASIC, CLIENT_UNKNOWN};
 use crate::realm::{Realm, kdc};
 use crate::service_tickets::REQUEST;
 use framing::frame;
@@ -119,7 +119,7 @@ fn bring(alloc: Global, hub: &mut TestHub, conn: u64, piece: &[u8]) -> Result<Ve
 }
 
 fn octets(alloc: Global, digits: &str) -> Result<Octets, Fail> {
-    Ok(Octets::new(given::octets(alloc, digits)?))
+    Ok(Octets::new(fixtures::octets(alloc, digits)?))
 }
 
 /// Returns a request, given in hexadecimal digits, after its length.
@@ -140,7 +140,7 @@ fn two_requests(alloc: Global) -> Result<Vec<u8>, Fail> {
 
 /// Checks whether the action writes this message, given in hexadecimal digits.
 fn is_write(alloc: Global, action: &Action, to: u64, digits: &str) -> Result<bool, Fail> {
-    let wanted = given::octets(alloc, digits)?;
+    let wanted = fixtures::octets(alloc, digits)?;
     Ok(match action {
         Action::Write { conn, reply } => {
             *conn == to && reply.message.as_slice() == wanted.as_slice()

@@ -1,6 +1,6 @@
 //! Tests of a KDC (`kdc_core`): requests and their replies, changes of rows, and runs.
-use crate::given::{BASIC, CLIENT_UNKNOWN};
-use crate::realm::{Altered, Case, Exchange, Happening, NOTHING, Realm, Step, expect};
+use crate::fixtures::{BASIC, CLIENT_UNKNOWN};
+use crate::realm::{Altered, Case, Example, Happening, NOTHING, Realm, Step, expect};
 use std::test::Fail;
 
 /// The basic request with its first length in two bytes.
@@ -84,7 +84,7 @@ const PREAUTH_FAILED: &str = "\
 
 #[test]
 fn refuses_an_unknown_client(rt: HostRuntime) -> Result<(), Fail> {
-    const EXCHANGES: &[Exchange] = &[Exchange {
+    const EXCHANGES: &[Example] = &[Example {
         request: BASIC,
         reply: Some(CLIENT_UNKNOWN),
         ..NOTHING
@@ -94,13 +94,13 @@ fn refuses_an_unknown_client(rt: HostRuntime) -> Result<(), Fail> {
 
 #[test]
 fn refuses_a_request_without_a_client_or_a_service(rt: HostRuntime) -> Result<(), Fail> {
-    const EXCHANGES: &[Exchange] = &[
-        Exchange {
+    const EXCHANGES: &[Example] = &[
+        Example {
             request: NO_CLIENT,
             reply: Some(CLIENT_UNKNOWN),
             ..NOTHING
         },
-        Exchange {
+        Example {
             request: NO_SERVICE,
             reply: Some(SERVICE_UNKNOWN),
             ..NOTHING
@@ -111,7 +111,7 @@ fn refuses_a_request_without_a_client_or_a_service(rt: HostRuntime) -> Result<()
 
 #[test]
 fn names_the_service_and_the_moment_as_they_are(rt: HostRuntime) -> Result<(), Fail> {
-    const EXCHANGES: &[Exchange] = &[Exchange {
+    const EXCHANGES: &[Example] = &[Example {
         usec: 999_999,
         request: STRANGE_SERVICE,
         reply: Some(STRANGE_SERVICE_UNKNOWN),
@@ -127,12 +127,12 @@ fn gives_no_reply_to_part_of_a_request(rt: HostRuntime) -> Result<(), Fail> {
 
 #[test]
 fn gives_no_reply_to_other_messages(rt: HostRuntime) -> Result<(), Fail> {
-    const EXCHANGES: &[Exchange] = &[
-        Exchange {
+    const EXCHANGES: &[Example] = &[
+        Example {
             request: LONGER,
             ..NOTHING
         },
-        Exchange {
+        Example {
             request: LONG_FORM,
             ..NOTHING
         },
@@ -193,7 +193,7 @@ fn adds_a_row_once(rt: HostRuntime) -> Result<(), Fail> {
 
 #[test]
 fn a_request_is_answered_after_memory_ran_out(rt: HostRuntime) -> Result<(), Fail> {
-    const REFUSED: Exchange = Exchange {
+    const REFUSED: Example = Example {
         request: BASIC,
         reply: Some(CLIENT_UNKNOWN),
         ..NOTHING
@@ -209,14 +209,14 @@ fn a_change_out_of_memory_leaves_the_kdc_unchanged(rt: HostRuntime) -> Result<()
 
 #[test]
 fn issues_a_ticket_within_the_room(rt: HostRuntime) -> Result<(), Fail> {
-    const EXCHANGES: &[Exchange] = &[
-        Exchange {
+    const EXCHANGES: &[Example] = &[
+        Example {
             room: 558,
             request: BASIC,
             reply: Some(TICKET),
             ..NOTHING
         },
-        Exchange {
+        Example {
             room: 557,
             request: BASIC,
             reply: Some(TOO_BIG),
@@ -228,7 +228,7 @@ fn issues_a_ticket_within_the_room(rt: HostRuntime) -> Result<(), Fail> {
 
 #[test]
 fn asks_for_preauthentication(rt: HostRuntime) -> Result<(), Fail> {
-    const EXCHANGES: &[Exchange] = &[Exchange {
+    const EXCHANGES: &[Example] = &[Example {
         request: BASIC,
         reply: Some(PREAUTH_REQUIRED),
         ..NOTHING
@@ -238,7 +238,7 @@ fn asks_for_preauthentication(rt: HostRuntime) -> Result<(), Fail> {
 
 #[test]
 fn key_hints_are_the_same_again(rt: HostRuntime) -> Result<(), Fail> {
-    const HINTS: Exchange = Exchange {
+    const HINTS: Example = Example {
         request: BASIC,
         reply: Some(PREAUTH_REQUIRED),
         ..NOTHING
@@ -259,7 +259,7 @@ fn a_changed_request_changes_no_later_reply(rt: HostRuntime) -> Result<(), Fail>
 
 #[test]
 fn a_ticket_is_issued_after_memory_ran_out(rt: HostRuntime) -> Result<(), Fail> {
-    const ISSUED: Exchange = Exchange {
+    const ISSUED: Example = Example {
         request: BASIC,
         reply: Some(TICKET),
         ..NOTHING

@@ -7,7 +7,7 @@ mod accounts;
 #[cfg(test)]
 mod expect;
 #[cfg(test)]
-mod given;
+mod fixtures;
 #[cfg(test)]
 mod hubs;
 #[cfg(test)]

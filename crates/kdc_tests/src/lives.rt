@@ -1,6 +1,6 @@
 //! Tests of a realm's life from a login to a revoked ticket. Each line has its expected output. The bytes come from a
 //! model of the exchanges in Python, which shares no code with this repository.
-use crate::realm::{Case, Exchange, NOTHING, Realm, expect};
+use crate::realm::{Case, Example, NOTHING, Realm, expect};
 use crate::scripts::expect_lines;
 use std::test::Fail;
 
@@ -257,8 +257,8 @@ fn field(line: &'static str, place: usize) -> Result<&'static str, Fail> {
 }
 
 /// Returns the request in a line, with the expected reply.
-fn exchange(line: &'static str, answer: &'static str) -> Result<Exchange, Fail> {
-    Ok(Exchange {
+fn exchange(line: &'static str, answer: &'static str) -> Result<Example, Fail> {
+    Ok(Example {
         random: field(line, 3)?,
         request: field(line, 5)?,
         reply: Some(field(answer, 1)?),

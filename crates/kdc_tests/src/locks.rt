@@ -1,5 +1,5 @@
 //! Tests of the lock of clients that fail to show their key (`kdc_core`): which failures count, and what ends a lock.
-use crate::given::name;
+use crate::fixtures::name;
 use crate::realm;
 use crate::realm::{Came, Case, Realm, expect};
 use crate::requests::as_req_at_midnight;

@@ -1,6 +1,6 @@
 //! KDCs (`kdc_core`) for the realm `A.B`, and the tests of one. A KDC is dropped only here: each place with a drop
 //! takes long to prove.
-use crate::given::{BASIC, name, octets};
+use crate::fixtures::{BASIC, name, octets};
 use crate::locks::{LockStep, first_other_step};
 use enctypes::{Etype, Key};
 use kdc_core::{
@@ -161,7 +161,7 @@ pub fn kdc(alloc: Global, realm: Realm) -> Result<Kdc, Fail> {
 
 /// A request to a KDC, and its reply, if there is one. Bytes are given in hexadecimal digits.
 #[derive(Clone, Copy)]
-pub struct Exchange {
+pub struct Example {
     /// When the request comes, in microseconds after 2024-01-01 00:00:00.
     pub usec: u32,
     /// The 64 random bytes.
@@ -173,7 +173,7 @@ pub struct Exchange {
 }
 
 /// An empty request without a reply, at midnight, with the random bytes 0 to 63 and room for 1,400 bytes.
-pub const NOTHING: Exchange = Exchange {
+pub const NOTHING: Example = Example {
     usec: 0,
     random: UP_FROM_0,
     room: 1400,
@@ -183,21 +183,21 @@ pub const NOTHING: Exchange = Exchange {
 
 /// A request to a KDC, in bytes.
 #[derive(Clone, Copy)]
-struct Asked<'a> {
+struct Sent<'a> {
     at: Moment,
     random: [u8; 64],
     room: u32,
     request: &'a [u8],
 }
 
-impl<'a> Asked<'a> {
+impl<'a> Sent<'a> {
     /// Returns these bytes as a request at midnight, with the random bytes 0 to 63 and room for 1,400 bytes.
-    fn at_midnight(request: &'a [u8]) -> Result<Asked<'a>, Fail> {
+    fn at_midnight(request: &'a [u8]) -> Result<Sent<'a>, Fail> {
         let mut random = [0; 64];
         for (place, octet) in (0..64).zip(&mut random) {
             *octet = place;
         }
-        Ok(Asked {
+        Ok(Sent {
             at: midnight()?,
             random,
             room: 1400,
@@ -206,8 +206,8 @@ impl<'a> Asked<'a> {
     }
 
     /// Returns these bytes as the request of an exchange.
-    fn new(alloc: Global, exchange: Exchange, request: &'a [u8]) -> Result<Asked<'a>, Fail> {
-        Ok(Asked {
+    fn new(alloc: Global, exchange: Example, request: &'a [u8]) -> Result<Sent<'a>, Fail> {
+        Ok(Sent {
             at: Moment::new(MIDNIGHT, exchange.usec).ok_or("a moment")?,
             random: random(alloc, exchange.random)?,
             room: exchange.room,
@@ -235,7 +235,7 @@ fn random(alloc: Global, digits: &str) -> Result<[u8; 64], Fail> {
 
 /// Returns the reply to these bytes at midnight.
 fn reply_to(alloc: Global, kdc: &mut Kdc, request: &[u8]) -> Result<Option<Vec<u8>>, Fail> {
-    Ok(Asked::at_midnight(request)?.reply(alloc, kdc)?)
+    Ok(Sent::at_midnight(request)?.reply(alloc, kdc)?)
 }
 
 /// Checks whether a reply has these digits.
@@ -247,16 +247,16 @@ fn is_reply(alloc: Global, reply: &Option<Vec<u8>>, digits: Option<&str>) -> Res
     }
 }
 
-fn is_answered(alloc: Global, kdc: &mut Kdc, exchange: Exchange) -> Result<bool, Fail> {
+fn is_answered(alloc: Global, kdc: &mut Kdc, exchange: Example) -> Result<bool, Fail> {
     let request = octets(alloc, exchange.request)?;
-    let reply = Asked::new(alloc, exchange, &request)?.reply(alloc, kdc)?;
+    let reply = Sent::new(alloc, exchange, &request)?.reply(alloc, kdc)?;
     is_reply(alloc, &reply, exchange.reply)
 }
 
 /// Checks whether the second request gets this reply. It does even if any one allocation of the first call fails.
-fn is_answered_again(alloc: Global, kdc: &mut Kdc, exchange: Exchange) -> Result<bool, Fail> {
+fn is_answered_again(alloc: Global, kdc: &mut Kdc, exchange: Example) -> Result<bool, Fail> {
     let request = octets(alloc, exchange.request)?;
-    let _ = Asked::new(alloc, exchange, &request)?.reply(alloc, kdc);
+    let _ = Sent::new(alloc, exchange, &request)?.reply(alloc, kdc);
     is_answered(alloc, kdc, exchange)
 }
 
@@ -439,7 +439,7 @@ pub enum Came {
 /// A request, with one byte changed or none, and its expected account.
 #[derive(Clone, Copy)]
 pub struct AccountRow {
-    pub asked: Exchange,
+    pub asked: Example,
     /// The place of the byte whose last bit is changed.
     pub octet: Option<usize>,
     pub client: Option<&'static [&'static [u8]]>,
@@ -489,7 +489,7 @@ fn came_of(account: &Account<NameRef<'_>>) -> Came {
 
 /// Returns the outcome of these bytes at midnight.
 pub fn came_at_midnight(alloc: Global, kdc: &mut Kdc, request: &[u8]) -> Result<Came, Fail> {
-    let answer = Asked::at_midnight(request)?.answer(alloc, kdc)?;
+    let answer = Sent::at_midnight(request)?.answer(alloc, kdc)?;
     Ok(came_of(&answer.account))
 }
 
@@ -545,7 +545,7 @@ fn is_accounted(alloc: Global, kdc: &mut Kdc, row: AccountRow) -> Result<bool, F
     if let Some(place) = row.octet {
         *request.get_mut(place).ok_or("a place")? ^= 1;
     }
-    let answer = Asked::new(alloc, row.asked, &request)?.answer(alloc, kdc)?;
+    let answer = Sent::new(alloc, row.asked, &request)?.answer(alloc, kdc)?;
     let is_named = names_both(alloc, &answer.account, row)?;
     Ok(is_named && came_of(&answer.account) == row.came)
 }
@@ -567,9 +567,9 @@ fn first_other_account(
 #[derive(Clone, Copy)]
 pub enum Case {
     /// Each request gets the reply beside it, or none.
-    Exchanges(&'static [Exchange]),
+    Exchanges(&'static [Example]),
     /// A request gets the reply beside it the second time, even if any one allocation of the first time fails.
-    Again(Exchange),
+    Again(Example),
     /// Each request gets this account.
     Accounts(&'static [AccountRow]),
     /// Each step ends as it says.
@@ -592,11 +592,7 @@ pub enum Case {
     AddedAgain,
 }
 
-fn first_other(
-    alloc: Global,
-    kdc: &mut Kdc,
-    exchanges: &[Exchange],
-) -> Result<Option<usize>, Fail> {
+fn first_other(alloc: Global, kdc: &mut Kdc, exchanges: &[Example]) -> Result<Option<usize>, Fail> {
     for (place, exchange) in exchanges.iter().enumerate() {
         if !is_answered(alloc, kdc, *exchange)? {
             return Ok(Some(place));

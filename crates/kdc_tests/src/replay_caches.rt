@@ -1,5 +1,5 @@
 //! Tests of the replay caches of a KDC (`kdc_core`), over whole runs.
-use crate::steps::{Act, Asked, Changed, Step, replies};
+use crate::steps::{Act, Changed, RequestKind, Step, replies};
 use principal_rows::Limits;
 use std::alloc::Global;
 use std::test::Fail;
@@ -38,7 +38,7 @@ const ADD: Step = Step {
 
 /// `u` asks for a service ticket.
 const ASK: Step = Step {
-    act: Act::Ask(Asked::Tgs),
+    act: Act::Ask(RequestKind::Tgs),
     ..ADD
 };
 
@@ -182,7 +182,7 @@ fn a_removed_client_keeps_its_replay_cache(rt: HostRuntime) -> Result<(), Fail> 
         ..ADD
     };
     const ALTERED: Step = Step {
-        act: Act::Ask(Asked::TgsAltered),
+        act: Act::Ask(RequestKind::TgsAltered),
         ..ASK
     };
     const STEPS: &[Expected] = &[

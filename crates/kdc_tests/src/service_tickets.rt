@@ -1,5 +1,5 @@
 //! Tests of service tickets (`kdc_core`).
-use crate::realm::{Case, Exchange, NOTHING, Realm, UP_FROM_64, ZEROS, expect};
+use crate::realm::{Case, Example, NOTHING, Realm, UP_FROM_64, ZEROS, expect};
 use std::test::Fail;
 
 /// A TGS-REQ of `u` for `h` in `A.B`, from an independent model of the exchanges in Python. Its ticket is encrypted
@@ -32,7 +32,7 @@ const REPLY: &str = "\
         56";
 
 /// The exchange, with the random bytes 64 to 127.
-const ISSUED: Exchange = Exchange {
+const ISSUED: Example = Example {
     random: UP_FROM_64,
     request: REQUEST,
     reply: Some(REPLY),
@@ -47,9 +47,9 @@ fn a_service_ticket_is_issued_after_memory_ran_out(rt: HostRuntime) -> Result<()
 #[test]
 fn the_same_request_gets_the_reply_that_is_kept(rt: HostRuntime) -> Result<(), Fail> {
     // The second time there are other random bytes.
-    const EXCHANGES: &[Exchange] = &[
+    const EXCHANGES: &[Example] = &[
         ISSUED,
-        Exchange {
+        Example {
             random: ZEROS,
             ..ISSUED
         },

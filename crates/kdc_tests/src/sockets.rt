@@ -1,9 +1,9 @@
-//! Tests of the wire over sockets (`kdc_wire`), with clients on the loopback and ports that the system chooses. The KDC
+//! Tests of the wire over sockets (`kdc_sockets`), with clients on the loopback and ports that the system chooses. The KDC
 //! has the realm `A.B` and no clients, so it answers each request with an error of code 6. The bytes come from an
 //! encoder in Python.
 use crate::realm::{Realm, kdc};
 use kdc_hub::{Hub, Served, serve};
-use kdc_wire::SocketWire;
+use kdc_sockets::SocketWire;
 use rand_chacha::ChaCha20Rng;
 use rand_core::SeedableRng;
 use std::cell::Cell;

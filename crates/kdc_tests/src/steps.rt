@@ -1,5 +1,5 @@
 //! Runs of a KDC (`kdc_core`) for the realm `A.B`, step by step.
-use crate::given::name;
+use crate::fixtures::name;
 use crate::realm;
 use crate::realm::HOST_OCTET;
 use crate::requests::{TgsReq, as_req, bad_as_req};
@@ -18,7 +18,7 @@ const MIDNIGHT: i64 = 1_704_067_200;
 #[derive(Clone, Copy)]
 pub enum Act {
     /// The client sends a request.
-    Ask(Asked),
+    Ask(RequestKind),
     /// The client's row is changed.
     Change(Changed),
     /// `krbtgt/A.B` gets new keys.
@@ -35,7 +35,7 @@ pub enum Act {
 
 /// A client's request: for a ticket for `krbtgt/A.B`, or for one for `h` with a ticket that it has.
 #[derive(Clone, Copy)]
-pub enum Asked {
+pub enum RequestKind {
     As,
     AsBadTimestamp,
     Tgs,
@@ -102,13 +102,13 @@ fn client_keys(alloc: Global, octet: u8) -> Result<KeyList, Fail> {
     Ok(KeyList::new(alloc, &keys)?)
 }
 
-fn request(alloc: Global, asked: Asked, step: Step) -> Result<Vec<u8>, AllocError> {
+fn request(alloc: Global, asked: RequestKind, step: Step) -> Result<Vec<u8>, AllocError> {
     let key = key(Etype::Aes256CtsHmacSha1_96, HOST_OCTET);
     let nonce = match asked {
-        Asked::As => return as_req(alloc, step.client),
-        Asked::AsBadTimestamp => return bad_as_req(alloc, step.client),
-        Asked::Tgs | Asked::TgsAgain | Asked::TgsSpoilt => 1,
-        Asked::TgsAltered => 2,
+        RequestKind::As => return as_req(alloc, step.client),
+        RequestKind::AsBadTimestamp => return bad_as_req(alloc, step.client),
+        RequestKind::Tgs | RequestKind::TgsAgain | RequestKind::TgsSpoilt => 1,
+        RequestKind::TgsAltered => 2,
     };
     let fields = TgsReq {
         client: step.client,
@@ -117,7 +117,7 @@ fn request(alloc: Global, asked: Asked, step: Step) -> Result<Vec<u8>, AllocErro
         nonce,
     };
     let mut request = fields.octets(alloc, &key)?;
-    if let (Asked::TgsSpoilt, Some(last)) = (asked, request.last_mut()) {
+    if let (RequestKind::TgsSpoilt, Some(last)) = (asked, request.last_mut()) {
         *last ^= 1;
     }
     Ok(request)
@@ -163,7 +163,7 @@ fn new_service_keys(alloc: Global, service: &[&[u8]], octet: u8) -> Result<Event
     Ok(Event::Change { change })
 }
 
-fn asks(alloc: Global, asked: Asked, at: Moment, step: Step) -> Result<Event, Fail> {
+fn asks(alloc: Global, asked: RequestKind, at: Moment, step: Step) -> Result<Event, Fail> {
     Ok(Event::Request {
         at,
         random: [step.octet; 64],

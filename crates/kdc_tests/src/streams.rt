@@ -50,7 +50,7 @@ fn a_bad_length_ends_the_stream(rt: HostRuntime) -> Result<(), Fail> {
         (
             [0u8, 1, 0, 0],
             FrameFault::TooLong,
-            "a message is longer than the greatest that is taken",
+            "a message is longer than the maximum",
         ),
         (
             [0x80, 0, 0, 0],

@@ -1,7 +1,7 @@
 //! Tests of isolation (`kdc_core`): a client gets the same replies beside others as in a struck run, without their
 //! requests and the changes of their rows.
 use crate::expect::same;
-use crate::steps::{Act, Asked, Changed, Step, replies, step_at};
+use crate::steps::{Act, Changed, RequestKind, Step, replies, step_at};
 use principal_rows::Limits;
 use std::alloc::{AllocError, Global};
 use std::test::Fail;
@@ -75,20 +75,20 @@ const BESIDE_ANOTHER: &[(u32, u8, Act)] = &[
     (0, b'u', Act::Change(Changed::Free)),
     (0, b'w', Act::Change(Changed::Add)),
     (0, b' ', Act::Restart),
-    (301, b'u', Act::Ask(Asked::Tgs)),
-    (301, b'w', Act::Ask(Asked::Tgs)),
-    (302, b'w', Act::Ask(Asked::Tgs)),
-    (303, b'w', Act::Ask(Asked::Tgs)),
-    (304, b'w', Act::Ask(Asked::Tgs)),
-    (305, b'w', Act::Ask(Asked::Tgs)),
-    (306, b'w', Act::Ask(Asked::Tgs)),
-    (307, b'w', Act::Ask(Asked::Tgs)),
-    (308, b'w', Act::Ask(Asked::Tgs)),
-    (309, b'w', Act::Ask(Asked::Tgs)),
-    (310, b'w', Act::Ask(Asked::Tgs)),
+    (301, b'u', Act::Ask(RequestKind::Tgs)),
+    (301, b'w', Act::Ask(RequestKind::Tgs)),
+    (302, b'w', Act::Ask(RequestKind::Tgs)),
+    (303, b'w', Act::Ask(RequestKind::Tgs)),
+    (304, b'w', Act::Ask(RequestKind::Tgs)),
+    (305, b'w', Act::Ask(RequestKind::Tgs)),
+    (306, b'w', Act::Ask(RequestKind::Tgs)),
+    (307, b'w', Act::Ask(RequestKind::Tgs)),
+    (308, b'w', Act::Ask(RequestKind::Tgs)),
+    (309, b'w', Act::Ask(RequestKind::Tgs)),
+    (310, b'w', Act::Ask(RequestKind::Tgs)),
     (310, b'w', Act::Change(Changed::NewKeys)),
     (310, b' ', Act::TgsKeys),
-    (310, b'u', Act::Ask(Asked::Tgs)),
+    (310, b'u', Act::Ask(RequestKind::Tgs)),
 ];
 
 fn beside_another(alloc: Global) -> Result<Vec<Step>, AllocError> {
@@ -129,12 +129,12 @@ impl Draws {
 
     fn act(&mut self) -> Act {
         match self.draw() {
-            0..=53 => Act::Ask(Asked::As),
-            54..=65 => Act::Ask(Asked::AsBadTimestamp),
-            66..=155 => Act::Ask(Asked::Tgs),
-            156..=191 => Act::Ask(Asked::TgsAgain),
-            192..=207 => Act::Ask(Asked::TgsAltered),
-            208..=219 => Act::Ask(Asked::TgsSpoilt),
+            0..=53 => Act::Ask(RequestKind::As),
+            54..=65 => Act::Ask(RequestKind::AsBadTimestamp),
+            66..=155 => Act::Ask(RequestKind::Tgs),
+            156..=191 => Act::Ask(RequestKind::TgsAgain),
+            192..=207 => Act::Ask(RequestKind::TgsAltered),
+            208..=219 => Act::Ask(RequestKind::TgsSpoilt),
             220..=231 => Act::Change(Changed::Add),
             232..=233 => Act::Change(Changed::Remove),
             234..=237 => Act::Change(Changed::NewKeys),
@@ -153,7 +153,7 @@ impl Draws {
 fn last_stamp(steps: &[Step], client: u8) -> Option<u32> {
     let mut last = None;
     for step in steps {
-        if step.client == client && matches!(step.act, Act::Ask(Asked::Tgs)) {
+        if step.client == client && matches!(step.act, Act::Ask(RequestKind::Tgs)) {
             last = Some(step.stamp);
         }
     }
@@ -166,7 +166,7 @@ fn drawn_step(draws: &mut Draws, steps: &[Step], clock: u32) -> Step {
     let client = b'p' + draws.draw() % 8;
     let at = clock.saturating_sub(u32::from(draws.draw() % 32));
     let mut step = step_at(at, client, act, draws.draw());
-    if let Act::Ask(Asked::TgsAgain | Asked::TgsAltered) = act {
+    if let Act::Ask(RequestKind::TgsAgain | RequestKind::TgsAltered) = act {
         step.stamp = last_stamp(steps, client).unwrap_or(at);
     }
     step

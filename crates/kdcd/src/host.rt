@@ -1,8 +1,8 @@
 //! The system as the host of a server.
 ghost use Rattle.std.specs.Prelude.{None};
 
-use kdc_wire::{BindFault, SocketWire, now};
-use kdcd_start::{
+use kdc_sockets::{BindFault, SocketWire, now};
+use kdcd_run::{
     FileFault, HeldFiles, Host, Journals, OpenedJournals, RowsFile, open_journals, read_at_most,
 };
 use krb_fields::Moment;

@@ -9,7 +9,7 @@ use crate::serving::serve_realm;
 use clap::ArgMatches;
 use clap::error::ErrorKind;
 use kdc_script::{FAILED, run_script};
-use kdcd_start::{ArgsFault, read_args, serve_options};
+use kdcd_run::{ArgsFault, read_args, serve_options};
 use std::process::ExitCode;
 use std::{env, io};
 
@@ -56,7 +56,7 @@ fn run_subcommand(rt: &HostRuntime, matches: &ArgMatches<'_>) -> io::Result<u8> 
         Some(("script", _)) => Ok(run_script(rt.alloc(), rt.stdin(), &mut rt.stdout())),
         Some(("serve", args)) => match serve_options(rt.alloc(), args) {
             Ok(options) => serve_realm(rt, &options),
-            Err(ArgsFault::Amiss(fault)) => {
+            Err(ArgsFault::BadUsage(fault)) => {
                 println!(rt; "error: {fault}")?;
                 Ok(USAGE)
             }

@@ -2,8 +2,8 @@
 use crate::host::SystemHost;
 use kdc_hub::Hub;
 use kdc_serving::serve_life;
-use kdc_wire::{BindFault, SocketWire};
-use kdcd_start::{
+use kdc_sockets::{BindFault, SocketWire};
+use kdcd_run::{
     ClockWatch, FileFault, HeldFiles, JournalFile, JournalFound, JournalNews, JournalWire,
     LoggedWire, QuietWire, ReadyServer, Refused, RequestLines, RowsFile, ServeOptions, Started,
     WatchedWire, quiet_until, refused_at_start, start_server, start_with_journal,
@@ -26,7 +26,7 @@ const FAILED: u8 = 3;
 const ENDLESS: u64 = u64::MAX;
 
 /// Why a server did not start.
-type StartFault<'a> = kdcd_start::StartFault<'a, BindFault>;
+type StartFault<'a> = kdcd_run::StartFault<'a, BindFault>;
 
 /// Standard error, whose reader may stop reading while the server goes on. All that write to it hold the same one.
 type Errors = SharedWriter<Stderr>;

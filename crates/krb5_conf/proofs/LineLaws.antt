@@ -4,7 +4,7 @@ use Rattle.std.proofs.Math.Seq.{drop-cons}
 use Rattle.std.proofs.lemmas.List.{get_or-map, length-map}
 use Rattle.std.specs.Option.{option_to_list}
 use Rattle.krb5_conf.specs.Line.{line_said}
-use Rattle.krb5_conf.specs.Place.{Place, behind}
+use Rattle.krb5_conf.specs.LinePlace.{LinePlace, behind}
 use Rattle.krb5_conf.specs.Values.{value_by, values_from}
 
 -- the next line, and those after it
@@ -17,7 +17,7 @@ left f xs i d lt =
     ∙ ap (λ n. f (get_or xs i d) ∷ drop n (map f xs)) k
 
 -- the values found before, and those in the next line and the lines after it
-pub stepped : {A : Type 0} (f : A → List ℕ) (xs : List A) (i : ℕ) (d : A) (wanted : Place) (tag : List ℕ) (p q : Place) (old new all : List (List ℕ))
+pub stepped : {A : Type 0} (f : A → List ℕ) (xs : List A) (i : ℕ) (d : A) (wanted : LinePlace) (tag : List ℕ) (p q : LinePlace) (old new all : List (List ℕ))
     → i < length xs
     → new ≡ old ++ option_to_list (value_by wanted tag p (line_said (f (get_or xs i d))))
     → q ≡ behind p (line_said (f (get_or xs i d)))

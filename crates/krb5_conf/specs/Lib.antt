@@ -1,4 +1,4 @@
 pub mod Line
-pub mod Place
+pub mod LinePlace
 pub mod Values
 pub mod Kdc

@@ -6,7 +6,7 @@ ghost use Rattle.krb5_conf.specs.Kdc.{kdc_texts};
 ghost use Rattle.krb5_conf.specs.Values.{default_realms, kdc_values};
 
 use crate::kdc::plain_texts;
-use crate::place::Place;
+use crate::place::LinePlace;
 use crate::values::values;
 use std::alloc::{AllocError, Global};
 
@@ -14,7 +14,7 @@ use std::alloc::{AllocError, Global};
 pub fn default_realm(alloc: Global, text: &[u8]) -> Result<Option<&[u8]>, AllocError>
     ensures { IfOk result (λ found. option_map (λ realm. realm.now) found ≡ slice_get (default_realms text.now) 0) }
 {
-    let wanted = Place::of_section(b"libdefaults");
+    let wanted = LinePlace::of_section(b"libdefaults");
     Ok(
         values(alloc, text, wanted, b"default_realm")?
             .first()
@@ -28,7 +28,7 @@ pub fn kdcs<'a>(alloc: Global, text: &'a [u8], realm: &[u8]) -> Result<Vec<&'a [
     ensures { IfOk result (λ found.
         map (λ text. text.now) found.items ≡ kdc_texts (kdc_values realm.now text.now)) }
 {
-    let wanted = Place::of_group(b"realms", realm);
+    let wanted = LinePlace::of_group(b"realms", realm);
     let values = values(alloc, text, wanted, b"kdc")?;
     plain_texts(alloc, &values)
 }

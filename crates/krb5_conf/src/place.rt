@@ -1,13 +1,13 @@
 //! The place of a line.
 ghost use Rattle.std.specs.Prelude.{◌≡◌, ◌<◌, ◌≤◌, ◌+◌, ◌-◌, ◌^◌};
 ghost use Rattle.krb5_conf.specs.Line.{said};
-ghost use Rattle.krb5_conf.specs.Place.{behind, closed, group_place, is_place, named, opened, place_of, section_place};
+ghost use Rattle.krb5_conf.specs.LinePlace.{behind, closed, group_place, is_place, named, opened, place_of, section_place};
 
 use crate::line::Line;
 
 /// The place of a line.
 #[derive(Clone, Copy)]
-pub(crate) struct Place<'a> {
+pub(crate) struct LinePlace<'a> {
     pub section: &'a [u8],
     /// The outermost open group; empty if none is open.
     pub group: &'a [u8],
@@ -17,13 +17,13 @@ pub(crate) struct Place<'a> {
     pub waiting: &'a [u8],
 }
 
-impl<'a> Place<'a> {
+impl<'a> LinePlace<'a> {
     /// Returns the place inside a section but in no group.
-    pub(crate) fn of_section(section: &'a [u8]) -> Place<'a>
+    pub(crate) fn of_section(section: &'a [u8]) -> LinePlace<'a>
         ensures place { place_of result ≡ section_place section.now }
         ensures depth { result.depth ≡ 0 }
     {
-        Place {
+        LinePlace {
             section,
             group: b"",
             depth: 0,
@@ -32,10 +32,10 @@ impl<'a> Place<'a> {
     }
 
     /// Returns the place inside a group of a section but in no group within that.
-    pub(crate) fn of_group(section: &'a [u8], group: &'a [u8]) -> Place<'a>
+    pub(crate) fn of_group(section: &'a [u8], group: &'a [u8]) -> LinePlace<'a>
         ensures { place_of result ≡ group_place section.now group.now }
     {
-        Place {
+        LinePlace {
             section,
             group,
             depth: 1,
@@ -43,14 +43,14 @@ impl<'a> Place<'a> {
         }
     }
 
-    pub(crate) fn is(self, other: Place<'_>) -> bool
+    pub(crate) fn is(self, other: LinePlace<'_>) -> bool
         ensures { result ≡ is_place (place_of self.entry) (place_of other.entry) }
     {
         self.depth == other.depth && self.section == other.section && self.group == other.group
     }
 
     /// Returns the place of the line after this one.
-    pub(crate) fn behind(self, line: Line<'a>) -> Place<'a>
+    pub(crate) fn behind(self, line: Line<'a>) -> LinePlace<'a>
         requires { self.depth < 2 ^ 64 - 1 }
         ensures place { place_of result ≡ behind (place_of self.entry) (said line.entry) }
         ensures depth { result.depth ≤ self.entry.depth + 1 }
@@ -58,7 +58,7 @@ impl<'a> Place<'a> {
         match line {
             Line::Nothing => self,
             Line::Relation(tag, value) => self.waiting_for(named(tag, value)),
-            Line::Section(section) => Place::of_section(section),
+            Line::Section(section) => LinePlace::of_section(section),
             Line::Open(group) => self.opened(group),
             Line::Brace => self.opened(self.waiting),
             Line::Close => self.closed(),
@@ -66,11 +66,11 @@ impl<'a> Place<'a> {
     }
 
     /// Returns this place, where the group with this tag may start next.
-    fn waiting_for(self, tag: &'a [u8]) -> Place<'a>
+    fn waiting_for(self, tag: &'a [u8]) -> LinePlace<'a>
         ensures place { place_of result ≡ record (place_of self.entry) { waiting = tag.now } }
         ensures depth { result.depth ≤ self.entry.depth + 1 }
     {
-        Place {
+        LinePlace {
             section: self.section,
             group: self.group,
             depth: self.depth,
@@ -79,13 +79,13 @@ impl<'a> Place<'a> {
     }
 
     /// Returns the place inside one more group.
-    fn opened(self, group: &'a [u8]) -> Place<'a>
+    fn opened(self, group: &'a [u8]) -> LinePlace<'a>
         requires { self.depth < 2 ^ 64 - 1 }
         ensures place { place_of result ≡ opened (place_of self.entry) group.now }
         ensures depth { result.depth ≤ self.entry.depth + 1 }
     {
         let group = if self.depth == 0 { group } else { self.group };
-        Place {
+        LinePlace {
             section: self.section,
             group,
             depth: self.depth + 1,
@@ -94,14 +94,14 @@ impl<'a> Place<'a> {
     }
 
     /// Returns the place inside one group less.
-    fn closed(self) -> Place<'a>
+    fn closed(self) -> LinePlace<'a>
         ensures place { place_of result ≡ closed (place_of self.entry) }
         ensures depth { result.depth ≤ self.entry.depth + 1 }
     {
         if self.depth <= 1 {
-            return Place::of_section(self.section);
+            return LinePlace::of_section(self.section);
         }
-        Place {
+        LinePlace {
             section: self.section,
             group: self.group,
             depth: self.depth - 1,

@@ -1,7 +1,7 @@
 -- A copy is the same value: the ticket's name, in an AP-REQ, consists of copies.
 use Rattle.std.proofs.Common.{◌≡◌, ℕ, List, refl}
 use Rattle.krb_elements.specs.CopyLaws.{map_all}
-use Rattle.krb_types.specs.CopyLaws.{same_ticket}
+use Rattle.krb_messages.specs.CopyLaws.{same_ticket}
 use Rattle.krb_ap.specs.ApReq.{ApReq}
 
 abbrev pub same_ap_req : ApReq → ApReq

@@ -11,8 +11,8 @@ use Rattle.krb_elements.specs.Written.{field_text, maybe_text}
 use Rattle.krb_elements.specs.WrittenLaws.{tlv_longer}
 use Rattle.krb_fields.specs.EncryptedData.{EncryptedData, encrypted_data, encrypted_data_form}
 use Rattle.krb_fields.specs.PrincipalName.{name}
-use Rattle.krb_types.specs.Ticket.{Ticket, ticket, ticket_form}
-use Rattle.krb_types.specs.TicketLaws.{ticket_size, ticket_inside}
+use Rattle.krb_messages.specs.Ticket.{Ticket, ticket, ticket_form}
+use Rattle.krb_messages.specs.TicketLaws.{ticket_size, ticket_inside}
 use Rattle.krb_ap.specs.ApReq.{ApReq, ap_req, ap_req_form, HasShorterParts}
 
 -- ---- writing: a cipher is shorter than the value that contains it

@@ -2,7 +2,7 @@
 use Rattle.std.proofs.Common.{ℕ, ◌<◌, List, length, refl}
 use Rattle.krb_elements.specs.Codec.{Codec, Record, field, end, sequence, application, int32, flags}
 use Rattle.krb_fields.specs.EncryptedData.{EncryptedData, encrypted_data}
-use Rattle.krb_types.specs.Ticket.{Ticket, ticket}
+use Rattle.krb_messages.specs.Ticket.{Ticket, ticket}
 use Rattle.krb_ap.specs.declared.ap_req.ApReq as trees
 
 abbrev pub ApReq : Type 0

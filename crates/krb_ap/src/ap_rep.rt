@@ -12,7 +12,7 @@ use krb_elements::{
     ReadOwned, read, read_owned, take_field, take_fixed, write, write_field,
 };
 use krb_fields::{EncryptedData, EncryptedDataRef};
-use krb_types::PVNO;
+use krb_messages::PVNO;
 use std::alloc::{AllocError, Global};
 
 /// The message type, as a field value.

@@ -12,7 +12,7 @@ use krb_elements::{
     ReadOwned, read, read_owned, take_field, write, write_field,
 };
 use krb_fields::{EncryptedData, EncryptedDataRef, Flags};
-use krb_types::{Ticket, TicketRef};
+use krb_messages::{Ticket, TicketRef};
 use std::alloc::{AllocError, Global};
 
 /// A client's ticket, and the proof that the client has its session key. Reading checks neither the version nor the

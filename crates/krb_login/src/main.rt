@@ -6,9 +6,9 @@ use client_files::{Cause, Config, Defaults, Fault, Variable, at, at_file, login_
 use client_login::{
     KdcClient, Kdcs, Login, LoginFault, Password, Secret, Transports, Wishes, granting_service,
 };
-use client_sockets::{SocketExchange, now};
+use client_sockets::{SocketNetwork, now};
 use cred_files::{Credential, Principal};
-use file_store::{Amiss, FileStore, ask_password, draw_seed};
+use file_store::{FileCause, FileStore, ask_password, draw_seed};
 use krb_elements::Octets;
 use krb_fields::{Name, component_to_text};
 use rand_chacha::ChaCha20Rng;
@@ -23,7 +23,7 @@ const REFUSED: u8 = 1;
 /// The status of a usage error.
 const USAGE: u8 = 2;
 
-type Client<'a> = KdcClient<SocketExchange<'a, HostRuntime>>;
+type Client<'a> = KdcClient<SocketNetwork<'a, HostRuntime>>;
 
 fn main(rt: HostRuntime) -> io::Result<ExitCode> {
     let args: Vec<String> = env::args(&rt)?.collect(rt.alloc())?;
@@ -77,12 +77,12 @@ fn new_client<'a>(rt: &'a HostRuntime) -> Result<Client<'a>, Fault> {
     let at = match now(rt) {
         Ok(at) => at,
         Err(error) => {
-            let cause = Cause::File(Amiss::Failed(error));
+            let cause = Cause::File(FileCause::Failed(error));
             return Err(Fault::new(rt.alloc(), "the clock", cause));
         }
     };
     let kdcs = Kdcs::new(
-        SocketExchange::new(rt),
+        SocketNetwork::new(rt),
         Vec::new(rt.alloc()),
         Transports::UdpFirst,
     );

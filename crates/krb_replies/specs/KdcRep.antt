@@ -9,7 +9,7 @@ use Rattle.krb_elements.specs.Simple.{IsInt32, is_within}
 use Rattle.krb_fields.specs.EncryptedData.{EncryptedData, encrypted_data}
 use Rattle.krb_fields.specs.PaData.{PaData, pa_data}
 use Rattle.krb_fields.specs.PrincipalName.{Name, name}
-use Rattle.krb_types.specs.Ticket.{Ticket, ticket}
+use Rattle.krb_messages.specs.Ticket.{Ticket, ticket}
 use Rattle.krb_replies.specs.Under.{under}
 use Rattle.krb_replies.specs.declared.kdc_rep.KdcRep as trees
 

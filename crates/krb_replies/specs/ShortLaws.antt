@@ -9,8 +9,8 @@ use Rattle.krb_elements.specs.WrittenLaws.{inside_fits}
 use Rattle.krb_fields.specs.EncryptedData.{encrypted_data}
 use Rattle.krb_fields.specs.PaData.{pa_data}
 use Rattle.krb_fields.specs.PrincipalName.{name}
-use Rattle.krb_types.specs.Ticket.{ticket}
-use Rattle.krb_types.specs.TicketLaws.{ticket_size, ticket_inside}
+use Rattle.krb_messages.specs.Ticket.{ticket}
+use Rattle.krb_messages.specs.TicketLaws.{ticket_size, ticket_inside}
 use Rattle.krb_replies.specs.KdcRep.{KdcRep, kdc_rep, kdc_rep_form}
 
 ticket_in : (type : ℕ) → IsInside ticket_size

@@ -4,7 +4,7 @@ use Rattle.krb_der.specs.Spelling.{IsBytes}
 use Rattle.krb_elements.specs.Codec.{written}
 use Rattle.krb_elements.specs.Format.{whole}
 use Rattle.krb_elements.specs.Laws.{whole_ok}
-use Rattle.krb_types.specs.Ticket.{ticket}
+use Rattle.krb_messages.specs.Ticket.{ticket}
 use Rattle.krb_replies.specs.KdcRep.{KdcRep, kdc_rep, kdc_rep_form}
 use Rattle.krb_replies.specs.ShortLaws.{ticket_short}
 

@@ -2,11 +2,12 @@
 ghost use Rattle.std.specs.Prelude.{◌≡◌, ◌<◌, ◌^◌, ◌++◌, length, IfOk, IsOkAnd, OnOk, option_map};
 ghost use Rattle.krb_elements.specs.Format.{Looks, Sees, inside, whole};
 ghost use Rattle.krb_elements.specs.Written.{field_text};
-ghost use Rattle.krb_types.specs.Ticket.{ticket};
+ghost use Rattle.krb_messages.specs.Ticket.{ticket};
 ghost use Rattle.krb_elements.specs.Codec.{itself};
 ghost use Rattle.krb_replies.specs.KdcRep.{kdc_rep, kdc_rep_of, kdc_rep_form, message_type};
 ghost use Rattle.krb_replies.specs.KdcRep as trees;
 
+use crate::numbers::{AS_REP, TGS_REP};
 use krb_der::{DerFault, Reader, Writer};
 use krb_elements::{
     Application, Coded, Decode, DecodeFields, Encode, EncodeFields, Fielded, KerberosString,
@@ -14,7 +15,7 @@ use krb_elements::{
     write_field, write_optional,
 };
 use krb_fields::{EncryptedData, EncryptedDataRef, Name, NameRef, PaData, PaDataRef};
-use krb_types::{PVNO, Ticket, TicketRef};
+use krb_messages::{PVNO, Ticket, TicketRef};
 use std::alloc::{AllocError, Global};
 
 /// A reply with a ticket, and with the encrypted part for the client. `TYPE` is its message type. The message type and
@@ -36,10 +37,10 @@ pub struct KdcRep<
 }
 
 /// The reply of the AS exchange.
-pub type AsRep = KdcRep<11>;
+pub type AsRep = KdcRep<AS_REP>;
 
 /// The reply of the TGS exchange.
-pub type TgsRep = KdcRep<13>;
+pub type TgsRep = KdcRep<TGS_REP>;
 
 /// A borrowed [`KdcRep`].
 pub type KdcRepRef<'a, const TYPE: u8> = KdcRep<

@@ -2,7 +2,9 @@
 #![tactic(auto)]
 
 mod kdc_rep;
+mod numbers;
 mod under;
 
 pub use kdc_rep::{AsRep, KdcRep, KdcRepRef, TgsRep, read_kdc_rep};
+pub use numbers::{AS_REP, ENC_AS_REP_PART, ENC_TGS_REP_PART, TGS_REP};
 pub use under::{EncAsRepPart, EncTgsRepPart, Under};

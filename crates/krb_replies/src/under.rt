@@ -2,9 +2,10 @@
 ghost use Rattle.std.specs.Prelude.{◌≡◌, IfOk, OnOk};
 ghost use Rattle.krb_replies.specs.Under.{under};
 
+use crate::numbers::{ENC_AS_REP_PART, ENC_TGS_REP_PART};
 use krb_der::{DerFault, Reader, Writer};
 use krb_elements::{Coded, Decode, Encode, Fault, ReadOwned, end_of};
-use krb_parts::EncKdcRepPart;
+use krb_sealed::EncKdcRepPart;
 use std::alloc::{AllocError, Global};
 use std::marker::Model;
 
@@ -23,10 +24,10 @@ impl<const N: u8, T> Model for Under<N, T> {
 }
 
 /// The encrypted part of an AS-REP.
-pub type EncAsRepPart = Under<25, EncKdcRepPart>;
+pub type EncAsRepPart = Under<ENC_AS_REP_PART, EncKdcRepPart>;
 
 /// The encrypted part of a TGS-REP.
-pub type EncTgsRepPart = Under<26, EncKdcRepPart>;
+pub type EncTgsRepPart = Under<ENC_TGS_REP_PART, EncKdcRepPart>;
 
 impl<const N: u8, T: Coded> Coded for Under<N, T> {
     ghost codec = { under N T.codec };

@@ -5,12 +5,12 @@ use Rattle.krb_fields.specs.Name.{Components}
 use Rattle.krb_fields.specs.NameLimits.{is_component, is_within_limits, IsComponent, IsWithinLimits}
 use Rattle.refusals.specs.Refusals.{first_holding}
 use Rattle.principals.specs.Change.{add_rules}
-use Rattle.principals.specs.Database.{Principals, ticket_granter}
+use Rattle.principals.specs.Database.{Principals, tgs_principal}
 use Rattle.principals.specs.declared.change.ChangeFault.{ChangeFault}
 use Rattle.principals.specs.declared.change.ChangeFault.TheVariants.{BadName, Exists}
 
-pub is_within_limits-ticket_granter : (realm : List ℕ) → IsComponent realm → IsWithinLimits (ticket_granter realm)
-is_within_limits-ticket_granter realm fits = let e : is_component realm ≡ true = fits in rw e refl
+pub is_within_limits-tgs_principal : (realm : List ℕ) → IsComponent realm → IsWithinLimits (tgs_principal realm)
+is_within_limits-tgs_principal realm fits = let e : is_component realm ≡ true = fits in rw e refl
 
 -- a name that is not refused is within the limits
 pub within_limits_if_added : (p : Principals) (name : Components) → None ≡ first_holding (add_rules p name) → IsWithinLimits name

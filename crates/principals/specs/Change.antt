@@ -15,14 +15,14 @@ use Rattle.principals.specs.declared.change.RowChange.TheVariants.{Add, Remove, 
 use Rattle.principals.specs.declared.change.ChangeFault.{ChangeFault}
 use Rattle.principals.specs.declared.change.ChangeFault.TheVariants.{BadName, Exists, Protected, Absent, LastVersion}
 use Rattle.principals.specs.declared.change.ChangeFault.TheVariants.{CurrentKeys}
-use Rattle.principals.specs.Database.{Principals, ticket_granter}
+use Rattle.principals.specs.Database.{Principals, tgs_principal}
 
 abbrev pub add_rules : Principals → Components → List (Rule ChangeFault)
 add_rules p name = (not (is_within_limits name), BadName) ∷ (contains_key p.rows name, Exists) ∷ []
 
 abbrev pub remove_rules : Principals → Components → List (Rule ChangeFault)
 remove_rules p name =
-    (eq_by_cmp name_cmp name (ticket_granter p.realm), Protected) ∷ (not (contains_key p.rows name), Absent) ∷ []
+    (eq_by_cmp name_cmp name (tgs_principal p.realm), Protected) ∷ (not (contains_key p.rows name), Absent) ∷ []
 
 abbrev pub new_keys_rules : Option Row → List (Rule ChangeFault)
 new_keys_rules row =

@@ -1,16 +1,5 @@
-pub mod Ahead
 pub mod Change
 pub mod Database
 pub mod FaultName
-pub mod Format
 pub mod Importing
-pub mod NameOf
-pub mod ReadBack
-pub mod ReadFault
-pub mod RefusalWord
-pub mod RowValue
-pub mod RowWritten
-pub mod Taken
-pub mod Tokens
-pub mod Value
-pub mod Written
+pub mod NamesLaws

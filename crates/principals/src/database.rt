@@ -1,16 +1,17 @@
 //! Databases.
 ghost use Rattle.std.specs.Prelude.{◌≡◌, ◌↔◌, ◌≤◌, length, IfOk, IfSome, IfNone, IsTrue, OnOk, OnErr, IsOkUnless};
-ghost use Rattle.std.specs.Prelude.{option_copied, option_map, slice_get};
+ghost use Rattle.std.specs.Prelude.{None, Some, if◌then◌else◌, option_copied, option_map, slice_get};
 ghost use Rattle.std.specs.FinMap as map;
 ghost use Rattle.refusals.specs.Refusals.{first_holding};
-ghost use Rattle.krb_fields.specs.NameLimits.{IsComponent};
+ghost use Rattle.krb_fields.specs.NameLimits.{IsComponent, IsWithinLimits};
 ghost use Rattle.std.specs.Ordering.{eq_by_cmp};
-ghost use Rattle.krb_fields.specs.Name.{name_cmp};
+ghost use Rattle.krb_fields.specs.Name.{Components, name_cmp};
+ghost use Rattle.principal_rows.specs.NameMap.{pairs};
 ghost use Rattle.principal_rows.specs.Row.{IsRow};
-ghost use Rattle.principals.specs.Database.{IsDatabase, first_database, granter_name, ticket_granter};
+ghost use Rattle.principals.specs.Database.{AreRows, IsDatabase, first_database, tgs_name, tgs_principal};
 ghost use Rattle.principals.specs.Change.{refusal, add_rules, changed, row_changed, row_refusal};
 
-use crate::granting::GranterOf;
+use crate::granting::TgsOf;
 use crate::{Change, ChangeFault, RowChange};
 use krb_elements::KerberosString;
 use krb_fields::{Name, NameRef, is_component};
@@ -27,7 +28,7 @@ const NT_SRV_INST: i32 = 2;
 /// The principals of one realm. The ticket-granting service `krbtgt/REALM` is always among them.
 #[derive(Drop)]
 pub struct Database {
-    pub(crate) realm: KerberosString,
+    realm: KerberosString,
     pub(crate) rows: NameMap<Row>,
 }
 
@@ -82,13 +83,30 @@ impl Database {
         if !is_component(realm) {
             return Err(FirstFault::BadName);
         }
-        let granter = granter_name(alloc, realm)?;
+        let tgs = tgs_name(alloc, realm)?;
         let mut rows = NameMap::new(alloc);
-        rows.put(granter, Row::first(alloc, krbtgt_keys)?)?;
+        rows.put(tgs, Row::first(alloc, krbtgt_keys)?)?;
         Ok(Database {
             realm: KerberosString::from_slice(alloc, realm)?,
             rows,
         })
+    }
+
+    /// Returns the database with these rows, if the ticket-granting service is among them.
+    pub fn from_rows(realm: KerberosString, rows: NameMap<Row>) -> Option<Database>
+        requires realm { IsComponent realm }
+        requires names { (name : Components) → IsTrue (map.contains_key rows name) → IsWithinLimits name }
+        requires rows { AreRows rows }
+        ensures { result ≡ (if map.contains_key rows (tgs_principal realm)
+            then Some (record { realm = realm; rows = rows }) else None) }
+    {
+        let tgs = TgsOf {
+            realm: realm.as_slice(),
+        };
+        if rows.get(&tgs).is_none() {
+            return None;
+        }
+        Some(Database { realm, rows })
     }
 
     pub fn copy(&self, alloc: Global) -> Result<Database, AllocError>
@@ -127,11 +145,11 @@ impl Database {
     }
 
     /// Returns the row of the ticket-granting service, without building its name.
-    pub fn granter(&self) -> Option<&Row>
-        ensures row { option_copied result ≡ map.get self.now.rows (ticket_granter self.now.realm) }
+    pub fn tgs(&self) -> Option<&Row>
+        ensures row { option_copied result ≡ map.get self.now.rows (tgs_principal self.now.realm) }
         ensures valid { IfSome result (λ row. IsRow row.now) }
     {
-        self.rows.get(&GranterOf {
+        self.rows.get(&TgsOf {
             realm: self.realm.as_slice(),
         })
     }
@@ -148,6 +166,13 @@ impl Database {
         ensures { option_map (λ e. (e.0.now.components, e.1.now)) result ≡ slice_get (map.entries self.now.rows) place }
     {
         self.rows.at(place)
+    }
+
+    /// Returns the names with their rows, in rising order.
+    pub fn entries(&self) -> &[Entry<Row>]
+        ensures { pairs result.now ≡ map.entries self.now.rows }
+    {
+        self.rows.entries()
     }
 
     /// Makes the change. A refused change leaves the database unchanged.
@@ -205,7 +230,7 @@ impl Database {
         ensures otherwise { IfNone (row_refusal self.old name.now.components RowChange.Remove) (result ≡ Ok tt) }
         ensures err { OnErr result (self.new ≡ self.old) }
     {
-        if is_granter(name, self.realm.as_slice()) {
+        if is_tgs(name, self.realm.as_slice()) {
             return Err(ChangeFault::Protected);
         }
         if self.rows.get(name).is_none() {
@@ -312,8 +337,8 @@ fn copy_entries(alloc: Global, entries: &[Entry<Row>]) -> Result<Vec<Entry<Row>>
 }
 
 /// Checks whether the name is that of the realm's ticket-granting service.
-fn is_granter(name: &Name, realm: &[u8]) -> bool
-    ensures { result ≡ eq_by_cmp name_cmp name.now.components (ticket_granter realm.now) }
+fn is_tgs(name: &Name, realm: &[u8]) -> bool
+    ensures { result ≡ eq_by_cmp name_cmp name.now.components (tgs_principal realm.now) }
 {
     match name.components.as_slice() {
         [service, instance] => {
@@ -325,8 +350,8 @@ fn is_granter(name: &Name, realm: &[u8]) -> bool
 
 /// Returns the name of a realm's ticket-granting service, `krbtgt/REALM`, with name-type NT-SRV-INST (RFC 4120 section
 /// 7.3).
-pub fn granter_name(alloc: Global, realm: &[u8]) -> Result<Name, AllocError>
-    ensures { IfOk result (λ name. name ≡ granter_name realm.now) }
+pub fn tgs_name(alloc: Global, realm: &[u8]) -> Result<Name, AllocError>
+    ensures { IfOk result (λ name. name ≡ tgs_name realm.now) }
 {
     Name::new(alloc, NT_SRV_INST, &[b"krbtgt", realm])
 }

@@ -3,7 +3,7 @@ ghost use Rattle.std.specs.Prelude.{◌≡◌, ◌&&◌, codes};
 ghost use Rattle.std.specs.Str.{bytes_eq};
 ghost use Rattle.std.specs.Ordering.{eq_by_cmp};
 ghost use Rattle.krb_fields.specs.Name.{name_cmp};
-ghost use Rattle.principals.specs.Database.{ticket_granter};
+ghost use Rattle.principals.specs.Database.{tgs_principal};
 
 use krb_fields::{Name, NameRef};
 use principal_rows::NameKey;
@@ -14,12 +14,12 @@ const KRBTGT: &[u8; 6] = b"krbtgt";
 
 /// The name of a realm's ticket-granting service, as a key of maps from names. No name is built for it.
 #[derive(Drop)]
-pub struct GranterOf<'a> {
+pub struct TgsOf<'a> {
     pub realm: &'a [u8],
 }
 
-impl<'a> NameKey for GranterOf<'a> {
-    ghost components = { λ granter. ticket_granter granter.realm.now };
+impl<'a> NameKey for TgsOf<'a> {
+    ghost components = { λ tgs. tgs_principal tgs.realm.now };
 
     fn compare(&self, name: &Name) -> Ordering {
         let Some((service, rest)) = name.components.as_slice().split_first() else {
@@ -44,8 +44,8 @@ impl<'a> NameKey for GranterOf<'a> {
 }
 
 /// Checks whether a borrowed name is that of the realm's ticket-granting service.
-pub fn names_granter(name: &NameRef<'_>, realm: &[u8]) -> bool
-    ensures { result ≡ eq_by_cmp name_cmp name.now.components (ticket_granter realm.now) }
+pub fn names_tgs(name: &NameRef<'_>, realm: &[u8]) -> bool
+    ensures { result ≡ eq_by_cmp name_cmp name.now.components (tgs_principal realm.now) }
 {
     let mut components = name.components.iter();
     let Some(service) = components.next() else {

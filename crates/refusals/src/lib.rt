@@ -4,6 +4,11 @@
 ghost use Rattle.std.specs.Prelude.{◌≡◌};
 ghost use Rattle.refusals.specs.Refusals.{decided, first_holding};
 
+use std::alloc::AllocError;
+
+/// What was found, or why it is refused; outside it, that memory ran out before either was known.
+pub type Attempt<T, R> = Result<Result<T, R>, AllocError>;
+
 /// Returns the reason of the first condition that holds.
 pub fn first_holding<R: Copy>(rules: &[(bool, R)]) -> Option<R>
     ensures { result ≡ first_holding rules.now }

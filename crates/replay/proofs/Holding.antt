@@ -10,13 +10,13 @@ use Rattle.std.specs.Ordering.{eq_by_cmp}
 use Rattle.std.proofs.lemmas.Int.{ints, clamps}
 use Rattle.krb_fields.specs.Name.{Components, name_cmp}
 use Rattle.krb_fields.specs.Skew.{skew}
-use Rattle.replay.specs.Memory.{floor_at, remembered}
+use Rattle.replay.specs.ReplayCache.{floor_at, recorded}
 use Rattle.replay.specs.Kept.{nothing_kept}
-use Rattle.replay.specs.Resumed.{Holds, is_spent, resumed_memory, stamp_seen, with_all_seen, with_seen}
+use Rattle.replay.specs.Resumed.{Holds, is_spent, resumed_cache, stamp_seen, with_all_seen, with_seen}
 use Rattle.replay.specs.Stamp.{Stamp, stamp_cmp, is_from}
 use Rattle.replay.specs.Tidied.{tidied}
 use Rattle.replay.specs.declared.keep.Kept.{Kept}
-use Rattle.replay.specs.declared.memory.Memory.{Memory}
+use Rattle.replay.specs.declared.cache.ReplayCache.{ReplayCache}
 use Rattle.replay.specs.declared.seen.Resumption.{Resumption}
 use Rattle.replay.specs.declared.seen.Seen.{Seen}
 use Rattle.replay.proofs.Raising.{floor_within}
@@ -57,12 +57,12 @@ some_either false x o e = e
 
 module _ {V : Type 0} where
   -- what a test leaves was there before
-  retained_there : (m : Memory V) (second : ℤ) (s : Stamp) → is_some (map.get (map.retain_keys m.pairs (is_from second)) s) ≡ true → is_some (map.get m.pairs s) ≡ true
+  retained_there : (m : ReplayCache V) (second : ℤ) (s : Stamp) → is_some (map.get (map.retain_keys m.pairs (is_from second)) s) ≡ true → is_some (map.get m.pairs s) ≡ true
   retained_there m second s e =
       some_of_cond (is_from second s) (map.get m.pairs s)
       (sym (ap is_some (get-retain_keys m.pairs (is_from second) s (λ x t. ap (is_from second) (sym (stamp_exact s x t))))) ∙ e)
 
-  module _ (m n : Memory V) (now : ℤ) (holds : Holds m n) (low : (now -ℤ pos skew) ≤ℤ n.floor) where
+  module _ (m n : ReplayCache V) (now : ℤ) (holds : Holds m n) (low : (now -ℤ pos skew) ≤ℤ n.floor) where
     -- below the floor at this second
     below_held : (s : Stamp) → int_lt s.0 (floor_at m.floor now) ≡ true → is_spent n s ≡ true
     below_held s below = by_floor (below_one m.floor (now -ℤ pos skew) s.0 below)
@@ -75,14 +75,14 @@ module _ {V : Type 0} where
     there_held s there = holds s (by_second (int_lt s.0 m.floor) (is_some (map.get m.pairs s)) there)
 
     -- one more is recorded, which is spent in the other too
-    pub remembered_held : (stamp : Stamp) (k : V) → is_spent n stamp ≡ true → Holds (remembered m now stamp k) n
-    remembered_held stamp k spent s is = by_part (either_of (int_lt s.0 (floor_at m.floor now)) (is_some (map.get (remembered m now stamp k).pairs s)) is)
+    pub recorded_held : (stamp : Stamp) (k : V) → is_spent n stamp ≡ true → Holds (recorded m now stamp k) n
+    recorded_held stamp k spent s is = by_part (either_of (int_lt s.0 (floor_at m.floor now)) (is_some (map.get (recorded m now stamp k).pairs s)) is)
       where
         by_stamp : (b : Bool) → eq_by_cmp stamp_cmp s stamp ≡ b → is_some (cond b (Some k) (map.get (map.retain_keys m.pairs (is_from (floor_at m.floor now))) s)) ≡ true → is_spent n s ≡ true
         by_stamp true same e = subst (λ t. is_spent n t ≡ true) (sym (stamp_exact s stamp ((Equal-is (stamp_cmp s stamp)).0 same))) spent
         by_stamp false apart e = there_held s (retained_there m (floor_at m.floor now) s e)
 
-        by_part : (int_lt s.0 (floor_at m.floor now) ≡ true) ⊎ (is_some (map.get (remembered m now stamp k).pairs s) ≡ true) → is_spent n s ≡ true
+        by_part : (int_lt s.0 (floor_at m.floor now) ≡ true) ⊎ (is_some (map.get (recorded m now stamp k).pairs s) ≡ true) → is_spent n s ≡ true
         by_part (inl below) = below_held s below
         by_part (inr there) = by_stamp (eq_by_cmp stamp_cmp s stamp) refl (sym (ap is_some (get-insert stamp_total (map.retain_keys m.pairs (is_from (floor_at m.floor now))) stamp k s)) ∙ there)
 
@@ -119,22 +119,22 @@ module _ (c : Components) where
   abbrev pub extended : Resumption → ℤ → List Seen → Resumption
   extended r floor more = record { floor = floor; seen = r.seen ++ more }
 
-  pub extended_holds : (r : Resumption) (floor : ℤ) (more : List Seen) → r.floor ≤ℤ floor → Holds (resumed_memory r c) (resumed_memory (extended r floor more) c)
-  extended_holds r floor more le s is = by_part (either_of (int_lt s.0 r.floor) (is_some (map.get (resumed_memory r c).pairs s)) is)
+  pub extended_holds : (r : Resumption) (floor : ℤ) (more : List Seen) → r.floor ≤ℤ floor → Holds (resumed_cache r c) (resumed_cache (extended r floor more) c)
+  extended_holds r floor more le s is = by_part (either_of (int_lt s.0 r.floor) (is_some (map.get (resumed_cache r c).pairs s)) is)
     where
-      by_part : (int_lt s.0 r.floor ≡ true) ⊎ (is_some (map.get (resumed_memory r c).pairs s) ≡ true) → is_spent (resumed_memory (extended r floor more) c) s ≡ true
-      by_part (inl below) = by_first (int_lt s.0 floor) (is_some (map.get (resumed_memory (extended r floor more) c).pairs s)) (below_higher r.floor floor s.0 le below)
+      by_part : (int_lt s.0 r.floor ≡ true) ⊎ (is_some (map.get (resumed_cache r c).pairs s) ≡ true) → is_spent (resumed_cache (extended r floor more) c) s ≡ true
+      by_part (inl below) = by_first (int_lt s.0 floor) (is_some (map.get (resumed_cache (extended r floor more) c).pairs s)) (below_higher r.floor floor s.0 le below)
       by_part (inr there) =
-          by_second (int_lt s.0 floor) (is_some (map.get (resumed_memory (extended r floor more) c).pairs s))
-          (ap (λ pairs. is_some (map.get pairs s)) (with_both map.empty r.seen more) ∙ grows (resumed_memory r c).pairs more s there)
+          by_second (int_lt s.0 floor) (is_some (map.get (resumed_cache (extended r floor more) c).pairs s))
+          (ap (λ pairs. is_some (map.get pairs s)) (with_both map.empty r.seen more) ∙ grows (resumed_cache r c).pairs more s there)
 
   -- the client's last seen authenticator is spent
   pub last_spent : (r : Resumption) (floor : ℤ) (seen : Seen) → eq_by_cmp name_cmp c seen.client.components ≡ true
-      → is_spent (resumed_memory (extended r floor (seen ∷ [])) c) (stamp_seen seen) ≡ true
+      → is_spent (resumed_cache (extended r floor (seen ∷ [])) c) (stamp_seen seen) ≡ true
   last_spent r floor seen own =
-      by_second (int_lt seen.ctime floor) (is_some (map.get (resumed_memory (extended r floor (seen ∷ [])) c).pairs (stamp_seen seen)))
+      by_second (int_lt seen.ctime floor) (is_some (map.get (resumed_cache (extended r floor (seen ∷ [])) c).pairs (stamp_seen seen)))
       (ap (λ pairs. is_some (map.get pairs (stamp_seen seen)))
       (with_both map.empty r.seen (seen ∷ [])
-      ∙ ap (λ b. if b then map.insert (resumed_memory r c).pairs (stamp_seen seen) nothing_kept else (resumed_memory r c).pairs) own)
-      ∙ ap is_some (get-insert stamp_total (resumed_memory r c).pairs (stamp_seen seen) nothing_kept (stamp_seen seen)
-      ∙ ap (λ b. cond b (Some nothing_kept) (map.get (resumed_memory r c).pairs (stamp_seen seen))) (ap is_eq (tied_itself stamp_total (stamp_seen seen)))))
+      ∙ ap (λ b. if b then map.insert (resumed_cache r c).pairs (stamp_seen seen) nothing_kept else (resumed_cache r c).pairs) own)
+      ∙ ap is_some (get-insert stamp_total (resumed_cache r c).pairs (stamp_seen seen) nothing_kept (stamp_seen seen)
+      ∙ ap (λ b. cond b (Some nothing_kept) (map.get (resumed_cache r c).pairs (stamp_seen seen))) (ap is_eq (tied_itself stamp_total (stamp_seen seen)))))

@@ -10,10 +10,10 @@ use Rattle.std.specs.FinMap as map
 use Rattle.std.specs.FinMap.Entries.{where_key, find-where_key, is_sorted-where_key}
 use Rattle.std.proofs.lemmas.Int.{ints, clamps}
 use Rattle.krb_fields.specs.Skew.{skew}
-use Rattle.replay.specs.Memory.{floor_at}
+use Rattle.replay.specs.ReplayCache.{floor_at}
 use Rattle.replay.specs.Stamp.{Stamp, stamp_cmp, is_from}
 use Rattle.replay.specs.Tidied.{day, floor_on, raised, raised_if, tidied}
-use Rattle.replay.specs.declared.memory.Memory.{Memory}
+use Rattle.replay.specs.declared.cache.ReplayCache.{ReplayCache}
 use Rattle.replay.proofs.Stamps.{stamp_total, stamp_exact}
 use Rattle.replay.proofs.Before.{before, forgotten}
 
@@ -164,7 +164,7 @@ day_later above low high le = grind (arith, ints, clamps)
 pub floor_on_empty : (V : Type 0) (start floor now : ℤ) → floor_on (raised start floor (entries (map.empty {X = V} {R = stamp_cmp}))) now ≡ floor_on floor now
 floor_on_empty V start floor now = ap (λ es. floor_on (raised start floor es) now) (entries-empty {V = V})
 
-module _ {V : Type 0} (m : Memory V) (at : ℤ) where
+module _ {V : Type 0} (m : ReplayCache V) (at : ℤ) where
   pub floor_rises : m.floor ≤ℤ (tidied m at).floor
   floor_rises = max_rises m.floor (raised (floor_at m.floor at) m.floor (entries m.pairs)) (at -ℤ pos day) (not_lower (floor_at m.floor at) m.floor (entries m.pairs))
 
@@ -187,8 +187,8 @@ module _ {V : Type 0} (m : Memory V) (at : ℤ) where
       ∙ day_later (raised high m.floor (entries m.pairs)) at now le
 
 -- from the computed values: where the forgotten pairs end, the floor above them, the new floor, and what is left
-pub tidies : {V : Type 0} (m : Memory V) (now start above floor : ℤ) (left : FinMap stamp_cmp V) → start ≡ floor_at m.floor now → above ≡ raised start m.floor (entries m.pairs) → left ≡ map.retain_keys m.pairs (is_from start)
-    → floor ≡ floor_on above now → ◌≡◌ {A = Memory V} (record { failures = m.failures; floor = floor; pairs = left }) (tidied m now)
+pub tidies : {V : Type 0} (m : ReplayCache V) (now start above floor : ℤ) (left : FinMap stamp_cmp V) → start ≡ floor_at m.floor now → above ≡ raised start m.floor (entries m.pairs) → left ≡ map.retain_keys m.pairs (is_from start)
+    → floor ≡ floor_on above now → ◌≡◌ {A = ReplayCache V} (record { failures = m.failures; floor = floor; pairs = left }) (tidied m now)
 tidies m now start above floor left start_is above_is left_is floor_is =
     let floors : floor ≡ (tidied m now).floor = floor_is ∙ ap (λ f. floor_on f now) (above_is ∙ ap (λ s. raised s m.floor (entries m.pairs)) start_is) in
     let pairs : left ≡ (tidied m now).pairs = left_is ∙ ap (λ s. map.retain_keys m.pairs (is_from s)) start_is in

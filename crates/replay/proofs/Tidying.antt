@@ -9,11 +9,11 @@ use Rattle.std.specs.Cmp.{signed_Decides}
 use Rattle.krb_elements.specs.Simple.{IsMicrosecond}
 use Rattle.krb_fields.specs.Moment.{IsSecond}
 use Rattle.replay.specs.declared.failures.Failures.{Failures}
-use Rattle.replay.specs.declared.memory.Memory.{Memory}
+use Rattle.replay.specs.declared.cache.ReplayCache.{ReplayCache}
 use Rattle.replay.specs.Failures.{no_failures}
-use Rattle.replay.specs.Memory.{floor_at}
+use Rattle.replay.specs.ReplayCache.{floor_at}
 use Rattle.replay.specs.Stamp.{Stamp, is_from, stamp_cmp}
-use Rattle.replay.specs.Tidied.{empty_memory, floor_on, is_empty, never_failed, tidied}
+use Rattle.replay.specs.Tidied.{empty_cache, floor_on, is_empty, never_failed, tidied}
 use Rattle.replay.proofs.Epoch.{no_failures_is}
 use Rattle.replay.proofs.Stamps.{stamp_exact, stamp_total}
 use Rattle.replay.proofs.Raising.{floor_on_empty}
@@ -51,8 +51,8 @@ none_failed f e =
     failures_are f.count f.version f.last.sec f.last.usec (same_nat _ _ all.0) (same_nat _ _ all.1) (same_int _ _ all.2) (same_nat _ _ all.3) f.last.sec_in_range f.last.usec_in_range
 
 -- it is the empty cache with that floor
-pub is_empty_memory : {T : Type 0} (floor : ℤ) (m : Memory T) → is_empty floor m ≡ true → m ≡ empty_memory floor
-is_empty_memory floor m e =
+pub is_empty_cache : {T : Type 0} (floor : ℤ) (m : ReplayCache T) → is_empty floor m ≡ true → m ≡ empty_cache floor
+is_empty_cache floor m e =
     let all = three (never_failed m.failures) (int_eq m.floor floor) (nat_eq (map.len m.pairs) 0) e in
     let failures = none_failed m.failures all.0 in
     let same = same_int _ _ all.1 in
@@ -67,5 +67,5 @@ nothing_retained : {T : Type 0} (p : Stamp → Bool) → map.retain_keys (map.em
 nothing_retained p = same_map stamp_total stamp_exact _ _ (λ q.
     get-retain_keys map.empty p q (λ x t. ap p (sym (stamp_exact q x t))) ∙ either_none (p q) (map.get map.empty q) (get-empty stamp_cmp q) ∙ sym (get-empty stamp_cmp q))
 
-pub tidied_empty : {T : Type 0} (floor now : ℤ) → tidied (empty_memory {T = T} floor) now ≡ empty_memory (floor_on floor now)
+pub tidied_empty : {T : Type 0} (floor now : ℤ) → tidied (empty_cache {T = T} floor) now ≡ empty_cache (floor_on floor now)
 tidied_empty {T = T} floor now = λ i. record { failures = no_failures; floor = floor_on_empty T (floor_at floor now) floor now i; pairs = nothing_retained (is_from (floor_at floor now)) i }

@@ -7,11 +7,11 @@ use Rattle.std.specs.FinMap as map
 use Rattle.std.proofs.lemmas.Int.{ints, clamps}
 use Rattle.std.proofs.lemmas.Bool.Decides.{nat_tests}
 use Rattle.krb_fields.specs.Skew.{skew}
-use Rattle.replay.specs.Memory.{floor_at, if_kept, recent, remembered, verdict}
-use Rattle.replay.specs.Stamp.{Stamp, stamp_cmp, is_from, is_untimely}
+use Rattle.replay.specs.ReplayCache.{floor_at, if_kept, recent, recorded, verdict}
+use Rattle.replay.specs.Stamp.{Stamp, stamp_cmp, is_from, is_beyond_clock_skew}
 use Rattle.replay.specs.Tidied.{floor_on, raised, tidied}
 use Rattle.replay.specs.Unseen.{TidiedUnseen}
-use Rattle.replay.specs.declared.memory.Memory.{Memory}
+use Rattle.replay.specs.declared.cache.ReplayCache.{ReplayCache}
 use Rattle.replay.specs.declared.verdict.Verdict.{Verdict}
 use Rattle.replay.specs.declared.verdict.Verdict.TheVariants.{Fresh, Skew, Full}
 use Rattle.replay.proofs.Stamps.{stamp_total, stamp_exact}
@@ -64,7 +64,7 @@ high_too above high ctime le h = grind (arith, ints)
 le_then : (a b c : ℤ) → a ≤ℤ b → (b -ℤ pos skew) ≤ℤ c → (a -ℤ pos skew) ≤ℤ c
 le_then a b c p q = omega (arith, ints)
 
-module _ {V : Type 0} (m : Memory V) (at now : ℤ) (le : at ≤ℤ now) where
+module _ {V : Type 0} (m : ReplayCache V) (at now : ℤ) (le : at ≤ℤ now) where
   same_floor : floor_at (tidied m at).floor now ≡ floor_at m.floor now
   same_floor = max_twice m.floor (tidied m at).floor at now le (floor_rises m at) (floor_within m at)
 
@@ -80,8 +80,8 @@ module _ {V : Type 0} (m : Memory V) (at now : ℤ) (le : at ≤ℤ now) where
       ap (λ f. floor_on (raised f (tidied m at).floor (entries (tidied m at).pairs)) now) same_floor ∙ floor_twice m at now (floor_at m.floor now) le (max_rises m.floor at now le) in
       λ i. record m { floor = floors i; pairs = same_left i }
 
-  pub remembered_tidied : (stamp : Stamp) (kept : V) → remembered (tidied m at) now stamp kept ≡ remembered m now stamp kept
-  remembered_tidied stamp kept = λ i. record m { floor = same_floor i; pairs = map.insert (same_left i) stamp kept }
+  pub recorded_tidied : (stamp : Stamp) (kept : V) → recorded (tidied m at) now stamp kept ≡ recorded m now stamp kept
+  recorded_tidied stamp kept = λ i. record m { floor = same_floor i; pairs = map.insert (same_left i) stamp kept }
 
   module _ (stamp : Stamp) where
     still_timely : nat_lt skew (unsigned_abs (stamp.0 -ℤ now)) ≡ false → int_lt stamp.0 m.floor ≡ false → int_lt stamp.0 (floor_at m.floor at) ≡ false
@@ -95,7 +95,7 @@ module _ {V : Type 0} (m : Memory V) (at now : ℤ) (le : at ≤ℤ now) where
     same_skew true e = refl
     same_skew false e = same_low e (int_lt stamp.0 m.floor) refl
 
-    same_pair : is_untimely m.floor now stamp.0 ≡ false → map.get (tidied m at).pairs stamp ≡ map.get m.pairs stamp
+    same_pair : is_beyond_clock_skew m.floor now stamp.0 ≡ false → map.get (tidied m at).pairs stamp ≡ map.get m.pairs stamp
     same_pair timely =
         let far = nat_lt skew (unsigned_abs (stamp.0 -ℤ now)) in
         let near : far ≡ false = not_far far (int_lt stamp.0 m.floor) timely in
@@ -103,16 +103,16 @@ module _ {V : Type 0} (m : Memory V) (at now : ℤ) (le : at ≤ℤ now) where
         get-retain_keys m.pairs (is_from (floor_at m.floor at)) stamp (alike (floor_at m.floor at) stamp) ∙ ap (λ b. cond (not b) (map.get m.pairs stamp) None) high
 
     -- the verdict within the clock skew
-    abbrev compared : Memory V → ℕ → Verdict V
+    abbrev compared : ReplayCache V → ℕ → Verdict V
     compared n limit = if_kept (map.get n.pairs stamp) (if nat_le limit (recent n now) then Full else Fresh)
 
     pub tidied_says : (limit : ℕ) → verdict (tidied m at) now stamp limit ≡ verdict m now stamp limit
-    tidied_says limit = ap (λ b. cond b Skew (compared (tidied m at) limit)) same ∙ by_test (is_untimely m.floor now stamp.0) refl
+    tidied_says limit = ap (λ b. cond b Skew (compared (tidied m at) limit)) same ∙ by_test (is_beyond_clock_skew m.floor now stamp.0) refl
       where
-        same : is_untimely (tidied m at).floor now stamp.0 ≡ is_untimely m.floor now stamp.0
+        same : is_beyond_clock_skew (tidied m at).floor now stamp.0 ≡ is_beyond_clock_skew m.floor now stamp.0
         same = same_skew (nat_lt skew (unsigned_abs (stamp.0 -ℤ now))) refl
 
-        by_test : (b : Bool) → is_untimely m.floor now stamp.0 ≡ b → cond b Skew (compared (tidied m at) limit) ≡ cond b Skew (compared m limit)
+        by_test : (b : Bool) → is_beyond_clock_skew m.floor now stamp.0 ≡ b → cond b Skew (compared (tidied m at) limit) ≡ cond b Skew (compared m limit)
         by_test true e = refl
         by_test false e = λ i. if_kept (same_pair e i) (if nat_le limit (map.len (same_left i)) then Full else Fresh)
 

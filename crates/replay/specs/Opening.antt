@@ -1,14 +1,14 @@
 -- The replay cache of a client that sent nothing since the opening.
 use Rattle.std.specs.Prelude.{ℤ, pos, ◌+◌, ◌+ℤ◌, ◌-ℤ◌}
 use Rattle.krb_fields.specs.Skew.{skew}
-use Rattle.replay.specs.Memory.{first, restarted_memory}
-use Rattle.replay.specs.declared.memory.Memory.{Memory}
+use Rattle.replay.specs.ReplayCache.{first, restarted_cache}
+use Rattle.replay.specs.declared.cache.ReplayCache.{ReplayCache}
 use Rattle.replay.specs.declared.opening.Opening.{Opening}
 use Rattle.replay.specs.declared.opening.Opening.TheVariants.{First, Restart}
 
-abbrev pub opened_memory : {T : Type 0} → Opening → Memory T
-opened_memory First = first
-opened_memory (Restart at) = restarted_memory at.sec
+abbrev pub opened_cache : {T : Type 0} → Opening → ReplayCache T
+opened_cache First = first
+opened_cache (Restart at) = restarted_cache at.sec
 
 -- its floor
 abbrev pub opening_floor : Opening → ℤ

@@ -5,7 +5,7 @@ use Rattle.std.specs.Option.{is_some}
 use Rattle.std.specs.Ordering.{eq_by_cmp}
 use Rattle.krb_fields.specs.Name.{Components, name_cmp}
 use Rattle.replay.specs.declared.keep.Kept.{Kept}
-use Rattle.replay.specs.declared.memory.Memory.{Memory}
+use Rattle.replay.specs.declared.cache.ReplayCache.{ReplayCache}
 use Rattle.replay.specs.declared.seen.Resumption.{Resumption}
 use Rattle.replay.specs.declared.seen.Seen.{Seen}
 use Rattle.replay.specs.Failures.{no_failures}
@@ -26,16 +26,16 @@ with_all_seen c pairs [] = pairs
 with_all_seen c pairs (seen ∷ others) = with_all_seen c (with_seen c pairs seen) others
 
 -- the cache of the client c: no failures, the floor, and the client's authenticators that were seen
-abbrev pub resumed_memory : Resumption → Components → Memory Kept
-resumed_memory r c = record { failures = no_failures; floor = r.floor; pairs = with_all_seen c map.empty r.seen }
+abbrev pub resumed_cache : Resumption → Components → ReplayCache Kept
+resumed_cache r c = record { failures = no_failures; floor = r.floor; pairs = with_all_seen c map.empty r.seen }
 
 -- ---- what it has to hold
 
 -- whether an authenticator can't be found fresh any more: it is too old to be compared with the pairs, or is one of
 -- them
-abbrev pub is_spent : {T : Type 0} → Memory T → Stamp → Bool
+abbrev pub is_spent : {T : Type 0} → ReplayCache T → Stamp → Bool
 is_spent m stamp = int_lt stamp.0 m.floor || is_some (map.get m.pairs stamp)
 
 -- what is spent in one cache is spent in the other
-abbrev pub Holds : {T : Type 0} → Memory T → Memory T → Type 0
+abbrev pub Holds : {T : Type 0} → ReplayCache T → ReplayCache T → Type 0
 Holds m n = (stamp : Stamp) → IsTrue (is_spent m stamp) → IsTrue (is_spent n stamp)

@@ -4,21 +4,21 @@ use Rattle.std.specs.Int.{int_max}
 use Rattle.std.specs.Ordering.{int_eq}
 use Rattle.std.specs.FinMap as map
 use Rattle.replay.specs.declared.failures.Failures.{Failures}
-use Rattle.replay.specs.declared.memory.Memory.{Memory}
+use Rattle.replay.specs.declared.cache.ReplayCache.{ReplayCache}
 use Rattle.replay.specs.Failures.{no_failures}
-use Rattle.replay.specs.Memory.{floor_at}
+use Rattle.replay.specs.ReplayCache.{floor_at}
 use Rattle.replay.specs.Stamp.{Stamp, is_from}
 
 -- nothing recorded, with this floor
-abbrev pub empty_memory : {T : Type 0} → ℤ → Memory T
-empty_memory floor = record { failures = no_failures; floor = floor; pairs = map.empty }
+abbrev pub empty_cache : {T : Type 0} → ℤ → ReplayCache T
+empty_cache floor = record { failures = no_failures; floor = floor; pairs = map.empty }
 
 -- the failures are those of a client that never failed
 abbrev pub never_failed : Failures → Bool
 never_failed f = nat_eq f.count 0 && nat_eq f.version 0 && int_eq f.last.sec (pos 0) && nat_eq f.last.usec 0
 
 -- whether nothing is recorded, and the floor is this one
-abbrev pub is_empty : {T : Type 0} → ℤ → Memory T → Bool
+abbrev pub is_empty : {T : Type 0} → ℤ → ReplayCache T → Bool
 is_empty floor m = never_failed m.failures && int_eq m.floor floor && nat_eq (map.len m.pairs) 0
 
 -- the seconds of a day
@@ -42,7 +42,7 @@ raised_if start floor (Some e) = raised start floor (e ∷ [])
 
 -- The pairs that are too old to come again at a second are forgotten. The floor is raised above them, and to a day
 -- before that second. The failures are unchanged.
-abbrev pub tidied : {T : Type 0} → Memory T → ℤ → Memory T
+abbrev pub tidied : {T : Type 0} → ReplayCache T → ℤ → ReplayCache T
 tidied m now = record m {
   floor = floor_on (raised (floor_at m.floor now) m.floor (map.entries m.pairs)) now;
   pairs = map.retain_keys m.pairs (is_from (floor_at m.floor now));

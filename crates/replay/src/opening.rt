@@ -1,9 +1,9 @@
 //! How a replay cache begins.
 ghost use Rattle.std.specs.Prelude.{◌≡◌};
-ghost use Rattle.replay.specs.Opening.{opened_memory, opening_floor};
+ghost use Rattle.replay.specs.Opening.{opened_cache, opening_floor};
 
+use crate::cache::ReplayCache;
 use crate::keep::Keep;
-use crate::memory::Memory;
 use krb_fields::{Moment, SKEW};
 use std::alloc::Global;
 
@@ -27,14 +27,14 @@ impl Opening {
     }
 }
 
-impl<T: Keep> Memory<T> {
+impl<T: Keep> ReplayCache<T> {
     /// Returns the cache of a client that sent nothing since the opening.
-    pub fn opened(alloc: Global, opening: Opening) -> Memory<T>
-        ensures { result ≡ opened_memory opening }
+    pub fn opened(alloc: Global, opening: Opening) -> ReplayCache<T>
+        ensures { result ≡ opened_cache opening }
     {
         match opening {
-            Opening::First => Memory::first(alloc),
-            Opening::Restart(at) => Memory::restarted(alloc, at),
+            Opening::First => ReplayCache::first(alloc),
+            Opening::Restart(at) => ReplayCache::restarted(alloc, at),
         }
     }
 }

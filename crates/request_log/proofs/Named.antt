@@ -7,16 +7,16 @@ use Rattle.as_exchange.specs.declared.refusal.AsRefusal.TheVariants.{BadVersion 
 use Rattle.as_exchange.specs.declared.refusal.AsRefusal.TheVariants.{ClientExpired as AsClientExpired, PasswordExpired, ServiceRevoked as AsServiceRevoked, ServiceExpired as AsServiceExpired, BadOption as AsBadOption}
 use Rattle.as_exchange.specs.declared.refusal.AsRefusal.TheVariants.{NoCommonType as AsNoCommonType, PreauthFailed, TimestampSkewed, PreauthRequired, PostdatingRefused}
 use Rattle.as_exchange.specs.declared.refusal.AsRefusal.TheVariants.{StartsTooLate as AsStartsTooLate, NeverValid as AsNeverValid, ServiceDenied as AsServiceDenied}
+use Rattle.ap_opening.specs.declared.refusal.ApRefusal.TheVariants.{BadVersion as ApBadVersion, BadMessageType as ApBadMessageType, SessionKeyAsked, NotForUs, NoKey, BadKeyVersion}
+use Rattle.ap_opening.specs.declared.refusal.ApRefusal.TheVariants.{TicketNotOpened, ForeignClient, BoundAddress, BadSessionKey, AuthenticatorNotOpened, BadMatch, BadSubkey}
+use Rattle.ap_opening.specs.declared.refusal.ApRefusal.TheVariants.{Skewed, Repeated, Full, NotYetValid, TicketExpired}
 use Rattle.tgs_opening.specs.declared.refusal.TgsRefusal.{TgsRefusal}
-use Rattle.tgs_opening.specs.declared.refusal.TgsRefusal.TheVariants.{BadVersion as TgsBadVersion, BadMessageType as TgsBadMessageType, NoApReq, MalformedApReq, BadTicketVersion}
-use Rattle.tgs_opening.specs.declared.refusal.TgsRefusal.TheVariants.{BadApMessageType, SessionKeyAsked, NotForUs, NoKey, BadKeyVersion}
-use Rattle.tgs_opening.specs.declared.refusal.TgsRefusal.TheVariants.{TicketNotOpened, ForeignClient, BoundAddress, BadSessionKey, AuthenticatorNotOpened}
-use Rattle.tgs_opening.specs.declared.refusal.TgsRefusal.TheVariants.{BadMatch, NoChecksum, BadChecksumType, Modified, BadSubkey}
-use Rattle.tgs_opening.specs.declared.refusal.TgsRefusal.TheVariants.{ClientUnknown as TgsClientUnknown, ClientDisabled as TgsClientDisabled, ClientExpired as TgsClientExpired, TicketRevoked, Skewed}
-use Rattle.tgs_opening.specs.declared.refusal.TgsRefusal.TheVariants.{Repeated, Full, NotYetValid, TicketExpired, ServiceUnknown as TgsServiceUnknown}
-use Rattle.tgs_opening.specs.declared.refusal.TgsRefusal.TheVariants.{ServiceRevoked as TgsServiceRevoked, ServiceExpired as TgsServiceExpired, OtherService, AuthorizationData, BadOption as TgsBadOption}
-use Rattle.tgs_opening.specs.declared.refusal.TgsRefusal.TheVariants.{NothingToValidate, ValidatedTooEarly, RenewedTooLate, NoCommonType as TgsNoCommonType, StartsTooLate as TgsStartsTooLate}
-use Rattle.tgs_opening.specs.declared.refusal.TgsRefusal.TheVariants.{NeverValid as TgsNeverValid, ServiceDenied as TgsServiceDenied}
+use Rattle.tgs_opening.specs.declared.refusal.TgsRefusal.TheVariants.{BadVersion as TgsBadVersion, BadMessageType as TgsBadMessageType, NoApReq, MalformedApReq, Ap}
+use Rattle.tgs_opening.specs.declared.refusal.TgsRefusal.TheVariants.{NoChecksum, BadChecksumType, Modified}
+use Rattle.tgs_opening.specs.declared.refusal.TgsRefusal.TheVariants.{ClientUnknown as TgsClientUnknown, ClientDisabled as TgsClientDisabled, ClientExpired as TgsClientExpired, TicketRevoked}
+use Rattle.tgs_opening.specs.declared.refusal.TgsRefusal.TheVariants.{ServiceUnknown as TgsServiceUnknown, ServiceDenied as TgsServiceDenied, ServiceRevoked as TgsServiceRevoked, ServiceExpired as TgsServiceExpired}
+use Rattle.tgs_opening.specs.declared.refusal.TgsRefusal.TheVariants.{OtherService, AuthorizationData, BadOption as TgsBadOption}
+use Rattle.tgs_opening.specs.declared.refusal.TgsRefusal.TheVariants.{NothingToValidate, ValidatedTooEarly, RenewedTooLate, NoCommonType as TgsNoCommonType, StartsTooLate as TgsStartsTooLate, NeverValid as TgsNeverValid}
 use Rattle.request_log.specs.Named.{AreDistinct}
 use Rattle.request_log.specs.Words.{as_rule_name, tgs_rule_name}
 
@@ -40,13 +40,13 @@ as_rules =
 
 abbrev tgs_rules : List TgsRefusal
 tgs_rules =
-    TgsBadVersion ∷ TgsBadMessageType ∷ NoApReq ∷ MalformedApReq ∷ BadTicketVersion ∷ BadApMessageType ∷
-    SessionKeyAsked ∷ NotForUs ∷ NoKey ∷ BadKeyVersion ∷ TicketNotOpened ∷ ForeignClient ∷ BoundAddress ∷
-    BadSessionKey ∷ AuthenticatorNotOpened ∷ BadMatch ∷ NoChecksum ∷ BadChecksumType ∷ Modified ∷ BadSubkey ∷
-    TgsClientUnknown ∷ TgsClientDisabled ∷ TgsClientExpired ∷ TicketRevoked ∷ Skewed ∷ Repeated ∷ Full ∷
-    NotYetValid ∷ TicketExpired ∷ TgsServiceUnknown ∷ TgsServiceDenied ∷ TgsServiceRevoked ∷ TgsServiceExpired ∷
-    OtherService ∷ AuthorizationData ∷ TgsBadOption ∷ NothingToValidate ∷ ValidatedTooEarly ∷ RenewedTooLate ∷
-    TgsNoCommonType ∷ TgsStartsTooLate ∷ TgsNeverValid ∷ []
+    TgsBadVersion ∷ TgsBadMessageType ∷ NoApReq ∷ MalformedApReq ∷ Ap ApBadVersion ∷ Ap ApBadMessageType ∷
+    Ap SessionKeyAsked ∷ Ap NotForUs ∷ Ap NoKey ∷ Ap BadKeyVersion ∷ Ap TicketNotOpened ∷ Ap ForeignClient ∷
+    Ap BoundAddress ∷ Ap BadSessionKey ∷ Ap AuthenticatorNotOpened ∷ Ap BadMatch ∷ NoChecksum ∷ BadChecksumType ∷
+    Modified ∷ Ap BadSubkey ∷ TgsClientUnknown ∷ TgsClientDisabled ∷ TgsClientExpired ∷ TicketRevoked ∷ Ap Skewed ∷
+    Ap Repeated ∷ Ap Full ∷ Ap NotYetValid ∷ Ap TicketExpired ∷ TgsServiceUnknown ∷ TgsServiceDenied ∷
+    TgsServiceRevoked ∷ TgsServiceExpired ∷ OtherService ∷ AuthorizationData ∷ TgsBadOption ∷ NothingToValidate ∷
+    ValidatedTooEarly ∷ RenewedTooLate ∷ TgsNoCommonType ∷ TgsStartsTooLate ∷ TgsNeverValid ∷ []
 
 as_named : (rule : AsRefusal) → named_among as_rule_name as_rules (as_rule_name rule) ≡ Some rule
 unfolding named_among
@@ -76,31 +76,31 @@ tgs_named TgsBadVersion = refl
 tgs_named TgsBadMessageType = refl
 tgs_named NoApReq = refl
 tgs_named MalformedApReq = refl
-tgs_named BadTicketVersion = refl
-tgs_named BadApMessageType = refl
-tgs_named SessionKeyAsked = refl
-tgs_named NotForUs = refl
-tgs_named NoKey = refl
-tgs_named BadKeyVersion = refl
-tgs_named TicketNotOpened = refl
-tgs_named ForeignClient = refl
-tgs_named BoundAddress = refl
-tgs_named BadSessionKey = refl
-tgs_named AuthenticatorNotOpened = refl
-tgs_named BadMatch = refl
+tgs_named (Ap ApBadVersion) = refl
+tgs_named (Ap ApBadMessageType) = refl
+tgs_named (Ap SessionKeyAsked) = refl
+tgs_named (Ap NotForUs) = refl
+tgs_named (Ap NoKey) = refl
+tgs_named (Ap BadKeyVersion) = refl
+tgs_named (Ap TicketNotOpened) = refl
+tgs_named (Ap ForeignClient) = refl
+tgs_named (Ap BoundAddress) = refl
+tgs_named (Ap BadSessionKey) = refl
+tgs_named (Ap AuthenticatorNotOpened) = refl
+tgs_named (Ap BadMatch) = refl
 tgs_named NoChecksum = refl
 tgs_named BadChecksumType = refl
 tgs_named Modified = refl
-tgs_named BadSubkey = refl
+tgs_named (Ap BadSubkey) = refl
 tgs_named TgsClientUnknown = refl
 tgs_named TgsClientDisabled = refl
 tgs_named TgsClientExpired = refl
 tgs_named TicketRevoked = refl
-tgs_named Skewed = refl
-tgs_named Repeated = refl
-tgs_named Full = refl
-tgs_named NotYetValid = refl
-tgs_named TicketExpired = refl
+tgs_named (Ap Skewed) = refl
+tgs_named (Ap Repeated) = refl
+tgs_named (Ap Full) = refl
+tgs_named (Ap NotYetValid) = refl
+tgs_named (Ap TicketExpired) = refl
 tgs_named TgsServiceUnknown = refl
 tgs_named TgsServiceDenied = refl
 tgs_named TgsServiceRevoked = refl

@@ -1,8 +1,8 @@
 //! The words for rules and error codes.
 ghost use Rattle.std.specs.Prelude.{◌≡◌};
-ghost use Rattle.request_log.specs.Words.{as_rule_name, code_word, tgs_rule_name};
+ghost use Rattle.request_log.specs.Words.{ap_rule_name, as_rule_name, code_word, tgs_rule_name};
 
-use kdc_core::{AsRefusal, TgsRefusal};
+use kdc_core::{ApRefusal, AsRefusal, TgsRefusal};
 use krb_fields::Code;
 
 /// Returns the log's name for a rule of the AS exchange.
@@ -41,31 +41,14 @@ pub fn tgs_rule_name(rule: TgsRefusal) -> &'static str
         TgsRefusal::BadMessageType => "bad-message-type",
         TgsRefusal::NoApReq => "no-ap-req",
         TgsRefusal::MalformedApReq => "malformed-ap-req",
-        TgsRefusal::BadTicketVersion => "bad-ticket-version",
-        TgsRefusal::BadApMessageType => "bad-ap-message-type",
-        TgsRefusal::SessionKeyAsked => "session-key-asked",
-        TgsRefusal::NotForUs => "not-for-us",
-        TgsRefusal::NoKey => "no-key",
-        TgsRefusal::BadKeyVersion => "bad-key-version",
-        TgsRefusal::TicketNotOpened => "ticket-not-opened",
-        TgsRefusal::ForeignClient => "foreign-client",
-        TgsRefusal::BoundAddress => "bound-address",
-        TgsRefusal::BadSessionKey => "bad-session-key",
-        TgsRefusal::AuthenticatorNotOpened => "authenticator-not-opened",
-        TgsRefusal::BadMatch => "bad-match",
+        TgsRefusal::Ap(rule) => ap_rule_name(rule),
         TgsRefusal::NoChecksum => "no-checksum",
         TgsRefusal::BadChecksumType => "bad-checksum-type",
         TgsRefusal::Modified => "modified",
-        TgsRefusal::BadSubkey => "bad-subkey",
         TgsRefusal::ClientUnknown => "client-unknown",
         TgsRefusal::ClientDisabled => "client-disabled",
         TgsRefusal::ClientExpired => "client-expired",
         TgsRefusal::TicketRevoked => "ticket-revoked",
-        TgsRefusal::Skewed => "skewed",
-        TgsRefusal::Repeated => "repeated",
-        TgsRefusal::Full => "full",
-        TgsRefusal::NotYetValid => "not-yet-valid",
-        TgsRefusal::TicketExpired => "ticket-expired",
         TgsRefusal::ServiceUnknown => "service-unknown",
         TgsRefusal::ServiceDenied => "service-denied",
         TgsRefusal::ServiceRevoked => "service-revoked",
@@ -79,6 +62,32 @@ pub fn tgs_rule_name(rule: TgsRefusal) -> &'static str
         TgsRefusal::NoCommonType => "no-common-type",
         TgsRefusal::StartsTooLate => "starts-too-late",
         TgsRefusal::NeverValid => "never-valid",
+    }
+}
+
+/// Returns the log's name for a rule of every AP-REQ.
+fn ap_rule_name(rule: ApRefusal) -> &'static str
+    ensures { result.now ≡ ap_rule_name rule }
+{
+    match rule {
+        ApRefusal::BadVersion => "bad-ticket-version",
+        ApRefusal::BadMessageType => "bad-ap-message-type",
+        ApRefusal::SessionKeyAsked => "session-key-asked",
+        ApRefusal::NotForUs => "not-for-us",
+        ApRefusal::NoKey => "no-key",
+        ApRefusal::BadKeyVersion => "bad-key-version",
+        ApRefusal::TicketNotOpened => "ticket-not-opened",
+        ApRefusal::ForeignClient => "foreign-client",
+        ApRefusal::BoundAddress => "bound-address",
+        ApRefusal::BadSessionKey => "bad-session-key",
+        ApRefusal::AuthenticatorNotOpened => "authenticator-not-opened",
+        ApRefusal::BadMatch => "bad-match",
+        ApRefusal::BadSubkey => "bad-subkey",
+        ApRefusal::Skewed => "skewed",
+        ApRefusal::Repeated => "repeated",
+        ApRefusal::Full => "full",
+        ApRefusal::NotYetValid => "not-yet-valid",
+        ApRefusal::TicketExpired => "ticket-expired",
     }
 }
 

@@ -1,7 +1,7 @@
-//! Tests of the lines about a clock that goes back (`kdcd_start`).
+//! Tests of the lines about a clock that goes back (`kdcd_run`).
 use kdc_core::Opening;
 use kdc_hub::{Event, MemoryWire, Wire};
-use kdcd_start::{ClockWatch, Refused, WatchedWire, refused_at_start};
+use kdcd_run::{ClockWatch, Refused, WatchedWire, refused_at_start};
 use krb_fields::Moment;
 use std::alloc::Global;
 use std::collections::VecDeque;

@@ -1,8 +1,8 @@
-//! Tests of starting a server from a host in memory (`kdcd_start`): the calls that it makes, and the effect of a call
+//! Tests of starting a server from a host in memory (`kdcd_run`): the calls that it makes, and the effect of a call
 //! that fails.
-use crate::rows::{GRANTER, text_of};
+use crate::rows::{TGS, text_of};
 use journal::Found;
-use kdcd_start::{
+use kdcd_run::{
     FileFault, Host, Journals, database_of, read_args, serve_options, start_server,
     start_with_journal,
 };
@@ -54,8 +54,8 @@ const STARTS: &[(&str, &[Call])] = &[
 
 /// A call that fails, and the message.
 const FAULTS: &[(Call, &str)] = &[
-    (Call::ReadRows, "d: it has more octets than are taken"),
-    (Call::ReadSeed, "s: it has fewer than 32 octets"),
+    (Call::ReadRows, "d: it is longer than the maximum"),
+    (Call::ReadSeed, "s: it has fewer than 32 bytes"),
     (Call::Hold, "no socket"),
     (Call::Now, "the clock: unsupported"),
 ];
@@ -88,7 +88,7 @@ impl Host for ListedHost {
         if self.fails(Call::ReadRows) {
             return Err(FileFault::LongFile);
         }
-        let text = text_of(alloc, "A.B", &[GRANTER])?;
+        let text = text_of(alloc, "A.B", &[TGS])?;
         database_of(alloc, text.as_bytes())
     }
 

@@ -1,7 +1,7 @@
-//! Tests of the file of a journal (`kdcd_start`): what a start reads from it, and what a server writes to it.
+//! Tests of the file of a journal (`kdcd_run`): what a start reads from it, and what a server writes to it.
 use journal::{Doubt, Found, Place, Start, start_of};
 use kdc_core::Seen;
-use kdcd_start::{
+use kdcd_run::{
     JournalBeginning, JournalFile, JournalWriter, Journals, OpenedJournals, open_journals,
 };
 use krb_elements::Octets;

@@ -1,10 +1,10 @@
-//! Tests of a wire with a journal (`kdcd_start`): what it records, and which actions wait for a record.
+//! Tests of a wire with a journal (`kdcd_run`): what it records, and which actions wait for a record.
 ghost use Rattle.std.specs.Prelude.{◌≡◌};
 ghost use Rattle.std.specs.Result.{is_ok};
 
 use kdc_core::Seen;
 use kdc_hub::{Action, CloseReason, Event, MemoryWire, Peer, Reply, Wire};
-use kdcd_start::{JournalWire, JournalWriter, NotKept, QuietWire};
+use kdcd_run::{JournalWire, JournalWriter, NotKept, QuietWire};
 use krb_elements::Octets;
 use krb_fields::{Moment, Name};
 use std::alloc::{AllocError, Global};
@@ -67,7 +67,7 @@ impl JournalWriter for ListedJournal {
 #[derive(Clone, Copy)]
 enum Answer {
     /// A datagram, whose request leaves an authenticator with this time in the replay cache.
-    Remembers(i64),
+    Records(i64),
     Datagram,
     Message,
     Nothing,
@@ -80,7 +80,7 @@ fn action(alloc: Global, answer: Answer) -> Result<Action, Fail> {
         socket: 0,
     };
     match answer {
-        Answer::Remembers(ctime) => Ok(Action::SendTo {
+        Answer::Records(ctime) => Ok(Action::SendTo {
             peer,
             reply: reply(alloc, Some(seen(alloc, ctime)?)),
         }),
@@ -100,11 +100,11 @@ fn action(alloc: Global, answer: Answer) -> Result<Action, Fail> {
     }
 }
 
-fn reply(alloc: Global, remembered: Option<Seen>) -> Reply {
+fn reply(alloc: Global, newly_seen: Option<Seen>) -> Reply {
     Reply {
         message: Octets::new(Vec::new(alloc)),
         account: None,
-        remembered,
+        newly_seen,
     }
 }
 
@@ -158,7 +158,7 @@ fn a_reply_waits_for_its_record(rt: HostRuntime) -> Result<(), Fail> {
     let mended = Call::Mend(AT);
     for (answers, failures, calls, count, faults) in [
         (
-            [Answer::Remembers(AT - 5), Answer::Datagram],
+            [Answer::Records(AT - 5), Answer::Datagram],
             0,
             &[kept, mended] as &[Call],
             2,
@@ -166,14 +166,14 @@ fn a_reply_waits_for_its_record(rt: HostRuntime) -> Result<(), Fail> {
         ),
         // No other reply is sent either: it might be the reply that was withheld.
         (
-            [Answer::Remembers(AT - 5), Answer::Message],
+            [Answer::Records(AT - 5), Answer::Message],
             2,
             &[kept, mended],
             0,
             2,
         ),
         (
-            [Answer::Remembers(AT - 5), Answer::Message],
+            [Answer::Records(AT - 5), Answer::Message],
             1,
             &[kept, mended],
             1,

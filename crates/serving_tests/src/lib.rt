@@ -1,4 +1,4 @@
-//! Tests of a server's start and life: the options of `kdcd`, its files and its log (`kdcd_start`), rows that change
+//! Tests of a server's start and life: the options of `kdcd`, its files and its log (`kdcd_run`), rows that change
 //! (`kdc_serving`), in memory and in a file, and the lines of the log (`request_log`). They are a crate of their own
 //! because a crate with tests is proved twice.
 #![tactic(auto)]

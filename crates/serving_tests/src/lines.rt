@@ -1,8 +1,8 @@
-//! Tests of the lines of a log (`request_log`, `kdcd_start`), for each rule and each outcome. Rules have the names of
+//! Tests of the lines of a log (`request_log`, `kdcd_run`), for each rule and each outcome. Rules have the names of
 //! `docs/PROTOCOL.md`, and the codes of RFC 4120, section 7.5.9. The moment is the first second of 2024.
 use enctypes::Etype;
-use kdc_core::{Account, AsOutcome, AsRefusal, Bears, Granted, TgsOutcome, TgsRefusal};
-use kdcd_start::{LogFormat, LogWriter, RequestLines, line_of};
+use kdc_core::{Account, ApRefusal, AsOutcome, AsRefusal, Bears, Granted, TgsOutcome, TgsRefusal};
+use kdcd_run::{LogFormat, LogWriter, RequestLines, line_of};
 use krb_der::KTime;
 use krb_fields::{Flags, Moment, Name};
 use request_log::{Asker, Transport};
@@ -140,51 +140,51 @@ const TICKETS: &[Case] = &[
         "refused 60 generic rule=malformed-ap-req",
     ),
     (
-        Became::Refused(TgsRefusal::BadTicketVersion),
+        Became::Refused(TgsRefusal::Ap(ApRefusal::BadVersion)),
         "refused 39 bad-version rule=bad-ticket-version",
     ),
     (
-        Became::Refused(TgsRefusal::BadApMessageType),
+        Became::Refused(TgsRefusal::Ap(ApRefusal::BadMessageType)),
         "refused 40 bad-message-type rule=bad-ap-message-type",
     ),
     (
-        Became::Refused(TgsRefusal::SessionKeyAsked),
+        Became::Refused(TgsRefusal::Ap(ApRefusal::SessionKeyAsked)),
         "refused 45 no-key rule=session-key-asked",
     ),
     (
-        Became::Refused(TgsRefusal::NotForUs),
+        Became::Refused(TgsRefusal::Ap(ApRefusal::NotForUs)),
         "refused 35 ticket-not-for-us rule=not-for-us",
     ),
     (
-        Became::Refused(TgsRefusal::NoKey),
+        Became::Refused(TgsRefusal::Ap(ApRefusal::NoKey)),
         "refused 45 no-key rule=no-key",
     ),
     (
-        Became::Refused(TgsRefusal::BadKeyVersion),
+        Became::Refused(TgsRefusal::Ap(ApRefusal::BadKeyVersion)),
         "refused 44 no-key-of-that-version rule=bad-key-version",
     ),
     (
-        Became::Refused(TgsRefusal::TicketNotOpened),
+        Became::Refused(TgsRefusal::Ap(ApRefusal::TicketNotOpened)),
         "refused 31 bad-integrity rule=ticket-not-opened",
     ),
     (
-        Became::Refused(TgsRefusal::ForeignClient),
+        Became::Refused(TgsRefusal::Ap(ApRefusal::ForeignClient)),
         "refused 12 policy rule=foreign-client",
     ),
     (
-        Became::Refused(TgsRefusal::BoundAddress),
+        Became::Refused(TgsRefusal::Ap(ApRefusal::BoundAddress)),
         "refused 38 bad-address rule=bound-address",
     ),
     (
-        Became::Refused(TgsRefusal::BadSessionKey),
+        Became::Refused(TgsRefusal::Ap(ApRefusal::BadSessionKey)),
         "refused 14 no-common-type rule=bad-session-key",
     ),
     (
-        Became::Refused(TgsRefusal::AuthenticatorNotOpened),
+        Became::Refused(TgsRefusal::Ap(ApRefusal::AuthenticatorNotOpened)),
         "refused 31 bad-integrity rule=authenticator-not-opened",
     ),
     (
-        Became::Refused(TgsRefusal::BadMatch),
+        Became::Refused(TgsRefusal::Ap(ApRefusal::BadMatch)),
         "refused 36 ticket-mismatch rule=bad-match",
     ),
     (
@@ -200,7 +200,7 @@ const TICKETS: &[Case] = &[
         "refused 41 modified rule=modified",
     ),
     (
-        Became::Refused(TgsRefusal::BadSubkey),
+        Became::Refused(TgsRefusal::Ap(ApRefusal::BadSubkey)),
         "refused 14 no-common-type rule=bad-subkey",
     ),
 ];
@@ -223,23 +223,23 @@ const LATER_TICKETS: &[Case] = &[
         "refused 20 ticket-revoked rule=ticket-revoked",
     ),
     (
-        Became::Refused(TgsRefusal::Skewed),
+        Became::Refused(TgsRefusal::Ap(ApRefusal::Skewed)),
         "refused 37 clock-skew rule=skewed",
     ),
     (
-        Became::Refused(TgsRefusal::Repeated),
+        Became::Refused(TgsRefusal::Ap(ApRefusal::Repeated)),
         "refused 34 repeat rule=repeated",
     ),
     (
-        Became::Refused(TgsRefusal::Full),
+        Became::Refused(TgsRefusal::Ap(ApRefusal::Full)),
         "refused 29 unavailable rule=full",
     ),
     (
-        Became::Refused(TgsRefusal::NotYetValid),
+        Became::Refused(TgsRefusal::Ap(ApRefusal::NotYetValid)),
         "refused 33 ticket-not-yet-valid rule=not-yet-valid",
     ),
     (
-        Became::Refused(TgsRefusal::TicketExpired),
+        Became::Refused(TgsRefusal::Ap(ApRefusal::TicketExpired)),
         "refused 32 ticket-expired rule=ticket-expired",
     ),
     (
@@ -511,7 +511,7 @@ fn a_line_of_json_has_the_same_fields(rt: HostRuntime) -> Result<(), Fail> {
         \"outcome\":\"ticket\",\"lifetime\":\"10h\",\"etype\":\"18/20\",\"flags\":\"FRI\",\
         \"until\":\"2024-01-01T10:00:00Z\",\"renew\":\"2024-01-08T00:00:00Z\"}\n"
     );
-    let refused = Became::Refused(TgsRefusal::BadMatch);
+    let refused = Became::Refused(TgsRefusal::Ap(ApRefusal::BadMatch));
     let refused = line(alloc, LogFormat::Json, None, None, refused)?;
     assert_eq!(rt;
         refused.as_str(),

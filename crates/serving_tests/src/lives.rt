@@ -6,8 +6,8 @@ use crate::octets::{
     NEWER_SERVICE_TICKET, NEXT_AUTHENTICATOR, REPEAT, SAME_AUTHENTICATOR, SERVICE_TICKET, TICKET,
 };
 use crate::rows::{
-    DISABLED_USER, GRANTER, LAST_GRANTER, NEW_USER, NEWER_GRANTER, NEWER_SERVICE, OTHER_GRANTER,
-    RowOf, SERVICE, USER, database,
+    DISABLED_USER, LAST_TGS, NEW_USER, NEWER_SERVICE, NEWER_TGS, OTHER_TGS, RowOf, SERVICE, TGS,
+    USER, database,
 };
 use kdc_core::{Kdc, Opening};
 use kdc_hub::{Action, Did, Event, Hub, MemoryWire, Peer};
@@ -59,22 +59,18 @@ enum Found {
 /// The result of a look, the next request, and the first bytes of its reply.
 type Period = (Found, &'static [u8], &'static [u8]);
 
-const FIRST_ROWS: &[RowOf] = &[SERVICE, GRANTER, USER];
+const FIRST_ROWS: &[RowOf] = &[SERVICE, TGS, USER];
 
 const LIFE: &[Period] = &[
     (Found::Same, LOGIN, CLIENT_UNKNOWN),
     // A new principal.
-    (
-        Found::Rows(&[SERVICE, GRANTER, USER, NEW_USER]),
-        LOGIN,
-        TICKET,
-    ),
+    (Found::Rows(&[SERVICE, TGS, USER, NEW_USER]), LOGIN, TICKET),
     (Found::Fault, LOGIN, TICKET),
     (Found::OtherRealm, LOGIN, TICKET),
     (Found::Same, FOR_SERVICE, SERVICE_TICKET),
     // A principal that is disabled.
     (
-        Found::Rows(&[SERVICE, GRANTER, USER, DISABLED_USER]),
+        Found::Rows(&[SERVICE, TGS, USER, DISABLED_USER]),
         LOGIN,
         CLIENT_REVOKED,
     ),
@@ -83,13 +79,13 @@ const LIFE: &[Period] = &[
     (Found::Same, SAME_AUTHENTICATOR, REPEAT),
     // New keys of the services. Tickets under the older keys are accepted until those are dropped.
     (
-        Found::Rows(&[NEWER_SERVICE, NEWER_GRANTER, USER]),
+        Found::Rows(&[NEWER_SERVICE, NEWER_TGS, USER]),
         NEXT_AUTHENTICATOR,
         NEWER_SERVICE_TICKET,
     ),
     (Found::Same, FOR_SERVICE, SERVICE_TICKET),
     (
-        Found::Rows(&[NEWER_SERVICE, LAST_GRANTER, USER]),
+        Found::Rows(&[NEWER_SERVICE, LAST_TGS, USER]),
         LAST_AUTHENTICATOR,
         BAD_KEY_VERSION,
     ),
@@ -101,7 +97,7 @@ fn look_of(alloc: Global, found: Found) -> Result<Look, Fail> {
     Ok(match found {
         Found::Same => Look::Unchanged,
         Found::Rows(rows) => Look::Changed(database(alloc, "A.B", rows)?),
-        Found::OtherRealm => Look::Changed(database(alloc, "C.D", &[OTHER_GRANTER])?),
+        Found::OtherRealm => Look::Changed(database(alloc, "C.D", &[OTHER_TGS])?),
         Found::Fault => Look::Failed,
     })
 }

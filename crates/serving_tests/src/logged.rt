@@ -1,9 +1,9 @@
-//! Tests of a wire with a log (`kdcd_start`) in memory, over a hub that keeps accounts: the log of a few events.
+//! Tests of a wire with a log (`kdcd_run`) in memory, over a hub that keeps accounts: the log of a few events.
 use crate::octets::LOGIN;
-use crate::rows::{GRANTER, NEW_USER, database};
+use crate::rows::{NEW_USER, TGS, database};
 use kdc_core::{Kdc, Opening};
 use kdc_hub::{Event, Hub, MemoryWire, Peer, serve};
-use kdcd_start::{LogFormat, LoggedWire, RequestLines};
+use kdcd_run::{LogFormat, LoggedWire, RequestLines};
 use krb_elements::Octets;
 use krb_fields::Moment;
 use principal_rows::Limits;
@@ -91,7 +91,7 @@ fn wire(alloc: Global, calls_before_fault: Option<u64>) -> Result<MemoryWire, Fa
 
 fn hub(alloc: Global) -> Result<Hub<ChaCha20Rng>, Fail> {
     let limits = Limits::new(64, 0, 0, 36_000, 0).ok_or("limits")?;
-    let rows = database(alloc, "A.B", &[GRANTER, NEW_USER])?;
+    let rows = database(alloc, "A.B", &[TGS, NEW_USER])?;
     let kdc = Kdc::open(alloc, rows, limits, Opening::First)?;
     Ok(Hub::new(alloc, kdc, ChaCha20Rng::from_seed([0; 32]), true))
 }

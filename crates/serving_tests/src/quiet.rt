@@ -1,7 +1,7 @@
-//! Tests of a wire that is quiet after a start (`kdcd_start`): which actions it withholds, and until when.
-use kdc_core::{Account, TgsOutcome, TgsRefusal};
+//! Tests of a wire that is quiet after a start (`kdcd_run`): which actions it withholds, and until when.
+use kdc_core::{Account, ApRefusal, TgsOutcome, TgsRefusal};
 use kdc_hub::{Action, Event, MemoryWire, Peer, Reply, Wire};
-use kdcd_start::QuietWire;
+use kdcd_run::QuietWire;
 use krb_elements::Octets;
 use krb_fields::{Moment, Second};
 use std::alloc::Global;
@@ -40,7 +40,7 @@ fn refusal(alloc: Global, rule: TgsRefusal) -> Result<Action, Fail> {
         reply: Reply {
             message: Octets::new(Vec::new(alloc)),
             account: Some(account),
-            remembered: None,
+            newly_seen: None,
         },
     })
 }
@@ -48,10 +48,10 @@ fn refusal(alloc: Global, rule: TgsRefusal) -> Result<Action, Fail> {
 #[test]
 fn refusals_for_clock_skew_are_withheld_up_to_the_second(rt: HostRuntime) -> Result<(), Fail> {
     for (second, until, rule, wanted) in [
-        (UNTIL - 1, Some(UNTIL), TgsRefusal::Skewed, 1),
-        (UNTIL, Some(UNTIL), TgsRefusal::Skewed, 2),
-        (UNTIL - 1, None, TgsRefusal::Skewed, 2),
-        (UNTIL - 1, Some(UNTIL), TgsRefusal::Full, 2),
+        (UNTIL - 1, Some(UNTIL), TgsRefusal::Ap(ApRefusal::Skewed), 1),
+        (UNTIL, Some(UNTIL), TgsRefusal::Ap(ApRefusal::Skewed), 2),
+        (UNTIL - 1, None, TgsRefusal::Ap(ApRefusal::Skewed), 2),
+        (UNTIL - 1, Some(UNTIL), TgsRefusal::Ap(ApRefusal::Full), 2),
     ] {
         assert_eq!(rt; calls(rt.alloc(), second, until, rule)?, wanted);
     }

@@ -13,9 +13,9 @@ pub struct RowOf {
     preauth: bool,
 }
 
-const GRANTER_KEY: &str = "808182838485868788898a8b8c8d8e8f909192939495969798999a9b9c9d9e9f";
+const TGS_KEY: &str = "808182838485868788898a8b8c8d8e8f909192939495969798999a9b9c9d9e9f";
 
-const NEWER_GRANTER_KEY: &str = "000102030405060708090a0b0c0d0e0f101112131415161718191a1b1c1d1e1f";
+const NEWER_TGS_KEY: &str = "000102030405060708090a0b0c0d0e0f101112131415161718191a1b1c1d1e1f";
 
 const USER_KEY: &str = "404142434445464748494a4b4c4d4e4f505152535455565758595a5b5c5d5e5f";
 
@@ -25,33 +25,33 @@ const SERVICE_KEY: &str = "a0a1a2a3a4a5a6a7a8a9aaabacadaeafb0b1b2b3b4b5b6b7b8b9b
 
 const NEWER_SERVICE_KEY: &str = "c0c1c2c3c4c5c6c7c8c9cacbcccdcecfd0d1d2d3d4d5d6d7d8d9dadbdcdddedf";
 
-pub const GRANTER: RowOf = RowOf {
+pub const TGS: RowOf = RowOf {
     name: "krbtgt/A.B",
-    keys: &[(GRANTER_KEY, 1)],
+    keys: &[(TGS_KEY, 1)],
     disabled: false,
     preauth: true,
 };
 
 /// The ticket-granting service of another realm.
-pub const OTHER_GRANTER: RowOf = RowOf {
+pub const OTHER_TGS: RowOf = RowOf {
     name: "krbtgt/C.D",
-    keys: &[(GRANTER_KEY, 1)],
+    keys: &[(TGS_KEY, 1)],
     disabled: false,
     preauth: true,
 };
 
 /// The ticket-granting service with new keys.
-pub const NEWER_GRANTER: RowOf = RowOf {
+pub const NEWER_TGS: RowOf = RowOf {
     name: "krbtgt/A.B",
-    keys: &[(NEWER_GRANTER_KEY, 2), (GRANTER_KEY, 1)],
+    keys: &[(NEWER_TGS_KEY, 2), (TGS_KEY, 1)],
     disabled: false,
     preauth: true,
 };
 
 /// The ticket-granting service without its first keys.
-pub const LAST_GRANTER: RowOf = RowOf {
+pub const LAST_TGS: RowOf = RowOf {
     name: "krbtgt/A.B",
-    keys: &[(NEWER_GRANTER_KEY, 2)],
+    keys: &[(NEWER_TGS_KEY, 2)],
     disabled: false,
     preauth: true,
 };
@@ -96,7 +96,7 @@ pub const NEWER_SERVICE: RowOf = RowOf {
 /// Returns a database with these rows, in the order of their names.
 pub fn database(alloc: Global, realm: &str, rows: &[RowOf]) -> Result<Database, Fail> {
     let text = text_of(alloc, realm, rows)?;
-    Ok(Database::read(alloc, &text)?)
+    Ok(principals_text::read(alloc, &text)?)
 }
 
 /// Returns the text of such a database.

@@ -1,7 +1,7 @@
-//! Tests of a file of rows (`kdcd_start`) that is replaced, broken, removed and put back.
-use crate::rows::{GRANTER, NEW_USER, RowOf, SERVICE, USER, text_of};
+//! Tests of a file of rows (`kdcd_run`) that is replaced, broken, removed and put back.
+use crate::rows::{NEW_USER, RowOf, SERVICE, TGS, USER, text_of};
 use kdc_serving::{Look, OtherRealm, RowSource};
-use kdcd_start::RowsFile;
+use kdcd_run::RowsFile;
 use std::alloc::Global;
 use std::io::{ErrorKind, Write};
 use std::test::Fail;
@@ -12,9 +12,9 @@ const PATH: &str = "tested.database";
 /// The file that is renamed to that path.
 const BESIDE: &str = "tested.database.new";
 
-const ROWS: &[RowOf] = &[SERVICE, GRANTER, USER];
+const ROWS: &[RowOf] = &[SERVICE, TGS, USER];
 
-const MORE_ROWS: &[RowOf] = &[SERVICE, GRANTER, USER, NEW_USER];
+const MORE_ROWS: &[RowOf] = &[SERVICE, TGS, USER, NEW_USER];
 
 /// A change at the path.
 #[derive(Clone, Copy)]
@@ -153,6 +153,7 @@ fn said(rt: &HostRuntime) -> Result<Vec<u8>, Fail> {
     let mut source = RowsFile::new(rt, PATH, &mut said);
     let odd = first_odd(rt, &mut source)?;
     source.hear(Err(OtherRealm));
+    drop(source);
     match odd {
         Some(_) => Err("an odd look")?,
         None => Ok(said),

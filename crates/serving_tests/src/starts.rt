@@ -1,9 +1,9 @@
-//! Tests of the options of `kdcd serve`, and of the files that it accepts (`kdcd_start`).
-use crate::rows::{GRANTER, text_of};
+//! Tests of the options of `kdcd serve`, and of the files that it accepts (`kdcd_run`).
+use crate::rows::{TGS, text_of};
 use clap::ArgMatches;
 use journal::Doubt;
 use kdc_core::Opening;
-use kdcd_start::{
+use kdcd_run::{
     ArgsFault, FileFault, JournalFound, JournalNews, Started, database_of, read_args, read_at_most,
     refused_at_start, seed_of, serve_options,
 };
@@ -199,7 +199,7 @@ fn options_text(alloc: Global, matches: &ArgMatches<'_>) -> Result<String, Fail>
     let (_, args) = matches.subcommand().ok_or("serve")?;
     match serve_options(alloc, args) {
         Ok(options) => Ok(format!(in alloc; "{options:?}")?),
-        Err(ArgsFault::Amiss(fault)) => Ok(String::from_str(alloc, fault)?),
+        Err(ArgsFault::BadUsage(fault)) => Ok(String::from_str(alloc, fault)?),
         Err(ArgsFault::Memory) => Err("memory")?,
     }
 }
@@ -285,7 +285,7 @@ fn refusal_of(alloc: Global, octets: &[u8]) -> Option<&'static str> {
 #[test]
 fn a_database_is_accepted_or_refused_by_name(rt: HostRuntime) -> Result<(), Fail> {
     let alloc = rt.alloc();
-    let database = text_of(alloc, "A.B", &[GRANTER])?;
+    let database = text_of(alloc, "A.B", &[TGS])?;
     assert_eq!(rt; refusal_of(alloc, database.as_bytes()), None);
     for (octets, refusal) in [
         (b"{\"realm\":\"\xff\"}".as_slice(), "NotJson"),
@@ -329,6 +329,6 @@ fn a_file_has_a_maximum_length(rt: HostRuntime) {
 fn a_file_that_is_too_long_is_reported_without_a_number(rt: HostRuntime) -> Result<(), Fail> {
     let fault = FileFault::LongFile;
     let text = format!(in rt.alloc(); "{fault}")?;
-    assert_eq!(rt; text.as_str(), "it has more octets than are taken");
+    assert_eq!(rt; text.as_str(), "it is longer than the maximum");
     Ok(())
 }

@@ -1,7 +1,7 @@
-//! Tests of a log that nobody reads (`ready_writer`, `kdcd_start`): over a pipe that becomes full, over a pipe whose
+//! Tests of a log that nobody reads (`ready_writer`, `kdcd_run`): over a pipe that becomes full, over a pipe whose
 //! reader is gone, over a file, and over a file on a disk that is full for one write.
 use kdc_core::Account;
-use kdcd_start::{LogFormat, LogWriter, RequestLines};
+use kdcd_run::{LogFormat, LogWriter, RequestLines};
 use krb_fields::Moment;
 use ready_writer::{ReadyWriter, SharedWriter};
 use request_log::{Asker, Transport};

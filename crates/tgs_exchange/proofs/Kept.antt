@@ -6,9 +6,9 @@ use Rattle.std.specs.FinMap as map
 use Rattle.kdc_replies.specs.Incoming.{Incoming}
 use Rattle.krb_elements.specs.Codec.{written}
 use Rattle.krb_replies.specs.KdcRep.{kdc_rep}
-use Rattle.krb_types.specs.ReqBody.{ReqBody}
-use Rattle.replay.specs.Memory.{if_kept, recent}
-use Rattle.replay.specs.Stamp.{is_untimely}
+use Rattle.krb_messages.specs.ReqBody.{ReqBody}
+use Rattle.replay.specs.ReplayCache.{if_kept, recent}
+use Rattle.replay.specs.Stamp.{is_beyond_clock_skew}
 use Rattle.replay.specs.declared.keep.Kept.{Kept}
 use Rattle.replay.specs.declared.verdict.Verdict.TheVariants.{Fresh, Skew, Full as NoPlace}
 use Rattle.tgs_opening.specs.declared.presented.Presented.{Presented}
@@ -18,7 +18,7 @@ use Rattle.tgs_exchange.specs.Answer.{TgsAnswer, answer_by, is_ticket, tgs_answe
 use Rattle.tgs_exchange.specs.Decision.{decision, stamp_of, verdict_on}
 use Rattle.tgs_exchange.specs.DecisionLaws.{HasSaid, has_said}
 use Rattle.tgs_exchange.specs.declared.decision.Decision.{Decision}
-use Rattle.tgs_exchange.specs.declared.decision.Decision.TheVariants.{Refuses, Remembers, Repeats, Issues}
+use Rattle.tgs_exchange.specs.declared.decision.Decision.TheVariants.{Refuses, Records, Repeats, Issues}
 
 new_by : (skewed : Bool) (kept : Option Kept) (full : Bool) → (if skewed then Skew else if_kept kept (if full then NoPlace else Fresh)) ≡ Fresh → (skewed ≡ false) × (kept ≡ None)
 new_by true kept full e = absurd cc
@@ -27,11 +27,11 @@ new_by false None full e = (refl, refl)
 
 module _ (v : TgsView) (incoming : Incoming) (body : ReqBody) (p : Presented) where
   abbrev IsNew : Type 0
-  IsNew = (is_untimely v.memory.floor incoming.at.sec p.authenticator.ctime ≡ false) × (map.get v.memory.pairs (stamp_of p) ≡ None)
+  IsNew = (is_beyond_clock_skew v.cache.floor incoming.at.sec p.authenticator.ctime ≡ false) × (map.get v.cache.pairs (stamp_of p) ≡ None)
 
   fresh_is_new : verdict_on v incoming.at.sec p ≡ Fresh → IsNew
   fresh_is_new e =
-      new_by (is_untimely v.memory.floor incoming.at.sec p.authenticator.ctime) (map.get v.memory.pairs (stamp_of p)) (nat_le v.limits.remembered (recent v.memory incoming.at.sec)) e
+      new_by (is_beyond_clock_skew v.cache.floor incoming.at.sec p.authenticator.ctime) (map.get v.cache.pairs (stamp_of p)) (nat_le v.limits.remembered (recent v.cache incoming.at.sec)) e
 
   -- neither of two answers stores anything
   kept_by : (b : Bool) (x y : TgsAnswer) (P : Type 0) → IfSome x.kept (λ kept. P) → IfSome y.kept (λ kept. P) → IfSome (if b then x else y).kept (λ kept. P)
@@ -40,7 +40,7 @@ module _ (v : TgsView) (incoming : Incoming) (body : ReqBody) (p : Presented) wh
 
   decision_kept : (decided : Decision Kept) → HasSaid v incoming.at.sec p decided → IfSome (answer_by v incoming body p decided).kept (λ kept. IsNew)
   decision_kept (Refuses refusal) said = tt
-  decision_kept (Remembers refusal) said = fresh_is_new said
+  decision_kept (Records refusal) said = fresh_is_new said
   decision_kept (Repeats kept) said =
       kept_by (pointwise nat_eq incoming.octets kept.request) _ _ IsNew (kept_by (is_ticket kept.bears && nat_lt incoming.room (length kept.reply)) _ _ IsNew tt tt) tt
   decision_kept (Issues admission) said = kept_by (nat_lt incoming.room (length (written (kdc_rep 13) (tgs_rep v incoming.at incoming.random body p admission)))) _ _ IsNew tt (fresh_is_new said)

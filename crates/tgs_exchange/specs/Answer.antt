@@ -6,10 +6,10 @@ use Rattle.enctypes.specs.KeyUsage.{usage_number}
 use Rattle.krb_elements.specs.Codec.{written}
 use Rattle.krb_fields.specs.declared.moment.Moment.{Moment}
 use Rattle.krb_replies.specs.KdcRep.{KdcRep, kdc_rep}
-use Rattle.krb_parts.specs.EncKdcRepPart.{EncKdcRepPart}
-use Rattle.krb_parts.specs.EncTicketPart.{EncTicketPart}
-use Rattle.krb_types.specs.KrbError.{KrbError, krb_error}
-use Rattle.krb_types.specs.ReqBody.{ReqBody}
+use Rattle.krb_sealed.specs.EncKdcRepPart.{EncKdcRepPart}
+use Rattle.krb_sealed.specs.EncTicketPart.{EncTicketPart}
+use Rattle.krb_messages.specs.KrbError.{KrbError, krb_error}
+use Rattle.krb_messages.specs.ReqBody.{ReqBody}
 use Rattle.kdc_replies.specs.ErrorReply.{error_reply, too_big}
 use Rattle.kdc_replies.specs.Grant.{reply_part, ticket_part}
 use Rattle.kdc_replies.specs.Incoming.{Incoming}
@@ -21,12 +21,13 @@ use Rattle.replay.specs.Kept.{nothing_kept}
 use Rattle.tgs_opening.specs.Refusal.{code_of}
 use Rattle.tgs_opening.specs.declared.presented.Presented.{Presented}
 use Rattle.tgs_opening.specs.declared.refusal.TgsRefusal.{TgsRefusal}
-use Rattle.tgs_opening.specs.declared.refusal.TgsRefusal.TheVariants.{Repeated}
+use Rattle.ap_opening.specs.declared.refusal.ApRefusal.TheVariants.{Repeated}
+use Rattle.tgs_opening.specs.declared.refusal.TgsRefusal.TheVariants.{Ap}
 use Rattle.tgs_exchange.specs.View.{TgsView}
 use Rattle.tgs_exchange.specs.Decision.{decision}
 use Rattle.tgs_exchange.specs.Issue.{grant_by, reply_key_of, tgs_rep}
 use Rattle.tgs_exchange.specs.declared.decision.Decision.{Decision}
-use Rattle.tgs_exchange.specs.declared.decision.Decision.TheVariants.{Refuses, Remembers, Repeats, Issues}
+use Rattle.tgs_exchange.specs.declared.decision.Decision.TheVariants.{Refuses, Records, Repeats, Issues}
 use Rattle.tgs_exchange.specs.declared.terms.Admission.{Admission}
 
 -- the bytes of the reply, and what is stored of request and reply for the authenticator; with `None` it is not recorded
@@ -63,7 +64,7 @@ kept_reply v incoming body kept =
 abbrev pub repeated : TgsView → Incoming → ReqBody → Kept → TgsAnswer
 repeated v incoming body kept =
     if pointwise nat_eq incoming.octets kept.request then kept_reply v incoming body kept
-    else refused v incoming.at body Repeated
+    else refused v incoming.at body (Ap Repeated)
 
 -- ---- a new authenticator
 
@@ -77,21 +78,21 @@ kept_of request bears octets =
     if nat_lt longest_kept (length request) then nothing_kept
     else record { request = request; reply = octets; bears = bears }
 
-abbrev pub remembering : List ℕ → Bears → List ℕ → TgsAnswer
-remembering request bears octets = record { reply = octets; kept = Some (kept_of request bears octets) }
+abbrev pub recording : List ℕ → Bears → List ℕ → TgsAnswer
+recording request bears octets = record { reply = octets; kept = Some (kept_of request bears octets) }
 
 -- a reply with a ticket that is longer than the room leaves no trace
 abbrev pub within_room : TgsView → Incoming → ReqBody → List ℕ → TgsAnswer
 within_room v incoming body octets =
     if nat_lt incoming.room (length octets) then refused_room v incoming.at body
-    else remembering incoming.octets Ticket octets
+    else recording incoming.octets Ticket octets
 
 -- ---- answers
 
 abbrev pub answer_by : TgsView → Incoming → ReqBody → Presented → Decision Kept → TgsAnswer
 answer_by v incoming body p (Refuses refusal) = refused v incoming.at body refusal
-answer_by v incoming body p (Remembers refusal) =
-    remembering incoming.octets Error (written krb_error (tgs_error v.realm incoming.at body refusal))
+answer_by v incoming body p (Records refusal) =
+    recording incoming.octets Error (written krb_error (tgs_error v.realm incoming.at body refusal))
 answer_by v incoming body p (Repeats kept) = repeated v incoming body kept
 answer_by v incoming body p (Issues admission) =
     within_room v incoming body (written (kdc_rep 13) (tgs_rep v incoming.at incoming.random body p admission))
@@ -105,12 +106,12 @@ tgs_answer v incoming body p = answer_by v incoming body p (decision v incoming.
 abbrev pub RepeatSpelled : TgsView → Moment → ReqBody → Kept → List ℕ → Type 0
 RepeatSpelled v at body kept octets =
     (octets ≡ kept.reply)
-    ⊎ (krb_error.Spells (too_big v.realm at body) octets ⊎ krb_error.Spells (tgs_error v.realm at body Repeated) octets)
+    ⊎ (krb_error.Spells (too_big v.realm at body) octets ⊎ krb_error.Spells (tgs_error v.realm at body (Ap Repeated)) octets)
 
 -- an error if the request was refused; otherwise the TGS-REP, or the error in its place
 abbrev pub SpelledBy : TgsView → Moment → List ℕ → ReqBody → Presented → Decision Kept → List ℕ → Type 0
 SpelledBy v at random body p (Refuses refusal) octets = krb_error.Spells (tgs_error v.realm at body refusal) octets
-SpelledBy v at random body p (Remembers refusal) octets = krb_error.Spells (tgs_error v.realm at body refusal) octets
+SpelledBy v at random body p (Records refusal) octets = krb_error.Spells (tgs_error v.realm at body refusal) octets
 SpelledBy v at random body p (Repeats kept) octets = RepeatSpelled v at body kept octets
 SpelledBy v at random body p (Issues admission) octets =
     (kdc_rep 13).Spells (tgs_rep v at random body p admission) octets
@@ -138,7 +139,7 @@ OpensFor v at random body p admission =
 
 abbrev pub OpensBy : TgsView → Moment → List ℕ → ReqBody → Presented → Decision Kept → Type 0
 OpensBy v at random body p (Refuses refusal) = ⊤
-OpensBy v at random body p (Remembers refusal) = ⊤
+OpensBy v at random body p (Records refusal) = ⊤
 OpensBy v at random body p (Repeats kept) = ⊤
 OpensBy v at random body p (Issues admission) = OpensFor v at random body p admission
 
@@ -148,7 +149,7 @@ Opens v at random body p = OpensBy v at random body p (decision v at.sec body p)
 -- if a ticket is issued, the bytes sent encode its reply, which is decrypted as above, or the error in its place
 abbrev pub SentBy : TgsView → Moment → List ℕ → ReqBody → Presented → Decision Kept → List ℕ → Type 0
 SentBy v at random body p (Refuses refusal) octets = ⊤
-SentBy v at random body p (Remembers refusal) octets = ⊤
+SentBy v at random body p (Records refusal) octets = ⊤
 SentBy v at random body p (Repeats kept) octets = ⊤
 SentBy v at random body p (Issues admission) octets =
     ((kdc_rep 13).Spells (tgs_rep v at random body p admission) octets × OpensFor v at random body p admission)

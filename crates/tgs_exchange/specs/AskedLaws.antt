@@ -4,7 +4,7 @@ use Rattle.std.specs.Prelude.{IfOk}
 use Rattle.kdc_replies.specs.ServiceTerms.{service_terms}
 use Rattle.kdc_replies.specs.ServiceTermsLaws.{found_terms}
 use Rattle.krb_fields.specs.PrincipalName.{Name}
-use Rattle.krb_types.specs.ReqBody.{ReqBody}
+use Rattle.krb_messages.specs.ReqBody.{ReqBody}
 use Rattle.principal_rows.specs.declared.row.Row.{Row}
 use Rattle.refusals.specs.RefusalLaws.{decided_found}
 use Rattle.refusals.specs.Refusals.{Rule, decided, first_holding}
@@ -16,7 +16,8 @@ use Rattle.tgs_opening.specs.declared.presented.Presented.{Presented}
 use Rattle.tgs_opening.specs.declared.refusal.TgsRefusal.{TgsRefusal}
 use Rattle.tgs_opening.specs.declared.refusal.TgsRefusal.TheVariants.{NeverValid}
 use Rattle.tgs_exchange.specs.View.{TgsView}
-use Rattle.tgs_exchange.specs.Terms.{admission_of, terms, terms_if, terms_by, ticket_terms, times_of}
+use Rattle.ap_opening.specs.Validity.{ticket_terms}
+use Rattle.tgs_exchange.specs.Terms.{admission_of, terms, terms_if, terms_by, times_of}
 use Rattle.tgs_exchange.specs.Rules.{admitted, client_rules, rules_by}
 use Rattle.tgs_exchange.specs.NamedLaws.{admitted_terms, found_by}
 use Rattle.tgs_exchange.specs.Decision.{IfIssued, by_admission, by_client, by_verdict, decision, verdict_on}

@@ -5,7 +5,7 @@ use Rattle.std.proofs.Common.{◌≡◌, ℤ, Option, Some, None, Result, Ok, Er
 use Rattle.std.specs.Borrow.{Bor}
 use Rattle.std.specs.Prelude.{⊤}
 use Rattle.refusals.specs.Refusals.{first_holding}
-use Rattle.krb_types.specs.ReqBody.{ReqBody}
+use Rattle.krb_messages.specs.ReqBody.{ReqBody}
 use Rattle.replay.specs.declared.keep.Kept.{Kept}
 use Rattle.replay.specs.declared.verdict.Verdict.{Verdict}
 use Rattle.replay.specs.declared.verdict.Verdict.TheVariants.{Fresh, Skew, Repeat, Full as NoPlace}
@@ -14,19 +14,20 @@ use Rattle.tgs_opening.specs.declared.refusal.TgsRefusal.{TgsRefusal}
 use Rattle.tgs_opening.specs.declared.refusal.TgsRefusal.TheVariants.{NeverValid}
 use Rattle.tgs_exchange.specs.View.{TgsView}
 use Rattle.tgs_exchange.specs.Known.{IsKnown}
-use Rattle.tgs_exchange.specs.Terms.{terms, ticket_terms, times_of}
+use Rattle.ap_opening.specs.Validity.{ticket_terms}
+use Rattle.tgs_exchange.specs.Terms.{terms, times_of}
 use Rattle.tgs_exchange.specs.Rules.{admitted, client_rules, rules_by}
 use Rattle.tgs_exchange.specs.NamedLaws.{IsNamed, admitted_named}
 use Rattle.tgs_exchange.specs.Decision.{IfIssued, by_admission, by_client, by_verdict, decision, decision_copied}
 use Rattle.tgs_exchange.specs.Decision.{verdict_on}
 use Rattle.tgs_exchange.specs.declared.decision.Decision.{Decision}
-use Rattle.tgs_exchange.specs.declared.decision.Decision.TheVariants.{Refuses, Remembers, Repeats, Issues}
+use Rattle.tgs_exchange.specs.declared.decision.Decision.TheVariants.{Refuses, Records, Repeats, Issues}
 use Rattle.tgs_exchange.specs.declared.terms.Admission.{Admission}
 
 -- the cache's verdict on the authenticator, for each decision
 abbrev pub HasSaid : TgsView → ℤ → Presented → Decision Kept → Type 0
 HasSaid v now p (Refuses refusal) = ⊤
-HasSaid v now p (Remembers refusal) = verdict_on v now p ≡ Fresh
+HasSaid v now p (Records refusal) = verdict_on v now p ≡ Fresh
 HasSaid v now p (Repeats kept) = verdict_on v now p ≡ Repeat kept
 HasSaid v now p (Issues admission) = verdict_on v now p ≡ Fresh
 
@@ -71,7 +72,7 @@ module _ (v : TgsView) (now : ℤ) (body : ReqBody) (p : Presented) (known : IsK
   copied_named : (decided : Decision (Bor Kept)) → IfIssued (decision_copied decided) (λ a. IsNamed p v.service a.terms)
       → IfIssued decided (λ a. IsNamed p v.service a.terms)
   copied_named (Refuses refusal) named = tt
-  copied_named (Remembers refusal) named = tt
+  copied_named (Records refusal) named = tt
   copied_named (Repeats kept) named = tt
   copied_named (Issues admission) named = named
 

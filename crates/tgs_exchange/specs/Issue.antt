@@ -8,11 +8,11 @@ use Rattle.kdc_replies.specs.declared.grant.Grant.{Grant}
 use Rattle.kdc_replies.specs.declared.replies.ReplyKey.{ReplyKey}
 use Rattle.krb_fields.specs.declared.moment.Moment.{Moment}
 use Rattle.krb_replies.specs.KdcRep.{KdcRep}
-use Rattle.krb_types.specs.ReqBody.{ReqBody}
+use Rattle.krb_messages.specs.ReqBody.{ReqBody}
 use Rattle.ticket_times.specs.Flags.{tgs_flags}
 use Rattle.tgs_opening.specs.declared.presented.Presented.{Presented}
 use Rattle.tgs_exchange.specs.View.{TgsView}
-use Rattle.tgs_exchange.specs.Terms.{ticket_terms}
+use Rattle.ap_opening.specs.Validity.{ticket_terms}
 use Rattle.tgs_exchange.specs.declared.terms.Admission.{Admission}
 
 -- the client, its authtime and the authorization data are those of the presented ticket

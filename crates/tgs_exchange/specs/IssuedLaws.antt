@@ -4,7 +4,7 @@ use Rattle.std.specs.Option.{unwrap_or}
 use Rattle.kdc_replies.specs.GrantLaws.{session_key_size}
 use Rattle.kdc_replies.specs.Issue.{Issue, IsIssuedOrError}
 use Rattle.krb_fields.specs.declared.moment.Moment.{Moment}
-use Rattle.krb_types.specs.ReqBody.{ReqBody}
+use Rattle.krb_messages.specs.ReqBody.{ReqBody}
 use Rattle.replay.specs.declared.keep.Kept.{Kept}
 use Rattle.tgs_opening.specs.declared.presented.Presented.{Presented}
 use Rattle.tgs_exchange.specs.View.{TgsView}
@@ -12,14 +12,14 @@ use Rattle.tgs_exchange.specs.Answer.{Opens, OpensBy, Sent, SentBy, Spelled, Spe
 use Rattle.tgs_exchange.specs.Decision.{decision}
 use Rattle.tgs_exchange.specs.Issued.{issue_of, issued, issued_by}
 use Rattle.tgs_exchange.specs.declared.decision.Decision.{Decision}
-use Rattle.tgs_exchange.specs.declared.decision.Decision.TheVariants.{Refuses, Remembers, Repeats, Issues}
+use Rattle.tgs_exchange.specs.declared.decision.Decision.TheVariants.{Refuses, Records, Repeats, Issues}
 use Rattle.tgs_exchange.specs.declared.terms.Admission.{Admission}
 
 module _ (v : TgsView) (at : Moment) (random octets : List ℕ) (body : ReqBody) (p : Presented) where
   sent_by : (decided : Decision Kept) → SpelledBy v at random body p decided octets
       → OpensBy v at random body p decided → SentBy v at random body p decided octets
   sent_by (Refuses refusal) spelled opens = tt
-  sent_by (Remembers refusal) spelled opens = tt
+  sent_by (Records refusal) spelled opens = tt
   sent_by (Repeats kept) spelled opens = tt
   sent_by (Issues admission) (inl spelled) opens = inl (spelled, opens)
   sent_by (Issues admission) (inr spelled) opens = inr spelled
@@ -45,7 +45,7 @@ module _ (v : TgsView) (at : Moment) (random octets : List ℕ) (body : ReqBody)
         let is : issue_of v at random body p admission ≡ issue = ap (λ (o : Option Issue). unwrap_or o issue) e in
         subst (λ (i : Issue). IsIssuedOrError i octets) is (issued_for admission sent)
     reply_by (Refuses refusal) sent e = absurd cc
-    reply_by (Remembers refusal) sent e = absurd cc
+    reply_by (Records refusal) sent e = absurd cc
     reply_by (Repeats kept) sent e = absurd cc
 
     -- the reply to a TGS-REQ that is issued a ticket

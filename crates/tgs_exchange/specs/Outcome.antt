@@ -6,8 +6,8 @@ use Rattle.krb_fields.specs.PrincipalName.{Name}
 use Rattle.krb_fields.specs.declared.code.Code.TheVariants.{KrbErrResponseTooBig}
 use Rattle.krb_fields.specs.declared.moment.Moment.{Moment}
 use Rattle.krb_replies.specs.KdcRep.{kdc_rep}
-use Rattle.krb_types.specs.KrbError.{krb_error}
-use Rattle.krb_types.specs.ReqBody.{ReqBody}
+use Rattle.krb_messages.specs.KrbError.{krb_error}
+use Rattle.krb_messages.specs.ReqBody.{ReqBody}
 use Rattle.kdc_replies.specs.ErrorReply.{too_big}
 use Rattle.kdc_replies.specs.Incoming.{Incoming}
 use Rattle.kdc_replies.specs.Issue.{Issue}
@@ -18,14 +18,15 @@ use Rattle.replay.specs.declared.keep.Bears.{Bears}
 use Rattle.replay.specs.declared.keep.Kept.{Kept}
 use Rattle.tgs_opening.specs.Refusal.{code_of}
 use Rattle.tgs_opening.specs.declared.presented.Presented.{Presented}
-use Rattle.tgs_opening.specs.declared.refusal.TgsRefusal.TheVariants.{Repeated}
+use Rattle.ap_opening.specs.declared.refusal.ApRefusal.TheVariants.{Repeated}
+use Rattle.tgs_opening.specs.declared.refusal.TgsRefusal.TheVariants.{Ap}
 use Rattle.tgs_exchange.specs.View.{TgsView}
 use Rattle.tgs_exchange.specs.Decision.{decision}
 use Rattle.tgs_exchange.specs.Issue.{reply_key_of, tgs_rep}
-use Rattle.tgs_exchange.specs.Terms.{ticket_terms}
+use Rattle.ap_opening.specs.Validity.{ticket_terms}
 use Rattle.tgs_exchange.specs.Answer.{is_ticket, tgs_error}
 use Rattle.tgs_exchange.specs.declared.decision.Decision.{Decision}
-use Rattle.tgs_exchange.specs.declared.decision.Decision.TheVariants.{Refuses, Remembers, Repeats, Issues}
+use Rattle.tgs_exchange.specs.declared.decision.Decision.TheVariants.{Refuses, Records, Repeats, Issues}
 use Rattle.tgs_exchange.specs.declared.outcome.TgsOutcome.{TgsOutcome}
 use Rattle.tgs_exchange.specs.declared.outcome.TgsOutcome.TheVariants.{Refused, Issued, Resent, TooBig}
 use Rattle.tgs_exchange.specs.declared.terms.Admission.{Admission}
@@ -51,7 +52,7 @@ resent_within incoming kept =
 -- the same request gets the stored reply, and another one is refused
 abbrev pub repeated_outcome : Incoming → Kept → TgsOutcome
 repeated_outcome incoming kept =
-    if pointwise nat_eq incoming.octets kept.request then resent_within incoming kept else Refused Repeated
+    if pointwise nat_eq incoming.octets kept.request then resent_within incoming kept else Refused (Ap Repeated)
 
 -- a ticket, if its reply fits the room
 abbrev pub issued_within : TgsView → Incoming → ReqBody → Presented → Admission → TgsOutcome
@@ -62,7 +63,7 @@ issued_within v incoming body p admission =
 
 abbrev pub outcome_by : TgsView → Incoming → ReqBody → Presented → Decision Kept → TgsOutcome
 outcome_by v incoming body p (Refuses refusal) = Refused refusal
-outcome_by v incoming body p (Remembers refusal) = Refused refusal
+outcome_by v incoming body p (Records refusal) = Refused refusal
 outcome_by v incoming body p (Repeats kept) = repeated_outcome incoming kept
 outcome_by v incoming body p (Issues admission) = issued_within v incoming body p admission
 
@@ -75,12 +76,12 @@ abbrev pub OutcomeSpelledBy : TgsView → Moment → List ℕ → ReqBody → Pr
 OutcomeSpelledBy v at random body p (Refused refusal) decided octets = krb_error.Spells (tgs_error v.realm at body refusal) octets
 OutcomeSpelledBy v at random body p TooBig decided octets = krb_error.Spells (too_big v.realm at body) octets
 OutcomeSpelledBy v at random body p (Issued granted) (Refuses refusal) octets = ⊥
-OutcomeSpelledBy v at random body p (Issued granted) (Remembers refusal) octets = ⊥
+OutcomeSpelledBy v at random body p (Issued granted) (Records refusal) octets = ⊥
 OutcomeSpelledBy v at random body p (Issued granted) (Repeats kept) octets = ⊥
 OutcomeSpelledBy v at random body p (Issued granted) (Issues admission) octets =
     (granted ≡ granted_by body p admission) × (kdc_rep 13).Spells (tgs_rep v at random body p admission) octets
 OutcomeSpelledBy v at random body p (Resent bears) (Refuses refusal) octets = ⊥
-OutcomeSpelledBy v at random body p (Resent bears) (Remembers refusal) octets = ⊥
+OutcomeSpelledBy v at random body p (Resent bears) (Records refusal) octets = ⊥
 OutcomeSpelledBy v at random body p (Resent bears) (Repeats kept) octets = (bears ≡ kept.bears) × (octets ≡ kept.reply)
 OutcomeSpelledBy v at random body p (Resent bears) (Issues admission) octets = ⊥
 

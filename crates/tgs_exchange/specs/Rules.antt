@@ -1,31 +1,32 @@
 -- The rules that refuse a TGS-REQ whose ticket and authenticator were decrypted, in order: first those of the client,
 -- and then, once the authenticator is known to be new, those of the ticket and of the request. Each rule has its
 -- section of RFC 4120; the codes for rows that are disabled or have expired are those of section 7.5.9.
-use Rattle.std.specs.Prelude.{ℤ, pos, ◌-ℤ◌, Bool, false, not, ◌&&◌, ◌||◌, nat_eq, int_lt, is_none, is_some, List, []}
+use Rattle.std.specs.Prelude.{ℤ, Bool, false, not, ◌&&◌, ◌||◌, nat_eq, int_lt, is_none, is_some, List, []}
 use Rattle.std.specs.Prelude.{◌∷◌, Option, Some, None, Result}
 use Rattle.std.specs.Cmp.Lexicographic.{pointwise}
 use Rattle.refusals.specs.Optional.{holds_of}
 use Rattle.refusals.specs.Refusals.{Rule, decided}
 use Rattle.krb_fields.specs.PrincipalName.{Name}
-use Rattle.krb_fields.specs.Skew.{skew}
 use Rattle.krb_fields.specs.declared.kdc_option.KdcOption.{KdcOption}
 use Rattle.krb_fields.specs.declared.kdc_option.KdcOption as options
 use Rattle.krb_fields.specs.declared.ticket_flag.TicketFlag.{TicketFlag}
 use Rattle.krb_fields.specs.declared.ticket_flag.TicketFlag.TheVariants.{Forwardable, Proxiable, MayPostdate, Invalid}
 use Rattle.krb_fields.specs.declared.ticket_flag.TicketFlag.TheVariants.{Renewable}
-use Rattle.krb_types.specs.ReqBody.{ReqBody}
+use Rattle.krb_messages.specs.ReqBody.{ReqBody}
 use Rattle.kdc_replies.specs.Standing.{is_disabled, is_expired, is_service_denied}
 use Rattle.principal_rows.specs.declared.row.Row.{Row}
 use Rattle.ticket_times.specs.Asked.{asks, keeps_ticket}
 use Rattle.ticket_times.specs.TicketTerms.{has_flag, start_of_ticket, renewal_of_ticket}
-use Rattle.ticket_times.specs.Times.{later, starts_too_late}
+use Rattle.ticket_times.specs.Times.{starts_too_late}
 use Rattle.ticket_times.specs.declared.ticket_terms.TicketTerms.{TicketTerms}
 use Rattle.tgs_opening.specs.Tickets.{is_named}
 use Rattle.tgs_opening.specs.declared.presented.Presented.{Presented}
 use Rattle.tgs_opening.specs.declared.refusal.TgsRefusal.{TgsRefusal}
 use Rattle.tgs_opening.specs.declared.refusal.TgsRefusal.TheVariants.{ClientUnknown, ClientDisabled, ClientExpired}
 use Rattle.tgs_opening.specs.declared.refusal.TgsRefusal.TheVariants.{TicketRevoked}
-use Rattle.tgs_opening.specs.declared.refusal.TgsRefusal.TheVariants.{NotYetValid, TicketExpired, ServiceUnknown}
+use Rattle.ap_opening.specs.Validity.{has_ended, has_not_started, ticket_terms}
+use Rattle.ap_opening.specs.declared.refusal.ApRefusal.TheVariants.{NotYetValid, TicketExpired}
+use Rattle.tgs_opening.specs.declared.refusal.TgsRefusal.TheVariants.{Ap, ServiceUnknown}
 use Rattle.tgs_opening.specs.declared.refusal.TgsRefusal.TheVariants.{ServiceDenied, ServiceRevoked, ServiceExpired}
 use Rattle.tgs_opening.specs.declared.refusal.TgsRefusal.TheVariants.{OtherService, AuthorizationData}
 use Rattle.tgs_opening.specs.declared.refusal.TgsRefusal.TheVariants.{BadOption, NothingToValidate, ValidatedTooEarly}
@@ -33,7 +34,7 @@ use Rattle.tgs_opening.specs.declared.refusal.TgsRefusal.TheVariants.{RenewedToo
 use Rattle.tgs_opening.specs.declared.refusal.TgsRefusal.TheVariants.{NeverValid}
 use Rattle.tgs_exchange.specs.View.{TgsView}
 use Rattle.ticket_times.specs.declared.times.Times.{Times}
-use Rattle.tgs_exchange.specs.Terms.{terms, admission_of, ticket_terms, times_of}
+use Rattle.tgs_exchange.specs.Terms.{terms, admission_of, times_of}
 use Rattle.tgs_exchange.specs.declared.terms.Admission.{Admission}
 use Rattle.tgs_exchange.specs.declared.terms.Terms.{Terms}
 
@@ -61,11 +62,8 @@ client_rules v now authtime =
 -- it starts later than the clock skew allows, or has yet to be validated, and this request doesn't ask for that
 abbrev pub is_not_yet_valid : TicketTerms → ℤ → ReqBody → Bool
 is_not_yet_valid ticket now body =
-    int_lt (later now skew) (start_of_ticket ticket)
+    has_not_started ticket now
     || (has_flag ticket Invalid && not (asks body options.TheVariants.Validate))
-
-abbrev pub has_ended : TicketTerms → ℤ → Bool
-has_ended ticket now = int_lt ticket.endtime (now -ℤ pos skew)
 
 -- ---- the service
 
@@ -119,8 +117,8 @@ starts_late body now = not (keeps_ticket body) && starts_too_late now body
 abbrev pub rules_by : TgsView → ℤ → ReqBody → Presented → Option Terms → Option Times → List (Rule TgsRefusal)
 rules_by v now body p found times =
     let ticket = ticket_terms p.ticket in
-    (is_not_yet_valid ticket now body, NotYetValid)  -- 3.2.3
-    ∷ (has_ended ticket now, TicketExpired)  -- 3.2.3
+    (is_not_yet_valid ticket now body, Ap NotYetValid)  -- 3.2.3
+    ∷ (has_ended ticket now, Ap TicketExpired)  -- 3.2.3
     ∷ (is_service_unknown v body, ServiceUnknown)  -- 3.3.3
     ∷ (is_service_denied v.service, ServiceDenied)  -- 3.3.3
     ∷ (is_disabled v.service, ServiceRevoked)  -- 3.3.3

@@ -6,7 +6,7 @@ use Rattle.std.specs.Cmp.Lexicographic.{pointwise}
 use Rattle.kdc_replies.specs.GoodStanding.{AreInGoodStanding}
 use Rattle.kdc_replies.specs.GoodStandingLaws.{in_good_standing}
 use Rattle.krb_fields.specs.declared.moment.Moment.{Moment}
-use Rattle.krb_types.specs.ReqBody.{ReqBody}
+use Rattle.krb_messages.specs.ReqBody.{ReqBody}
 use Rattle.refusals.specs.ClearLaws.{AreClear, decided_clear}
 use Rattle.refusals.specs.Refusals.{first_holding, unless_refused}
 use Rattle.replay.specs.declared.keep.Kept.{Kept}
@@ -17,7 +17,8 @@ use Rattle.tgs_opening.specs.declared.presented.Presented.{Presented}
 use Rattle.tgs_opening.specs.declared.refusal.TgsRefusal.{TgsRefusal}
 use Rattle.tgs_opening.specs.declared.refusal.TgsRefusal.TheVariants.{NeverValid}
 use Rattle.tgs_exchange.specs.View.{TgsView}
-use Rattle.tgs_exchange.specs.Terms.{admission_of, terms, ticket_terms, times_of}
+use Rattle.ap_opening.specs.Validity.{ticket_terms}
+use Rattle.tgs_exchange.specs.Terms.{admission_of, terms, times_of}
 use Rattle.tgs_exchange.specs.Rules.{admitted, client_rules, rules_by}
 use Rattle.tgs_exchange.specs.Decision.{by_admission, by_client, by_verdict, verdict_on}
 use Rattle.tgs_exchange.specs.Issued.{issued, issued_by}

@@ -3,8 +3,7 @@ use Rattle.std.specs.Prelude.{ℤ, List, Option, Some, None}
 use Rattle.kdc_replies.specs.ServiceTerms.{service_terms}
 use Rattle.kdc_replies.specs.declared.services.ServiceTerms.{ServiceTerms}
 use Rattle.krb_fields.specs.PrincipalName.{Name}
-use Rattle.krb_parts.specs.EncTicketPart.{EncTicketPart}
-use Rattle.krb_types.specs.ReqBody.{ReqBody}
+use Rattle.krb_messages.specs.ReqBody.{ReqBody}
 use Rattle.principal_rows.specs.declared.limits.Limits.{Limits}
 use Rattle.principal_rows.specs.declared.row.Row.{Row}
 use Rattle.ticket_times.specs.Times.{tgs_times}
@@ -13,16 +12,6 @@ use Rattle.ticket_times.specs.declared.times.Times.{Times}
 use Rattle.tgs_exchange.specs.View.{TgsView}
 use Rattle.tgs_exchange.specs.declared.terms.Terms.{Terms}
 use Rattle.tgs_exchange.specs.declared.terms.Admission.{Admission}
-
--- the flags and times of the presented ticket
-abbrev pub ticket_terms : EncTicketPart → TicketTerms
-ticket_terms part = record {
-  flags = part.flags;
-  authtime = part.authtime;
-  starttime = part.starttime;
-  endtime = part.endtime;
-  renew_till = part.renew_till;
-}
 
 abbrev pub terms_by : Row → Option ServiceTerms → Option Terms
 terms_by client (Some service) = Some (record { client_policy = client.policy; service = service })

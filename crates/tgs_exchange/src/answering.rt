@@ -4,10 +4,10 @@ ghost use Rattle.std.specs.FinMap as map;
 ghost use Rattle.kdc_replies.specs.ErrorReply.{too_big};
 ghost use Rattle.krb_elements.specs.Codec.{written};
 ghost use Rattle.krb_fields.specs.PrincipalName.{name};
-ghost use Rattle.krb_types.specs.KrbError.{krb_error};
-ghost use Rattle.replay.specs.Stamp.{is_untimely};
+ghost use Rattle.krb_messages.specs.KrbError.{krb_error};
+ghost use Rattle.replay.specs.Stamp.{is_beyond_clock_skew};
 ghost use Rattle.replay.specs.declared.keep.Bears.TheVariants.{Error};
-ghost use Rattle.tgs_exchange.specs.Answer.{answer_by, is_ticket, kept_of, kept_reply, remembering};
+ghost use Rattle.tgs_exchange.specs.Answer.{answer_by, is_ticket, kept_of, kept_reply, recording};
 ghost use Rattle.tgs_exchange.specs.Answer.{repeated, refused};
 ghost use Rattle.tgs_exchange.specs.Answer.{refused_room, tgs_answer, tgs_error};
 ghost use Rattle.tgs_exchange.specs.Answer.{Opens, OpensBy, RepeatSpelled, Spelled, SpelledBy};
@@ -25,10 +25,11 @@ use crate::issuing::{granted_of, tgs_rep};
 use crate::outcome::TgsOutcome;
 use crate::terms::Admission;
 use crate::view::TgsView;
+use ap_opening::ApRefusal;
 use kdc_replies::{Incoming, too_big};
 use krb_elements::Octets;
 use krb_fields::Moment;
-use krb_types::ReqBodyRef;
+use krb_messages::ReqBodyRef;
 use replay::{Bears, Kept};
 use std::alloc::{AllocError, Global};
 use tgs_opening::{Presented, TgsRefusal};
@@ -71,10 +72,10 @@ pub fn tgs_answer(
     ensures same { IfOk result (λ answer. Opens view.now incoming.now.at incoming.now.random body.now presented.now) }
     // An authenticator to record is within the clock skew and no repeat.
     ensures timely { IfOk result (λ answer.
-        IfSome answer.kept (λ kept. is_untimely view.now.memory.floor incoming.now.at.sec
+        IfSome answer.kept (λ kept. is_beyond_clock_skew view.now.cache.floor incoming.now.at.sec
         presented.now.authenticator.ctime ≡ false)) }
     ensures new { IfOk result (λ answer.
-        IfSome answer.kept (λ kept. map.get view.now.memory.pairs (stamp_of presented.now) ≡ None)) }
+        IfSome answer.kept (λ kept. map.get view.now.cache.pairs (stamp_of presented.now) ≡ None)) }
 {
     let decision = decision(alloc, view, incoming.at, body, presented)?;
     answer_by(alloc, view, incoming, body, presented, &decision)
@@ -110,7 +111,7 @@ fn answer_by(
 {
     match decision {
         Decision::Refuses(refusal) => refused(alloc, view, incoming.at, body, *refusal),
-        Decision::Remembers(refusal) => remembers(alloc, view, incoming, body, *refusal),
+        Decision::Records(refusal) => records(alloc, view, incoming, body, *refusal),
         Decision::Repeats(kept) => repeated(alloc, view, incoming, body, kept),
         Decision::Issues(admission) => issued(alloc, view, incoming, body, presented, admission),
     }
@@ -142,7 +143,7 @@ fn refused(
 }
 
 /// Returns an error that is recorded.
-fn remembers(
+fn records(
     alloc: Global,
     view: &TgsView<'_>,
     incoming: &Incoming<'_>,
@@ -155,7 +156,7 @@ fn remembers(
         answer.reply.items ≡ written krb_error (tgs_error view.now.realm incoming.now.at body.now refusal)) }
     ensures kept { IfOk result (λ answer.
         answer.kept
-        ≡ (remembering incoming.now.octets Error
+        ≡ (recording incoming.now.octets Error
         (written krb_error (tgs_error view.now.realm incoming.now.at body.now refusal))).kept) }
     ensures outcome { IfOk result (λ answer. answer.outcome ≡ outcomes.Refused refusal) }
     ensures spelled { IfOk result (λ answer.
@@ -193,7 +194,8 @@ fn repeated(
         answer.reply.items) }
 {
     if incoming.octets != kept.request.as_slice() {
-        return refused(alloc, view, incoming.at, body, TgsRefusal::Repeated);
+        let repeated = TgsRefusal::Ap(ApRefusal::Repeated);
+        return refused(alloc, view, incoming.at, body, repeated);
     }
     resent(alloc, view, incoming, body, kept)
 }

@@ -1,7 +1,7 @@
 //! Decides on a TGS-REQ whose ticket and authenticator were decrypted: once, before anything is written.
 ghost use Rattle.std.specs.Prelude.{◌≡◌, IfOk};
 ghost use Rattle.refusals.specs.Refusals.{first_holding};
-ghost use Rattle.replay.specs.Memory.{verdict_copied};
+ghost use Rattle.replay.specs.ReplayCache.{verdict_copied};
 ghost use Rattle.tgs_exchange.specs.Decision.{by_admission, by_client, by_verdict, decision, decision_copied};
 ghost use Rattle.tgs_exchange.specs.Decision.{verdict_on};
 ghost use Rattle.tgs_exchange.specs.Rules.{admitted, client_rules};
@@ -10,8 +10,9 @@ use crate::decision::Decision;
 use crate::rules::{admitted, client_rules};
 use crate::terms::{Admission, terms_for};
 use crate::view::TgsView;
+use ap_opening::ApRefusal;
 use krb_fields::Moment;
-use krb_types::ReqBodyRef;
+use krb_messages::ReqBodyRef;
 use refusals::first_holding;
 use replay::{Kept, Verdict};
 use std::alloc::{AllocError, Global};
@@ -66,7 +67,7 @@ fn verdict_on<'v>(view: &TgsView<'v>, at: Moment, presented: &Presented) -> Verd
 {
     let ctime = presented.authenticator.ctime.seconds();
     let cusec = presented.authenticator.cusec.get();
-    view.memory.check(at, ctime, cusec, view.limits.remembered)
+    view.cache.check(at, ctime, cusec, view.limits.remembered)
 }
 
 /// Decides, given the replay cache's verdict.
@@ -82,9 +83,9 @@ fn by_verdict<'v>(
         decision_copied decided ≡ by_verdict view.now at.sec body.now presented.now (verdict_copied verdict.entry)) }
 {
     match verdict {
-        Verdict::Skew => Ok(Decision::Refuses(TgsRefusal::Skewed)),
+        Verdict::Skew => Ok(Decision::Refuses(TgsRefusal::Ap(ApRefusal::Skewed))),
         Verdict::Repeat(kept) => Ok(Decision::Repeats(kept)),
-        Verdict::Full => Ok(Decision::Refuses(TgsRefusal::Full)),
+        Verdict::Full => Ok(Decision::Refuses(TgsRefusal::Ap(ApRefusal::Full))),
         Verdict::Fresh => fresh(alloc, view, at, body, presented),
     }
 }
@@ -110,6 +111,6 @@ fn by_admission<'v>(admission: Result<Admission, TgsRefusal>) -> Decision<&'v Ke
 {
     match admission {
         Ok(admission) => Decision::Issues(admission),
-        Err(refusal) => Decision::Remembers(refusal),
+        Err(refusal) => Decision::Records(refusal),
     }
 }

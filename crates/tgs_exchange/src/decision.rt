@@ -8,7 +8,7 @@ pub enum Decision<K> {
     /// It is refused, and nothing is recorded.
     Refuses(TgsRefusal),
     /// It is refused, and the refusal is recorded with its authenticator.
-    Remembers(TgsRefusal),
+    Records(TgsRefusal),
     /// Its authenticator came before, and this was stored for it.
     Repeats(K),
     /// It is issued a ticket.

@@ -9,15 +9,17 @@ ghost use Rattle.tgs_exchange.specs.Outcome.{granted_by};
 ghost use Rattle.ticket_times.specs.Flags.{tgs_flags};
 ghost use Rattle.tgs_exchange.specs.Known.{IsKnown};
 ghost use Rattle.tgs_exchange.specs.NamedLaws.{IsNamed};
-ghost use Rattle.tgs_exchange.specs.Terms.{ticket_terms};
+ghost use Rattle.ap_opening.specs.Validity.{ticket_terms};
 
-use crate::terms::{Admission, ticket_terms};
+use crate::terms::Admission;
 use crate::view::TgsView;
+use ap_opening::ticket_terms;
 use enctypes::KeyUsage;
 use kdc_replies::{Grant, Granted, Incoming, ReplyInputs, ReplyKey, session_key, ticket_reply};
 use krb_elements::{KerberosStringRef, Lent, Seq};
 use krb_fields::{Flags, Typed};
-use krb_types::ReqBodyRef;
+use krb_messages::ReqBodyRef;
+use krb_replies::{ENC_TGS_REP_PART, TGS_REP};
 use std::alloc::{AllocError, Global};
 use tgs_opening::Presented;
 use ticket_times::tgs_flags;
@@ -52,7 +54,7 @@ pub fn tgs_rep(
         ready: incoming.ready,
     };
     let grant = grant_of(view, incoming.random, body, presented, admission);
-    ticket_reply::<13, 26>(
+    ticket_reply::<TGS_REP, ENC_TGS_REP_PART>(
         alloc,
         &grant,
         &admission.terms.service.key,

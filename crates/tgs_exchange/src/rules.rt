@@ -1,17 +1,18 @@
 //! The rules of the TGS exchange after decryption, one condition each: those of the ticket's times (RFC 4120, section
 //! 3.2.3), of revoked tickets (section 3.3.3.1) and of the request (section 3.3.3).
 ghost use Rattle.std.specs.Prelude.{◌≡◌, option_copied};
-ghost use Rattle.tgs_exchange.specs.Rules.{admitted_by, asks_bad_option, client_rules, has_ended};
+ghost use Rattle.tgs_exchange.specs.Rules.{admitted_by, asks_bad_option, client_rules};
 ghost use Rattle.tgs_exchange.specs.Rules.{has_nothing_to_validate, is_before, is_for_other_service};
 ghost use Rattle.tgs_exchange.specs.Rules.{is_not_yet_valid, is_renewed_too_late, is_service_unknown};
 ghost use Rattle.tgs_exchange.specs.Rules.{is_ticket_revoked, is_validated_too_early, lacks_flag, rules_by};
 ghost use Rattle.tgs_exchange.specs.Rules.{starts_late};
 
-use crate::terms::{Admission, Terms, admission_of, ticket_terms, times_of};
+use crate::terms::{Admission, Terms, admission_of, times_of};
 use crate::view::TgsView;
+use ap_opening::{ApRefusal, has_ended, has_not_started, ticket_terms};
 use kdc_replies::{is_disabled, is_expired, is_service_denied};
-use krb_fields::{KdcOption, Moment, Name, SKEW, Second, TicketFlag};
-use krb_types::ReqBodyRef;
+use krb_fields::{KdcOption, Moment, Name, Second, TicketFlag};
+use krb_messages::ReqBodyRef;
 use principal_rows::Row;
 use refusals::decide;
 use tgs_opening::{Presented, TgsRefusal, is_named};
@@ -63,8 +64,14 @@ fn rules_by(
 {
     let ticket = &ticket_terms(&presented.ticket);
     [
-        (is_not_yet_valid(ticket, at, body), TgsRefusal::NotYetValid),
-        (has_ended(ticket, at), TgsRefusal::TicketExpired),
+        (
+            is_not_yet_valid(ticket, at, body),
+            TgsRefusal::Ap(ApRefusal::NotYetValid),
+        ),
+        (
+            has_ended(ticket, at),
+            TgsRefusal::Ap(ApRefusal::TicketExpired),
+        ),
         (is_service_unknown(view, body), TgsRefusal::ServiceUnknown),
         (is_service_denied(view.service), TgsRefusal::ServiceDenied),
         (is_disabled(view.service), TgsRefusal::ServiceRevoked),
@@ -121,14 +128,8 @@ fn is_before(time: i64, revoked_before: Option<Second>) -> bool
 fn is_not_yet_valid(ticket: &TicketTerms, at: Moment, body: &ReqBodyRef<'_>) -> bool
     ensures { result ≡ is_not_yet_valid ticket.now at.sec body.now }
 {
-    at.sec + SKEW < ticket.start()
+    has_not_started(ticket, at)
         || (ticket.has(TicketFlag::Invalid) && !asks(body, KdcOption::Validate))
-}
-
-fn has_ended(ticket: &TicketTerms, at: Moment) -> bool
-    ensures { result ≡ has_ended ticket.now at.sec }
-{
-    ticket.endtime.seconds() < at.sec - SKEW
 }
 
 /// Checks whether the realm isn't ours, no service is named, or it has no row.

@@ -1,12 +1,11 @@
 //! The terms in the service's row for the types that a request lists, and the times of the ticket.
 ghost use Rattle.std.specs.Prelude.{◌≡◌, IfOk};
-ghost use Rattle.tgs_exchange.specs.Terms.{admission_of, terms, ticket_terms, times_of};
+ghost use Rattle.tgs_exchange.specs.Terms.{admission_of, terms, times_of};
 
 use crate::view::TgsView;
 use kdc_replies::{ServiceTerms, service_terms};
 use krb_fields::Moment;
-use krb_parts::EncTicketPart;
-use krb_types::ReqBodyRef;
+use krb_messages::ReqBodyRef;
 use principal_rows::{Limits, Policy};
 use std::alloc::{AllocError, Global};
 use ticket_times::{TicketTerms, Times, tgs_times};
@@ -23,19 +22,6 @@ pub struct Terms {
 pub struct Admission {
     pub terms: Terms,
     pub times: Times,
-}
-
-/// Returns the flags and times of a ticket.
-pub fn ticket_terms(part: &EncTicketPart) -> TicketTerms
-    ensures { result ≡ ticket_terms part.now }
-{
-    TicketTerms {
-        flags: part.flags,
-        authtime: part.authtime,
-        starttime: part.starttime,
-        endtime: part.endtime,
-        renew_till: part.renew_till,
-    }
 }
 
 /// Returns the terms of a request; `None` if the name or a row is absent, or there is no common type.

@@ -3,12 +3,14 @@ use Rattle.std.proofs.Common.{◌≡◌, ◌<◌, ℕ, List, length, Option, Som
 use Rattle.std.specs.Prelude.{IfSome}
 use Rattle.refusals.specs.RefusalLaws.{decided_found}
 use Rattle.enctypes.specs.declared.key.Key.{Key}
+use Rattle.enctypes.specs.declared.key_usage.KeyUsage.TheVariants.{TgsReqAuthenticator}
 use Rattle.krb_ap.specs.ApReq.{ApReq}
-use Rattle.krb_parts.specs.Authenticator.{Authenticator}
-use Rattle.krb_parts.specs.EncTicketPart.{EncTicketPart, enc_ticket_part}
-use Rattle.krb_types.specs.KdcReq.{Received}
+use Rattle.krb_sealed.specs.Authenticator.{Authenticator}
+use Rattle.krb_sealed.specs.EncTicketPart.{EncTicketPart, enc_ticket_part}
+use Rattle.krb_messages.specs.KdcReq.{Received}
 use Rattle.sealed_parts.specs.Parts.{IsSpelledWithin}
-use Rattle.tgs_opening.specs.Authenticators.{authenticator_of, session_key_of, subkey_of}
+use Rattle.ap_opening.specs.Authenticators.{authenticator_of, session_key_of}
+use Rattle.tgs_opening.specs.Authenticators.{subkey_of}
 use Rattle.tgs_opening.specs.Opening.{authenticated}
 use Rattle.tgs_opening.specs.PartLaws.{AreFew, few_data}
 use Rattle.tgs_opening.specs.Tickets.{ap_req_in, ap_req_of, request_rules, tgs_data}
@@ -42,7 +44,7 @@ few_presented message ap part read few short within =
 -- if the last step refuses, the request is refused
 pub refused_last : (v : TicketView) (message : Received) (o : OpenedTicket) (key : Key) (auth : Authenticator)
     (body : List ℕ) (refusal : TgsRefusal)
-    → session_key_of v o.part ≡ Ok key → authenticator_of key o.ap.authenticator ≡ Ok auth
+    → session_key_of v.realm o.part ≡ Ok key → authenticator_of TgsReqAuthenticator key o.ap.authenticator ≡ Ok auth
     → body ≡ message.body.octets → subkey_of o.part key body auth ≡ Err refusal
     → authenticated v message o ≡ Err refusal
 refused_last v message o key auth body refusal keys shows same refuses =

@@ -1,12 +1,15 @@
 -- The ticket and the authenticator of a TGS-REQ, or the first rule that refuses it (RFC 4120, sections 3.2.3 and
 -- 3.3.2).
 use Rattle.std.specs.Prelude.{Some, None, Result, Ok, Err}
-use Rattle.krb_types.specs.KdcReq.{Received}
+use Rattle.enctypes.specs.declared.key_usage.KeyUsage.TheVariants.{TgsReqAuthenticator}
+use Rattle.krb_messages.specs.KdcReq.{Received}
 use Rattle.refusals.specs.Stages.{◌>>=◌}
-use Rattle.tgs_opening.specs.Authenticators.{session_key_of, authenticator_of, subkey_of}
+use Rattle.ap_opening.specs.Authenticators.{authenticator_of, session_key_of}
+use Rattle.ap_opening.specs.declared.authenticated.Authenticated.{Authenticated}
+use Rattle.tgs_opening.specs.Authenticators.{subkey_of}
+use Rattle.tgs_opening.specs.Refusal.{by_ap}
 use Rattle.tgs_opening.specs.Tickets.{ap_req_of, shown_ticket}
 use Rattle.tgs_opening.specs.View.{TicketView}
-use Rattle.tgs_opening.specs.declared.opened.Authenticated.{Authenticated}
 use Rattle.tgs_opening.specs.declared.opened.OpenedTicket.{OpenedTicket}
 use Rattle.tgs_opening.specs.declared.presented.Presented.{Presented}
 use Rattle.tgs_opening.specs.declared.refusal.TgsRefusal.{TgsRefusal}
@@ -22,8 +25,8 @@ opened_ticket v message = do
 -- the proof that the sender has its session key
 abbrev pub authenticated : TicketView → Received → OpenedTicket → Result Authenticated TgsRefusal
 authenticated v message o = do
-  key ← session_key_of v o.part
-  auth ← authenticator_of key o.ap.authenticator
+  key ← by_ap (session_key_of v.realm o.part)
+  auth ← by_ap (authenticator_of TgsReqAuthenticator key o.ap.authenticator)
   subkey ← subkey_of o.part key message.body.octets auth
   Ok (record { session_key = key; authenticator = auth; subkey = subkey })
 

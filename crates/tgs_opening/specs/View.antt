@@ -5,5 +5,5 @@ use Rattle.principal_rows.specs.declared.row.Row.{Row}
 -- the realm, and the rows of the ticket-granting service and of the service that the request names
 pub record TicketView : Type 0 where
   pub realm : List ℕ
-  pub granter : Option Row
+  pub tgs : Option Row
   pub service : Option Row

@@ -1,8 +1,10 @@
 //! Errors of opening a request.
 ghost use Rattle.std.specs.Prelude.{◌≡◌};
 ghost use Rattle.tgs_opening.specs.declared.fault.TgsFault.TheVariants.{Refused, Memory};
+ghost use Rattle.tgs_opening.specs.declared.refusal.TgsRefusal.TheVariants.{Ap};
 
 use crate::refusal::TgsRefusal;
+use ap_opening::ApRefusal;
 use std::alloc::AllocError;
 
 /// Why the ticket and the authenticator of a TGS-REQ were not accepted.
@@ -18,6 +20,14 @@ impl From<TgsRefusal> for TgsFault {
 
     fn from(refusal: TgsRefusal) -> TgsFault {
         TgsFault::Refused(refusal)
+    }
+}
+
+impl From<ApRefusal> for TgsFault {
+    ghost from_gives = { λ refusal fault. fault ≡ Refused (Ap refusal) };
+
+    fn from(refusal: ApRefusal) -> TgsFault {
+        TgsFault::Refused(TgsRefusal::Ap(refusal))
     }
 }
 

@@ -7,15 +7,17 @@ ghost use Rattle.tgs_opening.specs.Opening.{authenticated, by_authenticated, by_
 ghost use Rattle.tgs_opening.specs.Tickets.{tgs_data};
 ghost use Rattle.tgs_opening.specs.declared.opened.OpenedTicket as tickets;
 
-use crate::authenticators::{authenticator_of, session_key_of, subkey_of};
+use crate::authenticators::subkey_of;
 use crate::fault::TgsFault;
-use crate::opened::{Authenticated, OpenedTicket};
+use crate::opened::OpenedTicket;
 use crate::presented::Presented;
 use crate::refusal::TgsRefusal;
 use crate::rejection::Rejection;
 use crate::tickets::{ap_req_of, shown_ticket};
 use crate::view::TicketView;
-use krb_types::KdcReqRef;
+use ap_opening::{Authenticated, authenticator_of, session_key_of};
+use enctypes::KeyUsage;
+use krb_messages::KdcReqRef;
 use std::alloc::{AllocError, Global};
 
 /// Decrypts and checks what a TGS-REQ presents. Otherwise returns the first rule that refuses it, with the ticket's
@@ -49,7 +51,7 @@ fn open_ticket<'a>(
         IfSome ticket.part.authorization_data (λ list. length ((list_of typed).text list) < 2147483648)) }
 {
     let ap = ap_req_of(message)?;
-    let part = shown_ticket(alloc, view, &message.body.value, &ap)?;
+    let part = shown_ticket(alloc, view, &message.body.value, &ap)??;
     Ok(OpenedTicket { ap, part })
 }
 
@@ -86,15 +88,16 @@ fn authenticated(
 ) -> Result<Authenticated, TgsFault>
     ensures { Gives result (authenticated view.now message.now ticket.now) }
 {
-    let session_key = session_key_of(view, &ticket.part)?;
+    let session_key = session_key_of(view.realm, &ticket.part)?;
     let authenticator = authenticator_of(
         alloc,
-        view.ready,
+        Some(view.ready),
+        KeyUsage::TgsReqAuthenticator,
         &session_key,
         &ticket.ap.authenticator,
-    )?;
+    )??;
     let body = body_octets(message);
-    let subkey = subkey_of(&ticket.part, &session_key, body, &authenticator)?;
+    let subkey = subkey_of(view.ready, &ticket.part, &session_key, body, &authenticator)?;
     Ok(Authenticated {
         session_key,
         authenticator,

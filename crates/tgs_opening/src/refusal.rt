@@ -2,45 +2,30 @@
 ghost use Rattle.std.specs.Prelude.{◌≡◌};
 ghost use Rattle.tgs_opening.specs.Refusal.{code_of};
 
+use ap_opening::ApRefusal;
 use krb_fields::Code;
 
-/// The rules that refuse a TGS-REQ, in the order in which they are checked. They concern its receipt (RFC 4120,
-/// sections 3.2.3 and 3.3.2), revoked tickets (section 3.3.3.1) and the new ticket (section 3.3.3).
+/// The rules that refuse a TGS-REQ. They concern its receipt (RFC 4120, sections 3.2.3 and 3.3.2), revoked tickets
+/// (section 3.3.3.1) and the new ticket (section 3.3.3). Each group is in the order in which its rules are checked.
 #[derive(Debug, Clone, Copy, PartialEq, Eq)]
 pub enum TgsRefusal {
-    // what the request presents (sections 3.2.3 and 3.3.2; a foreign client, 3.3.3.2)
+    // the request (sections 5.4.1 and 3.3.2)
     BadVersion,
     BadMessageType,
     NoApReq,
     MalformedApReq,
-    BadTicketVersion,
-    BadApMessageType,
-    SessionKeyAsked,
-    NotForUs,
-    NoKey,
-    BadKeyVersion,
-    TicketNotOpened,
-    ForeignClient,
-    BoundAddress,
-    BadSessionKey,
-    AuthenticatorNotOpened,
-    BadMatch,
+    /// A rule for every AP-REQ: for the ticket and the authenticator, the replay cache, and the ticket's times.
+    Ap(ApRefusal),
+    // the authenticator's checksum, between `BadMatch` and `BadSubkey` (section 3.3.2)
     NoChecksum,
     BadChecksumType,
     Modified,
-    BadSubkey,
-    // who presents it (section 3.3.3.1), and whether the authenticator is timely and new (section 3.2.3)
+    // who presents the ticket, before `Skewed` (section 3.3.3.1)
     ClientUnknown,
     ClientDisabled,
     ClientExpired,
     TicketRevoked,
-    Skewed,
-    Repeated,
-    Full,
-    // what it is presented for (the ticket's times, section 3.2.3; another service, 3.3.2; else 3.3.3); by now the
-    // authenticator is recorded
-    NotYetValid,
-    TicketExpired,
+    // what it is presented for, after `TicketExpired` (another service, section 3.3.2; else 3.3.3)
     ServiceUnknown,
     ServiceDenied,
     ServiceRevoked,
@@ -65,31 +50,14 @@ impl TgsRefusal {
             TgsRefusal::BadMessageType => Code::KrbApErrMsgType,
             TgsRefusal::NoApReq => Code::KdcErrPadataTypeNosupp,
             TgsRefusal::MalformedApReq => Code::KrbErrGeneric,
-            TgsRefusal::BadTicketVersion => Code::KrbApErrBadversion,
-            TgsRefusal::BadApMessageType => Code::KrbApErrMsgType,
-            TgsRefusal::SessionKeyAsked => Code::KrbApErrNokey,
-            TgsRefusal::NotForUs => Code::KrbApErrNotUs,
-            TgsRefusal::NoKey => Code::KrbApErrNokey,
-            TgsRefusal::BadKeyVersion => Code::KrbApErrBadkeyver,
-            TgsRefusal::TicketNotOpened => Code::KrbApErrBadIntegrity,
-            TgsRefusal::ForeignClient => Code::KdcErrPolicy,
-            TgsRefusal::BoundAddress => Code::KrbApErrBadaddr,
-            TgsRefusal::BadSessionKey => Code::KdcErrEtypeNosupp,
-            TgsRefusal::AuthenticatorNotOpened => Code::KrbApErrBadIntegrity,
-            TgsRefusal::BadMatch => Code::KrbApErrBadmatch,
+            TgsRefusal::Ap(refusal) => refusal.code_by(Code::KdcErrPolicy),
             TgsRefusal::NoChecksum => Code::KrbApErrInappCksum,
             TgsRefusal::BadChecksumType => Code::KdcErrSumtypeNosupp,
             TgsRefusal::Modified => Code::KrbApErrModified,
-            TgsRefusal::BadSubkey => Code::KdcErrEtypeNosupp,
             TgsRefusal::ClientUnknown => Code::KdcErrCPrincipalUnknown,
             TgsRefusal::ClientDisabled => Code::KdcErrClientRevoked,
             TgsRefusal::ClientExpired => Code::KdcErrNameExp,
             TgsRefusal::TicketRevoked => Code::KdcErrTgtRevoked,
-            TgsRefusal::Skewed => Code::KrbApErrSkew,
-            TgsRefusal::Repeated => Code::KrbApErrRepeat,
-            TgsRefusal::Full => Code::KdcErrSvcUnavailable,
-            TgsRefusal::NotYetValid => Code::KrbApErrTktNyv,
-            TgsRefusal::TicketExpired => Code::KrbApErrTktExpired,
             TgsRefusal::ServiceUnknown => Code::KdcErrSPrincipalUnknown,
             TgsRefusal::ServiceDenied => Code::KdcErrSPrincipalUnknown,
             TgsRefusal::ServiceRevoked => Code::KdcErrServiceRevoked,

@@ -1,30 +1,27 @@
 //! The ticket that a TGS-REQ presents, and the key that decrypts it (RFC 4120, sections 3.2.3 and 3.3.2).
-ghost use Rattle.std.specs.Prelude.{◌≡◌, ◌<◌, length, ◌&&◌, ◌||◌, not, nat_eq, IfOk, IfSome, is_none, is_some};
-ghost use Rattle.std.specs.Prelude.{option_copied};
+ghost use Rattle.std.specs.Prelude.{◌≡◌, ◌<◌, length, ◌&&◌, nat_eq, IfOk, IfSome, is_none, option_copied};
 ghost use Rattle.std.specs.Cmp.Lexicographic.{pointwise};
-ghost use Rattle.enctypes.specs.KeyUsage.{usage_number};
-ghost use Rattle.krb_parts.specs.EncTicketPart.{enc_ticket_part};
+ghost use Rattle.refusals.specs.Optional.{holds_of};
+ghost use Rattle.krb_sealed.specs.EncTicketPart.{enc_ticket_part};
 ghost use Rattle.sealed_parts.specs.Parts.{IsSpelledWithin};
-ghost use Rattle.tgs_opening.specs.Fault.{Gives};
-ghost use Rattle.tgs_opening.specs.Tickets.{addressee, ap_req_in, ap_req_of, holder, holds_type, is_for_asked};
-ghost use Rattle.tgs_opening.specs.Tickets.{is_named, is_other};
-ghost use Rattle.tgs_opening.specs.Tickets.{lacks_key, opened_with, request_rules, row_of, tgs_data, ticket_key};
-ghost use Rattle.tgs_opening.specs.Tickets.{shown_ticket, ticket_rules};
+ghost use Rattle.ap_opening.specs.Tickets.{shown_ticket as shown};
+ghost use Rattle.tgs_opening.specs.Tickets.{addressee, ap_req_in, ap_req_of, held_by, held_key, holds_type};
+ghost use Rattle.tgs_opening.specs.Tickets.{is_for_asked, is_named, is_ours, request_rules, row_of, tgs_data};
+ghost use Rattle.tgs_opening.specs.Tickets.{ticket_key};
 
-use crate::fault::TgsFault;
 use crate::refusal::TgsRefusal;
 use crate::view::TicketView;
-use enctypes::{Key, KeyUsage};
-use krb_ap::{AP_REQ, ApReqRef, read_ap_req};
+use ap_opening::{ApRefusal, HeldKey};
+use enctypes::Key;
+use krb_ap::{ApReqRef, read_ap_req};
 use krb_elements::OctetsRef;
-use krb_fields::{ApOption, EncryptedDataRef, Name, NameRef, PA_TGS_REQ};
-use krb_parts::EncTicketPart;
-use krb_types::{KdcReqRef, PVNO, ReqBodyRef, TGS_REQ, TicketRef};
+use krb_fields::{EncryptedDataRef, Name, NameRef, PA_TGS_REQ};
+use krb_messages::{KdcReqRef, PVNO, ReqBodyRef, TGS_REQ, TicketRef};
+use krb_sealed::EncTicketPart;
 use preauth::{first_of, key_by, key_numbered};
 use principal_rows::{Row, Versions};
-use principals::names_granter;
+use principals::names_tgs;
 use refusals::decide;
-use sealed_parts::ReadyKeys;
 use std::alloc::{AllocError, Global};
 use std::cmp::Ordering;
 use ticket_times::keeps_ticket;
@@ -33,7 +30,7 @@ use ticket_times::keeps_ticket;
 #[derive(Clone, Copy, PartialEq, Eq)]
 pub enum Addressee {
     /// The ticket-granting service.
-    Granter,
+    Tgs,
     /// The requested service, if the ticket is to be renewed or validated.
     AskedFor,
     Other,
@@ -79,51 +76,15 @@ pub fn shown_ticket(
     view: &TicketView<'_>,
     body: &ReqBodyRef<'_>,
     ap: &ApReqRef<'_>,
-) -> Result<EncTicketPart, TgsFault>
-    ensures value { Gives result (shown_ticket view.now body.now ap.now) }
-    ensures within { IfOk result (λ part. IsSpelledWithin enc_ticket_part part ap.now.ticket.enc_part.cipher) }
+) -> Result<Result<EncTicketPart, ApRefusal>, AllocError>
+    ensures value { IfOk result (λ found. found ≡ shown (held_key view.now body.now ap.now.ticket) ap.now) }
+    ensures within { IfOk result (λ found.
+        IfOk found (λ part. IsSpelledWithin enc_ticket_part part ap.now.ticket.enc_part.cipher)) }
 {
     let whom = addressee_of(alloc, view.realm, body, &ap.ticket.sname)?;
-    let row = row_of(view, whom);
-    let key = ticket_key(row, &ap.ticket.enc_part);
-    let rules = ticket_rules(view, body, ap, whom, row, key);
-    let part = part_of(alloc, view.ready, key, &ap.ticket.enc_part)?;
-    Ok(decide(&rules, part, TgsRefusal::TicketNotOpened)?)
-}
-
-fn ticket_rules(
-    view: &TicketView<'_>,
-    body: &ReqBodyRef<'_>,
-    ap: &ApReqRef<'_>,
-    whom: Addressee,
-    row: Option<&Row>,
-    key: Option<&Key>,
-) -> [(bool, TgsRefusal); 6]
-    requires whom { whom ≡ addressee view.now.realm body.now ap.now.ticket.sname }
-    requires row { option_copied row ≡ holder view.now body.now ap.now.ticket }
-    requires key { option_copied key ≡ ticket_key (option_copied row) ap.now.ticket.enc_part }
-    ensures { result ≡ ticket_rules view.now body.now ap.now }
-{
-    [
-        (
-            ap.pvno != PVNO || ap.ticket.tkt_vno != PVNO,
-            TgsRefusal::BadTicketVersion,
-        ),
-        (
-            ap.msg_type != i32::from(AP_REQ),
-            TgsRefusal::BadApMessageType,
-        ),
-        (
-            ap.ap_options.has(ApOption::UseSessionKey),
-            TgsRefusal::SessionKeyAsked,
-        ),
-        (is_not_for_us(view, &ap.ticket, whom), TgsRefusal::NotForUs),
-        (lacks_key(row, &ap.ticket.enc_part, key), TgsRefusal::NoKey),
-        (
-            lacks_version(&ap.ticket.enc_part, key),
-            TgsRefusal::BadKeyVersion,
-        ),
-    ]
+    let is_ours = is_for_us(view, &ap.ticket, whom);
+    let held = held_by(is_ours, row_of(view, whom), &ap.ticket.enc_part);
+    ap_opening::shown_ticket(alloc, Some(view.ready), &held, ap)
 }
 
 /// Returns the addressee of a ticket for this service.
@@ -135,8 +96,8 @@ fn addressee_of(
 ) -> Result<Addressee, AllocError>
     ensures { IfOk result (λ found. found ≡ addressee realm.now body.now ticket_service.now) }
 {
-    if names_granter(ticket_service, realm) {
-        return Ok(Addressee::Granter);
+    if names_tgs(ticket_service, realm) {
+        return Ok(Addressee::Tgs);
     }
     if is_for_asked(alloc, body, ticket_service)? {
         return Ok(Addressee::AskedFor);
@@ -174,38 +135,38 @@ fn row_of<'v>(view: &TicketView<'v>, whom: Addressee) -> Option<&'v Row>
     ensures { option_copied result ≡ row_of view.now whom }
 {
     match whom {
-        Addressee::Granter => view.granter,
+        Addressee::Tgs => view.tgs,
         Addressee::AskedFor => view.service,
         Addressee::Other => None,
     }
 }
 
-/// Checks whether the ticket is for another realm or another service.
-fn is_not_for_us(view: &TicketView<'_>, ticket: &TicketRef<'_>, whom: Addressee) -> bool
-    ensures { result ≡ (not (pointwise nat_eq ticket.now.realm view.now.realm) || is_other whom) }
+/// Checks whether the ticket is of this realm, for one of those services.
+fn is_for_us(view: &TicketView<'_>, ticket: &TicketRef<'_>, whom: Addressee) -> bool
+    ensures { result ≡ (pointwise nat_eq ticket.now.realm view.now.realm && is_ours whom) }
 {
-    ticket.realm.as_slice() != view.realm || matches!(whom, Addressee::Other)
+    ticket.realm.as_slice() == view.realm && !matches!(whom, Addressee::Other)
 }
 
-/// Checks whether there is no row, no version has a key of the encryption type, or the ticket names no key version and
-/// the current one has no such key.
-fn lacks_key(row: Option<&Row>, sealed: &EncryptedDataRef<'_>, key: Option<&Key>) -> bool
-    requires { option_copied key ≡ ticket_key (option_copied row) sealed.now }
-    ensures { result ≡ lacks_key (option_copied row.entry) sealed.now }
+/// Returns what a row holds for a ticket.
+fn held_by<'r>(is_for_us: bool, row: Option<&'r Row>, sealed: &EncryptedDataRef<'_>) -> HeldKey<'r>
+    ensures { result ≡ held_by is_for_us (option_copied row.entry) sealed.now }
 {
-    match row {
-        Some(row) => {
-            !holds_type(&row.versions, sealed.etype) || (sealed.kvno.is_none() && key.is_none())
-        }
-        None => true,
+    HeldKey {
+        is_for_us,
+        has_type: has_type(row, sealed.etype),
+        key: ticket_key(row, sealed),
     }
 }
 
-/// Checks whether the ticket names a key version that has no key of the encryption type.
-fn lacks_version(sealed: &EncryptedDataRef<'_>, key: Option<&Key>) -> bool
-    ensures { result ≡ (is_some sealed.now.kvno && is_none (option_copied key.entry)) }
+/// Checks whether there is a row, and any version of it has a key of this encryption type.
+fn has_type(row: Option<&Row>, etype: i32) -> bool
+    ensures { result ≡ holds_of (λ row. holds_type row.versions etype) (option_copied row.entry) }
 {
-    sealed.kvno.is_some() && key.is_none()
+    match row {
+        Some(row) => holds_type(&row.versions, etype),
+        None => false,
+    }
 }
 
 /// Checks whether any version has a key of this encryption type.
@@ -223,23 +184,4 @@ fn ticket_key<'r>(row: Option<&'r Row>, sealed: &EncryptedDataRef<'_>) -> Option
     ensures { option_copied result ≡ ticket_key (option_copied row.entry) sealed.now }
 {
     key_by(&row?.versions, sealed.etype, sealed.kvno)
-}
-
-/// Decrypts the part with the key, if there is one.
-fn part_of(
-    alloc: Global,
-    ready: &ReadyKeys,
-    key: Option<&Key>,
-    sealed: &EncryptedDataRef<'_>,
-) -> Result<Option<EncTicketPart>, AllocError>
-    ensures value { IfOk result (λ found.
-        found
-        ≡ opened_with enc_ticket_part (usage_number KeyUsage.Ticket) (option_copied key.entry) sealed.now.cipher) }
-    ensures within { IfOk result (λ found.
-        IfSome found (λ part. IsSpelledWithin enc_ticket_part part sealed.now.cipher)) }
-{
-    match key {
-        Some(key) => ready.open_part(alloc, key, KeyUsage::Ticket, sealed.cipher.as_slice()),
-        None => Ok(None),
-    }
 }

@@ -9,7 +9,7 @@ pub struct TicketView<'a> {
     /// The realm, 1 to 255 bytes.
     pub realm: &'a [u8],
     /// The row of the ticket-granting service.
-    pub granter: Option<&'a Row>,
+    pub tgs: Option<&'a Row>,
     /// The row of the requested service, if it has one.
     pub service: Option<&'a Row>,
     /// A cache of recently used keys. It affects speed only: contracts don't see it.
@@ -24,7 +24,7 @@ impl<'a> Model for TicketView<'a> {
 
     ghost view = { λ v. record {
       realm = v.realm.now;
-      granter = option_copied v.granter;
+      tgs = option_copied v.tgs;
       service = option_copied v.service;
     } };
 }

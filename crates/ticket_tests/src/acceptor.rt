@@ -1,7 +1,7 @@
 //! Tests of the acceptor, `ap_accept`.
 
 mod acceptances;
-mod given;
+mod fixtures;
 mod made_by_mit;
 mod mit;
 mod requests;

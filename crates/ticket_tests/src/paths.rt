@@ -2,7 +2,7 @@
 //! (`ap_accept`) accepts the ticket.
 
 mod ends;
-mod given;
+mod fixtures;
 mod legs;
 mod realm;
 mod ways;

@@ -1,6 +1,6 @@
 //! Tests of checksums (`enctypes`). Their keys are in `derivations.rt`.
 
-use crate::cryptography::given::{TEXT, USAGE, base_key, in_hex};
+use crate::cryptography::fixtures::{TEXT, USAGE, base_key, in_hex};
 use enctypes::{Etype, checksum, verify};
 
 // RFC 8009, appendix A, for types 19 and 20; the others are from the independent implementation.

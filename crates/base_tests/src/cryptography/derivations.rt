@@ -1,6 +1,6 @@
 //! Tests of PBKDF2, n-fold and the key derivation of RFC 8009 (`prf_kdf`).
 
-use crate::cryptography::given::in_hex;
+use crate::cryptography::fixtures::in_hex;
 use prf_kdf::{kdf_sha256, kdf_sha384, n_fold, pbkdf2_sha1, pbkdf2_sha256, pbkdf2_sha384};
 
 // The base keys of RFC 8009, appendix A.

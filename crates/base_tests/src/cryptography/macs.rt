@@ -1,6 +1,6 @@
 //! Tests of HMAC over the three hashes (`prf_kdf`).
 
-use crate::cryptography::given::in_hex;
+use crate::cryptography::fixtures::in_hex;
 use prf_kdf::{hmac_sha1, hmac_sha256, hmac_sha384};
 
 // The key of case 4 in RFC 2202 and RFC 4231.

@@ -2,7 +2,7 @@
 use enctypes::{Etype, Key, KeyUsage, seal};
 use krb_der::KTime;
 use krb_elements::Microseconds;
-use krb_parts::PaEncTsEnc;
+use krb_sealed::PaEncTsEnc;
 use sealed_parts::{ReadyKeys, open_part, seal_part};
 use std::alloc::{AllocError, Global};
 use std::test::Fail;
@@ -17,7 +17,7 @@ const ETYPES: &[Etype] = &[
 const USAGE: KeyUsage = KeyUsage::PaEncTimestamp;
 
 /// Returns a timestamp, encrypted for `USAGE`.
-#[tactic(auto, using(krb_parts::specs::PaEncTsEnc::pa_enc_ts_enc_short))]
+#[tactic(auto, using(krb_sealed::specs::PaEncTsEnc::pa_enc_ts_enc_short))]
 fn sealed(alloc: Global, key: &Key) -> Result<Vec<u8>, Fail> {
     let part = PaEncTsEnc {
         patimestamp: KTime::new(1_704_067_200).ok_or("a time")?,

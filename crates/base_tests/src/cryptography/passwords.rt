@@ -1,6 +1,6 @@
 //! Tests of keys from passwords (`enctypes`).
 
-use crate::cryptography::given::in_hex;
+use crate::cryptography::fixtures::in_hex;
 use enctypes::{Etype, string_to_key};
 use std::test::Fail;
 

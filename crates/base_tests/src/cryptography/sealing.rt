@@ -1,6 +1,6 @@
 //! Tests of encryption and decryption (`enctypes`).
 
-use crate::cryptography::given::{TEXT, USAGE, base_key, in_hex};
+use crate::cryptography::fixtures::{TEXT, USAGE, base_key, in_hex};
 use enctypes::{Etype, Key, KeyUsage, ReadyKey, open, seal, string_to_key};
 use std::alloc::{AllocError, Global};
 use std::test::Fail;

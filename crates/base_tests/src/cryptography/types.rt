@@ -1,6 +1,6 @@
 //! Tests of encryption types, keys and their printed forms (`enctypes`).
 
-use crate::cryptography::given::{base_key, in_hex};
+use crate::cryptography::fixtures::{base_key, in_hex};
 use enctypes::{Etype, Key, KeyUsage};
 
 #[test]

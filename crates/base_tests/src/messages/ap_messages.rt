@@ -7,7 +7,7 @@ use krb_ap::{
 use krb_der::DerFault;
 use krb_elements::Fault;
 use krb_fields::{ApOption, EncryptedDataRef};
-use krb_types::TicketRef;
+use krb_messages::TicketRef;
 use std::alloc::Global;
 use std::process::Abort;
 

@@ -1,13 +1,13 @@
-//! Tests of the contents of the OCTET STRINGs of messages (`krb_parts`).
+//! Tests of the contents of the OCTET STRINGs of messages (`krb_sealed`).
 ghost use Rattle.std.specs.Prelude.{◌<◌, ◌*◌, length, IfOk};
-ghost use Rattle.krb_parts.specs.Authenticator.{authenticator};
-ghost use Rattle.krb_parts.specs.EncApRepPart.{enc_ap_rep_part};
-ghost use Rattle.krb_parts.specs.EncTicketPart.{enc_ticket_part};
+ghost use Rattle.krb_sealed.specs.Authenticator.{authenticator};
+ghost use Rattle.krb_sealed.specs.EncApRepPart.{enc_ap_rep_part};
+ghost use Rattle.krb_sealed.specs.EncTicketPart.{enc_ticket_part};
 
 use crate::expect::{same, written};
 use krb_der::{DerFault, KTime};
 use krb_elements::{Fault, read};
-use krb_parts::{
+use krb_sealed::{
     Authenticator, EncApRepPart, EncKdcRepPartRef, EncTicketPart, EtypeInfo2EntryRef, PaEncTsEnc,
     decode_authenticator, decode_enc_ap_rep_part, decode_enc_ticket_part, decode_pa_enc_ts_enc,
     encode_authenticator, encode_enc_ap_rep_part, encode_enc_ticket_part, encode_pa_enc_ts_enc,
@@ -324,7 +324,7 @@ fn is_entry(entry: &EtypeInfo2EntryRef<'_>, etype: i32, salt: &[u8], count: &[u8
     }
 }
 
-#[tactic(auto, using(krb_parts::specs::PaEncTsEnc::pa_enc_ts_enc_short))]
+#[tactic(auto, using(krb_sealed::specs::PaEncTsEnc::pa_enc_ts_enc_short))]
 fn written_timestamp(alloc: Global, part: &PaEncTsEnc) -> Result<Vec<u8>, AllocError> {
     encode_pa_enc_ts_enc(alloc, part)
 }

@@ -1,12 +1,12 @@
-//! Tests of whole messages (`krb_types`).
+//! Tests of whole messages (`krb_messages`).
 ghost use Rattle.std.specs.Prelude.{◌≡◌, ◌<◌, ◌*◌, length, IfOk};
-ghost use Rattle.krb_types.specs.KdcReq.{SpellsKdcReq, message, without_octets};
+ghost use Rattle.krb_messages.specs.KdcReq.{SpellsKdcReq, message, without_octets};
 
 use crate::expect::{same, written};
 use krb_der::{DerFault, KTime};
 use krb_elements::{Fault, MakeOwned, Seq, SeqRef};
 use krb_fields::{NameRef, PaData, PaDataRef};
-use krb_types::{
+use krb_messages::{
     Exchange, KdcReq, KdcReqRef, KrbError, ReqBody, ReqBodyRef, TicketRef, decode_krb_error,
     encode_kdc_req, encode_krb_error, read_kdc_req,
 };

@@ -1,6 +1,6 @@
 //! Tests of changes of a database (`principals`).
 use crate::expect::{holds, same};
-use crate::realm::given::{LONGEST, Step, TOO_LONG, change, database, has, name};
+use crate::realm::fixtures::{LONGEST, Step, TOO_LONG, change, database, has, name};
 use principals::{ChangeFault, Database};
 use std::alloc::Global;
 use std::process::Abort;

@@ -1,6 +1,7 @@
 //! Tests of the text of a database (`principals`).
 use crate::expect::same;
-use principals::{Database, ReadFault};
+use principals::Database;
+use principals_text::ReadFault;
 use std::alloc::{AllocError, Global};
 use std::process::Abort;
 
@@ -65,20 +66,20 @@ fn a_principal_that_is_no_service_is_written_so(rt: HostRuntime) {
 /// Checks whether the text of a principal that is no service is written as it is read.
 fn is_no_service_kept(alloc: Global) -> Result<bool, ReadFault> {
     let text = VERSION_3.replace(alloc, "\"service\":true", "\"service\":false")?;
-    let database = Database::read(alloc, text.as_str())?;
-    Ok(database.write(alloc)?.as_str() == text.as_str())
+    let database = principals_text::read(alloc, text.as_str())?;
+    Ok(principals_text::write(alloc, &database)?.as_str() == text.as_str())
 }
 
 /// Returns whether the database of the text is that of `VERSION_3`, and whether its copy is.
 fn read_as(alloc: Global, text: &str) -> Result<(bool, bool), ReadFault> {
-    let database = Database::read(alloc, text)?;
+    let database = principals_text::read(alloc, text)?;
     let is_that = is_that_of_version_3(alloc, &database)?;
     Ok((is_that, is_copied(alloc, &database)?))
 }
 
 /// Checks whether the database has one row and is written as `VERSION_3`.
 fn is_that_of_version_3(alloc: Global, database: &Database) -> Result<bool, AllocError> {
-    Ok(database.len() == 1 && database.write(alloc)?.as_str() == VERSION_3)
+    Ok(database.len() == 1 && principals_text::write(alloc, database)?.as_str() == VERSION_3)
 }
 
 fn is_copied(alloc: Global, database: &Database) -> Result<bool, AllocError> {

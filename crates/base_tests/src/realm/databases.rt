@@ -1,9 +1,9 @@
 //! Tests of databases and the order of names in them (`principals`).
 use crate::expect::{holds, same};
-use crate::realm::given::{LONGEST, Step, TOO_LONG, change, database, first, has, is, name};
+use crate::realm::fixtures::{LONGEST, Step, TOO_LONG, change, database, first, has, is, name};
 use krb_elements::read;
 use krb_fields::NameRef;
-use principals::{ChangeFault, Database, FirstFault, granter_name};
+use principals::{ChangeFault, Database, FirstFault, tgs_name};
 use std::alloc::{AllocError, Global};
 use std::process::Abort;
 
@@ -18,12 +18,7 @@ fn a_first_database_grants_tickets(rt: HostRuntime) {
 fn grants_tickets(rt: &impl Abort, alloc: Global, database: &Database) {
     same(rt, &"the realm", &database.realm(), &b"A.B".as_slice());
     same(rt, &"the rows", &database.len(), &1);
-    same(
-        rt,
-        &"the granter",
-        &tgs_version(alloc, database),
-        &Ok(Some(1)),
-    );
+    same(rt, &"the TGS", &tgs_version(alloc, database), &Ok(Some(1)));
 }
 
 /// Returns the current key version of the ticket-granting service.
@@ -156,11 +151,11 @@ fn rows(alloc: Global) -> Result<usize, FirstFault> {
 
 #[test]
 fn the_ticket_granting_service_is_named_by_its_realm(rt: HostRuntime) {
-    same(&rt, &"the granter", &is_tgs_of_a_b(rt.alloc()), &Ok(true));
+    same(&rt, &"the TGS", &is_tgs_of_a_b(rt.alloc()), &Ok(true));
 }
 
 /// Checks whether the ticket-granting service of `A.B` is `krbtgt/A.B`, with name-type 2.
 fn is_tgs_of_a_b(alloc: Global) -> Result<bool, AllocError> {
-    let granter = granter_name(alloc, b"A.B")?;
-    Ok(granter.name_type == 2 && is(&granter, &[b"krbtgt", b"A.B"]))
+    let tgs = tgs_name(alloc, b"A.B")?;
+    Ok(tgs.name_type == 2 && is(&tgs, &[b"krbtgt", b"A.B"]))
 }

@@ -2,7 +2,7 @@
 use crate::expect::{holds, same};
 use krb_elements::Octets;
 use krb_fields::Moment;
-use replay::{Bears, Failures, Keep, Kept, Memory, Verdict};
+use replay::{Bears, Failures, Keep, Kept, ReplayCache, Verdict};
 use std::alloc::{AllocError, Global};
 use std::process::Abort;
 
@@ -17,15 +17,15 @@ fn at(later: u16) -> Moment {
 
 /// Adds a pair to the replay cache, if it is fresh.
 fn accept<K: Keep>(
-    memory: &mut Memory<K>,
+    cache: &mut ReplayCache<K>,
     at: Moment,
     ctime: i64,
     cusec: u32,
     kept: K,
 ) -> Result<bool, AllocError> {
-    let is_fresh = matches!(memory.check(at, ctime, cusec, 64), Verdict::Fresh);
+    let is_fresh = matches!(cache.check(at, ctime, cusec, 64), Verdict::Fresh);
     if is_fresh {
-        memory.remember(at, ctime, cusec, kept)?;
+        cache.record_seen(at, ctime, cusec, kept)?;
     }
     Ok(is_fresh)
 }
@@ -46,8 +46,8 @@ fn is_kept(kept: &Kept) -> bool {
 }
 
 /// Returns the verdict at the second T, and for a repeated pair whether its reply is that of `kept`.
-fn verdict(memory: &Memory<Kept>, ctime: i64, cusec: u32, limit: u32) -> Verdict<bool> {
-    match memory.check(at(0), ctime, cusec, limit) {
+fn verdict(cache: &ReplayCache<Kept>, ctime: i64, cusec: u32, limit: u32) -> Verdict<bool> {
+    match cache.check(at(0), ctime, cusec, limit) {
         Verdict::Fresh => Verdict::Fresh,
         Verdict::Skew => Verdict::Skew,
         Verdict::Full => Verdict::Full,
@@ -56,11 +56,11 @@ fn verdict(memory: &Memory<Kept>, ctime: i64, cusec: u32, limit: u32) -> Verdict
 }
 
 /// Returns a copy of a replay cache with one pair, which must have been fresh.
-fn remembered(alloc: Global) -> Result<Memory<Kept>, AllocError> {
+fn recorded(alloc: Global) -> Result<ReplayCache<Kept>, AllocError> {
     let kept = kept(alloc)?;
-    let mut memory = Memory::first(alloc);
-    if accept(&mut memory, at(0), T - 300, 7, kept)? {
-        memory.copy(alloc)
+    let mut cache = ReplayCache::first(alloc);
+    if accept(&mut cache, at(0), T - 300, 7, kept)? {
+        cache.copy(alloc)
     } else {
         Err(AllocError)
     }
@@ -70,130 +70,125 @@ fn remembered(alloc: Global) -> Result<Memory<Kept>, AllocError> {
 #[test]
 fn a_repeated_pair_finds_its_kept_reply(rt: HostRuntime) {
     let alloc = rt.alloc();
-    match remembered(alloc).or_else(|_| remembered(alloc)) {
-        Ok(memory) => finds_what_was_kept(&rt, &memory),
+    match recorded(alloc).or_else(|_| recorded(alloc)) {
+        Ok(cache) => finds_what_was_kept(&rt, &cache),
         Err(AllocError) => panic!(rt; "no memory, or a pair that is not fresh"),
     }
 }
 
-fn finds_what_was_kept(rt: &impl Abort, memory: &Memory<Kept>) {
+fn finds_what_was_kept(rt: &impl Abort, cache: &ReplayCache<Kept>) {
     same(
         rt,
         &"the pair",
-        &verdict(memory, T - 300, 7, 2),
+        &verdict(cache, T - 300, 7, 2),
         &Verdict::Repeat(true),
     );
     same(
         rt,
         &"another",
-        &verdict(memory, T - 300, 8, 2),
+        &verdict(cache, T - 300, 8, 2),
         &Verdict::Fresh,
     );
     same(
         rt,
         &"an early one",
-        &verdict(memory, T - 301, 7, 2),
+        &verdict(cache, T - 301, 7, 2),
         &Verdict::Skew,
     );
     same(
         rt,
         &"one too many",
-        &verdict(memory, T - 300, 8, 1),
+        &verdict(cache, T - 300, 8, 1),
         &Verdict::Full,
     );
 }
 
 #[test]
 fn a_pair_below_the_floor_is_dropped(rt: HostRuntime) {
-    let mut memory = Memory::first(rt.alloc());
-    same(&rt, &0, &accept(&mut memory, at(0), T, 0, ()), &Ok(true));
+    let mut cache = ReplayCache::first(rt.alloc());
+    same(&rt, &0, &accept(&mut cache, at(0), T, 0, ()), &Ok(true));
     same(
         &rt,
         &301,
-        &accept(&mut memory, at(301), T + 301, 0, ()),
+        &accept(&mut cache, at(301), T + 301, 0, ()),
         &Ok(true),
     );
-    is_dropped(&rt, &memory);
+    is_dropped(&rt, &cache);
 }
 
 /// Checks that the pair of the second T is dropped.
-fn is_dropped(rt: &impl Abort, memory: &Memory<()>) {
-    same(rt, &"the floor", &memory.floor, &(T + 1));
+fn is_dropped(rt: &impl Abort, cache: &ReplayCache<()>) {
+    same(rt, &"the floor", &cache.floor, &(T + 1));
     same(
         rt,
         &"a pair below it",
-        &memory.check(at(0), T, 0, 64),
+        &cache.check(at(0), T, 0, 64),
         &Verdict::Skew,
     );
-    holds(rt, memory.pairs.has_from(0, 1), "one pair is left");
-    holds(rt, !memory.pairs.has_from(0, 2), "no other pair is left");
+    holds(rt, cache.pairs.has_from(0, 1), "one pair is left");
+    holds(rt, !cache.pairs.has_from(0, 2), "no other pair is left");
 }
 
 #[test]
 fn tidying_drops_what_is_too_old(rt: HostRuntime) {
-    let mut memory = Memory::first(rt.alloc());
-    same(&rt, &0, &accept(&mut memory, at(0), T, 0, ()), &Ok(true));
-    memory.tidy(at(300));
+    let mut cache = ReplayCache::first(rt.alloc());
+    same(&rt, &0, &accept(&mut cache, at(0), T, 0, ()), &Ok(true));
+    cache.tidy(at(300));
     same(
         &rt,
         &"it may come again",
-        &memory.check(at(300), T, 0, 64),
+        &cache.check(at(300), T, 0, 64),
         &Verdict::Repeat(&()),
     );
-    memory.tidy(at(301));
+    cache.tidy(at(301));
     // It stays dropped at an earlier moment.
-    memory.tidy(at(0));
-    is_empty(&rt, &memory);
+    cache.tidy(at(0));
+    is_empty(&rt, &cache);
 }
 
 #[test]
 fn a_clock_that_was_ahead_refuses_nothing_later(rt: HostRuntime) {
-    let mut memory = Memory::first(rt.alloc());
-    same(&rt, &0, &accept(&mut memory, at(0), T, 0, ()), &Ok(true));
-    memory.tidy(at(60_000));
-    is_empty(&rt, &memory);
-    same(
-        &rt,
-        &1,
-        &accept(&mut memory, at(1), T + 1, 0, ()),
-        &Ok(true),
-    );
+    let mut cache = ReplayCache::first(rt.alloc());
+    same(&rt, &0, &accept(&mut cache, at(0), T, 0, ()), &Ok(true));
+    cache.tidy(at(60_000));
+    is_empty(&rt, &cache);
+    same(&rt, &1, &accept(&mut cache, at(1), T + 1, 0, ()), &Ok(true));
     // The floor is a day before.
-    memory.tidy(Moment {
+    cache.tidy(Moment {
         sec: T + 86_410,
         usec: 0,
     });
-    holds(&rt, memory.is_empty(T + 10), "the floor is another");
+    holds(&rt, cache.is_empty(T + 10), "the floor is another");
 }
 
 /// Checks that the replay cache is empty, and that its floor is above the second T.
-fn is_empty(rt: &impl Abort, memory: &Memory<()>) {
+fn is_empty(rt: &impl Abort, cache: &ReplayCache<()>) {
     same(
         rt,
         &"below the floor",
-        &memory.check(at(0), T, 0, 64),
+        &cache.check(at(0), T, 0, 64),
         &Verdict::Skew,
     );
-    holds(rt, memory.is_empty(T + 1), "no pair is left");
-    holds(rt, !memory.is_empty(T), "the floor is another");
+    holds(rt, cache.is_empty(T + 1), "no pair is left");
+    holds(rt, !cache.is_empty(T), "the floor is another");
 }
 
 #[test]
 fn a_restart_refuses_what_may_have_come_before(rt: HostRuntime) {
-    let mut memory: Memory<()> = Memory::restarted(rt.alloc(), at(0));
+    let mut cache: ReplayCache<()> = ReplayCache::restarted(rt.alloc(), at(0));
     same(
         &rt,
         &"before",
-        &memory.check(at(0), T + 300, 0, 64),
+        &cache.check(at(0), T + 300, 0, 64),
         &Verdict::Skew,
     );
     same(
         &rt,
         &"behind",
-        &memory.check(at(1), T + 301, 0, 64),
+        &cache.check(at(1), T + 301, 0, 64),
         &Verdict::Fresh,
     );
-    memory.set_failures(Failures {
+    cache.set_failures(Failures {
         count: 2,
         last: at(0),
         version: 1,
@@ -201,7 +196,7 @@ fn a_restart_refuses_what_may_have_come_before(rt: HostRuntime) {
     same(
         &rt,
         &"failures",
-        &(memory.failures.count, memory.floor),
+        &(cache.failures.count, cache.floor),
         &(2, T + 301),
     );
 }

@@ -75,15 +75,15 @@ fn bytes_of(keys: &KeyList, etype: Etype) -> Option<&[u8]> {
 
 #[test]
 fn limits_have_1_to_65536_places(rt: HostRuntime) {
-    for (remembered, fits) in [
+    for (recorded, fits) in [
         (0, false),
         (1, true),
         (64, true),
         (65_536, true),
         (65_537, false),
     ] {
-        let limits = Limits::new(remembered, 0, 0, 36_000, 0);
-        same(&rt, &remembered, &limits.is_some(), &fits);
+        let limits = Limits::new(recorded, 0, 0, 36_000, 0);
+        same(&rt, &recorded, &limits.is_some(), &fits);
     }
 }
 

@@ -1,5 +1,5 @@
 //! Tests of the answers of an acceptor for `h` in `A.B`.
-use crate::acceptor::given::{accept, octets, opened, up};
+use crate::acceptor::fixtures::{accept, octets, opened, up};
 use crate::acceptor::requests::{ACCEPTED, MUTUAL, OTHER_CLIENT, REFUSED, REPLY, SECOND};
 use ap_accept::{Accepted, Acceptor, ApFault, ApRefusal};
 use cred_files::{Keytab, KeytabEntry};

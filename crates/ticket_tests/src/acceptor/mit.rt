@@ -1,5 +1,5 @@
 //! Tests that AP-REQs from MIT's library are accepted, with the contents that the library reads.
-use crate::acceptor::given::{accept, octets, opened};
+use crate::acceptor::fixtures::{accept, octets, opened};
 use crate::acceptor::made_by_mit::{KEYTAB, MADE, MADE_AT, Made};
 use ap_accept::{Accepted, Acceptor, ApFault, ApRefusal};
 use cred_files::Keytab;

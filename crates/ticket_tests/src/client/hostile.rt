@@ -1,6 +1,6 @@
 //! How a client handles the replies of a KDC that is not its own, or is faulty.
-use crate::client::given::Outcome::{CannotOpen, Differs, NotAReply, Refused, Taken};
-use crate::client::given::{
+use crate::client::fixtures::Outcome::{CannotOpen, Differs, NotAReply, Refused, Taken};
+use crate::client::fixtures::{
     AS_REP, Kind, Outcome, TGS_REP, asked, come_of, key_from, midnight, moment, octets,
 };
 use client_core::{Asked, Mismatch};

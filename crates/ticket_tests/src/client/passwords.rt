@@ -1,10 +1,10 @@
 //! Tests of keys from passwords.
-use crate::client::given::{Outcome, are_due, octets, outcome_by};
+use crate::client::fixtures::{Outcome, are_due, octets, outcome_by};
 use client_core::password_key;
 use enctypes::Key;
 use krb_elements::{KerberosString, Octets, Seq};
 use krb_fields::Name;
-use krb_parts::EtypeInfo2Entry;
+use krb_sealed::EtypeInfo2Entry;
 use std::alloc::{AllocError, Global};
 use std::test::Fail;
 

@@ -1,5 +1,5 @@
 //! Tests of reading a KDC's reply.
-use crate::client::given::{
+use crate::client::fixtures::{
     Kind, Outcome, are_due, asked, key_from, midnight, octets, see, see_tgs,
 };
 use std::alloc::Global;

@@ -1,5 +1,5 @@
 //! Tests of writing requests to a KDC.
-use crate::client::given::{
+use crate::client::fixtures::{
     Kind, TGS_REQ, are_due, asked, confounder, credential, has_octets, key_from, midnight, octets,
 };
 use client_core::{Asked, as_request, is_presentable, tgs_request, with_timestamp};

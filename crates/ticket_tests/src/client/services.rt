@@ -2,8 +2,8 @@
 ghost use Rattle.std.specs.Prelude.{IfOk};
 ghost use Rattle.client_core.specs.Presenting.{IsShortChecksum};
 
-use crate::client::given::Outcome::{CannotOpen, Differs, Memory, NotAReply, Refused, Taken};
-use crate::client::given::{
+use crate::client::fixtures::Outcome::{CannotOpen, Differs, Memory, NotAReply, Refused, Taken};
+use crate::client::fixtures::{
     Kind, Outcome, are_due, asked, confounder, credential, has_octets, key_from, midnight, moment,
     octets, outcome_by,
 };

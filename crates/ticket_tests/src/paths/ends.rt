@@ -1,11 +1,11 @@
 //! Tests of paths that end early: who rejects the ticket, and why (RFC 4120, sections 3.1.3, 3.1.5 and 3.2.3).
-use crate::paths::given::{MAY_POSTDATE, POSTDATED, Service, key_from, moment, up};
+use crate::paths::fixtures::{MAY_POSTDATE, POSTDATED, Service, key_from, moment, up};
 use crate::paths::legs::{Leg, Sent};
 use crate::paths::realm::{HOST_FIRST, Held, Realm, Types, arrive, open_with};
 use ap_accept::{Accepted, ApFault, ApRefusal};
 use client_core::{ClientFault, KeyRole, Mismatch, ServiceAsked};
 use enctypes::Etype;
-use krb_joined::{Client, Issuing, JoinedFault, Reader, Sealing};
+use krb_end_to_end::{Client, Issuing, JoinedFault, Reader, Sealing};
 use std::alloc::Global;
 use std::test::Fail;
 

@@ -1,13 +1,13 @@
 //! The requests of a client to a KDC along a ticket's path.
-use crate::paths::given::{REALM, Service, moment, up, user};
+use crate::paths::fixtures::{REALM, Service, moment, up, user};
 use crate::paths::realm::Types;
 use client_core::{Asked, KeyRole, is_presentable, session_key, tgs_request, with_timestamp};
 use cred_files::Credential;
 use enctypes::Key;
 use krb_der::KTime;
 use krb_elements::{KerberosString, Seq};
+use krb_end_to_end::{Issuing, Reader};
 use krb_fields::Flags;
-use krb_joined::{Issuing, Reader};
 use std::alloc::Global;
 use std::test::Fail;
 

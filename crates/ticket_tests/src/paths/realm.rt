@@ -1,14 +1,14 @@
 //! The realm of the tests, with a client and a service.
 ghost use Rattle.client_core.specs.Presenting.{IsShortChecksum};
 
-use crate::paths::given::{REALM, Service, key_from, moment, up, user};
+use crate::paths::fixtures::{REALM, Service, key_from, moment, up, user};
 use ap_accept::{Accepted, Acceptor};
 use cred_files::{Keytab, KeytabEntry};
 use enctypes::{Etype, Key};
 use kdc_core::{Kdc, Opening};
 use krb_elements::KerberosString;
+use krb_end_to_end::{Client, Issuing, JoinedFault, Sealing, end_to_end};
 use krb_fields::Name;
-use krb_joined::{Client, Issuing, JoinedFault, Sealing, end_to_end};
 use principal_rows::{KeyList, Limits, Policy};
 use principals::{Change, Database, RowChange};
 use std::alloc::Global;

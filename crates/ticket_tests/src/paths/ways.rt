@@ -2,7 +2,7 @@
 ghost use Rattle.std.specs.Prelude.{IfOk};
 ghost use Rattle.client_core.specs.Presenting.{IsShortChecksum};
 
-use crate::paths::given::{
+use crate::paths::fixtures::{
     FORWARDABLE, FORWARDED, INITIAL, MAY_POSTDATE, POSTDATED, PRE_AUTHENT, REALM, RENEW, RENEWABLE,
     Service, VALIDATE, key_from, moment, second, up, user,
 };
@@ -14,8 +14,8 @@ use cred_files::Credential;
 use enctypes::{Etype, Key};
 use kdc_core::Kdc;
 use krb_elements::Octets;
+use krb_end_to_end::{Client, Issuing, Sealing, obtain};
 use krb_fields::{Name, Typed};
-use krb_joined::{Client, Issuing, Sealing, obtain};
 use std::alloc::Global;
 use std::test::Fail;
 use ticket_times::TicketTerms;

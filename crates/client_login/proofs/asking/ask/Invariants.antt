@@ -3,4 +3,4 @@ use Rattle.client_login.proofs.asking.ask.Given as goal
 
 -- after the fault so far, other KDCs are tried
 abbrev pub invariant-loop-kdc : goal.invariant-loop-kdc
-invariant-loop-kdc g l = IsUnheard g.X.Exchange.answers l.end.why l.end.kdc
+invariant-loop-kdc g l = IsUnheard g.X.Network.answers l.end.why l.end.kdc

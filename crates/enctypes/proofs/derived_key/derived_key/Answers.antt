@@ -6,8 +6,8 @@ use Rattle.enctypes.proofs.derived_key.derived_key.Goals as goal
 
 pub returns : goal.returns
 unfolding derived_key
-returns g c =
-    let etype : Etype = g.S.Suite.ETYPE in
+returns c =
+    let etype : Etype = c.args.etype in
     let key : List ℕ = c.args.key.now in
     let len : ℕ = c.derived_len.result in
     c.new.ensures ∙ c.derive.ensures.value

@@ -20,23 +20,23 @@ written etype key constant out usage len purpose out_is constant_is len_is =
     ∙ ap (derived etype key (usage_constant usage purpose)) len_is
 
 pub aes_key-requires : goal.aes_key-requires
-aes_key-requires g c =
-    let etype : Etype = g.S.Suite.ETYPE in
-    let is = written etype c.args.key.now c.usage_constant.result c.derive_both.new.out c.args.usage c.KEY_LEN.result Encryption
-    c.derive_both.ensures.value c.usage_constant.ensures (c.KEY_LEN.ensures ∙ g.met.S.Suite.constants.key) in
+aes_key-requires c =
+    let etype : Etype = c.args.etype in
+    let is = written etype c.args.key.now c.usage_constant.result c.derive_both.new.out c.args.usage c.key_len.result Encryption
+    c.derive_both.ensures.value c.usage_constant.ensures c.key_len.ensures in
     let len : length c.derive_both.new.out ≡ key_len etype =
     ap length is ∙ length-derived_key etype c.args.key.now c.args.usage Encryption in
     subst (λ (n : ℕ). (n ≡ 16) ⊎ (n ≡ 32)) (sym len) (key_len-cases etype)
 
 pub returns-clause-encryption : goal.returns-clause-encryption
-returns-clause-encryption g c =
+returns-clause-encryption c =
     c.aes_key.ensures
-    ∙ written g.S.Suite.ETYPE c.args.key.now c.usage_constant.result c.derive_both.new.out c.args.usage c.KEY_LEN.result Encryption
-    c.derive_both.ensures.value c.usage_constant.ensures (c.KEY_LEN.ensures ∙ g.met.S.Suite.constants.key)
+    ∙ written c.args.etype c.args.key.now c.usage_constant.result c.derive_both.new.out c.args.usage c.key_len.result Encryption
+    c.derive_both.ensures.value c.usage_constant.ensures c.key_len.ensures
 
 pub returns-clause-integrity : goal.returns-clause-integrity
-returns-clause-integrity g c =
+returns-clause-integrity c =
     c.new.ensures
-    ∙ written g.S.Suite.ETYPE c.args.key.now c.usage_constant-2.result c.derive_both.new.other_out c.args.usage
-    c.MAC_KEY_LEN.result Integrity c.derive_both.ensures.other_value c.usage_constant-2.ensures
-    (c.MAC_KEY_LEN.ensures ∙ g.met.S.Suite.constants.mac_key)
+    ∙ written c.args.etype c.args.key.now c.usage_constant-2.result c.derive_both.new.other_out c.args.usage
+    c.mac_key_len.result Integrity c.derive_both.ensures.other_value c.usage_constant-2.ensures
+    c.mac_key_len.ensures

@@ -4,7 +4,7 @@ use Rattle.kdc_core.specs.AccountLaws.{account_answered, account_spelled}
 use Rattle.kdc_core.specs.After.{seen_left}
 use Rattle.kdc_core.specs.Contents.{contents}
 use Rattle.kdc_core.specs.ContentsLaws.{opens_held, leaves_so, replies_so, spells_so}
-use Rattle.kdc_core.specs.RememberedLaws.{remembered_answered}
+use Rattle.kdc_core.specs.NewlySeenLaws.{newly_seen_answered}
 use Rattle.kdc_core.specs.Request.{request_of}
 use Rattle.kdc_core.specs.View.{view}
 use Rattle.kdc_core.specs.declared.account.Account.TheVariants.{NoRequest}
@@ -64,11 +64,11 @@ returns-clause-same c =
     subst (λ (b : List ℕ). c.in_ok-held.held ≡ contents (view state b) (request_of b)) c.requires read in
     opens_held state c.args.incoming.now c.reply_to.result c.in_ok-held.held is c.reply_to.ensures.same
 
-pub returns-clause-remembered : goal.returns-clause-remembered
-returns-clause-remembered c =
+pub returns-clause-newly_seen : goal.returns-clause-newly_seen
+returns-clause-newly_seen c =
     let state = c.args.state.now in
     let octets = c.args.incoming.now.octets in
     let read : c.in_ok-held.held ≡ contents (view state c.args.request.now) (request_of c.args.request.now) = search rules in
     let is : c.in_ok-held.held ≡ contents (view state octets) (request_of octets) =
     subst (λ (b : List ℕ). c.in_ok-held.held ≡ contents (view state b) (request_of b)) c.requires read in
-    remembered_answered state c.args.incoming.now c.reply_to.result c.in_ok-held.held is (λ reply. seen_left (option_map (λ r. r.mark) reply)) c.reply_to.ensures.remembered
+    newly_seen_answered state c.args.incoming.now c.reply_to.result c.in_ok-held.held is (λ reply. seen_left (option_map (λ r. r.mark) reply)) c.reply_to.ensures.newly_seen

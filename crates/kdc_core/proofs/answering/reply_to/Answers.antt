@@ -3,7 +3,7 @@ use Rattle.kdc_core.specs.Account.{account_of}
 use Rattle.kdc_core.specs.After.{after, seen_in}
 use Rattle.kdc_core.specs.Answer.{answer_of, keep, OpensOf, SpelledOf}
 use Rattle.kdc_core.specs.Contents.{names_answered}
-use Rattle.kdc_core.specs.Remembered.{remembered_of}
+use Rattle.kdc_core.specs.NewlySeen.{newly_seen_of}
 use Rattle.kdc_core.specs.View.{view_of}
 use Rattle.kdc_core.specs.declared.contents.Contents.{Contents}
 use Rattle.kdc_core.proofs.answering.reply_to.Goals as goal
@@ -34,11 +34,11 @@ returns-in_ok-tgs_reply-in-TgsReq-clause-account c =
     subst (λ (h : Contents). account ≡ account_of (view_of c.args.state.now (names_answered h)) c.args.incoming.now h)
     (sym c.in-TgsReq.is) c.in_ok-tgs_reply-in-TgsReq.ensures.account
 
-pub returns-in_ok-tgs_reply-in-TgsReq-clause-remembered : goal.returns-in_ok-tgs_reply-in-TgsReq-clause-remembered
-returns-in_ok-tgs_reply-in-TgsReq-clause-remembered c =
+pub returns-in_ok-tgs_reply-in-TgsReq-clause-newly_seen : goal.returns-in_ok-tgs_reply-in-TgsReq-clause-newly_seen
+returns-in_ok-tgs_reply-in-TgsReq-clause-newly_seen c =
     let mark = c.in_ok-tgs_reply-in-TgsReq.field-0.mark in
-    subst (λ (h : Contents). seen_in mark ≡ remembered_of (view_of c.args.state.now (names_answered h)) c.args.incoming.now h)
-    (sym c.in-TgsReq.is) c.in_ok-tgs_reply-in-TgsReq.ensures.remembered
+    subst (λ (h : Contents). seen_in mark ≡ newly_seen_of (view_of c.args.state.now (names_answered h)) c.args.incoming.now h)
+    (sym c.in-TgsReq.is) c.in_ok-tgs_reply-in-TgsReq.ensures.newly_seen
 
 pub returns-in_ok-tgs_reply-in-TgsReq-clause-same : goal.returns-in_ok-tgs_reply-in-TgsReq-clause-same
 returns-in_ok-tgs_reply-in-TgsReq-clause-same c =

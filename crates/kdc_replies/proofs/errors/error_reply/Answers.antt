@@ -1,8 +1,8 @@
 use Rattle.std.proofs.Common.{rules, ◌≡◌, ◌<◌, length, Option, Some, None, ap, ◌∙◌}
 use Rattle.std.specs.Option.{option_copied, unwrap_or}
 use Rattle.krb_fields.specs.PrincipalName.{Name, name}
-use Rattle.krb_types.specs.KrbError.{krb_error}
-use Rattle.principals.specs.Database.{granter_name}
+use Rattle.krb_messages.specs.KrbError.{krb_error}
+use Rattle.principals.specs.Database.{tgs_name}
 use Rattle.kdc_replies.proofs.ErrorLengths.{made_is, made_short}
 use Rattle.kdc_replies.proofs.Results.{respelled}
 use Rattle.kdc_replies.proofs.errors.error_reply.Goals as goal
@@ -15,13 +15,13 @@ write-requires c =
 
 pub write-requires-in-None : goal.write-requires-in-None
 write-requires-in-None c =
-    made_short c.args.realm.now c.args.at c.args.code None c.args.e_data c.in_ok-granter-in-None.granter c.error_of-in-None.result
-    c.error_of-in-None.ensures c.in_ok-granter-in-None.ensures c.requires.realm tt c.requires.e_data
+    made_short c.args.realm.now c.args.at c.args.code None c.args.e_data c.in_ok-tgs-in-None.tgs c.error_of-in-None.result
+    c.error_of-in-None.ensures c.in_ok-tgs-in-None.ensures c.requires.realm tt c.requires.e_data
 
-pub returns-in_ok-granter-in-None-clause-spelled : goal.returns-in_ok-granter-in-None-clause-spelled
-returns-in_ok-granter-in-None-clause-spelled c =
+pub returns-in_ok-tgs-in-None-clause-spelled : goal.returns-in_ok-tgs-in-None-clause-spelled
+returns-in_ok-tgs-in-None-clause-spelled c =
     let none : ◌≡◌ {A = Option Name} None (option_copied c.args.sname) = search rules in
     respelled krb_error.Spells (λ v. v.items) _ _ c.write-in-None.result
-    (made_is c.args.realm.now c.args.at c.args.code (option_copied c.args.sname) c.args.e_data c.in_ok-granter-in-None.granter c.error_of-in-None.result
-    c.error_of-in-None.ensures (c.in_ok-granter-in-None.ensures ∙ ap (λ (o : Option Name). unwrap_or o (granter_name c.args.realm.now)) none))
+    (made_is c.args.realm.now c.args.at c.args.code (option_copied c.args.sname) c.args.e_data c.in_ok-tgs-in-None.tgs c.error_of-in-None.result
+    c.error_of-in-None.ensures (c.in_ok-tgs-in-None.ensures ∙ ap (λ (o : Option Name). unwrap_or o (tgs_name c.args.realm.now)) none))
     c.write-in-None.ensures.spelled

@@ -1,6 +1,6 @@
 use Rattle.std.proofs.Common.{◌++◌, arith, map, ap, ◌∙◌}
 use Rattle.std.specs.Option.{option_to_list}
-use Rattle.krb5_conf.specs.Place.{behind, place_of}
+use Rattle.krb5_conf.specs.LinePlace.{behind, place_of}
 use Rattle.krb5_conf.specs.Values.{value_by}
 use Rattle.krb5_conf.proofs.LineLaws.{stepped}
 use Rattle.krb5_conf.proofs.values.values.Goals as goal

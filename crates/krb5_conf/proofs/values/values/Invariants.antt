@@ -1,5 +1,5 @@
 use Rattle.std.proofs.Common.{◌≡◌, ◌++◌, ◌≤◌, map, drop}
-use Rattle.krb5_conf.specs.Place.{place_of}
+use Rattle.krb5_conf.specs.LinePlace.{place_of}
 use Rattle.krb5_conf.specs.Values.{values_from, values_of}
 use Rattle.krb5_conf.proofs.values.values.Given as goal
 

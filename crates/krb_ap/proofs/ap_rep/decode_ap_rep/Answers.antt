@@ -1,5 +1,5 @@
 use Rattle.std.proofs.Common.{arith}
-use Rattle.krb_types.proofs.Read.{one_if_read}
+use Rattle.krb_messages.proofs.Read.{one_if_read}
 use Rattle.krb_ap.specs.ApRep.{ap_rep, ap_rep_one}
 use Rattle.krb_ap.proofs.ap_rep.decode_ap_rep.Goals as goal
 

@@ -1,7 +1,7 @@
 use Rattle.std.proofs.Common.{rules, ◌≡◌, inl, refl, sym, ap, subst, ◌∙◌, arith}
 use Rattle.ap_accept.specs.Accepts.{accepts, presented_by, IsParty, IsService}
 use Rattle.ap_accept.specs.Clients.{IsKeptOrDropped, floor_for}
-use Rattle.ap_accept.specs.State.{clients_of, memory_of}
+use Rattle.ap_accept.specs.State.{clients_of, cache_of}
 use Rattle.ap_accept.specs.declared.state.State.{State}
 use Rattle.ap_accept.proofs.Frame.{accepts_keeps, call_keeps, others_alike, others_kept, others_stay}
 use Rattle.ap_accept.proofs.Raised.{raised, same_from}
@@ -20,17 +20,17 @@ returns-clause-services c service other =
     (others_stay state service c.args.at c.args.confounder.now octets (subst (λ (s : State). IsService service (presented_by s octets) → ⊥) (sym is) other))
     ∙ ap (λ s. clients_of s service) is
 
-pub returns-clause-memories : goal.returns-clause-memories
-returns-clause-memories c service client other =
+pub returns-clause-caches : goal.returns-clause-caches
+returns-clause-caches c service client other =
     let state = c.self.inside.state in
     let octets = c.args.ap_req.now in
     let is : state ≡ c.args.self.now = search rules in
-    let alike : raised (floor_for c.args.at.sec) (memory_of c.accept.new.state service client) ≡ raised (floor_for c.args.at.sec) (memory_of state service client) =
-    call_keeps (λ s. raised (floor_for c.args.at.sec) (memory_of s service client) ≡ raised (floor_for c.args.at.sec) (memory_of state service client))
+    let alike : raised (floor_for c.args.at.sec) (cache_of c.accept.new.state service client) ≡ raised (floor_for c.args.at.sec) (cache_of state service client) =
+    call_keeps (λ s. raised (floor_for c.args.at.sec) (cache_of s service client) ≡ raised (floor_for c.args.at.sec) (cache_of state service client))
     c.accept.result state c.accept.new.state (accepts state c.args.at c.args.confounder.now octets).state c.accept.ensures.state refl
     (others_alike state service client c.args.at c.args.confounder.now octets (subst (λ (s : State). IsParty service client (presented_by s octets) → ⊥) (sym is) other)) in
-    same_from c.args.at.sec (memory_of c.accept.new.state service client) (memory_of c.args.self.now service client)
-    (alike ∙ ap (λ s. raised (floor_for c.args.at.sec) (memory_of s service client)) is)
+    same_from c.args.at.sec (cache_of c.accept.new.state service client) (cache_of c.args.self.now service client)
+    (alike ∙ ap (λ s. raised (floor_for c.args.at.sec) (cache_of s service client)) is)
 
 pub returns-clause-kept : goal.returns-clause-kept
 returns-clause-kept c service client other =
@@ -38,9 +38,9 @@ returns-clause-kept c service client other =
     let octets = c.args.ap_req.now in
     let is : state ≡ c.args.self.now = search rules in
     let floor = (clients_of state service).floor in
-    let old = memory_of state service client in
-    subst (λ (s : State). IsKeptOrDropped c.args.at.sec (clients_of s service).floor (memory_of s service client) (memory_of c.accept.new.state service client)) is
-    (call_keeps (λ s. IsKeptOrDropped c.args.at.sec floor old (memory_of s service client)) c.accept.result state c.accept.new.state (accepts state c.args.at c.args.confounder.now octets).state c.accept.ensures.state (inl refl)
+    let old = cache_of state service client in
+    subst (λ (s : State). IsKeptOrDropped c.args.at.sec (clients_of s service).floor (cache_of s service client) (cache_of c.accept.new.state service client)) is
+    (call_keeps (λ s. IsKeptOrDropped c.args.at.sec floor old (cache_of s service client)) c.accept.result state c.accept.new.state (accepts state c.args.at c.args.confounder.now octets).state c.accept.ensures.state (inl refl)
     (others_kept state service client c.args.at c.args.confounder.now octets (subst (λ (s : State). IsParty service client (presented_by s octets) → ⊥) (sym is) other)))
 
 pub returns-clause-keytab : goal.returns-clause-keytab

@@ -1,5 +1,5 @@
 use Rattle.std.proofs.Common.{arith}
-use Rattle.krb_parts.specs.Authenticator.{authenticator}
+use Rattle.krb_sealed.specs.Authenticator.{authenticator}
 use Rattle.base_tests.proofs.Spelled.{short_if_read}
 use Rattle.base_tests.proofs.messages.parts.short_authenticator.Goals as goal
 

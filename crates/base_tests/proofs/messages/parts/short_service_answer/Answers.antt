@@ -1,5 +1,5 @@
 use Rattle.std.proofs.Common.{arith}
-use Rattle.krb_parts.specs.EncApRepPart.{enc_ap_rep_part}
+use Rattle.krb_sealed.specs.EncApRepPart.{enc_ap_rep_part}
 use Rattle.base_tests.proofs.Spelled.{short_if_read}
 use Rattle.base_tests.proofs.messages.parts.short_service_answer.Goals as goal
 

@@ -1,5 +1,5 @@
 use Rattle.std.proofs.Common.{arith}
-use Rattle.krb_parts.specs.EncTicketPart.{enc_ticket_part}
+use Rattle.krb_sealed.specs.EncTicketPart.{enc_ticket_part}
 use Rattle.base_tests.proofs.Spelled.{short_if_read}
 use Rattle.base_tests.proofs.messages.parts.short_ticket_part.Goals as goal
 

@@ -1,6 +1,6 @@
 use Rattle.std.proofs.Common.{rules, ◌≡◌, ◌≢◌, ◌≤◌, length, Some, option_map, IfOk, IfSome, sym, ap, subst, ◌∙◌, arith}
 use Rattle.kdc_state.specs.declared.state.State.{State}
-use Rattle.kdc_state.specs.State.{memory_of}
+use Rattle.kdc_state.specs.State.{cache_of}
 use Rattle.kdc_core.proofs.Frame.{database_kept, limits_kept, other_kept, of_either}
 use Rattle.std.proofs.lemmas.Result.{IfOk-weaker}
 use Rattle.kdc_replies.specs.Incoming.{Incoming}
@@ -81,15 +81,15 @@ returns-clause-limits c =
     (limits_kept state (named state bytes).client (answer (view state bytes) c.args.at c.args.random.now c.args.room bytes).kept)
     ∙ ap (λ s. s.limits) is
 
-pub returns-clause-memories : goal.returns-clause-memories
-returns-clause-memories c name other =
+pub returns-clause-caches : goal.returns-clause-caches
+returns-clause-caches c name other =
     let state = c.self.inside.state in
     let bytes = c.args.request.now in
     let is : state ≡ c.args.self.now = search rules in
-    of_either c.handle.result state c.handle.new.state (after_request state c.args.at c.args.random.now c.args.room bytes) (λ s. memory_of s name) c.handle.ensures.state c.handle.ensures.err
+    of_either c.handle.result state c.handle.new.state (after_request state c.args.at c.args.random.now c.args.room bytes) (λ s. cache_of s name) c.handle.ensures.state c.handle.ensures.err
     (other_kept state (named state bytes).client (answer (view state bytes) c.args.at c.args.random.now c.args.room bytes).kept name
     (subst (λ (s : State). (named s bytes).client ≢ Some name) (sym is) other))
-    ∙ ap (λ s. memory_of s name) is
+    ∙ ap (λ s. cache_of s name) is
 
 pub returns-clause-agreement : goal.returns-clause-agreement
 returns-clause-agreement c other agrees = ap (λ v. answer v c.args.at c.args.random.now c.args.room c.args.request.now) (view_agrees c.args.self.now other c.args.request.now agrees)

@@ -2,9 +2,9 @@ use Rattle.std.proofs.Common.{◌≡◌, OnOk, rules, sym, ap, subst, ◌∙◌,
 use Rattle.std.proofs.lemmas.Int.{to_z-of_z}
 use Rattle.std.specs.FinMap as map
 use Rattle.replay.specs.declared.keep.Kept.{Kept}
-use Rattle.replay.specs.declared.memory.Memory.{Memory}
+use Rattle.replay.specs.declared.cache.ReplayCache.{ReplayCache}
 use Rattle.replay.specs.Kept.{nothing_kept}
-use Rattle.kdc_state.specs.State.{memory_of, with_memory}
+use Rattle.kdc_state.specs.State.{cache_of, with_cache}
 use Rattle.kdc_state.proofs.Storing.{is_there, stored_ok, stored_err, stored_first}
 use Rattle.kdc_state.proofs.state.State.see.Goals as goal
 
@@ -15,14 +15,14 @@ returns-then-replace-clause-ok c =
     let back = c.replace-then-replace.ensures in
     let there = out.taken c.if-replace.true in
     let left = out.given c.if-replace.true in
-    let f = λ (m : Memory Kept). record m { pairs = map.insert m.pairs (c.args.ctime, c.args.cusec) c.nothing-kept.result } in
-    subst (λ (k : Kept). OnOk c.keep-done.result (record c.args.self.now { memories = c.replace-then-replace.new.self } ≡ with_memory c.args.self.now c.args.client.now.components
-    (record (memory_of c.args.self.now c.args.client.now.components) {
-      pairs = map.insert (memory_of c.args.self.now c.args.client.now.components).pairs (c.args.ctime, c.args.cusec) k;
+    let f = λ (m : ReplayCache Kept). record m { pairs = map.insert m.pairs (c.args.ctime, c.args.cusec) c.nothing-kept.result } in
+    subst (λ (k : Kept). OnOk c.keep-done.result (record c.args.self.now { caches = c.replace-then-replace.new.self } ≡ with_cache c.args.self.now c.args.client.now.components
+    (record (cache_of c.args.self.now c.args.client.now.components) {
+      pairs = map.insert (cache_of c.args.self.now c.args.client.now.components).pairs (c.args.ctime, c.args.cusec) k;
     }))) c.nothing-kept.ensures
-    (stored_ok c.args.self.now c.args.client.now.components f c.empty-memory.result c.replace.new.value c.keep-done.new.memory c.replace.new.self c.replace-then-replace.new.self there left c.keep-done.result
+    (stored_ok c.args.self.now c.args.client.now.components f c.empty-cache.result c.replace.new.value c.keep-done.new.cache c.replace.new.self c.replace-then-replace.new.self there left c.keep-done.result
     (simp to_z-of_z at c.keep-done.ensures.ok)
-    (back.given (back.there ∙ is_there c.args.self.now c.args.client.now.components f c.empty-memory.result c.replace.new.value c.keep-done.new.memory c.replace.new.self c.replace-then-replace.new.self there left)))
+    (back.given (back.there ∙ is_there c.args.self.now c.args.client.now.components f c.empty-cache.result c.replace.new.value c.keep-done.new.cache c.replace.new.self c.replace-then-replace.new.self there left)))
 
 pub returns-then-replace-clause-err : goal.returns-then-replace-clause-err
 returns-then-replace-clause-err c =
@@ -30,9 +30,9 @@ returns-then-replace-clause-err c =
     let back = c.replace-then-replace.ensures in
     let there = out.taken c.if-replace.true in
     let left = out.given c.if-replace.true in
-    stored_err c.args.self.now c.args.client.now.components (λ m. m) c.empty-memory.result c.replace.new.value c.keep-done.new.memory c.replace.new.self c.replace-then-replace.new.self there left c.keep-done.result
+    stored_err c.args.self.now c.args.client.now.components (λ m. m) c.empty-cache.result c.replace.new.value c.keep-done.new.cache c.replace.new.self c.replace-then-replace.new.self there left c.keep-done.result
     c.keep-done.ensures.err
-    (back.given (back.there ∙ is_there c.args.self.now c.args.client.now.components (λ m. m) c.empty-memory.result c.replace.new.value c.keep-done.new.memory c.replace.new.self c.replace-then-replace.new.self there left))
+    (back.given (back.there ∙ is_there c.args.self.now c.args.client.now.components (λ m. m) c.empty-cache.result c.replace.new.value c.keep-done.new.cache c.replace.new.self c.replace-then-replace.new.self there left))
 
 pub returns-in_ok-copy-clause-ok : goal.returns-in_ok-copy-clause-ok
 returns-in_ok-copy-clause-ok c =
@@ -40,10 +40,10 @@ returns-in_ok-copy-clause-ok c =
     let floor : SFits w64 c.args.self.now.floor = search rules in
     let out = c.replace.ensures in
     let none = out.absent c.if-replace.false in
-    let f = λ (m : Memory Kept). record m { pairs = map.insert m.pairs (c.args.ctime, c.args.cusec) c.nothing-kept.result } in
-    subst (λ (k : Kept). OnOk c.put.result (record c.args.self.now { memories = c.put.new.self } ≡ with_memory c.args.self.now c.args.client.now.components
-    (record (memory_of c.args.self.now c.args.client.now.components) {
-      pairs = map.insert (memory_of c.args.self.now c.args.client.now.components).pairs (c.args.ctime, c.args.cusec) k;
+    let f = λ (m : ReplayCache Kept). record m { pairs = map.insert m.pairs (c.args.ctime, c.args.cusec) c.nothing-kept.result } in
+    subst (λ (k : Kept). OnOk c.put.result (record c.args.self.now { caches = c.put.new.self } ≡ with_cache c.args.self.now c.args.client.now.components
+    (record (cache_of c.args.self.now c.args.client.now.components) {
+      pairs = map.insert (cache_of c.args.self.now c.args.client.now.components).pairs (c.args.ctime, c.args.cusec) k;
     }))) c.nothing-kept.ensures
-    (stored_first c.args.self.now c.args.client.now.components c.in_ok-copy.field-0.components f c.empty-memory.result c.replace.new.value c.keep.new.memory c.replace.new.self c.put.new.self c.put.result
-    (sym out.there ∙ c.if-replace.false) none.0 (simp to_z-of_z at c.empty-memory.ensures) none.1 (ap (λ n. n.components) c.in_ok-copy.ensures) (simp to_z-of_z at c.in_ok-keep.ensures.ok) c.put.ensures.ok)
+    (stored_first c.args.self.now c.args.client.now.components c.in_ok-copy.field-0.components f c.empty-cache.result c.replace.new.value c.keep.new.cache c.replace.new.self c.put.new.self c.put.result
+    (sym out.there ∙ c.if-replace.false) none.0 (simp to_z-of_z at c.empty-cache.ensures) none.1 (ap (λ n. n.components) c.in_ok-copy.ensures) (simp to_z-of_z at c.in_ok-keep.ensures.ok) c.put.ensures.ok)

@@ -8,6 +8,6 @@ returns-then-replace-clause-ok c =
     let back = c.replace-then-replace.ensures in
     let there = out.taken c.if-replace.true in
     let left = out.given c.if-replace.true in
-    stored c.args.self.now c.args.client.now.components (λ m. record m { failures = c.args.failures }) c.empty-memory.result c.replace.new.value c.set_failures.new.self c.replace.new.self c.replace-then-replace.new.self there left
+    stored c.args.self.now c.args.client.now.components (λ m. record m { failures = c.args.failures }) c.empty-cache.result c.replace.new.value c.set_failures.new.self c.replace.new.self c.replace-then-replace.new.self there left
     c.set_failures.ensures
-    (back.given (back.there ∙ is_there c.args.self.now c.args.client.now.components (λ m. m) c.empty-memory.result c.replace.new.value c.set_failures.new.self c.replace.new.self c.replace-then-replace.new.self there left))
+    (back.given (back.there ∙ is_there c.args.self.now c.args.client.now.components (λ m. m) c.empty-cache.result c.replace.new.value c.set_failures.new.self c.replace.new.self c.replace-then-replace.new.self there left))

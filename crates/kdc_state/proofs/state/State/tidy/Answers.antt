@@ -3,8 +3,8 @@ use Rattle.std.proofs.lemmas.Int.{to_z-of_z}
 use Rattle.kdc_state.proofs.Tidied.{made_tidy}
 use Rattle.kdc_state.proofs.state.State.tidy.Goals as goal
 
-pub returns-clause-memories : goal.returns-clause-memories
-returns-clause-memories c =
+pub returns-clause-caches : goal.returns-clause-caches
+returns-clause-caches c =
     let floor : SFits w64 c.args.self.now.floor = search rules in
     let raised : SFits w64 c.floor_on-self.result = search rules in
     simp to_z-of_z (made_tidy c.args.self.now c.args.at c.floor_on-self.result c.change_values.new.self c.retain.new.self

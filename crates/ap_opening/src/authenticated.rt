@@ -1,0 +1,12 @@
+//! The proof that comes with a ticket.
+use enctypes::Key;
+use krb_sealed::Authenticator;
+
+/// The proof that the sender of a ticket has its session key.
+#[derive(Debug, Drop)]
+pub struct Authenticated {
+    pub session_key: Key,
+    pub authenticator: Authenticator,
+    /// The key that the client chose for what follows, if it chose one.
+    pub subkey: Option<Key>,
+}

@@ -1,0 +1,145 @@
+//! A TCP connection and its unsent bytes.
+ghost use Rattle.std.specs.Prelude.{◌≡◌};
+ghost use Rattle.std.specs.Io.{ReadsAtMost};
+
+use framing::prefix;
+use mio::net::TcpStream;
+use std::alloc::Global;
+use std::io::{Error, ErrorKind, Read, Result, Write};
+use std::net::{Shutdown, SocketAddr};
+use std::time::Instant;
+
+/// The maximum number of unsent bytes for a peer that doesn't read. The largest reply fits, with its length prefix.
+const MOST_UNSENT: usize = 150_000;
+
+/// How many seconds a connection may be idle before it is closed.
+const LONGEST_IDLE: u64 = 30;
+
+/// A TCP connection and its unsent bytes.
+#[derive(Drop)]
+pub struct Connection {
+    stream: TcpStream,
+    peer: SocketAddr,
+    unsent: Vec<u8>,
+    /// When it became idle: when it was opened, or when its last complete request was answered. While it is closing,
+    /// when its peer last took bytes.
+    idle_since: Instant,
+    /// No more replies will follow. The unsent bytes are written, and then the sending side is shut down.
+    is_closing: bool,
+    /// The sending side is shut down.
+    is_shut_down: bool,
+    /// The peer has shut down its sending side.
+    is_at_end: bool,
+}
+
+impl Connection {
+    /// Returns a new connection from this address.
+    pub fn new(alloc: Global, stream: TcpStream, peer: SocketAddr, at: Instant) -> Connection {
+        Connection {
+            stream,
+            peer,
+            unsent: Vec::new(alloc),
+            idle_since: at,
+            is_closing: false,
+            is_shut_down: false,
+            is_at_end: false,
+        }
+    }
+
+    /// Returns the peer's address.
+    pub fn peer(&self) -> SocketAddr {
+        self.peer
+    }
+
+    /// Checks whether no more replies will follow.
+    pub fn is_closing(&self) -> bool {
+        self.is_closing
+    }
+
+    /// Returns when it became idle.
+    pub fn idle_since(&self) -> Instant {
+        self.idle_since
+    }
+
+    /// Checks whether it has been idle for too long.
+    pub fn is_idle(&self, at: Instant) -> bool {
+        at.duration_since(self.idle_since).as_secs() >= LONGEST_IDLE
+    }
+
+    /// Checks whether both sides are done. Dropping a connection earlier could cost the peer replies that it has not
+    /// read yet.
+    pub fn is_over(&self) -> bool {
+        self.is_closing && self.is_at_end && self.unsent.is_empty()
+    }
+
+    pub fn read(&mut self, buffer: &mut [u8]) -> Result<usize>
+        ensures { ReadsAtMost result buffer.new }
+    {
+        self.stream.read(buffer)
+    }
+
+    /// Writes the reply to a complete request after its length prefix, as far as it fits, and keeps the rest. Fails if
+    /// too many bytes are unsent.
+    pub fn write(&mut self, message: &[u8], at: Instant) -> Result<()> {
+        self.idle_since = at;
+        if message.len() > MOST_UNSENT {
+            return Err(Error::from(ErrorKind::InvalidInput));
+        }
+        self.unsent
+            .extend_from_slice(&prefix(message.len() as u32))?;
+        self.unsent.extend_from_slice(message)?;
+        self.flush(at)?;
+        if self.unsent.len() > MOST_UNSENT {
+            return Err(Error::from(ErrorKind::WriteZero));
+        }
+        Ok(())
+    }
+
+    /// Marks that no more replies will follow, and writes what fits.
+    pub fn close(&mut self, at: Instant) -> Result<()> {
+        if !self.is_closing {
+            self.is_closing = true;
+            self.idle_since = at;
+        }
+        self.flush(at)
+    }
+
+    /// Marks that the peer sends nothing more. The unsent bytes are still written.
+    pub fn end(&mut self, at: Instant) -> Result<()> {
+        self.is_at_end = true;
+        self.close(at)
+    }
+
+    /// Writes what fits. After the last byte of the last reply, shuts down the sending side. It does so once, since
+    /// each shutdown would raise another event for the connection.
+    pub fn flush(&mut self, at: Instant) -> Result<()> {
+        for _ in 0..self.unsent.len() {
+            if self.unsent.is_empty() || !self.write_once()? {
+                break;
+            }
+            if self.is_closing {
+                self.idle_since = at;
+            }
+        }
+        if self.is_closing && self.unsent.is_empty() && !self.is_shut_down {
+            self.is_shut_down = true;
+            self.stream.shutdown(Shutdown::Write)?;
+        }
+        Ok(())
+    }
+
+    /// Writes once, and returns whether more may fit.
+    fn write_once(&mut self) -> Result<bool> {
+        match self.stream.write(&self.unsent) {
+            Ok(0) => Err(Error::from(ErrorKind::WriteZero)),
+            Ok(sent) => {
+                self.unsent.rotate_left(sent);
+                let left = self.unsent.len() - sent;
+                self.unsent.truncate(left);
+                Ok(true)
+            }
+            Err(error) if error.kind() == ErrorKind::WouldBlock => Ok(false),
+            Err(error) => Err(error),
+        }
+    }
+}

@@ -1,0 +1,210 @@
+-- No authenticator gets two tickets from the processes of a server with a journal.
+use Rattle.std.proofs.Common.{◌≡◌, ℕ, zero, suc, ℤ, pos, ◌-ℤ◌, List, [], ◌∷◌, ◌++◌, map, take, Option, Some, None, refl, sym, ap, subst, ◌∙◌, append_assoc}
+use Rattle.std.specs.Prelude.{IsTrue, ◌≤ℤ◌, ⊤}
+use Rattle.std.specs.FinMap as finmap
+use Rattle.std.specs.Int.{int_max}
+use Rattle.std.specs.List.{AllByRecursion, flat_map}
+use Rattle.std.proofs.lemmas.List.{append-nil}
+use Rattle.framing.specs.Splitting.{Splitting, fed, handed_out}
+use Rattle.krb_fields.specs.Name.{Components}
+use Rattle.krb_fields.specs.Skew.{skew}
+use Rattle.krb_fields.specs.declared.moment.Moment.{Moment}
+use Rattle.replay.specs.Resumed.{is_spent, resumed_cache}
+use Rattle.replay.specs.declared.opening.Opening.TheVariants.{Restart as RestartAt}
+use Rattle.replay.specs.declared.seen.Resumption.{Resumption}
+use Rattle.replay.specs.declared.seen.Seen.{Seen}
+use Rattle.kdc_state.specs.declared.state.State.{State}
+use Rattle.kdc_core.specs.NewlySeen as core
+use Rattle.kdc_core.specs.NewlySeen.{Covers, opening_resumption, resumption_at}
+use Rattle.kdc_core.specs.Run.{after_event, run}
+use Rattle.kdc_core.specs.Tickets.{ResumesFollow, ResumesWithAll}
+use Rattle.kdc_core.specs.declared.run.Event.{Event as KdcEvent}
+use Rattle.kdc_core.specs.declared.run.Event.TheVariants.{Request, Change, Replace, Tidy, Restart, Reopen, Resume}
+use Rattle.kdc_hub.specs.History.{CanBeResumed, IsOneRun, OneTicketSent, Replaced, Reopened, Resumed, Stepped, Tidied, Turn, after_turn, after_turns, events_in, others_after, piece_requests, newly_seen_in, requests_by, stream_requests, turn_events}
+use Rattle.kdc_hub.specs.Hub.{Standing}
+use Rattle.kdc_hub.specs.Issuing.{Issuing, after, reply_of}
+use Rattle.kdc_hub.specs.Logged.{Entry, Stop}
+use Rattle.kdc_hub.specs.Rounds.{did_in, entries_of}
+use Rattle.kdc_hub.specs.StreamStep.{stream_room}
+use Rattle.kdc_hub.specs.declared.event.Event.{Event}
+use Rattle.kdc_hub.specs.declared.event.Event.TheVariants.{Datagram, Opened, Bytes, Closed}
+use Rattle.kdc_hub.specs.declared.reply.Reply.{Reply}
+use Rattle.kdc_serving.specs.Life.{ArePeriods, Period, replacement, rounds_in, tidying, turns_of}
+use Rattle.kdc_serving.specs.declared.rows.Look.{Look}
+use Rattle.kdc_serving.specs.declared.rows.Look.TheVariants.{Unchanged, Changed, Failed}
+use Rattle.journal.specs.Holding.{ResumesWithHeld}
+use Rattle.journal.specs.declared.decision.Start.{Start}
+use Rattle.journal.specs.declared.decision.Start.TheVariants.{Resumes, Refuses}
+use Rattle.kdcd_run.specs.Handing.{HandsAllInLife, all_seen, handed_in}
+use Rattle.kdcd_run.specs.Processes.{AreProcesses, FindsAll, MayStart, OneTicketThroughRestarts, Process, beginning, beginning_by, history, known_after, known_at, known_by}
+
+-- ---- within one process nothing resumes
+
+abbrev IsNoResume : KdcEvent → Type 0
+IsNoResume (Request at random room request) = ⊤
+IsNoResume (Change change) = ⊤
+IsNoResume (Replace database) = ⊤
+IsNoResume (Tidy at) = ⊤
+IsNoResume (Restart at) = ⊤
+IsNoResume (Reopen database limits at) = ⊤
+IsNoResume (Resume database limits resumption) = ⊥
+
+abbrev AreNoResumes : List KdcEvent → Type 0
+AreNoResumes = AllByRecursion IsNoResume
+
+some_none : (n : ℕ) (events : List KdcEvent) → AreNoResumes events → AreNoResumes (take n events)
+some_none zero events a = tt
+some_none (suc n) [] a = tt
+some_none (suc n) (event ∷ events) a = (a.0, some_none n events a.1)
+
+both_none : (events others : List KdcEvent) → AreNoResumes events → AreNoResumes others → AreNoResumes (events ++ others)
+both_none [] others a b = b
+both_none (event ∷ events) others a b = (a.0, both_none events others a.1 b)
+
+others_none : (reply : Option Reply) (others : List KdcEvent) → AreNoResumes others → AreNoResumes (others_after reply others)
+others_none (Some reply) others a = a
+others_none None others a = tt
+
+stream_none : (i : Issuing) (at : Moment) (messages : List (List ℕ)) → AreNoResumes (stream_requests i at messages)
+unfolding stream_requests
+stream_none i at [] = tt
+stream_none i at (message ∷ messages) =
+    let next = after i at stream_room message in
+    (tt, others_none (reply_of i at stream_room message) (stream_requests next at messages) (stream_none next at messages))
+
+piece_none : (i : Issuing) (at : Moment) (piece : List ℕ) (o : Option Splitting) → AreNoResumes (piece_requests i at piece o)
+piece_none i at piece (Some s) = stream_none i at (handed_out (fed s piece)).messages
+piece_none i at piece None = tt
+
+entry_none : (hub : Standing) (at : Moment) (stop : Option Stop) (event : Event) → AreNoResumes (requests_by stop hub at event)
+entry_none hub at None (Datagram peer request) = (tt, tt)
+entry_none hub at None (Opened conn) = tt
+entry_none hub at None (Bytes conn piece) = piece_none hub.issuing at piece (finmap.get hub.connections conn)
+entry_none hub at None (Closed conn) = tt
+entry_none hub at (Some stop) (Datagram peer request) = tt
+entry_none hub at (Some stop) (Opened conn) = tt
+entry_none hub at (Some stop) (Bytes conn piece) = some_none stop.done _ (piece_none hub.issuing at piece (finmap.get hub.connections conn))
+entry_none hub at (Some stop) (Closed conn) = tt
+
+-- turns with an event each, of which none resumes
+events_both : (hub : Standing) (turns others : List Turn) → events_in hub (turns ++ others) ≡ events_in hub turns ++ events_in (after_turns hub turns) others
+events_both hub [] others = refl
+events_both hub (turn ∷ turns) others =
+    ap (λ l. turn_events hub turn ++ l) (events_both (after_turn hub turn) turns others)
+    ∙ sym (append_assoc (turn_events hub turn) (events_in (after_turn hub turn) turns) (events_in (after_turns (after_turn hub turn) turns) others))
+
+turns_none : (hub : Standing) (turns others : List Turn) → AreNoResumes (events_in hub turns) → AreNoResumes (events_in (after_turns hub turns) others)
+    → AreNoResumes (events_in hub (turns ++ others))
+turns_none hub turns others a b = subst AreNoResumes (sym (events_both hub turns others)) (both_none (events_in hub turns) _ a b)
+
+steps_none : (hub : Standing) (entries : List Entry) → AreNoResumes (events_in hub (map Stepped entries))
+steps_none hub [] = tt
+steps_none hub (entry ∷ entries) =
+    both_none (turn_events hub (Stepped entry)) _ (entry_none hub entry.at entry.stop entry.event) (steps_none (after_turn hub (Stepped entry)) entries)
+
+look_none : (hub : Standing) (look : Look) → AreNoResumes (events_in hub (replacement look))
+look_none hub Unchanged = tt
+look_none hub (Changed database) = (tt, tt)
+look_none hub Failed = tt
+
+tidying_none : (hub : Standing) (tidied : Option Moment) → AreNoResumes (events_in hub (tidying tidied))
+tidying_none hub (Some at) = (tt, tt)
+tidying_none hub None = tt
+
+period_none : (hub : Standing) (period : Period) → AreNoResumes (events_in hub (turns_of period))
+period_none hub period =
+    let steps = map Stepped (flat_map entries_of period.rounds) in
+    let looked = after_turns hub (replacement period.look) in
+    turns_none hub (replacement period.look) (steps ++ tidying period.tidied) (look_none hub period.look)
+    (turns_none looked steps (tidying period.tidied) (steps_none looked (flat_map entries_of period.rounds)) (tidying_none (after_turns looked steps) period.tidied))
+
+life_none : (hub : Standing) (periods : List Period) → AreNoResumes (events_in hub (flat_map turns_of periods))
+life_none hub [] = tt
+life_none hub (period ∷ periods) =
+    turns_none hub (turns_of period) (flat_map turns_of periods) (period_none hub period) (life_none (after_turns hub (turns_of period)) periods)
+
+-- ---- where a run resumes
+
+no_resume : (state : State) (event : KdcEvent) → IsNoResume event → ResumesWithAll state event
+no_resume state (Request at random room request) a = tt
+no_resume state (Change change) a = tt
+no_resume state (Replace database) a = tt
+no_resume state (Tidy at) a = tt
+no_resume state (Restart at) a = tt
+no_resume state (Reopen database limits at) a = tt
+no_resume state (Resume database limits resumption) a = absurd a
+
+follows_none : (state : State) (events : List KdcEvent) → AreNoResumes events → ResumesFollow state events
+follows_none state [] a = tt
+follows_none state (event ∷ events) a = (no_resume state event a.0, follows_none (after_event state event) events a.1)
+
+follows_both : (state : State) (events others : List KdcEvent) → ResumesFollow state events → ResumesFollow (run state events) others
+    → ResumesFollow state (events ++ others)
+follows_both state [] others a b = b
+follows_both state (event ∷ events) others a b = (a.0, follows_both (after_event state event) events others a.1 b)
+
+-- ---- processes
+
+module _ (one_run : (start : Standing) (turns : List Turn) → IsOneRun start turns) (resumable : CanBeResumed) (begins : core.CanBeResumed)
+    (hands : HandsAllInLife) (held : ResumesWithHeld) where
+  -- what a process knows at its end covers its state
+  covers_at_end : (hub : Standing) (r : Resumption) (periods : List Period) (now : ℤ) → Covers hub.issuing.kdc r → ArePeriods None hub periods
+      → core.AreUpTo now (events_in hub (flat_map turns_of periods))
+      → Covers (after_turns hub (flat_map turns_of periods)).issuing.kdc
+      (record { floor = int_max r.floor (now -ℤ pos skew); seen = (known_after r periods).seen })
+  covers_at_end hub r periods now covers lived up_to =
+      subst (λ seen. Covers (after_turns hub (flat_map turns_of periods)).issuing.kdc (resumption_at now r seen))
+      (sym (hands None hub periods None lived))
+      (resumable hub (flat_map turns_of periods) r now covers up_to)
+
+  module _ (hub : Standing) (r : Resumption) (periods : List Period) (p : Process) (covers : Covers hub.issuing.kdc r) (lived : ArePeriods None hub periods)
+      (up_to : core.AreUpTo p.at.sec (events_in hub (flat_map turns_of periods))) where
+    abbrev ended : Standing
+    ended = after_turns hub (flat_map turns_of periods)
+
+    -- and so do the journals that the next one finds
+    covers_next : (found : Resumption) (check : List ℕ) → FindsAll (known_after r periods) p.at (Resumes found check) → Covers ended.issuing.kdc found
+    covers_next found check finds c stamp spent =
+        held finds.place finds.older finds.newer finds.low (known_after r periods) found check finds.holds
+        (subst (λ (at : Moment). finds.low ≤ℤ (at.sec -ℤ pos skew)) (sym finds.moment) finds.late) (sym finds.decided) c stamp
+        (subst (λ (at : Moment). IsTrue (is_spent (resumed_cache (record { floor = int_max r.floor (at.sec -ℤ pos skew); seen = (known_after r periods).seen }) c) stamp))
+        (sym finds.moment)
+        (covers_at_end hub r periods p.at.sec covers lived up_to c stamp spent))
+
+    next_with_all : (start : Start) → p.start ≡ start → MayStart (known_after r periods) p.at start
+        → ResumesFollow ended.issuing.kdc (turn_events ended (beginning_by p start))
+    next_with_all (Refuses doubt) is may = (tt, tt)
+    next_with_all (Resumes found check) is may = (covers_next found check may, tt)
+
+  -- what the next process begins with covers its state
+  next_covers : (hub : Standing) (p : Process) (start : Start) → Covers (after_turn hub (beginning_by p start)).issuing.kdc (known_by p start)
+  next_covers hub p (Refuses doubt) = begins.opened p.database p.limits (RestartAt p.at)
+  next_covers hub p (Resumes found check) = begins.resumed p.database p.limits found
+
+  all_follow : (hub : Standing) (r : Resumption) (periods : List Period) (processes : List Process) → Covers hub.issuing.kdc r
+      → AreProcesses hub r periods processes → ResumesFollow hub.issuing.kdc (events_in hub (history periods processes))
+  all_follow hub r periods [] covers lived = follows_none hub.issuing.kdc _ (life_none hub periods)
+  all_follow hub r periods (p ∷ ps) covers (lived, up_to, may, rest) =
+      let turns = flat_map turns_of periods in
+      let ended = after_turns hub turns in
+      let next = after_turn ended (beginning p) in
+      let others = history p.periods ps in
+      subst (ResumesFollow hub.issuing.kdc) (sym (events_both hub turns (beginning p ∷ others)))
+      (follows_both hub.issuing.kdc (events_in hub turns) (turn_events ended (beginning p) ++ events_in next others)
+      (follows_none hub.issuing.kdc (events_in hub turns) (life_none hub periods))
+      (subst (λ (s : State). ResumesFollow s (turn_events ended (beginning p) ++ events_in next others)) (one_run hub turns).kdc_is
+      (follows_both ended.issuing.kdc (turn_events ended (beginning p)) (events_in next others)
+      (next_with_all hub r periods p covers lived up_to p.start refl may)
+      (subst (λ (s : State). ResumesFollow s (events_in next others)) (turn_run ended (beginning p))
+      (all_follow next (known_at p) p.periods ps (next_covers ended p p.start) rest)))))
+    where
+      -- a turn alone
+      turn_run : (start : Standing) (turn : Turn) → (after_turn start turn).issuing.kdc ≡ run start.issuing.kdc (turn_events start turn)
+      turn_run start turn = (one_run start (turn ∷ [])).kdc_is ∙ ap (run start.issuing.kdc) (append-nil (turn_events start turn))
+
+  pub one_ticket_through_restarts : OneTicketSent → OneTicketThroughRestarts
+  one_ticket_through_restarts tickets database limits opening hub periods processes is processes_are follow c =
+      tickets hub (history periods processes) follow
+      (all_follow hub (opening_resumption opening) periods processes
+      (subst (λ (s : State). Covers s (opening_resumption opening)) (sym is) (begins.opened database limits opening)) processes_are)
+      c

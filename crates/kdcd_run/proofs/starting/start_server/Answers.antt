@@ -1,0 +1,27 @@
+use Rattle.std.proofs.Common.{◌∙◌, ap, subst, [], ◌∷◌}
+use Rattle.std.specs.Option.{option_copied}
+use Rattle.kdc_hub.specs.Wire.{Records}
+use Rattle.rand_core.specs.Steps.{steps_u32, stream_of}
+use Rattle.rand_chacha.specs.ChaCha.{next_word}
+use Rattle.kdcd_run.specs.Starting.{Held, IsSeed, seeded}
+use Rattle.kdcd_run.proofs.Ready.{all_recorded}
+use Rattle.kdcd_run.proofs.starting.start_server.Goals as goal
+
+-- src/starting.rt:76:1
+pub returns : goal.returns
+returns g c =
+    let seed : IsSeed (option_copied c.args.options.now.seed) (g.H.Host.recorded c.read_rows.new.self) (g.H.Host.recorded c.take_seed.new.host) c.in_ok-seed.seed = c.in_ok-seed.ensures in
+    let held : Records (g.H.Host.recorded c.take_seed.new.host) (Held c.args.options.now.udp.items c.args.options.now.tcp.items ∷ []) (g.H.Host.recorded c.hold.new.self) =
+    subst (λ us. Records (g.H.Host.recorded c.take_seed.new.host) (Held us c.args.options.now.tcp.items ∷ []) (g.H.Host.recorded c.hold.new.self)) c.deref.ensures.value
+    (subst (λ ts. Records (g.H.Host.recorded c.take_seed.new.host) (Held c.deref.result.now ts ∷ []) (g.H.Host.recorded c.hold.new.self)) c.deref-2.ensures.value c.in-Ok-hold.ensures) in
+    record {
+      rows = c.in-Ok.rows;
+      octets = seed.octets;
+      did = all_recorded _ _ _ _ _ _ _ _ _ c.in-Ok.ensures seed.did held c.in_ok-opening.ensures.looks;
+      first = c.in_ok-opening.ensures.first;
+      kdc = c.new.ensures.kdc ∙ c.in_ok-kdc.ensures.opened;
+      random = c.new.ensures.random ∙ ap (λ r. stream_of (steps_u32 (next_word 10)) r) c.from_seed-rng.ensures ∙ ap seeded seed.is;
+      accounts = c.new.ensures.accounts ∙ c.keeps_accounts.ensures;
+      connections = c.new.ensures.connections;
+      count = c.len-row_count.ensures;
+    }

@@ -1,0 +1,105 @@
+-- The processes of a server with a journal, one after the other, and the tickets that they send.
+use Rattle.std.specs.Prelude.{◌≡◌, ℤ, pos, ◌-ℤ◌, ◌≤ℤ◌, ⊤, Bool, List, [], ◌∷◌, ◌++◌, Option, None}
+use Rattle.std.specs.List.{flat_map}
+use Rattle.rand_core.specs.Stream.{Stream}
+use Rattle.krb_fields.specs.Name.{Components}
+use Rattle.krb_fields.specs.Skew.{skew}
+use Rattle.krb_fields.specs.declared.moment.Moment.{Moment}
+use Rattle.principal_rows.specs.declared.limits.Limits.{Limits}
+use Rattle.principals.specs.Database.{Principals}
+use Rattle.replay.specs.Run.{OneForEach}
+use Rattle.replay.specs.declared.opening.Opening.{Opening}
+use Rattle.replay.specs.declared.opening.Opening.TheVariants.{Restart}
+use Rattle.replay.specs.declared.seen.Resumption.{Resumption}
+use Rattle.kdc_state.specs.State.{opened_state}
+use Rattle.kdc_core.specs.NewlySeen.{AreUpTo, opening_resumption}
+use Rattle.kdc_core.specs.Tickets.{RestartsFollow}
+use Rattle.kdc_hub.specs.History.{Reopened, Resumed, Turn, after_turn, after_turns, events_in, tickets_sent}
+use Rattle.kdc_hub.specs.Hub.{Standing}
+use Rattle.kdc_hub.specs.Rounds.{did_in}
+use Rattle.kdc_serving.specs.Life.{ArePeriods, Period, rounds_in, turns_of}
+use Rattle.journal.specs.Decision.{Place, start_of}
+use Rattle.journal.specs.Holding.{HoldAll}
+use Rattle.journal.specs.declared.decision.Found.{Found}
+use Rattle.journal.specs.declared.decision.Found.TheVariants.{Whole}
+use Rattle.journal.specs.declared.decision.Start.{Start}
+use Rattle.journal.specs.declared.decision.Start.TheVariants.{Resumes, Refuses}
+use Rattle.journal.specs.declared.reading.Journal.{Journal}
+use Rattle.kdcd_run.specs.Handing.{all_seen, handed_in}
+
+-- A process that follows others: its rows, its limits, the moment of its start, what it made of the journals, its
+-- random octets, whether it keeps accounts, and its life.
+pub record Process : Type 0 where
+  pub database : Principals
+  pub limits : Limits
+  pub at : Moment
+  pub start : Start
+  pub random : Stream
+  pub accounts : Bool
+  pub periods : List Period
+
+-- how it begins
+abbrev pub beginning_by : Process → Start → Turn
+beginning_by p (Resumes r check) = Resumed p.database p.limits r p.random p.accounts
+beginning_by p (Refuses doubt) = Reopened p.database p.limits p.at p.random p.accounts
+
+abbrev pub beginning : Process → Turn
+beginning p = beginning_by p p.start
+
+-- what it begins with
+abbrev pub known_by : Process → Start → Resumption
+known_by p (Resumes r check) = r
+known_by p (Refuses doubt) = opening_resumption (Restart p.at)
+
+abbrev pub known_at : Process → Resumption
+known_at p = known_by p p.start
+
+-- what a process began with, and every authenticator that its journal was handed in its life
+abbrev pub known_after : Resumption → List Period → Resumption
+known_after r periods = record {
+  floor = r.floor;
+  seen = r.seen ++ all_seen (handed_in None (flat_map did_in (rounds_in periods)));
+}
+
+-- A start finds journals whose files hold all that the process before it knew, and its clock is behind nothing of them.
+-- It makes of them what `start_of` says.
+pub record FindsAll (r : Resumption) (at : Moment) (start : Start) : Type 0 where
+  pub older : Found
+  pub newer : Journal
+  pub low : ℤ
+  pub holds : HoldAll older newer low r
+  pub late : low ≤ℤ (at.sec -ℤ pos skew)
+  pub place : Place
+  pub moment : place.at ≡ at
+  pub decided : start ≡ start_of place older (Whole newer)
+
+-- A start may refuse for any reason, and it is no matter then what the journals hold. It resumes only with journals that
+-- hold all.
+abbrev pub MayStart : Resumption → Moment → Start → Type 0
+MayStart r at (Refuses doubt) = ⊤
+MayStart r at (Resumes found check) = FindsAll r at (Resumes found check)
+
+-- A process that began with this hub, knew this and lived so, and those that follow it. No start is before an event of
+-- the process before it.
+abbrev pub AreProcesses : Standing → Resumption → List Period → List Process → Type 0
+AreProcesses hub r periods [] = ArePeriods None hub periods
+AreProcesses hub r periods (p ∷ ps) =
+    ArePeriods None hub periods
+    × AreUpTo p.at.sec (events_in hub (flat_map turns_of periods))
+    × MayStart (known_after r periods) p.at p.start
+    × AreProcesses (after_turn (after_turns hub (flat_map turns_of periods)) (beginning p)) (known_at p) p.periods ps
+
+-- the history of all of them
+abbrev pub history : List Period → List Process → List Turn
+history periods [] = flat_map turns_of periods
+history periods (p ∷ ps) = flat_map turns_of periods ++ beginning p ∷ history p.periods ps
+
+-- No authenticator gets two different tickets, whichever process sends them: a start that can't resume refuses what may
+-- have come before, and one that resumes knows it. No start is before the second of an earlier request.
+abbrev pub OneTicketThroughRestarts : Type 0
+OneTicketThroughRestarts = (database : Principals) (limits : Limits) (opening : Opening) (hub : Standing)
+    (periods : List Period) (processes : List Process)
+    → hub.issuing.kdc ≡ opened_state database limits opening
+    → AreProcesses hub (opening_resumption opening) periods processes
+    → RestartsFollow (events_in hub (history periods processes)) → (c : Components)
+    → OneForEach (tickets_sent c hub (history periods processes))

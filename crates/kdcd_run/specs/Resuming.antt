@@ -1,0 +1,66 @@
+-- How a server with a journal starts.
+use Rattle.std.specs.Prelude.{◌≡◌, ◌||◌, not, ℕ, Bool, true, false, List, [], ◌∷◌, Option, Some, None, is_some}
+use Rattle.std.specs.FinMap as map
+use Rattle.std.specs.Option.{option_copied}
+use Rattle.krb_fields.specs.declared.moment.Moment.{Moment}
+use Rattle.principal_rows.specs.declared.limits.Limits.{Limits}
+use Rattle.principals.specs.Database.{Principals}
+use Rattle.replay.specs.declared.opening.Opening.{Opening}
+use Rattle.replay.specs.declared.opening.Opening.TheVariants.{First, Restart}
+use Rattle.kdc_state.specs.Resumed.{resumed_state}
+use Rattle.kdc_state.specs.State.{opened_state}
+use Rattle.kdc_state.specs.declared.state.State.{State}
+use Rattle.kdc_hub.specs.Hub.{Standing}
+use Rattle.kdc_hub.specs.Wire.{Records}
+use Rattle.journal.specs.Decision.{Place, start_of}
+use Rattle.journal.specs.declared.decision.Found.{Found}
+use Rattle.journal.specs.declared.decision.Found.TheVariants.{Nothing, Broken, Whole}
+use Rattle.journal.specs.declared.decision.Start.{Start}
+use Rattle.journal.specs.declared.decision.Start.TheVariants.{Resumes, Refuses}
+use Rattle.kdcd_run.specs.Starting.{HostDid, Held, ReadJournals, ReadRows, Showed, seed_by, seeded, seeding}
+use Rattle.kdcd_run.specs.declared.args.ServeOptions.{ServeOptions}
+use Rattle.kdcd_run.specs.declared.host.Journals.{Journals}
+
+abbrev pub is_there : Found → Bool
+is_there Nothing = false
+is_there Broken = true
+is_there (Whole journal) = true
+
+-- how the KDC is opened, where it can't resume
+abbrev pub opened_by : Bool → Moment → Opening
+opened_by true at = First
+opened_by false at = Restart at
+
+-- the state that a start begins with
+abbrev pub started_state : Principals → Limits → Opening → Start → State
+started_state rows limits opening (Resumes resumption check) = resumed_state rows limits resumption
+started_state rows limits opening (Refuses doubt) = opened_state rows limits opening
+
+-- a first start finds no journal
+abbrev pub may_be_first : Bool → Journals → Bool
+may_be_first is_first journals = not is_first || not (is_there journals.newer || is_there journals.older)
+
+-- it resumes exactly where the journals say so, by the realm of the rows, the boot and the moment
+pub record IsDecided (rows : Principals) (journals : Journals) (at : Moment) (start : Start) : Type 0 where
+  pub place : Place
+  pub realm : place.realm.now ≡ rows.realm
+  pub boot : place.boot.now ≡ journals.boot
+  pub moment : place.at ≡ at
+  pub is : start ≡ start_of place journals.older journals.newer
+
+-- What was asked of the host for these options, in this order: its sockets are held before the journals are read, and
+-- these before it looks at the clock. And the hub that is made of it.
+pub record IsJournaled (options : ServeOptions) (path : List ℕ) (before after : Option (List HostDid)) (hub : Standing)
+    (journals : Journals) (start : Start) (at : Moment) (row_count : ℕ) : Type 0 where
+  pub rows : Principals
+  pub octets : List ℕ
+  pub did : Records before
+      (ReadRows rows ∷ seeding (option_copied options.seed) octets ∷ Held options.udp.items options.tcp.items
+      ∷ ReadJournals path journals ∷ Showed at ∷ []) after
+  pub first : may_be_first options.is_first journals ≡ true
+  pub decided : IsDecided rows journals at start
+  pub kdc : hub.issuing.kdc ≡ started_state rows options.limits (opened_by options.is_first at) start
+  pub random : hub.issuing.random ≡ seeded (seed_by (option_copied options.seed) octets)
+  pub accounts : hub.issuing.accounts ≡ (is_some options.log || options.is_quiet)
+  pub connections : hub.connections ≡ map.empty
+  pub count : row_count ≡ map.len rows.rows

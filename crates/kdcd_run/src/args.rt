@@ -1,0 +1,357 @@
+//! The command line of `kdcd`: its subcommands, their options, and what `--help` says.
+use crate::request_lines::LogFormat;
+use clap::error::Error;
+use clap::{ArgMatches, Command};
+use command_options::{FlagRow, OptionRow, SubcommandRow, Times, subcommand, with_subcommands};
+use principal_rows::Limits;
+use std::alloc::{AllocError, AllocFailed, Global};
+use std::net::SocketAddr;
+use text_fields::number_u32;
+
+/// The options of a server.
+#[derive(Debug, Drop)]
+pub struct ServeOptions<'a> {
+    /// The path of the database's file.
+    pub db: &'a str,
+    /// The addresses that accept datagrams.
+    pub udp: Vec<SocketAddr>,
+    /// The addresses that accept connections.
+    pub tcp: Vec<SocketAddr>,
+    /// The number of rounds, or `None` to serve until a signal ends the process.
+    pub rounds: Option<u32>,
+    /// The path of the seed's file, or `None` to draw a seed from the system.
+    pub seed: Option<&'a str>,
+    pub limits: Limits,
+    /// Whether no request was ever answered with this database.
+    pub is_first: bool,
+    /// Whether TGS-REQs get no reply while all of them are refused.
+    pub is_quiet: bool,
+    /// The path of the journal's file, if there is one.
+    pub journal: Option<&'a str>,
+    /// Whether the database's file is read only once.
+    pub is_fixed: bool,
+    /// The format of the log on standard error, if there is one.
+    pub log: Option<LogFormat>,
+}
+
+/// Why the words after `serve` are refused.
+#[derive(Clone, Copy, Debug)]
+pub enum ArgsFault {
+    /// A usage error, in words.
+    BadUsage(&'static str),
+    Memory,
+}
+
+impl From<AllocError> for ArgsFault {
+    fn from(_: AllocError) -> ArgsFault {
+        ArgsFault::Memory
+    }
+}
+
+impl<T: Drop> From<AllocFailed<T>> for ArgsFault {
+    fn from(_: AllocFailed<T>) -> ArgsFault {
+        ArgsFault::Memory
+    }
+}
+
+/// The greatest number of addresses of one server.
+const MOST_ADDRESSES: usize = 8;
+
+const AFTER_HELP: &str = "\
+Without --rounds the server runs until a signal ends it. A round takes at most one event: a datagram, a new connection,
+a piece of what comes on one, or its end. If nothing comes, it waits a tenth of a second. After the last round it prints
+`served EVENTS FAULTS REFUSED`: the events, the socket calls that failed, and the events that ran out of memory. With
+--rounds 0 it opens everything and ends.
+
+Before each 16 rounds the server checks the file of the database. If the file changed, the server reads it and serves
+the new rows; replay caches and failed logins stay. If the file can't be read, is refused, or is of another realm
+(OtherRealm), the old rows stay. Standard error says so once, and the server looks again when the file changes again. A
+file that the system failed to read is read again after five seconds.
+
+Once it listens, standard error says where, which database with how many rows, until when TGS-REQs are refused, and the
+limits. Port 0 is one that the system chooses. If the clock goes back, a line a minute says which TGS-REQs are refused
+for that, and until when. With --log each request is a line: the time in UTC, the peer, udp or tcp, as or tgs, the
+client, the service, and the outcome: `ticket` with its lifetime, or `refused` with the error's code and a word for it;
+then rule=NAME for a refusal, and etype=, flags=, until= and renew= for a ticket. A line that can't be written is lost.
+
+With --journal the server appends each authenticator that enters a replay cache to FILE before it sends the reply. The
+next start reads FILE, refuses these authenticators, and refuses nothing else. It does so only if the journal is of this
+realm and of this boot of the system, whole, and not later than the clock. Otherwise it starts as without a journal, and
+standard error says why. FILE and FILE.old take turns every ten minutes. FILE.lock keeps a second server from FILE; it
+stays there. While FILE can't be written the server sends no reply, and standard error says so. --first is refused if
+there is a journal, since it is for the first start alone.
+
+Status: 0 after the last round; 1 if a file is refused (`refused NAME`: NotJson, BadVersion, BadRow, NoTicketGranter,
+ShortSeed, LongFile); 2 for a usage error; 3 if a file, a socket, the clock or memory failed (`failed`). Standard error
+says why the server did not start.";
+
+const SERVE: SubcommandRow = SubcommandRow {
+    name: "serve",
+    about: "Serves a realm over UDP and TCP",
+    options: &[
+        OptionRow {
+            name: "db",
+            shape: "FILE",
+            help: "The database, as `kadm` writes it",
+            times: Times::Once,
+        },
+        OptionRow {
+            name: "udp",
+            shape: "ADDRESS:PORT",
+            help: "Accept datagrams at this address, such as 127.0.0.1:88 or [::1]:88. At most 8 of --udp and --tcp in all",
+            times: Times::Any,
+        },
+        OptionRow {
+            name: "tcp",
+            shape: "ADDRESS:PORT",
+            help: "Accept connections at this address",
+            times: Times::Any,
+        },
+        OptionRow {
+            name: "rounds",
+            shape: "N",
+            help: "End after N rounds, 0 to 4294967295",
+            times: Times::AtMostOnce,
+        },
+        OptionRow {
+            name: "seed",
+            shape: "FILE",
+            help: "Make all session keys from the first 32 bytes of this file, new for each start (default: the system's)",
+            times: Times::AtMostOnce,
+        },
+        OptionRow {
+            name: "remembered",
+            shape: "N",
+            help: "Keep up to N authenticators in the replay cache of each client, 1 to 65536 (default 4096)",
+            times: Times::AtMostOnce,
+        },
+        OptionRow {
+            name: "lock-after",
+            shape: "N",
+            help: "Lock a client after N failed logins in a row (default 0: never). It needs --lock-seconds",
+            times: Times::AtMostOnce,
+        },
+        OptionRow {
+            name: "lock-seconds",
+            shape: "N",
+            help: "Lock it until N seconds after the last failure",
+            times: Times::AtMostOnce,
+        },
+        OptionRow {
+            name: "greatest-life",
+            shape: "N",
+            help: "Issue tickets with a lifetime of at most N seconds (default 36000)",
+            times: Times::AtMostOnce,
+        },
+        OptionRow {
+            name: "greatest-renewable",
+            shape: "N",
+            help: "Renew tickets for at most N seconds (default 604800)",
+            times: Times::AtMostOnce,
+        },
+        OptionRow {
+            name: "journal",
+            shape: "FILE",
+            help: "Append the authenticators of the replay caches to FILE, so that a restart refuses nothing else",
+            times: Times::AtMostOnce,
+        },
+        OptionRow {
+            name: "log-format",
+            shape: "FORMAT",
+            help: "Write a line to standard error for each request: text, or with json a JSON object",
+            times: Times::AtMostOnce,
+        },
+    ],
+    flags: &[
+        FlagRow {
+            name: "first",
+            help: "\
+                No request was ever answered with this database. Without it, TGS-REQs are refused with error 37 for 301 seconds",
+        },
+        FlagRow {
+            name: "quiet-start",
+            help: "Send no reply to a TGS-REQ while all are refused after the start, so that clients ask another KDC",
+        },
+        FlagRow {
+            name: "fixed",
+            help: "Read the database once, and never look at its file again",
+        },
+        FlagRow {
+            name: "log",
+            help: "The same as --log-format text",
+        },
+    ],
+};
+
+const SCRIPT: SubcommandRow = SubcommandRow {
+    name: "script",
+    about: "Runs a script from standard input",
+    options: &[],
+    flags: &[],
+};
+
+/// Reads the words of a command line, which begin with the program's name.
+pub fn read_args<'a>(alloc: Global, args: &'a [String]) -> Result<ArgMatches<'a>, Error> {
+    let kdcd = Command::new(alloc, "kdcd").about("A Kerberos KDC");
+    with_subcommands(alloc, kdcd, &[SCRIPT])?
+        .subcommand(subcommand(alloc, &SERVE)?.after_help(AFTER_HELP))?
+        .try_get_matches_from(args)
+}
+
+/// Reads the options after `serve`.
+pub fn serve_options<'a>(
+    alloc: Global,
+    args: &ArgMatches<'a>,
+) -> Result<ServeOptions<'a>, ArgsFault> {
+    let udp = addresses(
+        alloc,
+        args,
+        "udp",
+        "--udp takes an address and a port, as 127.0.0.1:88",
+    )?;
+    let tcp = addresses(
+        alloc,
+        args,
+        "tcp",
+        "--tcp takes an address and a port, as 127.0.0.1:88",
+    )?;
+    if let Some(fault) = count_fault(udp.len(), tcp.len()) {
+        return Err(ArgsFault::BadUsage(fault));
+    }
+    with_addresses(args, udp, tcp)
+}
+
+/// Reads the other options, and adds the addresses.
+fn with_addresses<'a>(
+    args: &ArgMatches<'a>,
+    udp: Vec<SocketAddr>,
+    tcp: Vec<SocketAddr>,
+) -> Result<ServeOptions<'a>, ArgsFault> {
+    let db = args
+        .get_str("db")
+        .ok_or(ArgsFault::BadUsage("--db is missing"))?;
+    let rounds = rounds(args)?;
+    let limits = limits(args)?;
+    if lacks_lock_time(args, &limits) {
+        return Err(ArgsFault::BadUsage(
+            "--lock-after needs --lock-seconds, for how long a client is locked, such as --lock-seconds 300",
+        ));
+    }
+    let log = log_format(args)?;
+    Ok(ServeOptions {
+        db,
+        udp,
+        tcp,
+        rounds,
+        seed: args.get_str("seed"),
+        limits,
+        is_first: args.get_flag("first"),
+        is_quiet: args.get_flag("quiet-start"),
+        journal: args.get_str("journal"),
+        is_fixed: args.get_flag("fixed"),
+        log,
+    })
+}
+
+/// Reads the format of the log, if there is to be one.
+fn log_format(args: &ArgMatches<'_>) -> Result<Option<LogFormat>, ArgsFault> {
+    match args.get_str("log-format") {
+        Some("text") => Ok(Some(LogFormat::Text)),
+        Some("json") => Ok(Some(LogFormat::Json)),
+        Some(_) => Err(ArgsFault::BadUsage("--log-format takes text or json")),
+        None if args.get_flag("log") => Ok(Some(LogFormat::Text)),
+        None => Ok(None),
+    }
+}
+
+/// Reads the addresses of an option that may be given more than once.
+fn addresses(
+    alloc: Global,
+    args: &ArgMatches<'_>,
+    name: &str,
+    fault: &'static str,
+) -> Result<Vec<SocketAddr>, ArgsFault> {
+    let mut addresses = Vec::new(alloc);
+    let Some(texts) = args.get_strs(name) else {
+        return Ok(addresses);
+    };
+    for text in texts {
+        match text.parse() {
+            Ok(address) => addresses.push(address)?,
+            Err(_) => return Err(ArgsFault::BadUsage(fault)),
+        }
+    }
+    Ok(addresses)
+}
+
+/// Returns what is wrong with these numbers of addresses, if anything is.
+fn count_fault(udp: usize, tcp: usize) -> Option<&'static str> {
+    if udp == 0 && tcp == 0 {
+        return Some("--udp or --tcp is needed: give at least one address");
+    }
+    if udp > MOST_ADDRESSES || tcp > MOST_ADDRESSES - udp {
+        return Some("--udp and --tcp may be given 8 times in all");
+    }
+    None
+}
+
+fn rounds(args: &ArgMatches<'_>) -> Result<Option<u32>, ArgsFault> {
+    let Some(word) = args.get_str("rounds") else {
+        return Ok(None);
+    };
+    match number_u32(word) {
+        Some(rounds) => Ok(Some(rounds)),
+        None => Err(ArgsFault::BadUsage("--rounds takes a number from 0 to 4294967295")),
+    }
+}
+
+const REMEMBERED_FAULT: &str = "--remembered takes a number from 1 to 65536";
+
+fn limits(args: &ArgMatches<'_>) -> Result<Limits, ArgsFault> {
+    let limits = Limits::new(
+        limit(args, "remembered", 4_096, REMEMBERED_FAULT)?,
+        limit(
+            args,
+            "lock-after",
+            0,
+            "--lock-after takes a number from 0 to 4294967295",
+        )?,
+        limit(
+            args,
+            "lock-seconds",
+            0,
+            "--lock-seconds takes a number from 0 to 4294967295",
+        )?,
+        limit(
+            args,
+            "greatest-life",
+            36_000,
+            "--greatest-life takes a number from 0 to 4294967295",
+        )?,
+        limit(
+            args,
+            "greatest-renewable",
+            604_800,
+            "--greatest-renewable takes a number from 0 to 4294967295",
+        )?,
+    );
+    limits.ok_or(ArgsFault::BadUsage(REMEMBERED_FAULT))
+}
+
+/// Checks whether clients are to be locked, and no option says for how long. They would never be.
+fn lacks_lock_time(args: &ArgMatches<'_>, limits: &Limits) -> bool {
+    limits.lock_after > 0 && args.get_str("lock-seconds").is_none()
+}
+
+/// Returns the number behind an option, or another if the option is not given.
+fn limit(
+    args: &ArgMatches<'_>,
+    name: &str,
+    otherwise: u32,
+    fault: &'static str,
+) -> Result<u32, ArgsFault> {
+    match args.get_str(name) {
+        Some(word) => number_u32(word).ok_or(ArgsFault::BadUsage(fault)),
+        None => Ok(otherwise),
+    }
+}

@@ -1,0 +1,182 @@
+//! Watching a clock that may go back.
+ghost use Rattle.std.specs.Prelude.{◌≡◌, None, Some};
+ghost use Rattle.kdcd_run.specs.Clocks as clocks;
+
+use kdc_core::Opening;
+use krb_fields::{Moment, SKEW, Second};
+use std::fmt;
+use text_fields::UtcDate;
+
+/// The seconds of a day.
+const DAY: i64 = 86_400;
+
+/// In seconds.
+const MINUTE: i64 = 60;
+
+/// The TGS-REQs that are refused because the clock shows an earlier time than before.
+#[derive(Clone, Copy, Debug, PartialEq, Eq)]
+pub enum Refused {
+    /// All of them, until this second.
+    All(i64),
+    /// Those of clients that were served at a later time, until this second.
+    ServedLater(i64),
+}
+
+impl fmt::Display for Refused {
+    fn fmt<W: fmt::Write>(&self, f: &mut fmt::Formatter<W>) -> fmt::Result {
+        let (whose, until) = match self {
+            Refused::All(until) => ("all TGS-REQs", *until),
+            Refused::ServedLater(until) => {
+                (
+                    "TGS-REQs of clients that were served at a later time",
+                    *until,
+                )
+            }
+        };
+        write!(f, "{whose} are refused")?;
+        match Second::new(until) {
+            Some(second) => write!(f, " until {}", UtcDate(second)),
+            None => Ok(()),
+        }
+    }
+}
+
+/// Returns which requests are refused right after a start.
+pub fn refused_at_start(opening: Opening) -> Option<Refused>
+    ensures { result ≡ clocks.refused_at_start opening }
+{
+    match opening {
+        Opening::First => None,
+        Opening::Restart(at) => Some(Refused::All(at.sec + SKEW + 1)),
+    }
+}
+
+/// A watch over a server's clock: when requests are refused because it went back, and when that was said last.
+#[derive(Clone, Copy, Debug, PartialEq, Eq)]
+pub struct ClockWatch {
+    /// When the server started, if it may have answered requests before.
+    started: Option<Moment>,
+    /// The latest moment that the clock showed.
+    latest: Option<Moment>,
+    /// When it was last said that requests are refused, while they are.
+    said: Option<Moment>,
+}
+
+impl ClockWatch {
+    /// Returns the watch of a server that starts so.
+    pub fn new(opening: Opening) -> ClockWatch
+        ensures { result ≡ record { started = clocks.restarted opening; latest = None; said = None } }
+    {
+        let started = match opening {
+            Opening::First => None,
+            Opening::Restart(at) => Some(at),
+        };
+        ClockWatch {
+            started,
+            latest: None,
+            said: None,
+        }
+    }
+
+    /// Takes the moment of an event. Returns which requests are refused, once a minute while they are.
+    pub fn take(&mut self, now: Moment) -> Option<Refused>
+        ensures said { result ≡ clocks.said_at self.old now }
+        ensures watched { self.new ≡ clocks.watched self.old now }
+    {
+        let refused = self.refused(now);
+        let is_due = is_due(&self.said, now);
+        self.latest = Some(later(&self.latest, now));
+        if refused.is_none() {
+            self.said = None;
+            return None;
+        }
+        if !is_due {
+            return None;
+        }
+        self.said = Some(now);
+        refused
+    }
+
+    /// Returns which requests are refused because the clock showed a later time before.
+    fn refused(&self, now: Moment) -> Option<Refused>
+        ensures { result ≡ clocks.refused_at self.now now.sec }
+    {
+        if let Some(until) = until_start(&self.started, now) {
+            return Some(Refused::All(until));
+        }
+        if let Some(until) = until_tidied(&self.latest, now) {
+            return Some(Refused::All(until));
+        }
+        match until_served(&self.latest, now) {
+            Some(until) => Some(Refused::ServedLater(until)),
+            None => None,
+        }
+    }
+}
+
+/// Returns until when all are refused after a restart, if the clock shows an earlier time than the skew before it.
+fn until_start(started: &Option<Moment>, now: Moment) -> Option<i64>
+    ensures { result ≡ clocks.until_start started.now now.sec }
+{
+    match started {
+        None => None,
+        Some(at) => {
+            if now.sec < at.sec - SKEW {
+                Some(at.sec + SKEW + 1)
+            } else {
+                None
+            }
+        }
+    }
+}
+
+/// Returns the second up to which a tidying at the latest moment forgets, if the clock shows an earlier one.
+fn until_tidied(latest: &Option<Moment>, now: Moment) -> Option<i64>
+    ensures { result ≡ clocks.until_tidied latest.now now.sec }
+{
+    match latest {
+        None => None,
+        Some(latest) => {
+            if now.sec < latest.sec - DAY {
+                Some(latest.sec - DAY)
+            } else {
+                None
+            }
+        }
+    }
+}
+
+/// Returns until when clients are refused that were served at the latest moment, if the clock shows an earlier second.
+fn until_served(latest: &Option<Moment>, now: Moment) -> Option<i64>
+    ensures { result ≡ clocks.until_served latest.now now.sec }
+{
+    match latest {
+        None => None,
+        Some(latest) => {
+            if now.sec < latest.sec - SKEW {
+                Some(latest.sec - SKEW)
+            } else {
+                None
+            }
+        }
+    }
+}
+
+/// Checks whether it has to be said again that requests are refused.
+fn is_due(said: &Option<Moment>, now: Moment) -> bool
+    ensures { result ≡ clocks.is_due said.now now.sec }
+{
+    match said {
+        None => true,
+        Some(said) => now.sec < said.sec || now.sec >= said.sec + MINUTE,
+    }
+}
+
+fn later(latest: &Option<Moment>, now: Moment) -> Moment
+    ensures { result ≡ clocks.later latest.now now }
+{
+    match latest {
+        None => now,
+        Some(latest) => { if latest.sec < now.sec { now } else { *latest } }
+    }
+}

@@ -1,0 +1,126 @@
+//! The files that a server reads: what it takes from them, and why it refuses them.
+ghost use Rattle.std.specs.Prelude.{◌≡◌, ◌≤◌, ◌<◌, IfErr, IfOk, Ok, length, option_map, take, vec_len};
+ghost use Rattle.principals_text.specs.Value.{text_database};
+ghost use Rattle.kdcd_run.specs.Refusal.{RefusesDatabase, refusal};
+ghost use Rattle.kdcd_run.specs.declared.files.FileFault.TheVariants.{Failed, ShortSeed};
+
+use principals::Database;
+use principals_text::{LONGEST_TEXT, ReadFault, fault_place};
+use std::alloc::{AllocError, Global};
+use std::io::Read;
+use std::{fmt, io, str};
+
+/// Why a file is refused, or could not be read.
+#[derive(Debug, Drop)]
+pub enum FileFault {
+    /// The file is too long.
+    LongFile,
+    /// The file of the seed has fewer than 32 bytes.
+    ShortSeed,
+    /// The text denotes no database.
+    Database(ReadFault),
+    /// The file could not be read, or memory ran out.
+    Failed(io::Error),
+}
+
+impl FileFault {
+    /// Returns the word for the refusal, unless the file could not be read.
+    pub fn refusal(&self) -> Option<&'static str>
+        ensures { option_map (λ word. word.now) result ≡ refusal self.now }
+    {
+        match self {
+            FileFault::LongFile => Some("LongFile"),
+            FileFault::ShortSeed => Some("ShortSeed"),
+            FileFault::Database(fault) => fault.refusal(),
+            FileFault::Failed(_) => None,
+        }
+    }
+}
+
+impl fmt::Display for FileFault {
+    fn fmt<W: fmt::Write>(&self, f: &mut fmt::Formatter<W>) -> fmt::Result {
+        match self {
+            FileFault::LongFile => f.write_str("it is longer than the maximum"),
+            FileFault::ShortSeed => f.write_str("it has fewer than 32 bytes"),
+            FileFault::Database(fault) => write!(f, "{fault}"),
+            FileFault::Failed(error) => write!(f, "{error}"),
+        }
+    }
+}
+
+impl From<io::Error> for FileFault {
+    ghost from_gives = { λ error fault. fault ≡ Failed error };
+
+    fn from(error: io::Error) -> FileFault {
+        FileFault::Failed(error)
+    }
+}
+
+impl From<AllocError> for FileFault {
+    fn from(error: AllocError) -> FileFault {
+        FileFault::Failed(io::Error::from(error))
+    }
+}
+
+/// Reads a whole file that is no longer than a database's text may be.
+pub fn read_whole<R: Read + Drop>(alloc: Global, file: R) -> Result<Vec<u8>, FileFault>
+    ensures { IfOk result (λ octets. vec_len octets ≤ 1073741824) }
+{
+    read_at_most(alloc, file, LONGEST_TEXT)
+}
+
+/// Reads a whole file of at most `most` bytes. It asks for one more, to see whether the file is longer.
+pub fn read_at_most<R: Read + Drop>(
+    alloc: Global,
+    file: R,
+    most: usize,
+) -> Result<Vec<u8>, FileFault>
+    ensures { IfOk result (λ octets. vec_len octets ≤ most) }
+{
+    let mut octets = Vec::new(alloc);
+    file.take((most as u64).saturating_add(1))
+        .read_to_end(&mut octets)?;
+    if octets.len() > most {
+        return Err(FileFault::LongFile);
+    }
+    Ok(octets)
+}
+
+/// Reads the bytes of a file as a database. Bytes that are not UTF-8 are no JSON.
+pub fn database_of(alloc: Global, octets: &[u8]) -> Result<Database, FileFault>
+    ensures ok { IfOk result (λ database. text_database octets.now ≡ Ok database) }
+    ensures fault { IfErr result (λ fault. RefusesDatabase octets.now fault) }
+{
+    let Ok(text) = str::from_utf8(octets) else {
+        return Err(FileFault::Database(ReadFault::NotJson));
+    };
+    match principals_text::read(alloc, text) {
+        Ok(database) => Ok(database),
+        Err(fault) => Err(FileFault::Database(fault)),
+    }
+}
+
+/// Returns where the bytes of a refused database are wrong, if that can be found. It never contains a key.
+pub fn place_of(alloc: Global, octets: &[u8], fault: &FileFault) -> Option<String> {
+    let FileFault::Database(ReadFault::NotJson | ReadFault::BadRow) = fault else {
+        return None;
+    };
+    let Ok(text) = str::from_utf8(octets) else {
+        return None;
+    };
+    match fault_place(alloc, text) {
+        Ok(place) if !place.is_empty() => Some(place),
+        Ok(_) | Err(AllocError) => None,
+    }
+}
+
+/// Returns the seed that a file holds: its first 32 octets.
+pub fn seed_of(octets: &[u8]) -> Result<[u8; 32], FileFault>
+    ensures seed { IfOk result (λ seed. (32 ≤ length octets.now) × (seed ≡ take 32 octets.now)) }
+    ensures short { IfErr result (λ fault. (length octets.now < 32) × (fault ≡ ShortSeed)) }
+{
+    match octets.first_chunk::<32>() {
+        Some(seed) => Ok(*seed),
+        None => Err(FileFault::ShortSeed),
+    }
+}

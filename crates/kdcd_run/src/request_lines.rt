@@ -1,0 +1,157 @@
+//! The lines of a server's log.
+ghost use Rattle.std.specs.Prelude.{◌≡◌, IfOk, OnOk, option_copied};
+ghost use Rattle.std.specs.Io.KnownBytes.{Appends};
+ghost use Rattle.kdcd_run.specs.Log.{LogsLine, TriesLine, TriesLost, entry_line, line_of, peer_text, written};
+
+use crate::logged_wire::LogWriter;
+use kdc_hub::Account;
+use krb_fields::Moment;
+use request_log::{Asker, Field, Transport, entry, json_line, text_line};
+use std::alloc::{AllocError, Global};
+use std::io;
+use std::io::Write;
+use std::net::SocketAddr;
+
+/// The format of the lines of a log.
+#[derive(Clone, Copy, Debug, PartialEq, Eq)]
+pub enum LogFormat {
+    /// Fields with a space between two of them.
+    Text,
+    /// One JSON object each.
+    Json,
+}
+
+/// A log with a line for each request. A line that can't be made or written is lost and counted. The next one that is
+/// written has a line in front of it that says how many were lost.
+#[derive(Drop)]
+pub struct RequestLines<W> {
+    lines: W,
+    format: LogFormat,
+    lost: u64,
+    /// How many of these no line has reported yet.
+    unreported: u64,
+}
+
+impl<W: Write + Drop> RequestLines<W> {
+    pub fn new(lines: W, format: LogFormat) -> RequestLines<W> {
+        RequestLines {
+            lines,
+            format,
+            lost: 0,
+            unreported: 0,
+        }
+    }
+
+    /// Returns the writer of the lines.
+    pub fn lines(&self) -> &W {
+        &self.lines
+    }
+
+    /// Returns how many lines were lost. The count stops at the greatest `u64`.
+    pub fn lost(&self) -> u64 {
+        self.lost
+    }
+
+    /// Returns how many lost lines no line has reported yet.
+    pub fn unreported(&self) -> u64 {
+        self.unreported
+    }
+}
+
+impl<W: Write> RequestLines<W> {
+    /// Writes the line of an entry, and in front of it how many lines were lost, if any were.
+    fn try_entry(
+        &mut self,
+        alloc: Global,
+        at: Moment,
+        asker: Asker,
+        account: Option<&Account>,
+    ) -> io::Result<()>
+        ensures { TriesLine W.contents self.old self.new (entry_line self.old.format
+            (record { at = at; asker = asker; account = option_copied account.entry })) result }
+    {
+        let line = asked_line(alloc, self.format, at, asker, account)?;
+        self.report_lost()?;
+        self.write_line(&line)
+    }
+
+    /// Writes how many lines were lost since the last report, if any were.
+    fn report_lost(&mut self) -> io::Result<()>
+        ensures { TriesLost W.contents self.old self.new result }
+    {
+        if self.unreported == 0 {
+            return Ok(());
+        }
+        writeln!(self.lines, "kdcd: log: {} lines are lost", self.unreported)?;
+        self.unreported = 0;
+        Ok(())
+    }
+
+    fn write_line(&mut self, line: &[u8]) -> io::Result<()>
+        ensures lines { OnOk result (Appends (W.contents self.old.lines) (W.contents self.new.lines) line.now) }
+        ensures others { self.new ≡ record self.old { lines = self.new.lines } }
+    {
+        self.lines.write_all(line)
+    }
+}
+
+impl<W: Write> LogWriter for RequestLines<W> {
+    ghost Logs = { LogsLine W.contents };
+
+    fn write_entry(&mut self, alloc: Global, at: Moment, asker: Asker, account: Option<&Account>) {
+        if self.try_entry(alloc, at, asker, account).is_err() {
+            self.lost = self.lost.saturating_add(1);
+            self.unreported = self.unreported.saturating_add(1);
+        }
+    }
+}
+
+/// Returns the line for a request of this asker.
+fn asked_line(
+    alloc: Global,
+    format: LogFormat,
+    at: Moment,
+    asker: Asker,
+    account: Option<&Account>,
+) -> Result<Vec<u8>, AllocError>
+    ensures { IfOk result (λ line. line.items ≡ entry_line format
+        (record { at = at; asker = asker; account = option_copied account.entry })) }
+{
+    let peer = peer_text(alloc, asker.peer)?;
+    line_of(alloc, format, at, peer.as_bytes(), asker.transport, account)
+}
+
+fn peer_text(alloc: Global, peer: Option<SocketAddr>) -> Result<String, AllocError>
+    ensures { IfOk result (λ text. text.bytes.items ≡ peer_text peer) }
+{
+    match peer {
+        Some(peer) => format!(in alloc; "{peer}"),
+        None => format!(in alloc; "-"),
+    }
+}
+
+/// Returns the line for a request that came at a moment from a peer, whose address is given as text.
+pub fn line_of(
+    alloc: Global,
+    format: LogFormat,
+    at: Moment,
+    peer: &[u8],
+    transport: Transport,
+    account: Option<&Account>,
+) -> Result<Vec<u8>, AllocError>
+    ensures { IfOk result (λ line.
+        line.items ≡ line_of format at peer.now transport (option_copied account.entry)) }
+{
+    let fields = entry(alloc, at, peer, transport, account)?;
+    written(alloc, format, &fields)
+}
+
+/// Returns the line of an entry.
+fn written(alloc: Global, format: LogFormat, fields: &[Field]) -> Result<Vec<u8>, AllocError>
+    ensures { IfOk result (λ line. line.items ≡ written format fields.now) }
+{
+    match format {
+        LogFormat::Text => text_line(alloc, fields),
+        LogFormat::Json => json_line(alloc, fields),
+    }
+}

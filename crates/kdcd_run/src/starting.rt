@@ -1,0 +1,163 @@
+//! Starting a server as its options say.
+ghost use Rattle.std.specs.Prelude.{◌≡◌, ◌||◌, IfOk, Some, is_some};
+ghost use Rattle.std.specs.Option.{option_copied};
+ghost use Rattle.kdc_hub.specs.Hub.{standing};
+ghost use Rattle.kdc_hub.specs.Wire.{Records};
+ghost use Rattle.rand_core.specs.Steps.{steps_u32, stream_of};
+ghost use Rattle.rand_chacha.specs.ChaCha.{next_word};
+ghost use Rattle.kdcd_run.specs.Starting.{IsReady, IsSeed, is_first, looks};
+
+use crate::args::ServeOptions;
+use crate::files::{FileFault, seed_of};
+use crate::host::Host;
+use kdc_core::{Kdc, Opening};
+use kdc_hub::Hub;
+use rand_chacha::ChaCha20Rng;
+use rand_core::SeedableRng;
+use std::alloc::{AllocError, Global};
+use std::{fmt, io};
+
+/// Why a server did not start.
+#[derive(Debug, Drop)]
+pub enum StartFault<'a, S> {
+    /// The file at this path.
+    File(&'a str, FileFault),
+    /// The system's source of random octets.
+    Random(io::Error),
+    /// Standard error.
+    Errors(io::Error),
+    Clock(io::Error),
+    Sockets(S),
+    /// The start is to be the first, and there is a journal at this path.
+    NotFirst(&'a str),
+    Memory,
+}
+
+impl<S: fmt::Display> fmt::Display for StartFault<'_, S> {
+    fn fmt<W: fmt::Write>(&self, f: &mut fmt::Formatter<W>) -> fmt::Result {
+        match self {
+            StartFault::File(path, fault) => write!(f, "{path}: {fault}"),
+            StartFault::Random(error) => write!(f, "random octets: {error}"),
+            StartFault::Errors(error) => write!(f, "standard error: {error}"),
+            StartFault::Clock(error) => write!(f, "the clock: {error}"),
+            StartFault::Sockets(fault) => write!(f, "{fault}"),
+            StartFault::NotFirst(path) => {
+                write!(
+                    f,
+                    "--first is for the first start alone, and there is a journal {path}; start without --first"
+                )
+            }
+            StartFault::Memory => f.write_str("out of memory"),
+        }
+    }
+}
+
+impl<S> From<AllocError> for StartFault<'_, S> {
+    fn from(_: AllocError) -> Self {
+        StartFault::Memory
+    }
+}
+
+impl<S> StartFault<'_, S> {
+    /// Returns the word for the refusal, if a file was read and is refused.
+    pub fn refusal(&self) -> Option<&'static str> {
+        match self {
+            StartFault::File(_, fault) => fault.refusal(),
+            _ => None,
+        }
+    }
+}
+
+/// A server that has its sockets, before its first round.
+#[derive(Drop)]
+pub struct ReadyServer<S> {
+    pub hub: Hub<ChaCha20Rng>,
+    pub sockets: S,
+    /// How its KDC started.
+    pub opening: Opening,
+    /// The number of rows that it serves.
+    pub row_count: usize,
+}
+
+/// Starts a server as its options say. It reads the database and the seed, opens its sockets, and only then reads the
+/// clock. So no earlier process answers a request after the moment of a restart.
+pub fn start_server<'a, H: Host>(
+    alloc: Global,
+    host: &mut H,
+    options: &ServeOptions<'a>,
+) -> Result<ReadyServer<H::Sockets>, StartFault<'a, H::SocketFault>>
+    ensures { IfOk result (λ ready.
+        IsReady options.now (H.recorded host.old) (H.recorded host.new)
+        (standing (stream_of (steps_u32 (next_word 10))) ready.hub) ready.opening ready.row_count) }
+{
+    let rows = match host.read_rows(alloc) {
+        Ok(rows) => rows,
+        Err(fault) => return Err(StartFault::File(options.db, fault)),
+    };
+    let row_count = rows.len();
+    let seed = take_seed(alloc, host, options.seed)?;
+    let sockets = match host.hold(alloc, &options.udp, &options.tcp) {
+        Ok(sockets) => sockets,
+        Err(fault) => return Err(StartFault::Sockets(fault)),
+    };
+    let opening = take_opening(host, options.is_first)?;
+    let kdc = Kdc::open(alloc, rows, options.limits, opening)?;
+    let rng = ChaCha20Rng::from_seed(seed);
+    Ok(ReadyServer {
+        hub: Hub::new(alloc, kdc, rng, keeps_accounts(options)),
+        sockets,
+        opening,
+        row_count,
+    })
+}
+
+/// Checks whether the log or a quiet start needs the account of each request.
+pub(crate) fn keeps_accounts(options: &ServeOptions<'_>) -> bool
+    ensures { result ≡ (is_some options.now.log || options.now.is_quiet) }
+{
+    options.log.is_some() || options.is_quiet
+}
+
+/// Takes the seed: the first 32 octets of the file at a path, or 32 octets that the system draws.
+pub(crate) fn take_seed<'a, H: Host>(
+    alloc: Global,
+    host: &mut H,
+    path: Option<&'a str>,
+) -> Result<[u8; 32], StartFault<'a, H::SocketFault>>
+    ensures { IfOk result (λ seed. IsSeed (option_copied path.entry) (H.recorded host.old) (H.recorded host.new) seed) }
+{
+    let Some(path) = path else {
+        return match host.draw() {
+            Ok(seed) => Ok(seed),
+            Err(error) => Err(StartFault::Random(error)),
+        };
+    };
+    match read_seed(alloc, host, path) {
+        Ok(seed) => Ok(seed),
+        Err(fault) => Err(StartFault::File(path, fault)),
+    }
+}
+
+fn read_seed<H: Host>(alloc: Global, host: &mut H, path: &str) -> Result<[u8; 32], FileFault>
+    ensures { IfOk result (λ seed. IsSeed (Some path.now) (H.recorded host.old) (H.recorded host.new) seed) }
+{
+    let octets = host.read_seed(alloc, path)?;
+    seed_of(&octets)
+}
+
+/// Returns how the server starts: for the first time, or again at the moment that the clock shows.
+fn take_opening<'a, H: Host>(
+    host: &mut H,
+    starts_first: bool,
+) -> Result<Opening, StartFault<'a, H::SocketFault>>
+    ensures first { IfOk result (λ opening. is_first opening ≡ starts_first) }
+    ensures looks { IfOk result (λ opening. Records (H.recorded host.old) (looks opening) (H.recorded host.new)) }
+{
+    if starts_first {
+        return Ok(Opening::First);
+    }
+    match host.now() {
+        Ok(at) => Ok(Opening::Restart(at)),
+        Err(error) => Err(StartFault::Clock(error)),
+    }
+}

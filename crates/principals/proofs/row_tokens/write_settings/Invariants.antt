@@ -1,6 +1,0 @@
-use Rattle.std.proofs.Common.{take}
-use Rattle.principals.specs.Tokens.{IsLonger, settings_tokens}
-use Rattle.principals.proofs.row_tokens.write_settings.Given as goal
-
-abbrev pub invariant-loop-setting : goal.invariant-loop-setting
-invariant-loop-setting l = IsLonger l.initial.out l.out (settings_tokens (take l.setting-index l.settings))

@@ -1,8 +1,0 @@
-use Rattle.std.proofs.lemmas.Result.{on_ok_weaker}
-use Rattle.principals.proofs.RowTokens.{one_more, if_one_more, chain}
-use Rattle.principals.proofs.row_tokens.write_version.Goals as goal
-
-pub returns : goal.returns
-returns c =
-    on_ok_weaker c.end_object.result (λ e. chain (one_more c.in_ok-begin_object.ensures) (chain (one_more c.in_ok-key.ensures) (chain c.in_ok-write_keys.ensures (chain c.in_ok-write_number.ensures e))))
-    (if_one_more c.end_object.result _ _ _ c.end_object.ensures)

@@ -1,0 +1,13 @@
+pub mod DatabaseReadBack
+pub mod Kept
+pub mod KeptRows
+pub mod Members
+pub mod NameTexts
+pub mod NextMembers
+pub mod ReadBack
+pub mod RowByRow
+pub mod RowEntries
+pub mod RowTokens
+pub mod Shapes
+pub mod TakenTokens
+pub mod Values

@@ -1,0 +1,12 @@
+pub mod Ahead
+pub mod Format
+pub mod NameOf
+pub mod ReadBack
+pub mod ReadFault
+pub mod RefusalWord
+pub mod RowValue
+pub mod RowWritten
+pub mod Taken
+pub mod Tokens
+pub mod Value
+pub mod Written
