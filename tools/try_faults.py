@@ -352,6 +352,16 @@ def try_journal(trial):
     try_kills(trial, buyer)
     try_doubts(trial, folder / "journal", buyer)
     try_full(trial, folder, buyer)
+    try_quiet(trial, buyer)
+
+
+def try_quiet(trial, buyer):
+    """A start that resumes nothing refuses tickets for services. With --quiet-start it does not answer these requests."""
+    for words, wanted in (("", "37"), ("--quiet-start", "none")):
+        server = trial.serve(words)
+        found = buyer.buy(server, tries=1)
+        trial.note(f"a TGS-REQ after a start with '{words}' gets {wanted}", "" if found == wanted else f"it gets {found}")
+        server.end()
 
 
 def try_restarts(trial, buyer):

@@ -291,7 +291,7 @@ def try_limits(trial):
             kdcd serve --db . --udp 127.0.0.1:0 -> 3 =failed
             kdcd serve --db database --seed short --udp 127.0.0.1:0 -> 1 =refused ShortSeed; short: 
             kdcd serve --db database --seed none --udp 127.0.0.1:0 -> 3 =failed; none: No such file
-            kdcd serve --db database --seed /dev/zero --udp 127.0.0.1:0 -> 1 =refused LongFile; /dev/zero: it has more octets
+            kdcd serve --db database --seed /dev/zero --udp 127.0.0.1:0 -> 1 =refused LongFile; /dev/zero: it is longer than the maximum
         """)
     served = trial.serve("--first --remembered 1")
     trial.cases("KINIT u --password-file pw -> 0 =ok\nKVNO h -> 0 =h kvno 1\nKVNO host/n -> 1 =refused 29")
@@ -588,6 +588,8 @@ def try_change(trial):
     trial.cases("KINIT u --password-file other -> 0 =ok")
     trial.run("mv kept database")
     change("kadm add --db database --name w --password-file pw", "25")
+    # The other server looked again by then, too.
+    time.sleep(SERVED_WITHIN)
     found = fixed.answer("w")
     trial.note("--fixed: no change is served", "" if found == "6" else found)
     try_without_files(trial, served)
