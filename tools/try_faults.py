@@ -14,6 +14,7 @@ import functools
 import json
 import pathlib
 import random
+import re
 import resource
 import shutil
 import signal
@@ -492,8 +493,8 @@ def preloaded(trial):
 
 
 def contents(folder):
-    """The files of a folder, without locks and counts."""
-    kept = (each for each in folder.iterdir() if each.suffix not in (".lock", ".c", ".so") and each.name != "counted")
+    """The files of a folder, without locks, counts and the logs of servers."""
+    kept = (each for each in folder.iterdir() if each.suffix not in (".lock", ".c", ".so") and not re.fullmatch(r"counted|log\d+", each.name))
     return {each.name: each.read_bytes() for each in kept}
 
 
@@ -511,7 +512,7 @@ def put_back(folder, before):
 
 def refuse_each(trial, environment, words, places, given="", status=3, out=None):
     """Lets allocations of a command fail, one in each run. The command ends with this status and leaves all files unchanged, or does all of its
-    work without that allocation, or prints `out`."""
+    work without that allocation, or prints `out`. Or all is done but the last line on standard output: it ends with this status and says so."""
     before, faults, done = contents(trial.folder), [], 0
     whole = trial.run(words, given=given, env=environment)
     if whole.status != 0:
@@ -523,8 +524,10 @@ def refuse_each(trial, environment, words, places, given="", status=3, out=None)
         ran = trial.run(words, given=given, env={**environment, "REFUSED": str(number)})
         is_whole = ran.status == 0 and ran.out in (whole.out, out) and contents(trial.folder).keys() == after
         done += is_whole
-        if not is_whole and (ran.status != status or contents(trial.folder) != before):
-            changed = sorted(contents(trial.folder).keys() ^ before.keys())
+        is_silent = ran.status == status and ran.err.endswith("standard output: out of memory\n") and contents(trial.folder).keys() == after
+        if not (is_whole or is_silent) and (ran.status != status or contents(trial.folder) != before):
+            now = contents(trial.folder)
+            changed = sorted(name for name in now.keys() | before.keys() if now.get(name) != before.get(name))
             faults.append(f"{number}: {ran.fault(status)}, {ran.out[:80]!r}, {ran.err[:80]!r}, files {changed}")
     put_back(trial.folder, before)
     trial.run(words, given=given)
