@@ -24,7 +24,11 @@ inserted old octets at i within fits =
     ∙ sym (ap (λ (l : List ℕ). l ++ rest) (take_more octets i 0 fits) ∙ append_assoc so_far (x ∷ []) rest))
 
 pub loop-i-preserved : goal.loop-i-preserved
-loop-i-preserved c =
-    c.in_ok-insert.ensures.items
-    ∙ ap (λ (l : List ℕ). insert l (c.args.at + c.loop-i.i) (get_or c.args.octets.now c.loop-i.i 0)) c.loop-i.invariant
-    ∙ inserted c.args.out.now.items c.args.octets.now c.args.at c.loop-i.i c.requires.within (omega arith)
+loop-i-preserved c = record {
+  told =
+      c.in_ok-insert.ensures.items
+      ∙ ap (λ (l : List ℕ). insert l (c.args.at + c.loop-i.i) (get_or c.args.octets.now c.loop-i.i 0))
+      c.loop-i.invariant.told
+      ∙ inserted c.args.out.now.items c.args.octets.now c.args.at c.loop-i.i c.requires.within (omega arith);
+  room = omega (arith, c.insert.ensures.capacity, c.in_ok-insert.ensures.len);
+}
