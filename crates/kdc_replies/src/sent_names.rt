@@ -2,6 +2,7 @@
 ghost use Rattle.std.specs.Prelude.{◌≡◌, ◌<◌, ◌^◌, ◌++◌, length, OnOk};
 ghost use Rattle.krb_elements.specs.Codec.{list_of, string};
 ghost use Rattle.krb_elements.specs.CodecLaws.{AllFit};
+ghost use Rattle.krb_elements.specs.Continues.{Continues};
 ghost use Rattle.krb_elements.specs.Written.{items_text};
 
 use krb_der::Writer;
@@ -57,6 +58,7 @@ fn put_components<'a>(
     requires { length (items_text string.tag string.text components.now) < 2 ^ 32 }
     ensures ok { OnOk result (out.new ≡ out.old ++ items_text string.tag string.text components.now) }
     ensures fits { OnOk result (AllFit string.Fits components.now) }
+    ensures kept { Continues out.old out.new }
 {
     for component in components.iter() {
         component.put(out)?;

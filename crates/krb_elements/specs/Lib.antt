@@ -2,6 +2,7 @@ pub mod Sent
 pub mod Format
 pub mod Spells
 pub mod Written
+pub mod Continues
 pub mod Simple
 pub mod FieldReading
 pub mod Codec

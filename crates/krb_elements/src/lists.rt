@@ -5,6 +5,7 @@ ghost use Rattle.krb_elements.specs.Format.{Looks, Sees, items_of, values};
 ghost use Rattle.krb_elements.specs.Written.{items_text};
 ghost use Rattle.krb_elements.specs.Codec.{list_of};
 ghost use Rattle.krb_elements.specs.CodecLaws.{AllFit};
+ghost use Rattle.krb_elements.specs.Continues.{Continues};
 
 use crate::codec::{Coded, MakeOwned};
 use crate::reading::{Decode, look_all};
@@ -122,6 +123,7 @@ fn write_items<T: Encode>(out: &mut Writer, items: &[T]) -> Result<(), AllocErro
     requires { length (items_text T.codec.tag T.codec.text items.now) < 2 ^ 32 }
     ensures ok { OnOk result (out.new ≡ out.old ++ items_text T.codec.tag T.codec.text items.now) }
     ensures fits { OnOk result (AllFit T.codec.Fits items.now) }
+    ensures kept { Continues out.old out.new }
 {
     for item in items {
         item.put(out)?;

@@ -4,6 +4,7 @@ ghost use Rattle.krb_der.specs.Spelling.{tlv};
 ghost use Rattle.krb_elements.specs.Written.{field_text, maybe_text};
 ghost use Rattle.krb_elements.specs.Codec.{written, sequence, in_tag, fields_text, fields_onto, FitFields};
 ghost use Rattle.krb_elements.specs.Spells.{Inside};
+ghost use Rattle.krb_elements.specs.Continues.{Continues};
 
 use crate::codec::{Coded, Fielded, Round};
 use krb_der::Writer;
@@ -14,21 +15,24 @@ const USUAL_LEN: usize = 1_024;
 
 /// A value that can be written.
 pub trait Encode: Coded {
-    /// Appends the value. After an `Err` a part of it may have been appended.
+    /// Appends the value. After an `Err` a part of it may follow what was written before.
     fn put(&self, out: &mut Writer) -> Result<(), AllocError>
         requires { length (Self.codec.text self.now) < 2 ^ 32 }
         ensures ok { OnOk result (out.new ≡ out.old ++ tlv Self.codec.tag (Self.codec.text self.now)) }
         // Its numbers are in range.
-        ensures fits { OnOk result (Self.codec.Fits self.now) };
+        ensures fits { OnOk result (Self.codec.Fits self.now) }
+        // What was written before stands, also after an `Err`.
+        ensures kept { Continues out.old out.new };
 }
 
 /// The same for a type that consists of fields.
 pub trait EncodeFields: Fielded {
-    /// Appends the fields in order. After an `Err` a part of them may have been appended.
+    /// Appends the fields in order. After an `Err` a part of them may follow what was written before.
     fn put_fields(&self, out: &mut Writer) -> Result<(), AllocError>
         requires { length (fields_text Self.form self.now) < 2 ^ 32 }
         ensures ok { OnOk result (out.new ≡ fields_onto Self.form out.old self.now) }
-        ensures fits { OnOk result (FitFields Self.form self.now) };
+        ensures fits { OnOk result (FitFields Self.form self.now) }
+        ensures kept { Continues out.old out.new };
 }
 
 impl<T: EncodeFields> Encode for T {
@@ -68,6 +72,7 @@ pub fn write_field<T: Encode>(out: &mut Writer, n: u8, value: &T) -> Result<(), 
     requires short { length (field_text (160 + n) T.codec.tag (T.codec.text value.now)) < 2 ^ 32 }
     ensures ok { OnOk result (out.new ≡ out.old ++ field_text (160 + n) T.codec.tag (T.codec.text value.now)) }
     ensures fits { OnOk result (T.codec.Fits value.now) }
+    ensures kept { Continues out.old out.new }
 {
     let start = out.len();
     out.begin(0xa0 + n)?;
@@ -86,6 +91,7 @@ pub fn write_optional<T: Encode>(
     requires short { length (maybe_text (160 + n) T.codec.tag T.codec.text value.now) < 2 ^ 32 }
     ensures ok { OnOk result (out.new ≡ out.old ++ maybe_text (160 + n) T.codec.tag T.codec.text value.now) }
     ensures fits { OnOk result (IfSome value.now T.codec.Fits) }
+    ensures kept { Continues out.old out.new }
 {
     match value {
         None => Ok(()),
@@ -99,6 +105,7 @@ fn put_made<T: EncodeFields>(out: &mut Writer, value: &T) -> Result<(), AllocErr
     ensures ok { OnOk result (out.new ≡ out.old ++ tlv (in_tag T.In.TAG (sequence T.form)).tag
         ((in_tag T.In.TAG (sequence T.form)).text value.now)) }
     ensures fits { OnOk result ((in_tag T.In.TAG (sequence T.form)).Fits value.now) }
+    ensures kept { Continues out.old out.new }
 {
     match T::In::TAG {
         None => put_sequence(out, value),
@@ -112,6 +119,7 @@ fn put_tagged<T: EncodeFields>(out: &mut Writer, tag: u8, value: &T) -> Result<(
     requires { length (tlv 48 (fields_text T.form value.now)) < 2 ^ 32 }
     ensures ok { OnOk result (out.new ≡ out.old ++ tlv tag (tlv 48 (fields_text T.form value.now))) }
     ensures fits { OnOk result (FitFields T.form value.now) }
+    ensures kept { Continues out.old out.new }
 {
     let start = out.len();
     out.begin(tag)?;
@@ -125,6 +133,7 @@ fn put_sequence<T: EncodeFields>(out: &mut Writer, value: &T) -> Result<(), Allo
     requires { length (fields_text T.form value.now) < 2 ^ 32 }
     ensures ok { OnOk result (out.new ≡ out.old ++ tlv 48 (fields_text T.form value.now)) }
     ensures fits { OnOk result (FitFields T.form value.now) }
+    ensures kept { Continues out.old out.new }
 {
     let start = out.len();
     out.begin(0x30)?;

@@ -1,6 +1,7 @@
 //! KDC-REP (RFC 4120, section 5.4.2): AS-REP and TGS-REP.
 ghost use Rattle.std.specs.Prelude.{◌≡◌, ◌<◌, ◌^◌, ◌++◌, length, IfOk, IsOkAnd, OnOk, option_map};
 ghost use Rattle.krb_elements.specs.Format.{Looks, Sees, inside, whole};
+ghost use Rattle.krb_elements.specs.Continues.{Continues};
 ghost use Rattle.krb_elements.specs.Written.{field_text};
 ghost use Rattle.krb_messages.specs.Ticket.{ticket};
 ghost use Rattle.krb_elements.specs.Codec.{itself};
@@ -113,7 +114,8 @@ fn take_type<const TYPE: u8>(fields: &mut Reader<'_>) -> Result<(), DerFault>
 /// Writes the field with the message type.
 fn write_type<const TYPE: u8>(out: &mut Writer) -> Result<(), AllocError>
     requires { length (field_text 161 (message_type TYPE).tag ((message_type TYPE).text tt)) < 2 ^ 32 }
-    ensures { OnOk result (out.new ≡ out.old ++ field_text 161 (message_type TYPE).tag ((message_type TYPE).text tt)) }
+    ensures ok { OnOk result (out.new ≡ out.old ++ field_text 161 (message_type TYPE).tag ((message_type TYPE).text tt)) }
+    ensures kept { Continues out.old out.new }
 {
     write_field(out, 1, &i32::from(TYPE & 0x1f))
 }

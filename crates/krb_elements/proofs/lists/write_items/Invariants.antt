@@ -1,6 +1,7 @@
 use Rattle.std.proofs.Common.{◌≡◌, ◌++◌, ◌<◌, ◌^◌, length, drop}
 use Rattle.krb_elements.specs.CodecLaws.{AllFit}
 use Rattle.krb_elements.specs.Written.{items_text}
+use Rattle.krb_elements.specs.Continues.{Continues}
 use Rattle.krb_elements.proofs.lists.write_items.Given as goal
 
 abbrev pub invariant-loop-item : goal.invariant-loop-item
@@ -10,4 +11,5 @@ invariant-loop-item g l =
       told : l.out ++ text (drop l.item-index l.items) ≡ l.fn.out ++ text l.items;
       short : length (text (drop l.item-index l.items)) < 2 ^ 32;
       fits : AllFit g.T.Coded.codec.Fits (drop l.item-index l.items) → AllFit g.T.Coded.codec.Fits l.items;
+      kept : Continues l.fn.out l.out;
     }
