@@ -3,6 +3,7 @@
 
 mod encrypting;
 mod keys;
+mod places;
 mod ready_keys;
 
 ghost use Rattle.std.specs.Prelude.{◌≡◌, ◌<◌, ◌≤◌, ◌+◌, ◌^◌, length, Some, IfOk, IfSome};
