@@ -58,7 +58,7 @@ pub fn as_answer(
     // If they encode an AS-REP, the client's key and the service's key decrypt it to the same contents.
     ensures same { IfOk result (λ answer. Opens view.now incoming.now.at incoming.now.random message.now) }
 {
-    let decision = decision(alloc, view, incoming.at, message)?;
+    let decision = decision(alloc, view, incoming, message)?;
     answer_by(alloc, view, incoming, &message.body.value, &decision)
 }
 

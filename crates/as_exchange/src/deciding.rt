@@ -7,7 +7,7 @@ use crate::refusal::AsRefusal;
 use crate::rules::{admitted, timestamp_of};
 use crate::terms::{Admission, terms_for};
 use crate::view::AsView;
-use krb_fields::Moment;
+use kdc_replies::Incoming;
 use krb_messages::KdcReqRef;
 use preauth::Outcome;
 use std::alloc::{AllocError, Global};
@@ -16,14 +16,14 @@ use std::alloc::{AllocError, Global};
 pub fn decision(
     alloc: Global,
     view: &AsView<'_>,
-    at: Moment,
+    incoming: &Incoming<'_>,
     message: &KdcReqRef<'_>,
 ) -> Result<Decision, AllocError>
-    ensures { IfOk result (λ decided. decided ≡ decision view.now at.sec message.now) }
+    ensures { IfOk result (λ decided. decided ≡ decision view.now incoming.now.at.sec message.now) }
 {
-    let timestamp = timestamp_of(alloc, view.client, at, message)?;
+    let timestamp = timestamp_of(alloc, view.client, incoming, message)?;
     let terms = terms_for(alloc, view, &message.body.value)?;
-    let admitted = admitted(view, at, message, timestamp, terms);
+    let admitted = admitted(view, incoming.at, message, timestamp, terms);
     Ok(by_admission(timestamp, admitted))
 }
 

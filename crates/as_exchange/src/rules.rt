@@ -10,7 +10,7 @@ ghost use Rattle.as_exchange.specs.Rules.{rules_by, admitted_by};
 use crate::refusal::AsRefusal;
 use crate::terms::{Admission, Terms, admission_of, times_of};
 use crate::view::AsView;
-use kdc_replies::{has_come, is_disabled, is_expired, is_service_denied};
+use kdc_replies::{Incoming, has_come, is_disabled, is_expired, is_service_denied};
 use krb_fields::{KdcOption, Moment};
 use krb_messages::{AS_REQ, KdcReqRef, PVNO, ReqBodyRef};
 use preauth::{Outcome, check_timestamp, is_locked};
@@ -84,13 +84,17 @@ fn rules_by(
 pub fn timestamp_of(
     alloc: Global,
     client: Option<&Row>,
-    at: Moment,
+    incoming: &Incoming<'_>,
     message: &KdcReqRef<'_>,
 ) -> Result<Outcome, AllocError>
-    ensures { IfOk result (λ timestamp. timestamp ≡ timestamp_of (option_copied client.entry) at.sec message.now) }
+    ensures { IfOk result (λ timestamp. timestamp
+        ≡ timestamp_of (option_copied client.entry) incoming.now.at.sec message.now) }
 {
     match client {
-        Some(row) => check_timestamp(alloc, row, at, message.padata.as_ref()),
+        Some(row) => {
+            let padata = message.padata.as_ref();
+            check_timestamp(alloc, incoming.ready, row, incoming.at, padata)
+        }
         None => Ok(Outcome::Absent),
     }
 }

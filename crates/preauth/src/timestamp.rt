@@ -9,7 +9,7 @@ use krb_elements::{OctetsRef, SeqRef, read};
 use krb_fields::{EncryptedDataRef, Moment, PA_ENC_TIMESTAMP, PaDataRef, SKEW};
 use krb_sealed::PaEncTsEnc;
 use principal_rows::{KeyList, Row};
-use sealed_parts::open_part;
+use sealed_parts::ReadyKeys;
 use std::alloc::{AllocError, Global};
 
 /// What a request shows about the client's key.
@@ -25,9 +25,10 @@ pub enum Outcome {
     Good,
 }
 
-/// Checks the timestamp in the padata of a client's request at this moment.
+/// Checks the timestamp in the padata of a client's request at this moment. The cache of keys affects speed only.
 pub fn check_timestamp<'p>(
     alloc: Global,
+    ready: &ReadyKeys,
     client: &Row,
     at: Moment,
     padata: Option<&SeqRef<'p, PaDataRef<'p>>>,
@@ -38,7 +39,7 @@ pub fn check_timestamp<'p>(
         return Ok(Outcome::Absent);
     };
     let keys = &client.versions.current().keys;
-    Ok(match opened_time(alloc, keys, value.as_slice())? {
+    Ok(match opened_time(alloc, ready, keys, value.as_slice())? {
         None => Outcome::Bad,
         Some(time) if is_skewed(at.sec, time) => Outcome::Skewed,
         Some(_) => Outcome::Good,
@@ -61,7 +62,12 @@ pub fn first_of<'p>(
 }
 
 /// Decrypts the time in the value of a PA-ENC-TIMESTAMP with the key of its encryption type.
-fn opened_time(alloc: Global, keys: &KeyList, value: &[u8]) -> Result<Option<KTime>, AllocError>
+fn opened_time(
+    alloc: Global,
+    ready: &ReadyKeys,
+    keys: &KeyList,
+    value: &[u8],
+) -> Result<Option<KTime>, AllocError>
     ensures { IfOk result (λ found. found ≡ time_of (opened_of keys.now (encrypted_in value.now))) }
 {
     let Ok(sealed) = read::<EncryptedDataRef<'_>>(value) else {
@@ -71,7 +77,7 @@ fn opened_time(alloc: Global, keys: &KeyList, value: &[u8]) -> Result<Option<KTi
         return Ok(None);
     };
     let usage = KeyUsage::PaEncTimestamp;
-    let Some(part) = open_part(alloc, key, usage, sealed.cipher.as_slice())? else {
+    let Some(part) = ready.open_part(alloc, key, usage, sealed.cipher.as_slice())? else {
         return Ok(None);
     };
     let PaEncTsEnc {

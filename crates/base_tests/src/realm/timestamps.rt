@@ -9,6 +9,7 @@ use preauth::{
 };
 use principal_rows::{KeyList, KeyListFault, Limits, Row};
 use replay::Failures;
+use sealed_parts::ReadyKeys;
 use std::alloc::Global;
 use std::process::Abort;
 
@@ -92,12 +93,15 @@ fn client(alloc: Global) -> Result<Row, KeyListFault> {
 /// Padata in digits, a second, and the outcome at it.
 type Case = (&'static [u8], i64, Outcome);
 
-/// Checks each case for one client. Only this function drops a client's row.
+/// Checks each case for one client, with one cache of keys. Only this function drops a client's row.
 fn all_show(rt: &impl Abort, alloc: Global, cases: &[Case]) {
+    let Ok(ready) = ReadyKeys::new(alloc) else {
+        panic!(rt; "out of memory");
+    };
     match client(alloc) {
         Ok(client) => {
             for (digits, sec, outcome) in cases {
-                let found = shown(alloc, &client, *sec, *digits);
+                let found = shown(alloc, &ready, &client, *sec, *digits);
                 same(rt, &(digits, sec), &found, &Some(*outcome));
             }
         }
@@ -106,11 +110,17 @@ fn all_show(rt: &impl Abort, alloc: Global, cases: &[Case]) {
 }
 
 /// Returns the outcome of the padata in these digits at this second.
-fn shown(alloc: Global, client: &Row, sec: i64, digits: &[u8]) -> Option<Outcome> {
+fn shown(
+    alloc: Global,
+    ready: &ReadyKeys,
+    client: &Row,
+    sec: i64,
+    digits: &[u8],
+) -> Option<Outcome> {
     let at = Moment::new(sec, 0)?;
     let octets = hex::decode(alloc, digits).ok()?;
     let padata: SeqRef<'_, PaDataRef<'_>> = read(&octets).ok()?;
-    check_timestamp(alloc, client, at, Some(&padata)).ok()
+    check_timestamp(alloc, ready, client, at, Some(&padata)).ok()
 }
 
 #[test]
