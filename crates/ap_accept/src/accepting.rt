@@ -91,14 +91,18 @@ fn admit(
     if let Some(refusal) = cache_refusal(state, alloc, at, presented) {
         return Err(ApFault::Refused(refusal));
     }
-    let Some(refusal) = ticket_refusal(&ticket_terms(&presented.ticket), at) else {
-        let key = &presented.session_key;
-        let reply = reply_if(alloc, wanted, key, confounder, &presented.authenticator)?;
-        record_seen(state, alloc, at, presented)?;
-        return Ok(reply);
-    };
-    record_seen(state, alloc, at, presented)?;
-    Err(ApFault::Refused(refusal))
+    match ticket_refusal(&ticket_terms(&presented.ticket), at) {
+        Some(refusal) => {
+            record_seen(state, alloc, at, presented)?;
+            Err(ApFault::Refused(refusal))
+        }
+        None => {
+            let key = &presented.session_key;
+            let reply = reply_if(alloc, wanted, key, confounder, &presented.authenticator)?;
+            record_seen(state, alloc, at, presented)?;
+            Ok(reply)
+        }
+    }
 }
 
 /// Returns the reason to refuse the authenticator by the replay cache of its service and client, if there is one.
