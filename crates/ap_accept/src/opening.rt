@@ -15,6 +15,7 @@ use krb_ap::ApReqRef;
 use krb_elements::{KerberosString, Seq};
 use krb_fields::{Name, NameRef};
 use krb_sealed::EncTicketPart;
+use refusals::Attempt;
 use std::alloc::{AllocError, Global};
 
 /// Decrypts and checks what an AP-REQ presents, or returns the first rule that refuses it.
@@ -48,7 +49,7 @@ fn shown_ticket(
     alloc: Global,
     keytab: &Keytab,
     request: &ApReqRef<'_>,
-) -> Result<Result<EncTicketPart, ApRefusal>, AllocError>
+) -> Attempt<EncTicketPart, ApRefusal>
     ensures { IfOk result (λ found. found ≡ shown_ticket (held_in keytab.now request.now.ticket) request.now) }
 {
     let service = request.ticket.sname.to_name(alloc)?;

@@ -7,6 +7,7 @@ use crate::refusal::ApRefusal;
 use enctypes::{Key, KeyUsage};
 use krb_fields::{EncryptedDataRef, Typed};
 use krb_sealed::{Authenticator, EncTicketPart};
+use refusals::Attempt;
 use sealed_parts::{ReadyKeys, key_of};
 use std::alloc::{AllocError, Global};
 use std::cmp::Ordering;
@@ -19,7 +20,7 @@ pub fn authenticator_of(
     usage: KeyUsage,
     key: &Key,
     sealed: &EncryptedDataRef<'_>,
-) -> Result<Result<Authenticator, ApRefusal>, AllocError>
+) -> Attempt<Authenticator, ApRefusal>
     ensures { IfOk result (λ found. found ≡ authenticator_of usage key.now sealed.now) }
 {
     let found = authenticator_in(alloc, ready, usage, key, sealed)?;

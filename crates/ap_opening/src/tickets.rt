@@ -13,7 +13,7 @@ use krb_ap::{AP_REQ, ApReqRef};
 use krb_fields::{ApOption, EncryptedDataRef};
 use krb_messages::PVNO;
 use krb_sealed::EncTicketPart;
-use refusals::decide;
+use refusals::{Attempt, decide};
 use sealed_parts::ReadyKeys;
 use std::alloc::{AllocError, Global};
 
@@ -26,7 +26,7 @@ pub fn shown_ticket(
     ready: Option<&ReadyKeys>,
     held: &HeldKey<'_>,
     ap: &ApReqRef<'_>,
-) -> Result<Result<EncTicketPart, ApRefusal>, AllocError>
+) -> Attempt<EncTicketPart, ApRefusal>
     ensures value { IfOk result (λ found. found ≡ shown_ticket held.now ap.now) }
     ensures within { IfOk result (λ found.
         IfOk found (λ part. IsSpelledWithin enc_ticket_part part ap.now.ticket.enc_part.cipher)) }

@@ -18,6 +18,7 @@ use crate::view::TicketView;
 use ap_opening::{Authenticated, authenticator_of, session_key_of};
 use enctypes::KeyUsage;
 use krb_messages::KdcReqRef;
+use refusals::Attempt;
 use std::alloc::{AllocError, Global};
 
 /// Decrypts and checks what a TGS-REQ presents. Otherwise returns the first rule that refuses it, with the ticket's
@@ -28,7 +29,7 @@ pub fn tgs_open(
     alloc: Global,
     view: &TicketView<'_>,
     message: &KdcReqRef<'_>,
-) -> Result<Result<Presented, Rejection>, AllocError>
+) -> Attempt<Presented, Rejection>
     requires { IfSome (tgs_data message.now) (λ value. length value < 2147483648) }
     ensures value { IfOk result (λ found. found ≡ presented view.now message.now) }
     // The authorization data are short enough for another ticket.
@@ -61,7 +62,7 @@ fn by_ticket(
     view: &TicketView<'_>,
     message: &KdcReqRef<'_>,
     ticket: Result<OpenedTicket<'_>, TgsFault>,
-) -> Result<Result<Presented, Rejection>, AllocError>
+) -> Attempt<Presented, Rejection>
     requires { IfOk ticket (λ ticket.
         IfSome ticket.part.authorization_data (λ list. length ((list_of typed).text list) < 2147483648)) }
     ensures value { (wanted : Result tickets.OpenedTicket TgsRefusal) → Gives ticket.entry wanted
@@ -110,7 +111,7 @@ fn by_authenticated(
     alloc: Global,
     ticket: OpenedTicket<'_>,
     shown: Result<Authenticated, TgsFault>,
-) -> Result<Result<Presented, Rejection>, AllocError>
+) -> Attempt<Presented, Rejection>
     requires { IfSome ticket.part.authorization_data
         (λ list. length ((list_of typed).text list) < 2147483648) }
     ensures value { (wanted : Result Authenticated TgsRefusal) → Gives shown wanted

@@ -21,7 +21,7 @@ use krb_sealed::EncTicketPart;
 use preauth::{first_of, key_by, key_numbered};
 use principal_rows::{Row, Versions};
 use principals::names_tgs;
-use refusals::decide;
+use refusals::{Attempt, decide};
 use std::alloc::{AllocError, Global};
 use std::cmp::Ordering;
 use ticket_times::keeps_ticket;
@@ -76,7 +76,7 @@ pub fn shown_ticket(
     view: &TicketView<'_>,
     body: &ReqBodyRef<'_>,
     ap: &ApReqRef<'_>,
-) -> Result<Result<EncTicketPart, ApRefusal>, AllocError>
+) -> Attempt<EncTicketPart, ApRefusal>
     ensures value { IfOk result (λ found. found ≡ shown (held_key view.now body.now ap.now.ticket) ap.now) }
     ensures within { IfOk result (λ found.
         IfOk found (λ part. IsSpelledWithin enc_ticket_part part ap.now.ticket.enc_part.cipher)) }
