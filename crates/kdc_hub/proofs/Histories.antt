@@ -354,7 +354,7 @@ who_asked hub entry = answers_who_asked hub entry.at entry.stop entry.event
 
 -- ---- an entry's events are requests
 
-abbrev IsAsked : KdcEvent → Type 0
+abbrev pub IsAsked : KdcEvent → Type 0
 IsAsked (Request at random room request) = ⊤
 IsAsked (Change change) = ⊥
 IsAsked (Replace database) = ⊥
@@ -363,7 +363,7 @@ IsAsked (Restart at) = ⊥
 IsAsked (Reopen database limits at) = ⊥
 IsAsked (Resume database limits resumption) = ⊥
 
-abbrev AreAsked : List KdcEvent → Type 0
+abbrev pub AreAsked : List KdcEvent → Type 0
 AreAsked = AllByRecursion IsAsked
 
 some_asked : (n : ℕ) (events : List KdcEvent) → AreAsked events → AreAsked (take n events)
@@ -385,7 +385,7 @@ piece_asks : (i : Issuing) (at : Moment) (piece : List ℕ) (o : Option Splittin
 piece_asks i at piece (Some s) = stream_asks i at (handed_out (fed s piece)).messages
 piece_asks i at piece None = tt
 
-entry_asks : (hub : Standing) (at : Moment) (stop : Option Stop) (event : Event) → AreAsked (requests_by stop hub at event)
+pub entry_asks : (hub : Standing) (at : Moment) (stop : Option Stop) (event : Event) → AreAsked (requests_by stop hub at event)
 entry_asks hub at None (Datagram peer request) = (tt, tt)
 entry_asks hub at None (Opened conn) = tt
 entry_asks hub at None (Bytes conn piece) = piece_asks hub.issuing at piece (map.get hub.connections conn)

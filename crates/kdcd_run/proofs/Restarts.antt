@@ -1,11 +1,9 @@
 -- No authenticator gets two tickets from the processes of a server with a journal.
-use Rattle.std.proofs.Common.{◌≡◌, ℕ, zero, suc, ℤ, pos, ◌-ℤ◌, List, [], ◌∷◌, ◌++◌, map, take, Option, Some, None, refl, sym, ap, subst, ◌∙◌, append_assoc}
+use Rattle.std.proofs.Common.{◌≡◌, ℕ, ℤ, pos, ◌-ℤ◌, List, [], ◌∷◌, ◌++◌, map, Option, Some, None, refl, sym, ap, subst, ◌∙◌, append_assoc}
 use Rattle.std.specs.Prelude.{IsTrue, ◌≤ℤ◌, ⊤}
-use Rattle.std.specs.FinMap as finmap
 use Rattle.std.specs.Int.{int_max}
 use Rattle.std.specs.List.{AllByRecursion, flat_map}
 use Rattle.std.proofs.lemmas.List.{append-nil}
-use Rattle.framing.specs.Splitting.{Splitting, fed, handed_out}
 use Rattle.krb_fields.specs.Name.{Components}
 use Rattle.krb_fields.specs.Skew.{skew}
 use Rattle.krb_fields.specs.declared.moment.Moment.{Moment}
@@ -20,15 +18,11 @@ use Rattle.kdc_core.specs.Run.{after_event, run}
 use Rattle.kdc_core.specs.Tickets.{ResumesFollow, ResumesWithAll}
 use Rattle.kdc_core.specs.declared.run.Event.{Event as KdcEvent}
 use Rattle.kdc_core.specs.declared.run.Event.TheVariants.{Request, Change, Replace, Tidy, Restart, Reopen, Resume}
-use Rattle.kdc_hub.specs.History.{CanBeResumed, IsOneRun, OneTicketSent, Replaced, Reopened, Resumed, Stepped, Tidied, Turn, after_turn, after_turns, events_in, others_after, piece_requests, newly_seen_in, requests_by, stream_requests, turn_events}
+use Rattle.kdc_hub.specs.History.{CanBeResumed, IsOneRun, OneTicketSent, Replaced, Reopened, Resumed, Stepped, Tidied, Turn, after_turn, after_turns, events_in, newly_seen_in, turn_events}
 use Rattle.kdc_hub.specs.Hub.{Standing}
-use Rattle.kdc_hub.specs.Issuing.{Issuing, after, reply_of}
-use Rattle.kdc_hub.specs.Logged.{Entry, Stop}
+use Rattle.kdc_hub.specs.Logged.{Entry}
 use Rattle.kdc_hub.specs.Rounds.{did_in, entries_of}
-use Rattle.kdc_hub.specs.StreamStep.{stream_room}
-use Rattle.kdc_hub.specs.declared.event.Event.{Event}
-use Rattle.kdc_hub.specs.declared.event.Event.TheVariants.{Datagram, Opened, Bytes, Closed}
-use Rattle.kdc_hub.specs.declared.reply.Reply.{Reply}
+use Rattle.kdc_hub.proofs.Histories.{AreAsked, IsAsked, entry_asks}
 use Rattle.kdc_serving.specs.Life.{ArePeriods, Period, replacement, rounds_in, tidying, turns_of}
 use Rattle.kdc_serving.specs.declared.rows.Look.{Look}
 use Rattle.kdc_serving.specs.declared.rows.Look.TheVariants.{Unchanged, Changed, Failed}
@@ -52,39 +46,23 @@ IsNoResume (Resume database limits resumption) = ⊥
 abbrev AreNoResumes : List KdcEvent → Type 0
 AreNoResumes = AllByRecursion IsNoResume
 
-some_none : (n : ℕ) (events : List KdcEvent) → AreNoResumes events → AreNoResumes (take n events)
-some_none zero events a = tt
-some_none (suc n) [] a = tt
-some_none (suc n) (event ∷ events) a = (a.0, some_none n events a.1)
-
 both_none : (events others : List KdcEvent) → AreNoResumes events → AreNoResumes others → AreNoResumes (events ++ others)
 both_none [] others a b = b
 both_none (event ∷ events) others a b = (a.0, both_none events others a.1 b)
 
-others_none : (reply : Option Reply) (others : List KdcEvent) → AreNoResumes others → AreNoResumes (others_after reply others)
-others_none (Some reply) others a = a
-others_none None others a = tt
-
-stream_none : (i : Issuing) (at : Moment) (messages : List (List ℕ)) → AreNoResumes (stream_requests i at messages)
-unfolding stream_requests
-stream_none i at [] = tt
-stream_none i at (message ∷ messages) =
-    let next = after i at stream_room message in
-    (tt, others_none (reply_of i at stream_room message) (stream_requests next at messages) (stream_none next at messages))
-
-piece_none : (i : Issuing) (at : Moment) (piece : List ℕ) (o : Option Splitting) → AreNoResumes (piece_requests i at piece o)
-piece_none i at piece (Some s) = stream_none i at (handed_out (fed s piece)).messages
-piece_none i at piece None = tt
-
-entry_none : (hub : Standing) (at : Moment) (stop : Option Stop) (event : Event) → AreNoResumes (requests_by stop hub at event)
-entry_none hub at None (Datagram peer request) = (tt, tt)
-entry_none hub at None (Opened conn) = tt
-entry_none hub at None (Bytes conn piece) = piece_none hub.issuing at piece (finmap.get hub.connections conn)
-entry_none hub at None (Closed conn) = tt
-entry_none hub at (Some stop) (Datagram peer request) = tt
-entry_none hub at (Some stop) (Opened conn) = tt
-entry_none hub at (Some stop) (Bytes conn piece) = some_none stop.done _ (piece_none hub.issuing at piece (finmap.get hub.connections conn))
-entry_none hub at (Some stop) (Closed conn) = tt
+-- requests resume nothing
+asked_none : (events : List KdcEvent) → AreAsked events → AreNoResumes events
+asked_none [] a = tt
+asked_none (event ∷ events) a = (one_none event a.0, asked_none events a.1)
+  where
+    one_none : (event : KdcEvent) → IsAsked event → IsNoResume event
+    one_none (Request at random room request) a = tt
+    one_none (Change change) a = tt
+    one_none (Replace database) a = tt
+    one_none (Tidy at) a = tt
+    one_none (Restart at) a = tt
+    one_none (Reopen database limits at) a = tt
+    one_none (Resume database limits resumption) a = a
 
 -- turns with an event each, of which none resumes
 events_both : (hub : Standing) (turns others : List Turn) → events_in hub (turns ++ others) ≡ events_in hub turns ++ events_in (after_turns hub turns) others
@@ -100,7 +78,7 @@ turns_none hub turns others a b = subst AreNoResumes (sym (events_both hub turns
 steps_none : (hub : Standing) (entries : List Entry) → AreNoResumes (events_in hub (map Stepped entries))
 steps_none hub [] = tt
 steps_none hub (entry ∷ entries) =
-    both_none (turn_events hub (Stepped entry)) _ (entry_none hub entry.at entry.stop entry.event) (steps_none (after_turn hub (Stepped entry)) entries)
+    both_none (turn_events hub (Stepped entry)) _ (asked_none _ (entry_asks hub entry.at entry.stop entry.event)) (steps_none (after_turn hub (Stepped entry)) entries)
 
 look_none : (hub : Standing) (look : Look) → AreNoResumes (events_in hub (replacement look))
 look_none hub Unchanged = tt
