@@ -112,6 +112,4 @@ pub struct HubFault {
     pub done: Vec<Action>,
     /// The connection that was removed and has to be closed.
     pub conn: Option<u64>,
-    /// How often 64 random bytes were drawn for this event. Only contracts read it.
-    pub draws: usize,
 }
