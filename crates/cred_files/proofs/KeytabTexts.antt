@@ -1,9 +1,9 @@
 -- The bytes written for a keytab are that keytab.
-use Rattle.std.specs.Prelude.{flat_map, option_to_list, unsigned_abs, All, ◌&&◌, map, IfSome, IfNone}
-use Rattle.std.proofs.Common.{◌≡◌, ◌≢◌, ℕ, ℤ, pos, zero, suc, ◌+◌, ◌%◌, ◌^◌, ◌<◌, ◌≤◌, ltb, eqb, arith, List, [], ◌∷◌, ◌++◌, length, get_or, take, drop, drop-cons, Bool, true, false, Option, Some, None, Ok, refl, sym, ap, subst, ◌∙◌, inl, inr, w32, FitsSigned}
+use Rattle.std.specs.Prelude.{flat_map, option_to_list, unsigned_abs, All, ◌&&◌, map}
+use Rattle.std.proofs.Common.{◌≡◌, ℕ, ℤ, pos, zero, suc, ◌+◌, ◌%◌, ◌^◌, ◌<◌, ◌≤◌, ltb, eqb, arith, List, [], ◌∷◌, ◌++◌, length, get_or, take, drop, drop-cons, Bool, true, false, Option, Some, None, Ok, refl, sym, ap, subst, ◌∙◌, inl, inr, w32, FitsSigned}
 use Rattle.std.specs.Int.{to_be_bytes}
 use Rattle.std.specs.List.{list_all, AllWithin}
-use Rattle.std.proofs.lemmas.Bool.{ltb-true, lt-ltb, eqb-true, eqb-false, ne_eqb, cases_Bool}
+use Rattle.std.proofs.lemmas.Bool.{ltb-true, lt-ltb, eqb-true, eqb-false, cases_Bool}
 use Rattle.std.proofs.lemmas.List.{append-nil, length-append, take_more}
 use Rattle.std.proofs.lemmas.List.Elements.{All-nil, All-cons, All-head, All-tail, All-get_or, AllWithin-more, AllWithin-upto, All-from_all_within, at_read}
 use Rattle.std.proofs.lemmas.Nat.{from_be_bytes-to_be_bytes_4}
@@ -11,35 +11,18 @@ use Rattle.std.proofs.Math.Nat.{mod-lt}
 use Rattle.enctypes.specs.declared.etype.Etype.{Etype}
 use Rattle.enctypes.specs.declared.etype.Etype.TheVariants.{Aes128CtsHmacSha1_96, Aes256CtsHmacSha1_96, Aes128CtsHmacSha256_128, Aes256CtsHmacSha384_192}
 use Rattle.enctypes.specs.Etype.{number, key_len}
+use Rattle.enctypes.specs.Numbered.{type_numbered}
+use Rattle.enctypes.specs.NumberedLaws.{own_number}
 use Rattle.krb_elements.specs.Spells.{Items}
 use Rattle.cred_files.specs.declared.fault.FileFault.{FileFault}
 use Rattle.cred_files.specs.declared.fault.FileFault.TheVariants as faults
 use Rattle.cred_files.specs.declared.keytab_entry.KeytabEntry.{KeytabEntry}
-use Rattle.cred_files.specs.Keytab.{HasCounts, IsEntry, IsPart, IsKeytab, IsNotWritten, entry_fields, entry_of, entry_text, etype_of, keytab_text, newer, newest, part_text, unless_zero, version_of, written_fields}
+use Rattle.cred_files.specs.Keytab.{HasCounts, IsEntry, IsPart, IsKeytab, IsNotWritten, entry_fields, entry_of, entry_text, keytab_text, newer, newest, part_text, unless_zero, version_of, written_fields}
 
 -- ---- encryption types
 
-pub etype_named : (n : ℕ) (e : Etype) → number e ≡ pos n → etype_of n ≡ Some e
-etype_named n e h = subst (λ (m : ℕ). etype_of m ≡ Some e) (ap unsigned_abs h) (at e)
-  where
-    at : (e : Etype) → etype_of (unsigned_abs (number e)) ≡ Some e
-    at Aes128CtsHmacSha1_96 = refl
-    at Aes256CtsHmacSha1_96 = refl
-    at Aes128CtsHmacSha256_128 = refl
-    at Aes256CtsHmacSha384_192 = refl
-
-pub etype_none : (n : ℕ) → ((e : Etype) → number e ≢ pos n) → etype_of n ≡ None
-etype_none n none =
-    let a : eqb n 17 ≡ false = ne_eqb n 17 (λ e. none Aes128CtsHmacSha1_96 (sym (ap (λ (m : ℕ). pos m) e))) in
-    let b : eqb n 18 ≡ false = ne_eqb n 18 (λ e. none Aes256CtsHmacSha1_96 (sym (ap (λ (m : ℕ). pos m) e))) in
-    let c : eqb n 19 ≡ false = ne_eqb n 19 (λ e. none Aes128CtsHmacSha256_128 (sym (ap (λ (m : ℕ). pos m) e))) in
-    let d : eqb n 20 ≡ false = ne_eqb n 20 (λ e. none Aes256CtsHmacSha384_192 (sym (ap (λ (m : ℕ). pos m) e))) in
-    rw (a, b, c, d) refl
-
--- the result for a number is the encryption type with that number
-pub etype_is : (n : ℕ) (z : ℤ) (found : Option Etype) → z ≡ pos n → IfSome found (λ e. number e ≡ z) → IfNone found ((e : Etype) → number e ≢ z) → found ≡ etype_of n
-etype_is n z (Some e) is named none = sym (etype_named n e (named ∙ is))
-etype_is n z None is named none = sym (etype_none n (λ e same. none e (same ∙ sym is)))
+pub etype_named : (n : ℕ) (e : Etype) → number e ≡ pos n → type_numbered (pos n) ≡ Some e
+etype_named n e h = subst (λ (m : ℤ). type_numbered m ≡ Some e) h (own_number e)
 
 -- the number fits in a file
 pub small_number : (e : Etype) → unsigned_abs (number e) < 2 ^ 16
@@ -88,7 +71,7 @@ version_back v lt = ap (λ (n : ℕ). unless_zero (v % 256) n) (from_be_bytes-to
     ]
 
 says : (e : KeytabEntry) → e.version < 2 ^ 32 → length e.key.bytes ≡ key_len e.key.etype
-    → entry_of (written_fields e) (version_of (e.version % 256) (to_be_bytes w32 e.version)) (etype_of (unsigned_abs (number e.key.etype))) ≡ Ok (Some e)
+    → entry_of (written_fields e) (version_of (e.version % 256) (to_be_bytes w32 e.version)) (type_numbered (pos (unsigned_abs (number e.key.etype)))) ≡ Ok (Some e)
 says e lt len =
     let same : eqb (length e.key.bytes) (key_len e.key.etype) ≡ true = eq_test (length e.key.bytes) (key_len e.key.etype) len in
     rw (version_back e.version lt, etype_named (unsigned_abs (number e.key.etype)) e.key.etype (number_pos e.key.etype), same) refl

@@ -6,10 +6,9 @@ use Rattle.std.specs.Prelude.{None, Result, Ok, Err, refl}
 use Rattle.std.specs.Ordering.{eq_by_cmp}
 use Rattle.std.specs.Int.{w32, to_be_bytes, from_be_bytes}
 use Rattle.enctypes.specs.declared.etype.Etype.{Etype}
-use Rattle.enctypes.specs.declared.etype.Etype.TheVariants.{Aes128CtsHmacSha1_96, Aes256CtsHmacSha1_96}
-use Rattle.enctypes.specs.declared.etype.Etype.TheVariants.{Aes128CtsHmacSha256_128, Aes256CtsHmacSha384_192}
 use Rattle.enctypes.specs.Etype.{key_len, number, is_same}
 use Rattle.enctypes.specs.Key.{ProtocolKey}
+use Rattle.enctypes.specs.Numbered.{type_numbered}
 use Rattle.krb_elements.specs.Spells.{Items}
 use Rattle.krb_fields.specs.Name.{Components, name_cmp}
 use Rattle.cred_files.specs.declared.fault.FileFault.{FileFault}
@@ -57,14 +56,6 @@ unless_zero short long = if long == 0 then short else long
 abbrev pub version_of : ℕ → List ℕ → ℕ
 version_of short more = if nat_lt (length more) 4 then short else unless_zero short (from_be_bytes w32 (take 4 more))
 
-abbrev pub etype_of : ℕ → Option Etype
-etype_of n =
-    if n == 17 then Some Aes128CtsHmacSha1_96
-    else if n == 18 then Some Aes256CtsHmacSha1_96
-    else if n == 19 then Some Aes128CtsHmacSha256_128
-    else if n == 20 then Some Aes256CtsHmacSha384_192
-    else None
-
 -- an entry with an unsupported encryption type is none; a key must have the length for its encryption type
 abbrev pub entry_of : EntryFields → ℕ → Option Etype → Result (Option KeytabEntry) FileFault
 entry_of fields version None = Ok None
@@ -85,7 +76,7 @@ pub record IsEntry (found : Option KeytabEntry) (content : List ℕ) : Type 0 wh
   pub more : List ℕ
   pub spells : entry_fields.form.Spells fields front
   pub all : content ≡ front ++ more
-  pub says : entry_of fields (version_of fields.version more) (etype_of fields.key_type) ≡ Ok found
+  pub says : entry_of fields (version_of fields.version more) (type_numbered (pos fields.key_type)) ≡ Ok found
 
 -- ---- the keytab and its bytes
 

@@ -1,10 +1,11 @@
 //! Entries of a keytab: the key of a principal with its key version.
-ghost use Rattle.std.specs.Prelude.{◌≡◌, ◌∷◌, nat_lt, length, unsigned_abs, IsTrue, IfOk, IfErr, OnOk, Some};
+ghost use Rattle.std.specs.Prelude.{◌≡◌, ◌∷◌, nat_lt, length, unsigned_abs, pos, IsTrue, IfOk, IfErr, OnOk, Some};
 ghost use Rattle.std.specs.List.{list_all};
 ghost use Rattle.enctypes.specs.Etype.{key_len, number};
+ghost use Rattle.enctypes.specs.Numbered.{type_numbered};
 ghost use Rattle.cred_files.specs.Keytab.{HasCounts, HasRoom, IsEntry, IsNotWritten, entry_fields, entry_text};
 ghost use Rattle.cred_files.specs.Keytab.{key_fields};
-ghost use Rattle.cred_files.specs.Keytab.{etype_of, is_numbered, is_typed, passes, version_of, written_fields};
+ghost use Rattle.cred_files.specs.Keytab.{is_numbered, is_typed, passes, version_of, written_fields};
 ghost use Rattle.cred_files.specs.KeytabReading.{Gives, content_at};
 ghost use Rattle.cred_files.specs.Reading.{Reads};
 
@@ -140,7 +141,7 @@ fn full_version(short: u8, more: &[u8]) -> u32
 
 /// Returns the encryption type with this number, if it is one of the four supported ones.
 pub fn known_etype(number: u16) -> Option<Etype>
-    ensures { result ≡ etype_of number }
+    ensures { result ≡ type_numbered (pos number) }
 {
     Etype::from_number(i32::from(number))
 }

@@ -1,4 +1,6 @@
 pub mod Etype
+pub mod Numbered
+pub mod NumberedLaws
 pub mod Key
 pub mod KeyUsage
 pub mod ShortOctets

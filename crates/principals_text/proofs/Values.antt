@@ -1,5 +1,5 @@
 -- JSON values, and reading each of several.
-use Rattle.std.proofs.Common.{◌≡◌, ◌≢◌, ℕ, ℤ, pos, zero, suc, ◌<◌, ◌==◌, false, List, [], ◌∷◌, ◌++◌, length, get_or, take, Option, Some, None, String, Global, IfSome, IfNone, ◌+◌, refl, sym, ap, subst, ◌∙◌, arith}
+use Rattle.std.proofs.Common.{◌≡◌, ◌≢◌, ℕ, ℤ, pos, zero, suc, ◌<◌, List, [], ◌∷◌, ◌++◌, length, get_or, take, Option, Some, None, String, Global, IfSome, IfNone, ◌+◌, refl, sym, ap, subst, ◌∙◌, arith}
 use Rattle.serde_json.specs.Data.{Data, null, boolean, number, string, array, object}
 use Rattle.serde_json.specs.Events.{members_len}
 use Rattle.serde_json.specs.Find.{as_object}
@@ -7,9 +7,10 @@ use Rattle.serde_json.specs.View.{view, items_view, members_view}
 use Rattle.serde_json.specs.declared.value.Value.{Value}
 use Rattle.serde_json.proofs.Views.{members_len-members_view}
 use Rattle.enctypes.specs.declared.etype.Etype.{Etype}
-use Rattle.enctypes.specs.declared.etype.Etype.TheVariants.{Aes128CtsHmacSha1_96, Aes256CtsHmacSha1_96, Aes128CtsHmacSha256_128, Aes256CtsHmacSha384_192}
 use Rattle.enctypes.specs.Etype as etypes
-use Rattle.principals_text.specs.RowValue.{◌>>=◌, member_count, each, etype_of}
+use Rattle.enctypes.specs.Numbered.{type_numbered}
+use Rattle.enctypes.specs.NumberedLaws.{numbered}
+use Rattle.principals_text.specs.RowValue.{◌>>=◌, member_count, each}
 
 -- an object has as many members as its map has entries
 pub object_count : (d : Data) (es : List (String Global × Value)) → Some (members_view es) ≡ as_object d → length es ≡ member_count d
@@ -22,23 +23,9 @@ object_count (object ms) es e = sym (members_len-members_view es) ∙ (let same 
 
 -- ---- encryption types
 
-etype_named : (n : ℕ) (e : Etype) → etypes.number e ≡ pos n → Some e ≡ etype_of n
-etype_named n Aes128CtsHmacSha1_96 is = let same : n ≡ 17 = cc in rw same refl
-etype_named n Aes256CtsHmacSha1_96 is = let same : n ≡ 18 = cc in rw same refl
-etype_named n Aes128CtsHmacSha256_128 is = let same : n ≡ 19 = cc in rw same refl
-etype_named n Aes256CtsHmacSha384_192 is = let same : n ≡ 20 = cc in rw same refl
-
-etype_none : (n : ℕ) → ((e : Etype) → etypes.number e ≢ pos n) → None ≡ etype_of n
-etype_none n other =
-    rw (test 17 (λ is. other Aes128CtsHmacSha1_96 (ap pos (sym is))), test 18 (λ is. other Aes256CtsHmacSha1_96 (ap pos (sym is))), test 19 (λ is. other Aes128CtsHmacSha256_128 (ap pos (sym is))), test 20 (λ is. other Aes256CtsHmacSha384_192 (ap pos (sym is)))) refl
-  where
-    test : (m : ℕ) → n ≢ m → (n == m) ≡ false
-    test m apart = grind (arith, apart)
-
 -- the type found for a number is the type with that number
-pub etype_found : (n : ℕ) (z : ℤ) (found : Option Etype) → z ≡ pos n → IfSome found (λ e. etypes.number e ≡ z) → IfNone found ((e : Etype) → etypes.number e ≢ z) → found ≡ etype_of n
-etype_found n z (Some e) is some none = etype_named n e (some ∙ is)
-etype_found n z None is some none = etype_none n (λ e same. none e (same ∙ sym is))
+pub etype_found : (n : ℕ) (z : ℤ) (found : Option Etype) → z ≡ pos n → IfSome found (λ e. etypes.number e ≡ z) → IfNone found ((e : Etype) → etypes.number e ≢ z) → found ≡ type_numbered (pos n)
+etype_found n z found is some none = numbered z found some none ∙ ap type_numbered is
 
 -- ---- each of several
 

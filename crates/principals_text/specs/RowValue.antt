@@ -7,10 +7,9 @@ use Rattle.serde_json.specs.Data.{Data, null, object, Items, no_items, item}
 use Rattle.serde_json.specs.Events.{members_len}
 use Rattle.serde_json.specs.Find.{get, as_bool, as_number, as_str, as_array, as_u64}
 use Rattle.enctypes.specs.declared.etype.Etype.{Etype}
-use Rattle.enctypes.specs.declared.etype.Etype.TheVariants.{Aes128CtsHmacSha1_96, Aes256CtsHmacSha1_96}
-use Rattle.enctypes.specs.declared.etype.Etype.TheVariants.{Aes128CtsHmacSha256_128, Aes256CtsHmacSha384_192}
 use Rattle.enctypes.specs.declared.key.Key.{Key}
 use Rattle.enctypes.specs.Etype.{key_len}
+use Rattle.enctypes.specs.Numbered.{type_numbered}
 use Rattle.principal_rows.specs.declared.policy.Policy.{Policy}
 use Rattle.principal_rows.specs.declared.row.KeyVersion.{KeyVersion}
 use Rattle.principal_rows.specs.declared.row.Row.{Row}
@@ -61,16 +60,8 @@ each f (item d ds) = do
 
 -- ---- keys
 
-abbrev pub etype_of : ℕ → Option Etype
-etype_of n =
-    if n == 17 then Some Aes128CtsHmacSha1_96
-    else if n == 18 then Some Aes256CtsHmacSha1_96
-    else if n == 19 then Some Aes128CtsHmacSha256_128
-    else if n == 20 then Some Aes256CtsHmacSha384_192
-    else None
-
 abbrev pub etype_value : Data → Option Etype
-etype_value d = unsigned_of d >>= etype_of
+etype_value d = unsigned_of d >>= λ n. type_numbered (pos n)
 
 -- the key with this type and the bytes that a text gives in hexadecimal
 abbrev pub decoded : Etype → List ℕ → Option Key

@@ -1,19 +1,10 @@
 -- Keys in messages (EncryptionKey: RFC 4120, section 5.2.9).
-use Rattle.std.specs.Prelude.{ℕ, ℤ, nat_eq, if◌then◌else◌, List, [], ◌∷◌, length, Option, Some, None, find}
-use Rattle.std.specs.Ordering.{int_eq}
+use Rattle.std.specs.Prelude.{ℕ, ℤ, nat_eq, if◌then◌else◌, List, length, Option, Some, None}
 use Rattle.enctypes.specs.Etype.{number, key_len}
+pub use Rattle.enctypes.specs.Numbered.{type_numbered}
 use Rattle.enctypes.specs.declared.etype.Etype.{Etype}
-use Rattle.enctypes.specs.declared.etype.Etype.TheVariants.{Aes128CtsHmacSha1_96, Aes256CtsHmacSha1_96}
-use Rattle.enctypes.specs.declared.etype.Etype.TheVariants.{Aes128CtsHmacSha256_128, Aes256CtsHmacSha384_192}
 use Rattle.enctypes.specs.declared.key.Key.{Key}
 use Rattle.krb_fields.specs.Typed.{Typed}
-
-abbrev pub all_types : List Etype
-all_types = Aes128CtsHmacSha1_96 ∷ Aes256CtsHmacSha1_96 ∷ Aes128CtsHmacSha256_128 ∷ Aes256CtsHmacSha384_192 ∷ []
-
--- the encryption type with this number
-abbrev pub type_numbered : ℤ → Option Etype
-type_numbered n = find (λ e. int_eq (number e) n) all_types
 
 -- the length must be right for the encryption type
 abbrev pub key_if : Option Etype → List ℕ → Option Key

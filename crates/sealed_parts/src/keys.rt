@@ -1,6 +1,7 @@
 //! Keys in messages.
 ghost use Rattle.std.specs.Prelude.{◌≡◌, ◌≤◌, length, IfOk};
-ghost use Rattle.sealed_parts.specs.Keys.{key_of, key_part, type_numbered};
+ghost use Rattle.enctypes.specs.Numbered.{type_numbered};
+ghost use Rattle.sealed_parts.specs.Keys.{key_of, key_part};
 
 use enctypes::{Etype, Key};
 use krb_elements::Octets;

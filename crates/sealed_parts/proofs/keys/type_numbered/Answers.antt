@@ -1,5 +1,5 @@
 use Rattle.std.proofs.Common.{SFits, w32, to_z-of_z}
-use Rattle.sealed_parts.proofs.Types.{numbered}
+use Rattle.enctypes.specs.NumberedLaws.{numbered}
 use Rattle.sealed_parts.proofs.keys.type_numbered.Goals as goal
 
 pub returns : goal.returns
