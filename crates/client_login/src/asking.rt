@@ -36,7 +36,15 @@ pub struct Kdcs<X> {
 
 impl<X> Kdcs<X> {
     /// Returns KDCs that have not been tried yet.
-    pub fn new(exchange: X, addresses: Vec<SocketAddr>, transports: Transports) -> Kdcs<X> {
+    pub fn new(exchange: X, addresses: Vec<SocketAddr>, transports: Transports) -> Kdcs<X>
+        ensures { result ≡ record {
+          exchange = exchange;
+          addresses = addresses;
+          transports = transports;
+          answered = None;
+          failures = 0;
+        } }
+    {
         Kdcs {
             exchange,
             addresses,
@@ -47,13 +55,17 @@ impl<X> Kdcs<X> {
     }
 
     /// Forgets which KDC replied last, and how many messages got no reply.
-    pub fn restart(&mut self) {
+    pub fn restart(&mut self)
+        ensures { self.new ≡ record self.old { answered = None; failures = 0 } }
+    {
         self.answered = None;
         self.failures = 0;
     }
 
     /// Returns how many messages got no reply. The count stops at the greatest `u64`.
-    pub fn failures(&self) -> u64 {
+    pub fn failures(&self) -> u64
+        ensures { result ≡ self.now.failures }
+    {
         self.failures
     }
 }
