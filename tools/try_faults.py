@@ -233,6 +233,18 @@ def try_each(trial):
         trial.note(f"{DATAGRAMS} datagrams are answered, each asked once", "" if answered == DATAGRAMS else f"{answered} are")
         try_remembered(trial, peer)
     server.end()
+    first, second = first_session_key(trial), first_session_key(trial)
+    trial.note("two starts give different session keys", "" if first != second else "the first one is the same")
+
+
+def first_session_key(trial):
+    """The session key that the first login gets after a start."""
+    server = trial.serve("--first")
+    with datagrams(server.udp) as peer:
+        peer.settimeout(10 * SLOWNESS)
+        _, key = ticket_in(key_of(b"a password", REALM.encode() + b"v"), ask_udp(peer, login("v")))
+    server.end()
+    return key
 
 
 def try_remembered(trial, peer):
