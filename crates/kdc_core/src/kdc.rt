@@ -222,7 +222,7 @@ impl Kdc {
         Ok(())
     }
 
-    /// Forgets each client's authenticators that are too old to be accepted again, and drops every replay cache that
+    /// Drops each client's authenticators that are too old to be accepted again, and every replay cache that
     /// then equals that of a client never seen. It allocates nothing.
     pub fn tidy(&mut self, at: Moment)
         ensures state { self.new ≡ tidied_state self.old at }
@@ -234,7 +234,15 @@ impl Kdc {
         self.state.tidy(at);
     }
 
-    /// Forgets all replay caches, as when a process ends and starts again: no authenticator that was accepted at a
+    /// Frees the memory of dropped authenticators, for this many clients from a place on. Returns the next place, if
+    /// there is one.
+    pub fn free_dropped(&mut self, from: usize, clients: usize) -> Option<usize>
+        ensures { self.new ≡ self.old }
+    {
+        self.state.free_dropped(from, clients)
+    }
+
+    /// Drops all replay caches, as when a process ends and starts again: no authenticator that was accepted at a
     /// moment no later than `at` is accepted again. It allocates nothing.
     pub fn restart(&mut self, at: Moment)
         ensures state { self.new ≡ restarted self.old at }

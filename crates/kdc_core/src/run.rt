@@ -39,7 +39,7 @@ pub enum Event {
     Replace {
         database: Database,
     },
-    /// Authenticators that are too old to come again at this moment are forgotten.
+    /// Authenticators that are too old to come again at this moment are dropped.
     Tidy {
         at: Moment,
     },

@@ -82,12 +82,20 @@ impl<R: Rng> Hub<R> {
         self.issuer.kdc.replace(database)
     }
 
-    /// Forgets each client's authenticators that are too old to come again at this moment. Connections and generator
+    /// Drops each client's authenticators that are too old to come again at this moment. Connections and generator
     /// are unchanged. It allocates nothing.
     pub fn tidy(&mut self, at: Moment)
         ensures turn { standing R.stream self.new ≡ after_turn (standing R.stream self.old) (Tidied at) }
     {
         self.issuer.kdc.tidy(at);
+    }
+
+    /// Frees the memory of dropped authenticators, for this many clients from a place on. Returns the next place, if
+    /// there is one.
+    pub fn free_dropped(&mut self, from: usize, clients: usize) -> Option<usize>
+        ensures { standing R.stream self.new ≡ standing R.stream self.old }
+    {
+        self.issuer.kdc.free_dropped(from, clients)
     }
 
     /// Returns the actions for an event, in order. It answers a connection until a request gets no reply, or a length

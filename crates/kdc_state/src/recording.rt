@@ -77,7 +77,7 @@ impl State {
         }
     }
 
-    /// Forgets all replay caches, as when a process ends: each client has the cache of a restart at this moment.
+    /// Drops all replay caches, as when a process ends: each client has the cache of a restart at this moment.
     pub fn restart(&mut self, at: Moment)
         ensures state { self.new ≡ restarted self.old at }
         ensures caches { (name : Components) → cache_of self.new name ≡ caches.restarted_cache at.sec }

@@ -1,4 +1,4 @@
-//! Forgetting the authenticators of all clients that can't come again.
+//! Dropping the authenticators of all clients that can't come again.
 ghost use Rattle.std.specs.Prelude.{◌≡◌};
 ghost use Rattle.krb_fields.specs.Name.{Components};
 ghost use Rattle.replay.specs.Tidied.{tidied};
@@ -6,11 +6,11 @@ ghost use Rattle.kdc_state.specs.State.{cache_of, tidied_state};
 
 use crate::state::State;
 use krb_fields::Moment;
-use principal_rows::{ValueChange, ValueTest};
+use principal_rows::{Upkeep, ValueChange, ValueTest};
 use replay::{Kept, ReplayCache, floor_on};
 
 impl State {
-    /// Forgets each client's authenticators that are too old to come again at this moment. It drops each cache that
+    /// Drops each client's authenticators that are too old to come again at this moment, and each cache that
     /// then equals that of a client without a stored one. It allocates nothing.
     pub fn tidy(&mut self, at: Moment)
         ensures state { self.new ≡ tidied_state self.old at }
@@ -19,6 +19,14 @@ impl State {
         self.floor = floor_on(self.floor, at);
         self.caches.change_values(&Tidying { at });
         self.caches.retain(&Used { floor: self.floor });
+    }
+
+    /// Frees the memory of dropped authenticators, for this many clients from a place on. Returns the next place, if
+    /// there is one. So a tidying of many clients doesn't free all of it at once.
+    pub fn free_dropped(&mut self, from: usize, clients: usize) -> Option<usize>
+        ensures { self.new ≡ self.old }
+    {
+        self.caches.keep_up(from, clients, &Freeing)
     }
 }
 
@@ -35,6 +43,16 @@ impl ValueChange<ReplayCache<Kept>> for Tidying {
 
     fn change(&self, cache: &mut ReplayCache<Kept>) {
         cache.tidy(self.at);
+    }
+}
+
+/// Frees the memory of a client's authenticators that were dropped.
+#[derive(Drop)]
+struct Freeing;
+
+impl Upkeep<ReplayCache<Kept>> for Freeing {
+    fn keep_up(&self, cache: &mut ReplayCache<Kept>) {
+        cache.free_dropped();
     }
 }
 

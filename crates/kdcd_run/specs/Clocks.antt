@@ -27,7 +27,7 @@ until_start None now = None
 until_start (Some at) now =
     if int_lt now (at.sec -ℤ pos skew) then Some (at.sec +ℤ pos (skew + 1)) else None
 
--- the second up to which a tidying at the latest moment forgets, if the clock shows an earlier one
+-- the second up to which a tidying at the latest moment drops, if the clock shows an earlier one
 abbrev pub until_tidied : Option Moment → ℤ → Option ℤ
 until_tidied None now = None
 until_tidied (Some latest) now =

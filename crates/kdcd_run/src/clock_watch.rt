@@ -130,7 +130,7 @@ fn until_start(started: &Option<Moment>, now: Moment) -> Option<i64>
     }
 }
 
-/// Returns the second up to which a tidying at the latest moment forgets, if the clock shows an earlier one.
+/// Returns the second up to which a tidying at the latest moment drops, if the clock shows an earlier one.
 fn until_tidied(latest: &Option<Moment>, now: Moment) -> Option<i64>
     ensures { result ≡ clocks.until_tidied latest.now now.sec }
 {

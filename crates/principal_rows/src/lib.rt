@@ -9,6 +9,6 @@ mod row;
 
 pub use key_list::{KeyList, KeyListFault};
 pub use limits::Limits;
-pub use name_map::{Entry, NameKey, NameMap, ValueChange, ValueTest};
+pub use name_map::{Entry, NameKey, NameMap, Upkeep, ValueChange, ValueTest};
 pub use policy::Policy;
 pub use row::{KeyVersion, Row, Versions};

@@ -57,6 +57,12 @@ pub trait ValueChange<V> {
         ensures { value.new ≡ changed self.now value.old };
 }
 
+/// Work on a value that contracts don't see, as freeing memory.
+pub trait Upkeep<V> {
+    fn keep_up(&self, value: &mut V)
+        ensures { value.new ≡ value.old };
+}
+
 /// A name and its value.
 #[derive(Drop)]
 pub struct Entry<V> {
@@ -194,6 +200,21 @@ impl<V: Drop> NameMap<V> {
     {
         for entry in self.entries.iter_mut() {
             change.change(&mut entry.value);
+        }
+    }
+
+    /// Does this work on the values at `count` places from `from` on. Returns the next place, if there is one.
+    pub fn keep_up<U: Upkeep<V>>(&mut self, from: usize, count: usize, upkeep: &U) -> Option<usize>
+        ensures { self.new ≡ self.old }
+    {
+        let end = from.saturating_add(count).min(self.entries.len());
+        for place in from..end {
+            upkeep.keep_up(&mut self.entries[place].value);
+        }
+        if end < self.entries.len() {
+            Some(end)
+        } else {
+            None
         }
     }
 

@@ -50,7 +50,7 @@ IfNew Skew P = ⊤
 IfNew (Repeat kept) P = ⊤
 IfNew Full P = P
 
--- the floor raised, the pairs below it forgotten, and this pair added with what is stored for it
+-- the floor raised, the pairs below it dropped, and this pair added with what is stored for it
 abbrev pub recorded : {T : Type 0} → ReplayCache T → ℤ → Stamp → T → ReplayCache T
 recorded m now stamp kept =
     record m {

@@ -40,7 +40,7 @@ abbrev pub raised_if : {T : Type 0} → ℤ → ℤ → Option (Stamp × T) → 
 raised_if start floor None = floor
 raised_if start floor (Some e) = raised start floor (e ∷ [])
 
--- The pairs that are too old to come again at a second are forgotten. The floor is raised above them, and to a day
+-- The pairs that are too old to come again at a second are dropped. The floor is raised above them, and to a day
 -- before that second. The failures are unchanged.
 abbrev pub tidied : {T : Type 0} → ReplayCache T → ℤ → ReplayCache T
 tidied m now = record m {

@@ -1,4 +1,4 @@
--- What a tidying forgets can't come again.
+-- What a tidying drops can't come again.
 use Rattle.std.specs.Prelude.{◌≡◌, ℕ, ℤ, ◌≤ℤ◌}
 use Rattle.replay.specs.declared.cache.ReplayCache.{ReplayCache}
 use Rattle.replay.specs.ReplayCache.{verdict}

@@ -85,7 +85,7 @@ impl<T: Keep> ReplayCache<T> {
         Verdict::Fresh
     }
 
-    /// Records a pair that is within the clock skew and no repeat, with what is stored for it, and forgets the pairs
+    /// Records a pair that is within the clock skew and no repeat, with what is stored for it, and drops the pairs
     /// that are too old to come again. If memory runs out, nothing changes.
     pub fn record_seen(
         &mut self,
@@ -102,10 +102,11 @@ impl<T: Keep> ReplayCache<T> {
         self.pairs.put(ctime, cusec, kept)?;
         self.floor = self.floor.max(at.sec - SKEW);
         let _ = self.pairs.drop_before(self.floor, self.floor);
+        self.pairs.free_dropped();
         Ok(())
     }
 
-    /// Forgets the pairs that are too old to come again at this moment. It raises the floor above them, and to a day
+    /// Drops the pairs that are too old to come again at this moment. It raises the floor above them, and to a day
     /// before this moment; the failures are unchanged. It allocates nothing.
     pub fn tidy(&mut self, at: Moment)
         ensures { self.new ≡ tidied self.old at.sec }
@@ -113,6 +114,13 @@ impl<T: Keep> ReplayCache<T> {
         let start = self.floor.max(at.sec - SKEW);
         let above = self.pairs.drop_before(start, self.floor);
         self.floor = floor_on(above, at);
+    }
+
+    /// Frees the memory of the pairs that a tidying dropped.
+    pub fn free_dropped(&mut self)
+        ensures { self.new ≡ self.old }
+    {
+        self.pairs.free_dropped();
     }
 
     /// Sets the failures. The recorded authenticators are unchanged.

@@ -141,8 +141,10 @@ fn tidying_drops_what_is_too_old(rt: HostRuntime) {
         &Verdict::Repeat(&()),
     );
     cache.tidy(at(301));
-    // It stays dropped at an earlier moment.
+    // It stays dropped at an earlier moment, and once its memory is freed.
     cache.tidy(at(0));
+    is_empty(&rt, &cache);
+    cache.free_dropped();
     is_empty(&rt, &cache);
 }
 

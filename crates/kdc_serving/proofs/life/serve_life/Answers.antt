@@ -17,7 +17,7 @@ loop-init g c = record {
 
 pub loop-preserved : goal.loop-preserved
 loop-preserved g c = record {
-  lived = subst (λ ls. LivesOn (g.W.Wire.recorded c.args.wire.now) (g.S.RowSource.recorded c.args.source.now) (standing g.R.Rng.stream c.args.hub.now) ls c.with-totals.result (g.W.Wire.recorded c.serve_period-served.new.wire) (g.S.RowSource.recorded c.serve_period-served.new.source) (standing g.R.Rng.stream c.serve_period-served.new.hub) c.serve_period-served.new.tidied)
+  lived = subst (λ ls. LivesOn (g.W.Wire.recorded c.args.wire.now) (g.S.RowSource.recorded c.args.source.now) (standing g.R.Rng.stream c.args.hub.now) ls c.with-totals.result (g.W.Wire.recorded c.serve_period-served.new.wire) (g.S.RowSource.recorded c.serve_period-served.new.source) (standing g.R.Rng.stream c.serve_period-served.new.hub) c.serve_period-served.new.tidied.last)
       (replicate-one c.loop.counter 16)
       (one_more c.one_run.ensures.goes_on c.one_run.ensures.log _ _ _ _ _ _ _ _ _ c.loop.invariant.lived _ _ _ _ _ _ c.serve_period-served.ensures.period c.with-totals.result c.with-totals.ensures.events c.with-totals.ensures.faults c.with-totals.ensures.refused);
   counted = counted_less _ _ _ _ c.with-totals.ensures.faults (counted_on _ _ _ _ _ c.loop.invariant.counted c.serve_period-served.ensures.counted);

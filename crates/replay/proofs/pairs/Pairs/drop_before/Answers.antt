@@ -17,8 +17,8 @@ returns-clause-pairs g c =
     let start : SFits w64 c.args.start = c.ranges.start in
     let last : SFits w64 c.in-Some.field-0-0.now.0 = search rules in
     let old = is_before c.in-Some.field-0-0.now.0 c.args.start (simp to_z-of_z at c.if-last-start.false) in
-    (all_gone c.args.start c.args.floor c.in-Some.field-0-0.now old c.in-Some.field-0-1.now c.self.inside.kept.entries c.clear.new.self.entries c.args.self.now c.self.invariant c.self.view_is
-    c.in-Some.ensures.value c.in-Some.ensures.all_up_to c.clear.ensures.empty).0
+    (all_gone c.args.start c.args.floor c.in-Some.field-0-0.now old c.in-Some.field-0-1.now c.self.inside.kept.entries c.set_aside.new.kept.entries c.args.self.now c.self.invariant c.self.view_is
+    c.in-Some.ensures.value c.in-Some.ensures.all_up_to c.set_aside.ensures).0
 
 pub returns-clause-floor : goal.returns-clause-floor
 returns-clause-floor g c =
@@ -29,5 +29,5 @@ returns-clause-floor g c =
     let above : SFits w64 c.max-above.result = search rules in
     let old = is_before c.in-Some.field-0-0.now.0 c.args.start (simp to_z-of_z at c.if-last-start.false) in
     simp to_z-of_z ((simp to_z-of_z at c.max-above.ensures.value)
-    ∙ (all_gone c.args.start c.args.floor c.in-Some.field-0-0.now old c.in-Some.field-0-1.now c.self.inside.kept.entries c.clear.new.self.entries c.args.self.now c.self.invariant c.self.view_is
-    c.in-Some.ensures.value c.in-Some.ensures.all_up_to c.clear.ensures.empty).1)
+    ∙ (all_gone c.args.start c.args.floor c.in-Some.field-0-0.now old c.in-Some.field-0-1.now c.self.inside.kept.entries c.set_aside.new.kept.entries c.args.self.now c.self.invariant c.self.view_is
+    c.in-Some.ensures.value c.in-Some.ensures.all_up_to c.set_aside.ensures).1)
