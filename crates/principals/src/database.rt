@@ -12,6 +12,7 @@ ghost use Rattle.principals.specs.Database.{AreRows, IsDatabase, first_database,
 ghost use Rattle.principals.specs.Change.{refusal, add_rules, changed, row_changed, row_refusal};
 
 use crate::granting::TgsOf;
+use crate::split_name::row_of;
 use crate::{Change, ChangeFault, RowChange};
 use krb_elements::KerberosString;
 use krb_fields::{Name, NameRef, is_component};
@@ -141,7 +142,7 @@ impl Database {
         ensures row { option_copied result ≡ map.get self.now.rows name_ref.now.components }
         ensures valid { IfSome result (λ row. IsRow row.now) }
     {
-        self.rows.get(name_ref)
+        row_of(&self.rows, name_ref)
     }
 
     /// Returns the row of the ticket-granting service, without building its name.
