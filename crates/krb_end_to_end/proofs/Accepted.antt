@@ -10,9 +10,8 @@ use Rattle.cred_files.specs.declared.keytab_entry.KeytabEntry.{KeytabEntry}
 use Rattle.enctypes.specs.Etype.{key_len, number}
 use Rattle.enctypes.specs.Key.{IsKey}
 use Rattle.enctypes.specs.declared.etype.Etype.{Etype}
-use Rattle.enctypes.specs.declared.etype.Etype.TheVariants.{Aes128CtsHmacSha1_96, Aes256CtsHmacSha1_96}
-use Rattle.enctypes.specs.declared.etype.Etype.TheVariants.{Aes128CtsHmacSha256_128, Aes256CtsHmacSha384_192}
 use Rattle.enctypes.specs.KeyUsage.{usage_number}
+use Rattle.enctypes.specs.NumberedLaws.{own_number}
 use Rattle.enctypes.specs.declared.key.Key.{Key}
 use Rattle.enctypes.specs.declared.key_usage.KeyUsage.TheVariants.{ApReqAuthenticator}
 use Rattle.enctypes.specs.declared.key_usage.KeyUsage.TheVariants.{Ticket as TicketUsage}
@@ -105,13 +104,6 @@ key_there : (o : Option KeytabEntry) (key : Key) → option_map (λ e. e.key) o 
 key_there (Some e) key h = refl
 key_there None key h = absurd cc
 
--- a key's encryption type from its number
-numbered : (etype : Etype) → type_numbered (number etype) ≡ Some etype
-numbered Aes128CtsHmacSha1_96 = refl
-numbered Aes256CtsHmacSha1_96 = refl
-numbered Aes128CtsHmacSha256_128 = refl
-numbered Aes256CtsHmacSha384_192 = refl
-
 -- ---- what is presented
 
 subkey_read : (o : Option Key) → IfSome o IsKey → subkey_in (subkey_part o) ≡ Some o
@@ -141,14 +133,14 @@ module _ (issue : Issue) (state : State) (sent : Moment) (asked : ServiceAsked) 
   module _ (held : ticket_key state.keytab (issued_ticket issue) ≡ Some issue.service_key.key) where
     entry : is_some (newest (passes (service_of (issued_ticket issue)) (Some issue.service_key.key.etype) (Some issue.service_key.version)) state.keytab) ≡ true
     entry = key_there _ issue.service_key.key
-        (ap (λ (o : Option Etype). option_map (λ e. e.key) (entry_for state.keytab (service_of (issued_ticket issue)) o (Some (pos issue.service_key.version)))) (sym (numbered issue.service_key.key.etype)) ∙ held)
+        (ap (λ (o : Option Etype). option_map (λ e. e.key) (entry_for state.keytab (service_of (issued_ticket issue)) o (Some (pos issue.service_key.version)))) (sym (own_number issue.service_key.key.etype)) ∙ held)
 
     service_held : is_some (newest (passes (service_of (issued_ticket issue)) None None) state.keytab) ≡ true
     service_held = newest_weaker _ _ (any_type (service_of (issued_ticket issue)) (Some issue.service_key.key.etype) (Some issue.service_key.version)) state.keytab entry
 
     type_held : is_some (entry_for state.keytab (service_of (issued_ticket issue)) (type_numbered (issued_ticket issue).enc_part.etype) None) ≡ true
     type_held =
-        ap (λ (o : Option Etype). is_some (entry_for state.keytab (service_of (issued_ticket issue)) o None)) (numbered issue.service_key.key.etype)
+        ap (λ (o : Option Etype). is_some (entry_for state.keytab (service_of (issued_ticket issue)) o None)) (own_number issue.service_key.key.etype)
         ∙ newest_weaker _ _ (any_version (service_of (issued_ticket issue)) (Some issue.service_key.key.etype) (Some issue.service_key.version)) state.keytab entry
 
     abbrev ticket_by : Bool → Bool → Bool → Bool → Option EncTicketPart → Result EncTicketPart ApRefusal
