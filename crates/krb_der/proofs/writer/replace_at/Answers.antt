@@ -25,10 +25,10 @@ inserted old octets at i within fits =
 
 pub loop-i-preserved : goal.loop-i-preserved
 loop-i-preserved c = record {
-  told =
+  text =
       c.in_ok-insert.ensures.items
       ∙ ap (λ (l : List ℕ). insert l (c.args.at + c.loop-i.i) (get_or c.args.octets.now c.loop-i.i 0))
-      c.loop-i.invariant.told
+      c.loop-i.invariant.text
       ∙ inserted c.args.out.now.items c.args.octets.now c.args.at c.loop-i.i c.requires.within (omega arith);
   room = omega (arith, c.insert.ensures.capacity, c.in_ok-insert.ensures.len);
 }
