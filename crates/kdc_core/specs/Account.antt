@@ -1,5 +1,5 @@
 -- The account of a request, and what it states about the reply.
-use Rattle.std.specs.Prelude.{◌≡◌, ℕ, ⊤, List, Option, Some, None, option_map}
+use Rattle.std.specs.Prelude.{◌≡◌, ℕ, ⊤, Bool, true, false, List, Option, Some, None, option_map}
 use Rattle.std.specs.FinMap as map
 use Rattle.as_exchange.specs.Outcome.{AsOutcomeHolds, OutcomeSpelled as AsOutcomeSpelled, as_outcome}
 use Rattle.kdc_replies.specs.Incoming.{Incoming}
@@ -20,7 +20,6 @@ use Rattle.kdc_core.specs.Request.{Request, request_of}
 use Rattle.kdc_core.specs.View.{Named, View, as_view, components_of, tgs_view}
 use Rattle.kdc_core.specs.declared.account.Account.{Account as AccountOf}
 use Rattle.kdc_core.specs.declared.account.Account.TheVariants.{NoRequest as NothingAsked, As, Tgs}
-use Rattle.kdc_core.specs.declared.account.RequestNames.{RequestNames}
 use Rattle.kdc_core.specs.declared.contents.Contents.{Contents}
 use Rattle.kdc_core.specs.declared.contents.Contents.TheVariants.{NoRequest, AsReq, RefusedTgsReq, TgsReq}
 
@@ -61,20 +60,11 @@ account_names (Tgs client service outcome) = record {
   service = components_of service;
 }
 
--- ---- the names that the request gives
+-- ---- whether it is wanted
 
-abbrev pub names_in : Option Request → RequestNames
-names_in (Some request) = record {
-  client = request.message.body.value.cname;
-  service = request.message.body.value.sname;
-}
-names_in None = record { client = None; service = None }
-
--- the account with these names in place of those that the request gives
-abbrev pub with_names : RequestNames → Account → Account
-with_names names NothingAsked = NothingAsked
-with_names names (As client service outcome) = As names.client names.service outcome
-with_names names (Tgs client service outcome) = Tgs client names.service outcome
+abbrev pub account_if : Bool → Account → Option Account
+account_if true account = Some account
+account_if false account = None
 
 -- ---- what it states about the reply that was sent
 

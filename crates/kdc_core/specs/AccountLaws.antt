@@ -19,7 +19,7 @@ use Rattle.tgs_opening.specs.declared.refusal.TgsRefusal.{TgsRefusal}
 use Rattle.tgs_opening.specs.declared.rejection.Rejection.{Rejection}
 use Rattle.kdc_state.specs.declared.state.State.{State}
 use Rattle.kdc_core.specs.Account.{Account, AccountHolds, AccountSpelled, AccountHoldsOf, AccountSpelledOf, account_of, account_to, kept_for}
-use Rattle.kdc_core.specs.Account.{account_exchange, account_names, exchange_in, names_in, with_names}
+use Rattle.kdc_core.specs.Account.{account_exchange, account_names, exchange_in}
 use Rattle.kdc_core.specs.Answer.{OpensOf, ReplyOpens, answer_of, answer_to}
 use Rattle.kdc_core.specs.Contents.{contents, contents_in, names_answered, tgs_contents}
 use Rattle.kdc_core.specs.ContentsLaws.{AreNamesOf, are_names_of, if_ok}
@@ -196,26 +196,3 @@ unanswered_of v incoming (TgsReq message p) none = absurd cc
 pub unanswered : (v : View) (incoming : Incoming) → (answer_to v incoming).reply ≡ None
     → account_to v incoming ≡ NothingAsked
 unanswered v incoming = unanswered_of v incoming (contents v (request_of incoming.octets))
-
--- ---- the names that the request gives
-
-named_with : (v : View) (incoming : Incoming) (request : Request) (r : Result Presented Rejection)
-    → with_names (names_in (Some request)) (account_of v incoming (tgs_contents request.message r))
-    ≡ account_of v incoming (tgs_contents request.message r)
-named_with v incoming request (Ok p) = refl
-named_with v incoming request (Err rejected) = refl
-
-named_for : (v : View) (incoming : Incoming) (request : Option Request)
-    → with_names (names_in request) (account_of v incoming (contents v request)) ≡ account_of v incoming (contents v request)
-named_for v incoming (Some request) = by_exchange request.exchange
-  where
-    by_exchange : (exchange : Exchange) → with_names (names_in (Some request)) (account_of v incoming (contents_in v exchange request.message))
-        ≡ account_of v incoming (contents_in v exchange request.message)
-    by_exchange OfAs = refl
-    by_exchange OfTgs = named_with v incoming request _
-named_for v incoming None = refl
-
--- an account already has these names
-pub names_are_given : (v : View) (incoming : Incoming)
-    → with_names (names_in (request_of incoming.octets)) (account_to v incoming) ≡ account_to v incoming
-names_are_given v incoming = named_for v incoming (request_of incoming.octets)

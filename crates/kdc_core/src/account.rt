@@ -1,12 +1,9 @@
 //! The answer to a request: the reply, and an account of how the request was handled.
-ghost use Rattle.std.specs.Prelude.{◌≡◌, IfOk, None, option_copied};
-ghost use Rattle.kdc_core.specs.Account.{names_in, with_names};
-ghost use Rattle.kdc_core.specs.Request.{request_of};
+ghost use Rattle.std.specs.Prelude.{◌≡◌, IfOk, option_copied};
+ghost use Rattle.kdc_core.specs.Account.{account_if};
 
-use crate::contents::GREATEST_REQUEST;
 use as_exchange::AsOutcome;
 use krb_fields::{Name, NameRef};
-use krb_messages::read_kdc_req;
 use replay::Seen;
 use std::alloc::{AllocError, Global};
 use tgs_exchange::TgsOutcome;
@@ -41,61 +38,63 @@ pub struct Answer<'q> {
     pub newly_seen: Option<Seen>,
 }
 
-/// The names that a request gives: its fields cname and sname (RFC 4120, section 5.4.1).
+/// An answer that borrows nothing from the request.
 #[derive(Drop)]
-pub struct RequestNames {
-    pub client: Option<Name>,
-    pub service: Option<Name>,
-}
-
-impl RequestNames {
-    /// Copies the names that the bytes of a request give. Bytes that encode no request give none.
-    pub fn copied(alloc: Global, octets: &[u8]) -> Result<RequestNames, AllocError>
-        ensures { IfOk result (λ names. names ≡ names_in (request_of octets.now)) }
-    {
-        if octets.len() > GREATEST_REQUEST {
-            return Ok(RequestNames::none());
-        }
-        let Ok((_, message)) = read_kdc_req(octets) else {
-            return Ok(RequestNames::none());
-        };
-        let client = owned_name(alloc, message.body.value.cname.as_ref())?;
-        let service = owned_name(alloc, message.body.value.sname.as_ref())?;
-        Ok(RequestNames { client, service })
-    }
-
-    fn none() -> RequestNames
-        ensures { result ≡ names_in None }
-    {
-        RequestNames {
-            client: None,
-            service: None,
-        }
-    }
+pub struct OwnedAnswer {
+    pub reply: Option<Vec<u8>>,
+    /// The account, if it was wanted.
+    pub account: Option<Account>,
+    pub newly_seen: Option<Seen>,
 }
 
 impl Account<NameRef<'_>> {
-    /// Returns the same account with its own names: `names` are copies of those that the request gives.
-    pub fn with_names(self, names: RequestNames) -> Account
-        ensures { result ≡ with_names names self.entry }
+    /// Returns the same account with names of its own.
+    pub fn into_owned(self, alloc: Global) -> Result<Account, AllocError>
+        ensures { IfOk result (λ account. account ≡ self.entry) }
     {
         match self {
-            Account::NoRequest => Account::NoRequest,
-            Account::As { outcome, .. } => Account::As {
-                client: names.client,
-                service: names.service,
+            Account::NoRequest => Ok(Account::NoRequest),
+            Account::As {
+                client,
+                service,
                 outcome,
-            },
+            } => {
+                let client = owned_name(alloc, client.as_ref())?;
+                let service = owned_name(alloc, service.as_ref())?;
+                Ok(Account::As {
+                    client,
+                    service,
+                    outcome,
+                })
+            }
             Account::Tgs {
                 client,
+                service,
                 outcome,
-                ..
-            } => Account::Tgs {
-                client,
-                service: names.service,
-                outcome,
-            },
+            } => {
+                let service = owned_name(alloc, service.as_ref())?;
+                Ok(Account::Tgs {
+                    client,
+                    service,
+                    outcome,
+                })
+            }
         }
+    }
+}
+
+/// Returns the account with names of its own, if it is wanted.
+pub fn account_if(
+    alloc: Global,
+    is_wanted: bool,
+    account: Account<NameRef<'_>>,
+) -> Result<Option<Account>, AllocError>
+    ensures { IfOk result (λ owned. owned ≡ account_if is_wanted account.entry) }
+{
+    if is_wanted {
+        Ok(Some(account.into_owned(alloc)?))
+    } else {
+        Ok(None)
     }
 }
 

@@ -5,7 +5,7 @@ ghost use Rattle.std.specs.Option.{unwrap_or};
 ghost use Rattle.krb_messages.specs.KrbError.{krb_error};
 ghost use Rattle.tgs_exchange.specs.Answer.{tgs_error};
 ghost use Rattle.krb_elements.specs.Codec.{written};
-ghost use Rattle.kdc_core.specs.Account.{account_of, account_to, AccountSpelled};
+ghost use Rattle.kdc_core.specs.Account.{account_if, account_of, account_to, AccountSpelled};
 ghost use Rattle.kdc_core.specs.After.{after_reply, seen_left, MayStay};
 ghost use Rattle.kdc_core.specs.Answer.{answer_of, answer_to, keep, after_incoming};
 ghost use Rattle.kdc_core.specs.Answer.{IsReply, IsReplyTo, OpensOf, ReplyOpens};
@@ -16,7 +16,7 @@ ghost use Rattle.kdc_core.specs.View.{view, view_of};
 ghost use Rattle.kdc_core.specs.declared.account.Account.TheVariants.{NoRequest, Tgs};
 ghost use Rattle.tgs_exchange.specs.declared.outcome.TgsOutcome.TheVariants.{Refused};
 
-use crate::account::{Account, Answer, lent_name};
+use crate::account::{Account, Answer, OwnedAnswer, account_if, lent_name};
 use crate::as_replies::as_reply;
 use crate::contents::{Contents, contents_of};
 use crate::mark::{Mark, keep_mark};
@@ -82,6 +82,48 @@ pub fn handle<'q>(
         reply: Some(octets),
         account,
         newly_seen,
+    })
+}
+
+/// Answers as `handle` does, with an account of its own names, if it is wanted. The names are copied before anything
+/// changes.
+pub fn handle_owned(
+    state: &mut State,
+    alloc: Global,
+    incoming: &Incoming<'_>,
+    request: &[u8],
+    wants_account: bool,
+) -> Result<OwnedAnswer, AllocError>
+    requires { request.now ≡ incoming.now.octets }
+    ensures reply { IfOk result (λ answer.
+        option_map (λ octets. octets.items) answer.reply
+        ≡ (answer_to (view state.old incoming.now.octets) incoming.now).reply) }
+    ensures account { IfOk result (λ answer.
+        answer.account ≡ account_if wants_account (account_to (view state.old incoming.now.octets) incoming.now)) }
+    ensures newly_seen { IfOk result (λ answer.
+        answer.newly_seen ≡ newly_seen_to (view state.old incoming.now.octets) incoming.now) }
+    ensures outcome_spelled { IfOk result (λ answer.
+        AccountSpelled (view state.old incoming.now.octets) incoming.now
+        (option_map (λ octets. octets.items) answer.reply)
+        (contents (view state.old incoming.now.octets) (request_of incoming.now.octets))) }
+    ensures same { IfOk result (λ answer.
+        ReplyOpens (view state.old incoming.now.octets) incoming.now.at incoming.now.random
+        (request_of incoming.now.octets)) }
+    ensures state { OnOk result (state.new ≡ after_incoming state.old incoming.now) }
+    ensures err { OnErr result (state.new ≡ state.old) }
+{
+    let Some(answered) = reply(state, alloc, incoming, request)? else {
+        return Ok(OwnedAnswer {
+            reply: None,
+            account: account_if(alloc, wants_account, Account::NoRequest)?,
+            newly_seen: None,
+        });
+    };
+    let account = account_if(alloc, wants_account, answered.account)?;
+    Ok(OwnedAnswer {
+        reply: Some(answered.octets),
+        account,
+        newly_seen: keep_mark(state, alloc, answered.mark)?,
     })
 }
 

@@ -4,7 +4,7 @@ ghost use Rattle.std.specs.Prelude.{IsOkUnless, option_map};
 ghost use Rattle.std.specs.FinMap as map;
 ghost use Rattle.std.specs.Option.{option_copied};
 ghost use Rattle.krb_fields.specs.Name.{Components};
-ghost use Rattle.kdc_core.specs.Account.{account, account_names, AccountHolds};
+ghost use Rattle.kdc_core.specs.Account.{account, account_if, account_names, AccountHolds};
 ghost use Rattle.kdc_core.specs.Answer.{answer, after_request, error_octets, IsReply, OneTicketTwoKeys};
 ghost use Rattle.kdc_core.specs.Issued.{issued, IsReplyOf};
 ghost use Rattle.kdc_core.specs.NewlySeen.{newly_seen};
@@ -23,8 +23,8 @@ ghost use Rattle.replay.specs.Tidied.{tidied};
 ghost use Rattle.kdc_state.specs.declared.state.State as states;
 ghost use Rattle.principals.specs.Change.{refusal, changed};
 
-use crate::account::Answer;
-use crate::answering::handle;
+use crate::account::{Answer, OwnedAnswer};
+use crate::answering::{handle, handle_owned};
 use kdc_replies::{Incoming, error_reply};
 use kdc_state::{Opening, State};
 use krb_fields::{Code, Moment, Name};
@@ -195,6 +195,48 @@ impl Kdc {
             ready: &self.ready,
         };
         handle(&mut self.state, alloc, &incoming, request)
+    }
+
+    /// Answers as [`Kdc::handle`] does: the same reply and the same change of state, by the same rules. The answer
+    /// borrows nothing from the request: its account has names of its own, and is there only if it is wanted. A call
+    /// that runs out of memory changes nothing.
+    pub fn handle_owned(
+        &mut self,
+        alloc: Global,
+        at: Moment,
+        random: &[u8; 64],
+        room: u32,
+        request: &[u8],
+        wants_account: bool,
+    ) -> Result<OwnedAnswer, AllocError>
+        // The reply is the one that the rules prescribe.
+        ensures reply { IfOk result (λ given.
+            option_map (λ octets. octets.items) given.reply
+            ≡ (answer (view self.old request.now) at random.now room request.now).reply) }
+        // The account is the one that the same rules give, if it is wanted.
+        ensures account { IfOk result (λ given.
+            given.account
+            ≡ account_if wants_account (account (view self.old request.now) at random.now room request.now)) }
+        // The authenticator that it reports as recorded is the one that the same rules record.
+        ensures newly_seen { IfOk result (λ given.
+            given.newly_seen ≡ newly_seen (view self.old request.now) at random.now room request.now) }
+        // The account of the rules is true of the reply.
+        ensures holds { IfOk result (λ given.
+            AccountHolds (view self.old request.now) at random.now (request_of request.now)
+            (account (view self.old request.now) at random.now room request.now)
+            (option_map (λ octets. octets.items) given.reply)) }
+        // The state afterwards is the one that the rules prescribe.
+        ensures state { OnOk result (self.new ≡ after_request self.old at random.now room request.now) }
+        ensures err { OnErr result (self.new ≡ self.old) }
+    {
+        let incoming = Incoming {
+            at,
+            random,
+            room,
+            octets: request,
+            ready: &self.ready,
+        };
+        handle_owned(&mut self.state, alloc, &incoming, request, wants_account)
     }
 
     /// Changes the database. A refused change leaves everything unchanged.

@@ -3,36 +3,28 @@ use Rattle.std.proofs.Common.{◌≡◌, ℕ, zero, suc, Bool, true, false, List
 use Rattle.rand_core.specs.Stream.{fill_bytes}
 use Rattle.framing.specs.Splitting.{Splitting, fed, handed_out}
 use Rattle.krb_fields.specs.declared.moment.Moment.{Moment}
-use Rattle.kdc_core.specs.Account.{Account, AccountHolds, account, names_in, with_names}
-use Rattle.kdc_core.specs.AccountLaws.{names_are_given}
+use Rattle.kdc_core.specs.Account.{Account, AccountHolds, account, account_if}
 use Rattle.kdc_core.specs.Answer.{answer}
 use Rattle.kdc_core.specs.NewlySeen.{newly_seen}
 use Rattle.kdc_core.specs.Request.{request_of}
 use Rattle.kdc_core.specs.View.{View, view}
 use Rattle.kdc_core.specs.declared.account.Account.TheVariants.{NoRequest, As, Tgs}
-use Rattle.kdc_core.specs.declared.account.RequestNames.{RequestNames}
 use Rattle.replay.specs.declared.seen.Seen.{Seen}
 use Rattle.kdc_hub.specs.Accounts.{FirstHold, ReplyHolds, if_answered}
 use Rattle.kdc_hub.specs.Hub.{requests_of}
-use Rattle.kdc_hub.specs.Issuing.{Issuing, after, kept_account, names_kept, reply_by, reply_of, reply_with}
+use Rattle.kdc_hub.specs.Issuing.{Issuing, after, reply_by, reply_in, reply_of}
 use Rattle.kdc_hub.specs.declared.reply.Reply.{Reply}
 
 module _ (keeps : Bool) (v : View) (at : Moment) (random : List ℕ) (room : ℕ) (request : List ℕ) where
-  named : (b : Bool) → option_map (λ n. with_names n (account v at random room request)) (names_kept b request) ≡ kept_account b (account v at random room request)
-  named true = ap Some (names_are_given v (record { at = at; random = random; room = room; octets = request }))
-  named false = refl
-
-  -- a reply with the copied names is the reply with its account
-  pub made : (octets : Option (List ℕ)) (a : Account) (names : Option RequestNames) (seen : Option Seen) → octets ≡ (answer v at random room request).reply
-      → a ≡ account v at random room request → names ≡ names_kept keeps request → seen ≡ newly_seen v at random room request
-      → reply_with octets a names seen ≡ reply_by keeps v at random room request
+  -- the reply in an answer of the rules
+  pub made : (octets : Option (List ℕ)) (a : Option Account) (seen : Option Seen) → octets ≡ (answer v at random room request).reply
+      → a ≡ account_if keeps (account v at random room request) → seen ≡ newly_seen v at random room request
+      → reply_in octets a seen ≡ reply_by keeps v at random room request
   unfolding reply_by
-  made octets a names seen octets_are is names_are seen_is =
-      (λ k. reply_with (octets_are k) (is k) (names_are k) (seen_is k))
-      ∙ ap (λ (x : Option Account). option_map (λ (message : List ℕ). let r : Reply = record { message = message; account = x; newly_seen = newly_seen v at random room request } in r) (answer v at random room request).reply) (named keeps)
+  made octets a seen octets_are is seen_is = λ k. reply_in (octets_are k) (is k) (seen_is k)
 
   true_of : (b : Bool) (o : Option (List ℕ)) (a : Account) → AccountHolds v at random (request_of request) a o
-      → ReplyHolds v at random request (option_map (λ (message : List ℕ). let r : Reply = record { message = message; account = kept_account b a; newly_seen = newly_seen v at random room request } in r) o)
+      → ReplyHolds v at random request (reply_in o (account_if b a) (newly_seen v at random room request))
   true_of true (Some octets) a h = h
   true_of false (Some octets) a h = tt
   true_of b None NoRequest h = h
@@ -40,13 +32,12 @@ module _ (keeps : Bool) (v : View) (at : Moment) (random : List ℕ) (room : ℕ
   true_of b None (Tgs client service outcome) h = absurd h.1
 
   -- and what its account states is true
-  pub holds : (octets : Option (List ℕ)) (a : Account) → octets ≡ (answer v at random room request).reply → a ≡ account v at random room request
-      → AccountHolds v at random (request_of request) a octets → ReplyHolds v at random request (reply_by keeps v at random room request)
+  pub holds : (octets : Option (List ℕ)) → octets ≡ (answer v at random room request).reply
+      → AccountHolds v at random (request_of request) (account v at random room request) octets → ReplyHolds v at random request (reply_by keeps v at random room request)
   unfolding reply_by
-  holds octets a octets_are is h =
+  holds octets octets_are h =
       true_of keeps (answer v at random room request).reply (account v at random room request)
-      (subst (λ (x : Account). AccountHolds v at random (request_of request) x (answer v at random room request).reply) is
-      (subst (λ o. AccountHolds v at random (request_of request) a o) octets_are h))
+      (subst (λ o. AccountHolds v at random (request_of request) (account v at random room request) o) octets_are h)
 
 pub if_any : (r : Option Reply) (P : Type 0) → P → if_answered r P
 if_any (Some reply) P p = p

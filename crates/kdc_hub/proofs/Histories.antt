@@ -15,7 +15,7 @@ use Rattle.kdc_core.proofs.Isolation.{isolation, unaffected as unaffected_run}
 use Rattle.kdc_core.proofs.Tickets.{one_ticket}
 use Rattle.kdc_core.proofs.Unseen.{tidies_unseen}
 use Rattle.kdc_core.proofs.Runs.{replies_append, run_append}
-use Rattle.kdc_core.specs.Account.{Account, account, account_to}
+use Rattle.kdc_core.specs.Account.{Account, account, account_if, account_to}
 use Rattle.kdc_core.specs.AccountLaws.{unanswered}
 use Rattle.kdc_core.specs.NewlySeen.{Covers, event_sees, newly_seen, resumption_at, run_sees}
 use Rattle.kdc_core.specs.NewlySeenLaws.{none_newly_seen}
@@ -34,7 +34,7 @@ use Rattle.kdc_hub.specs.declared.event.Event.{Event}
 use Rattle.kdc_hub.specs.declared.event.Event.TheVariants.{Datagram, Opened, Bytes, Closed}
 use Rattle.kdc_hub.specs.declared.event.Peer.{Peer}
 use Rattle.kdc_hub.specs.declared.reply.Reply.{Reply}
-use Rattle.kdc_hub.specs.Issuing.{Issuing, after, kept_account, reply_by, reply_of, too_long}
+use Rattle.kdc_hub.specs.Issuing.{Issuing, after, reply_by, reply_of, too_long}
 use Rattle.kdc_hub.specs.StreamStep.{StreamStep, action_for, after_reply, after_some, messages_step, reply_then, stream_room, stream_step}
 use Rattle.kdc_hub.specs.Hub.{Standing, Step, brings, datagram_room, greatest_request, hub_step, kept, most_connections, nothing, opened, requests_of as messages_of, sent, stopped}
 use Rattle.kdc_hub.specs.Logged.{Entry, Stop, logged, step_by, step_of}
@@ -62,7 +62,7 @@ unfolding reply_by
 octets_given kept v at random room request = by_reply (answer v at random room request).reply
   where
     by_reply : (o : Option (List ℕ))
-        → octets_of (option_map (λ message. record { message = message; account = kept_account kept (account v at random room request); newly_seen = newly_seen v at random room request }) o) ≡ o
+        → octets_of (option_map (λ message. record { message = message; account = account_if kept (account v at random room request); newly_seen = newly_seen v at random room request }) o) ≡ o
     by_reply (Some octets) = refl
     by_reply None = refl
 
@@ -86,7 +86,7 @@ account_given v at random room request =
     by_reply (answer v at random room request).reply (unanswered v (record { at = at; random = random; room = room; octets = request }))
   where
     by_reply : (o : Option (List ℕ)) → (o ≡ None → account v at random room request ≡ NoRequest)
-        → account_in (option_map (λ message. record { message = message; account = kept_account true (account v at random room request); newly_seen = newly_seen v at random room request }) o)
+        → account_in (option_map (λ message. record { message = message; account = account_if true (account v at random room request); newly_seen = newly_seen v at random room request }) o)
         ≡ Some (account v at random room request)
     by_reply (Some octets) none = refl
     by_reply None none = ap Some (sym (none refl))
@@ -98,7 +98,7 @@ seen_given kept v at random room request =
     by_reply (answer v at random room request).reply (none_newly_seen v (record { at = at; random = random; room = room; octets = request }))
   where
     by_reply : (o : Option (List ℕ)) → (o ≡ None → newly_seen v at random room request ≡ None)
-        → seen_by (option_map (λ message. record { message = message; account = kept_account kept (account v at random room request); newly_seen = newly_seen v at random room request }) o)
+        → seen_by (option_map (λ message. record { message = message; account = account_if kept (account v at random room request); newly_seen = newly_seen v at random room request }) o)
         ≡ with_any (newly_seen v at random room request) []
     by_reply (Some octets) none = refl
     by_reply None none = ap (λ o. with_any o []) (sym (none refl))

@@ -1,16 +1,14 @@
 -- A key distribution centre, the generator of the random bytes for its answers, and whether it keeps accounts.
-use Rattle.std.specs.Prelude.{ℕ, Bool, true, false, List, Option, Some, None, option_map}
+use Rattle.std.specs.Prelude.{ℕ, Bool, List, Option, None, option_map}
 use Rattle.rand_core.specs.Stream.{Stream, fill_bytes}
 use Rattle.krb_fields.specs.declared.moment.Moment.{Moment}
 use Rattle.krb_fields.specs.declared.code.Code.TheVariants.{KrbErrFieldToolong}
 use Rattle.replay.specs.declared.seen.Seen.{Seen}
 use Rattle.kdc_state.specs.declared.state.State.{State}
-use Rattle.kdc_core.specs.Account.{Account, account, names_in, with_names}
+use Rattle.kdc_core.specs.Account.{Account, account, account_if}
 use Rattle.kdc_core.specs.Answer.{answer, error_octets, after_request}
 use Rattle.kdc_core.specs.NewlySeen.{newly_seen}
-use Rattle.kdc_core.specs.Request.{request_of}
 use Rattle.kdc_core.specs.View.{View, view}
-use Rattle.kdc_core.specs.declared.account.RequestNames.{RequestNames}
 use Rattle.kdc_hub.specs.declared.issuer.Issuer.{Issuer}
 use Rattle.kdc_hub.specs.declared.reply.Reply.{Reply}
 
@@ -23,30 +21,17 @@ pub record Issuing : Type 0 where
 abbrev pub issuing : {R : Type 0} → (R → Stream) → Issuer R → Issuing
 issuing stream issuer = record { kdc = issuer.kdc; random = stream issuer.rng; accounts = issuer.keeps_accounts }
 
--- the names of a request, if its account is kept
-abbrev pub names_kept : Bool → List ℕ → Option RequestNames
-names_kept true request = Some (names_in (request_of request))
-names_kept false request = None
-
--- a reply, an account with these names, if there are any, and the authenticator that it records
-abbrev pub reply_with : Option (List ℕ) → Account → Option RequestNames → Option Seen → Option Reply
-reply_with octets account names seen =
-    option_map (λ message. record {
-      message = message;
-      account = option_map (λ n. with_names n account) names;
-      newly_seen = seen;
-    }) octets
-
-abbrev pub kept_account : Bool → Account → Option Account
-kept_account true account = Some account
-kept_account false account = None
+-- the reply in an answer, if there is one
+abbrev pub reply_in : Option (List ℕ) → Option Account → Option Seen → Option Reply
+reply_in octets account seen =
+    option_map (λ message. record { message = message; account = account; newly_seen = seen }) octets
 
 -- the reply to a request, with its account if accounts are kept, and with the authenticator that it records
 unfoldable pub reply_by : Bool → View → Moment → List ℕ → ℕ → List ℕ → Option Reply
 reply_by accounts v at random room request =
     option_map (λ message. record {
       message = message;
-      account = kept_account accounts (account v at random room request);
+      account = account_if accounts (account v at random room request);
       newly_seen = newly_seen v at random room request;
     }) (answer v at random room request).reply
 

@@ -1,13 +1,12 @@
 -- What the calls of a wire hand to its journal, one after the other.
-use Rattle.std.proofs.Common.{◌≡◌, List, [], ◌∷◌, ◌++◌, Option, Some, None, refl, sym, ap, subst, ◌∙◌}
-use Rattle.std.proofs.lemmas.List.{append-nil}
+use Rattle.std.proofs.Common.{◌≡◌, List, [], ◌∷◌, ◌++◌, Option, refl, sym, subst}
 use Rattle.krb_fields.specs.declared.moment.Moment.{Moment}
 use Rattle.kdc_hub.specs.declared.wires.Did.{Did}
 use Rattle.kdc_hub.specs.declared.wires.Did.TheVariants.{Polled, Waited, Missed, Acted, Failed}
 use Rattle.kdc_hub.specs.Wire.{Records}
 use Rattle.kdc_hub.proofs.Rounds.{records_nothing, records_on}
-use Rattle.kdcd_run.specs.Handing.{AreCalls, RecordsAllCalls, handed_in, handed_of}
-use Rattle.kdcd_run.specs.Journal.{Handed, moment_after}
+use Rattle.kdcd_run.specs.Handing.{RecordsAllCalls, handed_in, handed_of}
+use Rattle.kdcd_run.specs.Journal.{moment_after}
 
 first_handed : (at : Option Moment) (did : Did) (others : List Did) → handed_in at (did ∷ others) ≡ handed_of at did ++ handed_in (moment_after at did) others
 first_handed at (Polled came event) others = refl

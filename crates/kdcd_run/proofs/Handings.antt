@@ -12,7 +12,7 @@ use Rattle.krb_fields.specs.declared.moment.Moment.{Moment}
 use Rattle.replay.specs.declared.seen.Seen.{Seen}
 use Rattle.kdc_core.specs.declared.run.Event.{Event as KdcEvent}
 use Rattle.kdc_hub.specs.declared.event.Action.{Action}
-use Rattle.kdc_hub.specs.declared.event.Action.TheVariants.{SendTo, Pass, Write, Close}
+use Rattle.kdc_hub.specs.declared.event.Action.TheVariants.{Close}
 use Rattle.kdc_hub.specs.declared.event.CloseReason.TheVariants.{BadLength, NoRequest}
 use Rattle.kdc_hub.specs.declared.event.Event.{Event}
 use Rattle.kdc_hub.specs.declared.event.Event.TheVariants.{Datagram, Opened, Bytes, Closed}
@@ -21,10 +21,10 @@ use Rattle.kdc_hub.specs.declared.reply.Reply.{Reply}
 use Rattle.kdc_hub.specs.declared.wires.Did.{Did}
 use Rattle.kdc_hub.specs.declared.wires.Did.TheVariants.{Polled, Waited, Missed, Acted, Failed}
 use Rattle.kdc_hub.specs.History.{Stepped, Turn, after_turn, after_turns, all_seen_by, asked, others_after, piece_requests, newly_seen_in, replies_by, reply_in, requests_by, seen_by, stream_requests, turn_sees}
-use Rattle.kdc_hub.specs.Hub.{Standing, Step, brings, datagram_room, hub_step, most_connections, nothing, opened, sent}
+use Rattle.kdc_hub.specs.Hub.{Standing, Step, brings, datagram_room, most_connections, opened, sent}
 use Rattle.kdc_hub.specs.Issuing.{Issuing, after, reply_of, too_long}
 use Rattle.kdc_hub.specs.Logged.{Entry, Stop, logged, step_by, step_of}
-use Rattle.kdc_hub.specs.Rounds.{AreRounds, IsRound, NothingCame, PollFailed, Round, Took, Tries, closing, did_in, ending, entries_of, lost_in}
+use Rattle.kdc_hub.specs.Rounds.{AreRounds, IsRound, NothingCame, PollFailed, Took, Tries, closing, did_in, ending, entries_of, lost_in}
 use Rattle.kdc_hub.specs.StreamStep.{StreamStep, ending_step, messages_step, reply_then, stream_room}
 use Rattle.kdc_serving.specs.Life.{ArePeriods, Period, replacement, rounds_in, tidying, turns_of}
 use Rattle.kdc_serving.specs.declared.rows.Look.{Look}

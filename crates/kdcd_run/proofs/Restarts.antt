@@ -4,13 +4,11 @@ use Rattle.std.specs.Prelude.{IsTrue, ◌≤ℤ◌, ⊤}
 use Rattle.std.specs.Int.{int_max}
 use Rattle.std.specs.List.{AllByRecursion, flat_map}
 use Rattle.std.proofs.lemmas.List.{append-nil}
-use Rattle.krb_fields.specs.Name.{Components}
 use Rattle.krb_fields.specs.Skew.{skew}
 use Rattle.krb_fields.specs.declared.moment.Moment.{Moment}
 use Rattle.replay.specs.Resumed.{is_spent, resumed_cache}
 use Rattle.replay.specs.declared.opening.Opening.TheVariants.{Restart as RestartAt}
 use Rattle.replay.specs.declared.seen.Resumption.{Resumption}
-use Rattle.replay.specs.declared.seen.Seen.{Seen}
 use Rattle.kdc_state.specs.declared.state.State.{State}
 use Rattle.kdc_core.specs.NewlySeen as core
 use Rattle.kdc_core.specs.NewlySeen.{Covers, opening_resumption, resumption_at}
@@ -18,18 +16,18 @@ use Rattle.kdc_core.specs.Run.{after_event, run}
 use Rattle.kdc_core.specs.Tickets.{ResumesFollow, ResumesWithAll}
 use Rattle.kdc_core.specs.declared.run.Event.{Event as KdcEvent}
 use Rattle.kdc_core.specs.declared.run.Event.TheVariants.{Request, Change, Replace, Tidy, Restart, Reopen, Resume}
-use Rattle.kdc_hub.specs.History.{CanBeResumed, IsOneRun, OneTicketSent, Replaced, Reopened, Resumed, Stepped, Tidied, Turn, after_turn, after_turns, events_in, newly_seen_in, turn_events}
+use Rattle.kdc_hub.specs.History.{CanBeResumed, IsOneRun, OneTicketSent, Stepped, Turn, after_turn, after_turns, events_in, turn_events}
 use Rattle.kdc_hub.specs.Hub.{Standing}
 use Rattle.kdc_hub.specs.Logged.{Entry}
-use Rattle.kdc_hub.specs.Rounds.{did_in, entries_of}
+use Rattle.kdc_hub.specs.Rounds.{entries_of}
 use Rattle.kdc_hub.proofs.Histories.{AreAsked, IsAsked, entry_asks}
-use Rattle.kdc_serving.specs.Life.{ArePeriods, Period, replacement, rounds_in, tidying, turns_of}
+use Rattle.kdc_serving.specs.Life.{ArePeriods, Period, replacement, tidying, turns_of}
 use Rattle.kdc_serving.specs.declared.rows.Look.{Look}
 use Rattle.kdc_serving.specs.declared.rows.Look.TheVariants.{Unchanged, Changed, Failed}
 use Rattle.journal.specs.Holding.{ResumesWithHeld}
 use Rattle.journal.specs.declared.decision.Start.{Start}
 use Rattle.journal.specs.declared.decision.Start.TheVariants.{Resumes, Refuses}
-use Rattle.kdcd_run.specs.Handing.{HandsAllInLife, all_seen, handed_in}
+use Rattle.kdcd_run.specs.Handing.{HandsAllInLife}
 use Rattle.kdcd_run.specs.Processes.{AreProcesses, FindsAll, MayStart, OneTicketThroughRestarts, Process, beginning, beginning_by, history, known_after, known_at, known_by}
 
 -- ---- within one process nothing resumes

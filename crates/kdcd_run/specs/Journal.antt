@@ -1,5 +1,5 @@
 -- What a server's journal is handed, and which actions wait for it.
-use Rattle.std.specs.Prelude.{◌≡◌, Bool, true, false, not, ◌||◌, List, [], ◌∷◌, map, Option, Some, None}
+use Rattle.std.specs.Prelude.{◌≡◌, Bool, true, false, not, ◌||◌, List, [], map, Option, Some, None}
 use Rattle.krb_fields.specs.declared.moment.Moment.{Moment}
 use Rattle.replay.specs.declared.seen.Seen.{Seen}
 use Rattle.kdc_hub.specs.declared.event.Action.{Action}

@@ -11,11 +11,11 @@ use Rattle.kdc_hub.specs.declared.event.Action.TheVariants.{SendTo, Pass, Write,
 use Rattle.kdc_hub.specs.declared.event.CloseReason.{CloseReason}
 use Rattle.kdc_hub.specs.declared.event.CloseReason.TheVariants.{NoRequest, BadLength, Full, OutOfMemory}
 use Rattle.request_log.specs.Entry.{entry_fields}
+use Rattle.request_log.specs.Field.{Field}
 use Rattle.request_log.specs.Lines.{json_line, text_line}
 use Rattle.request_log.specs.declared.asker.Asker.{Asker}
 use Rattle.request_log.specs.declared.asker.Transport.{Transport}
 use Rattle.request_log.specs.declared.asker.Transport.TheVariants.{Udp, Tcp}
-use Rattle.request_log.specs.declared.field.Field.{Field}
 use Rattle.kdcd_run.specs.declared.logged_wire.Came.{Came}
 use Rattle.kdcd_run.specs.declared.request_lines.LogFormat.{LogFormat}
 use Rattle.kdcd_run.specs.declared.request_lines.LogFormat.TheVariants.{Text, Json}

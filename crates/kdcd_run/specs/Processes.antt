@@ -1,5 +1,5 @@
 -- The processes of a server with a journal, one after the other, and the tickets that they send.
-use Rattle.std.specs.Prelude.{◌≡◌, ℤ, pos, ◌-ℤ◌, ◌≤ℤ◌, ⊤, Bool, List, [], ◌∷◌, ◌++◌, Option, None}
+use Rattle.std.specs.Prelude.{◌≡◌, ℤ, pos, ◌-ℤ◌, ◌≤ℤ◌, ⊤, Bool, List, [], ◌∷◌, ◌++◌, None}
 use Rattle.std.specs.List.{flat_map}
 use Rattle.rand_core.specs.Stream.{Stream}
 use Rattle.krb_fields.specs.Name.{Components}

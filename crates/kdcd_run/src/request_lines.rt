@@ -1,16 +1,19 @@
 //! The lines of a server's log.
 ghost use Rattle.std.specs.Prelude.{◌≡◌, IfOk, OnOk, option_copied};
 ghost use Rattle.std.specs.Io.KnownBytes.{Appends};
-ghost use Rattle.kdcd_run.specs.Log.{LogsLine, TriesLine, TriesLost, entry_line, line_of, peer_text, written};
+ghost use Rattle.kdcd_run.specs.Log.{LogsLine, TriesLine, TriesLost, entry_line, line_of, peer_text};
 
 use crate::logged_wire::LogWriter;
 use kdc_hub::Account;
 use krb_fields::Moment;
-use request_log::{Asker, Field, Transport, entry, json_line, text_line};
+use request_log::{Asker, Transport, json_line, text_line};
 use std::alloc::{AllocError, Global};
 use std::io;
 use std::io::Write;
 use std::net::SocketAddr;
+
+/// The room for an address that its text gets at first. A longer one gets more.
+const USUAL_PEER: usize = 32;
 
 /// The format of the lines of a log.
 #[derive(Clone, Copy, Debug, PartialEq, Eq)]
@@ -121,13 +124,16 @@ fn asked_line(
     line_of(alloc, format, at, peer.as_bytes(), asker.transport, account)
 }
 
+/// Returns an address and its port as text, or a dash.
 fn peer_text(alloc: Global, peer: Option<SocketAddr>) -> Result<String, AllocError>
     ensures { IfOk result (λ text. text.bytes.items ≡ peer_text peer) }
 {
+    let mut text = String::with_capacity(alloc, USUAL_PEER)?;
     match peer {
-        Some(peer) => format!(in alloc; "{peer}"),
-        None => format!(in alloc; "-"),
+        Some(peer) => write!(text, "{peer}")?,
+        None => text.push('-')?,
     }
+    Ok(text)
 }
 
 /// Returns the line for a request that came at a moment from a peer, whose address is given as text.
@@ -142,16 +148,8 @@ pub fn line_of(
     ensures { IfOk result (λ line.
         line.items ≡ line_of format at peer.now transport (option_copied account.entry)) }
 {
-    let fields = entry(alloc, at, peer, transport, account)?;
-    written(alloc, format, &fields)
-}
-
-/// Returns the line of an entry.
-fn written(alloc: Global, format: LogFormat, fields: &[Field]) -> Result<Vec<u8>, AllocError>
-    ensures { IfOk result (λ line. line.items ≡ written format fields.now) }
-{
     match format {
-        LogFormat::Text => text_line(alloc, fields),
-        LogFormat::Json => json_line(alloc, fields),
+        LogFormat::Text => text_line(alloc, at, peer, transport, account),
+        LogFormat::Json => json_line(alloc, at, peer, transport, account),
     }
 }

@@ -5,6 +5,7 @@
 //! so each name has exactly one text.
 ghost use Rattle.std.specs.Prelude.{◌≡◌, ◌≢◌, ◌<◌, ◌++◌, ◌∷◌, [], ℕ, List, false, IfOk, IfSome, IfNone, OnOk};
 ghost use Rattle.std.specs.Prelude.{MatchResult};
+ghost use Rattle.std.specs.List.{list_all};
 ghost use Rattle.std.specs.Prelude.{pos, string_bytes};
 ghost use Rattle.krb_fields.specs.Name.{Components};
 ghost use Rattle.krb_fields.specs.NameLimits.{IsWithinLimits};
@@ -17,10 +18,13 @@ use crate::name_limits::{MAX_COMPONENTS, MAX_OCTETS};
 use krb_elements::{KerberosString, Seq};
 use std::alloc::{AllocError, AllocFailed, Global};
 use std::error::Error;
-use std::fmt;
+use std::{fmt, str};
 
 /// The name-type NT-PRINCIPAL (RFC 4120, section 6.2), which names read from text get.
 pub const NT_PRINCIPAL: i32 = 1;
+
+/// The room that a name's text gets at first. A longer one gets more.
+const USUAL_TEXT: usize = 32;
 
 /// Why a text is not a name.
 #[derive(Clone, Copy, Debug, PartialEq, Eq)]
@@ -82,7 +86,7 @@ impl Name {
         ensures own { IfOk result (λ text. IsWithinLimits self.now.components → (n : Components)
             → IsNameText n (string_bytes text) → n ≡ self.now.components) }
     {
-        let mut text = String::new(alloc);
+        let mut text = String::with_capacity(alloc, USUAL_TEXT)?;
         for (i, component) in self.components.as_slice().iter().enumerate() {
             if i > 0 {
                 text.push('/')?;
@@ -192,6 +196,33 @@ fn digit_value(digit: u8) -> Option<u8>
 
 /// Appends the text of a component.
 fn push_component(text: &mut String, octets: &[u8]) -> Result<(), AllocError>
+    ensures { OnOk result (string_bytes text.new ≡ string_bytes text.old ++ component_text octets.now) }
+{
+    match plain_text(octets) {
+        Some(plain) => text.push_str(plain),
+        None => push_octets(text, octets),
+    }
+}
+
+/// Returns the bytes of a component as text, if each is written as it is.
+fn plain_text(octets: &[u8]) -> Option<&str>
+    ensures { IfSome result (λ text. text.now ≡ component_text octets.now) }
+{
+    if are_plain(octets) {
+        str::from_utf8(octets).ok()
+    } else {
+        None
+    }
+}
+
+fn are_plain(octets: &[u8]) -> bool
+    ensures { result ≡ list_all is_plain octets.now }
+{
+    octets.iter().all(|octet| is_plain(*octet))
+}
+
+/// Appends the text of a component, byte by byte.
+fn push_octets(text: &mut String, octets: &[u8]) -> Result<(), AllocError>
     ensures { OnOk result (string_bytes text.new ≡ string_bytes text.old ++ component_text octets.now) }
 {
     for octet in octets {

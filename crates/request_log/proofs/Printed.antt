@@ -1,20 +1,14 @@
 -- Printing printable strings gives printable characters, so a line of JSON is a single line.
-use Rattle.std.proofs.Common.{rules, ◌≡◌, ◌<◌, ◌≤◌, ◌/◌, ◌%◌, ℕ, Bool, true, false, cond, List, [], ◌∷◌, ◌++◌, flat_map, refl, arith}
+use Rattle.std.proofs.Common.{rules, ◌≡◌, ◌<◌, ◌/◌, ◌%◌, ℕ, Bool, true, false, cond, List, [], ◌∷◌, ◌++◌, refl, arith}
 use Rattle.std.specs.Prelude.{⊤, nat_lt, ◌||◌, ◌==◌}
 use Rattle.std.specs.Char.{digit_char}
-use Rattle.std.specs.List.{All, list_all}
-use Rattle.std.proofs.lemmas.Bool.{and_parts}
+use Rattle.std.specs.List.{All}
 use Rattle.std.proofs.lemmas.List.Elements.{All-append, All-cons, All-head, All-nil, All-push, All-tail}
-use Rattle.json.specs.Print.{ends, begins, escape, escape_byte, print_from, quoted, separator, token_text}
+use Rattle.json.specs.Print.{ends, escape, escape_byte, print_from, quoted, separator, token_text}
 use Rattle.json.specs.Token.{Token, begin_object, end_object, begin_array, end_array, key, string, number, boolean, null, bad}
-use Rattle.request_log.specs.Field.{name_text}
-use Rattle.request_log.specs.Lines.{IsLine, IsPrintable, fields_tokens, is_printable, json_line, shown}
-use Rattle.request_log.specs.declared.field.Field.{Field}
-use Rattle.request_log.specs.declared.field.FieldName.{FieldName}
-use Rattle.request_log.specs.declared.field.FieldName.TheVariants.{Time, Peer, Transport, Exchange, Client, Service}
-use Rattle.request_log.specs.declared.field.FieldName.TheVariants.{Outcome, Lifetime, Code, Reason, Rule, Etype}
-use Rattle.request_log.specs.declared.field.FieldName.TheVariants.{Flags, Until, Renew, Repeat}
-use Rattle.request_log.proofs.Shown.{all_shown, one_decides}
+use Rattle.request_log.specs.Field.{Field, name_text}
+use Rattle.request_log.specs.Lines.{IsLine, IsPrintable, fields_tokens, json_line, shown}
+use Rattle.request_log.proofs.Shown.{all_shown, name_printable}
 
 abbrev ArePrintable : List ℕ → Type 0
 ArePrintable text = All IsPrintable text
@@ -102,34 +96,12 @@ printed after (t ∷ ts) all =
 
 -- ---- the fields
 
-by_all : (xs : List ℕ) → list_all is_printable xs ≡ true → ArePrintable xs
-by_all [] e = All-nil IsPrintable
-by_all (x ∷ xs) e = All-cons IsPrintable x xs ((one_decides x).0 (and_parts _ _ e).0) (by_all xs (and_parts _ _ e).1)
-
-name_is : (n : FieldName) → list_all is_printable (name_text n) ≡ true
-name_is Time = refl
-name_is Peer = refl
-name_is Transport = refl
-name_is Exchange = refl
-name_is Client = refl
-name_is Service = refl
-name_is Outcome = refl
-name_is Lifetime = refl
-name_is Code = refl
-name_is Reason = refl
-name_is Rule = refl
-name_is Etype = refl
-name_is Flags = refl
-name_is Until = refl
-name_is Renew = refl
-name_is Repeat = refl
-
 fields_plain : (ts : List Token) (fields : List Field) → All IsPlain ts → All IsPlain (fields_tokens ts fields)
 fields_plain ts [] all = all
 fields_plain ts (f ∷ fields) all =
     fields_plain (ts ++ key (name_text f.name) ∷ [] ++ string (shown f.value) ∷ []) fields
     (All-push IsPlain (ts ++ key (name_text f.name) ∷ []) (string (shown f.value))
-    (All-push IsPlain ts (key (name_text f.name)) all (by_all (name_text f.name) (name_is f.name))) (all_shown f.value))
+    (All-push IsPlain ts (key (name_text f.name)) all (name_printable f.name)) (all_shown f.value))
 
 pub is_json_line : (fields : List Field) → IsLine (json_line fields)
 is_json_line fields = record {

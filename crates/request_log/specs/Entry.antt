@@ -22,12 +22,11 @@ use Rattle.kdc_replies.specs.declared.granted.Granted.{Granted}
 use Rattle.ticket_times.specs.declared.times.Times.{Times}
 use Rattle.kdc_core.specs.Account.{Account}
 use Rattle.kdc_core.specs.declared.account.Account.TheVariants.{NoRequest, As, Tgs}
-use Rattle.request_log.specs.Field.{field, with_fields}
+use Rattle.request_log.specs.Field.{Field, field}
 use Rattle.request_log.specs.Times.{date_text, life_text, valid_seconds}
 use Rattle.request_log.specs.Words.{as_rule_name, code_word, tgs_rule_name}
 use Rattle.request_log.specs.declared.asker.Transport.{Transport as Carrier}
 use Rattle.request_log.specs.declared.asker.Transport.TheVariants.{Udp, Tcp}
-use Rattle.request_log.specs.declared.field.Field.{Field}
 use Rattle.request_log.specs.declared.field.FieldName.TheVariants.{Time, Peer, Transport, Exchange, Client, Service}
 use Rattle.request_log.specs.declared.field.FieldName.TheVariants.{Outcome, Lifetime, Code, Reason, Rule, Etype as Etypes}
 use Rattle.request_log.specs.declared.field.FieldName.TheVariants.{Flags, Until, Renew, Repeat}

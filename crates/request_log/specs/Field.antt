@@ -1,10 +1,14 @@
 -- The fields of a log entry.
 use Rattle.std.specs.Prelude.{ℕ, Bool, true, false, List, [], ◌∷◌, ◌++◌, codes}
-use Rattle.request_log.specs.declared.field.Field.{Field}
 use Rattle.request_log.specs.declared.field.FieldName.{FieldName}
 use Rattle.request_log.specs.declared.field.FieldName.TheVariants.{Time, Peer, Transport, Exchange, Client, Service}
 use Rattle.request_log.specs.declared.field.FieldName.TheVariants.{Outcome, Lifetime, Code, Reason, Rule, Etype}
 use Rattle.request_log.specs.declared.field.FieldName.TheVariants.{Flags, Until, Renew, Repeat}
+
+-- a field: a name, and the bytes of its value
+pub record Field : Type 0 where
+  pub name : FieldName
+  pub value : List ℕ
 
 abbrev pub field : FieldName → List ℕ → Field
 field name value = record { name = name; value = value }

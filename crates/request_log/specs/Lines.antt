@@ -1,10 +1,12 @@
 -- Log lines.
-use Rattle.std.specs.Prelude.{◌≡◌, ◌≤◌, ◌&&◌, ℕ, Bool, nat_le, List, [], ◌∷◌, ◌++◌, All, codes, length, take}
+use Rattle.std.specs.Prelude.{◌≡◌, ◌≤◌, ◌&&◌, ℕ, Bool, nat_le, List, [], ◌∷◌, ◌++◌, All, codes, take}
 use Rattle.std.specs.Prelude.{if◌then◌else◌}
 use Rattle.json.specs.Print.{print}
 use Rattle.json.specs.Token.{Token, begin_object, end_object, key, string}
-use Rattle.request_log.specs.Field.{is_column, name_text}
-use Rattle.request_log.specs.declared.field.Field.{Field}
+use Rattle.request_log.specs.Field.{Field, is_column, name_text}
+use Rattle.request_log.specs.declared.field.FieldName.{FieldName}
+use Rattle.request_log.specs.declared.json_lines.JsonFields.{JsonFields}
+use Rattle.request_log.specs.declared.text_lines.TextFields.{TextFields}
 
 -- ---- printable bytes
 
@@ -39,21 +41,32 @@ pub record IsLine (octets : List ℕ) : Type 0 where
 
 -- ---- a line of text
 
--- the value alone if it has a fixed place, otherwise name and value
-abbrev pub field_text : Field → List ℕ
-field_text f = if is_column f.name then f.value else name_text f.name ++ codes "=" ++ f.value
+-- what stands in front of a value: nothing if it has a fixed place, otherwise its name
+abbrev pub label : FieldName → List ℕ
+label name = if is_column name then [] else name_text name ++ codes "="
 
+abbrev pub field_text : Field → List ℕ
+field_text f = label f.name ++ shown f.value
+
+-- a space after what is there
+abbrev pub spaced : List ℕ → List ℕ
+spaced [] = []
+spaced (o ∷ text) = (o ∷ text) ++ codes " "
+
+-- fields after a text, separated by spaces
 abbrev pub fields_text : List ℕ → List Field → List ℕ
 fields_text text [] = text
-fields_text text (f ∷ fields) = fields_text (text ++ codes " " ++ field_text f) fields
+fields_text text (f ∷ fields) = fields_text (spaced text ++ field_text f) fields
 
--- the fields, separated by spaces
 abbrev pub joined : List Field → List ℕ
-joined [] = []
-joined (f ∷ fields) = fields_text (field_text f) fields
+joined fields = fields_text [] fields
 
 abbrev pub text_line : List Field → List ℕ
-text_line fields = shown (take longest (joined fields)) ++ 10 ∷ []
+text_line fields = take longest (joined fields) ++ 10 ∷ []
+
+-- what a line holds while it is made
+abbrev pub HoldsText : TextFields → List Field → Type 0
+HoldsText line fields = line.text.items ≡ joined fields
 
 -- ---- a line of JSON
 
@@ -66,3 +79,8 @@ fields_tokens tokens (f ∷ fields) =
 -- one object and a line feed
 abbrev pub json_line : List Field → List ℕ
 json_line fields = print (fields_tokens (begin_object ∷ []) fields ++ end_object ∷ []) ++ 10 ∷ []
+
+-- what an object holds while it is made
+pub record HoldsJson (json : JsonFields) (fields : List Field) : Type 0 where
+  pub tokens : json.out.tokens ≡ fields_tokens (begin_object ∷ []) fields
+  pub before : json.out.before ≡ []

@@ -1,73 +1,75 @@
 //! The entries of the log.
-ghost use Rattle.std.specs.Prelude.{◌≡◌, IfOk, OnOk, option_copied};
+ghost use Rattle.std.specs.Prelude.{◌≡◌, ◌++◌, ◌∷◌, [], List, OnOk, option_copied};
 ghost use Rattle.request_log.specs.Entry.{account_fields, carrier, entry_fields, head_fields, names_fields};
-ghost use Rattle.request_log.specs.Field.{with_fields};
+ghost use Rattle.request_log.specs.Field.{Field, field, with_fields};
+ghost use Rattle.request_log.specs.declared.field.FieldName.TheVariants as names;
 
 use crate::asker::Transport;
-use crate::field::{Field, FieldName, add, add_value};
-use crate::names::name_value;
-use crate::outcome::{add_as_outcome, add_tgs_outcome};
-use crate::times::date_value;
+use crate::field::{FieldName, FieldWriter};
+use crate::names::put_name;
+use crate::outcome::{put_as_outcome, put_tgs_outcome};
+use crate::times::put_date;
 use kdc_core::Account;
 use krb_fields::{Moment, Name};
 use std::alloc::{AllocError, Global};
 
-/// The maximum number of fields in an entry.
-const MOST_FIELDS: usize = 12;
-
-/// Returns the fields of the log entry for a request. `at` is when it came in, `peer` is the sender's address as text.
+/// Writes the fields of the log entry for a request. `at` is when it came in, `peer` is the sender's address as text.
 /// There is no account if memory ran out.
-pub fn entry(
+pub fn put_entry<W: FieldWriter>(
+    line: &mut W,
     alloc: Global,
     at: Moment,
     peer: &[u8],
     transport: Transport,
     account: Option<&Account>,
-) -> Result<Vec<Field>, AllocError>
-    ensures { IfOk result (λ fields.
-        fields.items ≡ entry_fields at peer.now transport (option_copied account.entry)) }
+) -> Result<(), AllocError>
+    ensures { (fields : List Field) → W.Holds line.old fields → OnOk result (W.Holds line.new
+        (with_fields fields (entry_fields at peer.now transport (option_copied account.entry)))) }
 {
-    let mut fields = Vec::with_capacity(alloc, MOST_FIELDS)?;
-    add_head(alloc, &mut fields, at, peer, transport)?;
-    add_account(alloc, &mut fields, account)?;
-    Ok(fields)
+    put_head(line, alloc, at, peer, transport)?;
+    put_account(line, alloc, account)
 }
 
-fn add_head(
+fn put_head<W: FieldWriter>(
+    line: &mut W,
     alloc: Global,
-    fields: &mut Vec<Field>,
     at: Moment,
     peer: &[u8],
     transport: Transport,
 ) -> Result<(), AllocError>
-    ensures { OnOk result
-        (fields.new.items ≡ with_fields fields.old.items (head_fields at.sec peer.now transport)) }
+    ensures { (fields : List Field) → W.Holds line.old fields
+        → OnOk result (W.Holds line.new (with_fields fields (head_fields at.sec peer.now transport))) }
 {
-    add_value(fields, FieldName::Time, date_value(alloc, at.time())?)?;
-    add(alloc, fields, FieldName::Peer, peer)?;
-    add(alloc, fields, FieldName::Transport, carrier(transport))
+    put_date(line, alloc, FieldName::Time, at.time())?;
+    line.put(alloc, FieldName::Peer, peer)?;
+    put_transport(line, alloc, transport)
 }
 
-fn carrier(transport: Transport) -> &'static [u8]
-    ensures { result.now ≡ carrier transport }
+fn put_transport<W: FieldWriter>(
+    line: &mut W,
+    alloc: Global,
+    transport: Transport,
+) -> Result<(), AllocError>
+    ensures { (fields : List Field) → W.Holds line.old fields
+        → OnOk result (W.Holds line.new (fields ++ field names.Transport (carrier transport) ∷ [])) }
 {
     match transport {
-        Transport::Udp => b"udp",
-        Transport::Tcp => b"tcp",
+        Transport::Udp => line.put(alloc, FieldName::Transport, b"udp"),
+        Transport::Tcp => line.put(alloc, FieldName::Transport, b"tcp"),
     }
 }
 
-fn add_account(
+fn put_account<W: FieldWriter>(
+    line: &mut W,
     alloc: Global,
-    fields: &mut Vec<Field>,
     account: Option<&Account>,
 ) -> Result<(), AllocError>
-    ensures { OnOk result
-        (fields.new.items ≡ with_fields fields.old.items (account_fields (option_copied account.entry))) }
+    ensures { (fields : List Field) → W.Holds line.old fields
+        → OnOk result (W.Holds line.new (with_fields fields (account_fields (option_copied account.entry)))) }
 {
     match account {
-        None => add(alloc, fields, FieldName::Outcome, b"unanswered"),
-        Some(Account::NoRequest) => add(alloc, fields, FieldName::Outcome, b"none"),
+        None => line.put(alloc, FieldName::Outcome, b"unanswered"),
+        Some(Account::NoRequest) => line.put(alloc, FieldName::Outcome, b"none"),
         Some(
             Account::As {
                 client,
@@ -75,8 +77,8 @@ fn add_account(
                 outcome,
             },
         ) => {
-            add_names(alloc, fields, b"as", client, service)?;
-            add_as_outcome(alloc, fields, outcome)
+            put_names(line, alloc, b"as", client, service)?;
+            put_as_outcome(line, alloc, outcome)
         }
         Some(
             Account::Tgs {
@@ -85,23 +87,23 @@ fn add_account(
                 outcome,
             },
         ) => {
-            add_names(alloc, fields, b"tgs", client, service)?;
-            add_tgs_outcome(alloc, fields, outcome)
+            put_names(line, alloc, b"tgs", client, service)?;
+            put_tgs_outcome(line, alloc, outcome)
         }
     }
 }
 
-fn add_names(
+fn put_names<W: FieldWriter>(
+    line: &mut W,
     alloc: Global,
-    fields: &mut Vec<Field>,
     exchange: &[u8],
     client: &Option<Name>,
     service: &Option<Name>,
 ) -> Result<(), AllocError>
-    ensures { OnOk result
-        (fields.new.items ≡ with_fields fields.old.items (names_fields exchange.now client.now service.now)) }
+    ensures { (fields : List Field) → W.Holds line.old fields → OnOk result (W.Holds line.new
+        (with_fields fields (names_fields exchange.now client.now service.now))) }
 {
-    add(alloc, fields, FieldName::Exchange, exchange)?;
-    add_value(fields, FieldName::Client, name_value(alloc, client)?)?;
-    add_value(fields, FieldName::Service, name_value(alloc, service)?)
+    line.put(alloc, FieldName::Exchange, exchange)?;
+    put_name(line, alloc, FieldName::Client, client)?;
+    put_name(line, alloc, FieldName::Service, service)
 }

@@ -1,8 +1,7 @@
 //! The fields of a log entry.
-ghost use Rattle.std.specs.Prelude.{◌≡◌, ◌++◌, ◌∷◌, [], OnOk};
-ghost use Rattle.request_log.specs.Field.{field, is_column, name_text};
+ghost use Rattle.std.specs.Prelude.{◌≡◌, ◌++◌, ◌∷◌, [], List, OnOk};
+ghost use Rattle.request_log.specs.Field.{Field, field, is_column, name_text};
 
-use krb_elements::Octets;
 use std::alloc::{AllocError, Global};
 
 /// The name of a field.
@@ -90,34 +89,13 @@ impl FieldName {
     }
 }
 
-/// A field: a name, and the bytes of its value.
-#[derive(Drop)]
-pub struct Field {
-    pub name: FieldName,
-    pub value: Octets,
-}
+/// Takes the fields of an entry, in their order.
+pub trait FieldWriter {
+    // It has these fields so far.
+    ghost Holds: { Self → List Field → Type 0 };
 
-/// Adds a field with a copy of this value.
-pub(crate) fn add(
-    alloc: Global,
-    fields: &mut Vec<Field>,
-    name: FieldName,
-    value: &[u8],
-) -> Result<(), AllocError>
-    ensures { OnOk result (fields.new.items ≡ fields.old.items ++ field name value.now ∷ []) }
-{
-    let value = Octets::from_slice(alloc, value)?;
-    add_value(fields, name, value)
-}
-
-/// Adds a field with this value.
-pub(crate) fn add_value(
-    fields: &mut Vec<Field>,
-    name: FieldName,
-    value: Octets,
-) -> Result<(), AllocError>
-    ensures { OnOk result (fields.new.items ≡ fields.old.items ++ field name value ∷ []) }
-{
-    fields.push(Field { name, value })?;
-    Ok(())
+    /// Adds a field with this value.
+    fn put(&mut self, alloc: Global, name: FieldName, value: &[u8]) -> Result<(), AllocError>
+        ensures { (fields : List Field) → Holds self.old fields
+            → OnOk result (Holds self.new (fields ++ field name value.now ∷ [])) };
 }

@@ -1,7 +1,8 @@
 //! The KDC's request log: from the account of a request to a line.
 //!
 //! A log entry is a list of fields, built from the account and the sender. A line is those fields as text or as one
-//! JSON object. So it shows what the KDC decided, and nothing parses the request or the reply again.
+//! JSON object: each field is written straight into it. So it shows what the KDC decided, and nothing parses the request
+//! or the reply again.
 #![tactic(auto)]
 
 mod asker;
@@ -16,8 +17,6 @@ mod times;
 mod words;
 
 pub use crate::asker::{Asker, Transport};
-pub use crate::entries::entry;
-pub use crate::field::{Field, FieldName};
 pub use crate::json_lines::json_line;
 pub use crate::laws::rule_names;
 pub use crate::text_lines::text_line;

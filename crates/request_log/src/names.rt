@@ -1,8 +1,9 @@
 //! Principals in the log.
-ghost use Rattle.std.specs.Prelude.{◌≡◌, IfOk};
+ghost use Rattle.std.specs.Prelude.{◌≡◌, ◌++◌, ◌∷◌, [], List, IfOk, OnOk, codes};
 ghost use Rattle.request_log.specs.Entry.{cut, name_value, or_dash};
+ghost use Rattle.request_log.specs.Field.{Field, field};
 
-use krb_elements::Octets;
+use crate::field::{FieldName, FieldWriter};
 use krb_fields::Name;
 use std::alloc::{AllocError, Global};
 
@@ -15,36 +16,66 @@ const KEPT: usize = 197;
 /// The value of a field whose value is absent.
 pub(crate) const ABSENT: &[u8] = b"-";
 
-/// Returns the text of a name, cut to at most 200 bytes. It contains no space and no line feed.
-pub(crate) fn name_value(alloc: Global, name: &Option<Name>) -> Result<Octets, AllocError>
-    ensures { IfOk result (λ value. value ≡ name_value name.now) }
+/// Writes the text of a principal's name, cut to at most 200 bytes. It contains no space and no line feed.
+pub(crate) fn put_name<W: FieldWriter>(
+    line: &mut W,
+    alloc: Global,
+    name: FieldName,
+    principal: &Option<Name>,
+) -> Result<(), AllocError>
+    ensures { (fields : List Field) → W.Holds line.old fields
+        → OnOk result (W.Holds line.new (fields ++ field name (name_value principal.now) ∷ [])) }
 {
-    let Some(name) = name else {
-        return Octets::from_slice(alloc, ABSENT);
-    };
-    let text = cut(alloc, name.to_text(alloc)?.as_bytes())?;
-    or_dash(alloc, text)
+    match principal {
+        Some(principal) => {
+            let text = principal.to_text(alloc)?;
+            put_cut(line, alloc, name, text.as_bytes())
+        }
+        None => line.put(alloc, name, ABSENT),
+    }
 }
 
-fn cut(alloc: Global, text: &[u8]) -> Result<Vec<u8>, AllocError>
-    ensures { IfOk result (λ short. short.items ≡ cut text.now) }
+/// Writes a text, cut to at most 200 bytes.
+fn put_cut<W: FieldWriter>(
+    line: &mut W,
+    alloc: Global,
+    name: FieldName,
+    text: &[u8],
+) -> Result<(), AllocError>
+    ensures { (fields : List Field) → W.Holds line.old fields
+        → OnOk result (W.Holds line.new (fields ++ field name (or_dash (cut text.now)) ∷ [])) }
 {
     match text.get(..KEPT) {
         Some(kept) if text.len() > MOST_OF_NAME => {
-            let mut short = Vec::from_slice(alloc, kept)?;
-            short.extend_from_slice(b"...")?;
-            Ok(short)
+            let short = shortened(alloc, kept)?;
+            put_or_dash(line, alloc, name, &short)
         }
-        _ => Vec::from_slice(alloc, text),
+        _ => put_or_dash(line, alloc, name, text),
     }
 }
 
-/// Returns the value, or `-` if it is empty.
-pub(crate) fn or_dash(alloc: Global, value: Vec<u8>) -> Result<Octets, AllocError>
-    ensures { IfOk result (λ shown. shown ≡ or_dash value.items) }
+/// Returns the bytes, followed by three full stops.
+fn shortened(alloc: Global, kept: &[u8]) -> Result<Vec<u8>, AllocError>
+    ensures { IfOk result (λ short. short.items ≡ kept.now ++ codes "...") }
+{
+    let mut short = Vec::from_slice(alloc, kept)?;
+    short.extend_from_slice(b"...")?;
+    Ok(short)
+}
+
+/// Writes the value, or `-` if it is empty.
+pub(crate) fn put_or_dash<W: FieldWriter>(
+    line: &mut W,
+    alloc: Global,
+    name: FieldName,
+    value: &[u8],
+) -> Result<(), AllocError>
+    ensures { (fields : List Field) → W.Holds line.old fields
+        → OnOk result (W.Holds line.new (fields ++ field name (or_dash value.now) ∷ [])) }
 {
     if value.is_empty() {
-        return Octets::from_slice(alloc, ABSENT);
+        line.put(alloc, name, ABSENT)
+    } else {
+        line.put(alloc, name, value)
     }
-    Ok(Octets::new(value))
 }

@@ -1,139 +1,168 @@
 //! The outcome of a request, as fields.
-ghost use Rattle.std.specs.Prelude.{◌≡◌, ◌++◌, IfOk, OnOk, decimal};
+ghost use Rattle.std.specs.Prelude.{◌≡◌, ◌++◌, ◌∷◌, [], List, IfOk, OnOk, decimal};
 ghost use Rattle.krb_fields.specs.TicketFlag.{ticket_flag_number};
-ghost use Rattle.request_log.specs.Entry.{again_fields, as_fields, code_fields, etype_number, etypes_value};
-ghost use Rattle.request_log.specs.Entry.{flags_value, letter, renew_fields, rule_fields, tgs_fields, ticket_fields};
-ghost use Rattle.request_log.specs.Entry.{ends_fields, terms_fields, with_letters};
-ghost use Rattle.request_log.specs.Field.{with_fields};
+ghost use Rattle.request_log.specs.Entry.{again_fields, as_fields, code_fields, ends_fields, etype_number};
+ghost use Rattle.request_log.specs.Entry.{etypes_value, first_letters, flags_value, letter, renew_fields, rule_fields};
+ghost use Rattle.request_log.specs.Entry.{terms_fields, tgs_fields, ticket_fields, with_letters};
+ghost use Rattle.request_log.specs.Field.{Field, field, with_fields};
+ghost use Rattle.request_log.specs.declared.field.FieldName.TheVariants as names;
 
-use crate::field::{Field, FieldName, add, add_value};
-use crate::names::{ABSENT, or_dash};
-use crate::times::{date_value, life_value};
+use crate::field::{FieldName, FieldWriter};
+use crate::names::{ABSENT, put_or_dash};
+use crate::times::{put_date, put_life};
 use crate::words::{as_rule_name, code_word, tgs_rule_name};
 use enctypes::Etype;
 use itoa::Buffer;
 use kdc_core::{AsOutcome, Bears, Granted, TgsOutcome};
 use krb_der::KTime;
-use krb_elements::Octets;
 use krb_fields::{Code, Flags, NamedBit, TicketFlag};
 use std::alloc::{AllocError, Global};
 use ticket_times::Times;
 
-pub(crate) fn add_as_outcome(
+pub(crate) fn put_as_outcome<W: FieldWriter>(
+    line: &mut W,
     alloc: Global,
-    fields: &mut Vec<Field>,
     outcome: &AsOutcome,
 ) -> Result<(), AllocError>
-    ensures { OnOk result (fields.new.items ≡ with_fields fields.old.items (as_fields outcome.now)) }
+    ensures { (fields : List Field) → W.Holds line.old fields
+        → OnOk result (W.Holds line.new (with_fields fields (as_fields outcome.now))) }
 {
     match outcome {
-        AsOutcome::Refused(rule) => add_rule(alloc, fields, rule.code(), as_rule_name(*rule)),
-        AsOutcome::Issued(granted) => add_ticket(alloc, fields, granted),
-        AsOutcome::TooBig => add_code(alloc, fields, Code::KrbErrResponseTooBig),
+        AsOutcome::Refused(rule) => put_rule(line, alloc, rule.code(), as_rule_name(*rule)),
+        AsOutcome::Issued(granted) => put_ticket(line, alloc, granted),
+        AsOutcome::TooBig => put_code(line, alloc, Code::KrbErrResponseTooBig),
     }
 }
 
-pub(crate) fn add_tgs_outcome(
+pub(crate) fn put_tgs_outcome<W: FieldWriter>(
+    line: &mut W,
     alloc: Global,
-    fields: &mut Vec<Field>,
     outcome: &TgsOutcome,
 ) -> Result<(), AllocError>
-    ensures { OnOk result (fields.new.items ≡ with_fields fields.old.items (tgs_fields outcome.now)) }
+    ensures { (fields : List Field) → W.Holds line.old fields
+        → OnOk result (W.Holds line.new (with_fields fields (tgs_fields outcome.now))) }
 {
     match outcome {
-        TgsOutcome::Refused(rule) => add_rule(alloc, fields, rule.code(), tgs_rule_name(*rule)),
-        TgsOutcome::Issued(granted) => add_ticket(alloc, fields, granted),
-        TgsOutcome::Resent(bears) => add_again(alloc, fields, *bears),
-        TgsOutcome::TooBig => add_code(alloc, fields, Code::KrbErrResponseTooBig),
+        TgsOutcome::Refused(rule) => put_rule(line, alloc, rule.code(), tgs_rule_name(*rule)),
+        TgsOutcome::Issued(granted) => put_ticket(line, alloc, granted),
+        TgsOutcome::Resent(bears) => put_again(line, alloc, *bears),
+        TgsOutcome::TooBig => put_code(line, alloc, Code::KrbErrResponseTooBig),
     }
 }
 
-fn add_rule(
+fn put_rule<W: FieldWriter>(
+    line: &mut W,
     alloc: Global,
-    fields: &mut Vec<Field>,
     code: Code,
     rule: &str,
 ) -> Result<(), AllocError>
-    ensures { OnOk result (fields.new.items ≡ with_fields fields.old.items (rule_fields code rule.now)) }
+    ensures { (fields : List Field) → W.Holds line.old fields
+        → OnOk result (W.Holds line.new (with_fields fields (rule_fields code rule.now))) }
 {
-    add_code(alloc, fields, code)?;
-    add(alloc, fields, FieldName::Rule, rule.as_bytes())
+    put_code(line, alloc, code)?;
+    line.put(alloc, FieldName::Rule, rule.as_bytes())
 }
 
-fn add_code(alloc: Global, fields: &mut Vec<Field>, code: Code) -> Result<(), AllocError>
-    ensures { OnOk result (fields.new.items ≡ with_fields fields.old.items (code_fields code)) }
+fn put_code<W: FieldWriter>(line: &mut W, alloc: Global, code: Code) -> Result<(), AllocError>
+    ensures { (fields : List Field) → W.Holds line.old fields
+        → OnOk result (W.Holds line.new (with_fields fields (code_fields code))) }
 {
     let mut buffer = Buffer::new();
     let number = buffer.format(code.number().unsigned_abs());
-    add(alloc, fields, FieldName::Outcome, b"refused")?;
-    add(alloc, fields, FieldName::Code, number.as_bytes())?;
-    add(alloc, fields, FieldName::Reason, code_word(code).as_bytes())
+    line.put(alloc, FieldName::Outcome, b"refused")?;
+    line.put(alloc, FieldName::Code, number.as_bytes())?;
+    line.put(alloc, FieldName::Reason, code_word(code).as_bytes())
 }
 
 /// Adds the fields for a reply that was sent again.
-fn add_again(alloc: Global, fields: &mut Vec<Field>, bears: Bears) -> Result<(), AllocError>
-    ensures { OnOk result (fields.new.items ≡ with_fields fields.old.items (again_fields bears)) }
+fn put_again<W: FieldWriter>(line: &mut W, alloc: Global, bears: Bears) -> Result<(), AllocError>
+    ensures { (fields : List Field) → W.Holds line.old fields
+        → OnOk result (W.Holds line.new (with_fields fields (again_fields bears))) }
 {
     match bears {
         Bears::Ticket => {
-            add(alloc, fields, FieldName::Outcome, b"ticket")?;
-            add(alloc, fields, FieldName::Lifetime, ABSENT)?;
-            add(alloc, fields, FieldName::Repeat, b"yes")
+            line.put(alloc, FieldName::Outcome, b"ticket")?;
+            line.put(alloc, FieldName::Lifetime, ABSENT)?;
+            line.put(alloc, FieldName::Repeat, b"yes")
         }
         Bears::Error => {
-            add(alloc, fields, FieldName::Outcome, b"refused")?;
-            add(alloc, fields, FieldName::Code, ABSENT)?;
-            add(alloc, fields, FieldName::Reason, ABSENT)?;
-            add(alloc, fields, FieldName::Repeat, b"yes")
+            line.put(alloc, FieldName::Outcome, b"refused")?;
+            line.put(alloc, FieldName::Code, ABSENT)?;
+            line.put(alloc, FieldName::Reason, ABSENT)?;
+            line.put(alloc, FieldName::Repeat, b"yes")
         }
     }
 }
 
-fn add_ticket(alloc: Global, fields: &mut Vec<Field>, granted: &Granted) -> Result<(), AllocError>
-    ensures { OnOk result (fields.new.items ≡ with_fields fields.old.items (ticket_fields granted.now)) }
+fn put_ticket<W: FieldWriter>(
+    line: &mut W,
+    alloc: Global,
+    granted: &Granted,
+) -> Result<(), AllocError>
+    ensures { (fields : List Field) → W.Holds line.old fields
+        → OnOk result (W.Holds line.new (with_fields fields (ticket_fields granted.now))) }
 {
-    add(alloc, fields, FieldName::Outcome, b"ticket")?;
-    add_value(
-        fields,
-        FieldName::Lifetime,
-        life_value(alloc, &granted.times)?,
-    )?;
-    add_terms(alloc, fields, granted)
+    line.put(alloc, FieldName::Outcome, b"ticket")?;
+    put_life(line, alloc, &granted.times)?;
+    put_terms(line, alloc, granted)
 }
 
-fn add_terms(alloc: Global, fields: &mut Vec<Field>, granted: &Granted) -> Result<(), AllocError>
-    ensures { OnOk result (fields.new.items ≡ with_fields fields.old.items (terms_fields granted.now)) }
+fn put_terms<W: FieldWriter>(
+    line: &mut W,
+    alloc: Global,
+    granted: &Granted,
+) -> Result<(), AllocError>
+    ensures { (fields : List Field) → W.Holds line.old fields
+        → OnOk result (W.Holds line.new (with_fields fields (terms_fields granted.now))) }
 {
-    add_value(fields, FieldName::Etype, etypes_value(alloc, granted)?)?;
-    add_value(fields, FieldName::Flags, flags_value(alloc, granted.flags)?)?;
-    add_ends(alloc, fields, &granted.times)
+    put_etypes(line, alloc, granted)?;
+    put_flags(line, alloc, granted.flags)?;
+    put_ends(line, alloc, &granted.times)
 }
 
-fn add_ends(alloc: Global, fields: &mut Vec<Field>, times: &Times) -> Result<(), AllocError>
-    ensures { OnOk result (fields.new.items ≡ with_fields fields.old.items (ends_fields times.now)) }
+fn put_ends<W: FieldWriter>(line: &mut W, alloc: Global, times: &Times) -> Result<(), AllocError>
+    ensures { (fields : List Field) → W.Holds line.old fields
+        → OnOk result (W.Holds line.new (with_fields fields (ends_fields times.now))) }
 {
-    add_value(fields, FieldName::Until, date_value(alloc, times.end)?)?;
-    add_renew(alloc, fields, times.renew_till)
+    put_date(line, alloc, FieldName::Until, times.end)?;
+    put_renew(line, alloc, times.renew_till)
 }
 
-fn add_renew(alloc: Global, fields: &mut Vec<Field>, till: Option<KTime>) -> Result<(), AllocError>
-    ensures { OnOk result (fields.new.items ≡ with_fields fields.old.items (renew_fields till)) }
+fn put_renew<W: FieldWriter>(
+    line: &mut W,
+    alloc: Global,
+    till: Option<KTime>,
+) -> Result<(), AllocError>
+    ensures { (fields : List Field) → W.Holds line.old fields
+        → OnOk result (W.Holds line.new (with_fields fields (renew_fields till))) }
 {
     match till {
-        Some(till) => add_value(fields, FieldName::Renew, date_value(alloc, till)?),
+        Some(till) => put_date(line, alloc, FieldName::Renew, till),
         None => Ok(()),
     }
 }
 
-/// Returns the encryption types of the session key and of the service's key.
-fn etypes_value(alloc: Global, granted: &Granted) -> Result<Octets, AllocError>
-    ensures { IfOk result (λ value. value ≡ etypes_value granted.now) }
+/// Writes the encryption types of the session key and of the service's key.
+fn put_etypes<W: FieldWriter>(
+    line: &mut W,
+    alloc: Global,
+    granted: &Granted,
+) -> Result<(), AllocError>
+    ensures { (fields : List Field) → W.Holds line.old fields
+        → OnOk result (W.Holds line.new (fields ++ field names.Etype (etypes_value granted.now) ∷ [])) }
+{
+    let value = etypes_value(alloc, granted)?;
+    line.put(alloc, FieldName::Etype, &value)
+}
+
+fn etypes_value(alloc: Global, granted: &Granted) -> Result<Vec<u8>, AllocError>
+    ensures { IfOk result (λ value. value.items ≡ etypes_value granted.now) }
 {
     let mut value = Vec::new(alloc);
     push_etype(&mut value, granted.session_type)?;
     value.push(b'/')?;
     push_etype(&mut value, granted.ticket_type)?;
-    Ok(Octets::new(value))
+    Ok(value)
 }
 
 fn push_etype(value: &mut Vec<u8>, etype: Etype) -> Result<(), AllocError>
@@ -146,9 +175,17 @@ fn push_etype(value: &mut Vec<u8>, etype: Etype) -> Result<(), AllocError>
     )
 }
 
-/// Returns the ticket's flags in the letters of `klist -f`, in its order.
-fn flags_value(alloc: Global, flags: Flags) -> Result<Octets, AllocError>
-    ensures { IfOk result (λ value. value ≡ flags_value flags) }
+/// Writes the ticket's flags in the letters of `klist -f`, in its order.
+fn put_flags<W: FieldWriter>(line: &mut W, alloc: Global, flags: Flags) -> Result<(), AllocError>
+    ensures { (fields : List Field) → W.Holds line.old fields
+        → OnOk result (W.Holds line.new (fields ++ field names.Flags (flags_value flags) ∷ [])) }
+{
+    let letters = letters_of(alloc, flags)?;
+    put_or_dash(line, alloc, FieldName::Flags, &letters)
+}
+
+fn letters_of(alloc: Global, flags: Flags) -> Result<Vec<u8>, AllocError>
+    ensures { IfOk result (λ letters. letters.items ≡ with_letters (first_letters flags) flags) }
 {
     let mut letters = Vec::with_capacity(alloc, 13)?;
     push_letter(&mut letters, flags, TicketFlag::Forwardable, b'F')?;
@@ -158,7 +195,7 @@ fn flags_value(alloc: Global, flags: Flags) -> Result<Octets, AllocError>
     push_letter(&mut letters, flags, TicketFlag::MayPostdate, b'D')?;
     push_letter(&mut letters, flags, TicketFlag::Postdated, b'd')?;
     push_others(&mut letters, flags)?;
-    or_dash(alloc, letters)
+    Ok(letters)
 }
 
 fn push_others(letters: &mut Vec<u8>, flags: Flags) -> Result<(), AllocError>

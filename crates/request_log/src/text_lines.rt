@@ -1,61 +1,85 @@
 //! A log line as text.
-ghost use Rattle.std.specs.Prelude.{◌≡◌, ◌≤◌, ◌+◌, ◌++◌, [], length, IfOk, OnOk};
-ghost use Rattle.request_log.specs.Lines.{IsLine, field_text, fields_text, joined, shown, shown_octet, text_line};
-ghost use Rattle.request_log.specs.Lines.{longest, with_shown};
+ghost use Rattle.std.specs.Prelude.{◌≡◌, ◌≤◌, ◌+◌, ◌++◌, [], List, length, IfOk, OnOk, option_copied};
+ghost use Rattle.std.specs.List.{list_all};
+ghost use Rattle.request_log.specs.Entry.{entry_fields};
+ghost use Rattle.request_log.specs.Field.{Field};
+ghost use Rattle.request_log.specs.Lines.{HoldsText, IsLine, is_printable, label, longest, shown, shown_octet, spaced};
+ghost use Rattle.request_log.specs.Lines.{text_line, with_shown};
 
-use crate::field::Field;
+use crate::asker::Transport;
+use crate::entries::put_entry;
+use crate::field::{FieldName, FieldWriter};
+use kdc_core::Account;
+use krb_fields::Moment;
 use std::alloc::{AllocError, Global};
 
 /// The maximum length of a line, without its line feed, in bytes.
 const LONGEST: usize = 639;
 
-/// Returns the fields in order, separated by spaces: first the values with a fixed place, then `NAME=VALUE`.
-/// Non-printable bytes become question marks. The line is cut after 639 bytes.
-pub fn text_line(alloc: Global, fields: &[Field]) -> Result<Vec<u8>, AllocError>
-    ensures text { IfOk result (λ line. line.items ≡ text_line fields.now) }
+/// The text of a line, while it is made.
+#[derive(Drop)]
+pub struct TextFields {
+    text: Vec<u8>,
+}
+
+impl FieldWriter for TextFields {
+    ghost Holds = { HoldsText };
+
+    fn put(&mut self, _alloc: Global, name: FieldName, value: &[u8]) -> Result<(), AllocError> {
+        push_space(&mut self.text)?;
+        push_label(&mut self.text, name)?;
+        push_shown(&mut self.text, value)
+    }
+}
+
+/// Returns the line for a request: its fields in order, separated by spaces: first the values with a fixed place, then
+/// `NAME=VALUE`. Non-printable bytes become question marks. The line is cut after 639 bytes.
+///
+/// `at` is when the request came in, `peer` is the sender's address as text. There is no account if memory ran out.
+pub fn text_line(
+    alloc: Global,
+    at: Moment,
+    peer: &[u8],
+    transport: Transport,
+    account: Option<&Account>,
+) -> Result<Vec<u8>, AllocError>
+    ensures text { IfOk result (λ line.
+        line.items ≡ text_line (entry_fields at peer.now transport (option_copied account.entry))) }
     // The result is a single line, whatever the names contain.
     ensures one { IfOk result (λ line. IsLine line.items) }
     ensures short { IfOk result (λ line. length line.items ≤ longest + 1) }
 {
-    let mut text = Vec::with_capacity(alloc, LONGEST)?;
-    push_fields(&mut text, fields)?;
-    text.truncate(LONGEST);
-    let mut line = shown(alloc, &text)?;
+    let mut fields = TextFields {
+        text: Vec::with_capacity(alloc, LONGEST + 1)?,
+    };
+    put_entry(&mut fields, alloc, at, peer, transport, account)?;
+    let mut line = fields.text;
+    line.truncate(LONGEST);
     line.push(b'\n')?;
     Ok(line)
 }
 
-fn push_fields(line: &mut Vec<u8>, fields: &[Field]) -> Result<(), AllocError>
-    requires { line.old.items ≡ [] }
-    ensures { OnOk result (line.new.items ≡ joined fields.now) }
+/// Adds a space to a text, unless it is empty.
+fn push_space(text: &mut Vec<u8>) -> Result<(), AllocError>
+    ensures { OnOk result (text.new.items ≡ spaced text.old.items) }
 {
-    let Some((first, others)) = fields.split_first() else {
+    if text.is_empty() {
         return Ok(());
-    };
-    push_field(line, first)?;
-    push_others(line, others)
-}
-
-fn push_others(line: &mut Vec<u8>, fields: &[Field]) -> Result<(), AllocError>
-    ensures { OnOk result (line.new.items ≡ fields_text line.old.items fields.now) }
-{
-    let mut rest = fields;
-    while let [field, others @ ..] = rest {
-        line.push(b' ')?;
-        push_field(line, field)?;
-        rest = others;
     }
+    text.push(b' ')?;
     Ok(())
 }
 
-fn push_field(line: &mut Vec<u8>, field: &Field) -> Result<(), AllocError>
-    ensures { OnOk result (line.new.items ≡ line.old.items ++ field_text field.now) }
+/// Adds what stands in front of a value.
+fn push_label(text: &mut Vec<u8>, name: FieldName) -> Result<(), AllocError>
+    ensures { OnOk result (text.new.items ≡ text.old.items ++ label name) }
 {
-    if !field.name.is_column() {
-        line.extend_from_slice(field.name.text().as_bytes())?;
-        line.push(b'=')?;
+    if name.is_column() {
+        return Ok(());
     }
-    line.extend_from_slice(field.value.as_slice())
+    text.extend_from_slice(name.text().as_bytes())?;
+    text.push(b'=')?;
+    Ok(())
 }
 
 /// Returns the bytes with a question mark for each that is not printable.
@@ -67,7 +91,18 @@ pub(crate) fn shown(alloc: Global, octets: &[u8]) -> Result<Vec<u8>, AllocError>
     Ok(text)
 }
 
+/// Adds the bytes with a question mark for each that is not printable.
 fn push_shown(text: &mut Vec<u8>, octets: &[u8]) -> Result<(), AllocError>
+    ensures { OnOk result (text.new.items ≡ text.old.items ++ shown octets.now) }
+{
+    if are_printable(octets) {
+        return text.extend_from_slice(octets);
+    }
+    push_each(text, octets)
+}
+
+/// Adds the bytes as `push_shown` does, one by one.
+fn push_each(text: &mut Vec<u8>, octets: &[u8]) -> Result<(), AllocError>
     ensures { OnOk result (text.new.items ≡ with_shown text.old.items octets.now) }
 {
     let mut rest = octets;
@@ -78,12 +113,21 @@ fn push_shown(text: &mut Vec<u8>, octets: &[u8]) -> Result<(), AllocError>
     Ok(())
 }
 
+fn are_printable(octets: &[u8]) -> bool
+    ensures { result ≡ list_all is_printable octets.now }
+{
+    octets.iter().all(|octet| is_printable(*octet))
+}
+
 fn shown_octet(octet: u8) -> u8
     ensures { result ≡ shown_octet octet }
 {
-    if (b' '..=b'~').contains(&octet) {
-        octet
-    } else {
-        b'?'
-    }
+    if is_printable(octet) { octet } else { b'?' }
+}
+
+/// Checks whether a byte is a space or a visible ASCII character.
+fn is_printable(octet: u8) -> bool
+    ensures { result ≡ is_printable octet }
+{
+    (b' '..=b'~').contains(&octet)
 }

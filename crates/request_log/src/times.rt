@@ -1,37 +1,50 @@
 //! How the log writes times and lifetimes.
-ghost use Rattle.std.specs.Prelude.{◌≡◌, ◌++◌, IfOk, OnOk, decimal};
+ghost use Rattle.std.specs.Prelude.{◌≡◌, ◌++◌, ◌∷◌, [], List, IfOk, OnOk, decimal};
+ghost use Rattle.request_log.specs.Field.{Field, field};
 ghost use Rattle.request_log.specs.Times.{date_text, hours_text, life_text, marked, minutes_of, valid_seconds};
+ghost use Rattle.request_log.specs.declared.field.FieldName.TheVariants as names;
 
+use crate::field::{FieldName, FieldWriter};
 use itoa::Buffer;
 use krb_der::KTime;
-use krb_elements::Octets;
 use std::alloc::{AllocError, Global};
 use ticket_times::Times;
 
-/// Returns a second as a date and time in UTC: `2026-11-23T22:46:18Z`.
-pub(crate) fn date_value(alloc: Global, time: KTime) -> Result<Octets, AllocError>
-    ensures { IfOk result (λ value. value ≡ date_text time) }
+/// Writes a second as a date and time in UTC: `2026-11-23T22:46:18Z`.
+pub(crate) fn put_date<W: FieldWriter>(
+    line: &mut W,
+    alloc: Global,
+    name: FieldName,
+    time: KTime,
+) -> Result<(), AllocError>
+    ensures { (fields : List Field) → W.Holds line.old fields
+        → OnOk result (W.Holds line.new (fields ++ field name (date_text time) ∷ [])) }
 {
-    Ok(Octets::new(marked(alloc, &time.to_octets())?))
+    line.put(alloc, name, &marked(&time.to_octets()))
 }
 
 /// Inserts the punctuation of RFC 3339 into the bytes of a KerberosTime.
-fn marked(alloc: Global, octets: &[u8; 15]) -> Result<Vec<u8>, AllocError>
-    ensures { IfOk result (λ text. text.items ≡ marked octets.now) }
+fn marked(octets: &[u8; 15]) -> [u8; 20]
+    ensures { result ≡ marked octets.now }
 {
     let o = octets;
-    let text = [
+    [
         o[0], o[1], o[2], o[3], b'-', o[4], o[5], b'-', o[6], o[7], b'T', o[8], o[9], b':', o[10],
         o[11], b':', o[12], o[13], o[14],
-    ];
-    Vec::from_slice(alloc, &text)
+    ]
 }
 
-/// Returns the ticket's lifetime, to the nearest minute.
-pub(crate) fn life_value(alloc: Global, times: &Times) -> Result<Octets, AllocError>
-    ensures { IfOk result (λ value. value ≡ life_text (valid_seconds times.now)) }
+/// Writes the ticket's lifetime, to the nearest minute.
+pub(crate) fn put_life<W: FieldWriter>(
+    line: &mut W,
+    alloc: Global,
+    times: &Times,
+) -> Result<(), AllocError>
+    ensures { (fields : List Field) → W.Holds line.old fields
+        → OnOk result (W.Holds line.new (fields ++ field names.Lifetime (life_text (valid_seconds times.now)) ∷ [])) }
 {
-    Ok(Octets::new(life_text(alloc, valid_seconds(times))?))
+    let text = life_text(alloc, valid_seconds(times))?;
+    line.put(alloc, FieldName::Lifetime, &text)
 }
 
 /// Returns the ticket's lifetime in seconds.

@@ -4,8 +4,8 @@ use Rattle.kdc_hub.specs.Wire.{Records}
 use Rattle.kdc_hub.proofs.Rounds.{records_on}
 use Rattle.rand_core.specs.Steps.{steps_u32, stream_of}
 use Rattle.rand_chacha.specs.ChaCha.{next_word}
-use Rattle.kdcd_run.specs.Resuming.{may_be_first, started_state}
-use Rattle.kdcd_run.specs.Starting.{Held, IsSeed, ReadJournals, Showed, seeded}
+use Rattle.kdcd_run.specs.Resuming.{started_state}
+use Rattle.kdcd_run.specs.Starting.{Held, IsSeed, seeded}
 use Rattle.kdcd_run.proofs.Ready.{all_recorded}
 use Rattle.kdcd_run.proofs.resuming.start_with_journal.Goals as goal
 

@@ -1,14 +1,16 @@
-use Rattle.std.proofs.Common.{rules, ◌≡◌, ◌≤◌, ◌+◌, length, sym, subst}
-use Rattle.request_log.specs.Lines.{IsLine, joined, longest, text_line}
-use Rattle.request_log.proofs.Shown.{is_line, is_short}
+use Rattle.std.proofs.Common.{◌++◌, ◌∷◌, [], option_copied, take, ap, sym, subst, ◌∙◌}
+use Rattle.request_log.specs.Entry.{entry_fields}
+use Rattle.request_log.specs.Lines.{IsLine, joined, longest}
+use Rattle.request_log.proofs.Shown.{from_none, is_line}
 use Rattle.request_log.proofs.text_lines.text_line.Goals as goal
+
+pub returns-clause-text : goal.returns-clause-text
+returns-clause-text c =
+    let fields = entry_fields c.args.at c.args.peer.now c.args.transport (option_copied c.args.account) in
+    let text = c.in_ok-put_entry.ensures [] c.in_ok-with_capacity.ensures.items ∙ ap joined (from_none fields) in
+    c.in_ok-push.ensures.items ∙ ap (λ line. line ++ 10 ∷ []) (c.truncate.ensures.items ∙ ap (λ line. take longest line) text)
 
 pub returns-clause-one : goal.returns-clause-one
 returns-clause-one c =
-    let text : c.push.new.self.items ≡ text_line c.args.fields.now = search rules in
-    subst IsLine (sym text) (is_line (joined c.args.fields.now))
-
-pub returns-clause-short : goal.returns-clause-short
-returns-clause-short c =
-    let text : c.push.new.self.items ≡ text_line c.args.fields.now = search rules in
-    subst (λ line. length line ≤ longest + 1) (sym text) (is_short (joined c.args.fields.now))
+    let fields = entry_fields c.args.at c.args.peer.now c.args.transport (option_copied c.args.account) in
+    subst IsLine (sym (returns-clause-text c)) (is_line fields)

@@ -1,7 +1,7 @@
-use Rattle.std.proofs.Common.{◌≡◌, ℕ, inr, List, Option, Result, Ok, Err, OnOk, ap, option_copied, subst, ◌∙◌}
+use Rattle.std.proofs.Common.{◌≡◌, ℕ, inr, List, Option, Result, Ok, Err, OnOk, ap, subst, ◌∙◌}
 use Rattle.std.proofs.KnownBytes.{Appends-trans}
 use Rattle.std.specs.Io.KnownBytes.{Appends}
-use Rattle.kdcd_run.specs.Log.{ReportsLost, TriesLine, entry_line}
+use Rattle.kdcd_run.specs.Log.{ReportsLost, TriesLine}
 use Rattle.kdcd_run.specs.declared.request_lines.RequestLines.{RequestLines}
 use Rattle.kdcd_run.proofs.request_lines.RequestLines.try_entry.Goals as goal
 
