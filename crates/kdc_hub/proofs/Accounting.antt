@@ -1,5 +1,5 @@
 -- The accounts in replies are those of the rules, and they are true.
-use Rattle.std.proofs.Common.{◌≡◌, ℕ, zero, suc, Bool, true, false, List, [], ◌∷◌, ◌++◌, length, Option, Some, None, option_map, refl, sym, ap, subst, ◌∙◌}
+use Rattle.std.proofs.Common.{◌≡◌, ℕ, Bool, true, false, List, [], ◌∷◌, ◌++◌, length, Option, Some, None, sym, ap, subst, ◌∙◌}
 use Rattle.rand_core.specs.Stream.{fill_bytes}
 use Rattle.framing.specs.Splitting.{Splitting, fed, handed_out}
 use Rattle.krb_fields.specs.declared.moment.Moment.{Moment}

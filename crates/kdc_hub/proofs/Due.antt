@@ -13,19 +13,18 @@ use Rattle.kdc_core.specs.Run.{after_event, event_reply, replies, run}
 use Rattle.kdc_core.specs.declared.run.Event.{Event as KdcEvent}
 use Rattle.kdc_hub.specs.declared.event.Action.{Action}
 use Rattle.kdc_hub.specs.declared.event.Action.TheVariants.{SendTo, Pass, Write, Close}
-use Rattle.kdc_hub.specs.declared.event.CloseReason.TheVariants.{BadLength, Full, NoRequest}
+use Rattle.kdc_hub.specs.declared.event.CloseReason.TheVariants.{Full}
 use Rattle.kdc_hub.specs.declared.event.Event.{Event}
 use Rattle.kdc_hub.specs.declared.event.Event.TheVariants.{Datagram, Opened, Bytes, Closed}
 use Rattle.kdc_hub.specs.declared.event.Peer.{Peer}
 use Rattle.kdc_hub.specs.declared.reply.Reply.{Reply}
 use Rattle.kdc_hub.specs.declared.wires.Did.{Did}
-use Rattle.kdc_hub.specs.declared.wires.Did.TheVariants.{Acted, Failed}
 use Rattle.kdc_hub.specs.Issuing.{Issuing, after, reply_of, too_long}
 use Rattle.kdc_hub.specs.StreamStep.{StreamStep, messages_step, reply_then, stream_room}
-use Rattle.kdc_hub.specs.Hub.{Standing, Step, brings, datagram_room, greatest_request, hub_step, most_connections, nothing, opened, sent}
+use Rattle.kdc_hub.specs.Hub.{Standing, Step, brings, datagram_room, greatest_request, hub_step, most_connections, nothing, sent}
 use Rattle.kdc_hub.specs.Logged.{Entry, Stop, logged, step_by, step_of}
-use Rattle.kdc_hub.specs.Rounds.{AreRounds, IsRound, PollFailed, NothingCame, Round, Took, Tries, close_of, closing, did_in, ending, entries_of}
-use Rattle.kdc_hub.specs.History.{Turn, Stepped, Replaced, Tidied, Reopened, Resumed, after_turn, asked, octets_of, others_after, piece_requests, stream_requests, turn_events}
+use Rattle.kdc_hub.specs.Rounds.{AreRounds, IsRound, PollFailed, NothingCame, Round, Took, Tries, closing, did_in, ending, entries_of}
+use Rattle.kdc_hub.specs.History.{Turn, Stepped, Replaced, Tidied, Reopened, Resumed, after_turn, asked, octets_of, others_after, piece_requests, stream_requests}
 use Rattle.kdc_hub.specs.Parties.{AtPeer, OnConnection, Ended, GetsItsOwn, Message, Parties, Party, RecordsItsOwn, Sent, actions_in, after_round, due_by, due_in, due_to_entry, due_to_event, due_to_fault, due_to_request, due_to_round, due_to_rounds, due_to_turn, fault_after, gets, receiver, sender, sent_by, tried, tried_by, turn_actions}
 use Rattle.kdc_hub.proofs.Histories.{asked_after, asked_octets, turned_kdc}
 

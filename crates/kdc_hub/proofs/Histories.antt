@@ -15,11 +15,11 @@ use Rattle.kdc_core.proofs.Isolation.{isolation, unaffected as unaffected_run}
 use Rattle.kdc_core.proofs.Tickets.{one_ticket}
 use Rattle.kdc_core.proofs.Unseen.{tidies_unseen}
 use Rattle.kdc_core.proofs.Runs.{replies_append, run_append}
-use Rattle.kdc_core.specs.Account.{Account, account, account_if, account_to}
+use Rattle.kdc_core.specs.Account.{account, account_if}
 use Rattle.kdc_core.specs.AccountLaws.{unanswered}
 use Rattle.kdc_core.specs.NewlySeen.{Covers, event_sees, newly_seen, resumption_at, run_sees}
 use Rattle.kdc_core.specs.NewlySeenLaws.{none_newly_seen}
-use Rattle.kdc_core.specs.Answer.{answer, answer_to}
+use Rattle.kdc_core.specs.Answer.{answer}
 use Rattle.kdc_core.specs.Run.{after_event, event_reply, replies, run}
 use Rattle.kdc_core.specs.View.{View, view}
 use Rattle.kdc_core.specs.declared.account.Account.TheVariants.{NoRequest}
@@ -38,7 +38,7 @@ use Rattle.kdc_hub.specs.Issuing.{Issuing, after, reply_by, reply_of, too_long}
 use Rattle.kdc_hub.specs.StreamStep.{StreamStep, action_for, after_reply, after_some, messages_step, reply_then, stream_room, stream_step}
 use Rattle.kdc_hub.specs.Hub.{Standing, Step, brings, datagram_room, greatest_request, hub_step, kept, most_connections, nothing, opened, requests_of as messages_of, sent, stopped}
 use Rattle.kdc_hub.specs.Logged.{Entry, Stop, logged, step_by, step_of}
-use Rattle.kdc_hub.specs.History.{AnswersWhoAsked, Begins, CanBeResumed, IsOfOneProcess, IsOneRun, KeepsAccounts, account_in, accounts, accounts_in, entry_replies, event_accounts, octets_of, turn_accounts, OneTicketInProcess, OneTicketSent, ServesAlike, TidiesUnseen, Turn, Unaffected, Stepped, Replaced, Tidied, Reopened, Resumed, after_turn, all_seen_by, seen_by, turn_sees, after_turns, answers, asked, chosen, event_requests, events_in, others_after, piece_requests, newly_seen_in, replies_by, reply_in, requests_by, stopped_requests, stream_requests, tickets_among, turn_events, turn_replies}
+use Rattle.kdc_hub.specs.History.{AnswersWhoAsked, Begins, CanBeResumed, IsOfOneProcess, IsOneRun, KeepsAccounts, account_in, accounts, event_accounts, octets_of, turn_accounts, OneTicketInProcess, OneTicketSent, ServesAlike, TidiesUnseen, Turn, Unaffected, Stepped, Replaced, Tidied, Reopened, Resumed, after_turn, all_seen_by, seen_by, turn_sees, after_turns, answers, asked, chosen, event_requests, events_in, others_after, piece_requests, newly_seen_in, replies_by, reply_in, requests_by, stopped_requests, stream_requests, tickets_among, turn_events, turn_replies}
 
 -- ---- one request
 

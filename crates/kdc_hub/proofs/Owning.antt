@@ -1,5 +1,5 @@
 -- The requests on a connection are the messages of its own bytes.
-use Rattle.std.proofs.Common.{◌≡◌, ◌≢◌, ℕ, zero, suc, Bool, true, false, cond, List, [], ◌∷◌, ◌++◌, drop, take, Option, Some, None, if◌then◌else◌, refl, sym, ap, subst, ◌∙◌, append_assoc, arith}
+use Rattle.std.proofs.Common.{◌≡◌, ◌≢◌, ℕ, zero, suc, Bool, true, false, cond, List, [], ◌∷◌, ◌++◌, drop, take, Option, Some, None, if◌then◌else◌, refl, sym, ap, subst, ◌∙◌, append_assoc}
 use Rattle.std.specs.Prelude.{◌==◌, nat_lt, IsTrue}
 use Rattle.std.specs.Ordering.{nat_cmp, eq_by_cmp}
 use Rattle.std.specs.Cmp.{nat_cmp_total, Equal-is}
@@ -27,7 +27,7 @@ use Rattle.kdc_hub.specs.StreamStep.{StreamStep, messages_step, reply_then, stre
 use Rattle.kdc_hub.specs.Hub.{Standing, Step, brings, greatest_request, hub_step, kept, most_connections, nothing}
 use Rattle.kdc_hub.specs.Logged.{Entry, Stop, logged, step_by, step_of}
 use Rattle.kdc_hub.specs.History.{Begins, asked, others_after, piece_requests, requests_by, requests_of, stream_requests}
-use Rattle.kdc_hub.specs.OwnBytes.{AreItsMessages, AsksItsOwn, IsNoOpening, asked_by, brought_on, bytes_on, is_on, requests_on}
+use Rattle.kdc_hub.specs.OwnBytes.{AsksItsOwn, IsNoOpening, asked_by, brought_on, bytes_on, is_on, requests_on}
 use Rattle.kdc_hub.proofs.Tables.{is_gone, is_there}
 
 -- ---- a list at the beginning of another

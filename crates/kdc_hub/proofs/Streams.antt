@@ -9,7 +9,7 @@ use Rattle.framing.specs.Messages.{Cutting, message_then, only_rest}
 use Rattle.krb_fields.specs.declared.moment.Moment.{Moment}
 use Rattle.kdc_hub.specs.declared.event.Action.{Action}
 use Rattle.kdc_hub.specs.declared.event.Action.TheVariants.{Write, Close}
-use Rattle.kdc_hub.specs.declared.event.CloseReason.TheVariants.{NoRequest, BadLength}
+use Rattle.kdc_hub.specs.declared.event.CloseReason.TheVariants.{BadLength}
 use Rattle.kdc_hub.specs.declared.reply.Reply.{Reply}
 use Rattle.kdc_core.specs.View.{view}
 use Rattle.kdc_hub.specs.Accounts.{FirstHold, ReplyHolds, if_answered}

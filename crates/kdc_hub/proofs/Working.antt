@@ -16,7 +16,7 @@ use Rattle.kdc_hub.specs.declared.event.Action.TheVariants.{Write, Close}
 use Rattle.kdc_hub.specs.declared.event.Event.{Event}
 use Rattle.kdc_hub.specs.declared.event.Event.TheVariants.{Datagram, Opened, Bytes, Closed}
 use Rattle.kdc_hub.specs.declared.reply.Reply.{Reply}
-use Rattle.kdc_hub.specs.declared.event.CloseReason.TheVariants.{NoRequest, BadLength, Full}
+use Rattle.kdc_hub.specs.declared.event.CloseReason.TheVariants.{BadLength, Full}
 use Rattle.kdc_hub.specs.Issuing.{Issuing, after, reply_of, too_long}
 use Rattle.kdc_hub.specs.StreamStep.{StreamStep, reply_then, messages_step, stream_step, stream_room, action_for}
 use Rattle.kdc_hub.specs.Hub.{Standing, Step, brings, kept, hub_step, opened, sent, datagram_room, most_connections, greatest_request}

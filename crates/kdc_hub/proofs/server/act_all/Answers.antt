@@ -2,7 +2,7 @@ use Rattle.std.proofs.Common.{arith, refl, sym, ap, subst, ◌∙◌}
 use Rattle.std.specs.Option.{option_or}
 use Rattle.kdc_hub.specs.Hub.{standing}
 use Rattle.kdc_hub.specs.Wire.{IsCounted}
-use Rattle.kdc_hub.proofs.Rounds.{all_tried, counted_nothing, counted_on, none_tried, one_done, one_failed}
+use Rattle.kdc_hub.proofs.Rounds.{counted_nothing, counted_on, none_tried, one_done, one_failed}
 use Rattle.kdc_hub.proofs.server.act_all.Goals as goal
 use Rattle.kdc_hub.proofs.server.act_all.Goals.{in-Ok, in-Err}
 
