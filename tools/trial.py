@@ -12,6 +12,7 @@ import signal
 import socket
 import subprocess
 import sys
+import threading
 import time
 
 from kerberos import as_req, elements, fields
@@ -119,15 +120,16 @@ def expect(what, found, wanted):
 
 
 class Notes:
-    """Counts the checks that passed and failed, and prints a line for each."""
+    """Counts the checks that passed and failed, and prints a line for each. Threads may share it."""
 
     def __init__(self):
-        self.right, self.wrong = 0, 0
+        self.right, self.wrong, self.alone = 0, 0, threading.Lock()
 
     def note(self, what, fault=""):
-        self.right, self.wrong = self.right + (not fault), self.wrong + bool(fault)
         shown = f"{'WRONG' if fault else 'ok   '} {what}{': ' * bool(fault)}{fault}"
-        print(shown.encode("ascii", "backslashreplace").decode(), flush=True)
+        with self.alone:
+            self.right, self.wrong = self.right + (not fault), self.wrong + bool(fault)
+            print(shown.encode("ascii", "backslashreplace").decode(), flush=True)
 
     def check(self, what, call, *given):
         """Calls a function that raises `Differs` if something is wrong."""
@@ -175,6 +177,15 @@ class Trial(Notes):
         how = {"stdin": subprocess.PIPE, "stdout": subprocess.PIPE, "stderr": subprocess.PIPE, **how}
         given = given.encode() if how["stdin"] == subprocess.PIPE else None
         return Ran(self.start(words, **how), given, seconds)
+
+    def run_typed(self, words, typed, **how):
+        """Runs a command whose standard input is a terminal, where this text is typed."""
+        master, slave = pty.openpty()
+        os.write(master, typed.encode())
+        ran = self.run(words, stdin=slave, **how)
+        os.close(slave)
+        os.close(master)
+        return ran
 
     def expect(self, words, status, *texts, what=None, **how):
         """Runs a command, and notes whether its result is as expected."""

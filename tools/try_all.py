@@ -1,8 +1,8 @@
 #!/usr/bin/env python3
-"""Tries the built programs, as `.ci/run` does after `rt ci`: the realm of README.md, each option and limit, our client against our server and
-against MIT's and Heimdal's, stock clients against our server, the whole way to a service in Rattle and in C, hostile peers and servers, a
-`kadm` that is killed, and allocations that fail. It also checks the words of pages and comments. It needs Linux and Python 3, and a C compiler
-for some parts.
+"""Tries the built programs, as `.ci/run` does after `rt ci`: the realm of README.md, each option and limit, sessions of `kadm`, our client
+against our server and against MIT's and Heimdal's, stock clients against our server, the whole way to a service in Rattle and in C, hostile
+peers and servers, a `kadm` that is killed, and allocations that fail. It also checks the words of pages and comments. It needs Linux and
+Python 3, and a C compiler for some parts.
 
     python3 tools/try_all.py [--only PART ..] [--stock FOLDER] [--all-lines]
 
@@ -176,6 +176,11 @@ class Stock:
         if not shutil.which("kinit", path=self.environment["PATH"]):
             raise Missing("MIT's kinit")
 
+    def fixed_system(self):
+        """Compiles the library that is preloaded into `kadm`, if that is possible."""
+        if self.can_compile(PROBE):
+            self.compile("fixed_system", "-shared", "-fPIC", "-ldl")
+
     def services(self):
         """Builds the library for C, and compiles the programs over it, once."""
         with self.alone:
@@ -223,6 +228,7 @@ def parts(stock):
     """The parts, the longest first."""
     made = {name: stock.scratch / name for name in ("ap_client", "mk_req", "ap_service", "ap_judged")}
     words = [word for name, place in made.items() for word in (f"--{name.replace('_', '-')}", place)]
+    system = stock.scratch / "fixed_system"
     roots = [word for name, root in stock.roots.items() for word in (f"--{name}", root)]
     operator = lambda each: Part(f"operators: {each}", script("try_operators.py", "--only", each, "--requests", REQUESTS))
     client = lambda each, *needs: Part(f"clients of {each}", script("try_client.py", "--only", each, *roots), *needs)
@@ -234,6 +240,7 @@ def parts(stock):
         *map(operator, ("stock", "words", "log", "limits", "pairs", "kclient")),
         *map(fault, ("memory", "each", "killed", "journal", "sockets")),
         Part("kadm killed at its calls", script("kill_kadm.py", "--every", 7), stock.strace),
+        Part("sessions of kadm", script("try_sessions.py", "--system", system), stock.fixed_system),
         client("kdcd"), client("mit", lambda: stock.need("mit")), client("heimdal", lambda: stock.need("heimdal")),
         *map(operator, ("lock", "change", "kadm", "addresses", "terminal")),
         Part("the whole way", script("whole_way.py")),

@@ -21,7 +21,7 @@ TOP = pathlib.Path(__file__).resolve().parent.parent
 KINDS = {
     "pages": ("README.md", "docs/*.md", "docs/man/*"),
     "code": ("crates/*/src/**/*.rt", "crates/*/specs/**/*.antt", "crates/*/proofs/**/*.antt"),
-    "tools": ("tools/*.py", "tools/*.c", "tools/bench/*", "docs/*.h"),
+    "tools": ("tools/*.py", "tools/*.c", "tools/bench/*", "tools/kadm_sessions/*", "docs/*.h"),
 }
 # A phrase, where a space may be the end of a line; what to write instead; and how often it still stands in pages, code and tools.
 PHRASES = (

@@ -1,0 +1,187 @@
+#!/usr/bin/env python3
+"""Runs the sessions in tools/kadm_sessions: command lines of `kadm` over files in a folder, each with what it prints. It needs Linux,
+Python 3 and a shell.
+
+    (cd crates/kadm && rt run -- --help)
+    cc -shared -fPIC -o fixed_system tools/fixed_system.c -ldl
+    python3 tools/try_sessions.py [--programs FOLDER] [--system ./fixed_system] [--only NAME ..]
+
+The first line proves and builds the program. The second builds the library that gives it another clock, known random bytes, a lock that is
+held, or a call that fails. Without it the sessions that need one of these are left out. A session is a file NAME.session. The start of a line
+says what it is:
+
+    # COMMENT
+    $ COMMAND    a command line for `sh`; `show_keytab` is tools/show_keytab.py
+    > MORE       the command goes on
+    < LINE       this is typed at a terminal, which standard input then is; `^D` ends the input
+    ~ TEXT       standard output contains this text
+    ! LINE       a line of standard error; `! ...` stands for any text
+    [NUMBER]     the status, if it is not 0
+    LINE         a line of standard output
+
+A line that ends in ` (no-eol)` has no line feed. Each session begins with the files in FILES. A command that does not succeed has to leave
+all files as they were; it may make an empty lock. `CLOCK=`, `DRAWS=` and `HELD=` are variables of tools/fixed_system.c. A command with
+`FAILS=NAME,..` runs once for each of its calls of the system. Another one fails each time, with the result that is written. These names have
+to be among the calls.
+
+The script prints a line for each session, with `ok` or the first result that differs, and ends with status 1 if one did."""
+
+import argparse
+import dataclasses
+import os
+import pathlib
+import re
+import tempfile
+from concurrent.futures import ThreadPoolExecutor
+
+from trial import Notes, Trial, ending, expect, processors, programs_in
+
+TOOLS = pathlib.Path(__file__).resolve().parent
+FOLDER = TOOLS / "kadm_sessions"
+# The files that each session begins with.
+FILES = {"seed": bytes([7] * 40), "short": bytes([7] * 31), "pass": b"password\nmore", "long": b"a" * 1025}
+# A command for which the library is needed, and the calls that fail one after another.
+FIXED = re.compile(r"\b(?:CLOCK|DRAWS|HELD|FAILS)=")
+FAILS = re.compile(r"\bFAILS=([a-z_,]+)")
+
+
+@dataclasses.dataclass
+class Step:
+    """A command, and the result that is wanted."""
+
+    number: int
+    command: str
+    typed: list = dataclasses.field(default_factory=list)
+    printed: list = dataclasses.field(default_factory=list)
+    texts: list = dataclasses.field(default_factory=list)
+    said: list = dataclasses.field(default_factory=list)
+    status: int = 0
+
+    def take(self, line):
+        """Takes a line after the command."""
+        mark, _, rest = line.partition(" ")
+        if mark == ">":
+            self.command += f"\n{rest}"
+        elif mark in (marked := {"<": self.typed, "~": self.texts, "!": self.said}):
+            marked[mark].append(rest)
+        elif status := re.fullmatch(r"\[(\d+)\]", line):
+            self.status = int(status[1])
+        else:
+            self.printed.append(line)
+
+    def wanted(self, ran):
+        """The status, standard output and standard error. What the session leaves open is taken as it came."""
+        printed, said = text_of(self.printed), text_of(self.said)
+        if self.texts:
+            printed = ran.out if all(text in ran.out for text in self.texts) else f".. {self.texts} .."
+        if self.said == ["..."]:
+            said = ran.err or "some text"
+        return self.status, printed, said
+
+    def place(self):
+        return f"line {self.number}, {self.command}"
+
+    def compare(self, ran, what):
+        expect(f"{self.place()}{what}", (ran.status, ran.out, ran.err), self.wanted(ran))
+
+
+def text_of(lines):
+    return "".join(f"{line}\n" for line in lines).replace(" (no-eol)\n", "")
+
+
+def steps_of(path):
+    steps = []
+    for number, line in enumerate(path.read_text().splitlines(), 1):
+        if line.startswith("$ "):
+            steps.append(Step(number, line[2:]))
+        elif line and not line.startswith("#"):
+            steps[-1].take(line)
+    return steps
+
+
+def files(folder):
+    """What the files hold, but for empty locks."""
+    found = {path.name: path.read_bytes() for path in folder.iterdir()}
+    return {name: octets for name, octets in found.items() if octets or not name.endswith(".lock")}
+
+
+def changes(before, after):
+    """The names of the files that differ."""
+    return sorted(name for name in {*before, *after} if before.get(name) != after.get(name))
+
+
+class Session(Trial):
+    """A folder in which the commands of a session are run."""
+
+    def __init__(self, path, programs, folder, system):
+        super().__init__({}, folder)
+        self.name, self.steps, self.folder = path.stem, steps_of(path), folder / path.stem
+        self.folder.mkdir()
+        for name, octets in FILES.items():
+            self.write(name, octets)
+        self.environment["PATH"] = f"{programs}:{self.environment['PATH']}"
+        self.environment |= {"LD_PRELOAD": system} if system else {}
+
+    def is_fixed(self):
+        """Whether a command needs the library."""
+        return any(FIXED.search(step.command) for step in self.steps)
+
+    def do(self):
+        for step in self.steps:
+            before = files(self.folder)
+            for command, what in self.runs_of(step):
+                step.compare(self.line(command, step.typed), what)
+                if step.status:
+                    expect(f"{step.place()}{what}: the files that changed", changes(before, files(self.folder)), [])
+
+    def line(self, command, typed=()):
+        words = ["sh", "-c", command]
+        return self.run_typed(words, text_of(typed).replace("^D\n", "\4")) if typed else self.run(words)
+
+    def runs_of(self, step):
+        """The command of a step; or, for each of its calls, the command in which this one fails, and words that say so."""
+        named = FAILS.search(step.command)
+        if not named:
+            return [(step.command, "")]
+        calls = self.calls_of(step)
+        expect(f"{step.place()}: the calls that it does not make", sorted({*named[1].split(",")} - {*calls}), [])
+        return [(FAILS.sub(f"FAILS={turn}", step.command), f": call {turn}, {name}, fails") for turn, name in enumerate(calls, 1)]
+
+    def calls_of(self, step):
+        """The calls of a command, which runs in a copy of the folder."""
+        copy, command = f"{self.folder}.copy", FAILS.sub("CALLS=calls", step.command)
+        ran = self.line(f"rm -rf {copy} && cp -r . {copy} && cd {copy} && {command}")
+        expect(f"{step.place()}: the status if no call fails", ran.status, 0)
+        return pathlib.Path(copy, "calls").read_text().split()
+
+
+def run_all(notes, paths, programs, folder, system):
+    sessions = [Session(path, programs, folder, system) for path in paths]
+    left = [session.name for session in sessions if session.is_fixed() and not system]
+    if left:
+        notes.leave(f"the sessions {', '.join(left)}: they need the library that a C compiler makes of tools/fixed_system.c")
+    # Most of the time they wait for the disk.
+    with ThreadPoolExecutor(2 * processors()) as pool:
+        tried = [session for session in sessions if session.name not in left]
+        list(pool.map(lambda each: notes.check(f"{each.name}: {len(each.steps)} commands", each.do), tried))
+
+
+def main():
+    words = argparse.ArgumentParser(description=__doc__, formatter_class=argparse.RawDescriptionHelpFormatter)
+    words.add_argument("--programs", default=TOOLS.parent / "crates")
+    words.add_argument("--system", help="the library that tools/fixed_system.c makes")
+    words.add_argument("--only", nargs="+", metavar="NAME", help="the sessions with these names")
+    words, notes = words.parse_args(), Notes()
+    system = os.path.abspath(words.system) if words.system and os.path.isfile(words.system) else None
+    paths = [path for path in sorted(FOLDER.glob("*.session")) if not words.only or path.stem in words.only]
+    with tempfile.TemporaryDirectory() as folder, ending():
+        programs = pathlib.Path(folder, "programs")
+        programs.mkdir()
+        (programs / "kadm").symlink_to(programs_in(words.programs, ["kadm"])["kadm"])
+        (programs / "show_keytab").symlink_to(TOOLS / "show_keytab.py")
+        run_all(notes, paths, programs, pathlib.Path(folder), system)
+    notes.end()
+
+
+if __name__ == "__main__":
+    main()
