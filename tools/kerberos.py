@@ -234,8 +234,8 @@ def checksum(key, usage, octets):
     return mac(derived(key, usage, 0x99), octets)
 
 
-def sealed(key, usage, text):
-    text = os.urandom(16) + text
+def sealed(key, usage, text, confounder=None):
+    text = (confounder or os.urandom(16)) + text
     return encrypt(derived(key, usage, 0xAA), text) + mac(derived(key, usage, 0x55), text)
 
 
@@ -246,20 +246,20 @@ def opened(key, usage, cipher):
     return text[16:]
 
 
-def encrypted_data(key, usage, text):
-    return sequence(field(0, integer(18)), field(2, octet_string(sealed(key, usage, text))))
+def encrypted_data(key, usage, text, confounder=None):
+    return sequence(field(0, integer(18)), field(2, octet_string(sealed(key, usage, text, confounder))))
 
 
 # Requests.
 
-def body(realm, service, client=None, types=(18, 17, 20, 19), nonce=1):
-    """The body of a request with till zero and no option."""
-    parts = [field(0, tlv(0x03, bytes(5)))]
+def body(realm, service, client=None, types=(18, 17, 20, 19), nonce=1, options=bytes(4), kind=2):
+    """The body of a request with till zero. The type of the service's name is `kind`."""
+    parts = [field(0, tlv(0x03, b"\0" + options))]
     if client:
         parts.append(field(1, name(1, client)))
     parts += [
         field(2, general_string(realm)),
-        field(3, name(2, *service)),
+        field(3, name(kind, *service)),
         field(5, tlv(0x18, b"19700101000000Z")),
         field(7, integer(nonce)),
         field(8, sequence(*[integer(etype) for etype in types])),
@@ -275,10 +275,10 @@ def as_req(realm, client, padata=b"", nonce=1):
     return tlv(0x6A, sequence(*parts, field(4, body(realm, (b"krbtgt", realm), client, nonce=nonce))))
 
 
-def timestamp(key, seconds):
+def timestamp(key, seconds, microseconds=0, confounder=None):
     """PA-ENC-TIMESTAMP (section 5.2.7.2)."""
-    text = sequence(field(0, time_of(seconds)), field(1, integer(0)))
-    return sequence(field(1, integer(2)), field(2, octet_string(encrypted_data(key, 1, text))))
+    text = sequence(field(0, time_of(seconds)), field(1, integer(microseconds)))
+    return sequence(field(1, integer(2)), field(2, octet_string(encrypted_data(key, 1, text, confounder))))
 
 
 def ticket_in(key, reply):
@@ -298,22 +298,23 @@ def authenticator(realm, client, seconds, microseconds, check=None):
     return tlv(0x62, sequence(*parts, field(4, integer(microseconds)), field(5, time_of(seconds))))
 
 
-def ap_req(ticket, session_key, usage, shown, options=bytes(4)):
+def ap_req(ticket, session_key, usage, shown, options=bytes(4), confounder=None):
     """AP-REQ (section 5.5.1) with this authenticator, encrypted for this usage."""
     return tlv(0x6E, sequence(
         field(0, integer(5)),
         field(1, integer(14)),
         field(2, tlv(0x03, b"\0" + options)),
         field(3, ticket),
-        field(4, encrypted_data(session_key, usage, shown)),
+        field(4, encrypted_data(session_key, usage, shown, confounder)),
     ))
 
 
-def tgs_req(realm, client, service, ticket, session_key, seconds, microseconds, nonce=1):
-    """A TGS-REQ with an authenticator of this time."""
-    asked = body(realm, service, nonce=nonce)
+def tgs_req(realm, client, service, ticket, session_key, seconds, microseconds, nonce=1, confounder=None, **more):
+    """A TGS-REQ with an authenticator of this time. `more` goes to `body`."""
+    asked = body(realm, service, nonce=nonce, **more)
     shown = authenticator(realm, client, seconds, microseconds, (session_key, 6, asked))
-    padata = sequence(field(1, integer(1)), field(2, octet_string(ap_req(ticket, session_key, 7, shown))))
+    presented = ap_req(ticket, session_key, 7, shown, confounder=confounder)
+    padata = sequence(field(1, integer(1)), field(2, octet_string(presented)))
     return tlv(0x6C, sequence(field(1, integer(5)), field(2, integer(12)), field(3, sequence(padata)), field(4, asked)))
 
 

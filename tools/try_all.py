@@ -241,6 +241,7 @@ def parts(stock):
         *map(fault, ("memory", "each", "killed", "journal", "sockets")),
         Part("kadm killed at its calls", script("kill_kadm.py", "--every", 7), stock.strace),
         Part("sessions of kadm", script("try_sessions.py", "--system", system), stock.fixed_system),
+        Part("command lines of kclient", script("try_kclient.py")),
         client("kdcd"), client("mit", lambda: stock.need("mit")), client("heimdal", lambda: stock.need("heimdal")),
         *map(operator, ("lock", "change", "kadm", "addresses", "terminal")),
         Part("the whole way", script("whole_way.py")),
