@@ -1,8 +1,8 @@
 #!/usr/bin/env python3
-"""Tries the built programs, as `.ci/run` does after `rt ci`: the realm of README.md, each option and limit, sessions of `kadm`, our client
-against our server and against MIT's and Heimdal's, stock clients against our server, the whole way to a service in Rattle and in C, hostile
-peers and servers, a `kadm` that is killed, and allocations that fail. It also checks the words of pages and comments. It needs Linux and
-Python 3, and a C compiler for some parts.
+"""Tries the built programs, as `.ci/run` does after `rt ci`: the realm of README.md, each option and limit, sessions of `kadm`, command lines
+of `kclient`, scripts of a KDC, our client against our server and against MIT's and Heimdal's, stock clients against our server, the whole way to
+a service in Rattle and in C, hostile peers and servers, a `kadm` that is killed, and allocations that fail. It also checks the words of pages
+and comments. It needs Linux and Python 3, and a C compiler for some parts.
 
     python3 tools/try_all.py [--only PART ..] [--stock FOLDER] [--all-lines]
 
@@ -237,13 +237,15 @@ def parts(stock):
         Part("services in C by MIT's library", script("services_in_c.py", "--quick", *words), stock.services_and_clients, True),
         Part("services in C", script("services_in_c.py", "--without-mit", *words), stock.services, True),
         *[Part(f"hostile {each}", script("hostile_kdc.py", "--only", each)) for each in ("answers", "octets", "files")],
+        fault("sockets"),
         *map(operator, ("stock", "words", "log", "limits", "pairs", "kclient")),
-        *map(fault, ("memory", "each", "killed", "journal", "sockets")),
+        *map(fault, ("memory", "each", "killed", "journal")),
         Part("kadm killed at its calls", script("kill_kadm.py", "--every", 7), stock.strace),
         Part("sessions of kadm", script("try_sessions.py", "--system", system), stock.fixed_system),
         Part("command lines of kclient", script("try_kclient.py")),
         client("kdcd"), client("mit", lambda: stock.need("mit")), client("heimdal", lambda: stock.need("heimdal")),
         *map(operator, ("lock", "change", "kadm", "addresses", "terminal")),
+        Part("scripts", script("try_script.py")),
         Part("the whole way", script("whole_way.py")),
         Part("the whole way by MIT's library", script("whole_way.py", "--mk-req", made["mk_req"]), lambda: stock.with_krb5("mk_req")),
         Part("README.md", script("try_readme.py")),

@@ -9,13 +9,16 @@ The folder has the programs, or the crates, with each program at NAME/out/NAME. 
 prints a line for each thing that it tried, with `ok` or what was wrong, and ends with status 1 if anything was wrong."""
 
 import argparse
+import collections
 import contextlib
 import functools
 import json
+import os
 import pathlib
 import random
 import re
 import resource
+import select
 import shutil
 import signal
 import socket
@@ -23,8 +26,9 @@ import subprocess
 import tempfile
 import threading
 import time
+from concurrent.futures import ThreadPoolExecutor
 
-from kerberos import body, field, integer, key_of, sequence, tgs_req, ticket_in, tlv
+from kerberos import body, elements, field, fields, integer, key_of, sequence, tgs_req, ticket_in, tlv
 from trial import PATIENCE, REALM, SLOWNESS, Server, Trial, answer, ask_tcp, ask_udp, datagrams, ending, login, place_of, programs_in
 
 # The connections that are served at once (docs/OPERATIONS.md, 'Limits'), and the server's files that are not connections.
@@ -109,15 +113,118 @@ def full(server):
     return f"it can send {sent} octets"
 
 
+def held(server):
+    """The number of files that the server has open."""
+    return len(list(pathlib.Path(f"/proc/{server.process.pid}/fd").iterdir()))
+
+
 def idle(server):
     """More than twice as many connections as are served at once, which send nothing and whose peers never close them. A datagram and a new
     connection are answered, and the server holds at most twice as many as it serves."""
     with contextlib.ExitStack() as stack:
         for _ in range(2 * CONNECTIONS + 88):
             stack.enter_context(connected(server))
-        fault = is_served(server)
-        held = len(list(pathlib.Path(f"/proc/{server.process.pid}/fd").iterdir()))
-    return fault or f"the server has {held} files open" * (held > 2 * CONNECTIONS + OTHER_FILES)
+        fault, files = is_served(server), held(server)
+    return fault or f"the server has {files} files open" * (files > 2 * CONNECTIONS + OTHER_FILES)
+
+
+def is_open(connection):
+    """Whether the server has not ended the connection, and nothing came on it."""
+    poll = select.poll()
+    poll.register(connection, select.POLLIN)
+    return not poll.poll(0)
+
+
+def longest_idle(server):
+    """With all connections in use, the first of them asks for a ticket. Then 44 more come, and one that asks, too: the 45 that have been idle
+    longest are closed, and no other."""
+    with contextlib.ExitStack() as stack:
+        several = lambda count: [stack.enter_context(connected(server)) for _ in range(count)]
+        first, *others = several(CONNECTIONS)
+        # A request on the last one is answered after the server accepted all before it.
+        for peer in (others[-1], first):
+            peer.sendall(framed(login("v")))
+            if (found := answer(read_reply(peer))) != "ticket":
+                return f"one of {CONNECTIONS} connections gets {found}"
+        later = several(45)
+        later[-1].sendall(framed(login("v")))
+        found = answer(read_reply(later[-1]))
+        ended = [number for number, peer in enumerate([first, *others, *later]) if not is_open(peer)]
+    fault = f"the last one gets {found}, and {ended} are closed" * ((found, ended) != ("ticket", list(range(1, 46))))
+    return fault or is_served(server)
+
+
+def one_after_another(server):
+    """More connections than are served at once, one after another."""
+    found = collections.Counter(answer(ask_tcp(server.addresses[1][1], login("v"))) for _ in range(CONNECTIONS + 44))
+    return "" if found == {"ticket": CONNECTIONS + 44} else f"they get {dict(found)}"
+
+
+def asking_for(service):
+    """A login of an unknown client. The error names this service."""
+    return tlv(0x6A, sequence(field(1, integer(5)), field(2, integer(10)), field(4, body(REALM.encode(), (service,), b"nobody"))))
+
+
+def service_of(reply):
+    """The service that an error with code 6 names, or what else the reply is."""
+    if answer(reply) != "6":
+        return answer(reply)
+    [_, parts] = elements(elements(fields(elements(reply)[0][1])[10])[0][1])
+    return elements(elements(parts[1])[0][1])[0][1]
+
+
+def alternating(server):
+    """Two connections whose bytes alternate get their own replies, and none before the last byte."""
+    services, faults = (b"first", b"other"), []
+    requests = [framed(asking_for(service)) for service in services]
+    with connected(server) as first, connected(server) as other:
+        for peer in (first, other):
+            peer.setsockopt(socket.IPPROTO_TCP, socket.TCP_NODELAY, 1)
+        for place in range(len(requests[0])):
+            if place == len(requests[0]) - 1:
+                time.sleep(0.2)
+                faults += ["a reply comes before the last octet"] * (not (is_open(first) and is_open(other)))
+            for peer, request in zip((first, other), requests):
+                peer.sendall(request[place:place + 1])
+        found = tuple(service_of(read_reply(peer)) for peer in (first, other))
+        time.sleep(0.2)
+        faults += ["more than a reply comes"] * (not (is_open(first) and is_open(other)))
+    return "; ".join([*faults, *[f"they get {found}"] * (found != services)])
+
+
+def cut_anywhere(server):
+    """Two requests on a connection, in two pieces that are cut at each place. The first piece is read before the second one is sent."""
+    services, faults = (b"first", b"other"), []
+    stream = b"".join(framed(asking_for(service)) for service in services)
+    with datagrams(server.udp) as beside:
+        for place in range(len(stream) + 1):
+            with connected(server) as peer:
+                peer.sendall(stream[:place])
+                # All that was there before the second of these is read before it.
+                for _ in range(2):
+                    ask_udp(beside, asking_for(b"beside"))
+                peer.sendall(stream[place:])
+                found = tuple(service_of(read_reply(peer)) for _ in services)
+            if found != services:
+                faults.append(f"cut at {place}: {found}")
+    return "; ".join(faults[:3])
+
+
+def used(server):
+    """The processor time of the server so far, in seconds."""
+    words = pathlib.Path(f"/proc/{server.process.pid}/stat").read_text().rpartition(")")[2].split()
+    return (int(words[11]) + int(words[12])) / os.sysconf("SC_CLK_TCK")
+
+
+def keeps_open(server):
+    """A peer keeps its side of a connection open after the server closed its own. The server waits meanwhile."""
+    with connected(server) as peer:
+        peer.sendall(b"\x80" * 4)
+        found, rest = answer(read_reply(peer)), peer.recv(1)
+        before = used(server)
+        time.sleep(3)
+        took = used(server) - before
+    return f"it gets {found}, then {rest!r}" * (found != "61" or rest != b"") or f"the server works for {took} of 3 seconds" * (took > 0.2)
 
 
 def long_login():
@@ -165,28 +272,57 @@ def written_in_part(server):
 
 def without_request(server):
     """A connection without a complete request for 30 seconds is closed, and its peer still gets what it has not read."""
-    with connected(server) as silent, connected(server) as half:
+    begun, faults = time.monotonic(), []
+    until = lambda seconds: time.sleep(max(0.0, begun + seconds - time.monotonic()))
+    with connected(server) as silent, connected(server) as half, connected(server) as late, connected(server) as asking, ThreadPoolExecutor() as pool:
+        unanswered = silent, half, late
+        not_read = pool.submit(unread, server, lambda _: time.sleep(LONGEST_IDLE + 3))
         half.sendall(framed(login("v"))[:20])
-        fault = unread(server, lambda _: time.sleep(LONGEST_IDLE + 3))
-        ended = [peer.recv(1) for peer in (silent, half)]
-    with connected(server) as silent:
-        # A request within that time is answered.
-        time.sleep(LONGEST_IDLE / 3)
-        silent.sendall(framed(login("v")))
-        found = answer(read_reply(silent))
-    faults = [fault, f"they end with {ended}" * (ended != [b"", b""]), f"one that asks late gets {found}" * (found != "ticket")]
+        until(LONGEST_IDLE * 2 / 3)
+        # Half a request does not count, and a whole one does.
+        late.sendall(framed(login("v"))[:20])
+        asking.sendall(framed(login("v")))
+        found = answer(read_reply(asking))
+        faults += [f"one that asks late gets {found}"] * (found != "ticket")
+        until(LONGEST_IDLE - 3)
+        faults += ["one is closed too early"] * (not all(map(is_open, (*unanswered, asking))))
+        until(LONGEST_IDLE + 3)
+        faults += ["one that asked late is closed with the others"] * (not is_open(asking))
+        end_of = lambda peer: "nothing" if is_open(peer) else peer.recv(1)
+        ended = [end_of(peer) for peer in unanswered]
+        until(LONGEST_IDLE * 5 / 3 + 3)
+        ended.append(end_of(asking))
+        faults += [f"they end with {ended}"] * (ended != [b""] * 4)
+        faults.append(not_read.result())
     return "; ".join(filter(None, faults)) or is_served(server)
 
 
+def closed_by_server(server):
+    """The server closes 600 connections, and their peers keep their sides open. After 30 seconds it has dropped them."""
+    with contextlib.ExitStack() as stack:
+        closed = []
+        for _ in range(2 * CONNECTIONS + 88):
+            closed.append(stack.enter_context(connected(server)))
+            closed[-1].sendall(bytes(4))
+            if rest := closed[-1].recv(1):
+                return f"length zero gets {rest!r}"
+        fault, files = is_served(server), held(server)
+        fault = fault or f"the server has {files} files open" * (files > 2 * CONNECTIONS + OTHER_FILES)
+        time.sleep(LONGEST_IDLE + 3)
+        left = held(server)
+    # The connections that wait beside it are few.
+    return fault or f"{left} files are open after {LONGEST_IDLE} seconds" * (left > 2 * OTHER_FILES) or is_served(server)
+
+
 def odd_lengths(server):
-    """A length with its high bit set, a length past the longest request, and length zero."""
+    """A length with its high bit set, also with more bytes after it than the server reads; a length past the longest request; and length zero."""
     faults = []
-    for octets, wanted in ((b"\x80\0\0\0", "61"), ((65536).to_bytes(4, "big"), "61"), (bytes(4), "none")):
+    for octets, wanted in ((b"\x80\0\0\0", "61"), (b"\x80" * 5000, "61"), ((65536).to_bytes(4, "big"), "61"), (bytes(4), "none")):
         with connected(server) as peer:
             peer.sendall(octets)
             found, rest = answer(read_reply(peer)), peer.recv(1)
         if found != wanted or rest:
-            faults.append(f"{octets.hex()} gets {found}, then {rest!r}")
+            faults.append(f"{len(octets)} octets, {octets[:4].hex()}, get {found}, then {rest!r}")
     return "; ".join(faults) or is_served(server)
 
 
@@ -204,21 +340,81 @@ def nonsense(server):
     return is_served(server)
 
 
+def in_turn(trial):
+    """What is wrong, unless a connection is answered among the first of many datagrams that wait with it."""
+    server = trial.serve("--first --log")
+    server.process.send_signal(signal.SIGSTOP)
+    with datagrams(server.udp) as peer, connected(server) as connection:
+        for _ in range(100):
+            peer.send(login("v"))
+        connection.sendall(framed(login("v")))
+        server.process.send_signal(signal.SIGCONT)
+        found = answer(read_reply(connection))
+        lines = lambda: re.findall(r" (udp|tcp) as v ", server.said())
+        server.wait(lambda: len(lines()) > 100, 5)
+    server.end()
+    place = lines().index("tcp") if "tcp" in lines() else None
+    return f"it gets {found}, at place {place} of {len(lines())}" * (found != "ticket" or len(lines()) != 101 or place > 24)
+
+
+def own_replies(trial):
+    """What is wrong, unless peers of two addresses for datagrams and of two for connections, which ask at the same time, get their own replies,
+    each from where it asked."""
+    words = " ".join(f"--{kind} 127.0.0.1:0" for kind in ("udp", "tcp") for _ in range(2))
+    # A round without an event takes a tenth of a second.
+    server = trial.serve(f"--first --rounds 64 {words}")
+    peers = [socket.socket(type=socket.SOCK_DGRAM if kind == "udp" else socket.SOCK_STREAM) for kind, _ in server.addresses]
+    services = [f"s{number}".encode() for number in range(len(peers))]
+    with contextlib.ExitStack() as stack:
+        for peer, (kind, address), service in zip(peers, server.addresses, services):
+            stack.enter_context(peer).settimeout(5 * SLOWNESS)
+            peer.connect(place_of(address))
+            peer.sendall(asking_for(service) if kind == "udp" else framed(asking_for(service)))
+        replies = [peer.recv(65536) if kind == "udp" else read_reply(peer) for peer, (kind, _) in zip(peers, server.addresses)]
+        found = [service_of(reply) for reply in replies]
+        server.wait(lambda: False, 20)
+        # The end of the server ends connections. Nothing else comes.
+        more = [kind for peer, (kind, _) in zip(peers, server.addresses) if kind == "udp" and not is_open(peer) or kind == "tcp" and peer.recv(1)]
+    # Two datagrams, two new connections, and a piece on each.
+    said = server.out.read_text()
+    is_well = len(peers) == 4 and found == services and not more and said == "served 6 0 0\n"
+    return "" if is_well else f"they get {found}, then {more}; {said!r}"
+
+
+def try_tries(trial, given, tries):
+    """Runs tries at the same time, each with what is given, a server or the folder of one."""
+    def fault_of(tried):
+        try:
+            return tried(given)
+        except OSError as error:
+            return str(error) or type(error).__name__
+
+    with ThreadPoolExecutor() as pool:
+        for what, fault in zip(tries, pool.map(fault_of, tries.values())):
+            trial.note(what, fault)
+
+
 def try_sockets(trial):
     """Odd and hostile peers of the server."""
     trial.realm("sockets")
+    try_tries(trial, trial, {"peers of four addresses get their own replies": own_replies})
+    try_tries(trial, trial, {"a connection beside a hundred datagrams": in_turn})
     server = trial.serve()
     for what, tried in {
         "a peer that closes its half of a connection": half_closed, "a peer that sends and reads an octet at a time": slow,
-        "a peer that reads no reply": full, f"more idle connections than {CONNECTIONS}": idle, "lengths that are none": odd_lengths,
-        "datagrams that are no requests": nonsense, "replies that are written in part, before the peer's end": written_in_part,
-        f"connections without a complete request for {LONGEST_IDLE} seconds": without_request,
+        "two connections whose octets alternate": alternating, "two requests in pieces that are cut anywhere": cut_anywhere,
+        "a peer that reads no reply": full,
+        f"more connections than {CONNECTIONS}, one after another": one_after_another,
+        "a connection that its peer keeps open after the server closed it": keeps_open,
+        "the connections that have been idle longest are closed for new ones": longest_idle,
+        f"more idle connections than {CONNECTIONS}": idle, "lengths that are none": odd_lengths, "datagrams that are no requests": nonsense,
+        "replies that are written in part, before the peer's end": written_in_part,
     }.items():
-        try:
-            fault = tried(server)
-        except OSError as error:
-            fault = str(error) or type(error).__name__
-        trial.note(what, fault)
+        try_tries(trial, server, {what: tried})
+    try_tries(trial, server, {
+        f"connections without a complete request for {LONGEST_IDLE} seconds": without_request,
+        "more connections than are held at once, which peers keep open after the server closed them": closed_by_server,
+    })
     status = server.end()
     trial.note("the server still runs, and ends at SIGTERM", "" if status == -15 else f"status {status}")
 
@@ -231,7 +427,7 @@ def try_each(trial):
         peer.settimeout(10 * SLOWNESS)
         answered = sum(bool(ask_udp(peer, login("v"), 1)) for _ in range(DATAGRAMS))
         trial.note(f"{DATAGRAMS} datagrams are answered, each asked once", "" if answered == DATAGRAMS else f"{answered} are")
-        try_remembered(trial, peer)
+        try_remembered(trial, server, peer)
     server.end()
     first, second = first_session_key(trial), first_session_key(trial)
     trial.note("two starts give different session keys", "" if first != second else "the first one is the same")
@@ -247,7 +443,7 @@ def first_session_key(trial):
     return key
 
 
-def try_remembered(trial, peer):
+def try_remembered(trial, server, peer):
     """Each of these authenticators gets a ticket, the next one is refused, and a repeated one gets the same bytes as before."""
     realm, now = REALM.encode(), int(time.time())
     ticket, key = ticket_in(key_of(b"a password", realm + b"v"), ask_udp(peer, login("v")))
@@ -259,6 +455,8 @@ def try_remembered(trial, peer):
     trial.note("one more is refused with 29", "" if found == "29" else f"it gets {found}")
     others = sum(ask_udp(peer, request) != reply for request, reply in list(zip(requests, replies))[:-1])
     trial.note("each that comes again gets the reply of before", f"{others} get another" if others else "")
+    address, first = server.addresses[1][1], requests[0]
+    trial.note("also over two connections", "" if [ask_tcp(address, first) for _ in range(2)] == [replies[0]] * 2 else "they get others")
 
 
 def try_killed(trial):
@@ -456,12 +654,16 @@ def try_full(trial, folder, buyer):
     server.end()
 
 
-# Lets the allocation with the number REFUSED fail, and writes the number of allocations into the file COUNTED.
+# Lets the allocation with the number REFUSED fail, and writes the number of allocations into the file COUNTED. A read of standard input gives at
+# most PIECE bytes, and one fails after READS good ones; a write to standard output fails after WRITES good ones.
 LINES = r"""
 #define _GNU_SOURCE
 #include <dlfcn.h>
+#include <errno.h>
+#include <limits.h>
 #include <stdio.h>
 #include <stdlib.h>
+#include <unistd.h>
 
 static long calls, refused = -1;
 
@@ -479,6 +681,35 @@ static int is_refused(void)
 void *malloc(size_t size) { NEXT(malloc); return is_refused() ? 0 : next(size); }
 void *realloc(void *old, size_t size) { NEXT(realloc); return is_refused() ? 0 : next(old, size); }
 void *aligned_alloc(size_t align, size_t size) { NEXT(aligned_alloc); return is_refused() ? 0 : next(align, size); }
+
+static long number(const char *name)
+{
+    const char *text = getenv(name);
+    return text ? atol(text) : LONG_MAX;
+}
+
+static ssize_t failed(void)
+{
+    errno = ECONNRESET;
+    return -1;
+}
+
+ssize_t read(int file, void *to, size_t size)
+{
+    static long reads;
+    NEXT(read);
+    if (file != 0)
+        return next(file, to, size);
+    size_t most = number("PIECE");
+    return reads++ == number("READS") ? failed() : next(file, to, size < most ? size : most);
+}
+
+ssize_t write(int file, const void *from, size_t size)
+{
+    static long writes;
+    NEXT(write);
+    return file == 1 && writes++ == number("WRITES") ? failed() : next(file, from, size);
+}
 
 __attribute__((destructor)) static void write_count(void)
 {

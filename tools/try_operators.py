@@ -26,7 +26,7 @@ import subprocess
 import tempfile
 import time
 
-from kerberos import key_of, ticket_in
+from kerberos import body, field, integer, key_of, sequence, tgs_req, ticket_in, tlv
 from trial import (
     PATIENCE, REALM, SINKS, SLOWNESS, Server, Trial, answer, ask_tcp, ask_udp, datagrams, drained, ending, flood, free_port,
     login, programs_in, sink_of,
@@ -509,6 +509,22 @@ def try_lock(trial):
         time.sleep(0.02)
     trial.cases("KINIT u --password-file other -> 0 =ok")
     served.end()
+    try_locked_rules(trial)
+
+
+def try_locked_rules(trial):
+    """A client that is locked and then disabled is refused as disabled."""
+    served = trial.serve("--first --log --lock-after 1 --lock-seconds 600")
+    trial.cases("KINIT u --password-file pw -> 1 =refused 24\nKINIT u --password-file other -> 1 =refused 18")
+    trial.cases("kadm policy --db database --name u --field disabled --value true -> 0 =ok")
+    rules = lambda: re.findall(r" as u \S+ refused 18 \S+ rule=(\S+)", served.said())
+    start = time.monotonic()
+    while rules()[-1:] != ["client-disabled"] and time.monotonic() < start + 3 * SERVED_WITHIN:
+        served.answer("u")
+        time.sleep(0.02)
+    found = list(dict.fromkeys(rules()))
+    trial.note("a locked client that is disabled is refused as disabled", "" if found == ["client-locked", "client-disabled"] else str(found))
+    served.end()
 
 
 def try_change(trial):
@@ -616,8 +632,39 @@ def try_log(trial):
         trial.note(f"log to {what}: lines are whole", f"{odd[:3]}" if odd else "")
         status = served.end()
         trial.note(f"log to {what}: SIGTERM ends it", "" if status == -15 else f"status {status}")
+    try_accounts(trial)
     try_objects(trial)
     try_lost_lines(trial)
+
+
+def try_accounts(trial):
+    """The line of a request has its names, and what became of it."""
+    realm, long_name = REALM.encode(), "/".join(letter * 250 for letter in "abcde")
+    trial.expect(f"kadm random --db database --name {long_name}", 0, "=ok", what="a service whose tickets are too long for a datagram")
+    served = trial.serve("--first --log")
+    ask = lambda request: ask_udp(peer, request)
+    with datagrams(served.udp) as peer:
+        peer.send(b"no request")
+        ask(login("u"))
+        ticket, session_key = ticket_in(key_of(b"a password", realm + b"v"), ask(login("v")))
+        parts = field(1, integer(5)), field(2, integer(10)), field(4, body(realm, long_name.encode().split(b"/"), b"v"))
+        ask(tlv(0x6A, sequence(*parts)))
+        request = tgs_req(realm, b"v", (b"h",), ticket, session_key, int(time.time()), 1)
+        # The last byte of the ticket's cipher, and that of the authenticator's.
+        for place in (request.index(ticket) + len(ticket) - 1, request.index(body(realm, (b"h",))) - 3):
+            ask(request[:place] + bytes([request[place] ^ 1]) + request[place + 1:])
+        first, second = ask(request), ask(request)
+    lines = (
+        "none", r"as u krbtgt/A\.B refused 25 \S+ rule=preauthentication-required",
+        r"as v krbtgt/A\.B ticket 10h etype=18/18 flags=I until=\S+", r"as v a+\.\.\. refused 52 \S+",
+        r"tgs - h refused 31 \S+ rule=ticket-not-opened", r"tgs v h refused 31 \S+ rule=authenticator-not-opened",
+        r"tgs v h ticket 10h etype=18/18 flags=- until=\S+", r"tgs v h ticket - repeat=yes",
+    )
+    logged = lambda: [line for line in served.said().splitlines() if not line.startswith("kdcd: ")]
+    served.wait(lambda: len(logged()) == len(lines), 3)
+    odd = [line for line, wanted in itertools.zip_longest(logged(), lines, fillvalue="") if not re.fullmatch(rf"\S+ \S+ udp {wanted}", line)]
+    trial.note("a line has the names of its request, and its outcome", "" if not odd and first == second else f"{odd}")
+    served.end()
 
 
 def try_objects(trial):

@@ -33,7 +33,7 @@ PHRASES = (
     ("lets? go|letting go", "drops, evicts, frees, closes", 0, 0, 0),
     ("(?:is|are) at fault|a fault of", "fails with, returns an error", 0, 1, 0),
     ("whoever|who asks", "the caller, the peer, the client", 0, 0, 0),
-    ("of which|of whom|that which", "two sentences", 0, 4, 1),
+    ("of which|of whom|that which", "two sentences", 0, 3, 1),
     ("what it is that|in vain|all the same", "a verb", 0, 1, 0),
     ("where there (?:is|are) none", "if it is absent", 0, 1, 0),
     ("so many", "N, this many", 0, 0, 0),

@@ -1,312 +1,573 @@
-//! Tests of a KDC (`kdc_core`): requests and their replies, changes of rows, and runs.
-use crate::fixtures::{BASIC, CLIENT_UNKNOWN};
-use crate::realm::{Altered, Case, Example, Happening, NOTHING, Realm, Step, expect};
+//! Tests of a KDC (`kdc_core`) for the realm `A.B`: runs of events, with databases that are replaced, tidying, and
+//! resuming, and runs that continue after memory ran out. Other requests are tried over `kdcd script`.
+use crate::fixtures::{holds, octets};
+use crate::messages::message;
+use enctypes::{Etype, Key};
+use kdc_core::{Event, Kdc, Opening, Resumption, RunFault, Seen};
+use krb_elements::{Octets, Seq};
+use krb_fields::{Moment, Name};
+use principal_rows::{KeyList, Limits, Policy};
+use principals::{Change, ChangeFault, Database, RowChange};
+use std::alloc::Global;
+use std::process::Abort;
 use std::test::Fail;
 
-/// The basic request with its first length in two bytes.
-const LONG_FORM: &str = "\
-        6a81693067a103020105a20302010aa45b3059a00703050000000000a10e300ca003020101a10530031b0175a2051b03412e\
-        42a3183016a003020102a10f300d1b066b72627467741b03412e42a511180f31393730303130313030303030305aa7030201\
-        01a8053003020112";
+const MIDNIGHT: i64 = 1_704_067_200;
 
-/// The basic request followed by a byte.
-const LONGER: &str = "\
-        6a693067a103020105a20302010aa45b3059a00703050000000000a10e300ca003020101a10530031b0175a2051b03412e42\
-        a3183016a003020102a10f300d1b066b72627467741b03412e42a511180f31393730303130313030303030305aa703020101\
-        a805300302011200";
+/// The bytes of a key of encryption type 18: the first one, and by how much each next one is greater.
+type KeyBytes = (u8, u8);
 
-/// The basic request without its cname.
-const NO_CLIENT: &str = "\
-        6a593057a103020105a20302010aa44b3049a00703050000000000a2051b03412e42a3183016a003020102a10f300d1b066b\
-        72627467741b03412e42a511180f31393730303130313030303030305aa703020101a8053003020112";
+/// A run of a KDC: its name, the key of `krbtgt/A.B`, after how many failures a client is locked for a minute (0 for
+/// never), and its steps. At first the database has only `krbtgt/A.B`.
+///
+/// A step has four words: what comes, two words about it, and the outcome. Principals have names of one letter. The
+/// word for a key is the byte that it repeats, or its first byte and `+` if its bytes count up.
+///
+/// ```text
+/// ask MESSAGE SECOND     a request comes, this many seconds after 2024-01-01 00:00:00
+/// draw MESSAGE RANDOM    a request comes at midnight, and the KDC draws these random bytes
+/// long - -               the basic request comes with a timestamp of a million bytes
+/// add PRINCIPAL KEY      the principal is added
+/// key u KEY              `u` gets this key, as its next version
+/// free u -               `u` needs no preauthentication from now on
+/// replace REALM KEY      a database of this realm replaces the rows; in it `u` has this key
+/// restart - -            the KDC starts again
+/// reopen - -             the KDC starts again with a database that has `u`, whose key is 32 zeros
+/// tidy - SECOND          the KDC drops authenticators that can't come again
+/// resume - -             the KDC resumes with the service `h` and no clients; it has seen an authenticator of `u` from
+///                        second 7, and refuses all times below second 5
+/// ```
+///
+/// The outcome is `-` for no reply, `ticket`, the code of an error, or the reply itself.
+type Run = (&'static str, KeyBytes, u32, &'static str);
 
-/// The basic request without its sname.
-const NO_SERVICE: &str = "\
-        6a4f304da103020105a20302010aa441303fa00703050000000000a10e300ca003020101a10530031b0175a2051b03412e42\
-        a511180f31393730303130313030303030305aa703020101a8053003020112";
+/// Some requests come twice, so that the second one is answered if the first one ran out of memory.
+const RUNS: &[Run] = &[
+    (
+        "an unknown client",
+        (0, 0),
+        0,
+        "
+        ask BASIC 0 CLIENT_UNKNOWN
+        ask BASIC 0 CLIENT_UNKNOWN
+        ",
+    ),
+    (
+        "key hints",
+        (0, 0),
+        0,
+        "
+        add u 0 -
+        ask BASIC 0 PREAUTH_REQUIRED
+        ask BASIC 0 PREAUTH_REQUIRED
+        ",
+    ),
+    (
+        "a login without preauthentication",
+        (0, 0),
+        0,
+        "
+        add u 0 -
+        free u - -
+        ask BASIC 0 TICKET
+        ask BASIC 0 TICKET
+        ",
+    ),
+    (
+        "a login with a timestamp",
+        (128, 1),
+        0,
+        "
+        add u 64+ -
+        add h 160+ -
+        draw LOGIN LOGIN_RANDOM LOGIN_REP
+        draw LOGIN LOGIN_RANDOM LOGIN_REP
+        ",
+    ),
+    (
+        "a service ticket",
+        (128, 1),
+        0,
+        "
+        add u 64+ -
+        add h 160+ -
+        draw TGS_REQ UP_FROM_64 TGS_REP
+        draw TGS_REQ UP_FROM_64 TGS_REP
+        ",
+    ),
+    (
+        "a timestamp of a million bytes fails as any other",
+        (0, 0),
+        0,
+        "
+        add u 0 -
+        free u - -
+        long - - PREAUTH_FAILED
+        ",
+    ),
+    (
+        "noise, a row that is added once, a restart",
+        (0, 0),
+        0,
+        "
+        ask NOTHING 0 -
+        add u 0 -
+        add u 0 -
+        restart - - -
+        ask BASIC_OF_X 0 CLIENT_UNKNOWN
+        ask BASIC 0 PREAUTH_REQUIRED
+        ",
+    ),
+    (
+        "rows of the same realm replace the others",
+        (0, 0),
+        0,
+        "
+        ask BASIC 0 CLIENT_UNKNOWN
+        replace A.B 0 -
+        ask BASIC 0 PREAUTH_REQUIRED
+        ",
+    ),
+    (
+        "rows of another realm change nothing",
+        (0, 0),
+        0,
+        "
+        ask BASIC 0 CLIENT_UNKNOWN
+        replace A.C 0 -
+        ask BASIC 0 CLIENT_UNKNOWN
+        ",
+    ),
+    (
+        "it opens again with other rows",
+        (0, 0),
+        0,
+        "
+        ask BASIC 0 CLIENT_UNKNOWN
+        reopen - - -
+        ask BASIC 0 PREAUTH_REQUIRED
+        ",
+    ),
+    // After the first replacement its key version is the same.
+    (
+        "a replaced database ends a lock by another version",
+        (0, 0),
+        2,
+        "
+        add u 0 -
+        ask LOGIN_9 0 24
+        ask LOGIN_9 0 24
+        replace A.B 4 -
+        ask LOGIN_4 0 18
+        key u 5 -
+        ask LOGIN_5 0 ticket
+        ask LOGIN_9 0 24
+        ask LOGIN_9 0 24
+        ask LOGIN_5 0 18
+        replace A.B 4 -
+        ask LOGIN_4 0 ticket
+        ",
+    ),
+    // The authenticator that was dropped is too old from then on. None of `w` was dropped.
+    (
+        "tidying keeps what can come again",
+        (1, 0),
+        0,
+        "
+        add h 1 -
+        add u 117 -
+        add w 119 -
+        ask BUYS_AT_0 0 ticket
+        tidy - 300 -
+        ask BUYS_AT_0 300 ticket
+        tidy - 301 -
+        ask BUYS_AT_0 300 37
+        ask W_BUYS_AT_0 0 ticket
+        ask BUYS_AT_301 301 ticket
+        ",
+    ),
+    (
+        "the same beside no other client",
+        (1, 0),
+        0,
+        "
+        add h 1 -
+        add u 117 -
+        ask BUYS_AT_0 0 ticket
+        tidy - 300 -
+        ask BUYS_AT_0 300 ticket
+        tidy - 301 -
+        ask BUYS_AT_0 300 37
+        ask BUYS_AT_301 301 ticket
+        ",
+    ),
+    (
+        "a resumed KDC refuses seen authenticators only",
+        (1, 0),
+        0,
+        "
+        resume - - -
+        add u 117 -
+        add w 119 -
+        ask BUYS_AT_7 7 34
+        ask BUYS_AT_7 7 34
+        ask BUYS_AT_7_AND_1 7 ticket
+        ask W_BUYS_AT_7 7 ticket
+        ask BUYS_AT_4 7 37
+        ask BUYS_AT_5 7 ticket
+        ",
+    ),
+    (
+        "a row is added after memory ran out, and not twice",
+        (0, 0),
+        0,
+        "",
+    ),
+];
 
-/// A KRB-ERROR of 2024-01-01 00:00:00 with code 7, realm `A.B` and service `krbtgt/A.B`.
-const SERVICE_UNKNOWN: &str = "\
-        7e4a3048a003020105a10302011ea411180f32303234303130313030303030305aa503020100a603020107a9051b03412e42\
-        aa183016a003020102a10f300d1b066b72627467741b03412e42";
-
-/// The basic request for a service with name-type -3 and no components.
-const STRANGE_SERVICE: &str = "\
-        6a5c305aa103020105a20302010aa44e304ca00703050000000000a10e300ca003020101a10530031b0175a2051b03412e42\
-        a30b3009a0030201fda1023000a511180f31393730303130313030303030305aa703020101a8053003020112";
-
-/// A KRB-ERROR of 2024-01-01 00:00:00 and 999999 microseconds with code 7, realm `A.B` and that service.
-const STRANGE_SERVICE_UNKNOWN: &str = "\
-        7e3f303da003020105a10302011ea411180f32303234303130313030303030305aa50502030f423fa603020107a9051b0341\
-        2e42aa0b3009a0030201fda1023000";
-
-/// The AS-REP to the basic request, from a Python program over `cryptography`. The keys of `u` and of `krbtgt/A.B` are
-/// 32 zeros, and the random bytes are 0 to 63.
-const TICKET: &str = "\
-        6b82022a30820226a003020105a10302010ba21e301c301aa103020113a2130411300f300da003020112a1061b04412e4275\
-        a3051b03412e42a40e300ca003020101a10530031b0175a581f76181f43081f1a003020105a1051b03412e42a2183016a003\
-        020102a10f300d1b066b72627467741b03412e42a381c83081c5a003020112a103020101a281b80481b5d9b75292c61ec484\
-        0b7f27e65376503c25f01ed8011dfa62d2cde0622dba3c7f3265938c5931da14a6b5272fd76b685afb28d59cb5280a14e206\
-        87a8a529f99793a0c873959a64993523d75c241ca601b52192ceedba47ec2e9e30be9b526a0b47e856e9ca58bc033aaf1b47\
-        f382c51435b71c8ab67519cab609de30f4e3ed00dfa3df5864cedd9475d1e8d1f3d52fd51eccfe276563f2ddbc19b8cc9701\
-        cd9d36ddd5dc58ad28542d179e5261cf370d6fc234d835a681e83081e5a003020112a103020101a281d80481d5ad51c5c98c\
-        71eed310bd86fd6b1316269b70eb0539702eab6d604f730b7b52403ebbdd337c5512cee5c3cf7813a608ed4b373f4f0efbe0\
-        118ecbabcdf66760c6a513561177ae30ed5f9f39f42be4f67dda9449bdcb73e780fd1dc49d8a50c829ab34630cd294895c9d\
-        b736f7431c55bd187bad5d83807a6ccf46952befc68a9e658b8a2076453834d0bec88c41b7f076924ede04e7b57f273cf3c8\
-        80baa95d4997b7f18085befac00293589b7c249c090a31a43df2ee67c5e2670e83814a31b9a6455d2a6b168da080206f8c9f\
-        dd6967b900f9e18e";
-
-/// A KRB-ERROR of 2024-01-01 00:00:00 with code 52.
-const TOO_BIG: &str = "\
-        7e4a3048a003020105a10302011ea411180f32303234303130313030303030305aa503020100a603020134a9051b03412e42\
-        aa183016a003020102a10f300d1b066b72627467741b03412e42";
-
-/// A KRB-ERROR of 2024-01-01 00:00:00 with code 25, and METHOD-DATA for `u` and encryption type 18.
-const PREAUTH_REQUIRED: &str = "\
-        7e773075a003020105a10302011ea411180f32303234303130313030303030305aa503020100a603020119a9051b03412e42\
-        aa183016a003020102a10f300d1b066b72627467741b03412e42ac2b04293027301aa103020113a2130411300f300da00302\
-        0112a1061b04412e42753009a103020102a2020400";
-
-/// The basic request with a PA-ENC-TIMESTAMP, up to a cipher of a million bytes.
-const BEFORE_A_MILLION: &str = "\
-        6a830f42de30830f42d9a103020105a20302010aa3830f426d30830f426830830f4263a103020102a2830f425904830f4254\
-        30830f424fa003020112a2830f424504830f4240";
-
-/// The body of the basic request, which follows the cipher.
-const BODY: &str = "\
-        a45b3059a00703050000000000a10e300ca003020101a10530031b0175a2051b03412e42a3183016a003020102a10f300d1b\
-        066b72627467741b03412e42a511180f31393730303130313030303030305aa703020101a8053003020112";
-
-/// A KRB-ERROR of 2024-01-01 00:00:00 with code 24.
-const PREAUTH_FAILED: &str = "\
-        7e4a3048a003020105a10302011ea411180f32303234303130313030303030305aa503020100a603020118a9051b03412e42\
-        aa183016a003020102a10f300d1b066b72627467741b03412e42";
-
-#[test]
-fn refuses_an_unknown_client(rt: HostRuntime) -> Result<(), Fail> {
-    const EXCHANGES: &[Example] = &[Example {
-        request: BASIC,
-        reply: Some(CLIENT_UNKNOWN),
-        ..NOTHING
-    }];
-    expect(rt.alloc(), Realm::Tgs, Case::Exchanges(EXCHANGES))
+fn key(bytes: KeyBytes) -> Key {
+    let (mut next, more) = bytes;
+    let mut octets = [0; 32];
+    for octet in &mut octets {
+        *octet = next;
+        next = next.wrapping_add(more);
+    }
+    Key::from_random(Etype::Aes256CtsHmacSha1_96, &octets)
 }
 
-#[test]
-fn refuses_a_request_without_a_client_or_a_service(rt: HostRuntime) -> Result<(), Fail> {
-    const EXCHANGES: &[Example] = &[
-        Example {
-            request: NO_CLIENT,
-            reply: Some(CLIENT_UNKNOWN),
-            ..NOTHING
-        },
-        Example {
-            request: NO_SERVICE,
-            reply: Some(SERVICE_UNKNOWN),
-            ..NOTHING
-        },
-    ];
-    expect(rt.alloc(), Realm::User, Case::Exchanges(EXCHANGES))
+fn keys(alloc: Global, bytes: KeyBytes) -> Result<KeyList, Fail> {
+    Ok(KeyList::new(alloc, &[key(bytes)])?)
 }
 
-#[test]
-fn names_the_service_and_the_moment_as_they_are(rt: HostRuntime) -> Result<(), Fail> {
-    const EXCHANGES: &[Example] = &[Example {
-        usec: 999_999,
-        request: STRANGE_SERVICE,
-        reply: Some(STRANGE_SERVICE_UNKNOWN),
-        ..NOTHING
-    }];
-    expect(rt.alloc(), Realm::User, Case::Exchanges(EXCHANGES))
+fn limits(lock_after: u32) -> Result<Limits, Fail> {
+    Ok(Limits::new(64, lock_after, 60, 36000, 0).ok_or("limits")?)
 }
 
-#[test]
-fn gives_no_reply_to_part_of_a_request(rt: HostRuntime) -> Result<(), Fail> {
-    expect(rt.alloc(), Realm::Tgs, Case::Beginnings(BASIC))
+fn moment(second: u32) -> Result<Moment, Fail> {
+    Ok(Moment::new(MIDNIGHT + i64::from(second), 0).ok_or("a moment")?)
 }
 
-#[test]
-fn gives_no_reply_to_other_messages(rt: HostRuntime) -> Result<(), Fail> {
-    const EXCHANGES: &[Example] = &[
-        Example {
-            request: LONGER,
-            ..NOTHING
-        },
-        Example {
-            request: LONG_FORM,
-            ..NOTHING
-        },
-    ];
-    expect(rt.alloc(), Realm::Tgs, Case::Exchanges(EXCHANGES))
+fn change(alloc: Global, letter: u8, what: RowChange) -> Result<Change, Fail> {
+    Ok(Change {
+        name: Name::new(alloc, 1, &[&[letter]])?,
+        what,
+    })
 }
 
-#[test]
-fn refuses_by_version_type_and_exchange(rt: HostRuntime) -> Result<(), Fail> {
-    // pvno 4; the message type of a TGS-REQ; the tag of a TGS-REQ, whose message type is 12.
-    const CHANGES: &[Altered] = &[
-        Altered {
-            place: 8,
-            octet: 4,
-            code: 3,
-        },
-        Altered {
-            place: 13,
-            octet: 12,
-            code: 40,
-        },
-        Altered {
-            place: 0,
-            octet: 0x6c,
-            code: 40,
-        },
-    ];
-    expect(rt.alloc(), Realm::Tgs, Case::Altered(CHANGES))
+fn addition(alloc: Global, letter: u8, bytes: KeyBytes) -> Result<Change, Fail> {
+    let keys = keys(alloc, bytes)?;
+    change(alloc, letter, RowChange::Add(keys))
 }
 
-#[test]
-fn refuses_what_the_database_lacks(rt: HostRuntime) -> Result<(), Fail> {
-    // Another realm; another instance of the service.
-    const CHANGES: &[Altered] = &[
-        Altered {
-            place: 49,
-            octet: b'C',
-            code: 6,
+/// Returns a database of this realm with only the ticket-granting service.
+fn first_database(alloc: Global, realm: &[u8], tgs_key: KeyBytes) -> Result<Database, Fail> {
+    let keys = keys(alloc, tgs_key)?;
+    Ok(Database::first(alloc, realm, keys)?)
+}
+
+/// Adds a principal to a database.
+fn extended(alloc: Global, mut database: Database, addition: &Change) -> Result<Database, Fail> {
+    match database.apply(alloc, addition) {
+        Ok(()) => Ok(database),
+        Err(fault) => Err(Fail::from(fault)),
+    }
+}
+
+/// Returns a database of this realm with one other principal. `krbtgt` has the key of the tests with that principal.
+fn with_one(alloc: Global, realm: &[u8], letter: u8, bytes: KeyBytes) -> Result<Database, Fail> {
+    let addition = addition(alloc, letter, bytes)?;
+    let tgs_key = if letter == b'h' { bytes } else { (0, 0) };
+    extended(alloc, first_database(alloc, realm, tgs_key)?, &addition)
+}
+
+/// Returns a KDC whose database has only the ticket-granting service.
+pub fn opened(alloc: Global, tgs_key: KeyBytes, lock_after: u32) -> Result<Kdc, Fail> {
+    let limits = limits(lock_after)?;
+    let database = first_database(alloc, b"A.B", tgs_key)?;
+    Ok(Kdc::open(alloc, database, limits, Opening::First)?)
+}
+
+/// Returns the event of this request. The KDC draws the random bytes of this name.
+fn request(second: u32, random: &str, request: Vec<u8>) -> Result<Event, Fail> {
+    let mut octets = [0; 64];
+    hex::decode_to_slice(message(random), &mut octets)?;
+    Ok(Event::Request {
+        at: moment(second)?,
+        random: octets,
+        room: 1400,
+        request: Octets::new(request),
+    })
+}
+
+fn asks(alloc: Global, second: &str, name: &str) -> Result<Event, Fail> {
+    let second = second.parse()?;
+    request(second, "UP_FROM_0", octets(alloc, message(name))?)
+}
+
+fn draws(alloc: Global, random: &str, name: &str) -> Result<Event, Fail> {
+    request(0, random, octets(alloc, message(name))?)
+}
+
+/// Appends a cipher of a million bytes, and the body of the basic request.
+fn push_million(alloc: Global, request: &mut Vec<u8>) -> Result<(), Fail> {
+    for _ in 0..1_000 {
+        request.extend_from_slice(&[0; 1_000])?;
+    }
+    Ok(request.extend_from_slice(&octets(alloc, message("BODY"))?)?)
+}
+
+fn asks_long(alloc: Global) -> Result<Event, Fail> {
+    let mut octets = octets(alloc, message("BEFORE_A_MILLION"))?;
+    match push_million(alloc, &mut octets) {
+        Ok(()) => request(0, "UP_FROM_0", octets),
+        Err(fail) => Err(fail),
+    }
+}
+
+fn seen(alloc: Global, client: Name) -> Result<Seq<Seen>, Fail> {
+    let mut seen = Vec::new(alloc);
+    seen.push(Seen {
+        client,
+        ctime: MIDNIGHT + 7,
+        cusec: 0,
+    })?;
+    Ok(Seq::from_vec(seen))
+}
+
+fn resumes_with(database: Database, limits: Limits, seen: Seq<Seen>) -> Event {
+    Event::Resume {
+        database,
+        limits,
+        resumption: Resumption {
+            floor: MIDNIGHT + 5,
+            seen,
         },
-        Altered {
-            place: 75,
-            octet: b'C',
-            code: 7,
-        },
-    ];
-    expect(rt.alloc(), Realm::User, Case::Altered(CHANGES))
+    }
 }
 
-#[test]
-fn gets_existing_rows(rt: HostRuntime) -> Result<(), Fail> {
-    expect(rt.alloc(), Realm::Tgs, Case::Rows)
+fn resumes(alloc: Global) -> Result<Event, Fail> {
+    let limits = limits(0)?;
+    let seen = seen(alloc, Name::new(alloc, 1, &[b"u"])?)?;
+    match with_one(alloc, b"A.B", b'h', (1, 0)) {
+        Ok(database) => Ok(resumes_with(database, limits, seen)),
+        Err(fail) => Err(fail),
+    }
 }
 
-#[test]
-fn adds_a_row_once(rt: HostRuntime) -> Result<(), Fail> {
-    expect(rt.alloc(), Realm::User, Case::AddedOnce)
+fn changed(change: Result<Change, Fail>) -> Result<Event, Fail> {
+    Ok(Event::Change { change: change? })
 }
 
-#[test]
-fn a_request_is_answered_after_memory_ran_out(rt: HostRuntime) -> Result<(), Fail> {
-    const REFUSED: Example = Example {
-        request: BASIC,
-        reply: Some(CLIENT_UNKNOWN),
-        ..NOTHING
+fn reopens(alloc: Global) -> Result<Event, Fail> {
+    let (limits, at) = (limits(0)?, moment(0)?);
+    Ok(Event::Reopen {
+        database: with_one(alloc, b"A.B", b'u', (0, 0))?,
+        limits,
+        at,
+    })
+}
+
+fn replaces(alloc: Global, realm: &str, key: &str) -> Result<Event, Fail> {
+    let bytes = key_bytes(key)?;
+    Ok(Event::Replace {
+        database: with_one(alloc, realm.as_bytes(), b'u', bytes)?,
+    })
+}
+
+fn restarts() -> Result<Event, Fail> {
+    Ok(Event::Restart { at: moment(0)? })
+}
+
+fn tidies(second: &str) -> Result<Event, Fail> {
+    Ok(Event::Tidy {
+        at: moment(second.parse()?)?,
+    })
+}
+
+/// Returns a key's bytes for a word.
+fn key_bytes(word: &str) -> Result<KeyBytes, Fail> {
+    match word.split_once('+') {
+        Some((first, _)) => Ok((first.parse()?, 1)),
+        None => Ok((word.parse()?, 0)),
+    }
+}
+
+/// Returns the letter that a principal's name is.
+fn letter(word: &str) -> Result<u8, Fail> {
+    Ok(*word.as_bytes().first().ok_or("a letter")?)
+}
+
+fn adds(alloc: Global, name: &str, key: &str) -> Result<Change, Fail> {
+    let bytes = key_bytes(key)?;
+    addition(alloc, letter(name)?, bytes)
+}
+
+fn new_key(alloc: Global, key: &str) -> Result<Change, Fail> {
+    let keys = keys(alloc, key_bytes(key)?)?;
+    change(alloc, b'u', RowChange::NewKeys(keys))
+}
+
+fn freedom(alloc: Global) -> Result<Change, Fail> {
+    let policy = Policy {
+        preauth: false,
+        ..Policy::default()
     };
-    expect(rt.alloc(), Realm::Tgs, Case::Again(REFUSED))
+    change(alloc, b'u', RowChange::SetPolicy(policy))
 }
 
-// Passes if any one allocation of the first change fails.
-#[test]
-fn a_change_out_of_memory_leaves_the_kdc_unchanged(rt: HostRuntime) -> Result<(), Fail> {
-    expect(rt.alloc(), Realm::Tgs, Case::AddedAgain)
-}
-
-#[test]
-fn issues_a_ticket_within_the_room(rt: HostRuntime) -> Result<(), Fail> {
-    const EXCHANGES: &[Example] = &[
-        Example {
-            room: 558,
-            request: BASIC,
-            reply: Some(TICKET),
-            ..NOTHING
-        },
-        Example {
-            room: 557,
-            request: BASIC,
-            reply: Some(TOO_BIG),
-            ..NOTHING
-        },
-    ];
-    expect(rt.alloc(), Realm::LenientUser, Case::Exchanges(EXCHANGES))
-}
-
-#[test]
-fn asks_for_preauthentication(rt: HostRuntime) -> Result<(), Fail> {
-    const EXCHANGES: &[Example] = &[Example {
-        request: BASIC,
-        reply: Some(PREAUTH_REQUIRED),
-        ..NOTHING
-    }];
-    expect(rt.alloc(), Realm::User, Case::Exchanges(EXCHANGES))
-}
-
-#[test]
-fn key_hints_are_the_same_again(rt: HostRuntime) -> Result<(), Fail> {
-    const HINTS: Example = Example {
-        request: BASIC,
-        reply: Some(PREAUTH_REQUIRED),
-        ..NOTHING
+fn event(alloc: Global, step: &[&str]) -> Result<Event, Fail> {
+    let [what, first, second, _] = step else {
+        return Err(Fail::from("four words"));
     };
-    expect(rt.alloc(), Realm::User, Case::Again(HINTS))
+    match *what {
+        "ask" => asks(alloc, second, first),
+        "draw" => draws(alloc, second, first),
+        "long" => asks_long(alloc),
+        "add" => changed(adds(alloc, first, second)),
+        "key" => changed(new_key(alloc, second)),
+        "free" => changed(freedom(alloc)),
+        "replace" => replaces(alloc, first, second),
+        "restart" => restarts(),
+        "reopen" => reopens(alloc),
+        "tidy" => tidies(second),
+        "resume" => resumes(alloc),
+        _ => Err(Fail::from("an event")),
+    }
 }
 
-#[test]
-fn a_timestamp_of_a_million_bytes_fails_as_any_other(rt: HostRuntime) -> Result<(), Fail> {
-    let case = Case::Million(BEFORE_A_MILLION, BODY, PREAUTH_FAILED);
-    expect(rt.alloc(), Realm::LenientUser, case)
+fn push_events(alloc: Global, events: &mut Vec<Event>, words: &[&str]) -> Result<(), Fail> {
+    for step in words.chunks(4) {
+        events.push(event(alloc, step)?)?;
+    }
+    Ok(())
 }
 
-#[test]
-fn a_changed_request_changes_no_later_reply(rt: HostRuntime) -> Result<(), Fail> {
-    expect(rt.alloc(), Realm::LenientUser, Case::Unspoilt(TICKET))
+fn is_ticket(reply: &[u8]) -> bool {
+    matches!(reply.first(), Some(0x6b | 0x6d))
 }
 
-#[test]
-fn a_ticket_is_issued_after_memory_ran_out(rt: HostRuntime) -> Result<(), Fail> {
-    const ISSUED: Example = Example {
-        request: BASIC,
-        reply: Some(TICKET),
-        ..NOTHING
-    };
-    expect(rt.alloc(), Realm::LenientUser, Case::Again(ISSUED))
+/// Checks whether a reply is a KRB-ERROR with this code. One without ctime and cusec has its code, one byte, at this
+/// place.
+fn is_error(reply: &[u8], code: u8) -> bool {
+    reply.first() == Some(&0x7e) && reply.get(42) == Some(&code)
 }
 
-// Passes if any one allocation of the first run fails.
-#[test]
-fn a_run_continues_where_it_stopped(rt: HostRuntime) -> Result<(), Fail> {
-    const RUN: &[Step] = &[
-        (Happening::Noise, None),
-        (Happening::AddsUser, None),
-        (Happening::AddsUser, None),
-        (Happening::Restarts, None),
-        (Happening::Asks(b'x'), Some(CLIENT_UNKNOWN)),
-        (Happening::Asks(b'u'), Some(PREAUTH_REQUIRED)),
-    ];
-    expect(rt.alloc(), Realm::Tgs, Case::Run(RUN))
+fn is_message(alloc: Global, reply: &[u8], name: &str) -> Result<bool, Fail> {
+    Ok(reply == octets(alloc, message(name))?.as_slice())
 }
 
-#[test]
-fn rows_of_the_same_realm_replace_the_others(rt: HostRuntime) -> Result<(), Fail> {
-    const RUN: &[Step] = &[
-        (Happening::Asks(b'u'), Some(CLIENT_UNKNOWN)),
-        (Happening::Replaces(b"A.B"), None),
-        (Happening::Asks(b'u'), Some(PREAUTH_REQUIRED)),
-    ];
-    expect(rt.alloc(), Realm::Tgs, Case::Run(RUN))
+/// Checks whether a reply is this outcome.
+fn is_outcome(alloc: Global, reply: &[u8], outcome: &str) -> Result<bool, Fail> {
+    if outcome == "ticket" {
+        return Ok(is_ticket(reply));
+    }
+    match outcome.parse::<u8>() {
+        Ok(code) => Ok(is_error(reply, code)),
+        Err(_) => is_message(alloc, reply, outcome),
+    }
 }
 
-#[test]
-fn rows_of_another_realm_change_nothing(rt: HostRuntime) -> Result<(), Fail> {
-    const RUN: &[Step] = &[
-        (Happening::Asks(b'u'), Some(CLIENT_UNKNOWN)),
-        (Happening::Replaces(b"A.C"), None),
-        (Happening::Asks(b'u'), Some(CLIENT_UNKNOWN)),
-    ];
-    expect(rt.alloc(), Realm::Tgs, Case::Run(RUN))
+fn has_come(alloc: Global, reply: &Option<Vec<u8>>, outcome: &str) -> Result<bool, Fail> {
+    match reply {
+        Some(reply) => is_outcome(alloc, reply, outcome),
+        None => Ok(outcome == "-"),
+    }
 }
 
+/// Runs the events, and returns how many of them are done, and their replies.
+fn ran(alloc: Global, kdc: &mut Kdc, events: &[Event]) -> (usize, Vec<Option<Vec<u8>>>) {
+    match kdc.run(alloc, events) {
+        Ok(replies) => (events.len(), replies),
+        Err(RunFault { done, replies }) => (done, replies),
+    }
+}
+
+/// Checks whether each step has its outcome.
+fn are_outcomes(
+    alloc: Global,
+    first: &[Option<Vec<u8>>],
+    rest: &[Option<Vec<u8>>],
+    words: &[&str],
+) -> Result<bool, Fail> {
+    let mut replies = first.iter().chain(rest);
+    for step in words.chunks(4) {
+        let (Some(reply), Some(outcome)) = (replies.next(), step.last()) else {
+            return Ok(false);
+        };
+        if !has_come(alloc, reply, outcome)? {
+            return Ok(false);
+        }
+    }
+    Ok(replies.next().is_none())
+}
+
+/// Runs the events. If memory runs out the run continues with the event at which it stopped.
+fn is_run(alloc: Global, kdc: &mut Kdc, events: &[Event], words: &[&str]) -> Result<bool, Fail> {
+    let (done, first) = ran(alloc, kdc, events);
+    let (_, rest) = ran(alloc, kdc, events.get(done..).unwrap_or(&[]));
+    are_outcomes(alloc, &first, &rest, words)
+}
+
+fn apply(alloc: Global, kdc: &mut Kdc, change: &Change) -> Result<(), ChangeFault> {
+    kdc.apply(alloc, change)
+}
+
+/// Checks whether a change is made the second time exactly if memory ran out the first time.
+fn is_added_once(alloc: Global, kdc: &mut Kdc, addition: &Change) -> bool {
+    let first = apply(alloc, kdc, addition);
+    let second = apply(alloc, kdc, addition);
+    match first {
+        Ok(()) => second == Err(ChangeFault::Exists),
+        Err(fault) => fault == ChangeFault::Memory && second == Ok(()),
+    }
+}
+
+/// Checks whether the rows are those of a first database.
+fn has_only_tgs(kdc: &Kdc, user: &Name, tgs: &Name) -> bool {
+    kdc.realm() == b"A.B".as_slice() && kdc.get(user).is_none() && kdc.get(tgs).is_some()
+}
+
+fn is_added(alloc: Global, kdc: &mut Kdc) -> Result<bool, Fail> {
+    let addition = addition(alloc, b'u', (0, 0))?;
+    let tgs = Name::new(alloc, 1, &[b"krbtgt", b"A.B"])?;
+    Ok(has_only_tgs(kdc, &addition.name, &tgs) && is_added_once(alloc, kdc, &addition))
+}
+
+/// Runs the events over a KDC. Only this function drops one: each place with a drop takes long to prove.
+fn is_run_of(alloc: Global, run: &Run, events: &[Event], words: &[&str]) -> Result<bool, Fail> {
+    let (_, tgs_key, lock_after, _) = run;
+    let mut kdc = opened(alloc, *tgs_key, *lock_after)?;
+    if events.is_empty() {
+        is_added(alloc, &mut kdc)
+    } else {
+        is_run(alloc, &mut kdc, events, words)
+    }
+}
+
+fn is_right_of(alloc: Global, run: &Run, words: &[&str]) -> Result<bool, Fail> {
+    let mut events = Vec::new(alloc);
+    match push_events(alloc, &mut events, words) {
+        Ok(()) => is_run_of(alloc, run, &events, words),
+        Err(fail) => Err(fail),
+    }
+}
+
+fn is_right(alloc: Global, run: &Run) -> Result<bool, Fail> {
+    let (_, _, _, text) = run;
+    let words: Vec<&str> = text.split_whitespace().collect(alloc)?;
+    is_right_of(alloc, run, &words)
+}
+
+fn expect_runs(rt: &(impl AllocGlobal + Abort), runs: &[Run]) -> Result<(), Fail> {
+    for run in runs {
+        let is_right = is_right(rt.alloc(), run)?;
+        holds(rt, is_right, run.0);
+    }
+    Ok(())
+}
+
+// Passes if any one allocation of a run fails.
 #[test]
-fn opens_again_with_other_rows(rt: HostRuntime) -> Result<(), Fail> {
-    const RUN: &[Step] = &[
-        (Happening::Asks(b'u'), Some(CLIENT_UNKNOWN)),
-        (Happening::Reopens, None),
-        (Happening::Asks(b'u'), Some(PREAUTH_REQUIRED)),
-    ];
-    expect(rt.alloc(), Realm::Tgs, Case::Run(RUN))
+fn each_event_gets_its_reply(rt: HostRuntime) -> Result<(), Fail> {
+    expect_runs(&rt, RUNS)
 }

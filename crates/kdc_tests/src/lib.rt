@@ -1,11 +1,8 @@
-//! Tests of a KDC and of the crates around it: scripts, streams cut into messages, the hub, and the wire over sockets.
-//! They are a crate of their own because a crate with tests is proved twice.
+//! Tests of a KDC and of the crates around it: runs of events, streams cut into messages, and the hub. They are a crate
+//! of their own because a crate with tests is proved twice. Scripts and sockets are tried over the program `kdcd`
+//! (`tools/try_script.py`, `tools/try_faults.py`).
 #![tactic(auto)]
 
-#[cfg(test)]
-mod accounts;
-#[cfg(test)]
-mod expect;
 #[cfg(test)]
 mod fixtures;
 #[cfg(test)]
@@ -13,24 +10,6 @@ mod hubs;
 #[cfg(test)]
 mod kdcs;
 #[cfg(test)]
-mod lives;
-#[cfg(test)]
-mod locks;
-#[cfg(test)]
-mod realm;
-#[cfg(test)]
-mod replay_caches;
-#[cfg(test)]
-mod requests;
-#[cfg(test)]
-mod scripts;
-#[cfg(test)]
-mod service_tickets;
-#[cfg(test)]
-mod sockets;
-#[cfg(test)]
-mod steps;
+mod messages;
 #[cfg(test)]
 mod streams;
-#[cfg(test)]
-mod struck_runs;

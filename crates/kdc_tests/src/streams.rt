@@ -1,99 +1,155 @@
 //! Tests of cutting a stream into messages (`framing`).
+use crate::fixtures::holds;
 use framing::{FrameFault, Splitter, frame, prefix};
 use std::alloc::{AllocError, Global};
-use std::test::Fail;
 
-/// Checks whether the next message is this one.
+/// A piece of a stream, the messages that it completes, and what comes after them.
+type Piece = (
+    &'static [u8],
+    &'static [&'static [u8]],
+    Result<(), FrameFault>,
+);
+
+const TOO_LONG: Result<(), FrameFault> = Err(FrameFault::TooLong);
+
+const HIGH_BIT: Result<(), FrameFault> = Err(FrameFault::HighBit);
+
+/// Streams, each with the maximum length of its messages.
+const STREAMS: &[(u32, &[Piece])] = &[
+    // A message byte by byte.
+    (
+        65_535,
+        &[
+            (&[0], &[], Ok(())),
+            (&[0], &[], Ok(())),
+            (&[0], &[], Ok(())),
+            (&[1], &[], Ok(())),
+            (&[0x6a], &[&[0x6a]], Ok(())),
+        ],
+    ),
+    // Messages in order.
+    (
+        2,
+        &[
+            (
+                &[0, 0, 0, 2, 0x6a, 0x6b, 0, 0, 0, 0, 0, 0, 0],
+                &[&[0x6a, 0x6b], &[]],
+                Ok(()),
+            ),
+            (&[1, 0x6c], &[&[0x6c]], Ok(())),
+        ],
+    ),
+    // A bad length ends the stream.
+    (
+        65_535,
+        &[
+            (&[0, 1, 0, 0], &[], TOO_LONG),
+            (&[0, 0, 0, 0], &[], TOO_LONG),
+        ],
+    ),
+    (
+        65_535,
+        &[
+            (&[0x80, 0, 0, 0], &[], HIGH_BIT),
+            (&[0, 0, 0, 0], &[], HIGH_BIT),
+        ],
+    ),
+    (
+        65_535,
+        &[
+            (&[0xff, 0xff, 0xff, 0xff], &[], HIGH_BIT),
+            (&[0, 0, 0, 0], &[], HIGH_BIT),
+        ],
+    ),
+];
+
+/// Checks whether this message is next.
 fn hands_out(alloc: Global, splitter: &mut Splitter, message: &[u8]) -> bool {
     matches!(&splitter.next(alloc), Ok(Some(next)) if next.as_slice() == message)
 }
 
-#[test]
-fn a_message_follows_its_length(rt: HostRuntime) -> Result<(), Fail> {
-    let octets = frame(rt.alloc(), &[0x6a])?;
-    assert_eq!(rt; octets.as_slice(), [0u8, 0, 0, 1, 0x6a].as_slice());
-    assert_eq!(rt; prefix(0x0102_0304), [1, 2, 3, 4]);
-    Ok(())
-}
-
-#[test]
-fn a_message_comes_byte_by_byte(rt: HostRuntime) -> Result<(), Fail> {
-    let alloc = rt.alloc();
-    let mut splitter = Splitter::new(alloc, 65_535);
-    for octet in [0u8, 0, 0, 1] {
-        splitter.feed(&[octet])?;
-        assert!(rt; matches!(&splitter.next(alloc), Ok(None)));
+/// Checks whether no message is next, or this fault.
+fn ends(alloc: Global, splitter: &mut Splitter, end: Result<(), FrameFault>) -> bool {
+    match splitter.next(alloc) {
+        Ok(None) => end.is_ok(),
+        Ok(Some(_)) => false,
+        Err(fault) => end == Err(fault),
     }
-    splitter.feed(&[0x6a])?;
-    assert!(rt; hands_out(alloc, &mut splitter, &[0x6a]));
-    assert!(rt; matches!(&splitter.next(alloc), Ok(None)));
-    Ok(())
 }
 
-#[test]
-fn messages_come_in_order(rt: HostRuntime) -> Result<(), Fail> {
-    let alloc = rt.alloc();
-    let mut splitter = Splitter::new(alloc, 2);
-    splitter.feed(&[0, 0, 0, 2, 0x6a, 0x6b, 0, 0, 0, 0, 0, 0, 0])?;
-    assert!(rt; hands_out(alloc, &mut splitter, &[0x6a, 0x6b]));
-    assert!(rt; hands_out(alloc, &mut splitter, &[]));
-    assert!(rt; matches!(&splitter.next(alloc), Ok(None)));
-    splitter.feed(&[1, 0x6c])?;
-    assert!(rt; hands_out(alloc, &mut splitter, &[0x6c]));
-    Ok(())
-}
-
-#[test]
-fn a_bad_length_ends_the_stream(rt: HostRuntime) -> Result<(), Fail> {
-    let alloc = rt.alloc();
-    for (length, fault, text) in [
-        (
-            [0u8, 1, 0, 0],
-            FrameFault::TooLong,
-            "a message is longer than the maximum",
-        ),
-        (
-            [0x80, 0, 0, 0],
-            FrameFault::HighBit,
-            "the first bit of a message's length is set",
-        ),
-        (
-            [0xff, 0xff, 0xff, 0xff],
-            FrameFault::HighBit,
-            "the first bit of a message's length is set",
-        ),
-    ] {
-        let mut splitter = Splitter::new(alloc, 65_535);
-        splitter.feed(&length)?;
-        for _ in 0..2 {
-            assert!(rt; matches!(&splitter.next(alloc), Err(found) if *found == fault));
-            splitter.feed(&[0, 0, 0, 0])?;
+fn cuts(alloc: Global, splitter: &mut Splitter, piece: &Piece) -> bool {
+    let (octets, messages, end) = piece;
+    if splitter.feed(octets).is_err() {
+        return false;
+    }
+    for message in *messages {
+        if !hands_out(alloc, splitter, message) {
+            return false;
         }
-        assert_eq!(rt; format!(in alloc; "{fault}")?.as_str(), text);
     }
-    Ok(())
+    ends(alloc, splitter, *end)
 }
 
-/// If one allocation fails (`rt try --test --fail-alloc N`), the call returns that memory ran out, and the next call
-/// succeeds.
-#[test]
-fn a_call_out_of_memory_fails_and_the_next_succeeds(rt: HostRuntime) -> Result<(), Fail> {
-    let alloc = rt.alloc();
-    let octets = match frame(alloc, &[0x6a]) {
-        Ok(octets) => octets,
-        Err(AllocError) => frame(alloc, &[0x6a])?,
-    };
-    let mut splitter = Splitter::new(alloc, 65_535);
-    if let Err(AllocError) = splitter.feed(&octets) {
-        splitter.feed(&octets)?;
-    }
-    let message = match splitter.next(alloc) {
-        Ok(message) => message,
-        Err(fault) => {
-            assert_eq!(rt; fault, FrameFault::Memory);
-            splitter.next(alloc)?
+fn is_cut(alloc: Global, greatest: u32, pieces: &[Piece]) -> bool {
+    let mut splitter = Splitter::new(alloc, greatest);
+    for piece in pieces {
+        if !cuts(alloc, &mut splitter, piece) {
+            return false;
         }
-    };
-    assert_eq!(rt; message.ok_or("a message")?.as_slice(), [0x6au8].as_slice());
-    Ok(())
+    }
+    true
+}
+
+#[test]
+fn a_stream_is_cut_into_messages(rt: HostRuntime) {
+    for (greatest, pieces) in STREAMS {
+        holds(&rt, is_cut(rt.alloc(), *greatest, pieces), "a stream");
+    }
+}
+
+/// Checks whether faults have their texts.
+fn are_texts(alloc: Global) -> Result<bool, AllocError> {
+    let texts = format!(in alloc; "{}; {}", FrameFault::TooLong, FrameFault::HighBit)?;
+    Ok(
+        texts.as_str()
+            == "a message is longer than the maximum; the first bit of a message's length is set",
+    )
+}
+
+#[test]
+fn faults_have_texts(rt: HostRuntime) {
+    holds(&rt, are_texts(rt.alloc()) == Ok(true), "the texts");
+}
+
+/// Frames a message, a second time if memory runs out.
+fn framed(alloc: Global) -> Result<Vec<u8>, AllocError> {
+    match frame(alloc, &[0x6a]) {
+        Ok(octets) => Ok(octets),
+        Err(AllocError) => frame(alloc, &[0x6a]),
+    }
+}
+
+/// Checks whether the message is next, the second time if memory runs out.
+fn hands_out_again(alloc: Global, splitter: &mut Splitter) -> bool {
+    match splitter.next(alloc) {
+        Ok(Some(next)) => next.as_slice() == [0x6au8].as_slice(),
+        Err(FrameFault::Memory) => hands_out(alloc, splitter, &[0x6a]),
+        _ => false,
+    }
+}
+
+/// Frames a message, and cuts the stream into it. If one allocation fails (`rt try --test --fail-alloc N`), the call
+/// returns that memory ran out, and the next call succeeds.
+fn is_cut_again(alloc: Global) -> Result<bool, AllocError> {
+    let octets = framed(alloc)?;
+    let mut splitter = Splitter::new(alloc, 65_535);
+    let is_fed = splitter.feed(&octets).is_ok() || splitter.feed(&octets).is_ok();
+    let is_framed = octets.as_slice() == [0u8, 0, 0, 1, 0x6a].as_slice();
+    Ok(is_framed && is_fed && hands_out_again(alloc, &mut splitter))
+}
+
+#[test]
+fn a_call_out_of_memory_fails_and_the_next_succeeds(rt: HostRuntime) {
+    holds(&rt, is_cut_again(rt.alloc()) == Ok(true), "a message");
+    holds(&rt, prefix(0x0102_0304) == [1, 2, 3, 4], "a length");
 }
