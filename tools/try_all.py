@@ -1,8 +1,8 @@
 #!/usr/bin/env python3
 """Tries the built programs, as `.ci/run` does after `rt ci`: the realm of README.md, each option and limit, sessions of `kadm`, command lines
 of `kclient`, scripts of a KDC, our client against our server and against MIT's and Heimdal's, stock clients against our server, the whole way to
-a service in Rattle and in C, hostile peers and servers, a `kadm` that is killed, and allocations that fail. It also checks the words of pages
-and comments. It needs Linux and Python 3, and a C compiler for some parts.
+a service in Rattle and in C, hostile peers and servers, a server whose clock is set, a `kadm` that is killed, and allocations that fail. It also
+checks the words of pages and comments. It needs Linux and Python 3, and a C compiler for some parts.
 
     python3 tools/try_all.py [--only PART ..] [--stock FOLDER] [--all-lines]
 
@@ -233,6 +233,7 @@ def parts(stock):
     operator = lambda each: Part(f"operators: {each}", script("try_operators.py", "--only", each, "--requests", REQUESTS))
     client = lambda each, *needs: Part(f"clients of {each}", script("try_client.py", "--only", each, *roots), *needs)
     fault = lambda each: Part(f"faults: {each}", script("try_faults.py", "--only", each))
+    server = lambda each: Part(f"server: {each}", script("try_server.py", "--only", each))
     return [
         Part("services in C by MIT's library", script("services_in_c.py", "--quick", *words), stock.services_and_clients, True),
         Part("services in C", script("services_in_c.py", "--without-mit", *words), stock.services, True),
@@ -246,6 +247,7 @@ def parts(stock):
         client("kdcd"), client("mit", lambda: stock.need("mit")), client("heimdal", lambda: stock.need("heimdal")),
         *map(operator, ("lock", "change", "kadm", "addresses", "terminal")),
         Part("scripts", script("try_script.py")),
+        *map(server, ("journals", "logs", "life", "clocks", "options", "starts")),
         Part("the whole way", script("whole_way.py")),
         Part("the whole way by MIT's library", script("whole_way.py", "--mk-req", made["mk_req"]), lambda: stock.with_krb5("mk_req")),
         Part("README.md", script("try_readme.py")),
