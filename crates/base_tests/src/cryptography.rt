@@ -2,11 +2,9 @@
 //! of other implementations: Python's hashlib and its package cryptography.
 
 mod aes;
-mod checksums;
 mod derivations;
-mod fixtures;
-mod macs;
+pub mod fixtures;
 mod parts;
-mod passwords;
 mod sealing;
 mod types;
+mod vectors;

@@ -1,4 +1,6 @@
-//! Assertions of tests. A call of one takes about a quarter of the time to prove that an `assert!` takes.
+//! Assertions of tests, and bytes in hexadecimal digits. A call of one of these takes about a quarter of the time to
+//! prove that an `assert!` takes.
+use std::alloc::Global;
 use std::fmt::Debug;
 use std::process::Abort;
 
@@ -12,10 +14,31 @@ pub fn same<T: PartialEq + Debug>(rt: &impl Abort, given: &impl Debug, found: &T
     assert_eq!(rt; *found, *wanted, "of {given:?}");
 }
 
+/// Asserts that `{:?}` prints the value as this text, so one text compares each field.
+pub fn shows<T: Debug + Drop>(rt: &impl Abort, alloc: Global, found: T, text: &str) {
+    match format!(in alloc; "{found:?}") {
+        Ok(printed) => same(rt, &"what is printed", &printed.as_str(), &text),
+        Err(fault) => panic!(rt; "{fault:?}"),
+    }
+}
+
 /// Asserts that these bytes are written.
 pub fn written<E: Debug + Drop>(rt: &impl Abort, found: Result<Vec<u8>, E>, wanted: &[u8]) {
     match found {
         Ok(found) => same(rt, &"what is written", &found.as_slice(), &wanted),
         Err(fault) => panic!(rt; "{fault:?}"),
     }
+}
+
+/// Returns the bytes of these digits, or no bytes if the digits are invalid. Tries again if memory ran out.
+pub fn bytes(alloc: Global, digits: &str) -> Vec<u8> {
+    match hex::decode(alloc, digits) {
+        Ok(bytes) => bytes,
+        Err(_) => hex::decode(alloc, digits).unwrap_or(Vec::new(alloc)),
+    }
+}
+
+/// Checks whether these are the bytes of the digits.
+pub fn are(alloc: Global, octets: &[u8], digits: &str) -> bool {
+    octets == bytes(alloc, digits).as_slice()
 }

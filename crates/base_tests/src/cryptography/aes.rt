@@ -1,187 +1,154 @@
 //! Tests of AES and its ciphertext stealing (`aes_cts`), with the standards' own vectors: FIPS 197, appendices B and C
 //! (C in the edition of 2001), and RFC 3962, appendix B. Other vectors come from the Python package cryptography.
-
-ghost use Rattle.std.specs.Prelude.{◌≤◌, length};
-
+use crate::cryptography::fixtures::sized;
+use crate::expect::{bytes, same};
 use aes_cts::{AesKey, table_word};
-use std::process::Abort;
+use std::alloc::Global;
 
-// The bytes 00, 11, .. ff.
-const PLAIN: [u8; 16] = [
-    0x00, 0x11, 0x22, 0x33, 0x44, 0x55, 0x66, 0x77, 0x88, 0x99, 0xaa, 0xbb, 0xcc, 0xdd, 0xee, 0xff,
+/// Three texts in digits.
+type Row = (&'static str, &'static str, &'static str);
+
+/// A key, a block, and the enciphered block: FIPS 197, appendix B, and appendix C, sections 1 and 3.
+const BLOCKS: &[Row] = &[
+    (
+        "2b7e151628aed2a6abf7158809cf4f3c",
+        "3243f6a8885a308d313198a2e0370734",
+        "3925841d02dc09fbdc118597196a0b32",
+    ),
+    (
+        "000102030405060708090a0b0c0d0e0f",
+        "00112233445566778899aabbccddeeff",
+        "69c4e0d86a7b0430d8cdb78070b4c55a",
+    ),
+    (
+        "000102030405060708090a0b0c0d0e0f101112131415161718191a1b1c1d1e1f",
+        "00112233445566778899aabbccddeeff",
+        "8ea2b7ca516745bfeafc49904b496089",
+    ),
 ];
 
-// The bytes 00, 01, .. 1f.
-const LONG_KEY: [u8; 32] = [
-    0x00, 0x01, 0x02, 0x03, 0x04, 0x05, 0x06, 0x07, 0x08, 0x09, 0x0a, 0x0b, 0x0c, 0x0d, 0x0e, 0x0f,
-    0x10, 0x11, 0x12, 0x13, 0x14, 0x15, 0x16, 0x17, 0x18, 0x19, 0x1a, 0x1b, 0x1c, 0x1d, 0x1e, 0x1f,
-];
-
-// The text of RFC 3962's examples, each of which is a prefix of it, and their key.
+/// The text of RFC 3962. Its examples are prefixes.
 const TEXT: &[u8; 64] = b"I would like the General Gau's Chicken, please, and wonton soup.";
 
-const KEY: &[u8; 16] = b"chicken teriyaki";
-
-fn check_block(rt: &impl Abort, octets: &[u8], plain: &[u8; 16], enciphered: &[u8; 16]) {
-    let Some(key) = AesKey::new(octets) else {
-        assert!(rt; false, "no key");
-        return;
-    };
-    assert_eq!(rt; key.encrypt_block(plain), *enciphered);
-    assert_eq!(rt; key.decrypt_block(enciphered), *plain);
-}
-
-// Checks both directions of CTS on a prefix of the text.
-fn check_cts(rt: &impl Abort, octets: &[u8], iv: &[u8; 16], enciphered: &[u8])
-    requires least { 16 ≤ length enciphered.now }
-    requires most { length enciphered.now ≤ 64 }
-{
-    let Some(key) = AesKey::new(octets) else {
-        assert!(rt; false, "no key");
-        return;
-    };
-    let plain = &TEXT[..enciphered.len()];
-    let mut buffer = [0; 64];
-    let text = &mut buffer[..enciphered.len()];
-    text.copy_from_slice(plain);
-    key.cts_encrypt(iv, text);
-    assert!(rt; *text == *enciphered);
-    key.cts_decrypt(iv, text);
-    assert!(rt; *text == *plain);
-}
-
-#[test]
-fn fips_197_appendix_b(rt: HostRuntime) {
-    let key = [
-        0x2b, 0x7e, 0x15, 0x16, 0x28, 0xae, 0xd2, 0xa6, 0xab, 0xf7, 0x15, 0x88, 0x09, 0xcf, 0x4f,
-        0x3c,
-    ];
-    let plain = [
-        0x32, 0x43, 0xf6, 0xa8, 0x88, 0x5a, 0x30, 0x8d, 0x31, 0x31, 0x98, 0xa2, 0xe0, 0x37, 0x07,
-        0x34,
-    ];
-    let enciphered = [
-        0x39, 0x25, 0x84, 0x1d, 0x02, 0xdc, 0x09, 0xfb, 0xdc, 0x11, 0x85, 0x97, 0x19, 0x6a, 0x0b,
-        0x32,
-    ];
-    check_block(&rt, &key, &plain, &enciphered);
-}
-
-#[test]
-fn fips_197_appendix_c_1(rt: HostRuntime) {
-    let enciphered = [
-        0x69, 0xc4, 0xe0, 0xd8, 0x6a, 0x7b, 0x04, 0x30, 0xd8, 0xcd, 0xb7, 0x80, 0x70, 0xb4, 0xc5,
-        0x5a,
-    ];
-    check_block(&rt, &LONG_KEY[..16], &PLAIN, &enciphered);
-}
+/// A key, an initial vector, and a prefix of the text in CTS: the six of RFC 3962, and two that the Python package
+/// enciphers, of one block and with a long key.
+const TEXTS: &[Row] = &[
+    (
+        "636869636b656e207465726979616b69",
+        "00000000000000000000000000000000",
+        "c6353568f2bf8cb4d8a580362da7ff7f97",
+    ),
+    (
+        "636869636b656e207465726979616b69",
+        "00000000000000000000000000000000",
+        "fc00783e0efdb2c1d445d4c8eff7ed2297687268d6ecccc0c07b25e25ecfe5",
+    ),
+    (
+        "636869636b656e207465726979616b69",
+        "00000000000000000000000000000000",
+        "39312523a78662d5be7fcbcc98ebf5a897687268d6ecccc0c07b25e25ecfe584",
+    ),
+    (
+        "636869636b656e207465726979616b69",
+        "00000000000000000000000000000000",
+        "97687268d6ecccc0c07b25e25ecfe584b3fffd940c16a18c1b5549d2f838029e39312523a78662d5be7fcbcc98ebf5",
+    ),
+    (
+        "636869636b656e207465726979616b69",
+        "00000000000000000000000000000000",
+        "97687268d6ecccc0c07b25e25ecfe5849dad8bbb96c4cdc03bc103e1a194bbd839312523a78662d5be7fcbcc98ebf5a8",
+    ),
+    (
+        "636869636b656e207465726979616b69",
+        "00000000000000000000000000000000",
+        "\
+            97687268d6ecccc0c07b25e25ecfe58439312523a78662d5be7fcbcc98ebf5a8\
+            4807efe836ee89a526730dbc2f7bc8409dad8bbb96c4cdc03bc103e1a194bbd8",
+    ),
+    (
+        "636869636b656e207465726979616b69",
+        "00000000000000000000000000000000",
+        "97687268d6ecccc0c07b25e25ecfe584",
+    ),
+    (
+        "000102030405060708090a0b0c0d0e0f101112131415161718191a1b1c1d1e1f",
+        "000102030405060708090a0b0c0d0e0f",
+        "b28eb56873e0223e890f55ad4c2beefd38efb430cac6f96bed767a3afcb4e8f2824fe7faf9",
+    ),
+];
 
 #[test]
-fn fips_197_appendix_c_3(rt: HostRuntime) {
-    let enciphered = [
-        0x8e, 0xa2, 0xb7, 0xca, 0x51, 0x67, 0x45, 0xbf, 0xea, 0xfc, 0x49, 0x90, 0x4b, 0x49, 0x60,
-        0x89,
-    ];
-    check_block(&rt, &LONG_KEY, &PLAIN, &enciphered);
-}
-
-#[test]
-fn other_lengths_are_not_keys(rt: HostRuntime) {
-    for length in [0, 15, 17, 24, 31, 33] {
-        assert!(rt; AesKey::new(&[0; 33][..length]).is_none(), "at {length}");
+fn blocks_are_those_of_the_standard(rt: HostRuntime) {
+    for row in BLOCKS {
+        same(&rt, row, &is_block(rt.alloc(), row), &true);
     }
 }
 
-// The first words of the tables, as other implementations print them, and a place past their end.
 #[test]
-fn words_of_the_tables(rt: HostRuntime) {
-    assert_eq!(rt; table_word(0, 0), Some(0xc663_63a5));
-    assert_eq!(rt; table_word(1, 0), Some(0xa5c6_6363));
-    assert_eq!(rt; table_word(4, 0), Some(0x51f4_a750));
-    assert_eq!(rt; table_word(7, 0), Some(0xf4a7_5051));
-    assert_eq!(rt; table_word(8, 0), None);
+fn texts_are_those_of_the_standard(rt: HostRuntime) {
+    for row in TEXTS {
+        same(&rt, row, &is_row(rt.alloc(), row), &true);
+    }
 }
 
-#[test]
-fn rfc_3962_17_octets(rt: HostRuntime) {
-    let enciphered = [
-        0xc6, 0x35, 0x35, 0x68, 0xf2, 0xbf, 0x8c, 0xb4, 0xd8, 0xa5, 0x80, 0x36, 0x2d, 0xa7, 0xff,
-        0x7f, 0x97,
-    ];
-    check_cts(&rt, KEY, &[0; 16], &enciphered);
+/// Checks both directions of the cipher.
+fn is_block(alloc: Global, (key, plain, enciphered): &Row) -> bool {
+    let (plain, enciphered) = (sized(*plain), sized(*enciphered));
+    match AesKey::new(&bytes(alloc, *key)) {
+        Some(key) => {
+            key.encrypt_block(&plain) == enciphered && key.decrypt_block(&enciphered) == plain
+        }
+        None => false,
+    }
 }
 
-#[test]
-fn rfc_3962_31_octets(rt: HostRuntime) {
-    let enciphered = [
-        0xfc, 0x00, 0x78, 0x3e, 0x0e, 0xfd, 0xb2, 0xc1, 0xd4, 0x45, 0xd4, 0xc8, 0xef, 0xf7, 0xed,
-        0x22, 0x97, 0x68, 0x72, 0x68, 0xd6, 0xec, 0xcc, 0xc0, 0xc0, 0x7b, 0x25, 0xe2, 0x5e, 0xcf,
-        0xe5,
-    ];
-    check_cts(&rt, KEY, &[0; 16], &enciphered);
+fn is_row(alloc: Global, (key, iv, enciphered): &Row) -> bool {
+    is_text(&bytes(alloc, *key), &sized(*iv), &bytes(alloc, *enciphered))
 }
 
-#[test]
-fn rfc_3962_32_octets(rt: HostRuntime) {
-    let enciphered = [
-        0x39, 0x31, 0x25, 0x23, 0xa7, 0x86, 0x62, 0xd5, 0xbe, 0x7f, 0xcb, 0xcc, 0x98, 0xeb, 0xf5,
-        0xa8, 0x97, 0x68, 0x72, 0x68, 0xd6, 0xec, 0xcc, 0xc0, 0xc0, 0x7b, 0x25, 0xe2, 0x5e, 0xcf,
-        0xe5, 0x84,
-    ];
-    check_cts(&rt, KEY, &[0; 16], &enciphered);
+/// Checks both directions of CTS on a prefix of the text, of at least a block.
+fn is_text(key: &[u8], iv: &[u8; 16], enciphered: &[u8]) -> bool {
+    let len = enciphered.len();
+    let Some(key) = AesKey::new(key) else {
+        return false;
+    };
+    if len < 16 || len > 64 {
+        return false;
+    }
+    let plain = &TEXT[..len];
+    let mut buffer = *TEXT;
+    let text = &mut buffer[..len];
+    key.cts_encrypt(iv, text);
+    let is_enciphered = *text == *enciphered;
+    key.cts_decrypt(iv, text);
+    is_enciphered && *text == *plain
 }
 
-#[test]
-fn rfc_3962_47_octets(rt: HostRuntime) {
-    let enciphered = [
-        0x97, 0x68, 0x72, 0x68, 0xd6, 0xec, 0xcc, 0xc0, 0xc0, 0x7b, 0x25, 0xe2, 0x5e, 0xcf, 0xe5,
-        0x84, 0xb3, 0xff, 0xfd, 0x94, 0x0c, 0x16, 0xa1, 0x8c, 0x1b, 0x55, 0x49, 0xd2, 0xf8, 0x38,
-        0x02, 0x9e, 0x39, 0x31, 0x25, 0x23, 0xa7, 0x86, 0x62, 0xd5, 0xbe, 0x7f, 0xcb, 0xcc, 0x98,
-        0xeb, 0xf5,
-    ];
-    check_cts(&rt, KEY, &[0; 16], &enciphered);
-}
+/// The first words of four of the tables, as other implementations print them, and none past their end.
+const WORDS: [Option<u32>; 5] = [
+    Some(0xc663_63a5),
+    Some(0xa5c6_6363),
+    Some(0x51f4_a750),
+    Some(0xf4a7_5051),
+    None,
+];
 
 #[test]
-fn rfc_3962_48_octets(rt: HostRuntime) {
-    let enciphered = [
-        0x97, 0x68, 0x72, 0x68, 0xd6, 0xec, 0xcc, 0xc0, 0xc0, 0x7b, 0x25, 0xe2, 0x5e, 0xcf, 0xe5,
-        0x84, 0x9d, 0xad, 0x8b, 0xbb, 0x96, 0xc4, 0xcd, 0xc0, 0x3b, 0xc1, 0x03, 0xe1, 0xa1, 0x94,
-        0xbb, 0xd8, 0x39, 0x31, 0x25, 0x23, 0xa7, 0x86, 0x62, 0xd5, 0xbe, 0x7f, 0xcb, 0xcc, 0x98,
-        0xeb, 0xf5, 0xa8,
+fn keys_have_two_lengths_and_tables_their_words(rt: HostRuntime) {
+    for length in [0, 15, 17, 24, 31, 33] {
+        same(
+            &rt,
+            &length,
+            &AesKey::new(&[0; 33][..length]).is_none(),
+            &true,
+        );
+    }
+    let words = [
+        table_word(0, 0),
+        table_word(1, 0),
+        table_word(4, 0),
+        table_word(7, 0),
+        table_word(8, 0),
     ];
-    check_cts(&rt, KEY, &[0; 16], &enciphered);
-}
-
-#[test]
-fn rfc_3962_64_octets(rt: HostRuntime) {
-    let enciphered = [
-        0x97, 0x68, 0x72, 0x68, 0xd6, 0xec, 0xcc, 0xc0, 0xc0, 0x7b, 0x25, 0xe2, 0x5e, 0xcf, 0xe5,
-        0x84, 0x39, 0x31, 0x25, 0x23, 0xa7, 0x86, 0x62, 0xd5, 0xbe, 0x7f, 0xcb, 0xcc, 0x98, 0xeb,
-        0xf5, 0xa8, 0x48, 0x07, 0xef, 0xe8, 0x36, 0xee, 0x89, 0xa5, 0x26, 0x73, 0x0d, 0xbc, 0x2f,
-        0x7b, 0xc8, 0x40, 0x9d, 0xad, 0x8b, 0xbb, 0x96, 0xc4, 0xcd, 0xc0, 0x3b, 0xc1, 0x03, 0xe1,
-        0xa1, 0x94, 0xbb, 0xd8,
-    ];
-    check_cts(&rt, KEY, &[0; 16], &enciphered);
-}
-
-#[test]
-fn one_block_as_another_implementation(rt: HostRuntime) {
-    let enciphered = [
-        0x97, 0x68, 0x72, 0x68, 0xd6, 0xec, 0xcc, 0xc0, 0xc0, 0x7b, 0x25, 0xe2, 0x5e, 0xcf, 0xe5,
-        0x84,
-    ];
-    check_cts(&rt, KEY, &[0; 16], &enciphered);
-}
-
-#[test]
-fn long_key_and_vector_as_another_implementation(rt: HostRuntime) {
-    let mut iv = [0; 16];
-    iv.copy_from_slice(&LONG_KEY[..16]);
-    let enciphered = [
-        0xb2, 0x8e, 0xb5, 0x68, 0x73, 0xe0, 0x22, 0x3e, 0x89, 0x0f, 0x55, 0xad, 0x4c, 0x2b, 0xee,
-        0xfd, 0x38, 0xef, 0xb4, 0x30, 0xca, 0xc6, 0xf9, 0x6b, 0xed, 0x76, 0x7a, 0x3a, 0xfc, 0xb4,
-        0xe8, 0xf2, 0x82, 0x4f, 0xe7, 0xfa, 0xf9,
-    ];
-    check_cts(&rt, &LONG_KEY, &iv, &enciphered);
+    same(&rt, &"words", &words, &WORDS);
 }

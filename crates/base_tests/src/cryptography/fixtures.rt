@@ -1,8 +1,16 @@
-//! Keys and texts of RFC 8009, and bytes in hexadecimal, which several modules use.
+//! Encryption types, and the keys and texts of RFC 8009, which several modules use.
 
 ghost use Rattle.std.specs.Prelude.{◌≡◌};
 
 use enctypes::{Etype, Key, KeyUsage};
+
+/// The encryption types.
+pub const ETYPES: &[Etype] = &[
+    Etype::Aes128CtsHmacSha1_96,
+    Etype::Aes256CtsHmacSha1_96,
+    Etype::Aes128CtsHmacSha256_128,
+    Etype::Aes256CtsHmacSha384_192,
+];
 
 /// A usage of many of the rows: number 2.
 pub const USAGE: KeyUsage = KeyUsage::Ticket;
@@ -13,41 +21,27 @@ pub const TEXT: [u8; 21] = [
 ];
 
 /// The base keys of RFC 8009, appendix A. The shorter one is followed by bytes that a key of 16 bytes does not have.
-const BASE_128: [u8; 32] = [
-    0x37, 0x05, 0xd9, 0x60, 0x80, 0xc1, 0x77, 0x28, 0xa0, 0xe8, 0x00, 0xea, 0xb6, 0xe0, 0xd2, 0x3c,
-    0xff, 0xff, 0xff, 0xff, 0xff, 0xff, 0xff, 0xff, 0xff, 0xff, 0xff, 0xff, 0xff, 0xff, 0xff, 0xff,
-];
+const BASE_128: &str = "3705d96080c17728a0e800eab6e0d23cffffffffffffffffffffffffffffffff";
 
-const BASE_256: [u8; 32] = [
-    0x6d, 0x40, 0x4d, 0x37, 0xfa, 0xf7, 0x9f, 0x9d, 0xf0, 0xd3, 0x35, 0x68, 0xd3, 0x20, 0x66, 0x98,
-    0x00, 0xeb, 0x48, 0x36, 0x47, 0x2e, 0xa8, 0xa0, 0x26, 0xd1, 0x6b, 0x71, 0x82, 0x46, 0x0c, 0x52,
-];
+pub const BASE_256: &str = "6d404d37faf79f9df0d33568d320669800eb4836472ea8a026d16b7182460c52";
+
+/// Returns N bytes in digits, or zeros if there are not N.
+pub fn sized<const N: usize>(digits: &str) -> [u8; N] {
+    let mut octets = [0; N];
+    match hex::decode_to_slice(digits, &mut octets) {
+        Ok(()) => octets,
+        Err(_) => [0; N],
+    }
+}
 
 /// Returns the base key with the length of the type's keys.
 pub fn base_key(etype: Etype) -> Key
     ensures { result.etype ≡ etype }
 {
-    match etype {
-        Etype::Aes128CtsHmacSha1_96 | Etype::Aes128CtsHmacSha256_128 => {
-            Key::from_random(etype, &BASE_128)
-        }
-        Etype::Aes256CtsHmacSha1_96 | Etype::Aes256CtsHmacSha384_192 => {
-            Key::from_random(etype, &BASE_256)
-        }
-    }
-}
-
-/// Checks whether these are the bytes of the hexadecimal text.
-pub fn in_hex(octets: &[u8], hex: &[u8]) -> bool {
-    const DIGITS: &[u8; 16] = b"0123456789abcdef";
-    if hex.len() != 2 * octets.len() {
-        return false;
-    }
-    for i in 0..octets.len() {
-        let octet = octets[i] as usize;
-        if hex[2 * i] != DIGITS[octet / 16] || hex[2 * i + 1] != DIGITS[octet % 16] {
-            return false;
-        }
-    }
-    true
+    let digits = if etype.key_len() == 16 {
+        BASE_128
+    } else {
+        BASE_256
+    };
+    Key::from_random(etype, &sized(digits))
 }

@@ -1,73 +1,74 @@
 //! Tests of single DER values (`krb_der`).
 ghost use Rattle.std.specs.Prelude.{◌<◌};
 
-use crate::expect::same;
+use crate::expect::{bytes, same, shows, written};
 use krb_der::{DerFault, Items, Reader, Writer};
 use std::alloc::{AllocError, Global};
 
 // X.690, section 8.3.
 #[test]
 fn reads_numbers(rt: HostRuntime) {
-    const NUMBERS: &[(&[u8], Result<i64, DerFault>)] = &[
-        (&[2, 1, 0], Ok(0)),
-        (&[2, 1, 5], Ok(5)),
-        (&[2, 1, 0x7f], Ok(127)),
-        (&[2, 2, 0, 0x80], Ok(128)),
-        (&[2, 1, 0x80], Ok(-128)),
-        (&[2, 2, 0xff, 0x7f], Ok(-129)),
-        (
-            &[2, 8, 0x7f, 0xff, 0xff, 0xff, 0xff, 0xff, 0xff, 0xff],
-            Ok(i64::MAX),
-        ),
-        (&[2, 8, 0x80, 0, 0, 0, 0, 0, 0, 0], Ok(i64::MIN)),
-        (&[2, 0], Err(DerFault::BadInteger)),
-        (&[2, 2, 0, 5], Err(DerFault::BadInteger)),
-        (&[2, 2, 0xff, 0xff], Err(DerFault::BadInteger)),
-        (
-            &[2, 9, 1, 0, 0, 0, 0, 0, 0, 0, 0],
-            Err(DerFault::BadInteger),
-        ),
+    const NUMBERS: &[(&str, Result<i64, DerFault>)] = &[
+        ("020100", Ok(0)),
+        ("020105", Ok(5)),
+        ("02017f", Ok(127)),
+        ("02020080", Ok(128)),
+        ("020180", Ok(-128)),
+        ("0202ff7f", Ok(-129)),
+        ("02087fffffffffffffff", Ok(i64::MAX)),
+        ("02088000000000000000", Ok(i64::MIN)),
+        ("0200", Err(DerFault::BadInteger)),
+        ("02020005", Err(DerFault::BadInteger)),
+        ("0202ffff", Err(DerFault::BadInteger)),
+        ("0209010000000000000000", Err(DerFault::BadInteger)),
     ];
-    for (octets, number) in NUMBERS {
-        same(&rt, octets, &Reader::new(*octets).read_int(), number);
+    for (digits, number) in NUMBERS {
+        let octets = bytes(rt.alloc(), *digits);
+        same(&rt, digits, &Reader::new(&octets).read_int(), number);
     }
 }
 
 // X.690, sections 8.6 and 11.2: the bits of a KDC option, fewer than 32 bits, and more.
 #[test]
 fn reads_bits(rt: HostRuntime) {
-    const BITS: &[(&[u8], Result<(u32, u64), DerFault>)] = &[
-        (&[3, 5, 0, 0x40, 0, 0, 0x10], Ok((0x4000_0010, 32))),
-        (&[3, 1, 0], Ok((0, 0))),
-        (&[3, 2, 7, 0x80], Ok((0x8000_0000, 1))),
-        (&[3, 3, 4, 0x12, 0x30], Ok((0x1230_0000, 12))),
-        (&[3, 6, 1, 1, 2, 3, 4, 6], Ok((0x0102_0304, 39))),
-        (&[3, 0], Err(DerFault::BadBits)),
-        (&[3, 1, 1], Err(DerFault::BadBits)),
-        (&[3, 2, 8, 0], Err(DerFault::BadBits)),
-        (&[3, 2, 7, 0xc0], Err(DerFault::BadBits)),
+    const BITS: &[(&str, Result<(u32, u64), DerFault>)] = &[
+        ("03050040000010", Ok((0x4000_0010, 32))),
+        ("030100", Ok((0, 0))),
+        ("03020780", Ok((0x8000_0000, 1))),
+        ("0303041230", Ok((0x1230_0000, 12))),
+        ("0306010102030406", Ok((0x0102_0304, 39))),
+        ("0300", Err(DerFault::BadBits)),
+        ("030101", Err(DerFault::BadBits)),
+        ("03020800", Err(DerFault::BadBits)),
+        ("030207c0", Err(DerFault::BadBits)),
     ];
-    for (octets, bits) in BITS {
-        same(&rt, octets, &Reader::new(*octets).read_bits(), bits);
+    for (digits, bits) in BITS {
+        let octets = bytes(rt.alloc(), *digits);
+        same(&rt, digits, &Reader::new(&octets).read_bits(), bits);
     }
 }
 
 #[test]
 fn returns_the_first_fault(rt: HostRuntime) {
-    const REFUSED: &[(&[u8], DerFault)] = &[
-        (&[], DerFault::Truncated),
-        (&[0x1c], DerFault::BadTag),
-        (&[0x1b], DerFault::Truncated),
-        (&[0x1b, 0x80, 0, 0], DerFault::BadLength),
-        (&[0x1b, 0x85, 0, 0, 0, 0, 1, 0], DerFault::BadLength),
-        (&[0x1b, 0x82, 1], DerFault::Truncated),
-        (&[0x1b, 0x81, 0x7f], DerFault::BadLength),
-        (&[0x1b, 0x82, 0, 0x80], DerFault::BadLength),
-        (&[0x1b, 0x81, 0x80, 0], DerFault::Truncated),
-        (&[0x1b, 2, 0x75], DerFault::Truncated),
+    const REFUSED: &[(&str, DerFault)] = &[
+        ("", DerFault::Truncated),
+        ("1c", DerFault::BadTag),
+        ("1b", DerFault::Truncated),
+        ("1b800000", DerFault::BadLength),
+        ("1b85000000000100", DerFault::BadLength),
+        ("1b8201", DerFault::Truncated),
+        ("1b817f", DerFault::BadLength),
+        ("1b820080", DerFault::BadLength),
+        ("1b818000", DerFault::Truncated),
+        ("1b0275", DerFault::Truncated),
     ];
-    for (octets, fault) in REFUSED {
-        same(&rt, octets, &fault_of(*octets), &Some(*fault));
+    for (digits, fault) in REFUSED {
+        same(
+            &rt,
+            digits,
+            &fault_of(&bytes(rt.alloc(), *digits)),
+            &Some(*fault),
+        );
     }
 }
 
@@ -82,30 +83,32 @@ fn fault_of(octets: &[u8]) -> Option<DerFault> {
 
 #[test]
 fn iterates_over_the_elements(rt: HostRuntime) {
-    const FIRST: &[u8] = &[0x1b, 1, 0x75];
-    const SECOND: &[u8] = &[4, 2, 1, 2];
     let mut items = Items::new(&[0x1b, 1, 0x75, 4, 2, 1, 2]);
-    same(&rt, &"a copy", &items.iter().next(), &Some(FIRST));
-    same(&rt, &"the first", &items.next(), &Some(FIRST));
-    same(&rt, &"the second", &items.next(), &Some(SECOND));
-    same(&rt, &"the end", &items.next(), &None);
-    same(
+    let found = (
+        items.iter().next(),
+        items.next(),
+        items.next(),
+        items.next(),
+        Reader::new(&[4, 2, 1, 2]).read_octets(),
+    );
+    shows(
         &rt,
-        &SECOND,
-        &Reader::new(SECOND).read_octets(),
-        &Ok(&[1, 2]),
+        rt.alloc(),
+        found,
+        "(Some([27, 1, 117]), Some([27, 1, 117]), Some([4, 2, 1, 2]), None, Ok([1, 2]))",
     );
 }
 
 #[test]
 fn writes_each_type(rt: HostRuntime) {
-    const WRITTEN: &[u8] = &[
-        2, 2, 0xff, 0x7f, 2, 2, 0, 0x80, 3, 5, 0, 0x40, 0, 0, 0x10, 4, 2, 1, 2, 0x1b, 1, 0x75,
-        0x30, 0,
-    ];
-    let mut out = Writer::new(rt.alloc());
-    same(&rt, &"each type", &put_each_type(&mut out), &Ok(()));
-    same(&rt, &"each type", &out.finish().as_slice(), &WRITTEN);
+    const WRITTEN: &str = "0202ff7f0202008003050040000010040201021b01753000";
+    written(&rt, each_type(rt.alloc()), &bytes(rt.alloc(), WRITTEN));
+}
+
+fn each_type(alloc: Global) -> Result<Vec<u8>, AllocError> {
+    let mut out = Writer::new(alloc);
+    put_each_type(&mut out)?;
+    Ok(out.finish())
 }
 
 fn put_each_type(out: &mut Writer) -> Result<(), AllocError> {
@@ -119,15 +122,16 @@ fn put_each_type(out: &mut Writer) -> Result<(), AllocError> {
 
 #[test]
 fn writes_the_length_in_the_fewest_bytes(rt: HostRuntime) {
-    const HEADS: &[(usize, &[u8])] = &[
-        (127, &[4, 0x7f]),
-        (128, &[4, 0x81, 0x80]),
-        (255, &[4, 0x81, 0xff]),
-        (256, &[4, 0x82, 1, 0]),
-        (65536, &[4, 0x83, 1, 0, 0]),
+    const HEADS: &[(usize, &str)] = &[
+        (127, "047f"),
+        (128, "048180"),
+        (255, "0481ff"),
+        (256, "04820100"),
+        (65536, "0483010000"),
     ];
-    for (length, head) in HEADS {
-        same(&rt, length, &is_head(rt.alloc(), *length, *head), &Ok(true));
+    for (length, digits) in HEADS {
+        let head = bytes(rt.alloc(), *digits);
+        same(&rt, length, &is_head(rt.alloc(), *length, &head), &Ok(true));
     }
 }
 

@@ -1,114 +1,151 @@
 //! Tests of the pieces of messages (`krb_elements`).
-ghost use Rattle.std.specs.Prelude.{◌<◌};
+ghost use Rattle.std.specs.Prelude.{◌<◌, ◌*◌, length, IfOk};
 
-use crate::expect::{holds, same, written};
+use crate::expect::{bytes, shows, written};
 use krb_der::{DerFault, KTime, Reader, Writer};
 use krb_elements::{
-    Fault, KerberosString, KerberosStringRef, MakeOwned, Microseconds, Octets, OctetsRef, Sent,
-    Seq, SeqRef, UInt32, application_tag, end_of, look_either, read, take_field, take_fixed,
-    take_optional, take_sent, write, write_field, write_inside, write_optional,
+    Decode, Encode, Fault, KerberosString, KerberosStringRef, MakeOwned, Microseconds, Octets,
+    OctetsRef, Seq, SeqRef, UInt32, application_tag, end_of, look_either, read, take_field,
+    take_fixed, take_optional, take_sent, write, write_field, write_inside, write_optional,
 };
 use std::alloc::{AllocError, Global};
 use std::cmp::Ordering;
 use std::process::Abort;
 
-fn read_int32(octets: &[u8]) -> Result<i64, DerFault> {
-    read::<i32>(octets).map(i64::from)
+/// A type of values.
+#[derive(Clone, Copy)]
+enum Kind {
+    Int32,
+    UInt32,
+    Microseconds,
+    Time,
+    Numbers,
+    KerberosString,
+    Octets,
 }
 
-fn read_uint32(octets: &[u8]) -> Result<i64, DerFault> {
-    read::<UInt32>(octets).map(|n| n.get())
+const BAD: &str = "Err(BadInteger)";
+
+/// Values in digits, and what is read. The numbers are the bounds of RFC 4120, section 5.2.4, encoded by X.690, section
+/// 8.3. A UInt32 may be sent as a signed number.
+const VALUES: &[(Kind, &str, &str)] = &[
+    (Kind::Int32, "020480000000", "Ok(-2147483648)"),
+    (
+        Kind::UInt32,
+        "020480000000",
+        "Ok(UInt32 { value: -2147483648 })",
+    ),
+    (Kind::Microseconds, "020480000000", BAD),
+    (Kind::Int32, "0201ff", "Ok(-1)"),
+    (Kind::UInt32, "0201ff", "Ok(UInt32 { value: -1 })"),
+    (Kind::Microseconds, "0201ff", BAD),
+    (Kind::Int32, "020100", "Ok(0)"),
+    (Kind::UInt32, "020100", "Ok(UInt32 { value: 0 })"),
+    (
+        Kind::Microseconds,
+        "020100",
+        "Ok(Microseconds { value: 0 })",
+    ),
+    (Kind::Int32, "02020080", "Ok(128)"),
+    (Kind::UInt32, "02020080", "Ok(UInt32 { value: 128 })"),
+    (
+        Kind::Microseconds,
+        "02020080",
+        "Ok(Microseconds { value: 128 })",
+    ),
+    (Kind::Int32, "02030f423f", "Ok(999999)"),
+    (Kind::UInt32, "02030f423f", "Ok(UInt32 { value: 999999 })"),
+    (
+        Kind::Microseconds,
+        "02030f423f",
+        "Ok(Microseconds { value: 999999 })",
+    ),
+    (Kind::Int32, "02030f4240", "Ok(1000000)"),
+    (Kind::UInt32, "02030f4240", "Ok(UInt32 { value: 1000000 })"),
+    (Kind::Microseconds, "02030f4240", BAD),
+    (Kind::Int32, "02047fffffff", "Ok(2147483647)"),
+    (
+        Kind::UInt32,
+        "02047fffffff",
+        "Ok(UInt32 { value: 2147483647 })",
+    ),
+    (Kind::Microseconds, "02047fffffff", BAD),
+    (Kind::Int32, "02050080000000", BAD),
+    (
+        Kind::UInt32,
+        "02050080000000",
+        "Ok(UInt32 { value: 2147483648 })",
+    ),
+    (Kind::Microseconds, "02050080000000", BAD),
+    (Kind::Int32, "020500ffffffff", BAD),
+    (
+        Kind::UInt32,
+        "020500ffffffff",
+        "Ok(UInt32 { value: 4294967295 })",
+    ),
+    (Kind::Microseconds, "020500ffffffff", BAD),
+    (Kind::Int32, "0205ff7fffffff", BAD),
+    (Kind::UInt32, "0205ff7fffffff", BAD),
+    (Kind::Microseconds, "0205ff7fffffff", BAD),
+    (Kind::Int32, "02050100000000", BAD),
+    (Kind::UInt32, "02050100000000", BAD),
+    (Kind::Microseconds, "02050100000000", BAD),
+    (Kind::Int32, "02010500", "Err(Trailing)"),
+    (Kind::UInt32, "02010500", "Err(Trailing)"),
+    (Kind::Microseconds, "02010500", "Err(Trailing)"),
+    (
+        Kind::Time,
+        "180f31393730303130313030303030305a",
+        "Ok(KTime { seconds: 0 })",
+    ),
+    (
+        Kind::Numbers,
+        "3006020111020112",
+        "Ok(Seq { items: [17, 18] })",
+    ),
+    (Kind::Numbers, "3006020111020212", "Err(Der(Truncated))"),
+    (
+        Kind::KerberosString,
+        "1b03412e42",
+        "Ok(KerberosString { bytes: [65, 46, 66] })",
+    ),
+    (Kind::Octets, "040200ff", "Ok(Octets { bytes: [0, 255] })"),
+];
+
+fn numbers_of(alloc: Global, octets: &[u8]) -> Result<Seq<i32>, Fault> {
+    let found: SeqRef<'_, i32> = read(octets)?;
+    found.copy(alloc).map_err(Fault::from)
 }
 
-fn read_microseconds(octets: &[u8]) -> Result<i64, DerFault> {
-    read::<Microseconds>(octets).map(|n| i64::from(n.get()))
+fn string_of(alloc: Global, octets: &[u8]) -> Result<KerberosString, Fault> {
+    let found: KerberosStringRef<'_> = read(octets)?;
+    found.copy(alloc).map_err(Fault::from)
 }
 
-/// The bounds of RFC 4120, section 5.2.4, encoded by X.690, section 8.3. A UInt32 may be sent as a signed number.
-#[test]
-fn numbers_have_their_bounds(rt: HostRuntime) {
-    const BAD: Result<i64, DerFault> = Err(DerFault::BadInteger);
-    const NUMBERS: &[(&[u8], [Result<i64, DerFault>; 3])] = &[
-        (
-            &[2, 4, 0x80, 0, 0, 0],
-            [Ok(-2147483648), Ok(-2147483648), BAD],
-        ),
-        (&[2, 1, 0xff], [Ok(-1), Ok(-1), BAD]),
-        (&[2, 1, 0], [Ok(0), Ok(0), Ok(0)]),
-        (
-            &[2, 3, 0x0f, 0x42, 0x3f],
-            [Ok(999999), Ok(999999), Ok(999999)],
-        ),
-        (&[2, 3, 0x0f, 0x42, 0x40], [Ok(1000000), Ok(1000000), BAD]),
-        (
-            &[2, 4, 0x7f, 0xff, 0xff, 0xff],
-            [Ok(2147483647), Ok(2147483647), BAD],
-        ),
-        (&[2, 5, 0, 0x80, 0, 0, 0], [BAD, Ok(2147483648), BAD]),
-        (
-            &[2, 5, 0, 0xff, 0xff, 0xff, 0xff],
-            [BAD, Ok(4294967295), BAD],
-        ),
-        (&[2, 5, 0xff, 0x7f, 0xff, 0xff, 0xff], [BAD, BAD, BAD]),
-        (&[2, 5, 1, 0, 0, 0, 0], [BAD, BAD, BAD]),
-    ];
-    for (octets, wanted) in NUMBERS {
-        let found = [
-            read_int32(*octets),
-            read_uint32(*octets),
-            read_microseconds(*octets),
-        ];
-        same(&rt, octets, &found, wanted);
-    }
+fn octets_of(alloc: Global, octets: &[u8]) -> Result<Octets, Fault> {
+    let found: OctetsRef<'_> = read(octets)?;
+    found.copy(alloc).map_err(Fault::from)
 }
 
-#[tactic(auto, using(krb_der::specs::IntLaws::int_short))]
-fn int32_written(alloc: Global, number: i32) -> Result<Vec<u8>, AllocError> {
-    write(alloc, &number)
-}
-
-#[tactic(auto, using(krb_der::specs::IntLaws::int_short))]
-fn uint32_written(alloc: Global, number: i64) -> Result<Vec<u8>, AllocError> {
-    match UInt32::new(number) {
-        Some(number) => write(alloc, &number),
-        None => Ok(Vec::new(alloc)),
-    }
-}
-
-#[tactic(auto, using(krb_elements::proofs::TextLengths::microseconds_short))]
-fn microseconds_written(alloc: Global, number: u32) -> Result<Vec<u8>, AllocError> {
-    match Microseconds::new(number) {
-        Some(number) => write(alloc, &number),
-        None => Ok(Vec::new(alloc)),
-    }
-}
-
-#[test]
-fn numbers_are_written(rt: HostRuntime) {
-    let alloc = rt.alloc();
-    let least = int32_written(alloc, -2147483648);
-    written(&rt, least, &[2, 4, 0x80, 0, 0, 0]);
-    written(&rt, int32_written(alloc, 128), &[2, 2, 0, 0x80]);
-    written(&rt, uint32_written(alloc, -1), &[2, 1, 0xff]);
-    let greatest = uint32_written(alloc, 4294967295);
-    written(&rt, greatest, &[2, 5, 0, 0xff, 0xff, 0xff, 0xff]);
-    written(&rt, microseconds_written(alloc, 0), &[2, 1, 0]);
-    let greatest = microseconds_written(alloc, 999999);
-    written(&rt, greatest, &[2, 3, 0x0f, 0x42, 0x3f]);
-}
-
-/// The field [8] with the list of 17 and 18.
-const NUMBERS: [u8; 10] = [0xa8, 8, 0x30, 6, 2, 1, 17, 2, 1, 18];
-
-/// Returns the numbers of the field, or `None` if it is absent.
-fn numbers_at(alloc: Global, n: u8) -> Result<Option<Seq<i32>>, Fault>
-    requires { n < 31 }
+/// Reads a value. What is written from it has less than three times its length.
+fn read_short<'a, T: Decode<'a>>(octets: &'a [u8]) -> Result<T, DerFault>
+    ensures { IfOk result (λ x. length (T.codec.text x) < 3 * length octets.now) }
 {
-    let mut fields = Reader::new(&NUMBERS);
-    let found: Option<SeqRef<'_, i32>> = take_optional(&mut fields, n)?;
-    Ok(found.copy(alloc)?)
+    read(octets)
 }
 
+/// Reads a value, and writes it again.
+fn value_again<'a, T: Decode<'a> + Encode>(
+    alloc: Global,
+    octets: &'a [u8],
+) -> Result<Vec<u8>, Fault>
+    requires { length octets.now < 1000 }
+{
+    let value: T = read_short(octets)?;
+    write(alloc, &value).map_err(Fault::from)
+}
+
+/// Writes a list of two numbers.
 #[tactic(auto, using(krb_elements::proofs::TextLengths::numbers_short))]
 fn list_written(alloc: Global, list: &Seq<i32>) -> Result<Vec<u8>, AllocError> {
     if list.len() != 2 {
@@ -117,31 +154,71 @@ fn list_written(alloc: Global, list: &Seq<i32>) -> Result<Vec<u8>, AllocError> {
     write(alloc, list)
 }
 
-/// Reads the list in the field [8], and writes it again if it is 17 and 18.
-fn numbers_written(alloc: Global) -> Result<Vec<u8>, Fault> {
-    match numbers_at(alloc, 8)? {
-        Some(list) if list.as_slice() == [17, 18].as_slice() => Ok(list_written(alloc, &list)?),
-        _ => Ok(Vec::new(alloc)),
+fn string_written(alloc: Global, string: &KerberosString) -> Result<Vec<u8>, AllocError> {
+    if string.as_slice().len() > 3 {
+        return Ok(Vec::new(alloc));
+    }
+    write(alloc, string)
+}
+
+fn octets_written(alloc: Global, octets: &Octets) -> Result<Vec<u8>, AllocError> {
+    if octets.as_slice().len() > 2 {
+        return Ok(Vec::new(alloc));
+    }
+    write(alloc, octets)
+}
+
+/// Reads a value of fewer than a thousand bytes, and writes it again.
+fn again(alloc: Global, kind: Kind, octets: &[u8]) -> Result<Vec<u8>, Fault> {
+    if octets.len() >= 1000 {
+        return Ok(Vec::new(alloc));
+    }
+    match kind {
+        Kind::Int32 => value_again::<i32>(alloc, octets),
+        Kind::UInt32 => value_again::<UInt32>(alloc, octets),
+        Kind::Microseconds => value_again::<Microseconds>(alloc, octets),
+        Kind::Time => value_again::<KTime>(alloc, octets),
+        Kind::Numbers => list_written(alloc, &numbers_of(alloc, octets)?).map_err(Fault::from),
+        Kind::KerberosString => string_written(alloc, &string_of(alloc, octets)?).map_err(
+            Fault::from,
+        ),
+        Kind::Octets => octets_written(alloc, &octets_of(alloc, octets)?).map_err(Fault::from),
+    }
+}
+
+/// Asserts that the bytes are read with this value or error, and that a value is written again.
+fn is_read(rt: &impl Abort, alloc: Global, kind: Kind, octets: &[u8], value: &str) {
+    match kind {
+        Kind::Int32 => shows(rt, alloc, read::<i32>(octets), value),
+        Kind::UInt32 => shows(rt, alloc, read::<UInt32>(octets), value),
+        Kind::Microseconds => shows(rt, alloc, read::<Microseconds>(octets), value),
+        Kind::Time => shows(rt, alloc, read::<KTime>(octets), value),
+        Kind::Numbers => shows(rt, alloc, numbers_of(alloc, octets), value),
+        Kind::KerberosString => shows(rt, alloc, string_of(alloc, octets), value),
+        Kind::Octets => shows(rt, alloc, octets_of(alloc, octets), value),
+    }
+    if value.starts_with("Ok") {
+        written(rt, again(alloc, kind, octets), octets);
     }
 }
 
 #[test]
-fn lists_are_read_and_written(rt: HostRuntime) {
-    let alloc = rt.alloc();
-    holds(
-        &rt,
-        matches!(numbers_at(alloc, 9), Ok(None)),
-        "the field [9] is absent",
-    );
-    written(&rt, numbers_written(alloc), &NUMBERS[2..]);
+fn values_are_read_and_written(rt: HostRuntime) {
+    for (kind, digits, value) in VALUES {
+        is_read(&rt, rt.alloc(), *kind, &bytes(rt.alloc(), *digits), *value);
+    }
 }
 
-#[test]
-fn lists_are_iterated_in_place(rt: HostRuntime) {
-    let numbers = take_field(&mut Reader::new(&NUMBERS), 8);
-    same(&rt, &"a list", &numbers.map(is_iterated_twice), &Ok(true));
-    let fault = read::<SeqRef<'_, i32>>(&[0x30, 6, 2, 1, 17, 2, 2, 18]).err();
-    same(&rt, &"a faulty list", &fault, &Some(DerFault::Truncated));
+/// The field [8] with the list of 17 and 18.
+const LIST: [u8; 10] = [0xa8, 8, 0x30, 6, 2, 1, 17, 2, 1, 18];
+
+/// Returns the numbers of the field, or `None` if it is absent.
+fn numbers_at(alloc: Global, n: u8) -> Result<Option<Seq<i32>>, Fault>
+    requires { n < 31 }
+{
+    let mut fields = Reader::new(&LIST);
+    let found: Option<SeqRef<'_, i32>> = take_optional(&mut fields, n)?;
+    found.copy(alloc).map_err(Fault::from)
 }
 
 /// Checks whether the list has 17 and 18, and whether a second iteration starts at the beginning.
@@ -153,201 +230,106 @@ fn is_iterated_twice(mut numbers: SeqRef<'_, i32>) -> bool {
         && numbers.next().is_none()
 }
 
-/// Returns the string that these bytes encode.
-fn string_of(alloc: Global, octets: &[u8]) -> Result<KerberosString, Fault> {
-    let found: KerberosStringRef<'_> = read(octets)?;
-    Ok(found.copy(alloc)?)
-}
-
-fn string_written(alloc: Global, string: &KerberosString) -> Result<Vec<u8>, AllocError> {
-    if string.as_slice().len() > 3 {
-        return Ok(Vec::new(alloc));
-    }
-    write(alloc, string)
-}
-
-/// Reads a string, and writes it again.
-fn string_again(alloc: Global, octets: &[u8]) -> Result<Vec<u8>, Fault> {
-    let string = string_of(alloc, octets)?;
-    Ok(string_written(alloc, &string)?)
-}
-
-/// Copies a text to a string, and returns its bytes if it equals the encoded string.
-fn string_copied(alloc: Global, text: &[u8], spelled: &[u8]) -> Result<Vec<u8>, Fault> {
-    let string = string_of(alloc, spelled)?;
-    let copy = KerberosStringRef::new(text).copy(alloc)?;
-    if copy == string {
-        Ok(string.into_vec())
-    } else {
-        Ok(Vec::new(alloc))
-    }
+/// Lists with 7 and 8, one by one and from a list.
+fn lists(alloc: Global) -> Result<(Seq<u32>, Seq<u32>), AllocError> {
+    let mut numbers = Seq::new(alloc);
+    numbers.push(7)?;
+    numbers.push(8)?;
+    Ok((numbers, Seq::from_vec(Vec::from_slice(alloc, &[7, 8])?)))
 }
 
 #[test]
-fn strings_are_read_and_written(rt: HostRuntime) {
-    const SPELLED: &[u8] = &[0x1b, 3, 0x41, 0x2e, 0x42];
-    written(&rt, string_again(rt.alloc(), SPELLED), SPELLED);
-    written(&rt, string_copied(rt.alloc(), b"A.B", SPELLED), b"A.B");
-}
-
-#[test]
-fn strings_are_ordered_by_their_octets(rt: HostRuntime) {
+fn lists_are_read_in_place_and_keep_their_items(rt: HostRuntime) {
     let alloc = rt.alloc();
-    let longer = KerberosString::from_slice(alloc, b"A.B.");
-    same(
-        &rt,
-        &"A.B.",
-        &order_to_a_b(alloc, longer),
-        &Ok(Ordering::Greater),
+    let numbers = take_field(&mut Reader::new(&LIST), 8);
+    let found = (
+        numbers.map(is_iterated_twice),
+        numbers_at(alloc, 8),
+        numbers_at(alloc, 9),
+        lists(alloc),
+        Seq::<u32>::new(alloc).is_empty(),
     );
-    let before = Vec::from_slice(alloc, b"A-C").map(KerberosString::new);
-    same(
+    shows(
         &rt,
-        &"A-C",
-        &order_to_a_b(alloc, before),
-        &Ok(Ordering::Less),
+        alloc,
+        found,
+        "\
+            (Ok(true), Ok(Some(Seq { items: [17, 18] })), Ok(None), Ok((Seq { items: [7, 8] }, Seq { items: [7, 8] \
+            })), true)",
     );
 }
 
-/// Returns the order of the string to `A.B`.
-fn order_to_a_b(
-    alloc: Global,
-    string: Result<KerberosString, AllocError>,
-) -> Result<Ordering, AllocError> {
-    let string = string?;
+/// Returns the order of the text to `A.B`, and whether it is the same.
+fn order_to_a_b(alloc: Global, text: &[u8]) -> Result<(Ordering, bool), AllocError> {
+    let string = KerberosString::new(Vec::from_slice(alloc, text)?);
     let other = KerberosString::from_slice(alloc, b"A.B")?;
-    Ok(string.cmp(&other))
-}
-
-/// Returns the bytes of an encoded OCTET STRING.
-fn octets_of(alloc: Global, spelled: &[u8]) -> Result<Octets, Fault> {
-    let found: OctetsRef<'_> = read(spelled)?;
-    Ok(found.copy(alloc)?)
-}
-
-fn octets_written(alloc: Global, octets: &Octets) -> Result<Vec<u8>, AllocError> {
-    if octets.as_slice().len() > 2 {
-        return Ok(Vec::new(alloc));
-    }
-    write(alloc, octets)
+    Ok((string.cmp(&other), string == other))
 }
 
 #[test]
-fn octets_are_read_and_written(rt: HostRuntime) {
-    const SPELLED: &[u8] = &[4, 2, 0, 0xff];
-    written(&rt, octets_again(rt.alloc(), SPELLED), SPELLED);
-    written(
-        &rt,
-        octets_of(rt.alloc(), SPELLED).map(Octets::into_vec),
-        &[0, 0xff],
-    );
-}
-
-/// Reads an OCTET STRING, and writes it again.
-fn octets_again(alloc: Global, spelled: &[u8]) -> Result<Vec<u8>, Fault> {
-    let octets = octets_of(alloc, spelled)?;
-    Ok(octets_written(alloc, &octets)?)
-}
-
-#[test]
-fn octets_are_made_of_slices_and_lists(rt: HostRuntime) {
+fn strings_and_octets_are_made_and_compared(rt: HostRuntime) {
     let alloc = rt.alloc();
-    made_of(&rt, OctetsRef::new(&[0, 0xff]).copy(alloc), &[0, 0xff]);
-    made_of(&rt, Octets::from_slice(alloc, &[7]), &[7]);
-    made_of(&rt, Vec::from_slice(alloc, &[8]).map(Octets::new), &[8]);
-}
-
-/// Checks that the value has these bytes.
-fn made_of(rt: &impl Abort, made: Result<Octets, AllocError>, octets: &[u8]) {
-    match made {
-        Ok(made) => same(rt, &"what is made", &made.as_slice(), &octets),
-        Err(AllocError) => panic!(rt; "memory"),
-    }
-}
-
-#[test]
-fn times_are_read_and_written(rt: HostRuntime) {
-    const SPELLED: &[u8] = b"\x18\x0f19700101000000Z";
-    let seconds = read(SPELLED).map(KTime::seconds);
-    same(&rt, &SPELLED, &seconds, &Ok(0));
-    written(&rt, time_again(rt.alloc(), SPELLED), SPELLED);
-}
-
-/// Reads a time, and writes it again.
-#[tactic(auto, using(krb_elements::proofs::TextLengths::time_short))]
-fn time_again(alloc: Global, octets: &[u8]) -> Result<Vec<u8>, Fault> {
-    let time: KTime = read(octets)?;
-    Ok(write(alloc, &time)?)
-}
-
-#[test]
-fn nothing_may_follow(rt: HostRuntime) {
-    const SPELLED: &[u8] = &[2, 1, 5, 0];
-    same(
-        &rt,
-        &SPELLED,
-        &read::<i32>(SPELLED),
-        &Err(DerFault::Trailing),
+    let orders = (
+        order_to_a_b(alloc, b"A.B."),
+        order_to_a_b(alloc, b"A-C"),
+        order_to_a_b(alloc, b"A.B"),
     );
-    same(
-        &rt,
-        &SPELLED,
-        &end_of(&Reader::new(SPELLED)),
-        &Err(DerFault::Trailing),
+    let wanted = "(Ok((Greater, false)), Ok((Less, false)), Ok((Equal, true)))";
+    shows(&rt, alloc, orders, wanted);
+    let made = (
+        KerberosStringRef::new(b"A.B").copy(alloc),
+        OctetsRef::new(&[0, 0xff]).copy(alloc).map(Octets::into_vec),
+        Octets::from_slice(alloc, &[7]),
+        Vec::from_slice(alloc, &[8]).map(Octets::new),
     );
-    same(&rt, &"nothing", &end_of(&Reader::new(&[])), &Ok(()));
+    shows(
+        &rt,
+        alloc,
+        made,
+        "\
+            (Ok(KerberosString { bytes: [65, 46, 66] }), Ok([0, 255]), Ok(Octets { bytes: [7] }), Ok(Octets { bytes: \
+            [8] }))",
+    );
 }
+
+/// The fields [0], [1] and [2] with the numbers 5, -1 and 5.
+const FIELDS: &[u8] = &[0xa0, 3, 2, 1, 5, 0xa1, 3, 2, 1, 0xff, 0xa2, 3, 2, 1, 5];
 
 #[test]
 fn fields_are_read(rt: HostRuntime) {
-    const SPELLED: &[u8] = &[0xa0, 3, 2, 1, 5, 0xa1, 3, 2, 1, 0xff, 0xa2, 3, 2, 1, 5];
-    let mut fields = Reader::new(SPELLED);
-    same(
-        &rt,
-        &"the field [0]",
-        &take_field(&mut fields, 0),
-        &Ok(5i32),
+    let mut fields = Reader::new(FIELDS);
+    let found = (
+        take_field::<i32>(&mut fields, 0),
+        take_optional::<i32>(&mut fields, 0),
+        take_optional::<i32>(&mut fields, 1),
+        end_of(&fields),
+        take_fixed(&mut fields, 2, 5),
+        end_of(&fields),
+        take_fixed(&mut Reader::new(FIELDS), 0, 6),
     );
-    same(
+    shows(
         &rt,
-        &"the field [0]",
-        &take_optional(&mut fields, 0),
-        &Ok(None::<i32>),
+        rt.alloc(),
+        found,
+        "(Ok(5), Ok(None), Ok(Some(-1)), Err(Trailing), Ok(()), Ok(()), Err(BadInteger))",
     );
-    same(
+    let sent = take_sent::<i32>(&mut Reader::new(FIELDS), 0);
+    shows(
         &rt,
-        &"the field [1]",
-        &take_optional(&mut fields, 1),
-        &Ok(Some(-1i32)),
+        rt.alloc(),
+        sent,
+        "Ok(Sent { value: 5, octets: [2, 1, 5] })",
     );
-    same(
-        &rt,
-        &"the field [2]",
-        &take_fixed(&mut fields, 2, 5),
-        &Ok(()),
+    let either = (
+        is_second(&[0x6a, 3, 2, 1, 5]),
+        is_second(&[0x6c, 3, 2, 1, 5]),
     );
-    same(&rt, &"the end", &end_of(&fields), &Ok(()));
-    let fault = take_fixed(&mut Reader::new(SPELLED), 0, 6);
-    same(&rt, &"another number", &fault, &Err(DerFault::BadInteger));
+    shows(&rt, rt.alloc(), either, "(Ok((false, 5)), Ok((true, 5)))");
 }
 
-#[test]
-fn bytes_are_kept_as_they_were_sent(rt: HostRuntime) {
-    const SPELLED: &[u8] = &[0xa0, 3, 2, 1, 5];
-    let sent: Result<Sent<'_, i32>, DerFault> = take_sent(&mut Reader::new(SPELLED), 0);
-    match sent {
-        Ok(sent) => same(&rt, &SPELLED, &(sent.value, sent.octets), &(5, &[2, 1, 5])),
-        Err(fault) => panic!(rt; "{fault:?}"),
-    }
-}
-
-#[test]
-fn either_tag_is_read(rt: HostRuntime) {
-    const SPELLED: &[(&[u8], bool)] = &[(&[0x6a, 3, 2, 1, 5], false), (&[0x6c, 3, 2, 1, 5], true)];
-    for (octets, found) in SPELLED {
-        let either = look_either(&mut Reader::new(*octets), (0x6a, false), (0x6c, true));
-        same(&rt, octets, &either, &Ok((*found, 5i32)));
-    }
+/// Reads a number under the tag 6c, or else 6a.
+fn is_second(octets: &[u8]) -> Result<(bool, i32), DerFault> {
+    look_either(&mut Reader::new(octets), (0x6a, false), (0x6c, true))
 }
 
 #[tactic(auto, using(krb_der::specs::IntLaws::int_short, krb_elements::proofs::TextLengths::field_short, krb_elements::proofs::TextLengths::optional_number_short))]
@@ -362,14 +344,6 @@ fn fields_written(alloc: Global) -> Result<Vec<u8>, AllocError> {
     Ok(out.finish())
 }
 
-#[test]
-fn fields_are_written(rt: HostRuntime) {
-    const WRITTEN: &[u8] = &[
-        0xa0, 3, 2, 1, 5, 0xa2, 3, 2, 1, 0xff, 0xa3, 3, 2, 1, 0, 0xa4, 4, 2, 2, 0, 0x80,
-    ];
-    written(&rt, fields_written(rt.alloc()), WRITTEN);
-}
-
 #[tactic(auto, using(krb_der::specs::IntLaws::int_short, krb_elements::specs::ShortTextLaws::tlv_short))]
 fn written_inside(alloc: Global, n: u8, number: i32) -> Result<Vec<u8>, AllocError>
     requires { n < 31 }
@@ -378,58 +352,30 @@ fn written_inside(alloc: Global, n: u8, number: i32) -> Result<Vec<u8>, AllocErr
 }
 
 #[test]
-fn values_are_written_inside_a_tag(rt: HostRuntime) {
-    written(&rt, written_inside(rt.alloc(), 1, 5), &[0x61, 3, 2, 1, 5]);
-    written(
-        &rt,
-        written_inside(rt.alloc(), 30, -1),
-        &[0x7e, 3, 2, 1, 0xff],
-    );
-}
-
-#[test]
-fn lists_keep_their_items(rt: HostRuntime) {
+fn fields_are_written(rt: HostRuntime) {
     let alloc = rt.alloc();
-    holds(
-        &rt,
-        Seq::<u32>::new(alloc).is_empty(),
-        "a new list is empty",
+    let fields = bytes(alloc, "a003020105a2030201ffa303020100a40402020080");
+    written(&rt, fields_written(alloc), &fields);
+    written(&rt, written_inside(alloc, 1, 5), &[0x61, 3, 2, 1, 5]);
+    written(&rt, written_inside(alloc, 30, -1), &[0x7e, 3, 2, 1, 0xff]);
+}
+
+#[test]
+fn errors_are_converted_and_numbers_have_a_range(rt: HostRuntime) {
+    let faults = (Fault::from(DerFault::BadTag), Fault::from(AllocError));
+    shows(&rt, rt.alloc(), faults, "(Der(BadTag), Memory)");
+    let made = (
+        Microseconds::new(999999).is_some(),
+        Microseconds::new(1000000).is_some(),
+        UInt32::new(-2147483649).is_some(),
+        UInt32::new(-2147483648).is_some(),
+        UInt32::new(4294967295).is_some(),
+        UInt32::new(4294967296).is_some(),
     );
-    same(&rt, &"pushed", &pushed(alloc).map(are_7_and_8), &Ok(true));
-    let listed = Vec::from_slice(alloc, &[7u32, 8]).map(Seq::from_vec);
-    same(&rt, &"of a list", &listed.map(are_7_and_8), &Ok(true));
-}
-
-fn pushed(alloc: Global) -> Result<Seq<u32>, AllocError> {
-    let mut numbers = Seq::new(alloc);
-    for number in [7, 8] {
-        numbers.push(number)?;
-    }
-    Ok(numbers)
-}
-
-fn are_7_and_8(numbers: Seq<u32>) -> bool {
-    numbers.len() == 2 && numbers.as_slice() == [7, 8].as_slice()
-}
-
-#[test]
-fn each_fault_has_its_error(rt: HostRuntime) {
-    let fault = Fault::from(DerFault::BadTag);
-    same(&rt, &"a fault", &fault, &Fault::Der(DerFault::BadTag));
-    same(&rt, &"no memory", &Fault::from(AllocError), &Fault::Memory);
-}
-
-#[test]
-fn numbers_are_made_within_their_range(rt: HostRuntime) {
-    const NUMBERS: &[(i64, bool)] = &[
-        (-2147483649, false),
-        (-2147483648, true),
-        (4294967295, true),
-        (4294967296, false),
-    ];
-    same(&rt, &999999, &Microseconds::new(999999).is_some(), &true);
-    same(&rt, &1000000, &Microseconds::new(1000000).is_some(), &false);
-    for (number, is_made) in NUMBERS {
-        same(&rt, number, &UInt32::new(*number).is_some(), is_made);
-    }
+    shows(
+        &rt,
+        rt.alloc(),
+        made,
+        "(true, false, false, true, true, false)",
+    );
 }

@@ -1,278 +1,124 @@
-//! Tests of whole messages (`krb_messages`).
+//! Tests of whole messages (`krb_messages`, `krb_replies`, `krb_ap`), and of the contents of their OCTET STRINGs
+//! (`krb_sealed`).
 ghost use Rattle.std.specs.Prelude.{◌≡◌, ◌<◌, ◌*◌, length, IfOk};
 ghost use Rattle.krb_messages.specs.KdcReq.{SpellsKdcReq, message, without_octets};
 
-use crate::expect::{same, written};
-use krb_der::{DerFault, KTime};
-use krb_elements::{Fault, MakeOwned, Seq, SeqRef};
-use krb_fields::{NameRef, PaData, PaDataRef};
+use crate::expect::{bytes, same, shows, written};
+use crate::messages::vectors::*;
+use krb_ap::{ApReq, decode_ap_rep, decode_ap_req, encode_ap_rep, encode_ap_req, read_ap_req};
+use krb_der::DerFault;
+use krb_elements::{Fault, MakeOwned, ReadOwned, Seq, SeqRef, read, read_owned, write};
+use krb_fields::{PaData, PaDataRef};
 use krb_messages::{
-    Exchange, KdcReq, KdcReqRef, KrbError, ReqBody, ReqBodyRef, TicketRef, decode_krb_error,
-    encode_kdc_req, encode_krb_error, read_kdc_req,
+    Exchange, KdcReq, KdcReqRef, ReqBody, ReqBodyRef, decode_krb_error, encode_kdc_req,
+    encode_krb_error, read_kdc_req,
+};
+use krb_replies::KdcRepRef;
+use krb_sealed::{
+    EncKdcRepPart, EtypeInfo2EntryRef, PaEncTsEnc, decode_authenticator, decode_enc_ap_rep_part,
+    decode_enc_ticket_part, decode_pa_enc_ts_enc, encode_authenticator, encode_enc_ap_rep_part,
+    encode_enc_ticket_part, encode_pa_enc_ts_enc,
 };
 use std::alloc::{AllocError, Global};
 use std::process::Abort;
 
-// These bytes come from pyasn1, with the types of RFC 4120, sections 5.3, 5.4.1 and 5.9.1.
-
-/// The AS-REQ of `u` for `krbtgt/A.B`.
-const AS_REQ: &[u8; 107] = b"\x6a\x69\x30\x67\
-    \xa1\x03\x02\x01\x05\
-    \xa2\x03\x02\x01\x0a\
-    \xa4\x5b\x30\x59\
-    \xa0\x07\x03\x05\x00\x00\x00\x00\x00\
-    \xa1\x0e\x30\x0c\xa0\x03\x02\x01\x01\xa1\x05\x30\x03\x1b\x01u\
-    \xa2\x05\x1b\x03A.B\
-    \xa3\x18\x30\x16\xa0\x03\x02\x01\x02\xa1\x0f\x30\x0d\x1b\x06krbtgt\x1b\x03A.B\
-    \xa5\x11\x18\x0f19700101000000Z\
-    \xa7\x03\x02\x01\x01\
-    \xa8\x05\x30\x03\x02\x01\x12";
-
-/// A TGS-REQ with each field but the client's name.
-const TGS_REQ: &[u8; 252] = b"\x6c\x81\xf9\x30\x81\xf6\
-    \xa1\x03\x02\x01\x05\
-    \xa2\x03\x02\x01\x0c\
-    \xa3\x0f\x30\x0d\x30\x0b\xa1\x03\x02\x01\x01\xa2\x04\x04\x02\x01\x02\
-    \xa4\x81\xd8\x30\x81\xd5\
-    \xa0\x07\x03\x05\x00\x40\x81\x00\x10\
-    \xa2\x05\x1b\x03A.B\
-    \xa3\x14\x30\x12\xa0\x03\x02\x01\x03\xa1\x0b\x30\x09\x1b\x04host\x1b\x01b\
-    \xa4\x11\x18\x0f20240101000000Z\
-    \xa5\x11\x18\x0f20240102000000Z\
-    \xa6\x11\x18\x0f20240103000000Z\
-    \xa7\x07\x02\x05\x00\x80\x00\x00\x00\
-    \xa8\x08\x30\x06\x02\x01\x12\x02\x01\x11\
-    \xa9\x11\x30\x0f\x30\x0d\xa0\x03\x02\x01\x02\xa1\x06\x04\x04\x0a\x00\x00\x01\
-    \xaa\x0d\x30\x0b\xa0\x03\x02\x01\x12\xa2\x04\x04\x02\x03\x04\
-    \xab\x3f\x30\x3d\x61\x3b\x30\x39\xa0\x03\x02\x01\x05\xa1\x05\x1b\x03A.B\
-    \xa2\x18\x30\x16\xa0\x03\x02\x01\x02\xa1\x0f\x30\x0d\x1b\x06krbtgt\x1b\x03A.B\
-    \xa3\x11\x30\x0f\xa0\x03\x02\x01\x11\xa1\x03\x02\x01\x07\xa2\x03\x04\x01\x05";
-
-/// An error without optional fields.
-const SHORT_ERROR: &[u8; 76] = b"\x7e\x4a\x30\x48\
-    \xa0\x03\x02\x01\x05\
-    \xa1\x03\x02\x01\x1e\
-    \xa4\x11\x18\x0f20240101000000Z\
-    \xa5\x03\x02\x01\x00\
-    \xa6\x03\x02\x01\x06\
-    \xa9\x05\x1b\x03A.B\
-    \xaa\x18\x30\x16\xa0\x03\x02\x01\x02\xa1\x0f\x30\x0d\x1b\x06krbtgt\x1b\x03A.B";
-
-/// An error with each field.
-const LONG_ERROR: &[u8; 137] = b"\x7e\x81\x86\x30\x81\x83\
-    \xa0\x03\x02\x01\x05\
-    \xa1\x03\x02\x01\x1e\
-    \xa2\x11\x18\x0f20231231235959Z\
-    \xa3\x05\x02\x03\x0f\x42\x3f\
-    \xa4\x11\x18\x0f20240101000000Z\
-    \xa5\x03\x02\x01\x01\
-    \xa6\x03\x02\x01\x19\
-    \xa7\x03\x1b\x01C\
-    \xa8\x0e\x30\x0c\xa0\x03\x02\x01\x01\xa1\x05\x30\x03\x1b\x01u\
-    \xa9\x05\x1b\x03A.B\
-    \xaa\x18\x30\x16\xa0\x03\x02\x01\x02\xa1\x0f\x30\x0d\x1b\x06krbtgt\x1b\x03A.B\
-    \xab\x04\x1b\x02no\
-    \xac\x04\x04\x02\x30\x00";
-
-/// Checks whether the name has this name-type and these components.
-pub fn is_name(name: &NameRef<'_>, name_type: i32, components: &[&[u8]]) -> bool {
-    let mut found = name.components.iter();
-    for component in components {
-        let Some(next) = found.next() else {
-            return false;
-        };
-        if next.as_slice() != *component {
-            return false;
-        }
-    }
-    name.name_type == name_type && found.next().is_none()
+/// A type of message.
+#[derive(Clone, Copy)]
+enum Kind {
+    KdcReq,
+    KrbError,
+    ApReq,
+    ApRep,
+    EncTicketPart,
+    Authenticator,
+    EncKdcRepPart,
+    EncApRepPart,
+    PaEncTsEnc,
 }
 
-fn has_name(name: &Option<NameRef<'_>>, name_type: i32, components: &[&[u8]]) -> bool {
-    match name {
-        Some(name) => is_name(name, name_type, components),
-        None => false,
-    }
-}
+/// A type, the bytes in digits, and the value or the error with which they are read.
+type Row = (Kind, &'static str, &'static str);
 
-fn is_at(time: Option<KTime>, seconds: i64) -> bool {
-    time.is_some_and(|time| time.seconds() == seconds)
-}
+/// These digits with a part of them replaced.
+type Changed = (Kind, &'static str, &'static str, &'static str, &'static str);
 
-fn has_no_optional_field(body: &ReqBodyRef<'_>) -> bool {
-    body.from.is_none()
-        && body.rtime.is_none()
-        && body.addresses.is_none()
-        && body.enc_authorization_data.is_none()
-        && body.additional_tickets.is_none()
-}
+const MESSAGES: &[Row] = &[
+    (Kind::KdcReq, AS_REQ, AS_REQ_VALUE),
+    (Kind::KdcReq, TGS_REQ, TGS_REQ_VALUE),
+    (Kind::KrbError, SHORT_ERROR, SHORT_ERROR_VALUE),
+    (Kind::KrbError, LONG_ERROR, LONG_ERROR_VALUE),
+    (Kind::ApReq, AP_REQ, AP_REQ_VALUE),
+    (Kind::ApReq, LONG_REQ, LONG_REQ_VALUE),
+    (Kind::ApRep, AP_REP, AP_REP_VALUE),
+    (Kind::ApRep, OTHER_REP, OTHER_REP_VALUE),
+    (Kind::EncTicketPart, TICKET, TICKET_VALUE),
+    (Kind::EncTicketPart, LEAST_TICKET, LEAST_TICKET_VALUE),
+    (Kind::Authenticator, AUTHENTICATOR, AUTHENTICATOR_VALUE),
+    (Kind::EncKdcRepPart, REPLY, REPLY_VALUE),
+    (Kind::EncApRepPart, AP_REPLY, AP_REPLY_VALUE),
+    (Kind::PaEncTsEnc, TIMESTAMP, TIMESTAMP_VALUE),
+];
 
-/// Checks whether these are the encryption types of the request.
-fn asks_for(body: &ReqBodyRef<'_>, etypes: &[i32]) -> bool {
-    let mut found = body.etype.iter();
-    for etype in etypes {
-        if found.next() != Some(*etype) {
-            return false;
-        }
-    }
-    found.next().is_none()
-}
+const BAD_TAG: &str = "Err(Der(BadTag))";
 
-/// Reading allocates nothing, so no test has to let an allocation fail.
-#[test]
-fn requests_are_read(rt: HostRuntime) {
-    same(
-        &rt,
-        &"an AS-REQ",
-        &kind_of(AS_REQ),
-        &Ok((Exchange::As, true, false)),
-    );
-}
+const BAD_INTEGER: &str = "Err(Der(BadInteger))";
 
-/// Returns the exchange of the request, and whether it is `AS_REQ` or `TGS_REQ`.
-fn kind_of(octets: &[u8]) -> Result<(Exchange, bool, bool), DerFault> {
-    let (exchange, request) = read_kdc_req(octets)?;
-    Ok((exchange, is_as_req(&request), is_tgs_req(&request)))
-}
+/// Messages of another type, without a field, and of another version.
+const REFUSED: &[Row] = &[
+    (Kind::KdcReq, "6b", BAD_TAG),
+    (Kind::ApReq, AP_REP, BAD_TAG),
+    (Kind::ApReq, WITHOUT_AUTHENTICATOR, "Err(Der(Truncated))"),
+    (Kind::ApRep, AP_REQ, BAD_TAG),
+    (Kind::Authenticator, VERSION_4, BAD_INTEGER),
+];
 
-fn is_as_req(request: &KdcReqRef<'_>) -> bool {
-    let octets = AS_REQ.as_slice();
-    request.pvno == 5
-        && request.msg_type == 10
-        && request.padata.is_none()
-        && request.body.octets == &octets[16..]
-        && is_body_of_as_req(&request.body.value)
-}
-
-fn is_body_of_as_req(body: &ReqBodyRef<'_>) -> bool {
-    body.kdc_options.bits() == 0
-        && has_name(&body.cname, 1, &[b"u"])
-        && body.realm.as_slice() == b"A.B".as_slice()
-        && has_name(&body.sname, 2, &[b"krbtgt", b"A.B"])
-        && body.till.seconds() == 0
-        && body.nonce.get() == 1
-        && asks_for(body, &[18])
-        && has_no_optional_field(body)
-}
-
-/// Checks whether the request has only this element of padata.
-fn has_data(request: &KdcReqRef<'_>, padata_type: i32, value: &[u8]) -> bool {
-    let Some(padata) = &request.padata else {
-        return false;
-    };
-    let mut padata = padata.iter();
-    let Some(data) = padata.next() else {
-        return false;
-    };
-    data.padata_type == padata_type
-        && data.padata_value.as_slice() == value
-        && padata.next().is_none()
-}
-
-#[test]
-fn requests_with_each_field_are_read(rt: HostRuntime) {
-    same(
-        &rt,
-        &"a TGS-REQ",
-        &kind_of(TGS_REQ),
-        &Ok((Exchange::Tgs, false, true)),
-    );
-}
-
-fn is_tgs_req(request: &KdcReqRef<'_>) -> bool {
-    request.pvno == 5
-        && request.msg_type == 12
-        && has_data(request, 1, &[1, 2])
-        && has_numbers_and_times(&request.body.value)
-        && has_parts(&request.body.value)
-}
-
-/// Checks the numbers and times; the seconds come from Python's datetime.
-fn has_numbers_and_times(body: &ReqBodyRef<'_>) -> bool {
-    body.kdc_options.bits() == 0x4081_0010
-        && body.cname.is_none()
-        && has_name(&body.sname, 3, &[b"host", b"b"])
-        && is_at(body.from, 1_704_067_200)
-        && body.till.seconds() == 1_704_153_600
-        && is_at(body.rtime, 1_704_240_000)
-        && body.nonce.get() == 2_147_483_648
-        && asks_for(body, &[18, 17])
-}
-
-/// Checks whether this is the first address.
-fn has_address(body: &ReqBodyRef<'_>, number: i32, octets: &[u8]) -> bool {
-    let Some(addresses) = &body.addresses else {
-        return false;
-    };
-    let Some(address) = addresses.iter().next() else {
-        return false;
-    };
-    address.number == number && address.octets.as_slice() == octets
-}
-
-/// Checks whether there is encrypted authorization-data with this cipher.
-fn has_sealed_data(body: &ReqBodyRef<'_>, cipher: &[u8]) -> bool {
-    match &body.enc_authorization_data {
-        Some(sealed) => sealed.cipher.as_slice() == cipher,
-        None => false,
-    }
-}
-
-/// Checks whether there is one ticket, for `krbtgt/A.B` in `A.B`, whose cipher is the byte 5.
-fn has_ticket(body: &ReqBodyRef<'_>) -> bool {
-    let Some(tickets) = &body.additional_tickets else {
-        return false;
-    };
-    let mut tickets = tickets.iter();
-    let Some(ticket) = tickets.next() else {
-        return false;
-    };
-    is_ticket(&ticket) && tickets.next().is_none()
-}
-
-fn is_ticket(ticket: &TicketRef<'_>) -> bool {
-    ticket.tkt_vno == 5
-        && ticket.realm.as_slice() == b"A.B".as_slice()
-        && is_name(&ticket.sname, 2, &[b"krbtgt", b"A.B"])
-        && ticket.enc_part.cipher.as_slice() == [5].as_slice()
-}
-
-fn has_parts(body: &ReqBodyRef<'_>) -> bool {
-    has_address(body, 2, &[10, 0, 0, 1]) && has_sealed_data(body, &[3, 4]) && has_ticket(body)
-}
-
-/// In the order of their checks: no bytes, tag, length, contents cut, contents, following bytes.
-#[test]
-fn each_fault_has_its_error(rt: HostRuntime) {
-    refused(&rt, &[0x6b], DerFault::BadTag);
-    refused(&rt, &followed(), DerFault::Trailing);
-    refused(&rt, &in_long_form(), DerFault::BadLength);
-    let octets = AS_REQ.as_slice();
-    for len in 0..107 {
-        refused(&rt, &octets[..len], DerFault::Truncated);
-    }
-}
-
-/// Checks that the bytes are refused with this error.
-fn refused(rt: &impl Abort, octets: &[u8], fault: DerFault) {
-    same(rt, &octets, &read_kdc_req(octets).err(), &Some(fault));
-}
-
-/// Returns the request followed by a byte.
-fn followed() -> [u8; 108] {
-    let mut octets = [0; 108];
-    octets[..107].copy_from_slice(AS_REQ);
-    octets
-}
-
-/// Returns the request with one byte more in its length than needed.
-fn in_long_form() -> [u8; 108] {
-    let request = AS_REQ.as_slice();
-    let mut octets = [0x81; 108];
-    octets[0] = 0x6a;
-    octets[2..].copy_from_slice(&request[1..]);
-    octets
-}
+const CHANGED: &[Changed] = &[
+    // An AS-REQ as a TGS-REQ.
+    (
+        Kind::KdcReq,
+        AS_REQ,
+        "6a693067a103020105a20302010a",
+        "6c693067a103020105a20302010c",
+        AS_REQ_AS_TGS_REQ_VALUE,
+    ),
+    // A byte follows.
+    (
+        Kind::KdcReq,
+        AS_REQ,
+        "03020112",
+        "0302011200",
+        "Err(Der(Trailing))",
+    ),
+    (
+        Kind::ApReq,
+        AP_REQ,
+        "04020405",
+        "0402040500",
+        "Err(Der(Trailing))",
+    ),
+    // The length has one byte more than needed.
+    (
+        Kind::KdcReq,
+        AS_REQ,
+        "6a69",
+        "6a8169",
+        "Err(Der(BadLength))",
+    ),
+    // An error of version 4.
+    (
+        Kind::KrbError,
+        SHORT_ERROR,
+        "a003020105",
+        "a003020104",
+        BAD_INTEGER,
+    ),
+    // An AP-REQ with the tag of an AP-REP, and with another tag in place of the ticket's.
+    (Kind::ApReq, AP_REQ, "6e65", "6f65", BAD_TAG),
+    (Kind::ApReq, AP_REQ, "613d303b", "623d303b", BAD_TAG),
+    // An AP-REP of version 4, and one of type 14.
+    (Kind::ApRep, AP_REP, "a003020105", "a003020104", BAD_INTEGER),
+    (Kind::ApRep, AP_REP, "a10302010f", "a10302010e", BAD_INTEGER),
+];
 
 fn owned_body(alloc: Global, body: &ReqBodyRef<'_>) -> Result<ReqBody, AllocError>
     ensures { IfOk result (λ copy. copy ≡ body.now) }
@@ -315,121 +161,219 @@ fn short(alloc: Global, octets: &[u8]) -> Result<(Exchange, KdcReq), Fault>
     decoded(alloc, octets)
 }
 
-/// Reads a request of fewer than a thousand bytes, and writes it again.
-fn request_again(alloc: Global, octets: &[u8]) -> Result<Vec<u8>, Fault> {
-    if octets.len() >= 1000 {
-        return Ok(Vec::new(alloc));
-    }
+/// Reads a request, and writes it again.
+fn kdc_req_again(alloc: Global, octets: &[u8]) -> Result<Vec<u8>, Fault>
+    requires { length octets.now < 1000 }
+{
     let (exchange, request) = short(alloc, octets)?;
-    Ok(encode_kdc_req(alloc, exchange, &request)?)
+    encode_kdc_req(alloc, exchange, &request).map_err(Fault::from)
 }
 
-/// Reads an error of fewer than a thousand bytes, and writes it again.
-#[tactic(auto, using(krb_elements::specs::WrittenLaws::tlv_longer))]
-fn error_again(alloc: Global, octets: &[u8]) -> Result<Vec<u8>, Fault> {
+/// Reads another message. What is written from it has less than three times its length.
+fn read_short<T: ReadOwned>(alloc: Global, octets: &[u8]) -> Result<T, Fault>
+    ensures { IfOk result (λ x. length (T.codec.text x) < 3 * length octets.now) }
+{
+    read_owned(alloc, octets)
+}
+
+fn krb_error_again(alloc: Global, octets: &[u8]) -> Result<Vec<u8>, Fault>
+    requires { length octets.now < 1000 }
+{
+    encode_krb_error(alloc, &read_short(alloc, octets)?).map_err(Fault::from)
+}
+
+fn ap_req_again(alloc: Global, octets: &[u8]) -> Result<Vec<u8>, Fault>
+    requires { length octets.now < 1000 }
+{
+    encode_ap_req(alloc, &read_short(alloc, octets)?).map_err(Fault::from)
+}
+
+fn ap_rep_again(alloc: Global, octets: &[u8]) -> Result<Vec<u8>, Fault>
+    requires { length octets.now < 1000 }
+{
+    encode_ap_rep(alloc, &read_short(alloc, octets)?).map_err(Fault::from)
+}
+
+fn ticket_part_again(alloc: Global, octets: &[u8]) -> Result<Vec<u8>, Fault>
+    requires { length octets.now < 1000 }
+{
+    encode_enc_ticket_part(alloc, &read_short(alloc, octets)?).map_err(Fault::from)
+}
+
+fn authenticator_again(alloc: Global, octets: &[u8]) -> Result<Vec<u8>, Fault>
+    requires { length octets.now < 1000 }
+{
+    encode_authenticator(alloc, &read_short(alloc, octets)?).map_err(Fault::from)
+}
+
+fn reply_part_again(alloc: Global, octets: &[u8]) -> Result<Vec<u8>, Fault>
+    requires { length octets.now < 1000 }
+{
+    let part: EncKdcRepPart = read_short(alloc, octets)?;
+    write(alloc, &part).map_err(Fault::from)
+}
+
+fn service_answer_again(alloc: Global, octets: &[u8]) -> Result<Vec<u8>, Fault>
+    requires { length octets.now < 1000 }
+{
+    encode_enc_ap_rep_part(alloc, &read_short(alloc, octets)?).map_err(Fault::from)
+}
+
+#[tactic(auto, using(krb_sealed::specs::PaEncTsEnc::pa_enc_ts_enc_short))]
+fn timestamp_written(alloc: Global, part: &PaEncTsEnc) -> Result<Vec<u8>, AllocError> {
+    encode_pa_enc_ts_enc(alloc, part)
+}
+
+/// Reads a timestamp with microseconds, and writes it again.
+fn timestamp_again(alloc: Global, octets: &[u8]) -> Result<Vec<u8>, Fault> {
+    let part = decode_pa_enc_ts_enc(alloc, octets)?;
+    if part.pausec.is_none() {
+        return Ok(Vec::new(alloc));
+    }
+    timestamp_written(alloc, &part).map_err(Fault::from)
+}
+
+/// Reads a message of fewer than a thousand bytes, and writes it again.
+fn again(alloc: Global, kind: Kind, octets: &[u8]) -> Result<Vec<u8>, Fault> {
     if octets.len() >= 1000 {
         return Ok(Vec::new(alloc));
     }
-    let error = decode_krb_error(alloc, octets)?;
-    encode_krb_error(alloc, &error).map_err(Fault::from)
+    match kind {
+        Kind::KdcReq => kdc_req_again(alloc, octets),
+        Kind::KrbError => krb_error_again(alloc, octets),
+        Kind::ApReq => ap_req_again(alloc, octets),
+        Kind::ApRep => ap_rep_again(alloc, octets),
+        Kind::EncTicketPart => ticket_part_again(alloc, octets),
+        Kind::Authenticator => authenticator_again(alloc, octets),
+        Kind::EncKdcRepPart => reply_part_again(alloc, octets),
+        Kind::EncApRepPart => service_answer_again(alloc, octets),
+        Kind::PaEncTsEnc => timestamp_again(alloc, octets),
+    }
 }
 
-/// Returns `AS_REQ` as a TGS-REQ.
-fn tgs_req() -> [u8; 107] {
-    let mut octets = *AS_REQ;
-    octets[0] = 0x6c;
-    octets[13] = 12;
-    octets
+/// Asserts that the message is written as it was read. Writes it again if memory ran out.
+fn is_written(rt: &impl Abort, alloc: Global, kind: Kind, octets: &[u8]) {
+    match again(alloc, kind, octets) {
+        Err(Fault::Memory) => written(rt, again(alloc, kind, octets), octets),
+        found => written(rt, found, octets),
+    }
 }
 
-#[test]
-fn requests_are_written(rt: HostRuntime) {
-    written(&rt, request_again(rt.alloc(), AS_REQ), AS_REQ);
-    written(&rt, request_again(rt.alloc(), TGS_REQ), TGS_REQ);
-    written(&rt, request_again(rt.alloc(), &tgs_req()), &tgs_req());
+/// Reads an AP-REQ in place, and copies it.
+fn ap_req(alloc: Global, octets: &[u8]) -> Result<ApReq, Fault> {
+    read_ap_req(octets)?.copy(alloc).map_err(Fault::from)
 }
 
-#[test]
-fn errors_are_written(rt: HostRuntime) {
-    written(&rt, error_again(rt.alloc(), SHORT_ERROR), SHORT_ERROR);
-    written(&rt, error_again(rt.alloc(), LONG_ERROR), LONG_ERROR);
+/// Asserts that the bytes are read with this value or error.
+fn is_read(rt: &impl Abort, alloc: Global, kind: Kind, octets: &[u8], value: &str) {
+    match kind {
+        Kind::KdcReq => shows(rt, alloc, decoded(alloc, octets), value),
+        Kind::KrbError => shows(rt, alloc, decode_krb_error(alloc, octets), value),
+        Kind::ApReq => shows(rt, alloc, ap_req(alloc, octets), value),
+        Kind::ApRep => shows(rt, alloc, decode_ap_rep(alloc, octets), value),
+        Kind::EncTicketPart => shows(rt, alloc, decode_enc_ticket_part(alloc, octets), value),
+        Kind::Authenticator => shows(rt, alloc, decode_authenticator(alloc, octets), value),
+        Kind::EncKdcRepPart => {
+            shows(rt, alloc, read_owned::<EncKdcRepPart>(alloc, octets), value)
+        }
+        Kind::EncApRepPart => shows(rt, alloc, decode_enc_ap_rep_part(alloc, octets), value),
+        Kind::PaEncTsEnc => shows(rt, alloc, decode_pa_enc_ts_enc(alloc, octets), value),
+    }
 }
 
-/// Checks whether the bytes are the error with each field.
-fn is_long_error(alloc: Global, octets: &[u8]) -> Result<bool, Fault> {
-    let error = decode_krb_error(alloc, octets)?;
-    Ok(has_time_and_code(&error) && has_text_and_data(&error, b"no", &[0x30, 0]))
-}
-
-#[test]
-fn errors_are_read(rt: HostRuntime) {
-    same(
-        &rt,
-        &"each field",
-        &is_long_error(rt.alloc(), LONG_ERROR),
-        &Ok(true),
-    );
-}
-
-fn has_time_and_code(error: &KrbError) -> bool {
-    is_at(error.ctime, 1_704_067_199)
-        && error.cusec.is_some_and(|n| n.get() == 999_999)
-        && error.stime.seconds() == 1_704_067_200
-        && error.susec.get() == 1
-        && error.error_code == 25
-}
-
-fn has_text_and_data(error: &KrbError, text: &[u8], data: &[u8]) -> bool {
-    match (&error.e_text, &error.e_data) {
-        (Some(e_text), Some(e_data)) => e_text.as_slice() == text && e_data.as_slice() == data,
-        _ => false,
+/// Asserts that the bytes are read with this value or error, and each proper prefix of them is refused.
+fn is_read_whole(rt: &impl Abort, alloc: Global, row: &Row) {
+    let (kind, digits, value) = row;
+    let octets = bytes(alloc, *digits);
+    is_read(rt, alloc, *kind, &octets, *value);
+    for len in 0..octets.len() {
+        is_read(rt, alloc, *kind, &octets[..len], "Err(Der(Truncated))");
     }
 }
 
 #[test]
-fn errors_have_version_5(rt: HostRuntime) {
-    let mut version_4 = *SHORT_ERROR;
-    version_4[8] = 4;
-    let found = is_long_error(rt.alloc(), &version_4);
-    same(
-        &rt,
-        &"version 4",
-        &found,
-        &Err(Fault::Der(DerFault::BadInteger)),
-    );
+fn messages_are_read(rt: HostRuntime) {
+    for row in MESSAGES {
+        is_read_whole(&rt, rt.alloc(), row);
+    }
 }
 
 /// If one allocation fails (`rt try --test --fail-alloc N`), the first call returns that memory ran out, and the next
 /// call succeeds.
 #[test]
-fn writing_a_request_works_after_memory_ran_out(rt: HostRuntime) {
-    match request_again(rt.alloc(), AS_REQ) {
-        Ok(octets) => same(
-            &rt,
-            &"the first call",
-            &octets.as_slice(),
-            &AS_REQ.as_slice(),
-        ),
-        Err(fault) => {
-            same(&rt, &"the first call", &fault, &Fault::Memory);
-            written(&rt, request_again(rt.alloc(), AS_REQ), AS_REQ);
-        }
+fn messages_are_written(rt: HostRuntime) {
+    for (kind, digits, _) in MESSAGES {
+        is_written(&rt, rt.alloc(), *kind, &bytes(rt.alloc(), *digits));
     }
 }
 
-/// The same for an error.
 #[test]
-fn writing_an_error_works_after_memory_ran_out(rt: HostRuntime) {
-    match error_again(rt.alloc(), LONG_ERROR) {
-        Ok(octets) => same(
-            &rt,
-            &"the first call",
-            &octets.as_slice(),
-            &LONG_ERROR.as_slice(),
-        ),
-        Err(fault) => {
-            same(&rt, &"the first call", &fault, &Fault::Memory);
-            written(&rt, error_again(rt.alloc(), LONG_ERROR), LONG_ERROR);
-        }
+fn other_bytes_are_refused(rt: HostRuntime) {
+    for (kind, digits, value) in REFUSED {
+        is_read(&rt, rt.alloc(), *kind, &bytes(rt.alloc(), *digits), *value);
     }
+}
+
+#[test]
+fn changed_bytes_are_read_or_refused(rt: HostRuntime) {
+    for row in CHANGED {
+        is_changed(&rt, rt.alloc(), row);
+    }
+}
+
+fn is_changed(rt: &impl Abort, alloc: Global, row: &Changed) {
+    let (kind, digits, old, new, value) = row;
+    match digits.replace(alloc, *old, *new) {
+        Ok(digits) => {
+            let octets = bytes(alloc, digits.as_str());
+            is_read(rt, alloc, *kind, &octets, *value);
+            if value.starts_with("Ok") {
+                is_written(rt, alloc, *kind, &octets);
+            }
+        }
+        Err(AllocError) => panic!(rt; "no memory"),
+    }
+}
+
+/// Returns the length of the body that the AS-REQ was sent with, if the bytes end with it.
+fn sent_len(octets: &[u8]) -> Option<usize> {
+    let (_, request) = read_kdc_req(octets).ok()?;
+    let body = request.body.octets;
+    if octets.ends_with(body) {
+        Some(body.len())
+    } else {
+        None
+    }
+}
+
+/// Returns the version of the AS-REP's ticket and the type of its encrypted part, if its client is in `A.B`.
+fn as_rep(octets: &[u8]) -> Result<Option<(i32, i32)>, DerFault> {
+    let reply: KdcRepRef<'_, 11> = read(octets)?;
+    if reply.crealm.as_slice() != b"A.B".as_slice() {
+        return Ok(None);
+    }
+    Ok(Some((reply.ticket.tkt_vno, reply.enc_part.etype)))
+}
+
+#[test]
+fn replies_and_parts_are_read_in_place(rt: HostRuntime) {
+    let alloc = rt.alloc();
+    same(&rt, &"a body", &sent_len(&bytes(alloc, AS_REQ)), &Some(91));
+    let reply = bytes(alloc, AS_REP);
+    same(&rt, &"an AS-REP", &as_rep(&reply), &Ok(Some((5, 18))));
+    let fault = read::<KdcRepRef<'_, 13>>(&reply).err();
+    same(&rt, &"a TGS-REP", &fault, &Some(DerFault::BadTag));
+    let entry = bytes(alloc, ETYPE_INFO2_ENTRY);
+    shows(
+        &rt,
+        alloc,
+        read::<EtypeInfo2EntryRef<'_>>(&entry),
+        ETYPE_INFO2_ENTRY_VALUE,
+    );
+    shows(
+        &rt,
+        alloc,
+        decode_ap_req(alloc, &bytes(alloc, AP_REQ)),
+        AP_REQ_VALUE,
+    );
 }

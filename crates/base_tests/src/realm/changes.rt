@@ -1,15 +1,12 @@
 //! Tests of changes of a database (`principals`).
 use crate::expect::{holds, same};
-use crate::realm::fixtures::{LONGEST, Step, TOO_LONG, change, database, has, name};
+use crate::realm::fixtures::{Checks, LONGEST, Seen, Step, TOO_LONG, change, check, seen};
 use principals::{ChangeFault, Database};
-use std::alloc::Global;
+use std::alloc::{AllocError, Global};
 use std::process::Abort;
 
-/// The row of `u`: its current key version, the number of its versions, and whether it is disabled.
-type Seen = Option<(u32, usize, bool)>;
-
 /// A change of the principal with these components, its outcome, and the number of rows and the row of `u` afterwards.
-type Case = (
+pub type Case = (
     Step,
     &'static [&'static [u8]],
     Result<(), ChangeFault>,
@@ -24,121 +21,64 @@ const TGS: &[&[u8]] = &[b"krbtgt", b"A.B"];
 /// A new row.
 const NEW: Seen = Some((1, 1, false));
 
-/// Makes these changes of a first database. Only this function drops a database: each place with a drop takes long to
-/// prove.
-fn runs(rt: &impl Abort, alloc: Global, cases: &[Case]) {
-    match database(alloc) {
-        Ok(mut database) => {
-            for (place, case) in cases.iter().enumerate() {
-                run(rt, alloc, &mut database, place, case);
-            }
-        }
-        Err(fault) => panic!(rt; "{fault:?}"),
+const BAD: Result<(), ChangeFault> = Err(ChangeFault::BadName);
+
+/// Changes of a first database, one after the other. Invalid names have too few or too many components, or one with too
+/// few or too many bytes.
+const CASES: &[Case] = &[
+    (Step::Add, &[], BAD, 1, None),
+    (Step::Add, &[b""], BAD, 1, None),
+    (Step::Add, &[U, b""], BAD, 1, None),
+    (Step::Add, &[TOO_LONG], BAD, 1, None),
+    (Step::Add, &[U; 17], BAD, 1, None),
+    (Step::Add, &[LONGEST], Ok(()), 2, None),
+    (Step::Add, &[LONGEST; 16], Ok(()), 3, None),
+    // A name is added once.
+    (Step::Add, &[U], Ok(()), 4, NEW),
+    (Step::Add, &[U], Err(ChangeFault::Exists), 4, NEW),
+    (Step::Add, TGS, Err(ChangeFault::Exists), 4, NEW),
+    // Protected rows and keys stay.
+    (Step::Remove, TGS, Err(ChangeFault::Protected), 4, NEW),
+    (
+        Step::DropKeys(1),
+        &[U],
+        Err(ChangeFault::CurrentKeys),
+        4,
+        NEW,
+    ),
+    (Step::DropKeys(7), &[U], Err(ChangeFault::Absent), 4, NEW),
+    // Keys come and go.
+    (Step::NewKeys, &[U], Ok(()), 4, Some((2, 2, false))),
+    (Step::DropKeys(1), &[U], Ok(()), 4, Some((2, 1, false))),
+    // A policy is set, and a row is removed.
+    (Step::Disable, &[U], Ok(()), 4, Some((2, 1, true))),
+    (Step::Remove, &[U], Ok(()), 3, None),
+];
+
+/// Makes these changes.
+pub fn are_changed(rt: &impl Abort, alloc: Global, database: &mut Database, cases: &[Case]) {
+    for (place, (step, components, wanted, rows, wanted_row)) in cases.iter().enumerate() {
+        let found = change(alloc, database, *components, *step);
+        let after = (found, database.len(), seen(alloc, database, &[U]));
+        same(rt, &place, &after, &(*wanted, *rows, Ok(*wanted_row)));
     }
 }
 
-fn run(rt: &impl Abort, alloc: Global, database: &mut Database, place: usize, case: &Case) {
-    let (step, components, wanted, rows, seen) = case;
-    let found = change(alloc, database, *components, *step);
-    same(rt, &place, &found, wanted);
-    same(
-        rt,
-        &place,
-        &(database.len(), seen_of_u(alloc, database)),
-        &(*rows, *seen),
-    );
-}
-
-fn seen_of_u(alloc: Global, database: &Database) -> Seen {
-    let name = name(alloc, &[U]).ok()?;
-    let row = database.get(&name)?;
-    let versions = row.versions.as_slice().len();
-    Some((row.versions.current().number, versions, row.policy.disabled))
-}
-
-#[test]
-fn a_name_is_added_once(rt: HostRuntime) {
-    const CASES: &[Case] = &[
-        (Step::Add, &[U], Ok(()), 2, NEW),
-        (Step::Add, &[U], Err(ChangeFault::Exists), 2, NEW),
-        (Step::Add, TGS, Err(ChangeFault::Exists), 2, NEW),
-    ];
-    runs(&rt, rt.alloc(), CASES);
-}
-
-/// The invalid names have too few or too many components, or one with too few or too many bytes.
-#[test]
-fn a_name_has_1_to_16_components_of_1_to_255_bytes(rt: HostRuntime) {
-    const BAD: Result<(), ChangeFault> = Err(ChangeFault::BadName);
-    const CASES: &[Case] = &[
-        (Step::Add, &[], BAD, 1, None),
-        (Step::Add, &[b""], BAD, 1, None),
-        (Step::Add, &[U, b""], BAD, 1, None),
-        (Step::Add, &[TOO_LONG], BAD, 1, None),
-        (Step::Add, &[U; 17], BAD, 1, None),
-        (Step::Add, &[LONGEST], Ok(()), 2, None),
-        (Step::Add, &[LONGEST; 16], Ok(()), 3, None),
-    ];
-    runs(&rt, rt.alloc(), CASES);
-}
-
-// Passes if any one allocation fails.
-#[test]
-fn a_change_out_of_memory_leaves_the_database_unchanged(rt: HostRuntime) {
-    if let Ok(mut database) = database(rt.alloc()) {
-        is_left(&rt, rt.alloc(), &mut database);
-    }
-}
-
-fn is_left(rt: &impl Abort, alloc: Global, database: &mut Database) {
+/// Adds a row, and checks that the database is unchanged if memory ran out. Passes if any one allocation fails.
+pub fn is_left_without_memory(rt: &impl Abort, alloc: Global, database: &mut Database) {
     let made = change(alloc, database, &[U], Step::Add);
-    holds(
-        rt,
-        matches!(made, Ok(()) | Err(ChangeFault::Memory)),
-        "there may be no memory",
+    let found = (made, database.len(), seen(alloc, database, &[U]));
+    let is_possible = matches!(
+        found,
+        (Ok(()), 2, Ok(Some((1, 1, false))))
+            | (Ok(()), 2, Err(AllocError))
+            | (Err(ChangeFault::Memory), 1, Ok(None))
     );
-    let rows = if made.is_ok() { 2 } else { 1 };
-    same(rt, &made, &database.len(), &rows);
-    holds(
-        rt,
-        has(alloc, database, &[U]) != Ok(made.is_err()),
-        "it is there if it was added",
-    );
+    holds(rt, is_possible, "it is added, or memory ran out");
 }
 
 #[test]
-fn protected_rows_and_keys_stay(rt: HostRuntime) {
-    const CASES: &[Case] = &[
-        (Step::Add, &[U], Ok(()), 2, NEW),
-        (Step::Remove, TGS, Err(ChangeFault::Protected), 2, NEW),
-        (
-            Step::DropKeys(1),
-            &[U],
-            Err(ChangeFault::CurrentKeys),
-            2,
-            NEW,
-        ),
-        (Step::DropKeys(7), &[U], Err(ChangeFault::Absent), 2, NEW),
-    ];
-    runs(&rt, rt.alloc(), CASES);
-}
-
-#[test]
-fn keys_come_and_go(rt: HostRuntime) {
-    const CASES: &[Case] = &[
-        (Step::Add, &[U], Ok(()), 2, NEW),
-        (Step::NewKeys, &[U], Ok(()), 2, Some((2, 2, false))),
-        (Step::DropKeys(1), &[U], Ok(()), 2, Some((2, 1, false))),
-    ];
-    runs(&rt, rt.alloc(), CASES);
-}
-
-#[test]
-fn a_policy_is_set_and_a_row_is_removed(rt: HostRuntime) {
-    const CASES: &[Case] = &[
-        (Step::Add, &[U], Ok(()), 2, NEW),
-        (Step::Disable, &[U], Ok(()), 2, Some((1, 1, true))),
-        (Step::Remove, &[U], Ok(()), 1, None),
-    ];
-    runs(&rt, rt.alloc(), CASES);
+fn rows_are_changed(rt: HostRuntime) {
+    check(&rt, rt.alloc(), &Checks::Changes(CASES));
+    check(&rt, rt.alloc(), &Checks::WithoutMemory);
 }

@@ -1,10 +1,25 @@
-//! Names, keys and databases that several modules use. They have no contracts, so that tests with them are quick to
-//! prove.
+//! Times, names, keys and databases that several modules use. They have no contracts, so that tests with them are quick
+//! to prove.
+use crate::expect::same;
+use crate::realm::changes::{Case, are_changed, is_left_without_memory};
+use crate::realm::databases::is_first;
 use enctypes::{Etype, Key};
-use krb_fields::Name;
+use krb_fields::{Moment, Name};
 use principal_rows::{KeyList, Policy};
 use principals::{Change, ChangeFault, Database, FirstFault, RowChange};
 use std::alloc::{AllocError, Global};
+use std::process::Abort;
+
+/// 2024-01-01 00:00:00.
+pub const T: i64 = 1_704_067_200;
+
+/// Returns the moment this many seconds after T.
+pub fn at(later: u32) -> Moment {
+    Moment {
+        sec: T + i64::from(later),
+        usec: 0,
+    }
+}
 
 /// The longest realm and component of a name.
 pub const LONGEST: &[u8] = &[b'x'; 255];
@@ -14,10 +29,6 @@ pub const TOO_LONG: &[u8] = &[b'x'; 256];
 pub fn keys(alloc: Global) -> Result<KeyList, AllocError> {
     let key = Key::from_random(Etype::Aes256CtsHmacSha1_96, &[7; 32]);
     KeyList::new(alloc, &[key]).map_err(|_| AllocError)
-}
-
-pub fn name(alloc: Global, components: &[&[u8]]) -> Result<Name, AllocError> {
-    Name::new(alloc, 1, components)
 }
 
 /// Returns a first database of this realm.
@@ -61,20 +72,50 @@ pub fn change(
     components: &[&[u8]],
     step: Step,
 ) -> Result<(), ChangeFault> {
-    let name = name(alloc, components)?;
+    let name = Name::new(alloc, 1, components)?;
     let what = row_change(alloc, step)?;
     database.apply(alloc, &Change { name, what })
 }
 
-pub fn has(alloc: Global, database: &Database, components: &[&[u8]]) -> Result<bool, AllocError> {
-    Ok(database.get(&name(alloc, components)?).is_some())
+/// The current key version of a row, the number of its versions, and whether it is disabled.
+pub type Seen = Option<(u32, usize, bool)>;
+
+/// Returns what is seen of the row of the principal with these components, if there is one.
+pub fn seen(alloc: Global, database: &Database, components: &[&[u8]]) -> Result<Seen, AllocError> {
+    let name = Name::new(alloc, 1, components)?;
+    Ok(match database.get(&name) {
+        Some(row) => {
+            let versions = row.versions.as_slice().len();
+            Some((row.versions.current().number, versions, row.policy.disabled))
+        }
+        None => None,
+    })
 }
 
-pub fn is(name: &Name, components: &[&[u8]]) -> bool {
-    let held = name.components.as_slice();
-    held.len() == components.len()
-        && held
-            .iter()
-            .zip(components)
-            .all(|(held, component)| held.as_slice() == *component)
+/// What is checked of a first database.
+pub enum Checks {
+    First,
+    WithoutMemory,
+    Changes(&'static [Case]),
+}
+
+/// Makes a first database, and checks it. Only this function drops a database: each place with a drop takes long to
+/// prove.
+pub fn check(rt: &impl Abort, alloc: Global, checks: &Checks) {
+    match database(alloc) {
+        Ok(mut database) => match checks {
+            Checks::First => is_first(rt, alloc, &mut database),
+            Checks::WithoutMemory => is_left_without_memory(rt, alloc, &mut database),
+            Checks::Changes(cases) => are_changed(rt, alloc, &mut database, *cases),
+        },
+        Err(fault) => {
+            let may_fail = matches!(checks, Checks::WithoutMemory);
+            same(
+                rt,
+                &"without memory",
+                &(fault, may_fail),
+                &(FirstFault::Memory, true),
+            );
+        }
+    }
 }

@@ -1,28 +1,20 @@
-//! Tests of a client's replay cache (`replay`): replays, restarts and limits, at the second 1704067200.
-use crate::expect::{holds, same};
+//! Tests of a client's replay cache (`replay`): replays, restarts and limits, at the second T.
+use crate::expect::{same, shows};
+use crate::realm::fixtures::{T, at};
 use krb_elements::Octets;
-use krb_fields::Moment;
 use replay::{Bears, Failures, Keep, Kept, ReplayCache, Verdict};
 use std::alloc::{AllocError, Global};
 use std::process::Abort;
 
-const T: i64 = 1_704_067_200;
-
-fn at(later: u16) -> Moment {
-    Moment {
-        sec: T + i64::from(later),
-        usec: 0,
-    }
-}
-
 /// Adds a pair to the replay cache, if it is fresh.
 fn accept<K: Keep>(
     cache: &mut ReplayCache<K>,
-    at: Moment,
+    later: u32,
     ctime: i64,
     cusec: u32,
     kept: K,
 ) -> Result<bool, AllocError> {
+    let at = at(later);
     let is_fresh = matches!(cache.check(at, ctime, cusec, 64), Verdict::Fresh);
     if is_fresh {
         cache.record_seen(at, ctime, cusec, kept)?;
@@ -59,146 +51,160 @@ fn verdict(cache: &ReplayCache<Kept>, ctime: i64, cusec: u32, limit: u32) -> Ver
 fn recorded(alloc: Global) -> Result<ReplayCache<Kept>, AllocError> {
     let kept = kept(alloc)?;
     let mut cache = ReplayCache::first(alloc);
-    if accept(&mut cache, at(0), T - 300, 7, kept)? {
+    if accept(&mut cache, 0, T - 300, 7, kept)? {
         cache.copy(alloc)
     } else {
         Err(AllocError)
     }
 }
 
+/// Returns the verdicts on the pair, on another one, on an early one, and on one too many.
+fn verdicts(alloc: Global) -> Result<[Verdict<bool>; 4], AllocError> {
+    let cache = recorded(alloc)?;
+    Ok([
+        verdict(&cache, T - 300, 7, 2),
+        verdict(&cache, T - 300, 8, 2),
+        verdict(&cache, T - 301, 7, 2),
+        verdict(&cache, T - 300, 8, 1),
+    ])
+}
+
 // Passes if any one allocation fails.
 #[test]
 fn a_repeated_pair_finds_its_kept_reply(rt: HostRuntime) {
-    let alloc = rt.alloc();
-    match recorded(alloc).or_else(|_| recorded(alloc)) {
-        Ok(cache) => finds_what_was_kept(&rt, &cache),
-        Err(AllocError) => panic!(rt; "no memory, or a pair that is not fresh"),
+    let mut found = verdicts(rt.alloc());
+    if found.is_err() {
+        found = verdicts(rt.alloc());
+    }
+    let wanted = [
+        Verdict::Repeat(true),
+        Verdict::Fresh,
+        Verdict::Skew,
+        Verdict::Full,
+    ];
+    same(&rt, &"four pairs", &found, &Ok(wanted));
+}
+
+/// What is done with a replay cache: the first number is the second after T, the other one that of the pair.
+enum Step {
+    Accept(u32, u32),
+    Check(u32, u32),
+    Tidy(u32),
+    Free,
+    /// Whether no pair is left, and the floor is this second after T.
+    IsEmpty(u32),
+    /// Whether there is a second pair.
+    HasTwo,
+    Floor,
+    Fail,
+}
+
+/// Steps, and what they show.
+type Steps = &'static [(Step, &'static str)];
+
+/// A pair below the floor is dropped.
+const BELOW_THE_FLOOR: Steps = &[
+    (Step::Accept(0, 0), "Ok(true)"),
+    (Step::Accept(301, 301), "Ok(true)"),
+    (Step::Floor, "1"),
+    (Step::Check(0, 0), "Skew"),
+    (Step::HasTwo, "(true, false)"),
+];
+
+/// A tidying drops what can't come again. It stays dropped at an earlier moment, and once its memory is freed.
+const TIDIED: Steps = &[
+    (Step::Accept(0, 0), "Ok(true)"),
+    (Step::Tidy(300), "()"),
+    (Step::Check(300, 0), "Repeat(())"),
+    (Step::Tidy(301), "()"),
+    (Step::Tidy(0), "()"),
+    (Step::Check(0, 0), "Skew"),
+    (Step::IsEmpty(1), "true"),
+    (Step::IsEmpty(0), "false"),
+    (Step::Free, "()"),
+    (Step::Check(0, 0), "Skew"),
+    (Step::IsEmpty(1), "true"),
+    (Step::IsEmpty(0), "false"),
+];
+
+/// A clock that was ahead refuses nothing later. Then the floor is a day before.
+const AHEAD: Steps = &[
+    (Step::Accept(0, 0), "Ok(true)"),
+    (Step::Tidy(60_000), "()"),
+    (Step::Check(0, 0), "Skew"),
+    (Step::IsEmpty(1), "true"),
+    (Step::IsEmpty(0), "false"),
+    (Step::Accept(1, 1), "Ok(true)"),
+    (Step::Tidy(86_410), "()"),
+    (Step::IsEmpty(10), "true"),
+];
+
+/// A restart refuses what may have come before.
+const RESTARTED: Steps = &[
+    (Step::Check(0, 300), "Skew"),
+    (Step::Check(1, 301), "Fresh"),
+    (Step::Fail, "2"),
+    (Step::Floor, "301"),
+];
+
+/// Takes a step, and asserts what it shows.
+fn take(rt: &impl Abort, alloc: Global, cache: &mut ReplayCache<()>, step: &Step, shown: &str) {
+    match step {
+        Step::Accept(later, pair) => {
+            shows(
+                rt,
+                alloc,
+                accept(cache, *later, T + i64::from(*pair), 0, ()),
+                shown,
+            )
+        }
+        Step::Check(later, pair) => {
+            shows(
+                rt,
+                alloc,
+                cache.check(at(*later), T + i64::from(*pair), 0, 64),
+                shown,
+            )
+        }
+        Step::Tidy(later) => shows(rt, alloc, cache.tidy(at(*later)), shown),
+        Step::Free => shows(rt, alloc, cache.free_dropped(), shown),
+        Step::IsEmpty(later) => shows(rt, alloc, cache.is_empty(T + i64::from(*later)), shown),
+        Step::HasTwo => {
+            let found = (cache.pairs.has_from(0, 1), cache.pairs.has_from(0, 2));
+            shows(rt, alloc, found, shown)
+        }
+        Step::Floor => shows(rt, alloc, cache.floor.wrapping_sub(T), shown),
+        Step::Fail => {
+            cache.set_failures(Failures {
+                count: 2,
+                last: at(0),
+                version: 1,
+            });
+            shows(rt, alloc, cache.failures.count, shown)
+        }
     }
 }
 
-fn finds_what_was_kept(rt: &impl Abort, cache: &ReplayCache<Kept>) {
-    same(
-        rt,
-        &"the pair",
-        &verdict(cache, T - 300, 7, 2),
-        &Verdict::Repeat(true),
-    );
-    same(
-        rt,
-        &"another",
-        &verdict(cache, T - 300, 8, 2),
-        &Verdict::Fresh,
-    );
-    same(
-        rt,
-        &"an early one",
-        &verdict(cache, T - 301, 7, 2),
-        &Verdict::Skew,
-    );
-    same(
-        rt,
-        &"one too many",
-        &verdict(cache, T - 300, 8, 1),
-        &Verdict::Full,
-    );
+/// Takes steps with a first replay cache, or with that of a restart.
+fn run(rt: &impl Abort, alloc: Global, is_restarted: bool, steps: Steps) {
+    let mut cache = if is_restarted {
+        ReplayCache::restarted(alloc, at(0))
+    } else {
+        ReplayCache::first(alloc)
+    };
+    for (step, shown) in steps {
+        take(rt, alloc, &mut cache, step, *shown);
+    }
 }
 
 #[test]
-fn a_pair_below_the_floor_is_dropped(rt: HostRuntime) {
-    let mut cache = ReplayCache::first(rt.alloc());
-    same(&rt, &0, &accept(&mut cache, at(0), T, 0, ()), &Ok(true));
-    same(
-        &rt,
-        &301,
-        &accept(&mut cache, at(301), T + 301, 0, ()),
-        &Ok(true),
-    );
-    is_dropped(&rt, &cache);
-}
-
-/// Checks that the pair of the second T is dropped.
-fn is_dropped(rt: &impl Abort, cache: &ReplayCache<()>) {
-    same(rt, &"the floor", &cache.floor, &(T + 1));
-    same(
-        rt,
-        &"a pair below it",
-        &cache.check(at(0), T, 0, 64),
-        &Verdict::Skew,
-    );
-    holds(rt, cache.pairs.has_from(0, 1), "one pair is left");
-    holds(rt, !cache.pairs.has_from(0, 2), "no other pair is left");
-}
-
-#[test]
-fn tidying_drops_what_is_too_old(rt: HostRuntime) {
-    let mut cache = ReplayCache::first(rt.alloc());
-    same(&rt, &0, &accept(&mut cache, at(0), T, 0, ()), &Ok(true));
-    cache.tidy(at(300));
-    same(
-        &rt,
-        &"it may come again",
-        &cache.check(at(300), T, 0, 64),
-        &Verdict::Repeat(&()),
-    );
-    cache.tidy(at(301));
-    // It stays dropped at an earlier moment, and once its memory is freed.
-    cache.tidy(at(0));
-    is_empty(&rt, &cache);
-    cache.free_dropped();
-    is_empty(&rt, &cache);
-}
-
-#[test]
-fn a_clock_that_was_ahead_refuses_nothing_later(rt: HostRuntime) {
-    let mut cache = ReplayCache::first(rt.alloc());
-    same(&rt, &0, &accept(&mut cache, at(0), T, 0, ()), &Ok(true));
-    cache.tidy(at(60_000));
-    is_empty(&rt, &cache);
-    same(&rt, &1, &accept(&mut cache, at(1), T + 1, 0, ()), &Ok(true));
-    // The floor is a day before.
-    cache.tidy(Moment {
-        sec: T + 86_410,
-        usec: 0,
-    });
-    holds(&rt, cache.is_empty(T + 10), "the floor is another");
-}
-
-/// Checks that the replay cache is empty, and that its floor is above the second T.
-fn is_empty(rt: &impl Abort, cache: &ReplayCache<()>) {
-    same(
-        rt,
-        &"below the floor",
-        &cache.check(at(0), T, 0, 64),
-        &Verdict::Skew,
-    );
-    holds(rt, cache.is_empty(T + 1), "no pair is left");
-    holds(rt, !cache.is_empty(T), "the floor is another");
-}
-
-#[test]
-fn a_restart_refuses_what_may_have_come_before(rt: HostRuntime) {
-    let mut cache: ReplayCache<()> = ReplayCache::restarted(rt.alloc(), at(0));
-    same(
-        &rt,
-        &"before",
-        &cache.check(at(0), T + 300, 0, 64),
-        &Verdict::Skew,
-    );
-    same(
-        &rt,
-        &"behind",
-        &cache.check(at(1), T + 301, 0, 64),
-        &Verdict::Fresh,
-    );
-    cache.set_failures(Failures {
-        count: 2,
-        last: at(0),
-        version: 1,
-    });
-    same(
-        &rt,
-        &"failures",
-        &(cache.failures.count, cache.floor),
-        &(2, T + 301),
-    );
+fn pairs_are_dropped_once_they_are_too_old(rt: HostRuntime) {
+    for (is_restarted, steps) in [
+        (false, BELOW_THE_FLOOR),
+        (false, TIDIED),
+        (false, AHEAD),
+        (true, RESTARTED),
+    ] {
+        run(&rt, rt.alloc(), is_restarted, steps);
+    }
 }

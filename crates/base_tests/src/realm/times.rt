@@ -86,129 +86,119 @@ fn starts_late(octets: &[u8]) -> Result<bool, DerFault> {
     Ok(starts_too_late(MIDNIGHT, &body))
 }
 
-#[test]
-fn a_ticket_has_the_lifetime_that_the_realm_allows(rt: HostRuntime) {
+/// Seconds after midnight: the start, the end, and until when the ticket is renewable; and its flags.
+type Given = (u32, u32, Option<u32>, u32);
+
+fn times((start, end, renew_till, bits): Given) -> (Times, Flags) {
     let times = Times {
-        start: time(0),
-        end: time(36_000),
-        renew_till: None,
+        start: time(start),
+        end: time(end),
+        renew_till: match renew_till {
+            Some(later) => Some(time(later)),
+            None => None,
+        },
     };
-    let initial = Flags::from_bits(0x0040_0000);
-    let wanted = Ok(Some((times, initial)));
-    same(&rt, &"no option", &granted(&body(0, NO_BOUND), 0), &wanted);
-    let renewable = granted(&body(RENEWABLE_OK, NO_BOUND), 0);
-    same(&rt, &"RENEWABLE-OK", &renewable, &wanted);
+    (times, Flags::from_bits(bits))
 }
 
-#[test]
-fn a_ticket_that_ends_early_is_renewable(rt: HostRuntime) {
-    let times = Times {
-        start: time(0),
-        end: time(36_000),
-        renew_till: Some(time(86_400)),
-    };
-    let flags = Flags::from_bits(0x00c0_0000);
-    let renewable = granted(&body(RENEWABLE_OK, NEXT_DAY), 604_800);
-    same(&rt, &"RENEWABLE-OK", &renewable, &Ok(Some((times, flags))));
-}
-
-#[test]
-fn a_later_start_is_for_postdated_tickets_and_an_early_end_for_none(rt: HostRuntime) {
-    let times = Times {
-        start: time(3_600),
-        end: time(39_600),
-        renew_till: None,
-    };
-    let flags = Flags::from_bits(0x0740_0000);
-    let postdated = body_from(POSTDATED);
-    same(
-        &rt,
-        &"POSTDATED",
-        &granted(&postdated, 0),
-        &Ok(Some((times, flags))),
-    );
-    same(&rt, &"POSTDATED", &starts_late(&postdated), &Ok(false));
-    same(&rt, &"no option", &starts_late(&body_from(0)), &Ok(true));
-    same(
-        &rt,
-        &"an early end",
-        &granted(&body(0, THAT_DAY), 0),
-        &Ok(None),
-    );
-}
-
-/// Returns a ticket of midnight that is renewable until the next day.
-fn renewable_ticket() -> TicketTerms {
-    TicketTerms {
-        flags: Flags::from_bits(0x00c0_0000),
-        authtime: time(0),
-        starttime: Some(time(0)),
-        endtime: time(36_000),
-        renew_till: Some(time(86_400)),
+fn wanted(given: &Option<Given>) -> Option<(Times, Flags)> {
+    match given {
+        Some(given) => Some(times(*given)),
+        None => None,
     }
 }
 
-/// Returns the times and flags from the TGS exchange, this many seconds after midnight.
-fn exchanged(
-    octets: &[u8],
-    ticket: &TicketTerms,
-    later: u32,
-) -> Result<Option<(Times, Flags)>, DerFault> {
+/// Options, the requested end, the greatest renewable lifetime of the realm, and the times. A ticket has the lifetime
+/// that the realm allows, one that ends early is renewable, and none ends before it starts.
+const FROM_MIDNIGHT: &[(u32, &[u8; 15], u32, Option<Given>)] = &[
+    (0, NO_BOUND, 0, Some((0, 36_000, None, 0x0040_0000))),
+    (
+        RENEWABLE_OK,
+        NO_BOUND,
+        0,
+        Some((0, 36_000, None, 0x0040_0000)),
+    ),
+    (
+        RENEWABLE_OK,
+        NEXT_DAY,
+        604_800,
+        Some((0, 36_000, Some(86_400), 0x00c0_0000)),
+    ),
+    (0, THAT_DAY, 0, None),
+];
+
+#[test]
+fn times_of_the_as_exchange(rt: HostRuntime) {
+    for (options, till, renewable, given) in FROM_MIDNIGHT {
+        let found = granted(&body(*options, *till), *renewable);
+        same(&rt, &(options, renewable), &found, &Ok(wanted(given)));
+    }
+    // A later start is for postdated tickets.
+    let postdated = body_from(POSTDATED);
+    let found = (
+        granted(&postdated, 0),
+        starts_late(&postdated),
+        starts_late(&body_from(0)),
+    );
+    let given = times((3_600, 39_600, None, 0x0740_0000));
+    same(
+        &rt,
+        &"POSTDATED",
+        &found,
+        &(Ok(Some(given)), Ok(false), Ok(true)),
+    );
+}
+
+/// Returns the times and flags from the TGS exchange with this ticket of midnight, this many seconds later.
+fn exchanged(options: u32, given: Given, later: u32) -> Result<Option<(Times, Flags)>, DerFault> {
     let policy = Policy::default();
     let at = Moment {
         sec: MIDNIGHT + i64::from(later),
         usec: 0,
     };
-    let body: ReqBodyRef<'_> = read(octets)?;
+    let (times, flags) = times(given);
+    let ticket = TicketTerms {
+        flags,
+        authtime: time(0),
+        starttime: Some(times.start),
+        endtime: times.end,
+        renew_till: times.renew_till,
+    };
+    let octets = body(options, NO_BOUND);
+    let body: ReqBodyRef<'_> = read(&octets)?;
     Ok(
-        match tgs_times(at, ticket, &policy, &policy, &limits(0), &body) {
-            Some(times) => Some((times, tgs_flags(&body, ticket, &policy, &times))),
+        match tgs_times(at, &ticket, &policy, &policy, &limits(0), &body) {
+            Some(times) => Some((times, tgs_flags(&body, &ticket, &policy, &times))),
             None => None,
         },
     )
 }
 
-#[test]
-fn a_renewed_ticket_has_the_same_lifetime_again(rt: HostRuntime) {
-    let times = Times {
-        start: time(36_300),
-        end: time(72_300),
-        renew_till: Some(time(86_400)),
-    };
-    let flags = Flags::from_bits(0x0080_0000);
-    let ticket = renewable_ticket();
-    let renewed = exchanged(&body(RENEW, NO_BOUND), &ticket, 36_300);
-    same(&rt, &"RENEW", &renewed, &Ok(Some((times, flags))));
-}
+/// Options, a ticket, how long after midnight it is presented, and the new times. A renewed ticket has the same
+/// lifetime again, a validated one keeps its times, and another ends with the old one.
+const LATER: &[(u32, Given, u32, Given)] = &[
+    (
+        RENEW,
+        RENEWABLE,
+        36_300,
+        (36_300, 72_300, Some(86_400), 0x0080_0000),
+    ),
+    (
+        VALIDATE,
+        (3_600, 39_600, None, 0x0740_0000),
+        3_600,
+        (3_600, 39_600, None, 0x0600_0000),
+    ),
+    (0, RENEWABLE, 35_000, (35_000, 36_000, None, 0)),
+];
+
+/// A ticket that is renewable until the next day.
+const RENEWABLE: Given = (0, 36_000, Some(86_400), 0x00c0_0000);
 
 #[test]
-fn a_validated_ticket_keeps_its_times(rt: HostRuntime) {
-    let ticket = TicketTerms {
-        flags: Flags::from_bits(0x0740_0000),
-        authtime: time(0),
-        starttime: Some(time(3_600)),
-        endtime: time(39_600),
-        renew_till: None,
-    };
-    let times = Times {
-        start: time(3_600),
-        end: time(39_600),
-        renew_till: None,
-    };
-    let flags = Flags::from_bits(0x0600_0000);
-    let validated = exchanged(&body(VALIDATE, NO_BOUND), &ticket, 3_600);
-    same(&rt, &"VALIDATE", &validated, &Ok(Some((times, flags))));
-}
-
-#[test]
-fn a_new_ticket_ends_with_the_old_one(rt: HostRuntime) {
-    let ticket = renewable_ticket();
-    let times = Times {
-        start: time(35_000),
-        end: time(36_000),
-        renew_till: None,
-    };
-    let no_flags = Flags::from_bits(0);
-    let exchanged = exchanged(&body(0, NO_BOUND), &ticket, 35_000);
-    same(&rt, &"no option", &exchanged, &Ok(Some((times, no_flags))));
+fn times_of_the_tgs_exchange(rt: HostRuntime) {
+    for (options, ticket, later, given) in LATER {
+        let found = exchanged(*options, *ticket, *later);
+        same(&rt, options, &found, &Ok(Some(times(*given))));
+    }
 }
