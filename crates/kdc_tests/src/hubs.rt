@@ -146,16 +146,17 @@ const CASES: &[Case] = &[
         ways: &[&[(b'c', 256, b'f')]],
         ..EACH
     },
-    Case {
-        what: "a step out of memory ends only its connection",
-        comes: STEPS,
-        rounds: 4,
-        events: 4,
-        all_calls: 8,
-        ways: STEPS_DONE,
-        ..EACH
-    },
 ];
+
+const OUT_OF_MEMORY: &[Case] = &[Case {
+    what: "a step out of memory ends only its connection",
+    comes: STEPS,
+    rounds: 4,
+    events: 4,
+    all_calls: 8,
+    ways: STEPS_DONE,
+    ..EACH
+}];
 
 fn now() -> Result<Moment, Fail> {
     Ok(Moment::new(1_704_067_200, 0).ok_or("a moment")?)
@@ -339,10 +340,15 @@ fn expect(rt: &(impl AllocGlobal + Abort), cases: &[Case]) -> Result<(), Fail> {
     Ok(())
 }
 
-// Passes if any one allocation of a hub fails (`rt try --test --fail-alloc N`).
 #[test]
 fn events_are_served(rt: HostRuntime) -> Result<(), Fail> {
     expect(&rt, CASES)
+}
+
+// Passes if any one allocation of the hub fails (`rt try --test --fail-alloc N`).
+#[test]
+fn a_step_out_of_memory_ends_only_its_connection(rt: HostRuntime) -> Result<(), Fail> {
+    expect(&rt, OUT_OF_MEMORY)
 }
 
 #[test]
