@@ -1,0 +1,10 @@
+//! Tests of `client_login` and `krb5_conf`: what no command line of `kclient` shows. `tools/try_kclient.py` tries the
+//! rest with the program.
+#![tactic(auto)]
+
+#[cfg(test)]
+mod logins;
+#[cfg(test)]
+mod network;
+#[cfg(test)]
+mod realms;

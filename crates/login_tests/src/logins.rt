@@ -1,0 +1,100 @@
+//! Logins of one client, one after another.
+use crate::network::{SECOND_PORT, Said, SaidNetwork};
+use client_login::{
+    KdcClient, Kdcs, Login, Password, Secret, Transports, Wishes, granting_service,
+};
+use cred_files::Principal;
+use krb_elements::{KerberosString, Octets};
+use krb_fields::{Moment, Name, component_from_text};
+use rand_chacha::ChaCha20Rng;
+use rand_core::SeedableRng;
+use std::alloc::Global;
+use std::net::SocketAddr;
+use std::process::Abort;
+use std::test::Fail;
+
+type Client = KdcClient<SaidNetwork>;
+
+/// A client of two KDCs.
+fn client(alloc: Global) -> Result<Client, Fail> {
+    let at = Moment::new(1_704_067_200, 0).ok_or("a moment")?;
+    let first = SocketAddr::from(([192, 0, 2, 1], 88));
+    let second = SocketAddr::from(([192, 0, 2, 2], SECOND_PORT));
+    let addresses = Vec::from_array(alloc, [first, second])?;
+    let exchange = SaidNetwork {
+        said: Said::Nothing,
+        ways: String::new(alloc),
+    };
+    Ok(KdcClient {
+        kdcs: Kdcs::new(exchange, addresses, Transports::UdpFirst),
+        at,
+    })
+}
+
+fn login(alloc: Global) -> Result<Login, Fail> {
+    let realm: KerberosString = component_from_text(alloc, "A.B")?;
+    let name = Name::from_text(alloc, "u")?;
+    let service = granting_service(alloc, &realm)?;
+    Ok(Login {
+        client: Principal { realm, name },
+        service,
+        wishes: Wishes::PLAIN,
+    })
+}
+
+/// Logs in, and returns why there is no ticket.
+fn fault(alloc: Global, client: &mut Client) -> Result<String, Fail> {
+    let login = login(alloc)?;
+    let secret = Secret::Password(Password {
+        octets: Octets::from_slice(alloc, b"password")?,
+        least_count: None,
+    });
+    let mut rng = ChaCha20Rng::from_seed([7; 32]);
+    match client.log_in(alloc, &mut rng, &login, &secret) {
+        Ok(_) => Ok(String::from_str(alloc, "a ticket")?),
+        Err(fault) => Ok(format!(in alloc; "{fault}")?),
+    }
+}
+
+/// What each message of a login gets; why there is no ticket, and the messages.
+const LOGINS: &[(Said, &str, &str)] = &[
+    // a KDC that is silent is not asked first afterwards
+    (Said::Nothing, "no KDC replied: timed out", "utUT"),
+    (
+        Said::Error(6),
+        "192.0.2.1:88: error 6: the client is not in the database",
+        "u",
+    ),
+    (
+        Said::Error(29),
+        "192.0.2.1:88: error 29: a service is not available",
+        "uU",
+    ),
+    // where memory runs out, nothing more is sent
+    (Said::NoMemory, "out of memory", "u"),
+];
+
+fn expect_fault(
+    rt: &impl Abort,
+    alloc: Global,
+    client: &mut Client,
+    said: Said,
+    text: &str,
+    ways: &str,
+) -> Result<(), Fail> {
+    client.kdcs.exchange.said = said;
+    client.kdcs.exchange.ways.clear();
+    let found = fault(alloc, client)?;
+    assert_eq!(rt; found.as_str(), text);
+    assert_eq!(rt; client.kdcs.exchange.ways.as_str(), ways, "{text}");
+    Ok(())
+}
+
+#[test]
+fn kdcs_are_asked_until_one_may_do_no_better(rt: HostRuntime) -> Result<(), Fail> {
+    let mut client = client(rt.alloc())?;
+    for (said, text, ways) in LOGINS {
+        expect_fault(&rt, rt.alloc(), &mut client, *said, text, ways)?;
+    }
+    Ok(())
+}
