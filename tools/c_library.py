@@ -19,7 +19,10 @@ LIBRARY = CRATE / "out" / "libap_accept_c.a"
 
 def kit():
     """The toolchain's folder."""
-    return pathlib.Path(os.path.realpath(shutil.which("rt"))).parent.parent
+    command = shutil.which("rt")
+    if not command:
+        raise FileNotFoundError("the toolchain's command rt is not on the path")
+    return pathlib.Path(os.path.realpath(command)).parent.parent
 
 
 def main():

@@ -15,8 +15,10 @@ import sys
 import threading
 import time
 
+from c_library import kit
 from kerberos import as_req, elements, fields
 
+TOOLS = pathlib.Path(__file__).resolve().parent
 REALM = "A.B"
 
 
@@ -247,6 +249,15 @@ def programs_in(folder, names=("kadm", "kdcd", "kclient")):
         if not found[name]:
             sys.exit(f"{name} is not there: {' or '.join(places)}")
     return found
+
+
+def fixed_system(folder):
+    """The library that sets what the system shows to a program (`fixed_system.c`). It is made in this folder, once."""
+    made = pathlib.Path(folder, "fixed_system.so")
+    if not made.exists():
+        compiler = [kit() / "toolchain" / "bin" / "clang", "-fuse-ld=lld", "-O1", "-shared", "-fPIC", "-nostdlib", "-fno-builtin"]
+        subprocess.run([*compiler, TOOLS / "fixed_system.c", "-o", made], check=True)
+    return str(made)
 
 
 def free_port():

@@ -176,11 +176,6 @@ class Stock:
         if not shutil.which("kinit", path=self.environment["PATH"]):
             raise Missing("MIT's kinit")
 
-    def fixed_system(self):
-        """Compiles the library that is preloaded into `kadm`, if that is possible."""
-        if self.can_compile(PROBE):
-            self.compile("fixed_system", "-shared", "-fPIC", "-ldl")
-
     def services(self):
         """Builds the library for C, and compiles the programs over it, once."""
         with self.alone:
@@ -228,7 +223,6 @@ def parts(stock):
     """The parts, the longest first."""
     made = {name: stock.scratch / name for name in ("ap_client", "mk_req", "ap_service", "ap_judged")}
     words = [word for name, place in made.items() for word in (f"--{name.replace('_', '-')}", place)]
-    system = stock.scratch / "fixed_system"
     roots = [word for name, root in stock.roots.items() for word in (f"--{name}", root)]
     operator = lambda each: Part(f"operators: {each}", script("try_operators.py", "--only", each, "--requests", REQUESTS))
     client = lambda each, *needs: Part(f"clients of {each}", script("try_client.py", "--only", each, *roots), *needs)
@@ -242,7 +236,7 @@ def parts(stock):
         *map(operator, ("stock", "words", "log", "limits", "pairs", "kclient")),
         *map(fault, ("memory", "each", "killed", "journal")),
         Part("kadm killed at its calls", script("kill_kadm.py", "--every", 7), stock.strace),
-        Part("sessions of kadm", script("try_sessions.py", "--system", system), stock.fixed_system),
+        Part("sessions of kadm", script("try_sessions.py")),
         Part("command lines of kclient", script("try_kclient.py")),
         client("kdcd"), client("mit", lambda: stock.need("mit")), client("heimdal", lambda: stock.need("heimdal")),
         *map(operator, ("lock", "change", "kadm", "addresses", "terminal")),

@@ -1,7 +1,7 @@
 #!/usr/bin/env python3
 """Tries the built `kdcd serve` on a stage: its clock shows what a file says, its calls of the system are listed, and single ones fail. So it is
-tried in each second of a start, of a journal and of a clock that goes back, and with the bytes and keys of a model. It needs Linux and Python 3,
-and the toolchain or a C compiler `cc`.
+tried in each second of a start, of a journal and of a clock that goes back, and with the bytes and keys of a model. It needs Linux, Python 3 and
+the toolchain.
 
     python3 tools/try_server.py [--programs FOLDER] [--only PART ..]
 
@@ -20,16 +20,15 @@ import select
 import shutil
 import signal
 import socket
-import subprocess
 import tempfile
 import time
 
 import staged_realm as realm
-from c_library import kit
 from kerberos import as_req, elements, fields, tgs_req, ticket_in, time_of
-from trial import PATIENCE, REALM, SLOWNESS, Server, Trial, answer, ask_udp, datagrams, drained, ending, free_port, place_of, programs_in
+from trial import (
+    PATIENCE, REALM, SLOWNESS, TOOLS, Server, Trial, answer, ask_udp, datagrams, drained, ending, fixed_system, free_port, place_of, programs_in,
+)
 
-STAGE = pathlib.Path(__file__).resolve().parent / "stage.c"
 # The first second of 2024, and for how many seconds a restart then refuses all TGS-REQs.
 T, REFUSING = 1_704_067_200, 301
 # A server looks at the file of its rows before each of this many rounds.
@@ -48,17 +47,11 @@ def utc(second):
 
 
 class Staged(Trial):
-    """Commands on a stage (`stage.c`)."""
+    """Commands on a stage: a folder with the settings of `fixed_system.c` and the list of calls."""
 
-    def build(self):
-        """Compiles the stage. Returns whether there is a compiler."""
-        own = shutil.which("rt") and kit() / "toolchain" / "bin" / "clang"
-        compiler = [own, "-fuse-ld=lld"] if own and own.exists() else [shutil.which("cc")]
-        if compiler[0]:
-            made = self.folder.parent / "stage.so"
-            subprocess.run([*compiler, "-O1", "-shared", "-fPIC", "-nostdlib", STAGE, "-o", made], check=True)
-            self.environment |= {"LD_PRELOAD": str(made), "STAGE": "stage"}
-        return bool(compiler[0])
+    def __init__(self, programs, folder):
+        super().__init__(programs, folder)
+        self.environment |= {"LD_PRELOAD": fixed_system(folder), "STAGE": "stage", "CALLS": "stage/calls"}
 
     def enter(self, name):
         """Makes another folder, with a stage whose clock shows the first second of 2024, and with a database."""
@@ -72,9 +65,13 @@ class Staged(Trial):
         self.write(f"{name}.beside", text)
         os.replace(self.folder / f"{name}.beside", self.folder / name)
 
+    def set(self, name, text):
+        """Sets what the system shows."""
+        self.put(f"stage/{name}", text)
+
     def show(self, second):
         """Sets the clock."""
-        self.put("stage/clock", str(second))
+        self.set("CLOCK", str(second))
 
     def rows(self, *rows, name="database", of=REALM):
         """Replaces the file of a database."""
@@ -149,8 +146,8 @@ class Buyer:
 
 # The steps of a start, by the calls that show them.
 STEPS = {
-    "open database": "rows", "open none": "rows", "open seed": "seed", "open short": "seed", "random ": "random", "bind ": "sockets",
-    "open run/journal": "journal", "clock ": "clock",
+    "open database": "rows", "open none": "rows", "open seed": "seed", "open short": "seed", "getentropy": "random", "bind": "sockets",
+    "open run/journal": "journal", "clock_gettime": "clock",
 }
 # The options of a start, and its steps in order.
 STARTS = {
@@ -184,8 +181,8 @@ def try_starts(trial):
             (f"--db database --seed seed --udp 127.0.0.1:{port}", "rows seed sockets", 3, f"udp 127.0.0.1:{port}: "),
         ):
             trial.same(f"a start that fails after {wanted}", steps_of(trial, words, status, text), (wanted, ""))
-    trial.show("")
-    found = steps_of(trial, "--db database --seed seed", 3, "=failed", "the clock: Invalid argument")
+    trial.set("FAILS", "clock_gettime")
+    found = steps_of(trial, "--db database --seed seed", 3, "=failed", "the clock: Input/output error")
     trial.same("a start whose clock fails", found, ("rows seed sockets clock", ""))
     try_files(trial)
 
@@ -330,7 +327,7 @@ def try_flags(trial):
     words = spelled("UDP:0 --udp 127.0.0.2:0 TCP:0 --journal k --quiet-start --remembered 1 --lock-after 2 --lock-seconds 3 --greatest-life 4 "
                     "--greatest-renewable 5")
     for boot, news in (("one", "there is none"), ("another", "the system was booted since")):
-        trial.write("stage/boot", f"{boot}\n")
+        trial.set("BOOT", boot)
         found = without_ports(trial.run(f"kdcd serve --db d --rounds 0 {words}").err)
         trial.same(f"what is said of a journal: {news}", found, said_at_start(words, f"journal k: not resumed: {news}"))
 
@@ -562,7 +559,7 @@ def try_journals(trial):
     trial.enter("journals")
     run = trial.folder / "run"
     run.mkdir()
-    trial.write("stage/boot", "one\n")
+    trial.set("BOOT", "one")
     trial.same("a start without a journal", resumed(trial, T), ABSENT)
     buyer, found, said = sells(trial, None, 0, (300, 301, 302))
     trial.same("a server sells tickets from its floor on", (found, said), (["37", "ticket", "ticket"], [ABSENT]))
@@ -582,9 +579,9 @@ def try_journals(trial):
     trial.same("a server goes on with two files", (found, said), (["ticket"], ["resumed with 5 authenticators"]))
     trial.same("a start after the first file was dropped", resumed(trial, T + 1202), "resumed with 3 authenticators")
     try_floor(trial, buyer, T + 1202, T + 902)
-    trial.write("stage/boot", "another\n")
+    trial.set("BOOT", "another")
     trial.same("a start after another boot", resumed(trial, T + 1202), "not resumed: the system was booted since")
-    trial.write("stage/boot", "one\n")
+    trial.set("BOOT", "one")
     (run / "journal.old").unlink()
     trial.same("a start without the older file", resumed(trial, T + 1202), "not resumed: the journal that goes before it is missing")
     trial.rows(realm.TGS_OF_A_C, name="other", of="A.C")
@@ -684,13 +681,13 @@ def try_logs(trial):
         wanted, start = "", len(server.said())
         for number, ((way, request), lines) in enumerate(zip(EVENTS, LOGGED)):
             if number == of:
-                trial.put("stage/failing", failing)
+                trial.set("FAILS", failing)
             own = sent(server, way, request)
             wanted += "".join(f"{utc(T)} {own} {way} {line}\n" for line in lines)
             server.wait(lambda: len(server.said()) >= start + len(wanted), 5)
         turned = len(server.said())
         turn(server)
-        has_failed = not (trial.folder / "stage" / "failing").exists()
+        has_failed = not (trial.folder / "stage" / "FAILS").exists()
         what = f"if {failing} fails for request {of}" if failing else "if no call fails"
         trial.same(f"each request has its line, {what}", (server.said()[start:turned], has_failed), (wanted, True))
         server.end()
@@ -818,14 +815,11 @@ PARTS = {
 
 def main():
     words = argparse.ArgumentParser(description=__doc__, formatter_class=argparse.RawDescriptionHelpFormatter)
-    words.add_argument("--programs", default=pathlib.Path(__file__).resolve().parent.parent / "crates")
+    words.add_argument("--programs", default=TOOLS.parent / "crates")
     words.add_argument("--only", nargs="+", choices=PARTS, default=list(PARTS), metavar="PART", help=", ".join(PARTS))
     words = words.parse_args()
     with tempfile.TemporaryDirectory() as folder, ending():
         trial = Staged(programs_in(words.programs, ("kdcd",)), pathlib.Path(folder))
-        if not trial.build():
-            trial.leave("all of it, since there is neither the toolchain nor a C compiler cc")
-            trial.end()
         for part in words.only:
             print(f"{part}: {PARTS[part].__doc__}", flush=True)
             PARTS[part](trial)

@@ -1,14 +1,11 @@
 #!/usr/bin/env python3
 """Runs the sessions in tools/kadm_sessions: command lines of `kadm` over files in a folder, each with what it prints. It needs Linux,
-Python 3 and a shell.
+Python 3, a shell and the toolchain.
 
     (cd crates/kadm && rt run -- --help)
-    cc -shared -fPIC -o fixed_system tools/fixed_system.c -ldl
-    python3 tools/try_sessions.py [--programs FOLDER] [--system ./fixed_system] [--only NAME ..]
+    python3 tools/try_sessions.py [--programs FOLDER] [--only NAME ..]
 
-The first line proves and builds the program. The second builds the library that gives it another clock, known random bytes, a lock that is
-held, or a call that fails. Without it the sessions that need one of these are left out. A session is a file NAME.session. The start of a line
-says what it is:
+The first line proves and builds the program. A session is a file NAME.session. The start of a line says what it is:
 
     # COMMENT
     $ COMMAND    a command line for `sh`; `show_keytab` is tools/show_keytab.py
@@ -20,7 +17,7 @@ says what it is:
     LINE         a line of standard output
 
 A line that ends in ` (no-eol)` has no line feed. Each session begins with the files in FILES. A command that does not succeed has to leave
-all files as they were; it may make an empty lock. `CLOCK=`, `DRAWS=` and `HELD=` are variables of tools/fixed_system.c. A command with
+all files as they were; it may make an empty lock. `CLOCK=`, `DRAWS=` and `HELD=` are settings of tools/fixed_system.c. A command with
 `FAILS=NAME,..` runs once for each of its calls of the system. Another one fails each time, with the result that is written. These names have
 to be among the calls.
 
@@ -28,20 +25,17 @@ The script prints a line for each session, with `ok` or the first result that di
 
 import argparse
 import dataclasses
-import os
 import pathlib
 import re
 import tempfile
 from concurrent.futures import ThreadPoolExecutor
 
-from trial import Notes, Trial, ending, expect, processors, programs_in
+from trial import TOOLS, Notes, Trial, ending, expect, fixed_system, processors, programs_in
 
-TOOLS = pathlib.Path(__file__).resolve().parent
 FOLDER = TOOLS / "kadm_sessions"
 # The files that each session begins with.
 FILES = {"seed": bytes([7] * 40), "short": bytes([7] * 31), "pass": b"password\nmore", "long": b"a" * 1025}
-# A command for which the library is needed, and the calls that fail one after another.
-FIXED = re.compile(r"\b(?:CLOCK|DRAWS|HELD|FAILS)=")
+# The calls that a command has to make, and that fail one after another.
 FAILS = re.compile(r"\bFAILS=([a-z_,]+)")
 
 
@@ -113,18 +107,14 @@ def changes(before, after):
 class Session(Trial):
     """A folder in which the commands of a session are run."""
 
-    def __init__(self, path, programs, folder, system):
+    def __init__(self, path, programs, folder):
         super().__init__({}, folder)
         self.name, self.steps, self.folder = path.stem, steps_of(path), folder / path.stem
         self.folder.mkdir()
         for name, octets in FILES.items():
             self.write(name, octets)
         self.environment["PATH"] = f"{programs}:{self.environment['PATH']}"
-        self.environment |= {"LD_PRELOAD": system} if system else {}
-
-    def is_fixed(self):
-        """Whether a command needs the library."""
-        return any(FIXED.search(step.command) for step in self.steps)
+        self.environment["LD_PRELOAD"] = fixed_system(folder)
 
     def do(self):
         for step in self.steps:
@@ -148,38 +138,32 @@ class Session(Trial):
         return [(FAILS.sub(f"FAILS={turn}", step.command), f": call {turn}, {name}, fails") for turn, name in enumerate(calls, 1)]
 
     def calls_of(self, step):
-        """The calls of a command, which runs in a copy of the folder."""
+        """The names of the calls of a command, which runs in a copy of the folder."""
         copy, command = f"{self.folder}.copy", FAILS.sub("CALLS=calls", step.command)
         ran = self.line(f"rm -rf {copy} && cp -r . {copy} && cd {copy} && {command}")
         expect(f"{step.place()}: the status if no call fails", ran.status, 0)
-        return pathlib.Path(copy, "calls").read_text().split()
+        return [line.split()[0] for line in pathlib.Path(copy, "calls").read_text().splitlines()]
 
 
-def run_all(notes, paths, programs, folder, system):
-    sessions = [Session(path, programs, folder, system) for path in paths]
-    left = [session.name for session in sessions if session.is_fixed() and not system]
-    if left:
-        notes.leave(f"the sessions {', '.join(left)}: they need the library that a C compiler makes of tools/fixed_system.c")
+def run_all(notes, paths, programs, folder):
+    sessions = [Session(path, programs, folder) for path in paths]
     # Most of the time they wait for the disk.
     with ThreadPoolExecutor(2 * processors()) as pool:
-        tried = [session for session in sessions if session.name not in left]
-        list(pool.map(lambda each: notes.check(f"{each.name}: {len(each.steps)} commands", each.do), tried))
+        list(pool.map(lambda each: notes.check(f"{each.name}: {len(each.steps)} commands", each.do), sessions))
 
 
 def main():
     words = argparse.ArgumentParser(description=__doc__, formatter_class=argparse.RawDescriptionHelpFormatter)
     words.add_argument("--programs", default=TOOLS.parent / "crates")
-    words.add_argument("--system", help="the library that tools/fixed_system.c makes")
     words.add_argument("--only", nargs="+", metavar="NAME", help="the sessions with these names")
     words, notes = words.parse_args(), Notes()
-    system = os.path.abspath(words.system) if words.system and os.path.isfile(words.system) else None
     paths = [path for path in sorted(FOLDER.glob("*.session")) if not words.only or path.stem in words.only]
     with tempfile.TemporaryDirectory() as folder, ending():
         programs = pathlib.Path(folder, "programs")
         programs.mkdir()
         (programs / "kadm").symlink_to(programs_in(words.programs, ["kadm"])["kadm"])
         (programs / "show_keytab").symlink_to(TOOLS / "show_keytab.py")
-        run_all(notes, paths, programs, pathlib.Path(folder), system)
+        run_all(notes, paths, programs, pathlib.Path(folder))
     notes.end()
 
 
