@@ -51,10 +51,11 @@ def error(code, e_data=None, ahead=0):
     ))
 
 
-def entry(etype=18, params=None):
-    """An entry of ETYPE-INFO2 with the default salt, and these parameters of string-to-key."""
+def entry(etype=18, params=None, salt=REALM + b"u"):
+    """An entry of ETYPE-INFO2 with this salt, if there is one, and these parameters of string-to-key."""
+    named = [] if salt is None else [field(1, general_string(salt))]
     more = [] if params is None else [field(2, octet_string(params))]
-    return sequence(field(0, integer(etype)), field(1, general_string(REALM + b"u")), *more)
+    return sequence(field(0, integer(etype)), *named, *more)
 
 
 def wanted(*entries):
@@ -151,6 +152,36 @@ def late(kdc, message, sender):
     kdc.udp.sendto(error(6), kdc.senders[0])
     time.sleep(0.2)
     kdc.udp.sendto(error(24), sender)
+
+
+def wants_key(etype, *entries):
+    """Asks for a timestamp, by these entries of ETYPE-INFO2. Answers one under the published key of this type with error
+    6, and any other with error 24."""
+    def send(kdc, message, sender):
+        stamp = timestamp_in(message)
+        if not stamp:
+            return kdc.udp.sendto(wanted(*entries), sender)
+        is_due = stamp[0] == etype and is_opened(KEYS[etype], stamp[1])
+        kdc.udp.sendto(error(6 if is_due else 24), sender)
+    return send
+
+
+def timestamp_in(request):
+    """The encryption type and the cipher of the timestamp in an AS-REQ, if it has one."""
+    padata = fields(request).get(3)
+    for _, contents in elements(elements(padata)[0][1]) if padata else []:
+        parts = {tag - 0xA0: value for tag, value in elements(contents)}
+        if elements(parts[1])[0][1] == b"\2":
+            sealed = fields(elements(parts[2])[0][1])
+            return elements(sealed[0])[0][1][0], elements(sealed[2])[0][1]
+    return None
+
+
+def is_opened(key, cipher):
+    try:
+        return bool(opened(key, 1, cipher))
+    except ValueError:
+        return False
 
 
 class Proxy(Kdc):
@@ -304,12 +335,13 @@ class Hostile(trial.Trial):
             faults.append("the cache is not what it has to be")
         return faults
 
-    def expect_kinit(self, what, kdcs, options, status, out, said, least, most, counts=None):
+    def expect_kinit(self, what, kdcs, options, status, out, said, least, most, counts=None, who=("A.B", "u", "pw")):
         """Runs a `kinit` that asks these addresses, and has to change no file. The first KDC has to get `counts` datagrams
-        and connections."""
+        and connections. `who` is the realm, the client, and the file of the password."""
         before = sorted(self.folder.iterdir())
         addresses = [word for each in kdcs for word in ("--kdc", getattr(each, "address", each))]
-        words = ["kinit", *addresses, "--realm", "A.B", "--name", "u", "--password-file", "pw", "--cache", "cc", *options]
+        as_client = [word for pair in zip(("--realm", "--name", "--password-file"), who) for word in pair]
+        words = ["kinit", *addresses, *as_client, "--cache", "cc", *options]
         ran, took = self.begin(words, CACHE)
         faults = self.faults(ran, took, status, out, (said,), CACHE, least, most)
         if counts and (kdcs[0].datagrams, kdcs[0].connections) != counts:
@@ -329,6 +361,30 @@ COUNTS = (
     *((etype, 32767, WEAK) for etype in (19, 20)),
     *((etype, count, OUT_OF_RANGE) for etype in (17, 18, 19, 20) for count in (0, (1 << 20) + 1, (1 << 32) - 1)),
 )
+
+
+# The keys of RFC 3962, appendix B, for the password "password", the salt "ATHENA.MIT.EDUraeburn" and one iteration, by their types.
+KEYS = {
+    17: bytes.fromhex("42263c6e89f4fc28b8df68ee09799f15"),
+    18: bytes.fromhex("fe697b52bc0d3ce14432ba036a92e65bbb52280990a2fa27883998d72af30161"),
+}
+# The types of the entries of ETYPE-INFO2. The first type that a client supports decides.
+ENTRIES = ((18,), (18, 17), (23, 18, 17), (17, 18))
+
+
+def try_keys(hostile):
+    """Keys from passwords, by entries with the salt, and by entries without it, where it is the default one."""
+    hostile.write("pw.raeburn", "password\n")
+    who, least = ("ATHENA.MIT.EDU", "raeburn", "pw.raeburn"), ("--least-count", "1")
+    for types, salt in itertools.product(ENTRIES, (b"ATHENA.MIT.EDUraeburn", None)):
+        first = next(etype for etype in types if etype in KEYS)
+        entries = [entry(etype, number(1), salt) for etype in types]
+        kdc = Kdc(wants_key(first, *entries), no_connection)
+        what = f"a key by entries of the types {types}, {'with' if salt else 'without'} a salt"
+        hostile.expect_kinit(what, [kdc], least, 1, "refused 6", "error 6", 0, 0, (2, 0), who)
+    kdc = Kdc(datagram(wanted(entry(23, number(1)))), no_connection)
+    said = "the KDC names no key of the client with one of the encryption types 17 to 20"
+    hostile.expect_kinit("an entry of type 23 alone", [kdc], least, 1, "refused CannotOpen", said, 0, 0, (1, 0), who)
 
 
 def try_answers(hostile):
@@ -368,6 +424,7 @@ def try_answers(hostile):
         kdc = Kdc(datagram(wanted(entry(etype, params))), no_connection)
         what = f"s2kparams of {len(params)} octets of type {etype}"
         hostile.expect_kinit(what, [kdc], (), 1, *OUT_OF_RANGE, 0, 0, (1, 0))
+    try_keys(hostile)
     kdc = Kdc(datagram(wanted(entry(18, number(1)))), no_connection)
     least = ("--least-count", "1")
     hostile.expect_kinit("a count of 1 that is asked for", [kdc], least, 1, "refused 25", "error 25", 0, 0, (2, 0))

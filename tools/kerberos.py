@@ -1,6 +1,6 @@
-"""The part of Kerberos that is needed to measure a KDC, in plain Python: DER, encryption type 18 (RFC 3961 and RFC 3962),
-and the requests of a client (RFC 4120). It uses nothing of this repository's own code, and is too slow and too trusting
-for any other use. If Python has the module `cryptography`, AES comes from there."""
+"""The part of Kerberos that is needed to measure a KDC, in plain Python: DER, encryption types 17 and 18 (RFC 3961 and RFC
+3962), and the requests of a client (RFC 4120), of type 18. It uses nothing of this repository's own code, and is too slow
+and too trusting for any other use. If Python has the module `cryptography`, AES comes from there."""
 
 import functools
 import hashlib
@@ -77,7 +77,7 @@ def fields(octets):
     return {tag - 0xA0: value for tag, value in elements(contents)}
 
 
-# AES (FIPS 197), with keys of 32 bytes.
+# AES (FIPS 197), with keys of 16 or 32 bytes.
 
 
 def times_x(octet):
@@ -110,24 +110,24 @@ UNMIX = [[column(octet, (14, 9, 13, 11)[-row:] + (14, 9, 13, 11)[:-row]) for oct
 
 @functools.lru_cache(1024)
 def round_keys(key):
-    """The 15 round keys, of four words each."""
-    words = [int.from_bytes(key[place:place + 4], "big") for place in range(0, 32, 4)]
-    constant = 1
-    for place in range(8, 60):
+    """The 11 or 15 round keys, of four words each."""
+    words = [int.from_bytes(key[place:place + 4], "big") for place in range(0, len(key), 4)]
+    length, constant = len(words), 1
+    for place in range(length, 4 * length + 28):
         word = words[-1]
-        if place % 8 == 0:
+        if place % length == 0:
             word = (word << 8 | word >> 24) & 0xFFFFFFFF
-        if place % 4 == 0:
+        if place % length == 0 or length == 8 and place % 4 == 0:
             word = int.from_bytes(bytes(BOX[octet] for octet in word.to_bytes(4, "big")), "big")
-        if place % 8 == 0:
+        if place % length == 0:
             word, constant = word ^ constant << 24, times_x(constant)
-        words.append(words[place - 8] ^ word)
-    return [words[place:place + 4] for place in range(0, 60, 4)]
+        words.append(words[place - length] ^ word)
+    return [words[place:place + 4] for place in range(0, len(words), 4)]
 
 
 def encrypt_block(keys, block):
     state = [int.from_bytes(block[4 * c:4 * c + 4], "big") ^ keys[0][c] for c in range(4)]
-    for key in keys[1:14]:
+    for key in keys[1:-1]:
         state = [
             MIX[0][state[c] >> 24] ^ MIX[1][state[(c + 1) % 4] >> 16 & 0xFF] ^ MIX[2][state[(c + 2) % 4] >> 8 & 0xFF]
             ^ MIX[3][state[(c + 3) % 4] & 0xFF] ^ key[c]
@@ -138,12 +138,12 @@ def encrypt_block(keys, block):
         | BOX[state[(c + 3) % 4] & 0xFF]
         for c in range(4)
     ]
-    return b"".join((last[c] ^ keys[14][c]).to_bytes(4, "big") for c in range(4))
+    return b"".join((last[c] ^ keys[-1][c]).to_bytes(4, "big") for c in range(4))
 
 
 def decrypt_block(keys, block):
-    state = [int.from_bytes(block[4 * c:4 * c + 4], "big") ^ keys[14][c] for c in range(4)]
-    for key in keys[13::-1]:
+    state = [int.from_bytes(block[4 * c:4 * c + 4], "big") ^ keys[-1][c] for c in range(4)]
+    for key in keys[-2::-1]:
         state = [
             UNBOX[state[c] >> 24] << 24 | UNBOX[state[c - 1] >> 16 & 0xFF] << 16 | UNBOX[state[c - 2] >> 8 & 0xFF] << 8
             | UNBOX[state[c - 3] & 0xFF]
@@ -199,7 +199,7 @@ def decrypt(key, cipher):
     return cbc_decrypt(key, b"".join([*whole, full, before]))[:len(cipher)]
 
 
-# Encryption type 18, and its checksum of type 16 (RFC 3961, section 5, and RFC 3962).
+# Encryption types 17 and 18, and their checksums of types 15 and 16 (RFC 3961, section 5, and RFC 3962).
 
 
 def folded(octets, size):
@@ -218,7 +218,7 @@ def folded(octets, size):
 
 @functools.lru_cache(1024)
 def derived(key, usage, kind):
-    return cbc_encrypt(key, folded(usage.to_bytes(4, "big") + bytes([kind]), 16) + bytes(16))
+    return cbc_encrypt(key, folded(usage.to_bytes(4, "big") + bytes([kind]), 16) + bytes(16))[:len(key)]
 
 
 def key_of(password, salt):
