@@ -1,7 +1,6 @@
 //! Tests of the acceptor, `ap_accept`.
 
 mod acceptances;
-mod fixtures;
+mod made;
 mod made_by_mit;
-mod mit;
 mod requests;

@@ -1,9 +1,5 @@
 //! Tests of `client_core`. The expected values come from the standards, and from models of the messages and of the
 //! cryptography in Python.
 
-mod fixtures;
-mod hostile;
-mod passwords;
+mod messages;
 mod replies;
-mod requests;
-mod services;

@@ -6,6 +6,16 @@
 #[cfg(test)]
 mod acceptor;
 #[cfg(test)]
+mod asking;
+#[cfg(test)]
+mod bytes;
+#[cfg(test)]
 mod client;
 #[cfg(test)]
+mod contents;
+#[cfg(test)]
+mod outcomes;
+#[cfg(test)]
 mod paths;
+#[cfg(test)]
+mod services;

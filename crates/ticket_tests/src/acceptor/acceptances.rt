@@ -1,207 +1,245 @@
-//! Tests of the answers of an acceptor for `h` in `A.B`.
-use crate::acceptor::fixtures::{accept, octets, opened, up};
-use crate::acceptor::requests::{ACCEPTED, MUTUAL, OTHER_CLIENT, REFUSED, REPLY, SECOND};
-use ap_accept::{Accepted, Acceptor, ApFault, ApRefusal};
-use cred_files::{Keytab, KeytabEntry};
-use enctypes::{Etype, Key};
-use krb_elements::KerberosString;
-use krb_fields::Name;
+//! Tests of the answers of an acceptor.
+use crate::acceptor::made::{Made, is_as_made};
+use crate::acceptor::made_by_mit::{KEYTAB, MADE, MADE_AT};
+use crate::acceptor::requests::{CODES, FULL, LATER_CODES, MADE_IN_PYTHON, TWICE};
+use crate::asking::{MIDNIGHT, moment};
+use crate::bytes::{octets, up};
+use crate::services::{OWN, limits, opened};
+use ap_accept::{Acceptor, ApFault, ApRefusal};
+use krb_fields::Moment;
 use std::alloc::Global;
 use std::test::Fail;
 
-/// The start of 2024, in seconds since 1970.
-const MIDNIGHT: i64 = 1_704_067_200;
-
-/// Returns an acceptor whose replay cache has this many places for each client.
-fn acceptor(alloc: Global, remembered: u32) -> Result<Acceptor, Fail> {
-    let entry = KeytabEntry {
-        realm: KerberosString::from_slice(alloc, b"A.B")?,
-        name: Name::new(alloc, 1, &[b"h"])?,
-        version: 1,
-        key: Key::from_random(Etype::Aes256CtsHmacSha1_96, &up(160)),
-    };
-    let entries = vec![in alloc; entry]?;
-    opened(alloc, Keytab::new(alloc, &entries)?, remembered)
+/// AP-REQs that come to one acceptor, one after the other.
+struct Trial {
+    /// The keytab in hexadecimal digits.
+    keytab: &'static str,
+    /// The places for each client in the replay cache.
+    remembered: u32,
+    /// When they come, in seconds after the start of 2024.
+    after: i64,
+    /// Those that are accepted once.
+    made: &'static [Made],
+    /// More of them, each with the code of its refusal, or 0.
+    codes: &'static [(i32, &'static str)],
 }
 
-/// A test of an acceptor.
-#[derive(Clone, Copy)]
-enum Trial {
-    Once,
-    EachRule,
-    Full,
-    Parts,
-    OutOfMemory,
-}
+/// No AP-REQs.
+const NONE: Trial = Trial {
+    keytab: OWN,
+    remembered: 64,
+    after: 0,
+    made: &[],
+    codes: &[],
+};
 
-/// Checks the answers of an acceptor. Only this function makes one and drops it.
-fn holds(alloc: Global, trial: Trial) -> Result<bool, Fail> {
-    let remembered = if matches!(trial, Trial::Full) { 1 } else { 64 };
-    let mut acceptor = acceptor(alloc, remembered)?;
-    answers(alloc, &mut acceptor, trial)
-}
+// A table that a function names costs its proof the more the longer its texts are together, so each test has its own.
 
-fn answers(alloc: Global, acceptor: &mut Acceptor, trial: Trial) -> Result<bool, Fail> {
-    match trial {
-        Trial::Once => accepts_once(alloc, acceptor),
-        Trial::EachRule => has_each_code(alloc, acceptor),
-        Trial::Full => is_full_for_one(alloc, acceptor),
-        Trial::Parts => takes_no_part(alloc, acceptor),
-        Trial::OutOfMemory => are_accepted_once(alloc, acceptor),
-    }
-}
+const MADE_TRIALS: &[Trial] = &[
+    Trial {
+        keytab: KEYTAB,
+        after: MADE_AT - MIDNIGHT,
+        made: MADE,
+        ..NONE
+    },
+    Trial {
+        made: MADE_IN_PYTHON,
+        ..NONE
+    },
+];
 
-/// Returns the answer to an AP-REQ in hexadecimal digits.
-fn accept_digits(
+const CODE_TRIALS: &[Trial] = &[Trial {
+    codes: CODES,
+    ..NONE
+}];
+
+const LATER_TRIALS: &[Trial] = &[Trial {
+    codes: LATER_CODES,
+    ..NONE
+}];
+
+const CACHE_TRIALS: &[Trial] = &[
+    Trial {
+        remembered: 1,
+        codes: FULL,
+        ..NONE
+    },
+    // If one allocation fails, the replay cache is unchanged, and the same AP-REQ is accepted afterwards.
+    Trial {
+        codes: TWICE,
+        ..NONE
+    },
+];
+
+/// Returns why an AP-REQ is not accepted, or whether its contents are these, if there are any. The confounder of an
+/// AP-REP is the bytes 48 to 63.
+fn answer(
     alloc: Global,
     acceptor: &mut Acceptor,
-    digits: &str,
-) -> Result<Result<Accepted, ApFault>, Fail> {
-    accept(alloc, acceptor, MIDNIGHT, &octets(alloc, digits)?)
-}
-
-/// Returns the code of a refusal, or 0 if the AP-REQ is accepted.
-fn code(alloc: Global, acceptor: &mut Acceptor, digits: &str) -> Result<i32, Fail> {
-    match accept_digits(alloc, acceptor, digits)? {
-        Ok(_) => Ok(0),
-        Err(ApFault::Refused(refusal)) => Ok(refusal.code().number()),
-        Err(fault) => Err(fault.into()),
+    at: Moment,
+    octets: &[u8],
+    made: Option<&Made>,
+) -> Result<bool, ApFault> {
+    match acceptor.accept(alloc, at, &up(48), octets) {
+        Ok(accepted) => match made {
+            Some(made) => Ok(is_as_made(alloc, &accepted, made)),
+            None => Ok(true),
+        },
+        Err(fault) => Err(fault),
     }
 }
 
-/// Checks whether the contents are those of `MUTUAL`.
-fn is_mutual(alloc: Global, accepted: &Accepted) -> Result<bool, Fail> {
-    let reply = octets(alloc, REPLY)?;
-    let client = Name::new(alloc, 1, &[b"u"])?;
-    let has_subkey = match &accepted.subkey {
-        Some(key) => {
-            key.etype() == Etype::Aes128CtsHmacSha1_96 && key.bytes() == up::<16>(0).as_slice()
+/// Returns the same, and tries once more if memory ran out. So the tests pass if any one allocation of an acceptor
+/// fails.
+fn answer_at_last(
+    alloc: Global,
+    acceptor: &mut Acceptor,
+    at: Moment,
+    octets: &[u8],
+    made: Option<&Made>,
+) -> Result<bool, ApFault> {
+    match answer(alloc, acceptor, at, octets, made) {
+        Err(ApFault::Memory) => answer(alloc, acceptor, at, octets, made),
+        found => found,
+    }
+}
+
+/// Inverts the lowest bit of a byte.
+fn flip(octets: &mut [u8], place: usize) {
+    if let Some(octet) = octets.get_mut(place) {
+        *octet ^= 1;
+    }
+}
+
+/// Checks whether this rule refuses the AP-REQ with any one byte of the cipher changed.
+fn is_sealed(
+    alloc: Global,
+    acceptor: &mut Acceptor,
+    at: Moment,
+    octets: &mut [u8],
+    (start, end): (usize, usize),
+    rule: ApRefusal,
+) -> bool {
+    for place in start..end {
+        flip(octets, place);
+        let found = answer_at_last(alloc, acceptor, at, octets, None);
+        flip(octets, place);
+        if found != Err(ApFault::Refused(rule)) {
+            return false;
         }
-        None => false,
-    };
-    let has_number = match accepted.seq_number {
-        Some(number) => number.get() == 7,
-        None => false,
-    };
-    let has_checksum = match &accepted.cksum {
-        Some(cksum) => cksum.number == 16 && cksum.octets.as_slice() == up::<12>(200).as_slice(),
-        None => false,
-    };
-    let has_reply = match &accepted.ap_rep {
-        Some(octets) => octets.as_slice() == reply.as_slice(),
-        None => false,
-    };
+    }
+    start < end
+}
+
+/// Checks whether no proper prefix is an AP-REQ.
+fn is_whole(alloc: Global, acceptor: &mut Acceptor, at: Moment, octets: &[u8]) -> bool {
+    for end in 0..octets.len() {
+        let found = answer_at_last(alloc, acceptor, at, &octets[..end], None);
+        if found != Err(ApFault::NotAnApReq) {
+            return false;
+        }
+    }
+    true
+}
+
+/// Checks whether an AP-REQ is accepted once. If `changed`, parts of it and changed ones come first.
+fn is_judged(
+    alloc: Global,
+    acceptor: &mut Acceptor,
+    at: Moment,
+    made: &Made,
+    changed: bool,
+) -> Result<bool, Fail> {
+    let (ticket, authenticator) = (made.ticket_cipher, made.authenticator_cipher);
+    let mut octets = octets(alloc, made.ap_req)?;
+    let is_safe = !changed
+        || is_sealed(
+            alloc,
+            acceptor,
+            at,
+            &mut octets,
+            ticket,
+            ApRefusal::TicketNotOpened,
+        ) && is_sealed(
+            alloc,
+            acceptor,
+            at,
+            &mut octets,
+            authenticator,
+            ApRefusal::AuthenticatorNotOpened,
+        ) && is_whole(alloc, acceptor, at, &octets);
+    let repeated = Err(ApFault::Refused(ApRefusal::Repeated));
     Ok(
-        accepted.client.is(b"A.B", &client)
-            && accepted.session_key.bytes() == up::<32>(64).as_slice()
-            && accepted.ticket.start() == MIDNIGHT
-            && accepted.ticket.endtime.seconds() == MIDNIGHT + 36_000
-            && has_subkey
-            && has_number
-            && has_checksum
-            && has_reply,
+        is_safe
+            && answer_at_last(alloc, acceptor, at, &octets, Some(made)) == Ok(true)
+            && answer_at_last(alloc, acceptor, at, &octets, None) == repeated,
     )
 }
 
-fn accepts_once(alloc: Global, acceptor: &mut Acceptor) -> Result<bool, Fail> {
-    let is_accepted = match accept_digits(alloc, acceptor, MUTUAL)? {
-        Ok(accepted) => is_mutual(alloc, &accepted)?,
-        Err(_) => false,
-    };
-    Ok(is_accepted && code(alloc, acceptor, MUTUAL)? == 34)
+/// Returns the code of a refusal, or 0.
+fn code(alloc: Global, acceptor: &mut Acceptor, at: Moment, digits: &str) -> Result<i32, Fail> {
+    let octets = octets(alloc, digits)?;
+    Ok(match answer_at_last(alloc, acceptor, at, &octets, None) {
+        Ok(_) => 0,
+        Err(ApFault::Refused(refusal)) => refusal.code().number(),
+        Err(_) => -1,
+    })
 }
 
-#[test]
-fn accepts_an_authenticator_once(rt: HostRuntime) -> Result<(), Fail> {
-    assert!(rt; holds(rt.alloc(), Trial::Once)?);
-    Ok(())
-}
-
-fn has_each_code(alloc: Global, acceptor: &mut Acceptor) -> Result<bool, Fail> {
-    for (wanted, digits) in REFUSED {
-        if code(alloc, acceptor, digits)? != *wanted {
+fn is_passed_by(
+    alloc: Global,
+    acceptor: &mut Acceptor,
+    at: Moment,
+    trial: &Trial,
+    changed: bool,
+) -> Result<bool, Fail> {
+    for made in trial.made {
+        if !is_judged(alloc, acceptor, at, made, changed)? {
             return Ok(false);
         }
     }
-    for digits in ACCEPTED {
-        if code(alloc, acceptor, digits)? != 0 {
+    for (wanted, digits) in trial.codes {
+        if code(alloc, acceptor, at, digits)? != *wanted {
             return Ok(false);
         }
     }
     Ok(true)
 }
 
-#[test]
-fn refuses_by_each_rule(rt: HostRuntime) -> Result<(), Fail> {
-    assert!(rt; holds(rt.alloc(), Trial::EachRule)?);
-    Ok(())
+/// Checks whether a new acceptor answers as it has to. Only this function owns one.
+fn is_passed(alloc: Global, trial: &Trial, changed: bool) -> Result<bool, Fail> {
+    let limits = limits(trial.remembered)?;
+    let mut acceptor = opened(alloc, trial.keytab, limits)?;
+    is_passed_by(alloc, &mut acceptor, moment(trial.after, 0), trial, changed)
 }
 
-fn is_full_for_one(alloc: Global, acceptor: &mut Acceptor) -> Result<bool, Fail> {
-    Ok(
-        code(alloc, acceptor, MUTUAL)? == 0
-            && code(alloc, acceptor, SECOND)? == 29
-            && code(alloc, acceptor, OTHER_CLIENT)? == 0,
-    )
-}
-
-#[test]
-fn a_full_replay_cache_refuses_only_its_own_client(rt: HostRuntime) -> Result<(), Fail> {
-    assert!(rt; holds(rt.alloc(), Trial::Full)?);
-    Ok(())
-}
-
-fn takes_no_part(alloc: Global, acceptor: &mut Acceptor) -> Result<bool, Fail> {
-    let octets = octets(alloc, MUTUAL)?;
-    for end in 0..octets.len() {
-        let answer = accept(alloc, acceptor, MIDNIGHT, &octets[..end])?;
-        if answer.err() != Some(ApFault::NotAnApReq) {
-            return Ok(false);
+fn are_passed(alloc: Global, trials: &[Trial]) -> Result<(), Fail> {
+    for (place, trial) in trials.iter().enumerate() {
+        for changed in [false, true] {
+            if !is_passed(alloc, trial, changed)? {
+                return Err(Fail::new(place));
+            }
         }
     }
-    Ok(code(alloc, acceptor, MUTUAL)? == 0)
-}
-
-#[test]
-fn a_prefix_of_an_ap_req_is_refused(rt: HostRuntime) -> Result<(), Fail> {
-    assert!(rt; holds(rt.alloc(), Trial::Parts)?);
     Ok(())
 }
 
-/// Returns why an AP-REQ is not accepted. Tries once more if memory ran out.
-fn fault_at_last(
-    alloc: Global,
-    acceptor: &mut Acceptor,
-    octets: &[u8],
-) -> Result<Option<ApFault>, Fail> {
-    let fault = accept(alloc, acceptor, MIDNIGHT, octets)?.err();
-    if fault == Some(ApFault::Memory) {
-        return Ok(accept(alloc, acceptor, MIDNIGHT, octets)?.err());
-    }
-    Ok(fault)
-}
-
-/// Checks whether an AP-REQ is accepted the first time, and refused as repeated the second time.
-fn is_accepted_once(alloc: Global, acceptor: &mut Acceptor, digits: &str) -> Result<bool, Fail> {
-    let octets = octets(alloc, digits)?;
-    let first = fault_at_last(alloc, acceptor, &octets)?;
-    let second = fault_at_last(alloc, acceptor, &octets)?;
-    Ok(first.is_none() && second == Some(ApFault::Refused(ApRefusal::Repeated)))
-}
-
-/// Checks this for the first AP-REQ to a service, the first one of another client, and a later one.
-fn are_accepted_once(alloc: Global, acceptor: &mut Acceptor) -> Result<bool, Fail> {
-    Ok(
-        is_accepted_once(alloc, acceptor, MUTUAL)?
-            && is_accepted_once(alloc, acceptor, OTHER_CLIENT)?
-            && is_accepted_once(alloc, acceptor, SECOND)?,
-    )
-}
-
-/// If one allocation fails (`rt try --test --fail-alloc N`), the replay cache is unchanged, and the same AP-REQ is
-/// accepted afterwards.
 #[test]
-fn running_out_of_memory_changes_nothing(rt: HostRuntime) -> Result<(), Fail> {
-    assert!(rt; holds(rt.alloc(), Trial::OutOfMemory)?);
-    Ok(())
+fn ap_reqs_are_accepted_once_and_only_as_they_are(rt: HostRuntime) -> Result<(), Fail> {
+    are_passed(rt.alloc(), MADE_TRIALS)
+}
+
+#[test]
+fn tickets_are_refused_by_their_rule(rt: HostRuntime) -> Result<(), Fail> {
+    are_passed(rt.alloc(), CODE_TRIALS)
+}
+
+#[test]
+fn authenticators_are_refused_by_their_rule(rt: HostRuntime) -> Result<(), Fail> {
+    are_passed(rt.alloc(), LATER_TRIALS)
+}
+
+#[test]
+fn replay_caches_keep_what_they_have_to(rt: HostRuntime) -> Result<(), Fail> {
+    are_passed(rt.alloc(), CACHE_TRIALS)
 }

@@ -4,34 +4,11 @@
 //! The expected contents of each are what that library reads from it, as the tool prints it. The AP-REPs come from an
 //! independent model in Python, and the library has accepted each. All bytes are texts of hexadecimal digits, because
 //! long lists of bytes take minutes to check.
+use crate::acceptor::made::Made;
+use crate::contents::Terms;
 use enctypes::Etype;
 
-/// An AP-REQ, with the contents that MIT's library reads from it.
-pub struct Made {
-    pub ap_req: &'static str,
-    /// The start and the end of the ticket's cipher in it.
-    pub ticket_cipher: (usize, usize),
-    pub authenticator_cipher: (usize, usize),
-    /// The components of the client's name.
-    pub client: &'static [&'static [u8]],
-    /// The encryption type of the session key, and of the subkey.
-    pub etype: Etype,
-    pub session_key: &'static str,
-    pub subkey: Option<&'static str>,
-    pub number: Option<i64>,
-    /// A checksum of the text 'checksum', and its type.
-    pub cksum: Option<(i32, &'static str)>,
-    pub flags: u32,
-    // the seconds since 1970 of the ticket's times
-    pub authtime: i64,
-    pub starttime: Option<i64>,
-    pub endtime: i64,
-    pub renew_till: Option<i64>,
-    /// The AP-REP whose confounder is the bytes 48 to 63, if the AP-REQ has MUTUAL-REQUIRED.
-    pub ap_rep: Option<&'static str>,
-}
-
-/// The second in which all authenticators were made.
+/// The second in which all authenticators were made, since 1970.
 pub const MADE_AT: i64 = 1_795_528_176;
 
 /// The keytab of `imap/h17` to `imap/h20` in `A.B`, written by MIT's `kadmin.local`. The number is the type of the key.
@@ -59,17 +36,19 @@ pub const MADE: &[Made] = &[
             722d11c11647689e",
         ticket_cipher: (94, 259),
         authenticator_cipher: (272, 358),
-        client: &[b"u"],
+        client: (1, &[b"u"]),
         etype: Etype::Aes128CtsHmacSha1_96,
         session_key: "0a6ed8cac71f6cc34c8f5e5fd89fb42d",
         subkey: None,
         number: None,
         cksum: None,
-        flags: 0x40890000,
-        authtime: 1_795_528_175,
-        starttime: None,
-        endtime: 1_795_564_175,
-        renew_till: Some(1_796_132_975),
+        terms: Terms {
+            flags: 0x40890000,
+            authtime: 1_795_528_175,
+            starttime: None,
+            endtime: 1_795_564_175,
+            renew_till: Some(1_796_132_975),
+        },
         ap_rep: None,
     },
     // 17: subkey mutual number checksum
@@ -86,17 +65,22 @@ pub const MADE: &[Made] = &[
             c5abcebcba039b62e224194e538072b9c6c25a20bc0ad69edee558ad29387563f91ef46195e7d23e68bdf9",
         ticket_cipher: (94, 278),
         authenticator_cipher: (295, 443),
-        client: &[b"u"],
+        client: (1, &[b"u"]),
         etype: Etype::Aes128CtsHmacSha1_96,
         session_key: "0fbcc3270ea987a4689d4ab546baba09",
-        subkey: Some("14d4fb84011d0db0b56c29dfcac10da7"),
+        subkey: Some((
+            Etype::Aes128CtsHmacSha1_96,
+            "14d4fb84011d0db0b56c29dfcac10da7",
+        )),
         number: Some(1_067_776_353),
         cksum: Some((15, "cc14759bb57a7dac29466c6d")),
-        flags: 0x40890000,
-        authtime: 1_795_528_095,
-        starttime: Some(1_795_528_101),
-        endtime: 1_795_564_095,
-        renew_till: Some(1_796_132_895),
+        terms: Terms {
+            flags: 0x40890000,
+            authtime: 1_795_528_095,
+            starttime: Some(1_795_528_101),
+            endtime: 1_795_564_095,
+            renew_till: Some(1_796_132_895),
+        },
         ap_rep: Some(
             "\
             6f533051a003020105a10302010fa2453043a003020111a23c043aa199bd82e02ad9f27120f6135819d15776a40fb8f96262\
@@ -116,17 +100,19 @@ pub const MADE: &[Made] = &[
             082ca177423e5d626246fe25bfc1c629bdf85064afcf4cd4ce50197f399906222b0b14e396c5",
         ticket_cipher: (94, 282),
         authenticator_cipher: (295, 388),
-        client: &[b"u", b"admin"],
+        client: (1, &[b"u", b"admin"]),
         etype: Etype::Aes256CtsHmacSha1_96,
         session_key: "1410dfc3e1efadfc7bc637a9a4e8029f70fe03be4f7c7337b967591633da98a8",
         subkey: None,
         number: None,
         cksum: None,
-        flags: 0x40090000,
-        authtime: 1_795_528_095,
-        starttime: Some(1_795_528_101),
-        endtime: 1_795_564_095,
-        renew_till: None,
+        terms: Terms {
+            flags: 0x40090000,
+            authtime: 1_795_528_095,
+            starttime: Some(1_795_528_101),
+            endtime: 1_795_564_095,
+            renew_till: None,
+        },
         ap_rep: Some(
             "\
             6f533051a003020105a10302010fa2453043a003020112a23c043a68ed85ed7a077221155aff7fd0ba4a11b41a2da3e7879f\
@@ -148,17 +134,22 @@ pub const MADE: &[Made] = &[
             7b5cf8",
         ticket_cipher: (97, 297),
         authenticator_cipher: (314, 453),
-        client: &[b"u"],
+        client: (1, &[b"u"]),
         etype: Etype::Aes256CtsHmacSha1_96,
         session_key: "9c20111b2f77ea79142862cbbefd26d8d641ed92ca744bcd3ad1d664257eaf45",
-        subkey: Some("433e5c48dc6cd6d8a1ffe136fa43b751d145a85247556a2892c1b60cd8d282d2"),
+        subkey: Some((
+            Etype::Aes256CtsHmacSha1_96,
+            "433e5c48dc6cd6d8a1ffe136fa43b751d145a85247556a2892c1b60cd8d282d2",
+        )),
         number: Some(350_632_708),
         cksum: None,
-        flags: 0x40890000,
-        authtime: 1_795_528_095,
-        starttime: Some(1_795_528_101),
-        endtime: 1_795_564_095,
-        renew_till: Some(1_796_132_895),
+        terms: Terms {
+            flags: 0x40890000,
+            authtime: 1_795_528_095,
+            starttime: Some(1_795_528_101),
+            endtime: 1_795_564_095,
+            renew_till: Some(1_796_132_895),
+        },
         ap_rep: None,
     },
     // 19: checksum; a ticket with a PAC
@@ -179,17 +170,19 @@ pub const MADE: &[Made] = &[
             511cc16c5c57de",
         ticket_cipher: (101, 473),
         authenticator_cipher: (488, 607),
-        client: &[b"u"],
+        client: (1, &[b"u"]),
         etype: Etype::Aes128CtsHmacSha256_128,
         session_key: "8ee8d08b724f678e2755c469e8c4ca6d",
         subkey: None,
         number: None,
         cksum: Some((19, "1dbade83ccc8f60f9e2f8a3631aae7e6")),
-        flags: 0x40890000,
-        authtime: 1_795_528_097,
-        starttime: Some(1_795_528_098),
-        endtime: 1_795_564_097,
-        renew_till: Some(1_796_132_897),
+        terms: Terms {
+            flags: 0x40890000,
+            authtime: 1_795_528_097,
+            starttime: Some(1_795_528_098),
+            endtime: 1_795_564_097,
+            renew_till: Some(1_796_132_897),
+        },
         ap_rep: None,
     },
     // 19: mutual subkey
@@ -206,17 +199,22 @@ pub const MADE: &[Made] = &[
             d709fd107e05ea094d8e58fa5d20cf4a",
         ticket_cipher: (94, 282),
         authenticator_cipher: (297, 416),
-        client: &[b"u"],
+        client: (1, &[b"u"]),
         etype: Etype::Aes128CtsHmacSha256_128,
         session_key: "9da7d3884c336af48c0f7797e313add2",
-        subkey: Some("f8a81502a3fae76217341baa6493dbe2"),
+        subkey: Some((
+            Etype::Aes128CtsHmacSha256_128,
+            "f8a81502a3fae76217341baa6493dbe2",
+        )),
         number: None,
         cksum: None,
-        flags: 0x40890000,
-        authtime: 1_795_528_095,
-        starttime: Some(1_795_528_101),
-        endtime: 1_795_564_095,
-        renew_till: Some(1_796_132_895),
+        terms: Terms {
+            flags: 0x40890000,
+            authtime: 1_795_528_095,
+            starttime: Some(1_795_528_101),
+            endtime: 1_795_564_095,
+            renew_till: Some(1_796_132_895),
+        },
         ap_rep: Some(
             "\
             6f573055a003020105a10302010fa2493047a003020113a240043e5d9ebdd184c9ab428558527822cbfbf892764d6e33f60a\
@@ -237,17 +235,19 @@ pub const MADE: &[Made] = &[
             e1f6e28d90fb15035c77b461bb6e1b46059585a7cfb3620b00d86463",
         ticket_cipher: (97, 309),
         authenticator_cipher: (322, 428),
-        client: &[b"u"],
+        client: (1, &[b"u"]),
         etype: Etype::Aes256CtsHmacSha384_192,
         session_key: "734ab7ee105c5494913611d136c6271c9f6bd4c0b19e0bdcfbfb9f0754f93167",
         subkey: None,
         number: Some(983_180_550),
         cksum: None,
-        flags: 0x40890000,
-        authtime: 1_795_528_093,
-        starttime: Some(1_795_528_095),
-        endtime: 1_795_564_093,
-        renew_till: Some(1_796_132_893),
+        terms: Terms {
+            flags: 0x40890000,
+            authtime: 1_795_528_093,
+            starttime: Some(1_795_528_095),
+            endtime: 1_795_564_093,
+            renew_till: Some(1_796_132_893),
+        },
         ap_rep: Some(
             "\
             6f5f305da003020105a10302010fa251304fa003020114a2480446b4cb37a816e6acf3ce28f99f1901f82d761d35e329b429\
@@ -269,17 +269,22 @@ pub const MADE: &[Made] = &[
             a10125aae48b597e2f9d790f89fbb6df404b54",
         ticket_cipher: (97, 309),
         authenticator_cipher: (326, 469),
-        client: &[b"u"],
+        client: (1, &[b"u"]),
         etype: Etype::Aes256CtsHmacSha384_192,
         session_key: "f232cdbfa6470bf677fb7d56cbdb1b6109aa828af6c6d56c5aa47b02e11f5678",
-        subkey: Some("60245d0d2ee00896043fbf16b3f58d5ec3271d18b2d9aed46445178462830940"),
+        subkey: Some((
+            Etype::Aes256CtsHmacSha384_192,
+            "60245d0d2ee00896043fbf16b3f58d5ec3271d18b2d9aed46445178462830940",
+        )),
         number: None,
         cksum: None,
-        flags: 0x40890000,
-        authtime: 1_795_528_095,
-        starttime: Some(1_795_528_101),
-        endtime: 1_795_564_095,
-        renew_till: Some(1_796_132_895),
+        terms: Terms {
+            flags: 0x40890000,
+            authtime: 1_795_528_095,
+            starttime: Some(1_795_528_101),
+            endtime: 1_795_564_095,
+            renew_till: Some(1_796_132_895),
+        },
         ap_rep: None,
     },
 ];

@@ -4,6 +4,10 @@
 //! The key of `h` in `A.B` is the bytes 160 to 191, with encryption type 18 and version 1. The session key is the bytes
 //! 64 to 95, with the same type. The moment is the start of 2024. The messages are texts because long lists of bytes
 //! take minutes to check.
+use crate::acceptor::made::Made;
+use crate::asking::{MIDNIGHT, USER};
+use crate::contents::Terms;
+use enctypes::Etype;
 
 /// An AP-REQ of `u`, 5 microseconds after the moment, with a subkey, a sequence number, a checksum and MUTUAL-REQUIRED.
 pub const MUTUAL: &str = "\
@@ -17,10 +21,33 @@ pub const MUTUAL: &str = "\
     a0a9630dac3e35bc173a2f2b58c8eb1d4042a5bde29210472bde6bffa875a9b4597c59c5337235ba6bd316296824035ddf75\
     6cf2b37e1da0852c";
 
-/// The AP-REP to it, whose confounder is the bytes 48 to 63.
-pub const REPLY: &str = "\
-    6f51304fa003020105a10302010fa2433041a003020112a23a04385b76243a190944df09ab9a6d34d9b98095fa7b54417d5d\
-    591b705aac83b09dffea74205ac502cd2b61e0c85be9694c148a54dd5bb4e43da2";
+/// Its contents. The confounder of the AP-REP is the bytes 48 to 63.
+pub const MADE_IN_PYTHON: &[Made] = &[Made {
+    ap_req: MUTUAL,
+    ticket_cipher: (86, 248),
+    authenticator_cipher: (265, 408),
+    client: USER,
+    etype: Etype::Aes256CtsHmacSha1_96,
+    session_key: "404142434445464748494a4b4c4d4e4f505152535455565758595a5b5c5d5e5f",
+    subkey: Some((
+        Etype::Aes128CtsHmacSha1_96,
+        "000102030405060708090a0b0c0d0e0f",
+    )),
+    number: Some(7),
+    cksum: Some((16, "c8c9cacbcccdcecfd0d1d2d3")),
+    terms: Terms {
+        flags: 0,
+        authtime: MIDNIGHT,
+        starttime: None,
+        endtime: MIDNIGHT + 36_000,
+        renew_till: None,
+    },
+    ap_rep: Some(
+        "\
+        6f51304fa003020105a10302010fa2433041a003020112a23a04385b76243a190944df09ab9a6d34d9b98095fa7b54417d5d\
+        591b705aac83b09dffea74205ac502cd2b61e0c85be9694c148a54dd5bb4e43da2",
+    ),
+}];
 
 /// An AP-REQ of `u`, a microsecond later.
 pub const SECOND: &str = "\
@@ -42,8 +69,8 @@ pub const OTHER_CLIENT: &str = "\
     305da003020112a2560454b600a723d2792a1cc4a16613dff02fbcd6bfed281f40ebee09e7fda4cee1085d10f7b28dc721b4\
     5f835d76ff37a13a99ae3e294879e015a5bdf4d7f78a5da764429ca2e9670c25240e5ee832833c191383170bd2";
 
-/// AP-REQs that are refused, each with its code.
-pub const REFUSED: &[(i32, &str)] = &[
+/// AP-REQs, each with the code of its refusal, or 0. The rules are those of the request and of its ticket.
+pub const CODES: &[(i32, &str)] = &[
     // another version
     (
         39,
@@ -212,6 +239,10 @@ pub const REFUSED: &[(i32, &str)] = &[
         1cc4a16613dff02fbcd6bfed281f40ebee09e7fda4cee1085db46d61c82806f9e934484e446ef71f22629a7a73a5c5ab5334\
         8c634b8bdfe958228241175519bf1e1be02020f875b6211f97906f",
     ),
+];
+
+/// More of them: the rules are those of the authenticator and of times.
+pub const LATER_CODES: &[(i32, &str)] = &[
     // an authenticator of another type
     (
         31,
@@ -334,45 +365,67 @@ pub const REFUSED: &[(i32, &str)] = &[
         305da003020112a2560454b600a723d2792a1cc4a16613dff02fbcd6bfed281f40ebee09e7fda4cee1085db46d61c82806f9\
         e934484e446ef71f22ec88ee7f96efac57bfec4070a4bcf7cf7515e5e3a664711fcc17b232b9cd85ee8e1086fb",
     ),
+    // Those that are accepted are just within the limits.
+    // a start 300 seconds later
+    (
+        0,
+        "\
+        6e82016830820164a003020105a10302010ea20703050000000000a381ed6181ea3081e7a003020105a1051b03412e42a20e\
+        300ca003020101a10530031b0168a381c83081c5a003020112a103020101a281b80481b5bbe852a8491a7ee32e4d5896a26b\
+        ff7f7a831a9a3b9f93c93f372170e738a80f9610fd28a8454d0dd4ed723d98917d40ef0aa809442f150bd389be706898bcc9\
+        0487b1f80afb9de9ef13a4fde93d8d112588533564c5d39f86f18fb57f5fb36a122d0a70fe7103bfceeab7d0d6271c47b039\
+        6c463ae6921b6da6f029d9524359e6ca01ae11a1bae2287de6b72ed9e855313339db7bfec14326e53947cdfbbfab179feb4c\
+        7cbea8544c623d48f7c623fcba2a74885ba45f305da003020112a2560454b600a723d2792a1cc4a16613dff02fbcd6bfed28\
+        1f40ebee09e7fda4cee1085db46d61c82806f9e934484e446ef71f2266e0696531e8ae896db948137360cf692e4800072e9f\
+        e023cf60a2e1cb0c34db1168f3d5",
+    ),
+    // an end 300 seconds before
+    (
+        0,
+        "\
+        6e82015530820151a003020105a10302010ea20703050000000000a381da6181d73081d4a003020105a1051b03412e42a20e\
+        300ca003020101a10530031b0168a381b53081b2a003020112a103020101a281a50481a2bbe852a8491a7ee32e4d5896a26b\
+        ff7f00a60b9f192dd41b6e85a48ff92d1a50506e0a52f3eba5ca18ffc70dab529d464bc6ed6f628bd350399fb0e37444fce0\
+        9e5865cab2aba53dbdf1b35860cf8834aa2c89d4061719affe93e148a3dc9630f2495a83b247fe27b9284ee39e4e446818c4\
+        22425509b995c6f41d004bce901c1c30c38eac679152954ba0b78bf1fdf6ee9354b7919456a6ba77d509221f1b424a91a45f\
+        305da003020112a2560454b600a723d2792a1cc4a16613dff02fbcd6bfed281f40ebee09e7fda4cee1085db46d61c82806f9\
+        e934484e446ef71f220aafe79d3fec2a5940f675e8f737bb26c2586756ff97c3dc95735a00e83dac62e2f85e0e",
+    ),
+    // no key version
+    (
+        0,
+        "\
+        6e8201503082014ca003020105a10302010ea20703050000000000a381d56181d23081cfa003020105a1051b03412e42a20e\
+        300ca003020101a10530031b0168a381b03081ada003020112a281a50481a2bbe852a8491a7ee32e4d5896a26bff7f00a60b\
+        9f192dd41b6e85a48ff92d1a50506e0a52f3eba5ca18ffc70dab529d464bc6ed6f628bd350399fb0e37444fce09e5865cab2\
+        aba53dbdf1b35860cf8834aa2c89d4061719affe93e148a3dc9630f2495a83b247fe27b9284ee39e4e4468a129d5bb53a56a\
+        135e68b683f9c2093e9e5fa3a3073f3a2755e6b00c9029d34ead63febd8108518eb9fb4a7c061e11a16800a45f305da00302\
+        0112a2560454b600a723d2792a1cc4a16613dff02fbcd6bfed281f40ebee09e7fda4cee1085db46d61c82806f9e934484e44\
+        6ef71f22546bda27dc84cdc97fd031f75341b6cf09d2c6c22ca1b01a478f56c1cc55f8ca158cda5c",
+    ),
+    // a time 300 seconds later
+    (
+        0,
+        "\
+        6e82015530820151a003020105a10302010ea20703050000000000a381da6181d73081d4a003020105a1051b03412e42a20e\
+        300ca003020101a10530031b0168a381b53081b2a003020112a103020101a281a50481a2bbe852a8491a7ee32e4d5896a26b\
+        ff7f00a60b9f192dd41b6e85a48ff92d1a50506e0a52f3eba5ca18ffc70dab529d464bc6ed6f628bd350399fb0e37444fce0\
+        9e5865cab2aba53dbdf1b35860cf8834aa2c89d4061719affe93e148a3dc9630f2495a83b247fe27b9284ee39e4e4468a129\
+        d5bb53a56a135e68b683f9c2093e9e5fa3a3073f3a2755e6b00c9029d34ead63febd8108518eb9fb4a7c061e11a16800a45f\
+        305da003020112a2560454b600a723d2792a1cc4a16613dff02fbcd6bfed281f40ebee09e7fda4cee1085db46d61c82806f9\
+        e934484e446ef71f22163a010a22b6569a67bac82a081373ff228241175519bf1ead1b5993c0c4898e1b70f9fa",
+    ),
 ];
 
-/// AP-REQs that are just within the limits.
-pub const ACCEPTED: &[&str] = &[
-    // a start 300 seconds later
-    "\
-    6e82016830820164a003020105a10302010ea20703050000000000a381ed6181ea3081e7a003020105a1051b03412e42a20e\
-    300ca003020101a10530031b0168a381c83081c5a003020112a103020101a281b80481b5bbe852a8491a7ee32e4d5896a26b\
-    ff7f7a831a9a3b9f93c93f372170e738a80f9610fd28a8454d0dd4ed723d98917d40ef0aa809442f150bd389be706898bcc9\
-    0487b1f80afb9de9ef13a4fde93d8d112588533564c5d39f86f18fb57f5fb36a122d0a70fe7103bfceeab7d0d6271c47b039\
-    6c463ae6921b6da6f029d9524359e6ca01ae11a1bae2287de6b72ed9e855313339db7bfec14326e53947cdfbbfab179feb4c\
-    7cbea8544c623d48f7c623fcba2a74885ba45f305da003020112a2560454b600a723d2792a1cc4a16613dff02fbcd6bfed28\
-    1f40ebee09e7fda4cee1085db46d61c82806f9e934484e446ef71f2266e0696531e8ae896db948137360cf692e4800072e9f\
-    e023cf60a2e1cb0c34db1168f3d5",
-    // an end 300 seconds before
-    "\
-    6e82015530820151a003020105a10302010ea20703050000000000a381da6181d73081d4a003020105a1051b03412e42a20e\
-    300ca003020101a10530031b0168a381b53081b2a003020112a103020101a281a50481a2bbe852a8491a7ee32e4d5896a26b\
-    ff7f00a60b9f192dd41b6e85a48ff92d1a50506e0a52f3eba5ca18ffc70dab529d464bc6ed6f628bd350399fb0e37444fce0\
-    9e5865cab2aba53dbdf1b35860cf8834aa2c89d4061719affe93e148a3dc9630f2495a83b247fe27b9284ee39e4e446818c4\
-    22425509b995c6f41d004bce901c1c30c38eac679152954ba0b78bf1fdf6ee9354b7919456a6ba77d509221f1b424a91a45f\
-    305da003020112a2560454b600a723d2792a1cc4a16613dff02fbcd6bfed281f40ebee09e7fda4cee1085db46d61c82806f9\
-    e934484e446ef71f220aafe79d3fec2a5940f675e8f737bb26c2586756ff97c3dc95735a00e83dac62e2f85e0e",
-    // no key version
-    "\
-    6e8201503082014ca003020105a10302010ea20703050000000000a381d56181d23081cfa003020105a1051b03412e42a20e\
-    300ca003020101a10530031b0168a381b03081ada003020112a281a50481a2bbe852a8491a7ee32e4d5896a26bff7f00a60b\
-    9f192dd41b6e85a48ff92d1a50506e0a52f3eba5ca18ffc70dab529d464bc6ed6f628bd350399fb0e37444fce09e5865cab2\
-    aba53dbdf1b35860cf8834aa2c89d4061719affe93e148a3dc9630f2495a83b247fe27b9284ee39e4e4468a129d5bb53a56a\
-    135e68b683f9c2093e9e5fa3a3073f3a2755e6b00c9029d34ead63febd8108518eb9fb4a7c061e11a16800a45f305da00302\
-    0112a2560454b600a723d2792a1cc4a16613dff02fbcd6bfed281f40ebee09e7fda4cee1085db46d61c82806f9e934484e44\
-    6ef71f22546bda27dc84cdc97fd031f75341b6cf09d2c6c22ca1b01a478f56c1cc55f8ca158cda5c",
-    // a time 300 seconds later
-    "\
-    6e82015530820151a003020105a10302010ea20703050000000000a381da6181d73081d4a003020105a1051b03412e42a20e\
-    300ca003020101a10530031b0168a381b53081b2a003020112a103020101a281a50481a2bbe852a8491a7ee32e4d5896a26b\
-    ff7f00a60b9f192dd41b6e85a48ff92d1a50506e0a52f3eba5ca18ffc70dab529d464bc6ed6f628bd350399fb0e37444fce0\
-    9e5865cab2aba53dbdf1b35860cf8834aa2c89d4061719affe93e148a3dc9630f2495a83b247fe27b9284ee39e4e4468a129\
-    d5bb53a56a135e68b683f9c2093e9e5fa3a3073f3a2755e6b00c9029d34ead63febd8108518eb9fb4a7c061e11a16800a45f\
-    305da003020112a2560454b600a723d2792a1cc4a16613dff02fbcd6bfed281f40ebee09e7fda4cee1085db46d61c82806f9\
-    e934484e446ef71f22163a010a22b6569a67bac82a081373ff228241175519bf1ead1b5993c0c4898e1b70f9fa",
+/// The codes where a client has one place in the replay cache.
+pub const FULL: &[(i32, &str)] = &[(0, MUTUAL), (29, SECOND), (0, OTHER_CLIENT)];
+
+/// The codes for the first AP-REQ to a service, the first one of another client, and a later one, each twice.
+pub const TWICE: &[(i32, &str)] = &[
+    (0, MUTUAL),
+    (34, MUTUAL),
+    (0, OTHER_CLIENT),
+    (34, OTHER_CLIENT),
+    (0, SECOND),
+    (34, SECOND),
 ];

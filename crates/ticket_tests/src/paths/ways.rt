@@ -1,40 +1,21 @@
 //! Tests of whole paths of tickets, each from the first request to the service.
-ghost use Rattle.std.specs.Prelude.{IfOk};
-ghost use Rattle.client_core.specs.Presenting.{IsShortChecksum};
-
-use crate::paths::fixtures::{
-    FORWARDABLE, FORWARDED, INITIAL, MAY_POSTDATE, POSTDATED, PRE_AUTHENT, REALM, RENEW, RENEWABLE,
-    Service, VALIDATE, key_from, moment, second, up, user,
+use crate::asking::{
+    FORWARDABLE, FORWARDED, HOST, INITIAL, MAY_POSTDATE, POSTDATED, PRE_AUTHENT, RENEW, RENEWABLE,
+    TGS, VALIDATE,
 };
-use crate::paths::legs::{Leg, Sent};
-use crate::paths::realm::{Realm, Types, arrive, open};
-use ap_accept::Accepted;
-use client_core::ServiceAsked;
-use cred_files::Credential;
-use enctypes::{Etype, Key};
-use kdc_core::Kdc;
-use krb_elements::Octets;
-use krb_end_to_end::{Client, Issuing, Sealing, obtain};
-use krb_fields::{Name, Typed};
-use std::alloc::Global;
+use crate::outcomes::Outcome;
+use crate::paths::going::{Choice, End, Leg, Way, are_ended};
+use crate::paths::realm::USER_FIRST;
+use crate::services::{ALL_TYPES, OF_TGS, OTHER_KEY, OTHER_TYPE, OTHER_VERSION, OWN};
+use ap_accept::{ApFault, ApRefusal};
+use client_core::Mismatch;
+use enctypes::Etype;
 use std::test::Fail;
-use ticket_times::TicketTerms;
-
-/// The requests of a path, with the flags and times of its last ticket. Times are in seconds after midnight.
-struct Way {
-    legs: &'static [Leg],
-    /// Whether the last request goes to the KDC twice. The first time the KDC has other random bytes.
-    is_repeated: bool,
-    flags: u32,
-    start: u32,
-    end: u32,
-    renew_till: Option<u32>,
-}
 
 const LOGIN: Leg = Leg {
     at: 0,
     options: 0,
-    service: Service::Tgs,
+    service: TGS,
     from: None,
 };
 
@@ -42,44 +23,51 @@ const LOGIN: Leg = Leg {
 const LOGIN_TO_HOST: Leg = Leg {
     at: 0,
     options: 0,
-    service: Service::Host,
+    service: HOST,
     from: None,
 };
 
 const TO_HOST: Leg = Leg {
     at: 120,
     options: 0,
-    service: Service::Host,
+    service: HOST,
     from: None,
+};
+
+/// A path without a fault: a ticket from a TGS-REP.
+const TWO_LEGS: Way = Way {
+    legs: &[LOGIN, TO_HOST],
+    again: None,
+    is_cut: false,
+    answered: 0,
+    nonce: 0,
+    key: USER_FIRST,
+    keytab: ALL_TYPES,
+    presented: 0,
+    accepted: 30,
+    end: End::Accepted,
+    flags: PRE_AUTHENT,
+    start: 120,
+    expiry: 36_000,
+    renew_till: None,
+};
+
+/// A ticket from an AS-REP.
+const ONE_LEG: Way = Way {
+    legs: &[LOGIN_TO_HOST],
+    flags: INITIAL | PRE_AUTHENT,
+    start: 0,
+    ..TWO_LEGS
 };
 
 /// Paths of tickets with a lifetime of ten hours, renewable for a week (RFC 4120, sections 2, 3.1.3 and 3.3.3).
 const WAYS: &[Way] = &[
-    // A ticket from an AS-REP, and one from a TGS-REP.
-    Way {
-        legs: &[LOGIN_TO_HOST],
-        is_repeated: false,
-        flags: INITIAL | PRE_AUTHENT,
-        start: 0,
-        end: 36_000,
-        renew_till: None,
-    },
-    Way {
-        legs: &[LOGIN, TO_HOST],
-        is_repeated: false,
-        flags: PRE_AUTHENT,
-        start: 120,
-        end: 36_000,
-        renew_till: None,
-    },
+    ONE_LEG,
+    TWO_LEGS,
     // The same if the KDC kept the reply: the ticket is the first one.
     Way {
-        legs: &[LOGIN, TO_HOST],
-        is_repeated: true,
-        flags: PRE_AUTHENT,
-        start: 120,
-        end: 36_000,
-        renew_till: None,
+        again: Some(1),
+        ..TWO_LEGS
     },
     // A renewed service ticket, and a service ticket from a renewed TGT.
     Way {
@@ -93,11 +81,10 @@ const WAYS: &[Way] = &[
                 ..TO_HOST
             },
         ],
-        is_repeated: false,
         flags: RENEWABLE | PRE_AUTHENT,
-        start: 120,
-        end: 36_120,
+        expiry: 36_120,
         renew_till: Some(604_800),
+        ..TWO_LEGS
     },
     Way {
         legs: &[
@@ -112,11 +99,8 @@ const WAYS: &[Way] = &[
             },
             TO_HOST,
         ],
-        is_repeated: false,
-        flags: PRE_AUTHENT,
-        start: 120,
-        end: 36_060,
-        renew_till: None,
+        expiry: 36_060,
+        ..TWO_LEGS
     },
     // A service ticket from a forwarded TGT.
     Way {
@@ -135,11 +119,8 @@ const WAYS: &[Way] = &[
                 ..TO_HOST
             },
         ],
-        is_repeated: false,
         flags: FORWARDABLE | FORWARDED | PRE_AUTHENT,
-        start: 120,
-        end: 36_000,
-        renew_till: None,
+        ..TWO_LEGS
     },
     // Postdated tickets from an AS-REP and from a TGS-REP, validated at their start.
     Way {
@@ -155,11 +136,10 @@ const WAYS: &[Way] = &[
                 ..TO_HOST
             },
         ],
-        is_repeated: false,
         flags: MAY_POSTDATE | POSTDATED | PRE_AUTHENT,
         start: 7_200,
-        end: 43_200,
-        renew_till: None,
+        expiry: 43_200,
+        ..TWO_LEGS
     },
     Way {
         legs: &[
@@ -178,11 +158,9 @@ const WAYS: &[Way] = &[
                 ..TO_HOST
             },
         ],
-        is_repeated: false,
         flags: POSTDATED | PRE_AUTHENT,
         start: 7_200,
-        end: 36_000,
-        renew_till: None,
+        ..TWO_LEGS
     },
 ];
 
@@ -193,391 +171,235 @@ const ETYPES: &[Etype] = &[
     Etype::Aes256CtsHmacSha384_192,
 ];
 
-/// The choices of a client.
-#[derive(Clone, Copy, Debug)]
-struct Choice {
-    /// Whether each TGS-REQ has a subkey.
-    tgs_subkey: bool,
-    /// Whether the AP-REQ has a subkey, a sequence number and a checksum.
-    subkey: bool,
-    mutual_required: bool,
-}
+const MUTUAL: Choice = Choice {
+    tgs_subkey: false,
+    subkey: false,
+    mutual_required: true,
+    first: 216,
+    ap_rep: None,
+};
 
 const CHOICES: &[Choice] = &[
     Choice {
-        tgs_subkey: false,
-        subkey: false,
         mutual_required: false,
+        ..MUTUAL
     },
     Choice {
         tgs_subkey: true,
         subkey: true,
         mutual_required: false,
+        ..MUTUAL
     },
     Choice {
         tgs_subkey: true,
-        subkey: false,
-        mutual_required: true,
+        ..MUTUAL
     },
     Choice {
-        tgs_subkey: false,
         subkey: true,
-        mutual_required: true,
+        ..MUTUAL
     },
 ];
-
-impl Choice {
-    fn tgs_subkey(self, types: Types) -> Option<Key> {
-        if self.tgs_subkey {
-            Some(key_from(types.reply, 32))
-        } else {
-            None
-        }
-    }
-
-    /// Returns the request to the service.
-    fn wanted(self, alloc: Global, types: Types) -> Result<ServiceAsked, Fail>
-        ensures { IfOk result (λ asked. IsShortChecksum asked.checksum) }
-    {
-        if !self.subkey {
-            return Ok(ServiceAsked {
-                mutual_required: self.mutual_required,
-                checksum: None,
-                subkey: None,
-                seq_number: None,
-            });
-        }
-        Ok(ServiceAsked {
-            mutual_required: self.mutual_required,
-            checksum: Some(Typed {
-                number: 0x8003,
-                octets: Octets::from_slice(alloc, b"abc")?,
-            }),
-            subkey: Some(key_from(types.reply, 96)),
-            seq_number: Some(u32::MAX),
-        })
-    }
-}
-
-/// Returns the request of a leg, with the ticket before it, if there is one.
-fn send(
-    alloc: Global,
-    leg: &Leg,
-    types: Types,
-    choice: Choice,
-    found: &[Credential],
-) -> Result<Sent, Fail> {
-    match found.last() {
-        Some(credential) => leg.next(alloc, types, choice.tgs_subkey(types), credential),
-        None => leg.first(alloc, types),
-    }
-}
-
-/// Returns the credential from a leg.
-fn take(alloc: Global, kdc: &mut Kdc, issuing: &Issuing, sent: &Sent) -> Result<Credential, Fail> {
-    match obtain(
-        alloc,
-        kdc,
-        issuing,
-        &sent.request,
-        &sent.asked,
-        &sent.reader,
-    ) {
-        Ok(credential) => Ok(credential),
-        Err(_) => Err(Fail::from("no credential")),
-    }
-}
-
-/// Takes a leg, and keeps its credential.
-fn go(
-    alloc: Global,
-    kdc: &mut Kdc,
-    leg: &Leg,
-    types: Types,
-    choice: Choice,
-    found: &mut Vec<Credential>,
-) -> Result<(), Fail> {
-    let issuing = leg.issuing()?;
-    let sent = send(alloc, leg, types, choice, found)?;
-    let credential = take(alloc, kdc, &issuing, &sent)?;
-    Ok(found.push(credential)?)
-}
-
-fn go_all(
-    alloc: Global,
-    kdc: &mut Kdc,
-    legs: &[Leg],
-    types: Types,
-    choice: Choice,
-    found: &mut Vec<Credential>,
-) -> Result<(), Fail> {
-    for leg in legs {
-        go(alloc, kdc, leg, types, choice, found)?;
-    }
-    Ok(())
-}
-
-/// Returns how the KDC answers the last request. If that went to it before, its random bytes now differ.
-fn last_issuing(
-    alloc: Global,
-    kdc: &mut Kdc,
-    leg: &Leg,
-    sent: &Sent,
-    is_repeated: bool,
-) -> Result<Issuing, Fail> {
-    let issuing = leg.issuing()?;
-    if !is_repeated {
-        return Ok(issuing);
-    }
-    match take(alloc, kdc, &issuing, sent) {
-        Ok(_) => Ok(Issuing {
-            at: issuing.at,
-            random: up(leg.octet().wrapping_add(64)),
-            room: issuing.room,
-        }),
-        Err(fail) => Err(fail),
-    }
-}
-
-/// Presents the ticket from the last leg, and returns what the service accepts.
-fn come(
-    alloc: Global,
-    realm: &mut Realm,
-    issuing: &Issuing,
-    request: &[u8],
-    client: &Client,
-    accepting: &Sealing,
-) -> Result<Accepted, Fail>
-    requires { IsShortChecksum client.now.wanted.checksum }
-{
-    match arrive(alloc, realm, issuing, request, client, accepting) {
-        Ok(accepted) => Ok(accepted),
-        Err(_) => Err(Fail::from("not accepted")),
-    }
-}
-
-/// Returns when the service checks the AP-REQ, half a minute after the client, and the confounder of its answer.
-fn accepting(leg: &Leg, first: u8) -> Result<Sealing, Fail> {
-    Ok(Sealing {
-        at: moment(leg.at.wrapping_add(30), 11)?,
-        confounder: up(first),
-    })
-}
-
-/// Takes the last leg with the credential before it, if there is one.
-fn go_last(
-    alloc: Global,
-    realm: &mut Realm,
-    leg: &Leg,
-    is_repeated: bool,
-    types: Types,
-    choice: Choice,
-    found: &[Credential],
-    first: u8,
-) -> Result<Accepted, Fail> {
-    let presenting = Sealing {
-        at: moment(leg.at, 7)?,
-        confounder: up(200),
-    };
-    let accepting = accepting(leg, first)?;
-    let sent = send(alloc, leg, types, choice, found)?;
-    let issuing = last_issuing(alloc, &mut realm.kdc, leg, &sent, is_repeated)?;
-    let wanted = choice.wanted(alloc, types)?;
-    let client = Client {
-        asked: sent.asked,
-        reader: sent.reader,
-        wanted,
-        presenting,
-    };
-    come(alloc, realm, &issuing, &sent.request, &client, &accepting)
-}
-
-fn is_key(found: &Key, wanted: &Key) -> bool {
-    found.etype() == wanted.etype() && found.bytes() == wanted.bytes()
-}
-
-/// Checks whether the ticket has the flags and times of the path.
-fn is_granted(ticket: &TicketTerms, way: &Way) -> bool {
-    let renewable = match (ticket.renew_till, way.renew_till) {
-        (Some(found), Some(wanted)) => found.seconds() == second(wanted),
-        (None, None) => true,
-        _ => false,
-    };
-    ticket.flags.bits() == way.flags
-        && ticket.authtime.seconds() == second(0)
-        && ticket.start() == second(way.start)
-        && ticket.endtime.seconds() == second(way.end)
-        && renewable
-}
-
-/// Checks whether the service gets what the client chose to send.
-fn is_as_sent(accepted: &Accepted, types: Types, choice: Choice) -> bool {
-    let has_subkey = match &accepted.subkey {
-        Some(key) => choice.subkey && is_key(key, &key_from(types.reply, 96)),
-        None => !choice.subkey,
-    };
-    let has_number = match accepted.seq_number {
-        Some(number) => choice.subkey && number.get() == 4_294_967_295,
-        None => !choice.subkey,
-    };
-    let has_checksum = match &accepted.cksum {
-        Some(cksum) => {
-            choice.subkey && cksum.number == 0x8003 && cksum.octets.as_slice() == b"abc".as_slice()
-        }
-        None => !choice.subkey,
-    };
-    has_subkey && has_number && has_checksum && accepted.ap_rep.is_some() == choice.mutual_required
-}
-
-/// Checks whether the service gets the ticket that was issued, and what the client sent.
-fn is_due(accepted: &Accepted, user: &Name, way: &Way, types: Types, choice: Choice) -> bool {
-    accepted.client.is(REALM, user)
-        && is_granted(&accepted.ticket, way)
-        && is_as_sent(accepted, types, choice)
-}
-
-/// Checks whether the AP-REP has these bytes, if they are given.
-fn is_answered(accepted: &Accepted, ap_rep: Option<&[u8]>) -> bool {
-    match (&accepted.ap_rep, ap_rep) {
-        (Some(found), Some(wanted)) => found.as_slice() == wanted,
-        (None, Some(_)) => false,
-        (_, None) => true,
-    }
-}
-
-/// Checks whether the path ends as expected in an unused realm. The bytes of the service's confounder count up from
-/// this one.
-fn is_gone(
-    alloc: Global,
-    realm: &mut Realm,
-    way: &Way,
-    types: Types,
-    choice: Choice,
-    first: u8,
-    ap_rep: Option<&[u8]>,
-) -> Result<bool, Fail> {
-    let (last, before) = way.legs.split_last().ok_or("a leg")?;
-    let user = user(alloc)?;
-    let mut found = Vec::new(alloc);
-    go_all(alloc, &mut realm.kdc, before, types, choice, &mut found)?;
-    let accepted = go_last(
-        alloc,
-        realm,
-        last,
-        way.is_repeated,
-        types,
-        choice,
-        &found,
-        first,
-    )?;
-    // A key made from random bytes is these bytes (RFC 3961, section 5.3).
-    let session_key = key_from(types.service, last.octet());
-    Ok(
-        is_key(&accepted.session_key, &session_key)
-            && is_due(&accepted, &user, way, types, choice)
-            && is_answered(&accepted, ap_rep),
-    )
-}
-
-/// Checks the same in a new realm.
-fn is_gone_anew(
-    alloc: Global,
-    way: &Way,
-    types: Types,
-    choice: Choice,
-    first: u8,
-    ap_rep: Option<&[u8]>,
-) -> Result<bool, Fail> {
-    let mut realm = open(alloc, types)?;
-    is_gone(alloc, &mut realm, way, types, choice, first, ap_rep)
-}
-
-/// Returns the place of the first path that ends differently.
-fn first_other(alloc: Global, types: Types, choice: Choice) -> Result<Option<usize>, Fail> {
-    for (place, way) in WAYS.iter().enumerate() {
-        if !is_gone_anew(alloc, way, types, choice, 216, None)? {
-            return Ok(Some(place));
-        }
-    }
-    Ok(None)
-}
 
 #[test]
 fn what_the_kdc_issues_the_service_accepts(rt: HostRuntime) -> Result<(), Fail> {
     for reply in ETYPES {
         for service in ETYPES {
             for choice in CHOICES {
-                let types = Types {
-                    reply: *reply,
-                    service: *service,
-                };
-                let other = first_other(rt.alloc(), types, *choice)?;
-                assert_eq!(rt; other, None, "{types:?} {choice:?}");
+                are_ended(rt.alloc(), WAYS, *reply, *service, choice)?;
             }
         }
     }
     Ok(())
 }
 
-/// The encryption type of the session key, whose bytes count up from 0, the first byte of the service's confounder, and
-/// the AP-REP, which answers an authenticator of midnight and 7 microseconds. It comes from an independent program in
-/// Python.
-const AP_REPS: &[(Etype, u8, &str)] = &[
+/// The AP-REP of a service whose confounder counts up from `first`. It answers an authenticator of midnight and 7
+/// microseconds; the bytes of the session key count up from 0. It comes from an independent program in Python.
+const AP_REPS: &[(Etype, Choice)] = &[
     (
         Etype::Aes128CtsHmacSha1_96,
-        216,
-        "6f51304fa003020105a10302010fa2433041a003020111a23a0438da7b72b8606de0dff9d6f01568dbf0e17437f7d18eaaec\
-        4ce31b19311d6565cad28523a46b37a18c045db35b6fc0fc93f661f2408f5c7fab",
+        Choice {
+            first: 216,
+            ap_rep: Some(
+                "\
+                6f51304fa003020105a10302010fa2433041a003020111a23a0438da7b72b8606de0dff9d6f01568dbf0e17437f7d18e\
+                aaec4ce31b19311d6565cad28523a46b37a18c045db35b6fc0fc93f661f2408f5c7fab",
+            ),
+            ..MUTUAL
+        },
     ),
     (
         Etype::Aes256CtsHmacSha1_96,
-        216,
-        "6f51304fa003020105a10302010fa2433041a003020112a23a04387cb524212d2a3d9e46ed4cbd80e066d461ac36a71b0e12\
-        74fd8bc8fe732186a7e9646cf643598f06fd39dfea39d8caf24ca8875a244eb008",
+        Choice {
+            first: 216,
+            ap_rep: Some(
+                "\
+                6f51304fa003020105a10302010fa2433041a003020112a23a04387cb524212d2a3d9e46ed4cbd80e066d461ac36a71b\
+                0e1274fd8bc8fe732186a7e9646cf643598f06fd39dfea39d8caf24ca8875a244eb008",
+            ),
+            ..MUTUAL
+        },
     ),
     (
         Etype::Aes256CtsHmacSha1_96,
-        232,
-        "6f51304fa003020105a10302010fa2433041a003020112a23a0438f08bec3f69059c13a3d821419a27925f1c740e48fb5148\
-        a736251995c4b216bad244c38e4c82d8a95249567f40b3f3c5470bddb01e5e7bfa",
+        Choice {
+            first: 232,
+            ap_rep: Some(
+                "\
+                6f51304fa003020105a10302010fa2433041a003020112a23a0438f08bec3f69059c13a3d821419a27925f1c740e48fb\
+                5148a736251995c4b216bad244c38e4c82d8a95249567f40b3f3c5470bddb01e5e7bfa",
+            ),
+            ..MUTUAL
+        },
     ),
     (
         Etype::Aes128CtsHmacSha256_128,
-        216,
-        "6f553053a003020105a10302010fa2473045a003020113a23e043c8b277a838e20b5fc2b0b2f7371a27a76688d27cd583a47\
-        1b0a44cff900bae1d066a1a96e395d0f6fd49a760087703e0370d4d681543b6d74a88328d3",
+        Choice {
+            first: 216,
+            ap_rep: Some(
+                "\
+                6f553053a003020105a10302010fa2473045a003020113a23e043c8b277a838e20b5fc2b0b2f7371a27a76688d27cd58\
+                3a471b0a44cff900bae1d066a1a96e395d0f6fd49a760087703e0370d4d681543b6d74a88328d3",
+            ),
+            ..MUTUAL
+        },
     ),
     (
         Etype::Aes256CtsHmacSha384_192,
-        216,
-        "6f5d305ba003020105a10302010fa24f304da003020114a24604447550a6d546b7a399cf026ee2248cbc59f39d2cc9567f8a\
-        a3ce9077094b5efe6a741c3df8329dbd16db3cda4899488f3a71948765919923aadcce7780b57cb9e0dff7e34e",
+        Choice {
+            first: 216,
+            ap_rep: Some(
+                "\
+                6f5d305ba003020105a10302010fa24f304da003020114a24604447550a6d546b7a399cf026ee2248cbc59f39d2cc956\
+                7f8aa3ce9077094b5efe6a741c3df8329dbd16db3cda4899488f3a71948765919923aadcce7780b57cb9e0dff7e34e",
+            ),
+            ..MUTUAL
+        },
     ),
 ];
 
-/// Checks whether the service answers with this AP-REP on the first path.
-fn is_ap_rep(alloc: Global, etype: Etype, first: u8, digits: &str) -> Result<bool, Fail> {
-    let types = Types {
-        reply: etype,
-        service: etype,
-    };
-    let choice = Choice {
-        tgs_subkey: false,
-        subkey: false,
-        mutual_required: true,
-    };
-    let way = WAYS.first().ok_or("a way")?;
-    let wanted = hex::decode(alloc, digits.as_bytes())?;
-    is_gone_anew(alloc, way, types, choice, first, Some(&wanted))
-}
+/// The path of these.
+const ANSWERED: &[Way] = &[ONE_LEG];
 
 #[test]
 fn a_service_answers_by_its_own_confounder(rt: HostRuntime) -> Result<(), Fail> {
-    for (etype, first, digits) in AP_REPS {
-        assert!(rt;
-            is_ap_rep(rt.alloc(), *etype, *first, digits)?,
-            "{etype:?} {first}"
-        );
+    for (etype, choice) in AP_REPS {
+        are_ended(rt.alloc(), ANSWERED, *etype, *etype, choice)?;
     }
     Ok(())
+}
+
+/// The path with one leg, where the client presents the ticket after a minute.
+const SHORT: Way = Way {
+    keytab: OWN,
+    presented: 60,
+    accepted: 60,
+    ..ONE_LEG
+};
+
+/// Paths that end early: who rejects the ticket, and why (RFC 4120, sections 3.1.3, 3.1.5 and 3.2.3). The ticket has a
+/// lifetime of ten hours, and the clock skew is 300 seconds.
+const ENDS: &[Way] = &[
+    SHORT,
+    // The KDC does not answer, or refuses a timestamp that is too old.
+    Way {
+        is_cut: true,
+        end: End::NoReply,
+        ..SHORT
+    },
+    Way {
+        answered: 300,
+        presented: 360,
+        accepted: 360,
+        start: 300,
+        expiry: 36_300,
+        ..SHORT
+    },
+    Way {
+        answered: 301,
+        presented: 361,
+        accepted: 361,
+        end: End::NotTaken(Outcome::Refused(37, None)),
+        ..SHORT
+    },
+    // The client rejects the reply.
+    Way {
+        nonce: 1,
+        end: End::NotTaken(Outcome::Differs(Mismatch::Nonce)),
+        ..SHORT
+    },
+    Way {
+        key: 65,
+        end: End::NotTaken(Outcome::CannotOpen),
+        ..SHORT
+    },
+    // The keytab of the service lacks the key.
+    Way {
+        keytab: OF_TGS,
+        end: End::NotAccepted(ApFault::Refused(ApRefusal::NotForUs)),
+        ..SHORT
+    },
+    Way {
+        keytab: OTHER_TYPE,
+        end: End::NotAccepted(ApFault::Refused(ApRefusal::NoKey)),
+        ..SHORT
+    },
+    Way {
+        keytab: OTHER_VERSION,
+        end: End::NotAccepted(ApFault::Refused(ApRefusal::BadKeyVersion)),
+        ..SHORT
+    },
+    Way {
+        keytab: OTHER_KEY,
+        end: End::NotAccepted(ApFault::Refused(ApRefusal::TicketNotOpened)),
+        ..SHORT
+    },
+    // The authenticator is too old, or too new.
+    Way {
+        accepted: 360,
+        ..SHORT
+    },
+    Way {
+        accepted: 361,
+        end: End::NotAccepted(ApFault::Refused(ApRefusal::Skewed)),
+        ..SHORT
+    },
+    Way {
+        presented: 361,
+        end: End::NotAccepted(ApFault::Refused(ApRefusal::Skewed)),
+        ..SHORT
+    },
+    // The AP-REQ comes twice.
+    Way {
+        again: Some(0),
+        end: End::NotAccepted(ApFault::Refused(ApRefusal::Repeated)),
+        ..SHORT
+    },
+    // The ticket is not valid yet, or no longer.
+    Way {
+        legs: &[Leg {
+            options: MAY_POSTDATE | POSTDATED,
+            from: Some(7_200),
+            ..LOGIN_TO_HOST
+        }],
+        end: End::NotAccepted(ApFault::Refused(ApRefusal::NotYetValid)),
+        ..SHORT
+    },
+    Way {
+        presented: 36_300,
+        accepted: 36_300,
+        ..SHORT
+    },
+    Way {
+        presented: 36_301,
+        accepted: 36_301,
+        end: End::NotAccepted(ApFault::Refused(ApRefusal::TicketExpired)),
+        ..SHORT
+    },
+];
+
+// Passes if any one allocation of `end_to_end` fails.
+#[test]
+fn a_path_ends_at_its_first_fault(rt: HostRuntime) -> Result<(), Fail> {
+    let etype = Etype::Aes256CtsHmacSha1_96;
+    are_ended(rt.alloc(), ENDS, etype, etype, &MUTUAL)
 }

@@ -1,0 +1,54 @@
+//! Bytes and keys of the tests.
+use enctypes::{Etype, Key};
+use std::alloc::Global;
+use std::test::Fail;
+
+/// Returns bytes that count up from this one.
+pub fn up<const N: usize>(first: u8) -> [u8; N] {
+    let mut octets = [first; N];
+    for (place, octet) in (0..=u8::MAX).zip(&mut octets) {
+        *octet = octet.wrapping_add(place);
+    }
+    octets
+}
+
+/// Returns a key whose bytes count up from this one.
+pub fn key_from(etype: Etype, first: u8) -> Key {
+    Key::from_random(etype, &up(first))
+}
+
+/// Checks whether the key has this type, and bytes that count up from this one.
+pub fn is_key_from(key: &Key, etype: Etype, first: u8) -> bool {
+    key.etype() == etype && key.bytes() == key_from(etype, first).bytes()
+}
+
+/// Returns the bytes for hexadecimal digits.
+pub fn octets(alloc: Global, digits: &str) -> Result<Vec<u8>, Fail> {
+    match hex::decode(alloc, digits.as_bytes()) {
+        Ok(octets) => Ok(octets),
+        Err(_) => Err(Fail::from("no bytes for the digits")),
+    }
+}
+
+/// Checks whether these hexadecimal digits spell the bytes.
+pub fn is_spelled(octets: &[u8], digits: &str) -> bool {
+    let mut rest = digits.as_bytes();
+    for octet in octets {
+        let [high, low, later @ ..] = rest else {
+            return false;
+        };
+        if *high != digit(*octet >> 4) || *low != digit(*octet & 15) {
+            return false;
+        }
+        rest = later;
+    }
+    rest.is_empty()
+}
+
+fn digit(value: u8) -> u8 {
+    if value < 10 {
+        value.wrapping_add(b'0')
+    } else {
+        value.wrapping_add(b'a' - 10)
+    }
+}
