@@ -102,6 +102,9 @@ pub fn handle_owned(
         answer.account ≡ account_if wants_account (account_to (view state.old incoming.now.octets) incoming.now)) }
     ensures newly_seen { IfOk result (λ answer.
         answer.newly_seen ≡ newly_seen_to (view state.old incoming.now.octets) incoming.now) }
+    ensures spelled { IfOk result (λ answer.
+        IsReply (view state.old incoming.now.octets) incoming.now.at incoming.now.random
+        (request_of incoming.now.octets) (option_map (λ octets. octets.items) answer.reply)) }
     ensures outcome_spelled { IfOk result (λ answer.
         AccountSpelled (view state.old incoming.now.octets) incoming.now
         (option_map (λ octets. octets.items) answer.reply)

@@ -213,6 +213,17 @@ impl Kdc {
         ensures reply { IfOk result (λ given.
             option_map (λ octets. octets.items) given.reply
             ≡ (answer (view self.old request.now) at random.now room request.now).reply) }
+        // The bytes of a reply encode the message that the rules prescribe, or are a stored reply.
+        ensures spelled { IfOk result (λ given.
+            IsReply (view self.old request.now) at random.now (request_of request.now)
+            (option_map (λ octets. octets.items) given.reply)) }
+        // If a ticket is issued, both keys open it, as `Kdc::handle` says.
+        ensures keys { IfOk result (λ given.
+            OneTicketTwoKeys (view self.old request.now) at random.now (request_of request.now)
+            (option_map (λ octets. octets.items) given.reply)) }
+        ensures issued { IfOk result (λ given.
+            IfSome (issued (view self.old request.now) at random.now (request_of request.now))
+            (λ issue. IsReplyOf issue (option_map (λ octets. octets.items) given.reply))) }
         // The account is the one that the same rules give, if it is wanted.
         ensures account { IfOk result (λ given.
             given.account
