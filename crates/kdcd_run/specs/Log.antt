@@ -1,7 +1,6 @@
 -- The entries of a server's log, and their lines.
 use Rattle.std.specs.Prelude.{◌≡◌, ◌⊎◌, ◌+◌, ◌-◌, ◌^◌, ℕ, min, decimal, codes, nat_lt, if◌then◌else◌, List, [], ◌∷◌, ◌++◌, map, Option, Some, None, Result, Ok, Err}
 use Rattle.std.specs.Io.KnownBytes.{Appends}
-use Rattle.std.specs.Net.Text.{socket_text}
 use Rattle.std.specs.declared.net.socket_addr.SocketAddr.{SocketAddr}
 use Rattle.krb_fields.specs.declared.moment.Moment.{Moment}
 use Rattle.kdc_core.specs.Account.{Account}
@@ -14,7 +13,6 @@ use Rattle.request_log.specs.Entry.{entry_fields}
 use Rattle.request_log.specs.Field.{Field}
 use Rattle.request_log.specs.Lines.{json_line, text_line}
 use Rattle.request_log.specs.declared.asker.Asker.{Asker}
-use Rattle.request_log.specs.declared.asker.Transport.{Transport}
 use Rattle.request_log.specs.declared.asker.Transport.TheVariants.{Udp, Tcp}
 use Rattle.kdcd_run.specs.declared.logged_wire.Came.{Came}
 use Rattle.kdcd_run.specs.declared.request_lines.LogFormat.{LogFormat}
@@ -79,17 +77,8 @@ abbrev pub written : LogFormat → List Field → List ℕ
 written Text fields = text_line fields
 written Json fields = json_line fields
 
--- the line of a request, by its account
-abbrev pub line_of : LogFormat → Moment → List ℕ → Transport → Option Account → List ℕ
-line_of format at peer transport account = written format (entry_fields at peer transport account)
-
--- an address and its port, or a dash where it is not known
-abbrev pub peer_text : Option SocketAddr → List ℕ
-peer_text (Some peer) = socket_text peer
-peer_text None = codes "-"
-
 abbrev pub entry_line : LogFormat → LogEntry → List ℕ
-entry_line format entry = line_of format entry.at (peer_text entry.asker.peer) entry.asker.transport entry.account
+entry_line format entry = written format (entry_fields entry.at entry.asker entry.account)
 
 -- ---- lines that are lost
 

@@ -29,7 +29,7 @@ pub use crate::journal_wire::{JournalWire, JournalWriter, NotKept, WithholdingWi
 pub use crate::laws::{every_life, every_restart};
 pub use crate::logged_wire::{LogWriter, LoggedWire};
 pub use crate::quiet_wire::QuietWire;
-pub use crate::request_lines::{LogFormat, RequestLines, line_of};
+pub use crate::request_lines::{LogFormat, RequestLines};
 pub use crate::resuming::{JournaledServer, start_with_journal};
 pub use crate::rows_file::RowsFile;
 pub use crate::started::{JournalFound, JournalNews, Started, quiet_until};

@@ -1,19 +1,15 @@
 //! The lines of a server's log.
 ghost use Rattle.std.specs.Prelude.{◌≡◌, IfOk, OnOk, option_copied};
 ghost use Rattle.std.specs.Io.KnownBytes.{Appends};
-ghost use Rattle.kdcd_run.specs.Log.{LogsLine, TriesLine, TriesLost, entry_line, line_of, peer_text};
+ghost use Rattle.kdcd_run.specs.Log.{LogsLine, TriesLine, TriesLost, entry_line};
 
 use crate::logged_wire::LogWriter;
 use kdc_hub::Account;
 use krb_fields::Moment;
-use request_log::{Asker, Transport, json_line, text_line};
+use request_log::{Asker, json_line, text_line};
 use std::alloc::{AllocError, Global};
 use std::io;
 use std::io::Write;
-use std::net::SocketAddr;
-
-/// The room for an address that its text gets at first. A longer one gets more.
-const USUAL_PEER: usize = 32;
 
 /// The format of the lines of a log.
 #[derive(Clone, Copy, Debug, PartialEq, Eq)]
@@ -73,7 +69,7 @@ impl<W: Write> RequestLines<W> {
         ensures { TriesLine W.contents self.old self.new (entry_line self.old.format
             (record { at = at; asker = asker; account = option_copied account.entry })) result }
     {
-        let line = asked_line(alloc, self.format, at, asker, account)?;
+        let line = line_of(alloc, self.format, at, asker, account)?;
         self.report_lost()?;
         self.write_line(&line)
     }
@@ -109,8 +105,8 @@ impl<W: Write> LogWriter for RequestLines<W> {
     }
 }
 
-/// Returns the line for a request of this asker.
-fn asked_line(
+/// Returns the line for a request that `asker` sent at a moment.
+fn line_of(
     alloc: Global,
     format: LogFormat,
     at: Moment,
@@ -120,36 +116,8 @@ fn asked_line(
     ensures { IfOk result (λ line. line.items ≡ entry_line format
         (record { at = at; asker = asker; account = option_copied account.entry })) }
 {
-    let peer = peer_text(alloc, asker.peer)?;
-    line_of(alloc, format, at, peer.as_bytes(), asker.transport, account)
-}
-
-/// Returns an address and its port as text, or a dash.
-fn peer_text(alloc: Global, peer: Option<SocketAddr>) -> Result<String, AllocError>
-    ensures { IfOk result (λ text. text.bytes.items ≡ peer_text peer) }
-{
-    let mut text = String::with_capacity(alloc, USUAL_PEER)?;
-    match peer {
-        Some(peer) => write!(text, "{peer}")?,
-        None => text.push('-')?,
-    }
-    Ok(text)
-}
-
-/// Returns the line for a request that came at a moment from a peer, whose address is given as text.
-pub fn line_of(
-    alloc: Global,
-    format: LogFormat,
-    at: Moment,
-    peer: &[u8],
-    transport: Transport,
-    account: Option<&Account>,
-) -> Result<Vec<u8>, AllocError>
-    ensures { IfOk result (λ line.
-        line.items ≡ line_of format at peer.now transport (option_copied account.entry)) }
-{
     match format {
-        LogFormat::Text => text_line(alloc, at, peer, transport, account),
-        LogFormat::Json => json_line(alloc, at, peer, transport, account),
+        LogFormat::Text => text_line(alloc, at, asker, account),
+        LogFormat::Json => json_line(alloc, at, asker, account),
     }
 }

@@ -1,3 +1,4 @@
 pub mod BitLaws
 pub mod TextLaws
 pub mod PlainText
+pub mod TextAscii

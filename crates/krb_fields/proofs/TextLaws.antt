@@ -1,5 +1,5 @@
 -- A text determines its byte, component or name.
-use Rattle.std.proofs.Common.{◌≡◌, ◌≢◌, ◌==◌, ℕ, ◌+◌, ◌/◌, ◌%◌, ◌<◌, Bool, true, false, if◌then◌else◌, List, [], ◌∷◌, ◌++◌, length, get_or, take, map, refl, sym, ap, subst, ◌∙◌, arith, append_assoc, length-append, OnOk, Result, Ok, Err, is_ok}
+use Rattle.std.proofs.Common.{◌≡◌, ◌≢◌, ◌==◌, ℕ, ◌+◌, ◌/◌, ◌%◌, ◌<◌, Bool, true, false, if◌then◌else◌, List, [], ◌∷◌, ◌++◌, length, get_or, take, map, refl, sym, ap, subst, ◌∙◌, arith, append_assoc, length-append}
 use Rattle.std.specs.List.{All, join_with_byte, slice_split}
 use Rattle.std.proofs.lemmas.List.{append-nil, get_or-map, length-map, map-append, take_all, take_more}
 use Rattle.std.proofs.lemmas.List.Elements.{All-nil, All-cons, All-append, All-head, All-tail}
@@ -112,11 +112,6 @@ octet_text-no_slash o below = by_cases (is_plain o) refl
         let high = not_slash (hex_digit (o / 16)) (hex_digit_is (o / 16) (omega arith)).1 in
         let low = not_slash (hex_digit (o % 16)) (hex_digit_is (o % 16) (omega arith)).1 in
         rw (octet_text-escaped o p) (All-cons NotSlash 0x5C (digits_of o) refl (All-cons NotSlash (hex_digit (o / 16)) (hex_digit (o % 16) ∷ []) high (All-cons NotSlash (hex_digit (o % 16)) [] low (All-nil NotSlash))))
-
--- a text after a push that may fail
-pub pushed : {E : Type 0} (r : Result (Unit {0}) E) (old new text : List ℕ) → new ≡ (if is_ok r then old ++ text else old) → OnOk r (new ≡ old ++ text)
-pushed (Ok x) old new text e = e
-pushed (Err x) old new text e = tt
 
 -- ---- components
 

@@ -6,6 +6,7 @@
 ghost use Rattle.std.specs.Prelude.{◌≡◌, ◌≢◌, ◌<◌, ◌++◌, ◌∷◌, [], ℕ, List, false, IfOk, IfSome, IfNone, OnOk};
 ghost use Rattle.std.specs.Prelude.{MatchResult};
 ghost use Rattle.std.specs.List.{list_all};
+ghost use Rattle.std.specs.Str.{IsAscii};
 ghost use Rattle.std.specs.Prelude.{pos, string_bytes};
 ghost use Rattle.krb_fields.specs.Name.{Components};
 ghost use Rattle.krb_fields.specs.NameLimits.{IsWithinLimits};
@@ -18,7 +19,7 @@ use crate::name_limits::{MAX_COMPONENTS, MAX_OCTETS};
 use krb_elements::{KerberosString, Seq};
 use std::alloc::{AllocError, AllocFailed, Global};
 use std::error::Error;
-use std::{fmt, str};
+use std::fmt;
 
 /// The name-type NT-PRINCIPAL (RFC 4120, section 6.2), which names read from text get.
 pub const NT_PRINCIPAL: i32 = 1;
@@ -86,14 +87,23 @@ impl Name {
         ensures own { IfOk result (λ text. IsWithinLimits self.now.components → (n : Components)
             → IsNameText n (string_bytes text) → n ≡ self.now.components) }
     {
-        let mut text = String::with_capacity(alloc, USUAL_TEXT)?;
+        let mut text = Vec::with_capacity(alloc, USUAL_TEXT)?;
+        self.push_text(&mut text)?;
+        Ok(ascii_text(text))
+    }
+
+    /// Appends the text of the name's components.
+    pub fn push_text(&self, text: &mut Vec<u8>) -> Result<(), AllocError>
+        ensures text { OnOk result (text.new.items ≡ text.old.items ++ text_of self.now.components) }
+        ensures ascii { OnOk result (IsAscii (text_of self.now.components)) }
+    {
         for (i, component) in self.components.as_slice().iter().enumerate() {
             if i > 0 {
-                text.push('/')?;
+                text.push(b'/')?;
             }
-            push_component(&mut text, component.as_slice())?;
+            push_component(text, component.as_slice())?;
         }
-        Ok(text)
+        Ok(())
     }
 }
 
@@ -125,9 +135,9 @@ pub fn component_from_text(alloc: Global, text: &str) -> Result<KerberosString, 
 pub fn component_to_text(alloc: Global, octets: &[u8]) -> Result<String, AllocError>
     ensures { IfOk result (λ text. string_bytes text ≡ component_text octets.now) }
 {
-    let mut text = String::new(alloc);
+    let mut text = Vec::new(alloc);
     push_component(&mut text, octets)?;
-    Ok(text)
+    Ok(ascii_text(text))
 }
 
 fn components_from_text(alloc: Global, text: &str) -> Result<Seq<KerberosString>, NameFault>
@@ -195,23 +205,14 @@ fn digit_value(digit: u8) -> Option<u8>
 }
 
 /// Appends the text of a component.
-fn push_component(text: &mut String, octets: &[u8]) -> Result<(), AllocError>
-    ensures { OnOk result (string_bytes text.new ≡ string_bytes text.old ++ component_text octets.now) }
-{
-    match plain_text(octets) {
-        Some(plain) => text.push_str(plain),
-        None => push_octets(text, octets),
-    }
-}
-
-/// Returns the bytes of a component as text, if each is written as it is.
-fn plain_text(octets: &[u8]) -> Option<&str>
-    ensures { IfSome result (λ text. text.now ≡ component_text octets.now) }
+fn push_component(text: &mut Vec<u8>, octets: &[u8]) -> Result<(), AllocError>
+    ensures text { OnOk result (text.new.items ≡ text.old.items ++ component_text octets.now) }
+    ensures ascii { IsAscii (component_text octets.now) }
 {
     if are_plain(octets) {
-        str::from_utf8(octets).ok()
+        text.extend_from_slice(octets)
     } else {
-        None
+        push_octets(text, octets)
     }
 }
 
@@ -222,8 +223,8 @@ fn are_plain(octets: &[u8]) -> bool
 }
 
 /// Appends the text of a component, byte by byte.
-fn push_octets(text: &mut String, octets: &[u8]) -> Result<(), AllocError>
-    ensures { OnOk result (string_bytes text.new ≡ string_bytes text.old ++ component_text octets.now) }
+fn push_octets(text: &mut Vec<u8>, octets: &[u8]) -> Result<(), AllocError>
+    ensures { OnOk result (text.new.items ≡ text.old.items ++ component_text octets.now) }
 {
     for octet in octets {
         push_octet(text, *octet)?;
@@ -231,28 +232,40 @@ fn push_octets(text: &mut String, octets: &[u8]) -> Result<(), AllocError>
     Ok(())
 }
 
-fn push_octet(text: &mut String, octet: u8) -> Result<(), AllocError>
-    ensures { OnOk result (string_bytes text.new ≡ string_bytes text.old ++ octet_text octet) }
+fn push_octet(text: &mut Vec<u8>, octet: u8) -> Result<(), AllocError>
+    ensures { OnOk result (text.new.items ≡ text.old.items ++ octet_text octet) }
 {
     if is_plain(octet) {
-        text.push(char::from(octet))
-    } else {
-        text.push('\\')?;
-        text.push(digit_of(octet / 16))?;
-        text.push(digit_of(octet % 16))
+        text.push(octet)?;
+        return Ok(());
     }
+    text.push(b'\\')?;
+    text.push(digit_of(octet / 16))?;
+    text.push(digit_of(octet % 16))?;
+    Ok(())
 }
 
 /// Returns the lowercase hexadecimal digit for a value.
-fn digit_of(value: u8) -> char
+fn digit_of(value: u8) -> u8
     requires { value < 16 }
     ensures { result ≡ hex_digit value }
 {
-    char::from(if value < 10 {
+    if value < 10 {
         b'0' + value
     } else {
         b'a' + (value - 10)
-    })
+    }
+}
+
+/// Returns the bytes of names, which are ASCII, as text.
+fn ascii_text(bytes: Vec<u8>) -> String
+    requires { IsAscii bytes.items }
+    ensures { string_bytes result ≡ bytes.items }
+{
+    match String::from_utf8(bytes) {
+        Ok(text) => text,
+        Err(_) => unreachable!(),
+    }
 }
 
 /// Checks whether a byte is written as it is.

@@ -1,3 +1,4 @@
 pub mod Printed
 pub mod Shown
 pub mod Named
+pub mod Dates

@@ -125,12 +125,12 @@ one_more : (text : List ℕ) (fields : List Field) (f : Field)
 one_more text [] f = refl
 one_more text (g ∷ fields) f = one_more (spaced text ++ field_text g) fields f
 
-pub text_so : (text after labelled : List ℕ) (fields : List Field) (f : Field) → text ≡ joined fields → after ≡ spaced text
-    → labelled ≡ after ++ label f.name → labelled ++ shown f.value ≡ joined (fields ++ f ∷ [])
-text_so text after labelled fields f is spaces labels =
-    ap (λ t. t ++ shown f.value) labels
-    ∙ append_assoc after (label f.name) (shown f.value)
-    ∙ ap (λ t. t ++ field_text f) (spaces ∙ ap spaced is)
+pub text_so : (text front : List ℕ) (fields : List Field) (f : Field) → text ≡ joined fields → front ≡ spaced text ++ label f.name
+    → front ++ shown f.value ≡ joined (fields ++ f ∷ [])
+text_so text front fields f is begins =
+    ap (λ t. t ++ shown f.value) begins
+    ∙ append_assoc (spaced text) (label f.name) (shown f.value)
+    ∙ ap (λ t. spaced t ++ field_text f) is
     ∙ sym (one_more [] fields f)
 
 one_more_token : (tokens : List Token) (fields : List Field) (f : Field)

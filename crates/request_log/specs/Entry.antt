@@ -1,6 +1,8 @@
 -- The fields of a log entry, by the account of the request.
 use Rattle.std.specs.Prelude.{ℕ, ℤ, List, [], ◌∷◌, ◌++◌, codes, decimal, length, take, nat_lt, unsigned_abs}
 use Rattle.std.specs.Prelude.{Option, Some, None, if◌then◌else◌}
+use Rattle.std.specs.Net.Text.{socket_text}
+use Rattle.std.specs.declared.net.socket_addr.SocketAddr.{SocketAddr}
 use Rattle.enctypes.specs.Etype.{number}
 use Rattle.enctypes.specs.declared.etype.Etype.{Etype}
 use Rattle.krb_fields.specs.Code.{number_of}
@@ -25,6 +27,7 @@ use Rattle.kdc_core.specs.declared.account.Account.TheVariants.{NoRequest, As, T
 use Rattle.request_log.specs.Field.{Field, field}
 use Rattle.request_log.specs.Times.{date_text, life_text, valid_seconds}
 use Rattle.request_log.specs.Words.{as_rule_name, code_word, tgs_rule_name}
+use Rattle.request_log.specs.declared.asker.Asker.{Asker}
 use Rattle.request_log.specs.declared.asker.Transport.{Transport as Carrier}
 use Rattle.request_log.specs.declared.asker.Transport.TheVariants.{Udp, Tcp}
 use Rattle.request_log.specs.declared.field.FieldName.TheVariants.{Time, Peer, Transport, Exchange, Client, Service}
@@ -32,6 +35,11 @@ use Rattle.request_log.specs.declared.field.FieldName.TheVariants.{Outcome, Life
 use Rattle.request_log.specs.declared.field.FieldName.TheVariants.{Flags, Until, Renew, Repeat}
 
 -- ---- values
+
+-- an address and its port, or a dash where it is not known
+abbrev pub peer_text : Option SocketAddr → List ℕ
+peer_text (Some peer) = socket_text peer
+peer_text None = codes "-"
 
 abbrev pub carrier : Carrier → List ℕ
 carrier Udp = codes "udp"
@@ -131,10 +139,9 @@ account_fields (Some (As client service outcome)) = names_fields (codes "as") cl
 account_fields (Some (Tgs client service outcome)) = names_fields (codes "tgs") client service ++ tgs_fields outcome
 account_fields None = field Outcome (codes "unanswered") ∷ []
 
-abbrev pub head_fields : ℤ → List ℕ → Carrier → List Field
-head_fields sec peer transport =
-    field Time (date_text sec) ∷ field Peer peer ∷ field Transport (carrier transport) ∷ []
+abbrev pub head_fields : ℤ → Asker → List Field
+head_fields sec asker =
+    field Time (date_text sec) ∷ field Peer (peer_text asker.peer) ∷ field Transport (carrier asker.transport) ∷ []
 
--- `peer` is the sender's address as text
-abbrev pub entry_fields : Moment → List ℕ → Carrier → Option Account → List Field
-entry_fields at peer transport account = head_fields at.sec peer transport ++ account_fields account
+abbrev pub entry_fields : Moment → Asker → Option Account → List Field
+entry_fields at asker account = head_fields at.sec asker ++ account_fields account

@@ -4,45 +4,47 @@ ghost use Rattle.request_log.specs.Entry.{account_fields, carrier, entry_fields,
 ghost use Rattle.request_log.specs.Field.{Field, field, with_fields};
 ghost use Rattle.request_log.specs.declared.field.FieldName.TheVariants as names;
 
-use crate::asker::Transport;
+use crate::asker::{Asker, Transport};
 use crate::field::{FieldName, FieldWriter};
 use crate::names::put_name;
 use crate::outcome::{put_as_outcome, put_tgs_outcome};
+use crate::peer::put_peer;
 use crate::times::put_date;
+use crate::values::USUAL_VALUE;
 use kdc_core::Account;
 use krb_fields::{Moment, Name};
 use std::alloc::{AllocError, Global};
 
-/// Writes the fields of the log entry for a request. `at` is when it came in, `peer` is the sender's address as text.
-/// There is no account if memory ran out.
+/// Writes the fields of the log entry for a request that `asker` sent and that came in at `at`. There is no account if
+/// memory ran out.
 pub fn put_entry<W: FieldWriter>(
     line: &mut W,
     alloc: Global,
     at: Moment,
-    peer: &[u8],
-    transport: Transport,
+    asker: Asker,
     account: Option<&Account>,
 ) -> Result<(), AllocError>
-    ensures { (fields : List Field) → W.Holds line.old fields → OnOk result (W.Holds line.new
-        (with_fields fields (entry_fields at peer.now transport (option_copied account.entry)))) }
+    ensures { (fields : List Field) → W.Holds line.old fields
+        → OnOk result (W.Holds line.new (with_fields fields (entry_fields at asker (option_copied account.entry)))) }
 {
-    put_head(line, alloc, at, peer, transport)?;
-    put_account(line, alloc, account)
+    let mut value = Vec::with_capacity(alloc, USUAL_VALUE)?;
+    put_head(line, alloc, &mut value, at, asker)?;
+    put_account(line, alloc, &mut value, account)
 }
 
 fn put_head<W: FieldWriter>(
     line: &mut W,
     alloc: Global,
+    value: &mut Vec<u8>,
     at: Moment,
-    peer: &[u8],
-    transport: Transport,
+    asker: Asker,
 ) -> Result<(), AllocError>
     ensures { (fields : List Field) → W.Holds line.old fields
-        → OnOk result (W.Holds line.new (with_fields fields (head_fields at.sec peer.now transport))) }
+        → OnOk result (W.Holds line.new (with_fields fields (head_fields at.sec asker))) }
 {
     put_date(line, alloc, FieldName::Time, at.time())?;
-    line.put(alloc, FieldName::Peer, peer)?;
-    put_transport(line, alloc, transport)
+    put_peer(line, alloc, value, asker.peer)?;
+    put_transport(line, alloc, asker.transport)
 }
 
 fn put_transport<W: FieldWriter>(
@@ -54,22 +56,23 @@ fn put_transport<W: FieldWriter>(
         → OnOk result (W.Holds line.new (fields ++ field names.Transport (carrier transport) ∷ [])) }
 {
     match transport {
-        Transport::Udp => line.put(alloc, FieldName::Transport, b"udp"),
-        Transport::Tcp => line.put(alloc, FieldName::Transport, b"tcp"),
+        Transport::Udp => line.put_printable(alloc, FieldName::Transport, b"udp"),
+        Transport::Tcp => line.put_printable(alloc, FieldName::Transport, b"tcp"),
     }
 }
 
 fn put_account<W: FieldWriter>(
     line: &mut W,
     alloc: Global,
+    value: &mut Vec<u8>,
     account: Option<&Account>,
 ) -> Result<(), AllocError>
     ensures { (fields : List Field) → W.Holds line.old fields
         → OnOk result (W.Holds line.new (with_fields fields (account_fields (option_copied account.entry)))) }
 {
     match account {
-        None => line.put(alloc, FieldName::Outcome, b"unanswered"),
-        Some(Account::NoRequest) => line.put(alloc, FieldName::Outcome, b"none"),
+        None => line.put_printable(alloc, FieldName::Outcome, b"unanswered"),
+        Some(Account::NoRequest) => line.put_printable(alloc, FieldName::Outcome, b"none"),
         Some(
             Account::As {
                 client,
@@ -77,8 +80,8 @@ fn put_account<W: FieldWriter>(
                 outcome,
             },
         ) => {
-            put_names(line, alloc, b"as", client, service)?;
-            put_as_outcome(line, alloc, outcome)
+            put_names(line, alloc, value, b"as", client, service)?;
+            put_as_outcome(line, alloc, value, outcome)
         }
         Some(
             Account::Tgs {
@@ -87,8 +90,8 @@ fn put_account<W: FieldWriter>(
                 outcome,
             },
         ) => {
-            put_names(line, alloc, b"tgs", client, service)?;
-            put_tgs_outcome(line, alloc, outcome)
+            put_names(line, alloc, value, b"tgs", client, service)?;
+            put_tgs_outcome(line, alloc, value, outcome)
         }
     }
 }
@@ -96,6 +99,7 @@ fn put_account<W: FieldWriter>(
 fn put_names<W: FieldWriter>(
     line: &mut W,
     alloc: Global,
+    value: &mut Vec<u8>,
     exchange: &[u8],
     client: &Option<Name>,
     service: &Option<Name>,
@@ -104,6 +108,6 @@ fn put_names<W: FieldWriter>(
         (with_fields fields (names_fields exchange.now client.now service.now))) }
 {
     line.put(alloc, FieldName::Exchange, exchange)?;
-    put_name(line, alloc, FieldName::Client, client)?;
-    put_name(line, alloc, FieldName::Service, service)
+    put_name(line, alloc, value, FieldName::Client, client)?;
+    put_name(line, alloc, value, FieldName::Service, service)
 }

@@ -1,6 +1,8 @@
 //! The fields of a log entry.
-ghost use Rattle.std.specs.Prelude.{◌≡◌, ◌++◌, ◌∷◌, [], List, OnOk};
+ghost use Rattle.std.specs.Prelude.{◌≡◌, ◌++◌, ◌∷◌, [], List, OnOk, true};
+ghost use Rattle.std.specs.List.{list_all};
 ghost use Rattle.request_log.specs.Field.{Field, field, is_column, name_text};
+ghost use Rattle.request_log.specs.Lines.{is_printable};
 
 use std::alloc::{AllocError, Global};
 
@@ -96,6 +98,17 @@ pub trait FieldWriter {
 
     /// Adds a field with this value.
     fn put(&mut self, alloc: Global, name: FieldName, value: &[u8]) -> Result<(), AllocError>
+        ensures { (fields : List Field) → Holds self.old fields
+            → OnOk result (Holds self.new (fields ++ field name value.now ∷ [])) };
+
+    /// Adds a field with this value, whose bytes are printable.
+    fn put_printable(
+        &mut self,
+        alloc: Global,
+        name: FieldName,
+        value: &[u8],
+    ) -> Result<(), AllocError>
+        requires { list_all is_printable value.now ≡ true }
         ensures { (fields : List Field) → Holds self.old fields
             → OnOk result (Holds self.new (fields ++ field name value.now ∷ [])) };
 }

@@ -7,7 +7,7 @@ ghost use Rattle.request_log.specs.Entry.{entry_fields};
 ghost use Rattle.request_log.specs.Field.{Field};
 ghost use Rattle.request_log.specs.Lines.{HoldsJson, IsLine, json_line, shown};
 
-use crate::asker::Transport;
+use crate::asker::Asker;
 use crate::entries::put_entry;
 use crate::field::{FieldName, FieldWriter};
 use crate::text_lines::shown;
@@ -31,21 +31,29 @@ impl FieldWriter for JsonFields {
         let value = shown(alloc, value)?;
         write_shown(&mut self.out, &value)
     }
+
+    fn put_printable(
+        &mut self,
+        alloc: Global,
+        name: FieldName,
+        value: &[u8],
+    ) -> Result<(), AllocError> {
+        self.put(alloc, name, value)
+    }
 }
 
 /// Returns the line for a request: its fields as one JSON object (RFC 8259), with each value as a string under its name,
 /// and a line feed. Non-printable bytes become question marks.
 ///
-/// `at` is when the request came in, `peer` is the sender's address as text. There is no account if memory ran out.
+/// `at` is when the request came in. There is no account if memory ran out.
 pub fn json_line(
     alloc: Global,
     at: Moment,
-    peer: &[u8],
-    transport: Transport,
+    asker: Asker,
     account: Option<&Account>,
 ) -> Result<Vec<u8>, AllocError>
     ensures text { IfOk result (λ line.
-        line.items ≡ json_line (entry_fields at peer.now transport (option_copied account.entry))) }
+        line.items ≡ json_line (entry_fields at asker (option_copied account.entry))) }
     // The result is a single line, whatever the names contain.
     ensures one { IfOk result (λ line. IsLine line.items) }
 {
@@ -53,7 +61,7 @@ pub fn json_line(
         out: Writer::new(Vec::new(alloc)),
     };
     fields.out.begin_object()?;
-    put_entry(&mut fields, alloc, at, peer, transport, account)?;
+    put_entry(&mut fields, alloc, at, asker, account)?;
     fields.out.end_object()?;
     let mut line = fields.out.into_inner();
     line.push(b'\n')?;

@@ -12,8 +12,10 @@ mod json_lines;
 mod laws;
 mod names;
 mod outcome;
+mod peer;
 mod text_lines;
 mod times;
+mod values;
 mod words;
 
 pub use crate::asker::{Asker, Transport};

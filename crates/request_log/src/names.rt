@@ -20,6 +20,7 @@ pub(crate) const ABSENT: &[u8] = b"-";
 pub(crate) fn put_name<W: FieldWriter>(
     line: &mut W,
     alloc: Global,
+    value: &mut Vec<u8>,
     name: FieldName,
     principal: &Option<Name>,
 ) -> Result<(), AllocError>
@@ -28,10 +29,11 @@ pub(crate) fn put_name<W: FieldWriter>(
 {
     match principal {
         Some(principal) => {
-            let text = principal.to_text(alloc)?;
-            put_cut(line, alloc, name, text.as_bytes())
+            value.clear();
+            principal.push_text(value)?;
+            put_cut(line, alloc, name, value)
         }
-        None => line.put(alloc, name, ABSENT),
+        None => line.put_printable(alloc, name, ABSENT),
     }
 }
 
@@ -74,7 +76,7 @@ pub(crate) fn put_or_dash<W: FieldWriter>(
         → OnOk result (W.Holds line.new (fields ++ field name (or_dash value.now) ∷ [])) }
 {
     if value.is_empty() {
-        line.put(alloc, name, ABSENT)
+        line.put_printable(alloc, name, ABSENT)
     } else {
         line.put(alloc, name, value)
     }

@@ -1,5 +1,5 @@
 //! The outcome of a request, as fields.
-ghost use Rattle.std.specs.Prelude.{◌≡◌, ◌++◌, ◌∷◌, [], List, IfOk, OnOk, decimal};
+ghost use Rattle.std.specs.Prelude.{◌≡◌, ◌++◌, ◌∷◌, [], List, OnOk, decimal};
 ghost use Rattle.krb_fields.specs.TicketFlag.{ticket_flag_number};
 ghost use Rattle.request_log.specs.Entry.{again_fields, as_fields, code_fields, ends_fields, etype_number};
 ghost use Rattle.request_log.specs.Entry.{etypes_value, first_letters, flags_value, letter, renew_fields, rule_fields};
@@ -10,6 +10,7 @@ ghost use Rattle.request_log.specs.declared.field.FieldName.TheVariants as names
 use crate::field::{FieldName, FieldWriter};
 use crate::names::{ABSENT, put_or_dash};
 use crate::times::{put_date, put_life};
+use crate::values::push_number;
 use crate::words::{as_rule_name, code_word, tgs_rule_name};
 use enctypes::Etype;
 use itoa::Buffer;
@@ -22,6 +23,7 @@ use ticket_times::Times;
 pub(crate) fn put_as_outcome<W: FieldWriter>(
     line: &mut W,
     alloc: Global,
+    value: &mut Vec<u8>,
     outcome: &AsOutcome,
 ) -> Result<(), AllocError>
     ensures { (fields : List Field) → W.Holds line.old fields
@@ -29,7 +31,7 @@ pub(crate) fn put_as_outcome<W: FieldWriter>(
 {
     match outcome {
         AsOutcome::Refused(rule) => put_rule(line, alloc, rule.code(), as_rule_name(*rule)),
-        AsOutcome::Issued(granted) => put_ticket(line, alloc, granted),
+        AsOutcome::Issued(granted) => put_ticket(line, alloc, value, granted),
         AsOutcome::TooBig => put_code(line, alloc, Code::KrbErrResponseTooBig),
     }
 }
@@ -37,6 +39,7 @@ pub(crate) fn put_as_outcome<W: FieldWriter>(
 pub(crate) fn put_tgs_outcome<W: FieldWriter>(
     line: &mut W,
     alloc: Global,
+    value: &mut Vec<u8>,
     outcome: &TgsOutcome,
 ) -> Result<(), AllocError>
     ensures { (fields : List Field) → W.Holds line.old fields
@@ -44,7 +47,7 @@ pub(crate) fn put_tgs_outcome<W: FieldWriter>(
 {
     match outcome {
         TgsOutcome::Refused(rule) => put_rule(line, alloc, rule.code(), tgs_rule_name(*rule)),
-        TgsOutcome::Issued(granted) => put_ticket(line, alloc, granted),
+        TgsOutcome::Issued(granted) => put_ticket(line, alloc, value, granted),
         TgsOutcome::Resent(bears) => put_again(line, alloc, *bears),
         TgsOutcome::TooBig => put_code(line, alloc, Code::KrbErrResponseTooBig),
     }
@@ -69,7 +72,7 @@ fn put_code<W: FieldWriter>(line: &mut W, alloc: Global, code: Code) -> Result<(
 {
     let mut buffer = Buffer::new();
     let number = buffer.format(code.number().unsigned_abs());
-    line.put(alloc, FieldName::Outcome, b"refused")?;
+    line.put_printable(alloc, FieldName::Outcome, b"refused")?;
     line.put(alloc, FieldName::Code, number.as_bytes())?;
     line.put(alloc, FieldName::Reason, code_word(code).as_bytes())
 }
@@ -81,15 +84,15 @@ fn put_again<W: FieldWriter>(line: &mut W, alloc: Global, bears: Bears) -> Resul
 {
     match bears {
         Bears::Ticket => {
-            line.put(alloc, FieldName::Outcome, b"ticket")?;
-            line.put(alloc, FieldName::Lifetime, ABSENT)?;
-            line.put(alloc, FieldName::Repeat, b"yes")
+            line.put_printable(alloc, FieldName::Outcome, b"ticket")?;
+            line.put_printable(alloc, FieldName::Lifetime, ABSENT)?;
+            line.put_printable(alloc, FieldName::Repeat, b"yes")
         }
         Bears::Error => {
-            line.put(alloc, FieldName::Outcome, b"refused")?;
-            line.put(alloc, FieldName::Code, ABSENT)?;
-            line.put(alloc, FieldName::Reason, ABSENT)?;
-            line.put(alloc, FieldName::Repeat, b"yes")
+            line.put_printable(alloc, FieldName::Outcome, b"refused")?;
+            line.put_printable(alloc, FieldName::Code, ABSENT)?;
+            line.put_printable(alloc, FieldName::Reason, ABSENT)?;
+            line.put_printable(alloc, FieldName::Repeat, b"yes")
         }
     }
 }
@@ -97,26 +100,28 @@ fn put_again<W: FieldWriter>(line: &mut W, alloc: Global, bears: Bears) -> Resul
 fn put_ticket<W: FieldWriter>(
     line: &mut W,
     alloc: Global,
+    value: &mut Vec<u8>,
     granted: &Granted,
 ) -> Result<(), AllocError>
     ensures { (fields : List Field) → W.Holds line.old fields
         → OnOk result (W.Holds line.new (with_fields fields (ticket_fields granted.now))) }
 {
-    line.put(alloc, FieldName::Outcome, b"ticket")?;
-    put_life(line, alloc, &granted.times)?;
-    put_terms(line, alloc, granted)
+    line.put_printable(alloc, FieldName::Outcome, b"ticket")?;
+    put_life(line, alloc, value, &granted.times)?;
+    put_terms(line, alloc, value, granted)
 }
 
 fn put_terms<W: FieldWriter>(
     line: &mut W,
     alloc: Global,
+    value: &mut Vec<u8>,
     granted: &Granted,
 ) -> Result<(), AllocError>
     ensures { (fields : List Field) → W.Holds line.old fields
         → OnOk result (W.Holds line.new (with_fields fields (terms_fields granted.now))) }
 {
-    put_etypes(line, alloc, granted)?;
-    put_flags(line, alloc, granted.flags)?;
+    put_etypes(line, alloc, value, granted)?;
+    put_flags(line, alloc, value, granted.flags)?;
     put_ends(line, alloc, &granted.times)
 }
 
@@ -146,80 +151,80 @@ fn put_renew<W: FieldWriter>(
 fn put_etypes<W: FieldWriter>(
     line: &mut W,
     alloc: Global,
+    value: &mut Vec<u8>,
     granted: &Granted,
 ) -> Result<(), AllocError>
     ensures { (fields : List Field) → W.Holds line.old fields
         → OnOk result (W.Holds line.new (fields ++ field names.Etype (etypes_value granted.now) ∷ [])) }
 {
-    let value = etypes_value(alloc, granted)?;
-    line.put(alloc, FieldName::Etype, &value)
+    set_etypes(value, granted)?;
+    line.put(alloc, FieldName::Etype, value)
 }
 
-fn etypes_value(alloc: Global, granted: &Granted) -> Result<Vec<u8>, AllocError>
-    ensures { IfOk result (λ value. value.items ≡ etypes_value granted.now) }
+fn set_etypes(value: &mut Vec<u8>, granted: &Granted) -> Result<(), AllocError>
+    ensures { OnOk result (value.new.items ≡ etypes_value granted.now) }
 {
-    let mut value = Vec::new(alloc);
-    push_etype(&mut value, granted.session_type)?;
+    value.clear();
+    push_etype(value, granted.session_type)?;
     value.push(b'/')?;
-    push_etype(&mut value, granted.ticket_type)?;
-    Ok(value)
+    push_etype(value, granted.ticket_type)
 }
 
 fn push_etype(value: &mut Vec<u8>, etype: Etype) -> Result<(), AllocError>
     ensures { OnOk result (value.new.items ≡ value.old.items ++ decimal (etype_number etype)) }
 {
-    value.extend_from_slice(
-        Buffer::new()
-            .format(etype.number().unsigned_abs())
-            .as_bytes(),
-    )
+    push_number(value, etype.number().unsigned_abs().into())
 }
 
 /// Writes the ticket's flags in the letters of `klist -f`, in its order.
-fn put_flags<W: FieldWriter>(line: &mut W, alloc: Global, flags: Flags) -> Result<(), AllocError>
+fn put_flags<W: FieldWriter>(
+    line: &mut W,
+    alloc: Global,
+    value: &mut Vec<u8>,
+    flags: Flags,
+) -> Result<(), AllocError>
     ensures { (fields : List Field) → W.Holds line.old fields
         → OnOk result (W.Holds line.new (fields ++ field names.Flags (flags_value flags) ∷ [])) }
 {
-    let letters = letters_of(alloc, flags)?;
-    put_or_dash(line, alloc, FieldName::Flags, &letters)
+    set_letters(value, flags)?;
+    put_or_dash(line, alloc, FieldName::Flags, value)
 }
 
-fn letters_of(alloc: Global, flags: Flags) -> Result<Vec<u8>, AllocError>
-    ensures { IfOk result (λ letters. letters.items ≡ with_letters (first_letters flags) flags) }
+fn set_letters(value: &mut Vec<u8>, flags: Flags) -> Result<(), AllocError>
+    ensures { OnOk result (value.new.items ≡ with_letters (first_letters flags) flags) }
 {
-    let mut letters = Vec::with_capacity(alloc, 13)?;
-    push_letter(&mut letters, flags, TicketFlag::Forwardable, b'F')?;
-    push_letter(&mut letters, flags, TicketFlag::Forwarded, b'f')?;
-    push_letter(&mut letters, flags, TicketFlag::Proxiable, b'P')?;
-    push_letter(&mut letters, flags, TicketFlag::Proxy, b'p')?;
-    push_letter(&mut letters, flags, TicketFlag::MayPostdate, b'D')?;
-    push_letter(&mut letters, flags, TicketFlag::Postdated, b'd')?;
-    push_others(&mut letters, flags)?;
-    Ok(letters)
+    value.clear();
+    push_letter(value, flags, TicketFlag::Forwardable, b'F')?;
+    push_letter(value, flags, TicketFlag::Forwarded, b'f')?;
+    push_letter(value, flags, TicketFlag::Proxiable, b'P')?;
+    push_letter(value, flags, TicketFlag::Proxy, b'p')?;
+    push_letter(value, flags, TicketFlag::MayPostdate, b'D')?;
+    push_letter(value, flags, TicketFlag::Postdated, b'd')?;
+    push_others(value, flags)
 }
 
-fn push_others(letters: &mut Vec<u8>, flags: Flags) -> Result<(), AllocError>
-    ensures { OnOk result (letters.new.items ≡ with_letters letters.old.items flags) }
+fn push_others(value: &mut Vec<u8>, flags: Flags) -> Result<(), AllocError>
+    ensures { OnOk result (value.new.items ≡ with_letters value.old.items flags) }
 {
-    push_letter(letters, flags, TicketFlag::Invalid, b'i')?;
-    push_letter(letters, flags, TicketFlag::Renewable, b'R')?;
-    push_letter(letters, flags, TicketFlag::Initial, b'I')?;
-    push_letter(letters, flags, TicketFlag::HwAuthent, b'H')?;
-    push_letter(letters, flags, TicketFlag::PreAuthent, b'A')?;
-    push_letter(letters, flags, TicketFlag::TransitedPolicyChecked, b'T')?;
-    push_letter(letters, flags, TicketFlag::OkAsDelegate, b'O')
+    push_letter(value, flags, TicketFlag::Invalid, b'i')?;
+    push_letter(value, flags, TicketFlag::Renewable, b'R')?;
+    push_letter(value, flags, TicketFlag::Initial, b'I')?;
+    push_letter(value, flags, TicketFlag::HwAuthent, b'H')?;
+    push_letter(value, flags, TicketFlag::PreAuthent, b'A')?;
+    push_letter(value, flags, TicketFlag::TransitedPolicyChecked, b'T')?;
+    push_letter(value, flags, TicketFlag::OkAsDelegate, b'O')
 }
 
 fn push_letter(
-    letters: &mut Vec<u8>,
+    value: &mut Vec<u8>,
     flags: Flags,
     flag: TicketFlag,
     code: u8,
 ) -> Result<(), AllocError>
-    ensures { OnOk result (letters.new.items ≡ letters.old.items ++ letter flags (ticket_flag_number flag) code) }
+    ensures { OnOk result (value.new.items ≡ value.old.items ++ letter flags (ticket_flag_number flag) code) }
 {
     if flags.has(flag) {
-        letters.push(code)?;
+        value.push(code)?;
     }
     Ok(())
 }

@@ -6,7 +6,7 @@ ghost use Rattle.request_log.specs.Field.{Field};
 ghost use Rattle.request_log.specs.Lines.{HoldsText, IsLine, is_printable, label, longest, shown, shown_octet, spaced};
 ghost use Rattle.request_log.specs.Lines.{text_line, with_shown};
 
-use crate::asker::Transport;
+use crate::asker::Asker;
 use crate::entries::put_entry;
 use crate::field::{FieldName, FieldWriter};
 use kdc_core::Account;
@@ -26,25 +26,33 @@ impl FieldWriter for TextFields {
     ghost Holds = { HoldsText };
 
     fn put(&mut self, _alloc: Global, name: FieldName, value: &[u8]) -> Result<(), AllocError> {
-        push_space(&mut self.text)?;
-        push_label(&mut self.text, name)?;
+        push_front(&mut self.text, name)?;
         push_shown(&mut self.text, value)
+    }
+
+    fn put_printable(
+        &mut self,
+        _alloc: Global,
+        name: FieldName,
+        value: &[u8],
+    ) -> Result<(), AllocError> {
+        push_front(&mut self.text, name)?;
+        self.text.extend_from_slice(value)
     }
 }
 
 /// Returns the line for a request: its fields in order, separated by spaces: first the values with a fixed place, then
 /// `NAME=VALUE`. Non-printable bytes become question marks. The line is cut after 639 bytes.
 ///
-/// `at` is when the request came in, `peer` is the sender's address as text. There is no account if memory ran out.
+/// `at` is when the request came in. There is no account if memory ran out.
 pub fn text_line(
     alloc: Global,
     at: Moment,
-    peer: &[u8],
-    transport: Transport,
+    asker: Asker,
     account: Option<&Account>,
 ) -> Result<Vec<u8>, AllocError>
     ensures text { IfOk result (λ line.
-        line.items ≡ text_line (entry_fields at peer.now transport (option_copied account.entry))) }
+        line.items ≡ text_line (entry_fields at asker (option_copied account.entry))) }
     // The result is a single line, whatever the names contain.
     ensures one { IfOk result (λ line. IsLine line.items) }
     ensures short { IfOk result (λ line. length line.items ≤ longest + 1) }
@@ -52,11 +60,19 @@ pub fn text_line(
     let mut fields = TextFields {
         text: Vec::with_capacity(alloc, LONGEST + 1)?,
     };
-    put_entry(&mut fields, alloc, at, peer, transport, account)?;
+    put_entry(&mut fields, alloc, at, asker, account)?;
     let mut line = fields.text;
     line.truncate(LONGEST);
     line.push(b'\n')?;
     Ok(line)
+}
+
+/// Adds what stands between a value and the one before.
+fn push_front(text: &mut Vec<u8>, name: FieldName) -> Result<(), AllocError>
+    ensures { OnOk result (text.new.items ≡ spaced text.old.items ++ label name) }
+{
+    push_space(text)?;
+    push_label(text, name)
 }
 
 /// Adds a space to a text, unless it is empty.

@@ -1,11 +1,11 @@
 //! How the log writes times and lifetimes.
-ghost use Rattle.std.specs.Prelude.{◌≡◌, ◌++◌, ◌∷◌, [], List, IfOk, OnOk, decimal};
+ghost use Rattle.std.specs.Prelude.{◌≡◌, ◌++◌, ◌∷◌, [], List, OnOk, decimal};
 ghost use Rattle.request_log.specs.Field.{Field, field};
 ghost use Rattle.request_log.specs.Times.{date_text, hours_text, life_text, marked, minutes_of, valid_seconds};
 ghost use Rattle.request_log.specs.declared.field.FieldName.TheVariants as names;
 
 use crate::field::{FieldName, FieldWriter};
-use itoa::Buffer;
+use crate::values::push_number;
 use krb_der::KTime;
 use std::alloc::{AllocError, Global};
 use ticket_times::Times;
@@ -20,7 +20,7 @@ pub(crate) fn put_date<W: FieldWriter>(
     ensures { (fields : List Field) → W.Holds line.old fields
         → OnOk result (W.Holds line.new (fields ++ field name (date_text time) ∷ [])) }
 {
-    line.put(alloc, name, &marked(&time.to_octets()))
+    line.put_printable(alloc, name, &marked(&time.to_octets()))
 }
 
 /// Inserts the punctuation of RFC 3339 into the bytes of a KerberosTime.
@@ -38,13 +38,14 @@ fn marked(octets: &[u8; 15]) -> [u8; 20]
 pub(crate) fn put_life<W: FieldWriter>(
     line: &mut W,
     alloc: Global,
+    value: &mut Vec<u8>,
     times: &Times,
 ) -> Result<(), AllocError>
     ensures { (fields : List Field) → W.Holds line.old fields
         → OnOk result (W.Holds line.new (fields ++ field names.Lifetime (life_text (valid_seconds times.now)) ∷ [])) }
 {
-    let text = life_text(alloc, valid_seconds(times))?;
-    line.put(alloc, FieldName::Lifetime, &text)
+    set_life(value, valid_seconds(times))?;
+    line.put(alloc, FieldName::Lifetime, value)
 }
 
 /// Returns the ticket's lifetime in seconds.
@@ -56,18 +57,18 @@ fn valid_seconds(times: &Times) -> u64
     end.abs_diff(start)
 }
 
-/// Returns a lifetime to the nearest minute: `10h`, `7h30m`, `5m`. If it is less than half a minute, it is in seconds.
-fn life_text(alloc: Global, seconds: u64) -> Result<Vec<u8>, AllocError>
-    ensures { IfOk result (λ text. text.items ≡ life_text seconds) }
+/// Writes a lifetime to the nearest minute: `10h`, `7h30m`, `5m`. If it is less than half a minute, it is in seconds.
+fn set_life(value: &mut Vec<u8>, seconds: u64) -> Result<(), AllocError>
+    ensures { OnOk result (value.new.items ≡ life_text seconds) }
 {
     let minutes = minutes_of(seconds);
     if minutes == 0 {
-        return counted(alloc, seconds, b"s");
+        return set_count(value, seconds, b"s");
     }
     if minutes / 60 == 0 {
-        return counted(alloc, minutes % 60, b"m");
+        return set_count(value, minutes % 60, b"m");
     }
-    hours_text(alloc, minutes / 60, minutes % 60)
+    set_hours(value, minutes / 60, minutes % 60)
 }
 
 /// Converts seconds to minutes, to the nearest minute.
@@ -81,29 +82,22 @@ fn minutes_of(seconds: u64) -> u64
     }
 }
 
-fn hours_text(alloc: Global, hours: u64, minutes: u64) -> Result<Vec<u8>, AllocError>
-    ensures { IfOk result (λ text. text.items ≡ hours_text hours minutes) }
+fn set_hours(value: &mut Vec<u8>, hours: u64, minutes: u64) -> Result<(), AllocError>
+    ensures { OnOk result (value.new.items ≡ hours_text hours minutes) }
 {
-    let mut text = counted(alloc, hours, b"h")?;
+    set_count(value, hours, b"h")?;
     if minutes != 0 {
-        push_number(&mut text, minutes)?;
-        text.push(b'm')?;
+        push_number(value, minutes)?;
+        value.push(b'm')?;
     }
-    Ok(text)
+    Ok(())
 }
 
-/// Returns a number and its unit.
-fn counted(alloc: Global, count: u64, unit: &[u8]) -> Result<Vec<u8>, AllocError>
-    ensures { IfOk result (λ text. text.items ≡ decimal count ++ unit.now) }
+/// Writes a number and its unit.
+fn set_count(value: &mut Vec<u8>, count: u64, unit: &[u8]) -> Result<(), AllocError>
+    ensures { OnOk result (value.new.items ≡ decimal count ++ unit.now) }
 {
-    let mut text = Vec::new(alloc);
-    push_number(&mut text, count)?;
-    text.extend_from_slice(unit)?;
-    Ok(text)
-}
-
-fn push_number(text: &mut Vec<u8>, number: u64) -> Result<(), AllocError>
-    ensures { OnOk result (text.new.items ≡ text.old.items ++ decimal number) }
-{
-    text.extend_from_slice(Buffer::new().format(number).as_bytes())
+    value.clear();
+    push_number(value, count)?;
+    value.extend_from_slice(unit)
 }

@@ -6,6 +6,5 @@ use Rattle.request_log.proofs.text_lines.TextFieldsFieldWriter.put.Goals as goal
 pub returns : goal.returns
 returns c fields held =
     subst (λ text. OnOk c.push_shown.result (c.push_shown.new.text.items ≡ text))
-    (text_so c.args.self.now.text.items c.push_space.new.text.items c.push_label.new.text.items fields (field c.args.name c.args.value.now)
-    held c.in_ok-push_space.ensures c.in_ok-push_label.ensures)
+    (text_so c.args.self.now.text.items c.push_front.new.text.items fields (field c.args.name c.args.value.now) held c.in_ok-push_front.ensures)
     c.push_shown.ensures
