@@ -1,16 +1,13 @@
 -- A date is printable.
-use Rattle.std.proofs.Common.{◌≡◌, ◌<◌, ◌&&◌, ℕ, Bool, true, List, get_or, ap, ◌∙◌, arith}
+use Rattle.std.proofs.Common.{◌≡◌, ◌<◌, ◌&&◌, ℕ, true, List, get_or, ap, arith}
 use Rattle.std.specs.List.{list_all}
-use Rattle.std.proofs.lemmas.Bool.{and_parts}
+use Rattle.std.proofs.lemmas.Bool.{and_from, and_parts}
 use Rattle.krb_der.specs.Digits.{is_spelled}
 use Rattle.krb_der.specs.Time.{is_time}
 use Rattle.krb_der.proofs.DigitsLemmas.{digit_high, digit_low, spelled_parts}
 use Rattle.request_log.specs.Lines.{is_printable}
 use Rattle.request_log.specs.Times.{marked}
 use Rattle.request_log.proofs.Shown.{one_decides}
-
-both : {a b : Bool} → a ≡ true → b ≡ true → (a && b) ≡ true
-both {a} {b} first second = ap (λ c. c && b) first ∙ second
 
 digit_so : (octets : List ℕ) (k : ℕ) → is_spelled octets ≡ true → k < 14 → is_printable (get_or octets k 0) ≡ true
 digit_so octets k is within =
@@ -25,4 +22,17 @@ marked_printable octets is =
     let spelled : is_spelled octets ≡ true = (and_parts _ _ is).0 in
     let digit : (k : ℕ) → k < 14 → is_printable (get_or octets k 0) ≡ true = λ k within. digit_so octets k spelled within in
     let last_so : (is_printable (get_or octets 14 0) && true) ≡ true = ap (λ o. is_printable o && true) (spelled_parts octets spelled).last_is in
-    both (digit 0 (omega arith)) (both (digit 1 (omega arith)) (both (digit 2 (omega arith)) (both (digit 3 (omega arith)) (both (digit 4 (omega arith)) (both (digit 5 (omega arith)) (both (digit 6 (omega arith)) (both (digit 7 (omega arith)) (both (digit 8 (omega arith)) (both (digit 9 (omega arith)) (both (digit 10 (omega arith)) (both (digit 11 (omega arith)) (both (digit 12 (omega arith)) (both (digit 13 (omega arith)) last_so)))))))))))))
+    and_from _ _ (digit 0 (omega arith))
+    (and_from _ _ (digit 1 (omega arith))
+    (and_from _ _ (digit 2 (omega arith))
+    (and_from _ _ (digit 3 (omega arith))
+    (and_from _ _ (digit 4 (omega arith))
+    (and_from _ _ (digit 5 (omega arith))
+    (and_from _ _ (digit 6 (omega arith))
+    (and_from _ _ (digit 7 (omega arith))
+    (and_from _ _ (digit 8 (omega arith))
+    (and_from _ _ (digit 9 (omega arith))
+    (and_from _ _ (digit 10 (omega arith))
+    (and_from _ _ (digit 11 (omega arith))
+    (and_from _ _ (digit 12 (omega arith))
+    (and_from _ _ (digit 13 (omega arith)) last_so)))))))))))))

@@ -43,7 +43,7 @@ fn set_v6(value: &mut Vec<u8>, alloc: Global, peer: SocketAddrV6) -> Result<(), 
     set_bytes(value, text.as_bytes())
 }
 
-/// Writes an IPv4 address and its port, as `Display` does in four times as many instructions.
+/// Writes an IPv4 address and its port. `Display` takes three times as many instructions.
 fn set_v4(value: &mut Vec<u8>, peer: SocketAddrV4) -> Result<(), AllocError>
     ensures { OnOk result (value.new.items ≡ socket_v4_text peer) }
 {
